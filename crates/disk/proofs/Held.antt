@@ -1,0 +1,60 @@
+-- Laws of lanes that hold an image, for callers too.
+use Rattle.std.proofs.Common.{◌≡◌, ℕ, ◌+◌, ◌*◌, ◌<◌, ◌≤◌, List, length, Option, Some, None, slice_get, slice_set, Contains, arith, inl, inr, refl, sym, ap, ◌∙◌}
+use Rattle.std.proofs.lemmas.Bool.{cases_eq}
+use Rattle.std.proofs.lemmas.List.{length-set}
+use Rattle.std.proofs.lemmas.Option.{same_Some, none-some, get_or_from_slice_get, slice_get_within}
+use Rattle.disk.specs.Images.{HoldsBytes, block_at, with_block}
+use Rattle.disk.specs.Mem.{MemoryLane, HoldsImage, fresh_lane}
+use Rattle.disk.proofs.SliceGet.{slice_get-set_same, slice_get-set_other}
+use Rattle.disk.proofs.BlockAt.{block_at-same, length-with_block, block_at-with_block_same, block_at-with_block_other}
+
+-- lanes hold one image
+pub HoldsBytes-same : {L : Type 0} (bytes_of : L → List ℕ) (places : List (Option L)) (a b : List ℕ)
+    → HoldsBytes bytes_of places a → HoldsBytes bytes_of places b → a ≡ b
+HoldsBytes-same bytes_of places a b x y = block_at-same a b (length places) x.whole y.whole (λ k h.
+    let p = x.each k h in
+    let q = y.each k h in
+    sym p.2 ∙ (ap bytes_of (same_Some p.0 q.0 (same_Some (Some p.0) (Some q.0) (sym p.1 ∙ q.1))) ∙ q.2))
+
+-- fresh lanes over the blocks of an image hold it
+pub HoldsBytes-fresh : (image : List ℕ) (places : List (Option MemoryLane)) → HoldsImage image places → HoldsBytes (λ lane. lane.bytes) places image
+HoldsBytes-fresh image places x = record {
+  whole = x.whole;
+  each = λ k h. (fresh_lane k (block_at image k), x.each k h, refl);
+}
+
+-- a lane that comes to a place brings its bytes into the image, and all other blocks stay
+pub HoldsBytes-set : {L : Type 0} (bytes_of : L → List ℕ) (places : List (Option L)) (image : List ℕ) (k : ℕ) (lane : L)
+    → HoldsBytes bytes_of places image → k < length places → length (bytes_of lane) ≡ 512
+    → HoldsBytes bytes_of (slice_set places k (Some lane)) (with_block image k (bytes_of lane))
+HoldsBytes-set bytes_of places image k lane held within long =
+    let whole = held.whole in
+    let fits : 512 * k + 512 ≤ length image = omega arith in
+    record {
+      whole = length-with_block image k (bytes_of lane) fits long ∙ (whole ∙ ap (λ n. 512 * n) (sym (length-set places k (Some lane))));
+      each = λ j h.
+          let below : j < length places = omega (arith, length-set places k (Some lane)) in
+          elim (cases_eq j k) [
+            | inl same ↦ (
+              lane,
+              ap (slice_get (slice_set places k (Some lane))) same ∙ slice_get-set_same places k (Some lane) within,
+              sym (ap (block_at (with_block image k (bytes_of lane))) same ∙ block_at-with_block_same image k (bytes_of lane) fits long),
+            )
+            | inr other ↦ let p = held.each j below in
+                (p.0, slice_get-set_other places k j (Some lane) other ∙ p.1, p.2 ∙ sym (block_at-with_block_other image k j (bytes_of lane) fits long other))
+          ];
+    }
+
+-- a lane at home holds its block of the image
+pub HoldsBytes-at : {L : Type 0} (bytes_of : L → List ℕ) (places : List (Option L)) (image : List ℕ) (k : ℕ) (lane : L)
+    → HoldsBytes bytes_of places image → slice_get places k ≡ Some (Some lane) → bytes_of lane ≡ block_at image k
+HoldsBytes-at bytes_of places image k lane held here =
+    let p = held.each k (slice_get_within places k (Some lane) here) in
+    ap bytes_of (same_Some lane p.0 (same_Some (Some lane) (Some p.0) (sym here ∙ p.1))) ∙ p.2
+
+-- where a place is empty the lanes hold no image
+pub HoldsBytes-missing : {L : Type 0} (bytes_of : L → List ℕ) (places : List (Option L)) (image : List ℕ)
+    → Contains places None → HoldsBytes bytes_of places image → ⊥
+HoldsBytes-missing bytes_of places image missing held =
+    let p = held.each missing.0 missing.1 in
+    none-some p.0 (sym missing.2 ∙ get_or_from_slice_get places missing.0 (Some p.0) None p.1)

@@ -1,0 +1,3 @@
+pub mod BlockAt
+pub mod Held
+pub mod SliceGet

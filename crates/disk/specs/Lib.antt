@@ -1,0 +1,3 @@
+pub mod Images
+pub mod Lanes
+pub mod Mem

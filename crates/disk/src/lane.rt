@@ -1,0 +1,63 @@
+ghost use Rattle.std.specs.Prelude.{◌≡◌, ℕ, List, ◌⊎◌, OnOk, OnErr, Result};
+ghost use Rattle.disk.specs.Lanes.{CountsOne};
+
+/// How many bytes a block has.
+pub const BLOCK_LEN: usize = 512;
+
+/// The device failed to do what it was asked.
+#[derive(Clone, Copy, Debug, PartialEq, Eq)]
+pub struct DeviceFault;
+
+/// The one value through which a block is read and written.
+///
+/// This trait is what is assumed of a device. One block is written in one step: no reader and no crash ever finds part of
+/// the old bytes beside part of the new ones. Once `write` has answered, the block is settled: after `Ok` it holds the new
+/// bytes, after `Err` all the old bytes or all the new ones, and it keeps them until the next write through this lane.
+/// Nothing else writes the block, and a crash changes none.
+///
+/// A device fault is answered only where the device really failed: each one adds 1 to the count of faults (after 2^64 - 1
+/// comes 0), and nothing else changes that count.
+pub trait Lane {
+    ghost use Rattle.disk.specs.declared.lane.DeviceFault.{DeviceFault};
+
+    /// Which block it is.
+    ghost number_of: { Self → ℕ };
+
+    /// The 512 bytes that the block holds.
+    ghost bytes_of: { Self → List ℕ };
+
+    /// How often the device has failed.
+    ghost faults_of: { Self → ℕ };
+
+    /// What a read may answer, and the lane after it. A device of which nothing is known allows all.
+    ghost read_gives: { Self → Result (Unit {0}) DeviceFault → Self → Type 0 };
+
+    /// What a write of these bytes may answer, and the lane after it.
+    ghost write_gives: { Self → List ℕ → Result (Unit {0}) DeviceFault → Self → Type 0 };
+
+    /// The number of the block.
+    fn number(&self) -> u32
+        ensures { result ≡ number_of self.now };
+
+    /// The count of the device faults that this lane has answered.
+    fn faults(&self) -> u64
+        ensures { result ≡ faults_of self.now };
+
+    /// Reads the block. What `into` holds after a fault is left open.
+    fn read(&mut self, into: &mut [u8; BLOCK_LEN]) -> Result<(), DeviceFault>
+        ensures read { OnOk result (into.new ≡ bytes_of self.old) }
+        ensures bytes { bytes_of self.new ≡ bytes_of self.old }
+        ensures number { number_of self.new ≡ number_of self.old }
+        ensures faults_ok { OnOk result (faults_of self.new ≡ faults_of self.old) }
+        ensures faults_err { OnErr result (CountsOne (faults_of self.old) (faults_of self.new)) }
+        ensures gives { read_gives self.old result self.new };
+
+    /// Writes the block in one step.
+    fn write(&mut self, from: &[u8; BLOCK_LEN]) -> Result<(), DeviceFault>
+        ensures written { OnOk result (bytes_of self.new ≡ from.now) }
+        ensures old_or_new { OnErr result ((bytes_of self.new ≡ bytes_of self.old) ⊎ (bytes_of self.new ≡ from.now)) }
+        ensures number { number_of self.new ≡ number_of self.old }
+        ensures faults_ok { OnOk result (faults_of self.new ≡ faults_of self.old) }
+        ensures faults_err { OnErr result (CountsOne (faults_of self.old) (faults_of self.new)) }
+        ensures gives { write_gives self.old from.now result self.new };
+}

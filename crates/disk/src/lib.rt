@@ -1,0 +1,13 @@
+// A disk of blocks of 512 bytes, each read and written through a lane of its own.
+#![tactic(auto)]
+
+mod lane;
+mod lanes;
+mod mem;
+
+pub use lane::{BLOCK_LEN, DeviceFault, Lane};
+pub use lanes::Lanes;
+pub use mem::{MemDisk, MemLane};
+
+#[cfg(test)]
+mod tests;

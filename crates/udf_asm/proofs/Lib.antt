@@ -1,0 +1,10 @@
+pub mod Cuts
+pub mod Lists
+pub mod Lines
+pub mod Texts
+pub mod Decimals
+pub mod NamesOf
+pub mod OperandsOf
+pub mod LineTexts
+pub mod Assembled
+pub mod Checks

@@ -1,0 +1,5 @@
+pub mod Names
+pub mod Numbers
+pub mod Operands
+pub mod Assembly
+pub mod Printing

@@ -1,0 +1,17 @@
+// Programs as text: a line for each word.
+#![tactic(auto)]
+
+mod assembler;
+mod fault;
+pub mod law;
+mod line;
+mod name;
+mod number;
+mod operands;
+mod printer;
+#[cfg(test)]
+mod tests;
+
+pub use crate::assembler::assemble;
+pub use crate::fault::{AsmFault, AsmKind};
+pub use crate::printer::print;

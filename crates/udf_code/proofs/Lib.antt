@@ -1,0 +1,6 @@
+pub mod Read
+pub mod Structures
+pub mod WordBytes
+pub mod Coding
+pub mod Steps
+pub mod Faults

@@ -1,0 +1,7 @@
+pub mod Words
+pub mod Codes
+pub mod Tree
+pub mod Reading
+pub mod Structure
+pub mod Bytes
+pub mod Decoding

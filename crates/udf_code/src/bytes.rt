@@ -1,0 +1,95 @@
+// Words as bytes: four bytes a word.
+
+ghost use Rattle.std.specs.Prelude.{◌≡◌, ◌⊎◌, ◌%◌, ◌/◌, ◌≤◌, List, [], length, slice_index, false, Ok, Err, IfOk, IfErr, MatchResult};
+ghost use Rattle.udf_code.specs.declared.word.Word.{Word};
+ghost use Rattle.udf_code.specs.declared.fault.CodeFault.TheVariants.{NoMemory};
+ghost use Rattle.udf_code.specs.Bytes.{IsCode, encoded};
+ghost use Rattle.udf_code.specs.Structure.{place};
+ghost use Rattle.udf_code.specs.Decoding.{decoded, decoded_from, word_at};
+ghost use Rattle.std.specs.Vec.{vec_capacity};
+
+use crate::fault::CodeFault;
+use crate::op::Op;
+use crate::opening::Opening;
+use crate::operands;
+use crate::structure::{MAX_WORDS, after};
+use crate::word::Word;
+use arrayvec::ArrayVec;
+use std::alloc::{AllocError, Global};
+
+/// A word takes four bytes: its code, its operands, then zeros.
+const WORD_BYTES: usize = 4;
+
+/// The bytes of words, four a word: the code, the operands, then zeros. A register or shift is one byte, a number two,
+/// the low one first. All memory is taken at the start.
+pub fn encode(alloc: Global, words: &[Word]) -> Result<Vec<u8>, AllocError>
+    ensures { IfOk result (λ bytes. bytes.items ≡ encoded words.now) }
+{
+    let mut bytes = Vec::with_capacity(alloc, words.len().saturating_mul(WORD_BYTES))?;
+    for word in words {
+        bytes.push(word.op().code())?;
+        bytes.extend_from_slice(&operands::write(*word))?;
+    }
+    Ok(bytes)
+}
+
+/// The words that bytes are. The faults come in this order: `OddLength`, `TooLong`, `NoMemory`, then word by word
+/// `BadOp`, `BadOperand` and the faults of `well_formed`, last `Unmatched` where a block is still open. All memory is
+/// taken after the length was looked at and before any word is.
+pub fn decode(alloc: Global, bytes: &[u8]) -> Result<Vec<Word>, CodeFault>
+    // The bytes are accepted exactly if they are the bytes of a program, with these words.
+    ensures accepted { IfOk result (λ words. IsCode words.items bytes.now) }
+    ensures refused { IfErr result (λ fault. fault ≡ NoMemory ⊎ ((words : List Word) → ¬ (IsCode words bytes.now))) }
+
+    // Which words or which fault it is.
+    ensures exact { MatchResult result (λ words. decoded bytes.now ≡ Ok words.items) (λ fault. fault ≡ NoMemory ⊎ decoded bytes.now ≡ Err fault) }
+    ensures length_first { IfErr result (λ fault. fault ≡ NoMemory → (length bytes.now % 4 ≡ 0) × (length bytes.now ≤ 508)) }
+{
+    let rest = bytes.len() % WORD_BYTES;
+    if rest != 0 {
+        return Err(CodeFault::OddLength(bytes.len() - rest));
+    }
+    let count = bytes.len() / WORD_BYTES;
+    if count > MAX_WORDS {
+        return Err(CodeFault::TooLong);
+    }
+    let Ok(mut words) = Vec::with_capacity(alloc, count) else {
+        return Err(CodeFault::NoMemory);
+    };
+    read_words(bytes, &mut words)?;
+    Ok(words)
+}
+
+/// Reads bytes of whole words into `words`, which has room for them.
+fn read_words(bytes: &[u8], words: &mut Vec<Word>) -> Result<(), CodeFault>
+    requires whole { length bytes.now % 4 ≡ 0 }
+    requires empty { words.old.items ≡ [] }
+    requires room { length bytes.now / 4 ≤ vec_capacity words.old }
+    ensures { MatchResult result
+        (λ _. decoded_from 0 bytes.now (place [] false) ≡ Ok words.new.items)
+        (λ fault. decoded_from 0 bytes.now (place [] false) ≡ Err fault) }
+{
+    let count = bytes.len() / WORD_BYTES;
+    let mut blocks = ArrayVec::<Opening, 8>::new();
+    let mut may_claim = false;
+    for at in 0..count {
+        let start = at * WORD_BYTES;
+        let word = read_word(at, &bytes[start..start + WORD_BYTES])?;
+        may_claim = after(at, &word, &mut blocks, may_claim)?;
+        words.push(word).unwrap();
+    }
+    if blocks.is_empty() {
+        Ok(())
+    } else {
+        Err(CodeFault::Unmatched(count))
+    }
+}
+
+/// The word in four bytes, the `at`th of a program.
+fn read_word(at: usize, bytes: &[u8]) -> Result<Word, CodeFault>
+    requires { length bytes.now ≡ 4 }
+    ensures { result ≡ word_at at (slice_index bytes.now 0) (slice_index bytes.now 1) (slice_index bytes.now 2) (slice_index bytes.now 3) }
+{
+    let op = Op::of_code(bytes[0]).ok_or(CodeFault::BadOp(at))?;
+    operands::read(op, bytes[1], bytes[2], bytes[3]).ok_or(CodeFault::BadOperand(at))
+}

@@ -1,0 +1,19 @@
+// The words of a metadata program, how they stand in bytes, and which lists of words are programs.
+#![tactic(auto)]
+
+pub mod bytes;
+pub mod fault;
+pub mod law;
+pub mod op;
+pub mod opening;
+mod operands;
+pub mod structure;
+#[cfg(test)]
+mod tests;
+pub mod word;
+
+pub use crate::bytes::{decode, encode};
+pub use crate::fault::CodeFault;
+pub use crate::op::Op;
+pub use crate::structure::{MAX_WORDS, well_formed};
+pub use crate::word::{Register, Shift, Turns, Word};

@@ -1,0 +1,5 @@
+pub mod Within
+pub mod Unwritten
+pub mod Rows
+pub mod Sound
+pub mod Runs

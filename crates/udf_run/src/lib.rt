@@ -1,0 +1,15 @@
+//! Runs checked programs on blocks.
+//!
+//! The verifier's promise holds for each run, so nothing is tested while a program runs: neither a budget nor a range.
+#![tactic(auto)]
+
+mod blocks;
+pub mod law;
+pub mod pair;
+pub mod run;
+mod step;
+#[cfg(test)]
+mod tests;
+
+pub use pair::Pair;
+pub use run::{owns, size};

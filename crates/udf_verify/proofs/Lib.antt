@@ -1,0 +1,16 @@
+pub mod Parts
+pub mod Vectors
+pub mod Laid
+pub mod Merging
+pub mod Widening
+pub mod Claimed
+pub mod ClaimRows
+pub mod Checking
+pub mod CheckingLoops
+pub mod Frames
+pub mod Counting
+pub mod Shapes
+pub mod SurveyWords
+pub mod Surveying
+pub mod Whole
+pub mod Judged

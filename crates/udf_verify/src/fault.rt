@@ -1,0 +1,57 @@
+// What a program is for, and why it is refused.
+
+use std::fmt;
+
+/// What a program is for.
+#[derive(Clone, Copy, Debug, PartialEq, Eq)]
+pub enum Role {
+    /// It emits the blocks that a block owns.
+    Owns,
+    /// It answers how many bytes of a block are in use.
+    Size,
+}
+
+/// The rule that a program breaks, or want of memory.
+#[derive(Clone, Copy, Debug, PartialEq, Eq)]
+pub enum FaultKind {
+    /// The program is accepted, but there was no memory for the copy that a `Checked` keeps.
+    NoMemory,
+    /// A load may read past the block.
+    Load,
+    /// A sum may be above 2^32 - 1.
+    Sum,
+    /// A difference may be below 0.
+    Difference,
+    /// A product may be above 2^32 - 1.
+    Product,
+    /// A divisor may be 0.
+    Divisor,
+    /// The body of a FOR writes its counter.
+    Counter,
+    /// An IF compares a register with itself.
+    SameRegister,
+    /// One branch of an IF can never run.
+    DeadBranch,
+    /// A KEEP is of its FOR's counter, or stands twice, or does not hold at the FOR or at the end of a turn.
+    Keep,
+    /// More than 128 pairs may be emitted, or one by a size program.
+    Emits,
+    /// A run may take too many steps: above 8,192 for an owns program, above 1,024 for a size program.
+    Cost,
+    /// A size program may answer more than 512.
+    SizeAnswer,
+}
+
+/// Its name.
+impl fmt::Display for FaultKind {
+    fn fmt<W: fmt::Write>(&self, f: &mut fmt::Formatter<W>) -> fmt::Result {
+        write!(f, "{self:?}")
+    }
+}
+
+/// The first word that breaks a rule, and the rule. The number of words stands for the end.
+#[derive(Clone, Copy, Debug, PartialEq, Eq)]
+pub struct VerifyFault {
+    pub at: usize,
+    pub kind: FaultKind,
+}

@@ -1,0 +1,7 @@
+pub mod Images
+pub mod Places
+pub mod Flights
+pub mod Stepping
+pub mod Sizes
+pub mod BareImage
+pub mod Formats

@@ -1,0 +1,4 @@
+pub mod Events
+pub mod Disks
+pub mod Images
+pub mod Worlds

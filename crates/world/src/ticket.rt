@@ -1,0 +1,60 @@
+// A ticket that may be dropped.
+
+ghost use Rattle.std.specs.Prelude.{◌≡◌};
+
+use disk::{DeviceFault, MemLane};
+use std::marker::Model;
+use xn_kernel::Ticket;
+
+/// The ticket of a write that is under way. Where it is dropped, the write is given up.
+pub struct Held {
+    ticket: Ticket<MemLane>,
+}
+
+impl Model for Held {
+    ghost use Rattle.disk.specs.Mem.{MemoryLane};
+    ghost use Rattle.xn_kernel.specs.Kernels.{TicketValue};
+
+    ghost Value = { TicketValue MemoryLane };
+
+    ghost view = { λ a. a.ticket };
+}
+
+impl Drop for Held {
+    fn drop(self) {
+        let Held { ticket } = self;
+        let _lane = ticket.into_lane();
+    }
+}
+
+impl Held {
+    ghost use Rattle.disk.specs.Mem.{memory_write};
+
+    pub fn new(ticket: Ticket<MemLane>) -> Held
+        ensures { result ≡ ticket }
+    {
+        Held { ticket }
+    }
+
+    pub fn into_ticket(self) -> Ticket<MemLane>
+        ensures { result ≡ self }
+    {
+        let Held { ticket } = self;
+        ticket
+    }
+
+    /// The lane, for looking.
+    pub fn lane(&self) -> &MemLane
+        ensures { result.now ≡ self.now.lane }
+    {
+        self.ticket.lane()
+    }
+
+    /// Carries the write out.
+    pub fn land(&mut self) -> Result<(), DeviceFault>
+        ensures ticket { self.new ≡ record self.old { lane = self.new.lane } }
+        ensures gives { memory_write self.old.lane self.old.bytes result self.new.lane }
+    {
+        self.ticket.land()
+    }
+}

@@ -1,0 +1,171 @@
+// A kernel over the lanes of a disk.
+
+ghost use Rattle.std.specs.Prelude.{◌≡◌, ◌≢◌, ◌⊎◌, ◌<◌, ◌≤◌, ℕ, List, length, Option, Some, None, false, Result, Ok, Err, IsTrue, IfOk, OnOk, OnErr, IfErr, IsErrAnd, slice_get, slice_set, unwrap_or, option_copied};
+ghost use Rattle.disk.specs.Lanes.{CountsOne};
+ghost use Rattle.xn_model.specs.Results.{Gives, GivesExactly, result_map};
+ghost use Rattle.xn_model.specs.Calls.{init_of, make_root_of, begun_of, settled_of, floor_of};
+ghost use Rattle.xn_model.specs.Worlds.{mounted_state};
+ghost use Rattle.xn_model.specs.BareDisks.{built_ins, root_alone};
+ghost use Rattle.xn_model.specs.Lanes.{FitLives};
+ghost use Rattle.xn_model.specs.Rules.{IsConsistent};
+ghost use Rattle.xn_kernel.specs.Kernels.{KernelValue, TicketValue, is_in_flight, is_mine, result_map_err};
+
+use crate::ticket::Ticket;
+use disk::{Lane, Lanes};
+use std::alloc::Global;
+use std::marker::Model;
+use xn_state::{EditId, Refusal, State};
+
+/// What a finished write did: how many of its entries are durable, and how many blocks are free.
+#[derive(Clone, Copy, Debug, PartialEq, Eq)]
+pub struct Landed {
+    pub durable: u32,
+    pub freed: u32,
+}
+
+/// A store over the lanes of a disk.
+#[derive(Drop)]
+pub struct Kernel<L: Lane> {
+    id: u64,
+    lanes: Lanes<L>,
+    state: State,
+}
+
+impl<L: Lane> Model for Kernel<L> {
+    ghost use Rattle.xn_kernel.specs.Kernels.{KernelValue, IsKernel};
+
+    ghost Value = { KernelValue L };
+
+    ghost view = { λ a. record { id = a.id; lanes = a.lanes; state = a.state } };
+
+    ghost invariant = { λ a. IsKernel L.bytes_of a.lanes a.state };
+}
+
+impl<L: Lane> Kernel<L> {
+    ghost use Rattle.disk.specs.declared.lane.DeviceFault.{DeviceFault};
+
+    /// A kernel over a disk on which block 0, with these bytes, is all that is reached. `Err` gives
+    /// the lanes back and comes only for want of memory.
+    pub fn start(
+        alloc: Global,
+        lanes: Lanes<L>,
+        id: u64,
+        root: &[u8; 512],
+    ) -> Result<Kernel<L>, Lanes<L>>
+        requires rules { IsConsistent built_ins (mounted_state (root_alone (length lanes) root.now)) }
+        requires fit { FitLives L.bytes_of lanes (root_alone (length lanes) root.now) }
+        ensures ok { IfOk result (λ kernel. kernel ≡ record {
+          id = id;
+          lanes = lanes;
+          state = mounted_state (root_alone (length lanes) root.now);
+        }) }
+        ensures err { IfErr result (λ back. back ≡ lanes) }
+    {
+        let blocks = lanes.blocks() as u32;
+        match State::new(alloc, blocks, root) {
+            Ok(state) => Ok(Kernel { id, lanes, state }),
+            Err(_) => Err(lanes),
+        }
+    }
+
+    /// Starts a life with these bytes on the lowest free block.
+    pub fn init(
+        &mut self,
+        fs: u8,
+        ty: u32,
+        bytes: &[u8; 512],
+    ) -> Result<(u32, EditId), Refusal>
+        ensures state { Gives (init_of built_ins self.old.state fs ty bytes.now) self.old.state self.new.state result }
+        ensures rest { self.new ≡ record self.old { state = self.new.state } }
+    {
+        self.state.init(fs, ty, bytes)
+    }
+
+    /// Sets the file system's root slot, in block 0, to a fresh block.
+    pub fn make_root(&mut self, fs: u8, block: u32) -> Result<EditId, Refusal>
+        requires { fs < 32 }
+        ensures state { Gives (make_root_of self.old.state fs block) self.old.state self.new.state result }
+        ensures rest { self.new ≡ record self.old { state = self.new.state } }
+    {
+        self.state.make_root(fs, block)
+    }
+
+    /// The least pending entry of a file system, or the next number to be given.
+    pub fn floor(&self, fs: u8) -> u64
+        ensures { result ≡ floor_of self.now.state fs }
+    {
+        self.state.floor(fs)
+    }
+
+    /// The lane of a block, for looking; `None` while a write of the block is under way, and past the
+    /// end of the disk.
+    pub fn lane(&self, block: u32) -> Option<&L>
+        ensures { option_copied result ≡ unwrap_or (slice_get self.now.lanes block) None }
+    {
+        if (block as usize) < self.lanes.blocks() {
+            self.lanes.lane(block)
+        } else {
+            None
+        }
+    }
+
+    /// Begins a write of a block: the ticket has its lane, and the bytes that its safe entries leave.
+    pub fn begin(&mut self, block: u32) -> Result<Ticket<L>, Refusal>
+        ensures state { GivesExactly (begun_of self.old.state block) self.old.state self.new.state
+            (result_map (λ ticket. (ticket.bytes, ticket.count)) result) }
+        ensures ticket { IfOk result (λ ticket. (ticket.kernel ≡ self.old.id) × (ticket.block ≡ block)
+            × (slice_get self.old.lanes block ≡ Some (Some ticket.lane))) }
+        ensures lanes { OnOk result (self.new ≡ record self.old { lanes = slice_set self.old.lanes block None; state = self.new.state }) }
+        ensures err { OnErr result (self.new ≡ self.old) }
+    {
+        let (bytes, count) = self.state.begun(block)?;
+        let Some(lane) = self.lanes.take(block) else {
+            unreachable!()
+        };
+        Ok(Ticket {
+            kernel: self.id,
+            block,
+            count,
+            bytes,
+            lane,
+        })
+    }
+
+    /// Ends a write by what is read back: where the begun bytes stand there, the entries that it
+    /// carries are durable. A refusal gives the ticket back, and the block stays in flight:
+    /// `NotMine` where the ticket is of another kernel or its block isn't in flight here, `Device`
+    /// where the lane can't be read, and last `NotMine` where the block has a durable state and
+    /// neither its bytes nor the begun ones stand there.
+    pub fn finish(&mut self, mut ticket: Ticket<L>) -> Result<Landed, (Ticket<L>, Refusal)>
+        ensures foreign { is_mine self.old ticket ≡ false → IsErrAnd result (λ back. (back.0 ≡ ticket) × (back.1 ≡ Refusal.NotMine)) }
+        ensures mine { IsTrue (is_mine self.old ticket) →
+            GivesExactly (settled_of self.old.state ticket.block (L.bytes_of ticket.lane)) self.old.state self.new.state
+            (result_map (λ landed. (landed.durable, landed.freed)) (result_map_err (λ back. back.1) result))
+            ⊎ IsErrAnd result (λ back. (back.1 ≡ Refusal.Device) × CountsOne (L.faults_of ticket.lane) (L.faults_of back.0.lane)) }
+
+        // The lane comes back with its bytes.
+        ensures given { OnOk result ((lane : L) × (L.bytes_of lane ≡ L.bytes_of ticket.lane) × (L.faults_of lane ≡ L.faults_of ticket.lane)
+            × L.read_gives ticket.lane (Ok tt) lane × (self.new ≡ record self.old { lanes = slice_set self.old.lanes ticket.block (Some lane); state = self.new.state })) }
+
+        // A refusal changes nothing but what the lane keeps beside its bytes.
+        ensures err { OnErr result (self.new ≡ self.old) }
+        ensures back { IfErr result (λ back. (back.0 ≡ record ticket { lane = back.0.lane }) × (L.bytes_of back.0.lane ≡ L.bytes_of ticket.lane)) }
+        ensures unread { IfErr result (λ back. back.1 ≡ Refusal.Device → (fault : DeviceFault) × L.read_gives ticket.lane (Err fault) back.0.lane) }
+        ensures faults { IfErr result (λ back. back.1 ≡ Refusal.NotMine → L.faults_of back.0.lane ≡ L.faults_of ticket.lane) }
+    {
+        if ticket.kernel != self.id || !self.state.is_in_flight(ticket.block) {
+            return Err((ticket, Refusal::NotMine));
+        }
+        let mut bytes = [0u8; 512];
+        if ticket.lane.read(&mut bytes).is_err() {
+            return Err((ticket, Refusal::Device));
+        }
+        match self.state.settled(ticket.block, &bytes) {
+            Err(refusal) => Err((ticket, refusal)),
+            Ok((durable, freed)) => match self.lanes.give(ticket.into_lane()) {
+                Ok(()) => Ok(Landed { durable, freed }),
+                Err(_lane) => unreachable!(),
+            },
+        }
+    }
+}

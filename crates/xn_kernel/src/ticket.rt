@@ -1,0 +1,84 @@
+// A write that was begun.
+
+ghost use Rattle.std.specs.Prelude.{◌≡◌, ◌⊎◌, ℕ, List, OnOk, OnErr};
+ghost use Rattle.disk.specs.Lanes.{CountsOne};
+ghost use Rattle.xn_kernel.specs.Kernels.{TicketValue};
+
+use disk::{DeviceFault, Lane};
+use std::marker::Model;
+
+/// A write that was begun: the block's lane, and the bytes that the block's safe entries leave.
+///
+/// A ticket has to be spent: by `Kernel::finish`, or by `into_lane`, which gives the write up.
+pub struct Ticket<L: Lane> {
+    pub(crate) kernel: u64,
+    pub(crate) block: u32,
+    pub(crate) count: u32,
+    pub(crate) bytes: [u8; 512],
+    pub(crate) lane: L,
+}
+
+impl<L: Lane> Model for Ticket<L> {
+    ghost use Rattle.std.specs.Prelude.{◌≡◌};
+    ghost use Rattle.xn_kernel.specs.Kernels.{TicketValue};
+
+    ghost Value = { TicketValue L };
+
+    ghost view = { λ a. record { kernel = a.kernel; block = a.block; count = a.count; bytes = a.bytes; lane = a.lane } };
+
+    ghost invariant = { λ a. L.number_of a.lane ≡ a.block };
+}
+
+impl<L: Lane> Ticket<L> {
+    /// The block that is written.
+    pub fn block(&self) -> u32
+        ensures { result ≡ self.now.block }
+    {
+        self.block
+    }
+
+    /// How many entries the write carries.
+    pub fn count(&self) -> u32
+        ensures { result ≡ self.now.count }
+    {
+        self.count
+    }
+
+    /// The block's lane, for looking.
+    pub fn lane(&self) -> &L
+        ensures { result.now ≡ self.now.lane }
+    {
+        &self.lane
+    }
+
+    /// Takes the lane and gives the write up. The kernel still has the block in flight.
+    pub fn into_lane(self) -> L
+        ensures lane { result ≡ self.lane }
+        ensures number { L.number_of result ≡ self.block }
+    {
+        let Ticket {
+            kernel: _,
+            block: _,
+            count: _,
+            bytes: _,
+            lane,
+        } = self;
+        lane
+    }
+
+    /// Writes the block once, with no lock. It may be called again. After `Ok` the block holds the
+    /// ticket's bytes, after `Err` those or the ones before.
+    pub fn land(&mut self) -> Result<(), DeviceFault>
+        ensures ticket { self.new ≡ record self.old { lane = self.new.lane } }
+        ensures number { L.number_of self.new.lane ≡ L.number_of self.old.lane }
+
+        ensures landed { OnOk result (L.bytes_of self.new.lane ≡ self.old.bytes) }
+        ensures old_or_new { OnErr result ((L.bytes_of self.new.lane ≡ L.bytes_of self.old.lane) ⊎ (L.bytes_of self.new.lane ≡ self.old.bytes)) }
+
+        ensures faults_ok { OnOk result (L.faults_of self.new.lane ≡ L.faults_of self.old.lane) }
+        ensures faults_err { OnErr result (CountsOne (L.faults_of self.old.lane) (L.faults_of self.new.lane)) }
+        ensures gives { L.write_gives self.old.lane self.old.bytes result self.new.lane }
+    {
+        self.lane.write(&self.bytes)
+    }
+}

@@ -1,0 +1,288 @@
+-- A block accepts a state, and the blocks that it adds and drops change their status.
+use Rattle.std.proofs.Common.{◌≡◌, ℕ, ◌+◌, ◌<◌, ◌≤◌, length, ◌⊎◌, List, [], ◌∷◌, Option, Some, None, refl, sym, ◌∙◌, ap, inl, inr, arith, subst}
+use Rattle.std.specs.Prelude.{Contains, option_to_list}
+use Rattle.std.specs.List.{last_or}
+use Rattle.std.proofs.lemmas.Bool.{cases_eq}
+use Rattle.std.proofs.lemmas.Option.{same_Some}
+use Rattle.std.proofs.lemmas.List.Elements.{Contains-append_cases, Contains-append_left, Contains-append_right, Contains-push_cases}
+use Rattle.xn_model.specs.Types.{Types}
+use Rattle.xn_model.specs.Images.{IsDiskSize}
+use Rattle.xn_model.specs.Calls.{accepts}
+use Rattle.xn_model.specs.Lives.{StoreState, BlockState, Owned, Dropped, Life, Lives, life_at, states, carried, newest}
+use Rattle.xn_model.specs.Rules.{ArePlaced, Keeps, IsConsistent, IsBy, IsOlder, WaitsForOlder, IsRootLife, IsSoundLife, IsLinkedLife, IsPlaced, NamedIn, HasExactStatuses, IsNamer, IsCount}
+use Rattle.xn_model.proofs.Changes.{accepted, accept, status_after}
+use Rattle.xn_model.proofs.Lists.{Contains-none, last_of, blocks_of_at}
+use Rattle.xn_model.proofs.Lives.{each_forth, each_back, accepted_is, length_accepted}
+use Rattle.xn_model.proofs.Carry.{Carries}
+use Rattle.xn_model.proofs.Orders.{AreBelow, below_next, ordered_accept}
+use Rattle.xn_model.proofs.States.{MayBeRoot, MayAccept, last_push, states_push, carried_still, with_state, accepted_other, accepted_same, status_cases, status_stays, fresh_owned, same_owner, owned_dropped}
+use Rattle.xn_model.proofs.AcceptedLives.{now, added_fresh, fresh_after, dropped_other, carries, held_other, kept_other, held_grown, kept_grown}
+
+module _ (T : Types) (state : StoreState) (h : IsConsistent T state) (b : ℕ) (l : Life) (s : BlockState) (alive : life_at state.lives b ≡ Some l) (may : MayAccept T state.lives b l s) (number : s.entry ≡ state.next)
+    (may_root : b ≡ 0 → MayBeRoot T state.lives h.lives_sound.root s) where
+  next_lives : Lives
+  next_lives = accept b s state.lives
+
+  same_life : (c : ℕ) (m : Life) → life_at state.lives c ≡ Some m → c ≡ b → m ≡ l
+  same_life c m e same = same_Some m l (sym e ∙ (ap (life_at state.lives) same ∙ alive))
+
+  latest : (t : BlockState) → Contains (states l) t → t.entry < s.entry
+  latest t m = let lt = h.numbers b l t alive m in let e = number in omega arith
+
+  carries_next : Carries T state.lives next_lives
+  unfolding next_lives now
+  carries_next = carries T state.lives b l s alive may h.lives_sound.root
+
+  held_at : (c : ℕ) (m : Life) → life_at state.lives c ≡ Some m → IsSoundLife T next_lives c (accepted b s c m)
+  unfolding next_lives now
+  held_at c m e = elim (cases_eq c b) [
+    | inl same ↦
+        let is : with_state s (status_after b s c m.status) l ≡ accepted b s c m = sym (accepted_same b s c m same ∙ ap (with_state s (status_after b s c m.status)) (same_life c m e same)) in
+        subst (λ x. IsSoundLife T next_lives c x) is (subst (λ x. IsSoundLife T next_lives x (with_state s (status_after b s c m.status) l)) (sym same)
+        (held_grown T state.lives b l s alive may h.lives_sound.root (h.lives_sound.each b l alive) (h.linked b l alive) latest (status_after b s c m.status)))
+    | inr other ↦ subst (IsSoundLife T next_lives c) (sym (accepted_other b s c m other)) (held_other T state.lives b l s alive may h.lives_sound.root c m (status_after b s c m.status) (h.lives_sound.each c m e))
+  ]
+
+  kept_at : (c : ℕ) (m : Life) → life_at state.lives c ≡ Some m → IsLinkedLife T next_lives c (accepted b s c m)
+  unfolding next_lives now
+  kept_at c m e = elim (cases_eq c b) [
+    | inl same ↦
+        let is : with_state s (status_after b s c m.status) l ≡ accepted b s c m = sym (accepted_same b s c m same ∙ ap (with_state s (status_after b s c m.status)) (same_life c m e same)) in
+        subst (λ x. IsLinkedLife T next_lives c x) is (subst (λ x. IsLinkedLife T next_lives x (with_state s (status_after b s c m.status) l)) (sym same)
+        (kept_grown T state.lives b l s alive may h.lives_sound.root (h.lives_sound.each b l alive) (h.linked b l alive) latest (status_after b s c m.status)))
+    | inr other ↦ subst (IsLinkedLife T next_lives c) (sym (accepted_other b s c m other)) (kept_other T state.lives b l s alive may h.lives_sound.root c m (status_after b s c m.status) other (h.linked c m e))
+  ]
+
+  -- a state of a life after it, if not new, was there before
+  state_from : (c : ℕ) (m : Life) (t : BlockState) → Contains (states (accepted b s c m)) t → Contains (states m) t ⊎ ((s ≡ t) × (c ≡ b))
+  state_from c m t i = elim (cases_eq c b) [
+    | inl same ↦ elim (states_push m.durable m.pending s t (subst (λ x. Contains (states x) t) (accepted_same b s c m same) i)) [ inl old ↦ inl old | inr e ↦ inr (e, same) ]
+    | inr other ↦ inl (subst (λ x. Contains (states x) t) (accepted_other b s c m other) i)
+  ]
+
+  carried_at : (c : ℕ) (m : Life) → life_at state.lives c ≡ Some m → carried (accepted b s c m) ≡ carried m
+  carried_at c m e = elim (cases_eq c b) [
+    | inl same ↦ ap carried (accepted_same b s c m same) ∙ carried_still m.begun m.pending s (h.linked c m e).flight
+    | inr other ↦ ap carried (accepted_other b s c m other)
+  ]
+
+  pub accept_places : (content : ℕ → List ℕ) → ArePlaced content state.lives → ArePlaced content (accept b s state.lives)
+  unfolding next_lives
+  accept_places content placed c m t e d =
+      let r = each_back (accepted b s) state.lives c m e in
+      subst (λ x. IsPlaced content c x t) (sym r.2) (elim (placed c r.0 t r.1 (ap (λ (x : Life). x.durable) (sym r.2) ∙ d)) [
+        | inl x ↦ inl x
+        | inr y ↦ inr (y.0, ap (last_or None) (carried_at c r.0 r.1) ∙ y.1, y.2)
+      ])
+
+  root_next : IsRootLife T next_lives
+  unfolding next_lives now
+  root_next =
+      let r = h.lives_sound.root in
+      record {
+        life = accepted b s 0 r.life;
+        alive = each_forth (accepted b s) state.lives 0 r.life r.alive;
+        ty = r.ty;
+        nobody = r.nobody;
+        unowned = fresh_after T state.lives b l s alive may r 0 r.life r.alive r.unowned (λ i. let p = blocks_of_at s.adds 0 i in (may.adds 0 p.0 p.1).not_root refl);
+        state = r.state;
+        durable = r.durable;
+        mark = λ t i. elim (state_from 0 r.life t i) [ inl old ↦ rw carries_next.count (r.mark t old) | inr new ↦ rw (carries_next.count, ← new.0) (may_root (sym new.1)).mark ];
+        head = λ t i. elim (state_from 0 r.life t i) [ inl old ↦ r.head t old | inr new ↦ rw (← new.0) (may_root (sym new.1)).head ];
+        long = λ t i. elim (state_from 0 r.life t i) [ inl old ↦ r.long t old | inr new ↦ rw (← new.0) (may_root (sym new.1)).long ];
+        templates = λ t c u i n. elim (state_from 0 r.life t i) [ inl old ↦ carries_next.template c (r.templates t c u old n) | inr new ↦ carries_next.template c ((may_root (sym new.1)).templates c u (rw new.0 n)) ];
+        slots = λ t j c i lt e ne. carries_next.system (Some j) c (elim (state_from 0 r.life t i) [ inl old ↦ r.slots t j c old lt e ne | inr new ↦ (may_root (sym new.1)).slots j c lt (rw new.0 e) ne ]);
+      }
+
+  -- the same of pending states
+  pending_from : (c : ℕ) (m : Life) (t : BlockState) → Contains (accepted b s c m).pending t → Contains m.pending t ⊎ ((s ≡ t) × (c ≡ b))
+  pending_from c m t i = elim (cases_eq c b) [
+    | inl same ↦ elim (Contains-push_cases m.pending s t (subst (λ (x : Life). Contains x.pending t) (accepted_same b s c m same) i)) [ inl old ↦ inl old | inr e ↦ inr (e, same) ]
+    | inr other ↦ inl (subst (λ (x : Life). Contains x.pending t) (accepted_other b s c m other) i)
+  ]
+
+  pending_still : (c : ℕ) (m : Life) (t : BlockState) → Contains m.pending t → Contains (accepted b s c m).pending t
+  pending_still c m t i = elim (cases_eq c b) [
+    | inl same ↦ subst (λ (x : Life). Contains x.pending t) (sym (accepted_same b s c m same)) (Contains-append_left m.pending (s ∷ []) t i)
+    | inr other ↦ subst (λ (x : Life). Contains x.pending t) (sym (accepted_other b s c m other)) i
+  ]
+
+  older_next : (c n : ℕ) → IsOlder state.lives c n → IsOlder next_lives c n
+  unfolding next_lives
+  older_next c n o = record { life = accepted b s c o.life; alive = each_forth (accepted b s) state.lives c o.life o.alive; older = elim o.older [ inl d ↦ inl d | inr t ↦ inr (t.0, pending_still c o.life t.0 t.1, t.2) ] }
+
+  -- a living block is older than the new state
+  older_alive : (c : ℕ) (m : Life) → life_at state.lives c ≡ Some m → IsOlder state.lives c s.entry
+  older_alive c m e =
+      let k = h.linked c m e in
+      let in' = last_of m.durable m.pending k.last k.is_last in
+      record {
+        life = m;
+        alive = e;
+        older = elim (Contains-append_cases (option_to_list m.durable) m.pending k.last in') [
+          | inl d ↦ inl (some_in m.durable k.last d)
+          | inr p ↦ inr (k.last, p, let lt = h.numbers c m k.last e in' in let e' = number in omega arith)
+        ];
+      }
+    where
+      some_in : (o : Option BlockState) (x : BlockState) → Contains (option_to_list o) x → (y : BlockState) × (o ≡ Some y)
+      some_in None x i = absurd (Contains-none x i)
+      some_in (Some y) x i = (y, refl)
+
+  not_itself : (c : ℕ) → Contains s.drops c → c ≡ b → ⊥
+  not_itself c i e =
+      let o = may.drops c i in
+      let by : IsBy c (Owned b) = sym e in
+      h.waits.apart c o.life o.alive (subst (IsBy c) (sym o.status) by)
+
+  queued_next : WaitsForOlder T next_lives
+  unfolding next_lives
+  queued_next = record {
+    adds = λ a m t c u e i n. let r = each_back (accepted b s) state.lives a m e in
+        let ty : m.ty ≡ r.0.ty = ap (λ (x : Life). x.ty) r.2 in
+        elim (pending_from a r.0 t (subst (λ (x : Life). Contains x.pending t) r.2 i)) [
+          | inl old ↦ let x = h.waits.adds a r.0 t c u r.1 old n in (subst (λ y. Contains (T.owned y t.bytes) (c, u)) (sym ty) x.0, older_next c t.entry x.1)
+          | inr new ↦
+              let mine : Contains s.adds (c, u) = subst (λ (x : BlockState). Contains x.adds (c, u)) (sym new.0) n in
+              let is : m.ty ≡ l.ty = ty ∙ ap (λ (x : Life). x.ty) (same_life a r.0 r.1 new.1) in
+              let named : Contains (T.owned l.ty t.bytes) (c, u) = subst (λ (x : BlockState). Contains (T.owned l.ty x.bytes) (c, u)) new.0 (may.added c u mine).0 in
+              let x = may.adds c u mine in (
+                subst (λ y. Contains (T.owned y t.bytes) (c, u)) (sym is) named,
+                older_next c t.entry (subst (λ (y : BlockState). IsOlder state.lives c y.entry) new.0 (older_alive c x.life x.alive)),
+              )
+        ];
+    drops = λ a m t c x y e i d f j. let r = each_back (accepted b s) state.lives a m e in let p = each_back (accepted b s) state.lives c x f in
+        let y_in = pending_from c p.0 y (subst (λ (z : Life). Contains z.pending y) p.2 j) in
+        elim (pending_from a r.0 t (subst (λ (z : Life). Contains z.pending t) r.2 i)) [
+          | inl old ↦ elim y_in [
+            | inl old' ↦ h.waits.drops a r.0 t c p.0 y r.1 old d p.1 old'
+            | inr new' ↦ absurd (dropped_other T state.lives b l s alive may h.lives_sound.root a c ((h.linked a r.0 r.1).dropped t c old d) new'.1)
+          ]
+          | inr new ↦
+              let mine : Contains s.drops c = subst (λ (z : BlockState). Contains z.drops c) (sym new.0) d in
+              elim y_in [
+                | inl old' ↦
+                    let lt = h.numbers c p.0 y p.1 (Contains-append_right (option_to_list p.0.durable) p.0.pending y old') in
+                    let same : s.entry ≡ t.entry = ap (λ (z : BlockState). z.entry) new.0 in let e' = number in omega arith
+                | inr new' ↦ absurd (not_itself c mine new'.1)
+              ]
+        ];
+    after = λ a m t n e i f. let r = each_back (accepted b s) state.lives a m e in
+        elim (pending_from a r.0 t (subst (λ (z : Life). Contains z.pending t) r.2 i)) [
+          | inl old ↦ h.waits.after a r.0 t n r.1 old f
+          | inr new ↦ subst (λ (z : BlockState). n < z.entry) new.0 (may.given n (ap (λ (z : BlockState). z.after) new.0 ∙ f))
+        ];
+    apart = λ c m e by. let r = each_back (accepted b s) state.lives c m e in
+        let by' : IsBy c (status_after b s c r.0.status) = subst (λ (z : Life). IsBy c z.status) r.2 by in
+        elim (status_cases b s c r.0.status) [
+          | inl add ↦ let p : IsBy c (Owned b) = subst (IsBy c) add.1 by' in let q = blocks_of_at s.adds c add.0 in (may.added c q.0 q.1).1 (sym p)
+          | inr rest ↦ elim rest [
+            | inl drop' ↦ let p : IsBy c (Dropped b) = subst (IsBy c) drop'.1 by' in not_itself c drop'.0 (sym p)
+            | inr same ↦ h.waits.apart c r.0 r.1 (subst (IsBy c) same by')
+          ]
+        ];
+  }
+
+  -- the newest states
+  newest_other : (c : ℕ) (m : Life) → (c ≡ b → ⊥) → newest (accepted b s c m) ≡ newest m
+  newest_other c m ne = ap newest (accepted_other b s c m ne)
+
+  newest_same : newest (accepted b s b l) ≡ Some s
+  newest_same = ap newest (accepted_same b s b l refl) ∙ last_push l.durable l.pending s
+
+  -- whose block it is
+  namer_next : (a c u : ℕ) → (Contains s.drops c → a ≡ b → ⊥) → IsNamer T state.lives a c u → IsNamer T next_lives a c u
+  unfolding next_lives
+  namer_next a c u out o = elim (cases_eq a b) [
+    | inl same ↦
+        let life : o.life ≡ l = same_life a o.life o.alive same in
+        let before : NamedIn T l.ty (newest l) (c, u) = subst (λ (x : Life). NamedIn T x.ty (newest x) (c, u)) life o.names in
+        let named : Contains (T.owned l.ty s.bytes) (c, u) = may.stays c u before (λ i. out i same) in
+        record {
+          life = accepted b s a l;
+          alive = each_forth (accepted b s) state.lives a l (ap (λ x. life_at state.lives x) same ∙ alive);
+          names = subst (λ x. NamedIn T l.ty (newest (accepted b s x l)) (c, u)) (sym same) (subst (λ o. NamedIn T l.ty o (c, u)) (sym newest_same) named);
+        }
+    | inr other ↦ record {
+      life = accepted b s a o.life;
+      alive = each_forth (accepted b s) state.lives a o.life o.alive;
+      names = subst (λ x. NamedIn T o.life.ty x (c, u)) (sym (newest_other a o.life other)) o.names;
+    }
+  ]
+
+  exact_next : HasExactStatuses T next_lives
+  unfolding next_lives
+  exact_next = record {
+    owned = λ c m a e st.
+        let r = each_back (accepted b s) state.lives c m e in
+        let after : status_after b s c r.0.status ≡ Owned a = ap (λ (x : Life). x.status) (sym r.2) ∙ st in
+        let ty : r.0.ty ≡ m.ty = ap (λ (x : Life). x.ty) (sym r.2) in
+        subst (λ t. IsNamer T next_lives a c t) ty (elim (status_cases b s c r.0.status) [
+          | inl add ↦
+              let p = blocks_of_at s.adds c add.0 in
+              let x = may.adds c p.0 p.1 in
+              let life : x.life ≡ r.0 = same_Some x.life r.0 (sym x.alive ∙ r.1) in
+              let owner : b ≡ a = same_owner b a (sym add.1 ∙ after) in
+              let named : Contains (T.owned l.ty s.bytes) (c, r.0.ty) = subst (λ t. Contains (T.owned l.ty s.bytes) (c, t)) (sym x.ty ∙ ap (λ (y : Life). y.ty) life) (may.added c p.0 p.1).0 in
+              subst (λ y. IsNamer T next_lives y c r.0.ty) owner (record {
+                life = accepted b s b l;
+                alive = each_forth (accepted b s) state.lives b l alive;
+                names = subst (λ o. NamedIn T l.ty o (c, r.0.ty)) (sym newest_same) named;
+              })
+          | inr rest ↦ elim rest [
+            | inl drop' ↦ absurd (owned_dropped a b (sym after ∙ drop'.1))
+            | inr same ↦
+                namer_next a c r.0.ty (λ i owner. elim (status_stays b s c r.0.status i) [
+                  | inl x ↦ fresh_owned a (sym (added_fresh T state.lives b l s alive may h.lives_sound.root c r.0 r.1 x) ∙ (sym same ∙ after))
+                  | inr x ↦ owned_dropped a b (sym after ∙ x)
+                ]) (h.statuses.owned c r.0 a r.1 (sym same ∙ after))
+          ]
+        ]);
+    emptied = λ c m a p e st n.
+        let r = each_back (accepted b s) state.lives c m e in
+        let after : status_after b s c r.0.status ≡ Dropped a = ap (λ (x : Life). x.status) (sym r.2) ∙ st in
+        let named : NamedIn T r.0.ty (newest (accepted b s c r.0)) p = subst (λ (x : Life). NamedIn T x.ty (newest x) p) r.2 n in
+        elim (status_cases b s c r.0.status) [
+          | inl add ↦ owned_dropped b a (sym add.1 ∙ after)
+          | inr rest ↦ elim rest [
+            | inl drop' ↦ may.empty c r.0 p drop'.0 r.1 (subst (λ o. NamedIn T r.0.ty o p) (newest_other c r.0 (λ z. not_itself c drop'.0 z)) named)
+            | inr same ↦
+                let old : r.0.status ≡ Dropped a = sym same ∙ after in
+                h.statuses.emptied c r.0 a p r.1 old (subst (λ o. NamedIn T r.0.ty o p)
+                (newest_other c r.0 (dropped_other T state.lives b l s alive may h.lives_sound.root a c (record { life = r.0; alive = r.1; status = old }))) named)
+          ]
+        ];
+  }
+
+  below : AreBelow state.lives s.entry
+  below = subst (AreBelow state.lives) (sym number) (below_next T state h)
+
+  few : (c : ℕ) (m : Life) (j : ℕ) → life_at state.lives c ≡ Some m → m.begun ≡ Some j → j ≤ length m.pending
+  few c m j e begun = let bounds : IsCount (Some j) (length m.pending) = subst (λ o. IsCount o (length m.pending)) begun (h.linked c m e).flight in bounds.1
+
+  pub accept_keeps : IsConsistent T (record state { lives = accept b s state.lives; next = state.next + 1 })
+  unfolding next_lives
+  accept_keeps = record {
+    order = ordered_accept state.lives b s below few h.order;
+    statuses = exact_next;
+    waits = queued_next;
+    built_ins = h.built_ins;
+    size = subst IsDiskSize (sym carries_next.count) h.size;
+    lives_sound = record { root = root_next; each = λ c m e. let r = each_back (accepted b s) state.lives c m e in subst (IsSoundLife T next_lives c) (sym r.2) (held_at c r.0 r.1) };
+    linked = λ c m e. let r = each_back (accepted b s) state.lives c m e in subst (IsLinkedLife T next_lives c) (sym r.2) (kept_at c r.0 r.1);
+    numbers = λ c m t e i. let r = each_back (accepted b s) state.lives c m e in elim (state_from c r.0 t (subst (λ x. Contains (states x) t) r.2 i)) [
+      | inl old ↦ let lt = h.numbers c r.0 t r.1 old in omega arith
+      | inr new ↦ let same : s.entry ≡ t.entry = ap (λ (x : BlockState). x.entry) new.0 in let e' = number in omega arith
+    ];
+  }
+
+-- What a call that has a block accept a state leaves
+
+pub accepts_keeps : (T : Types) (state : StoreState) (h : IsConsistent T state) (b : ℕ) (l : Life) (s : BlockState) (alive : life_at state.lives b ≡ Some l) → MayAccept T state.lives b l s → s.entry ≡ state.next →
+    (b ≡ 0 → MayBeRoot T state.lives h.lives_sound.root s) → Keeps T state (accepts state b s).1
+unfolding next_lives
+accepts_keeps T state h b l s alive may number may_root = record {
+  consistent = subst (λ xs. IsConsistent T (record { lives = xs; next = state.next + 1 })) (sym (accepted_is state.lives b s)) (accept_keeps T state h b l s alive may number may_root);
+  count = length_accepted state.lives b s;
+  placed = λ content p. subst (ArePlaced content) (sym (accepted_is state.lives b s)) (accept_places T state h b l s alive may number may_root content p);
+}

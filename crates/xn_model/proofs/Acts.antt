@@ -1,0 +1,28 @@
+-- What act gives is a step, so every list of events has a run; and a bare disk is sound.
+use Rattle.std.proofs.Common.{◌≡◌, false, cond, List, [], ◌∷◌, refl, ap, inl}
+use Rattle.std.specs.List.{AllByRecursion}
+use Rattle.std.proofs.lemmas.Bool.{and_right}
+use Rattle.xn_model.specs.Mounts.{recovered}
+use Rattle.xn_model.specs.Worlds.{World, Event, Client, Begin, Land, Fail, Finish, Crash, Reply, Down, act, crash, replies, world_after, Step, Run, IsEvent}
+use Rattle.xn_model.specs.Rules.{Holds}
+use Rattle.xn_model.proofs.Runs.{step_keeps, world_sound}
+use Rattle.xn_model.proofs.Walk.{recovered_is}
+
+crash_is : (w : World) → act w Crash ≡ crash w
+crash_is w = ap (λ b. cond b (Down, w) (crash w)) (and_right w.down false refl)
+
+pub act_steps : (w : World) → Holds w → (e : Event) → Step w e (act w e).0 (act w e).1
+act_steps w h (Client fs c) = inl (refl, refl)
+act_steps w h (Begin b) = inl (refl, refl)
+act_steps w h (Land b) = inl (refl, refl)
+act_steps w h (Fail b stays) = inl (refl, refl)
+act_steps w h (Finish b) = inl (refl, refl)
+act_steps w h Crash = (
+  recovered w.types w.image,
+  recovered_is w.types h.state.built_ins w.image (world_sound w h),
+  inl (ap (λ (r : Reply × World). r.0) (crash_is w), ap (λ (r : Reply × World). r.1) (crash_is w)),
+)
+
+pub acts_run : (w : World) (es : List Event) → Holds w → AllByRecursion IsEvent es → Run w es (replies w es) (world_after w es)
+acts_run w [] h each = refl
+acts_run w (e ∷ es) h each = ((act w e).1, act_steps w h e, acts_run (act w e).1 es (step_keeps w e (act w e).0 (act w e).1 each.0 h (act_steps w h e)) each.1)

@@ -1,0 +1,184 @@
+-- Of a durable state the bytes are enough.
+use Rattle.std.proofs.Common.{◌≡◌, ℕ, ◌<◌, Bool, true, false, cond, List, [], ◌∷◌, ◌++◌, Option, Some, None, refl, sym, ◌∙◌, ap, inl, inr, arith, subst}
+use Rattle.std.specs.Prelude.{◌==◌, Contains, option_map, option_to_list}
+use Rattle.std.specs.List.{last_or}
+use Rattle.std.proofs.lemmas.List.Elements.{Contains-append_right}
+use Rattle.xn_model.specs.Types.{Types}
+use Rattle.xn_model.specs.Images.{IsDiskSize}
+use Rattle.xn_model.specs.Lives.{BlockState, Life, Lives, StoreState, life_at, states, carried, newest, on_disk, durable_after}
+use Rattle.xn_model.specs.Rules.{IsSoundLife, IsLinkedLife, IsPlaced, ArePlaced, IsConsistent, NamedIn, StartsPlain, Grows, Rises, HasExactStatuses, IsNamer, IsRootLife}
+use Rattle.xn_model.proofs.Changes.{each, bared}
+use Rattle.xn_model.proofs.Lists.{Contains-head, Contains-cons}
+use Rattle.xn_model.proofs.Lives.{each_forth, each_back, length_revised}
+use Rattle.xn_model.proofs.Carry.{Carries}
+use Rattle.xn_model.proofs.Orders.{ordered_bare}
+use Rattle.xn_model.proofs.Queue.{Shrinks, queued_each}
+
+-- a state with these bytes
+abbrev SameBytes : List BlockState → BlockState → Type 0
+SameBytes xs s = (t : BlockState) × Contains xs t × (t.bytes ≡ s.bytes)
+
+bare_state : (o : Option BlockState) (xs : List BlockState) (s : BlockState) → Contains (option_to_list (durable_after o) ++ xs) s → SameBytes (option_to_list o ++ xs) s
+bare_state None xs s i = (s, i, refl)
+bare_state (Some d) xs s i = elim (Contains-cons (on_disk d.bytes) xs s i) [
+  | inl e ↦ (d, Contains-head d xs, ap (λ (x : BlockState). x.bytes) e)
+  | inr j ↦ (s, Contains-append_right (d ∷ []) xs s j, refl)
+]
+
+state_if : (t : Bool) (o : Option BlockState) (xs : List BlockState) (s : BlockState) → Contains (option_to_list (cond t (durable_after o) o) ++ xs) s → SameBytes (option_to_list o ++ xs) s
+state_if true o xs s i = bare_state o xs s i
+state_if false o xs s i = (s, i, refl)
+
+bare_some : (t : Bool) (o : Option BlockState) (s : BlockState) → o ≡ Some s → (r : BlockState) × (cond t (durable_after o) o ≡ Some r) × (r.bytes ≡ s.bytes)
+bare_some true o s e = (on_disk s.bytes, ap durable_after e, refl)
+bare_some false o s e = (s, e, refl)
+
+some_bare : (t : Bool) (o : Option BlockState) (s : BlockState) → cond t (durable_after o) o ≡ Some s → (r : BlockState) × (o ≡ Some r) × (r.bytes ≡ s.bytes)
+some_bare true None s e = absurd cc
+some_bare true (Some d) s e = (d, refl, let same : on_disk d.bytes ≡ s = cc in ap (λ (x : BlockState). x.bytes) same)
+some_bare false o s e = (s, e, refl)
+
+bare_rises : (t : Bool) (o : Option BlockState) (xs : List BlockState) → Rises (option_to_list o ++ xs) → Rises (option_to_list (cond t (durable_after o) o) ++ xs)
+bare_rises false o xs h = h
+bare_rises true None xs h = h
+bare_rises true (Some d) [] h = tt
+bare_rises true (Some d) (x ∷ xs) h = let lt = h.0 in (omega arith, h.1)
+
+bare_start : (t : Bool) (o : Option BlockState) (xs : List BlockState) → StartsPlain o xs → StartsPlain (cond t (durable_after o) o) xs
+bare_start false o xs h = h
+bare_start true None xs h = h
+bare_start true (Some d) xs h = tt
+
+bare_grows : (T : Types) (ty : ℕ) (t : Bool) (o : Option BlockState) (xs : List BlockState) → Grows T ty o xs → Grows T ty (cond t (durable_after o) o) xs
+bare_grows T ty false o xs h = h
+bare_grows T ty true None xs h = h
+bare_grows T ty true (Some d) [] h = tt
+bare_grows T ty true (Some d) (x ∷ xs) h = (h.0, h.1)
+
+-- the newest state names what it did
+abbrev last_if : Bool → Option BlockState → List BlockState → Option BlockState
+last_if t o xs = last_or (cond t (durable_after o) o) xs
+
+named_if : (T : Types) (ty : ℕ) (t : Bool) (o : Option BlockState) (xs : List BlockState) (p : ℕ × ℕ) → NamedIn T ty (last_if t o xs) p → NamedIn T ty (last_or o xs) p
+named_if T ty false o xs p n = n
+named_if T ty true None xs p n = n
+named_if T ty true (Some d) [] p n = n
+named_if T ty true (Some d) (x ∷ xs) p n = n
+
+if_named : (T : Types) (ty : ℕ) (t : Bool) (o : Option BlockState) (xs : List BlockState) (p : ℕ × ℕ) → NamedIn T ty (last_or o xs) p → NamedIn T ty (last_if t o xs) p
+if_named T ty false o xs p n = n
+if_named T ty true None xs p n = n
+if_named T ty true (Some d) [] p n = n
+if_named T ty true (Some d) (x ∷ xs) p n = n
+
+some_last : (t : Bool) (o : Option BlockState) (xs : List BlockState) (s : BlockState) → last_or o xs ≡ Some s → (r : BlockState) × (last_if t o xs ≡ Some r)
+some_last false o xs s e = (s, e)
+some_last true None xs s e = (s, e)
+some_last true (Some d) [] s e = (on_disk d.bytes, refl)
+some_last true (Some d) (x ∷ xs) s e = (s, e)
+
+module _ (T : Types) (state : StoreState) (h : IsConsistent T state) (b : ℕ) where
+  abbrev now : Lives
+  now = each (bared b) state.lives
+
+  forth : (c : ℕ) (l : Life) → life_at state.lives c ≡ Some l → life_at now c ≡ Some (bared b c l)
+  forth c l e = each_forth (bared b) state.lives c l e
+
+  carries : Carries T state.lives now
+  carries = record {
+    count = length_revised (λ c o. option_map (bared b c) o) state.lives;
+    belongs = λ a c u r. record { life = bared b c r.life; alive = forth c r.life r.alive; ty = r.ty; by = r.by };
+    system = λ fs c r. record { life = bared b c r.life; alive = forth c r.life r.alive; same = r.same };
+    disk = λ c r. let d = bare_some (c == b) r.life.durable r.state r.durable in record { life = bared b c r.life; alive = forth c r.life r.alive; state = d.0; durable = d.1 };
+    template = λ c r. let d = bare_some (c == b) r.life.durable r.state r.durable in
+        record { life = bared b c r.life; alive = forth c r.life r.alive; nobody = r.nobody; ty = r.ty; state = d.0; durable = d.1; only = r.only; bytes = rw d.2 r.bytes };
+    dropped = λ a c r. record { life = bared b c r.life; alive = forth c r.life r.alive; status = r.status };
+    resting = λ a c d r. record { life = bared b c r.life; alive = forth c r.life r.alive; nothing = r.nothing };
+  }
+
+  held_bare : (c : ℕ) (l : Life) → IsSoundLife T state.lives c l → IsSoundLife T now c (bared b c l)
+  held_bare c l k = record {
+    fit = λ s i. let r = state_if (c == b) l.durable l.pending s i in rw (← r.2) (k.fit r.0 r.1);
+    named = λ s x u i n. let r = state_if (c == b) l.durable l.pending s i in carries.belongs c x u (k.named r.0 x u r.1 (rw r.2 n));
+    same_system = λ s x u ne i n. let r = state_if (c == b) l.durable l.pending s i in carries.system l.fs x (k.same_system r.0 x u ne r.1 (rw r.2 n));
+    ready = λ s x u i n. let r = state_if (c == b) l.durable (carried l) s i in carries.disk x (k.ready r.0 x u r.1 (rw r.2 n));
+    rising = bare_rises (c == b) l.durable l.pending k.rising;
+  }
+
+  kept_bare : (c : ℕ) (l : Life) → IsLinkedLife T state.lives c l → IsLinkedLife T now c (bared b c l)
+  kept_bare c l k =
+      let last = some_last (c == b) l.durable l.pending k.last k.is_last in
+      record {
+        last = last.0;
+        is_last = last.1;
+        owned = λ x u n. let r = k.owned x u (named_if T l.ty (c == b) l.durable l.pending (x, u) n) in record { life = bared b x r.life; alive = forth x r.life r.alive; status = r.status };
+        installed = k.installed;
+        root_alone = k.root_alone;
+        start = bare_start (c == b) l.durable l.pending k.start;
+        grows = bare_grows T l.ty (c == b) l.durable l.pending k.grows;
+        dropped = λ s x i n. carries.dropped c x (k.dropped s x i n);
+        gone = k.gone;
+        flight = k.flight;
+        resting = λ s x i n. let r = k.resting s x i n in record { life = bared b x r.life; alive = forth x r.life r.alive; nothing = r.nothing };
+      }
+
+  root_bare : IsRootLife T now
+  root_bare =
+      let r = h.lives_sound.root in
+      let d = bare_some (0 == b) r.life.durable r.state r.durable in
+      record {
+        life = bared b 0 r.life;
+        alive = forth 0 r.life r.alive;
+        ty = r.ty;
+        nobody = r.nobody;
+        unowned = r.unowned;
+        state = d.0;
+        durable = d.1;
+        mark = λ s i. let x = state_if (0 == b) r.life.durable r.life.pending s i in rw (carries.count, ← x.2) (r.mark x.0 x.1);
+        head = λ s i. let x = state_if (0 == b) r.life.durable r.life.pending s i in rw (← x.2, d.2) (r.head x.0 x.1);
+        long = λ s i. let x = state_if (0 == b) r.life.durable r.life.pending s i in rw (← x.2) (r.long x.0 x.1);
+        templates = λ s c u i n. let x = state_if (0 == b) r.life.durable r.life.pending s i in carries.template c (r.templates x.0 c u x.1 (rw x.2 n));
+        slots = λ s j c i lt e ne. let x = state_if (0 == b) r.life.durable r.life.pending s i in carries.system (Some j) c (r.slots x.0 j c x.1 lt (rw x.2 e) ne);
+      }
+
+  bare_shrinks : (c : ℕ) (l : Life) → Shrinks l (bared b c l)
+  bare_shrinks c l = record { ty = refl; status = refl; fewer = λ t i. i; stored = λ s e. let d = bare_some (c == b) l.durable s e in (d.0, d.1); leaves = λ t i. inr i }
+
+  exact_bare : HasExactStatuses T now
+  exact_bare = record {
+    owned = λ c m a e s.
+        let r = each_back (bared b) state.lives c m e in
+        let o = h.statuses.owned c r.0 a r.1 (ap (λ (x : Life). x.status) (sym r.2) ∙ s) in
+        let ty : r.0.ty ≡ m.ty = ap (λ (x : Life). x.ty) (sym r.2) in
+        subst (λ u. IsNamer T now a c u) ty (record { life = bared b a o.life; alive = forth a o.life o.alive; names = if_named T o.life.ty (a == b) o.life.durable o.life.pending (c, r.0.ty) o.names });
+    emptied = λ c m a p e s n.
+        let r = each_back (bared b) state.lives c m e in
+        let named : NamedIn T r.0.ty (newest (bared b c r.0)) p = subst (λ (x : Life). NamedIn T x.ty (newest x) p) r.2 n in
+        h.statuses.emptied c r.0 a p r.1 (ap (λ (x : Life). x.status) (sym r.2) ∙ s) (named_if T r.0.ty (c == b) r.0.durable r.0.pending p named);
+  }
+
+  entry_below : (t : Bool) (o : Option BlockState) (xs : List BlockState) → ((s : BlockState) → Contains (option_to_list o ++ xs) s → s.entry < state.next) → (s : BlockState) → Contains (option_to_list (cond t (durable_after o) o) ++ xs) s → s.entry < state.next
+  entry_below false o xs low s i = low s i
+  entry_below true None xs low s i = low s i
+  entry_below true (Some d) xs low s i = elim (Contains-cons (on_disk d.bytes) xs s i) [
+    | inl e ↦ let zero' : 0 ≡ s.entry = ap (λ (x : BlockState). x.entry) e in let lt = low d (Contains-head d xs) in omega arith
+    | inr j ↦ low s (Contains-append_right (d ∷ []) xs s j)
+  ]
+
+  pub bare_consistent : IsConsistent T (record state { lives = each (bared b) state.lives })
+  bare_consistent = record {
+    built_ins = h.built_ins;
+    size = subst IsDiskSize (sym carries.count) h.size;
+    lives_sound = record { root = root_bare; each = λ c m e. let r = each_back (bared b) state.lives c m e in subst (IsSoundLife T now c) (sym r.2) (held_bare c r.0 (h.lives_sound.each c r.0 r.1)) };
+    linked = λ c m e. let r = each_back (bared b) state.lives c m e in subst (IsLinkedLife T now c) (sym r.2) (kept_bare c r.0 (h.linked c r.0 r.1));
+    waits = queued_each T state.lives (bared b) (λ c l e. bare_shrinks c l) h.waits;
+    order = ordered_bare state.lives b h.order;
+    statuses = exact_bare;
+    numbers = λ c m s e i. let r = each_back (bared b) state.lives c m e in entry_below (c == b) r.0.durable r.0.pending (λ t j. h.numbers c r.0 t r.1 j) s (subst (λ x. Contains (states x) s) r.2 i);
+  }
+
+pub bare_placed : (content : ℕ → List ℕ) (lives : Lives) (b : ℕ) → ArePlaced content lives → ArePlaced content (each (bared b) lives)
+bare_placed content lives b p c m s e d =
+    let r = each_back (bared b) lives c m e in
+    let was = some_bare (c == b) r.0.durable s (ap (λ (x : Life). x.durable) (sym r.2) ∙ d) in
+    subst (λ x. IsPlaced content c x s) (sym r.2) (elim (p c r.0 was.0 r.1 was.1) [ inl x ↦ inl (x ∙ was.2) | inr y ↦ inr y ])

@@ -1,0 +1,54 @@
+-- Rows of commands, computed.
+use Rattle.std.proofs.Common.{◌≡◌, refl}
+use Rattle.xn_model.specs.Root.{word_at, pointer, slot, with_slot, templates_of, roots_of, owned_by_root}
+use Rattle.xn_model.specs.Worlds.{replies}
+use Rattle.xn_model.specs.BareDisks.{built_ins, bare_disk, mounted_disk}
+use Rattle.xn_model.specs.Rows.{sent, answered, library, library_disk, first_row, dropped_row, landed_row, lost_row, failed_new_row, failed_old_row, many_row, refused_row, after_row, drained_row, rolled_back_row, claimed_row}
+
+pub first : replies (mounted_disk built_ins (bare_disk 32)) (sent first_row) ≡ answered first_row
+unfolding word_at pointer slot with_slot templates_of roots_of owned_by_root
+first = refl
+
+pub dropped : replies (mounted_disk built_ins (bare_disk 32)) (sent dropped_row) ≡ answered dropped_row
+unfolding word_at pointer slot with_slot templates_of roots_of owned_by_root
+dropped = refl
+
+pub landed : replies (mounted_disk built_ins (bare_disk 32)) (sent landed_row) ≡ answered landed_row
+unfolding word_at pointer slot with_slot templates_of roots_of owned_by_root
+landed = refl
+
+pub lost : replies (mounted_disk built_ins (bare_disk 32)) (sent lost_row) ≡ answered lost_row
+unfolding word_at pointer slot with_slot templates_of roots_of owned_by_root
+lost = refl
+
+pub failed_new : replies (mounted_disk built_ins (bare_disk 32)) (sent failed_new_row) ≡ answered failed_new_row
+unfolding word_at pointer slot with_slot templates_of roots_of owned_by_root
+failed_new = refl
+
+pub failed_old : replies (mounted_disk built_ins (bare_disk 32)) (sent failed_old_row) ≡ answered failed_old_row
+unfolding word_at pointer slot with_slot templates_of roots_of owned_by_root
+failed_old = refl
+
+pub many : replies (mounted_disk built_ins (bare_disk 32)) (sent many_row) ≡ answered many_row
+unfolding word_at pointer slot with_slot templates_of roots_of owned_by_root
+many = refl
+
+pub refused : replies (mounted_disk built_ins (bare_disk 32)) (sent refused_row) ≡ answered refused_row
+unfolding word_at pointer slot with_slot templates_of roots_of owned_by_root
+refused = refl
+
+pub after : replies (mounted_disk built_ins (bare_disk 32)) (sent after_row) ≡ answered after_row
+unfolding word_at pointer slot with_slot templates_of roots_of owned_by_root
+after = refl
+
+pub drained : replies (mounted_disk built_ins (bare_disk 32)) (sent drained_row) ≡ answered drained_row
+unfolding word_at pointer slot with_slot templates_of roots_of owned_by_root
+drained = refl
+
+pub rolled_back : replies (mounted_disk library (library_disk 32)) (sent rolled_back_row) ≡ answered rolled_back_row
+unfolding word_at pointer slot with_slot templates_of roots_of owned_by_root
+rolled_back = refl
+
+pub claimed : replies (mounted_disk library (library_disk 32)) (sent claimed_row) ≡ answered claimed_row
+unfolding word_at pointer slot with_slot templates_of roots_of owned_by_root
+claimed = refl

@@ -1,0 +1,95 @@
+-- Every step keeps the invariant, and so does every run.
+use Rattle.std.proofs.Common.{ℕ, zero, suc, ◌+◌, ◌<◌, true, not, ◌&&◌, List, [], ◌∷◌, Option, Some, None, sym, inl, inr, subst}
+use Rattle.std.specs.Prelude.{is_some, length}
+use Rattle.std.specs.List.{AllByRecursion, list_any}
+use Rattle.std.proofs.lemmas.Bool.{cond_both}
+use Rattle.xn_model.specs.Root.{HasBuiltIns}
+use Rattle.xn_model.specs.Images.{IsSound, block_of}
+use Rattle.xn_model.specs.Lives.{Lives, alive_and}
+use Rattle.xn_model.specs.Results.{InFlight}
+use Rattle.xn_model.specs.Mounts.{IsRecovered}
+use Rattle.xn_model.specs.Calls.{init_of, propose_of, make_root_of, drop_root_of, forget_of, pick_of}
+use Rattle.xn_model.specs.Worlds.{Started, Edited, Forgotten, Refused, World, Event, Client, Begin, Land, Fail, Finish, Crash, Call, Init, Propose, MakeRoot, DropRoot, Forget, Read, Root, Kind, Tainted, Pending, Floor, FreeCount, Pick, Drain, Reply, Drained, Down, call, act_up, is_crash, begin, land, drain, drain_for, write_out, all_pending, mounted, Step, Run, AfterCall, AfterCrash, IsEvent}
+use Rattle.xn_model.specs.Rules.{Holds, Agrees}
+use Rattle.xn_model.proofs.Reached.{agreement, soundness}
+use Rattle.xn_model.proofs.Lands.{told_keeps, next_holds, begin_keeps, land_keeps, fail_keeps, finish_keeps}
+use Rattle.xn_model.proofs.Ends.{forget_keeps}
+use Rattle.xn_model.proofs.Edits.{propose_keeps}
+use Rattle.xn_model.proofs.Init.{init_keeps}
+use Rattle.xn_model.proofs.Roots.{make_root_keeps, drop_root_keeps}
+use Rattle.xn_model.proofs.Mount.{mount_holds}
+
+pub write_out_keeps : (w : World) → Holds w → (b : ℕ) → Holds (write_out w b)
+write_out_keeps w h b = finish_keeps (land (begin w b).1 b).1 (land_keeps (begin w b).1 (begin_keeps w h b) b) b
+
+drain_for_keeps : (n writes : ℕ) (w : World) → Holds w → Holds (drain_for n writes w).1
+drain_for_keeps zero writes w h = h
+drain_for_keeps (suc n) writes w h = go (pick_of w.state) (λ b. drain_for_keeps n (writes + 1) (write_out w b) (write_out_keeps w h b))
+  where
+    go : (o : Option ℕ) → ((b : ℕ) → Holds (drain_for n (writes + 1) (write_out w b)).1) → Holds (elim o as (λ x. ℕ × World) [ None ↦ (writes, w) | Some b ↦ drain_for n (writes + 1) (write_out w b) ]).1
+    go None more = h
+    go (Some b) more = more b
+
+drain_keeps : (w : World) → Holds w → Holds (drain w).1
+drain_keeps w h = cond_both {A = Reply × World} (list_any (alive_and (λ l. is_some l.begun)) w.state.lives) (Refused InFlight, w)
+    (Drained (drain_for (all_pending w.state.lives) 0 w).0, (drain_for (all_pending w.state.lives) 0 w).1) (λ x. Holds x.1) (λ t. h) (λ t. drain_for_keeps (all_pending w.state.lives) 0 w h)
+
+call_keeps : (w : World) → Holds w → (fs : ℕ) → fs < 32 → (c : Call) → Holds (call w fs c).1
+call_keeps w h fs few (Init t m) = told_keeps Holds (λ made. Started made.0 made.1) w (init_of w.types w.state fs t m) h (λ x e. next_holds w h x.1 (init_keeps w.types w.state h.state fs t m x.0 x.1 e))
+call_keeps w h fs few (Propose b e) = told_keeps Holds Edited w (propose_of w.types w.state fs b e) h (λ x d. next_holds w h x.1 (propose_keeps w.types w.state h.state fs b e x.0 x.1 d))
+call_keeps w h fs few (MakeRoot b) = told_keeps Holds Edited w (make_root_of w.state fs b) h (λ x e. next_holds w h x.1 (make_root_keeps w.types w.state h.state fs few b x.0 x.1 e))
+call_keeps w h fs few DropRoot = told_keeps Holds Edited w (drop_root_of w.types w.state fs) h (λ x e. next_holds w h x.1 (drop_root_keeps w.types w.state h.state fs few x.0 x.1 e))
+call_keeps w h fs few (Forget b) = told_keeps Holds (λ done. Forgotten) w (forget_of w.types w.state fs b) h (λ x e. next_holds w h x.1 (forget_keeps w.types w.state h.state fs b x.0 x.1 e))
+call_keeps w h fs few (Read b) = h
+call_keeps w h fs few Root = h
+call_keeps w h fs few (Kind b) = h
+call_keeps w h fs few (Tainted b) = h
+call_keeps w h fs few Pending = h
+call_keeps w h fs few Floor = h
+call_keeps w h fs few FreeCount = h
+call_keeps w h fs few Pick = h
+call_keeps w h fs few Drain = drain_keeps w h
+
+-- what act gives, or the world as it was
+after_keeps : (w : World) (e : Event) (r : Reply) (w' : World) → Holds w → Holds (act_up w e).1 → AfterCall w e r w' → Holds w'
+after_keeps w e r w' h done s = elim s [
+  | inl given ↦ subst Holds (sym given.1) (cond_both {A = Reply × World} (w.down && not (is_crash e)) (Down, w) (act_up w e) (λ x. Holds x.1) (λ t. h) (λ t. done))
+  | inr refused ↦ subst Holds (sym refused.1.1.1.1) h
+]
+
+put_down : (w : World) → Holds w → Holds (record w { down = true })
+put_down w h = record { state = h.state; count = h.count; placed = h.placed }
+
+-- the image of such a world is sound
+pub world_sound : (w : World) → Holds w → IsSound w.types (length w.image) (block_of w.image)
+world_sound w h = subst (λ n. IsSound w.types n (block_of w.image)) (sym h.count) (soundness w.types w.state h.state (block_of w.image) h.placed)
+
+crash_keeps : (w : World) (r : Reply) (w' : World) → Holds w → AfterCrash w r w' → Holds w'
+crash_keeps w r w' h s =
+    let m = mount_holds w h.state.built_ins (world_sound w h) s.0 s.1 in
+    elim s.2 [ inl up ↦ subst Holds (sym up.1) m | inr down' ↦ subst Holds (sym down'.1) (put_down (mounted w s.0) m) ]
+
+pub step_keeps : (w : World) (e : Event) (r : Reply) (w' : World) → IsEvent e → Holds w → Step w e r w' → Holds w'
+step_keeps w (Client fs c) r w' few h s = after_keeps w (Client fs c) r w' h (call_keeps w h fs few c) s
+step_keeps w (Begin b) r w' few h s = after_keeps w (Begin b) r w' h (begin_keeps w h b) s
+step_keeps w (Land b) r w' few h s = after_keeps w (Land b) r w' h (land_keeps w h b) s
+step_keeps w (Fail b stays) r w' few h s = after_keeps w (Fail b stays) r w' h (fail_keeps w h b stays) s
+step_keeps w (Finish b) r w' few h s = after_keeps w (Finish b) r w' h (finish_keeps w h b) s
+step_keeps w Crash r w' few h s = crash_keeps w r w' h s
+
+pub run_keeps : (w : World) (es : List Event) (rs : List Reply) (w' : World) → AllByRecursion IsEvent es → Holds w → Run w es rs w' → Holds w'
+run_keeps w [] [] w' each h run = subst Holds (sym run) h
+run_keeps w [] (r ∷ rs) w' each h run = absurd run
+run_keeps w (e ∷ es) [] w' each h run = absurd run
+run_keeps w (e ∷ es) (r ∷ rs) w' each h run = run_keeps run.0 es rs w' each.1 (step_keeps w e r run.0 each.0 h run.1) run.2
+
+-- A disk that a mount opened
+pub opened_holds : (w : World) (lives : Lives) → (b : HasBuiltIns w.types) → IsSound w.types (length w.image) (block_of w.image) → IsRecovered w.types w.image lives →
+    (es : List Event) (rs : List Reply) (w' : World) → AllByRecursion IsEvent es → Run (mounted w lives) es rs w' → Holds w'
+opened_holds w lives b sound rec' es rs w' each run = run_keeps (mounted w lives) es rs w' each (mount_holds w b sound lives rec') run
+
+pub opened : (w : World) (lives : Lives) → (b : HasBuiltIns w.types) → IsSound w.types (length w.image) (block_of w.image) → IsRecovered w.types w.image lives →
+    (es : List Event) (rs : List Reply) (w' : World) → AllByRecursion IsEvent es → Run (mounted w lives) es rs w' → Agrees w'.types (length w'.image) (block_of w'.image) w'.state.lives × IsSound w'.types (length w'.image) (block_of w'.image)
+opened w lives b sound rec' es rs w' each run =
+    let h = opened_holds w lives b sound rec' es rs w' each run in
+    (subst (λ n. Agrees w'.types n (block_of w'.image) w'.state.lives) (sym h.count) (agreement w'.types w'.state h.state (block_of w'.image) h.placed), world_sound w' h)

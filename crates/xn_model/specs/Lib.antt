@@ -1,0 +1,14 @@
+pub mod Lists
+pub mod Types
+pub mod Root
+pub mod Images
+pub mod Lives
+pub mod Results
+pub mod Calls
+pub mod Mounts
+pub mod Worlds
+pub mod Rules
+pub mod Lanes
+pub mod Flights
+pub mod BareDisks
+pub mod Rows

@@ -1,0 +1,226 @@
+//! The abstract model of a block store with soft updates, and its laws.
+#![tactic(auto)]
+
+ghost use Rattle.std.specs.Prelude.{◌≡◌, ◌≤◌, ◌<◌, ◌⊎◌, ℕ, List, Option, length, slice_get, slice_set, Some, None, Ok, Contains, IsSome};
+ghost use Rattle.std.specs.List.{AllByRecursion};
+ghost use Rattle.xn_model.specs.Types.{Types};
+ghost use Rattle.xn_model.specs.Root.{HasBuiltIns};
+ghost use Rattle.xn_model.specs.Images.{IsSound, IsDiskSize, block_of};
+ghost use Rattle.xn_model.specs.Lives.{Lives, Life, StoreState, BlockState, life_at, floor, entries_of};
+ghost use Rattle.xn_model.specs.Calls.{Edit, init_of, propose_of, make_root_of, drop_root_of, forget_of, begun_of, settled_of, pick_of, pending_of};
+ghost use Rattle.xn_model.specs.Mounts.{recovered, IsRecovered};
+ghost use Rattle.xn_model.specs.Worlds.{World, Event, Reply, Drained, replies, world_after, mounted, drain, all_pending, IsEvent, Step, Run};
+ghost use Rattle.xn_model.specs.Lanes.{FitLives, HoldImage};
+ghost use Rattle.xn_model.specs.Flights.{flight_of, HaveSameFlights, HaveSameFlightsBut};
+ghost use Rattle.xn_model.specs.BareDisks.{built_ins, bare_disk, bare_lives, bare_world, mounted_disk};
+ghost use Rattle.xn_model.specs.Rules.{IsConsistent, Keeps, Holds, IsIdle, IsPlaced, ArePlaced, Agrees};
+ghost use Rattle.xn_model.specs.Rows.{sent, answered, library, library_disk, first_row, dropped_row, landed_row, lost_row, failed_new_row, failed_old_row, many_row, refused_row, after_row, drained_row, rolled_back_row, claimed_row};
+
+mod refusal;
+mod status;
+
+pub use refusal::Refusal;
+pub use status::Status;
+
+/// Where the rules hold, for all contents that have the durable or the begun state in each block
+/// with a durable one: each reached block holds a state of its life, from the durable one to the
+/// begun one, and has one owner.
+pub fn agreement()
+    ensures { (T : Types) (state : StoreState) (content : ℕ → List ℕ) → IsConsistent T state → ArePlaced content state.lives →
+        Agrees T (length state.lives) content state.lives }
+{}
+
+/// And a crash that leaves such contents meets a sound image.
+pub fn soundness()
+    ensures { (T : Types) (state : StoreState) (content : ℕ → List ℕ) → IsConsistent T state → ArePlaced content state.lives →
+        IsSound T (length state.lives) content }
+{}
+
+/// A client's call that is done keeps the state consistent, and a disk that fitted it fits on; so
+/// does the begin of a write.
+pub fn init_keeps()
+    ensures { (T : Types) (state new : StoreState) (fs ty : ℕ) (bytes : List ℕ) (made : ℕ × ℕ) → IsConsistent T state → init_of T state fs ty bytes ≡ Ok (made, new) → Keeps T state new }
+{}
+
+pub fn propose_keeps()
+    ensures { (T : Types) (state new : StoreState) (fs block : ℕ) (edit : Edit) (entry : ℕ) → IsConsistent T state → propose_of T state fs block edit ≡ Ok (entry, new) → Keeps T state new }
+{}
+
+pub fn make_root_keeps()
+    ensures { (T : Types) (state new : StoreState) (fs block entry : ℕ) → IsConsistent T state → fs < 32 → make_root_of state fs block ≡ Ok (entry, new) → Keeps T state new }
+{}
+
+pub fn drop_root_keeps()
+    ensures { (T : Types) (state new : StoreState) (fs entry : ℕ) → IsConsistent T state → fs < 32 → drop_root_of T state fs ≡ Ok (entry, new) → Keeps T state new }
+{}
+
+pub fn forget_keeps()
+    ensures { (T : Types) (state new : StoreState) (fs block : ℕ) (done : Unit {0}) → IsConsistent T state → forget_of T state fs block ≡ Ok (done, new) → Keeps T state new }
+{}
+
+pub fn begun_keeps()
+    ensures { (T : Types) (state new : StoreState) (block : ℕ) (begun : List ℕ × ℕ) → IsConsistent T state → begun_of state block ≡ Ok (begun, new) → Keeps T state new }
+{}
+
+/// So does a write whose block is read back, with what is read there.
+pub fn settled_keeps()
+    ensures state { (T : Types) (state new : StoreState) (block : ℕ) (bytes : List ℕ) (done : ℕ × ℕ) → IsConsistent T state →
+        settled_of state block bytes ≡ Ok (done, new) → IsConsistent T new × (length new.lives ≡ length state.lives) }
+    ensures placed { (T : Types) (state new : StoreState) (block : ℕ) (bytes : List ℕ) (done : ℕ × ℕ) (content : ℕ → List ℕ) → IsConsistent T state →
+        settled_of state block bytes ≡ Ok (done, new) → ArePlaced content state.lives → content block ≡ bytes → ArePlaced content new.lives }
+{}
+
+/// Where lanes fit lives, they do so after each client's call.
+pub fn lanes_kept<L>()
+    ensures init { (read : L → List ℕ) (lanes : List (Option L)) (T : Types) (state new : StoreState) (fs ty : ℕ) (bytes : List ℕ) (made : ℕ × ℕ) →
+        init_of T state fs ty bytes ≡ Ok (made, new) → FitLives read lanes state.lives → FitLives read lanes new.lives }
+    ensures propose { (read : L → List ℕ) (lanes : List (Option L)) (T : Types) (state new : StoreState) (fs block : ℕ) (edit : Edit) (entry : ℕ) →
+        propose_of T state fs block edit ≡ Ok (entry, new) → FitLives read lanes state.lives → FitLives read lanes new.lives }
+    ensures make_root { (read : L → List ℕ) (lanes : List (Option L)) (state new : StoreState) (fs block entry : ℕ) →
+        make_root_of state fs block ≡ Ok (entry, new) → FitLives read lanes state.lives → FitLives read lanes new.lives }
+    ensures drop_root { (read : L → List ℕ) (lanes : List (Option L)) (T : Types) (state new : StoreState) (fs entry : ℕ) →
+        drop_root_of T state fs ≡ Ok (entry, new) → FitLives read lanes state.lives → FitLives read lanes new.lives }
+    ensures forget { (read : L → List ℕ) (lanes : List (Option L)) (T : Types) (state new : StoreState) (fs block : ℕ) (done : Unit {0}) →
+        forget_of T state fs block ≡ Ok (done, new) → FitLives read lanes state.lives → FitLives read lanes new.lives }
+{}
+
+/// And after the begin of a write, without its lane.
+pub fn lanes_begun<L>()
+    ensures { (read : L → List ℕ) (lanes : List (Option L)) (state new : StoreState) (block : ℕ) (begun : List ℕ × ℕ) →
+        begun_of state block ≡ Ok (begun, new) → FitLives read lanes state.lives →
+        FitLives read (slice_set lanes block None) new.lives }
+{}
+
+/// And once the lane is read back, with it.
+pub fn lanes_settled<L>()
+    ensures { (T : Types) (read : L → List ℕ) (lanes : List (Option L)) (state new : StoreState) (block : ℕ) (lane : L) (done : ℕ × ℕ) →
+        IsConsistent T state → settled_of state block (read lane) ≡ Ok (done, new) → FitLives read lanes state.lives →
+        FitLives read (slice_set lanes block (Some lane)) new.lives }
+{}
+
+/// So what the lanes hold agrees with the lives, where each lane that is away has its block's
+/// durable bytes or the begun ones.
+pub fn lanes_placed<L>()
+    ensures { (read : L → List ℕ) (lanes : List (Option L)) (lives : Lives) (content : ℕ → List ℕ) → FitLives read lanes lives →
+        ((c : ℕ) (lane : L) → slice_get lanes c ≡ Some (Some lane) → content c ≡ read lane) →
+        ((c : ℕ) (l : Life) (s : BlockState) → slice_get lanes c ≡ Some None → life_at lives c ≡ Some l → l.durable ≡ Some s → IsPlaced content c l s) →
+        ArePlaced content lives }
+{}
+
+/// Where each place of an image has a lane that reads its block, the lanes fit the lives of a mount.
+pub fn lanes_mounted<L>()
+    ensures { (read : L → List ℕ) (lanes : List (Option L)) (T : Types) (image : List (List ℕ)) (lives : Lives) → IsRecovered T image lives →
+        HoldImage read lanes image → FitLives read lanes lives }
+{}
+
+/// A client's call that is done leaves the writes that are under way as they are: in each block as
+/// many entries, and the same bytes to write.
+pub fn flights_kept()
+    ensures init { (T : Types) (state new : StoreState) (fs ty : ℕ) (bytes : List ℕ) (made : ℕ × ℕ) →
+        init_of T state fs ty bytes ≡ Ok (made, new) → HaveSameFlights state.lives new.lives }
+    ensures propose { (T : Types) (state new : StoreState) (fs block : ℕ) (edit : Edit) (entry : ℕ) → IsConsistent T state →
+        propose_of T state fs block edit ≡ Ok (entry, new) → HaveSameFlights state.lives new.lives }
+    ensures make_root { (T : Types) (state new : StoreState) (fs block entry : ℕ) → IsConsistent T state →
+        make_root_of state fs block ≡ Ok (entry, new) → HaveSameFlights state.lives new.lives }
+    ensures drop_root { (T : Types) (state new : StoreState) (fs entry : ℕ) → IsConsistent T state →
+        drop_root_of T state fs ≡ Ok (entry, new) → HaveSameFlights state.lives new.lives }
+    ensures forget { (T : Types) (state new : StoreState) (fs block : ℕ) (done : Unit {0}) →
+        forget_of T state fs block ≡ Ok (done, new) → HaveSameFlights state.lives new.lives }
+{}
+
+/// After the begin of a write that block's write is under way, with the count and the bytes that the
+/// call answers, and the others are as they were.
+pub fn flights_begun()
+    ensures { (state new : StoreState) (block : ℕ) (begun : List ℕ × ℕ) → begun_of state block ≡ Ok (begun, new) →
+        (flight_of (life_at new.lives block) ≡ Some (begun.1, begun.0)) × HaveSameFlightsBut block state.lives new.lives }
+{}
+
+/// After its block is read back a write is no longer under way, and the others are as they were.
+pub fn flights_settled()
+    ensures { (T : Types) (state new : StoreState) (block : ℕ) (bytes : List ℕ) (done : ℕ × ℕ) → IsConsistent T state →
+        settled_of state block bytes ≡ Ok (done, new) →
+        (flight_of (life_at new.lives block) ≡ None) × HaveSameFlightsBut block state.lives new.lives }
+{}
+
+/// Each step keeps the rules, whichever free choice it takes.
+pub fn step_keeps()
+    ensures { (w : World) (e : Event) (r : Reply) (after : World) → IsEvent e → Holds w → Step w e r after → Holds after }
+{}
+
+/// A mount of a sound image begins with the rules.
+pub fn mount_holds()
+    ensures { (w : World) (lives : Lives) → HasBuiltIns w.types → IsSound w.types (length w.image) (block_of w.image) →
+        IsRecovered w.types w.image lives → Holds (mounted w lives) }
+{}
+
+/// After every run from a mount of a sound image the rules hold, the image agrees with the lives, and
+/// it is sound.
+pub fn every_run()
+    ensures holds { (w : World) (lives : Lives) (es : List Event) (rs : List Reply) (after : World) → HasBuiltIns w.types →
+        IsSound w.types (length w.image) (block_of w.image) → IsRecovered w.types w.image lives → AllByRecursion IsEvent es →
+        Run (mounted w lives) es rs after → Holds after }
+    ensures agrees { (w : World) (lives : Lives) (es : List Event) (rs : List Reply) (after : World) → HasBuiltIns w.types →
+        IsSound w.types (length w.image) (block_of w.image) → IsRecovered w.types w.image lives → AllByRecursion IsEvent es →
+        Run (mounted w lives) es rs after → Agrees after.types (length after.image) (block_of after.image) after.state.lives }
+    ensures sound { (w : World) (lives : Lives) (es : List Event) (rs : List Reply) (after : World) → HasBuiltIns w.types →
+        IsSound w.types (length w.image) (block_of w.image) → IsRecovered w.types w.image lives → AllByRecursion IsEvent es →
+        Run (mounted w lives) es rs after → IsSound after.types (length after.image) (block_of after.image) }
+{}
+
+/// With nothing in flight and something pending, some block has a safe prefix.
+pub fn progress()
+    ensures { (T : Types) (state : StoreState) → IsConsistent T state → IsIdle state.lives → (b : ℕ) (l : Life) (s : BlockState) →
+        life_at state.lives b ≡ Some l → Contains l.pending s → IsSome (pick_of state) }
+{}
+
+/// A drain with nothing in flight ends with nothing pending, after at most as many writes as
+/// entries were pending.
+pub fn drain_ends()
+    ensures { (w : World) → Holds w → IsIdle w.state.lives → (writes : ℕ) × ((drain w).0 ≡ Drained writes) ×
+        (writes ≤ all_pending w.state.lives) × (all_pending (drain w).1.state.lives ≡ 0) }
+{}
+
+/// No pending entry of a file system is below its floor, the floor is such an entry or the next
+/// number, and the entries that it is read from are as many as are pending.
+pub fn floor_is_least()
+    ensures low { (fs next : ℕ) (lives : Lives) (b : ℕ) (l : Life) (s : BlockState) → life_at lives b ≡ Some l →
+        Contains l.pending s → s.fs ≡ Some fs → floor fs next lives ≤ s.entry }
+    ensures met { (fs next : ℕ) (lives : Lives) →
+        (floor fs next lives ≡ next) ⊎ Contains (entries_of fs lives) (floor fs next lives) }
+    ensures counted { (fs : ℕ) (state : StoreState) → length (entries_of fs state.lives) ≡ pending_of state fs }
+{}
+
+/// The walk from block 0 of a sound image finds the reached blocks and no others.
+pub fn mount_finds()
+    ensures { (types : Types) (image : List (List ℕ)) → HasBuiltIns types → IsSound types (length image) (block_of image) →
+        IsRecovered types image (recovered types image) }
+{}
+
+/// What happens with ample memory is a run, for every list of events.
+pub fn acts_run()
+    ensures { (w : World) (es : List Event) → Holds w → AllByRecursion IsEvent es → Run w es (replies w es) (world_after w es) }
+{}
+
+/// A disk as formatting leaves it is sound, its first mount finds block 0 alone, and begins with the
+/// rules.
+pub fn bare_holds()
+    ensures sound { (count : ℕ) → IsDiskSize count → IsSound built_ins count (block_of (bare_disk count)) }
+    ensures recovered { (count : ℕ) → IsDiskSize count → IsRecovered built_ins (bare_disk count) (bare_lives count) }
+    ensures holds { (count : ℕ) → IsDiskSize count → Holds (bare_world count) }
+{}
+
+/// Rows of commands on a disk with the built-in types, with their replies.
+pub fn rows()
+    ensures first { replies (mounted_disk built_ins (bare_disk 32)) (sent first_row) ≡ answered first_row }
+    ensures dropped { replies (mounted_disk built_ins (bare_disk 32)) (sent dropped_row) ≡ answered dropped_row }
+    ensures landed { replies (mounted_disk built_ins (bare_disk 32)) (sent landed_row) ≡ answered landed_row }
+    ensures lost { replies (mounted_disk built_ins (bare_disk 32)) (sent lost_row) ≡ answered lost_row }
+    ensures failed_new { replies (mounted_disk built_ins (bare_disk 32)) (sent failed_new_row) ≡ answered failed_new_row }
+    ensures failed_old { replies (mounted_disk built_ins (bare_disk 32)) (sent failed_old_row) ≡ answered failed_old_row }
+    ensures many { replies (mounted_disk built_ins (bare_disk 32)) (sent many_row) ≡ answered many_row }
+    ensures refused { replies (mounted_disk built_ins (bare_disk 32)) (sent refused_row) ≡ answered refused_row }
+    ensures after { replies (mounted_disk built_ins (bare_disk 32)) (sent after_row) ≡ answered after_row }
+    ensures drained { replies (mounted_disk built_ins (bare_disk 32)) (sent drained_row) ≡ answered drained_row }
+    ensures rolled_back { replies (mounted_disk library (library_disk 32)) (sent rolled_back_row) ≡ answered rolled_back_row }
+    ensures claimed { replies (mounted_disk library (library_disk 32)) (sent claimed_row) ≡ answered claimed_row }
+{}

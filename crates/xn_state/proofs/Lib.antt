@@ -1,0 +1,4 @@
+pub mod Lasts
+pub mod Floors
+pub mod Safety
+pub mod Keeping

@@ -1,0 +1,251 @@
+// What a block has been since it was last free.
+
+ghost use Rattle.std.specs.Prelude.{◌≡◌, ℕ, ◌+◌, ◌<◌, ◌≤◌, [], ◌∷◌, ◌++◌, length, take, Option, Some, None, is_some, IfOk, IfSome, OnOk, OnErr, IsTrue, ◌↔◌, count_by, All};
+ghost use Rattle.xn_model.specs.Lives.{current, with_state, with_status, settle, entries_at, least_to, drops_of, is_for, is_fresh, is_dropped};
+ghost use Rattle.xn_model.specs.Calls.{pending_in, settled_count, bytes_at, new_life};
+ghost use Rattle.xn_model.specs.BareDisks.{root_life};
+ghost use Rattle.xn_state.specs.Kept.{IsPlain};
+
+use crate::entry::Entry;
+use std::alloc::{AllocError, Global};
+use std::marker::Model;
+use xn_model::{Refusal, Status};
+
+/// What a block in use holds: its state on the disk, if it is known, and the pending states after it.
+#[derive(Drop)]
+pub struct Life {
+    fs: Option<u8>,
+    ty: u32,
+    status: Status,
+    durable: Option<[u8; 512]>,
+    pending: Vec<Entry>,
+    begun: Option<u32>,
+}
+
+impl Model for Life {
+    ghost use Rattle.std.specs.Prelude.{option_map};
+    ghost use Rattle.xn_model.specs.Lives.{Life as LifeValue, on_disk};
+    ghost use Rattle.xn_state.specs.Kept.{IsKept};
+
+    ghost Value = { LifeValue };
+
+    ghost view = { λ a. record {
+      fs = a.fs;
+      ty = a.ty;
+      status = a.status;
+      durable = option_map on_disk a.durable;
+      pending = a.pending.items;
+      begun = a.begun;
+    } };
+
+    ghost invariant = { λ a. IsKept a.durable a.pending.items a.begun };
+}
+
+impl Life {
+    /// A life that no owner names, with its first entry.
+    pub fn start(
+        alloc: Global,
+        number: u64,
+        fs: u8,
+        ty: u32,
+        bytes: &[u8; 512],
+    ) -> Result<Life, AllocError>
+        ensures { IfOk result (λ life. life ≡ new_life number fs ty bytes.now) }
+    {
+        let mut pending = Vec::with_capacity(alloc, 1)?;
+        pending.push_reserved(Entry::new(number, *bytes, Vec::new(alloc), fs));
+        Ok(Life {
+            fs: Some(fs),
+            ty,
+            status: Status::Fresh,
+            durable: None,
+            pending,
+            begun: None,
+        })
+    }
+
+    /// Block 0's life, which is nobody's, with the bytes that the disk has.
+    pub fn root(alloc: Global, bytes: &[u8; 512]) -> Life
+        ensures { result ≡ root_life bytes.now }
+    {
+        Life {
+            fs: None,
+            ty: 0,
+            status: Status::Fresh,
+            durable: Some(*bytes),
+            pending: Vec::new(alloc),
+            begun: None,
+        }
+    }
+
+    /// Whether the block belongs to a file system.
+    pub fn is_for(&self, fs: u8) -> bool
+        ensures { result ≡ is_for fs self.now.fs }
+    {
+        match self.fs {
+            Some(owner) => owner == fs,
+            None => false,
+        }
+    }
+
+    pub fn ty(&self) -> u32
+        ensures { result ≡ self.now.ty }
+    {
+        self.ty
+    }
+
+    /// Whether no owner has ever named the block.
+    pub fn is_fresh(&self) -> bool
+        ensures { result ≡ is_fresh self.now.status }
+    {
+        match self.status {
+            Status::Fresh => true,
+            Status::Owned(_) => false,
+            Status::Dropped(_) => false,
+        }
+    }
+
+    /// Whether its owner has dropped the block, and the drop isn't durable yet.
+    pub fn is_dropped(&self) -> bool
+        ensures { result ≡ is_dropped self.now.status }
+    {
+        match self.status {
+            Status::Fresh => false,
+            Status::Owned(_) => false,
+            Status::Dropped(_) => true,
+        }
+    }
+
+    pub fn is_in_flight(&self) -> bool
+        ensures { result ≡ is_some self.now.begun }
+    {
+        self.begun.is_some()
+    }
+
+    /// Whether some state of the block is known to be on the disk.
+    pub fn is_durable(&self) -> bool
+        ensures { result ≡ is_some self.now.durable }
+    {
+        self.durable.is_some()
+    }
+
+    /// The pending entries, the oldest first.
+    pub fn pending(&self) -> &[Entry]
+        ensures pending { result.now ≡ self.now.pending }
+        ensures few { length self.now.pending ≤ 64 }
+        ensures plain { All IsPlain self.now.pending }
+    {
+        self.pending.as_slice()
+    }
+
+    /// The bytes of the newest state.
+    pub fn current(&self) -> &[u8; 512]
+        ensures { result.now ≡ current self.now }
+    {
+        match self.pending.last() {
+            Some(entry) => entry.bytes(),
+            None => match &self.durable {
+                Some(bytes) => bytes,
+                None => unreachable!(),
+            },
+        }
+    }
+
+    /// Makes one more edit.
+    pub fn append(&mut self, entry: Entry) -> Result<(), AllocError>
+        requires room { length self.old.pending < 64 }
+        requires plain { IsPlain entry }
+        ensures ok { OnOk result (self.new ≡ with_state entry self.old) }
+        ensures err { OnErr result (self.new ≡ self.old) }
+    {
+        self.pending.push(entry)?;
+        Ok(())
+    }
+
+    pub fn set_status(&mut self, status: Status)
+        ensures { self.new ≡ with_status status self.old }
+    {
+        self.status = status;
+    }
+
+    /// Begins a write that carries the first entries.
+    pub fn begin(&mut self, count: u32)
+        requires some { 1 ≤ count }
+        requires within { count ≤ length self.old.pending }
+        ensures { self.new ≡ record self.old { begun = Some count } }
+    {
+        self.begun = Some(count);
+    }
+
+    /// The bytes that the first entries leave, at least one.
+    pub fn bytes_at(&self, count: u32) -> &[u8; 512]
+        requires some { 1 ≤ count }
+        requires within { count ≤ length self.now.pending }
+        ensures { result.now ≡ bytes_at count self.now }
+    {
+        let entry = &self.pending[count as usize - 1];
+        entry.bytes()
+    }
+
+    /// How many entries these bytes make durable, where they are read back after a write.
+    pub fn settled_count(&self, bytes: &[u8; 512]) -> Result<u32, Refusal>
+        ensures count { result ≡ settled_count self.now bytes.now self.now.begun }
+        ensures within { IfOk result (λ count. count ≤ length self.now.pending) }
+        ensures plain { IfOk result (λ count. drops_of (take count self.now.pending) ≡ []) }
+    {
+        let Some(count) = self.begun else {
+            return Err(Refusal::NotMine);
+        };
+        if bytes == self.bytes_at(count) {
+            return Ok(count);
+        }
+        match &self.durable {
+            Some(durable) if bytes != durable => Err(Refusal::NotMine),
+            _ => Ok(0),
+        }
+    }
+
+    /// Ends a write that made the first entries durable.
+    pub fn settle(&mut self, count: u32)
+        requires { count ≤ length self.old.pending }
+        ensures { self.new ≡ settle count self.old }
+    {
+        if count == 0 {
+            self.begun = None;
+        } else {
+            self.make_durable(count);
+        }
+    }
+
+    fn make_durable(&mut self, count: u32)
+        requires some { 1 ≤ count }
+        requires within { count ≤ length self.old.pending }
+        ensures { self.new ≡ settle count self.old }
+    {
+        let bytes = *self.bytes_at(count);
+        self.durable = Some(bytes);
+        drop(self.pending.drain(..count as usize));
+        self.begun = None;
+    }
+
+    /// How many of its pending entries count for a file system.
+    pub fn pending_for(&self, fs: u8) -> u32
+        ensures pending { result ≡ pending_in fs (Some self.now) }
+        ensures few { result ≤ 64 }
+    {
+        self.pending.iter().filter(|entry| entry.fs() == fs).count() as u32
+    }
+
+    /// The least of a number and the pending entries that count for a file system.
+    pub fn least_for(&self, fs: u8, most: u64) -> u64
+        ensures { result ≡ least_to most (entries_at fs (Some self.now)) }
+    {
+        let mut least = most;
+        for entry in &self.pending {
+            if entry.fs() == fs {
+                least = least.min(entry.number());
+            }
+        }
+        least
+    }
+}
