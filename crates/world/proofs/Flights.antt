@@ -1,5 +1,5 @@
 -- What a ticket says of its block's life.
-use Rattle.std.proofs.Common.{◌≡◌, ℕ, ◌≤◌, List, Bool, true, false, [], ◌∷◌, take, Option, Some, None, Result, Ok, Err, refl, sym, ◌∙◌, ap, inl, inr, subst, slice_get, arith}
+use Rattle.std.proofs.Common.{◌≡◌, ℕ, List, Bool, true, false, take, Option, Some, None, Result, Ok, Err, refl, sym, ◌∙◌, ap, inl, inr, slice_get}
 use Rattle.std.specs.Prelude.{is_some, option_map, bytes_eq, if◌then◌else◌}
 use Rattle.std.specs.List.{last_or}
 use Rattle.std.proofs.lemmas.Bool.{false≢true}
@@ -7,7 +7,7 @@ use Rattle.std.proofs.lemmas.Slice.Eq.{bytes_eq-Decides}
 use Rattle.std.proofs.lemmas.Option.{same_Some, none-some}
 use Rattle.xn_model.specs.declared.refusal.Refusal.{Refusal}
 use Rattle.xn_model.specs.declared.refusal.Refusal.TheVariants.{NotMine}
-use Rattle.xn_model.specs.Lives.{BlockState, Life, Lives, StoreState, life_at, bytes_of, carried, first_states}
+use Rattle.xn_model.specs.Lives.{BlockState, Life, Lives, StoreState, life_at, bytes_of, first_states}
 use Rattle.xn_model.specs.Calls.{bytes_at, is_durable, settled_count, settled_place}
 use Rattle.xn_model.specs.Flights.{flight_of}
 use Rattle.xn_model.specs.Worlds.{begun_count, begun_bytes}

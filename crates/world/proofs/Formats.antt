@@ -1,5 +1,5 @@
 -- The first mount of a bare disk.
-use Rattle.std.proofs.Common.{◌≡◌, ℕ, zero, suc, ◌+◌, ◌-◌, ◌*◌, ◌≤◌, ◌<◌, List, [], ◌∷◌, ◌++◌, length, take, drop, replicate, get_or, false, Option, Some, None, refl, sym, ◌∙◌, ap, arith, subst, slice_get}
+use Rattle.std.proofs.Common.{◌≡◌, ℕ, zero, suc, ◌+◌, ◌-◌, ◌*◌, ◌≤◌, ◌<◌, List, [], ◌∷◌, ◌++◌, length, take, drop, replicate, false, Option, Some, None, refl, sym, ◌∙◌, ap, arith, subst, slice_get}
 use Rattle.std.specs.List.{AllByRecursion, AllZip}
 use Rattle.std.proofs.lemmas.Option.{same_Some, none-some, slice_get_within}
 use Rattle.std.proofs.lemmas.List.{length-replicate, length-append}
@@ -8,7 +8,7 @@ use Rattle.disk.specs.Images.{block_at}
 use Rattle.disk.proofs.BlockAt.{block_at-append_front, block_at-append_last}
 use Rattle.disk.specs.Mem.{MemoryLane, HoldsImage, fresh_lane}
 use Rattle.xn_model.specs.Images.{IsDiskSize, block_of}
-use Rattle.xn_model.specs.Lives.{Life, Lives, life_at}
+use Rattle.xn_model.specs.Lives.{life_at}
 use Rattle.xn_model.specs.Worlds.{mounted_state}
 use Rattle.xn_model.specs.Lanes.{FitsLife, FitLives}
 use Rattle.xn_model.specs.Flights.{flight_of}
@@ -18,7 +18,7 @@ use Rattle.xn_model.proofs.BareDisks.{bare_holds}
 use Rattle.xn_kernel.specs.Kernels.{KernelValue, TicketValue}
 use Rattle.world.specs.Disks.{bytes_in, image_of, IsCalm, ticket_at}
 use Rattle.world.specs.Images.{joined}
-use Rattle.world.specs.Worlds.{Tickets, world_of, ticket_flight, IsTicketOf, IsWorld}
+use Rattle.world.specs.Worlds.{Tickets, world_of, ticket_flight, IsWorld}
 
 -- Blocks of 512 bytes
 

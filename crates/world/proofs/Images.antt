@@ -1,5 +1,5 @@
 -- The image of lanes and tickets, and one place of it changed.
-use Rattle.std.proofs.Common.{◌≡◌, ℕ, zero, suc, ◌≤◌, ◌<◌, List, [], ◌∷◌, ◌+◌, ◌++◌, length, take, append_assoc, Option, Some, None, refl, sym, ◌∙◌, ap, arith, slice_get, slice_set}
+use Rattle.std.proofs.Common.{◌≡◌, ℕ, zero, suc, ◌<◌, List, [], ◌∷◌, ◌+◌, ◌++◌, length, take, append_assoc, Option, Some, None, refl, sym, ◌∙◌, ap, arith, slice_get, slice_set}
 use Rattle.std.proofs.lemmas.Option.{same_Some, none-some}
 use Rattle.disk.specs.Mem.{MemoryLane}
 use Rattle.xn_kernel.specs.Kernels.{TicketValue}

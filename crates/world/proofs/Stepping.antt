@@ -1,17 +1,16 @@
 -- What each event leaves is a world, and one step of the model.
-use Rattle.std.proofs.Common.{◌≡◌, ℕ, ◌≤◌, ◌<◌, ◌⊎◌, ⊎_elim, List, Bool, true, false, cond, [], ◌∷◌, length, Option, Some, None, Result, Ok, Err, refl, sym, ◌∙◌, ap, inl, inr, subst, slice_get, slice_set, arith}
-use Rattle.std.specs.Prelude.{IsTrue, option_map, ◌&&◌}
+use Rattle.std.proofs.Common.{◌≡◌, ℕ, ◌<◌, ⊎_elim, List, true, false, length, Some, None, Result, Ok, Err, refl, sym, ◌∙◌, ap, inl, inr, subst, slice_get, slice_set, arith}
+use Rattle.std.specs.Prelude.{IsTrue, ◌&&◌}
 use Rattle.std.proofs.lemmas.Bool.{cases_eq, eq-eqb}
 use Rattle.std.proofs.lemmas.Option.{same_Some, none-some, slice_get_within}
 use Rattle.std.proofs.lemmas.List.{length-set}
 use Rattle.disk.specs.Mem.{MemoryLane}
 use Rattle.xn_model.specs.declared.refusal.Refusal.{Refusal}
-use Rattle.xn_model.specs.declared.refusal.Refusal.TheVariants.{NoMemory}
 use Rattle.xn_model.specs.Images.{block_of}
-use Rattle.xn_model.specs.Lives.{Life, Lives, StoreState, life_at}
+use Rattle.xn_model.specs.Lives.{StoreState, life_at}
 use Rattle.xn_model.specs.Results.{Gives, GivesExactly, result_map}
 use Rattle.xn_model.specs.Calls.{init_of, make_root_of, begun_of, settled_of, settled_place, settled_after}
-use Rattle.xn_model.specs.Worlds.{World, Event, Client, Begin, Land, Finish, Init, MakeRoot, Reply, Started, Edited, Begun, Landed, Finished, NoTicket, Refused, act, reply_and_world, write, with_ticket, begun_count, is_refusal, asks_memory, AfterCall, Step, IsEvent}
+use Rattle.xn_model.specs.Worlds.{World, Event, Client, Begin, Land, Finish, Init, MakeRoot, Reply, Started, Edited, Begun, Landed, Finished, NoTicket, Refused, act, reply_and_world, write, with_ticket, begun_count, is_refusal, asks_memory, AfterCall, Step}
 use Rattle.xn_model.specs.Lanes.{FitLives}
 use Rattle.xn_model.specs.Flights.{flight_of, HaveSameFlights}
 use Rattle.xn_model.specs.BareDisks.{built_ins}
@@ -23,7 +22,7 @@ use Rattle.xn_model.proofs.Flights as flight
 use Rattle.xn_kernel.specs.Kernels.{KernelValue, TicketValue, is_mine, is_in_flight}
 use Rattle.world.specs.Disks.{image_of, IsCalm, ticket_at}
 use Rattle.world.specs.Worlds.{Tickets, world_of, ticket_flight, IsTicketOf, IsWorld}
-use Rattle.world.proofs.Images.{length-image_of, image_of-begun, image_of-landed, image_of-finished, block_of-away}
+use Rattle.world.proofs.Images.{image_of-begun, image_of-landed, image_of-finished, block_of-away}
 use Rattle.world.proofs.Places.{place_at, place_at-same, place_at-other, full_place, full_get}
 use Rattle.world.proofs.Flights.{IsFlying, flying, flying_count, flying_bytes, flying_test, not_flying, settled_well}
 use Rattle.xn_kernel.proofs.Homes.{away_in_flight}

@@ -1,5 +1,5 @@
 -- The blocks of a disk, of which some lanes are at home and some with tickets.
-use Rattle.std.specs.Prelude.{◌≡◌, ℕ, List, [], ◌∷◌, Option, Some, None, false, option_map, unwrap_or, slice_get}
+use Rattle.std.specs.Prelude.{◌≡◌, ℕ, List, [], ◌∷◌, Option, Some, None, false, unwrap_or, slice_get}
 use Rattle.disk.specs.Mem.{MemoryLane}
 use Rattle.xn_kernel.specs.Kernels.{TicketValue}
 

@@ -1,5 +1,4 @@
 -- What events and replies mean.
-use Rattle.std.specs.Prelude.{ℕ, List, Option, Some, None}
 use Rattle.xn_model.specs.Worlds as model
 use Rattle.world.specs.declared.event.Call.{Call}
 use Rattle.world.specs.declared.event.Call.TheVariants.{Init, MakeRoot, Floor}

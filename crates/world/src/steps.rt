@@ -12,12 +12,7 @@ use disk::MemLane;
 use xn_kernel::Kernel;
 
 /// A client's call.
-pub fn call(
-    kernel: &mut Kernel<MemLane>,
-    tickets: &Vec<Option<Held>>,
-    fs: u8,
-    call: &Call,
-) -> Reply
+pub fn call(kernel: &mut Kernel<MemLane>, tickets: &Vec<Option<Held>>, fs: u8, call: &Call) -> Reply
     requires few { fs < 32 }
     requires world { IsWorld kernel.old tickets.now.items }
     ensures step { model.Step (world_of kernel.old tickets.now.items) (model.Client fs (call_of call.now)) (reply_of result) (world_of kernel.new tickets.now.items) }
@@ -39,11 +34,7 @@ pub fn call(
 }
 
 /// A write of a block begins, and its ticket is kept.
-pub fn begin(
-    kernel: &mut Kernel<MemLane>,
-    tickets: &mut Vec<Option<Held>>,
-    block: u32,
-) -> Reply
+pub fn begin(kernel: &mut Kernel<MemLane>, tickets: &mut Vec<Option<Held>>, block: u32) -> Reply
     requires { IsWorld kernel.old tickets.old.items }
     ensures step { model.Step (world_of kernel.old tickets.old.items) (model.Begin block) (reply_of result) (world_of kernel.new tickets.new.items) }
     ensures world { IsWorld kernel.new tickets.new.items }
@@ -77,11 +68,7 @@ pub fn land(kernel: &Kernel<MemLane>, tickets: &mut Vec<Option<Held>>, block: u3
 }
 
 /// A block is read back, and its write ends.
-pub fn finish(
-    kernel: &mut Kernel<MemLane>,
-    tickets: &mut Vec<Option<Held>>,
-    block: u32,
-) -> Reply
+pub fn finish(kernel: &mut Kernel<MemLane>, tickets: &mut Vec<Option<Held>>, block: u32) -> Reply
     requires { IsWorld kernel.old tickets.old.items }
     ensures step { model.Step (world_of kernel.old tickets.old.items) (model.Finish block) (reply_of result) (world_of kernel.new tickets.new.items) }
     ensures world { IsWorld kernel.new tickets.new.items }

@@ -1,8 +1,8 @@
 -- Which lanes are at home.
-use Rattle.std.proofs.Common.{◌≡◌, ℕ, zero, suc, List, [], ◌∷◌, Bool, true, false, Option, Some, None, Result, Ok, Err, refl, sym, ◌∙◌, ap, subst, slice_get, slice_set, arith, ◌<◌, length}
-use Rattle.std.specs.Prelude.{is_some, IsSome, ◌==◌}
+use Rattle.std.proofs.Common.{◌≡◌, ℕ, zero, suc, List, [], ◌∷◌, Bool, true, false, Option, Some, None, Ok, refl, sym, ◌∙◌, ap, slice_get}
+use Rattle.std.specs.Prelude.{is_some, ◌==◌}
 use Rattle.std.proofs.lemmas.Bool.{false≢true}
-use Rattle.std.proofs.lemmas.Option.{same_Some, none-some, slice_get_within}
+use Rattle.std.proofs.lemmas.Option.{same_Some, none-some}
 use Rattle.xn_model.specs.Lives.{Life, Lives, StoreState, life_at, prefix_of}
 use Rattle.xn_model.specs.Lanes.{FitsLife, FitLives}
 use Rattle.xn_model.specs.Calls.{begun_place, bytes_at}

@@ -1,13 +1,11 @@
 -- Each call leaves a kernel.
-use Rattle.std.proofs.Common.{◌≡◌, ℕ, ◌<◌, ◌≤◌, List, Option, Some, None, Result, Ok, Err, refl, sym, ◌∙◌, ap, subst, slice_get, slice_set, length, arith, true}
+use Rattle.std.proofs.Common.{◌≡◌, ℕ, ◌<◌, List, Option, Some, None, Result, Ok, Err, refl, sym, subst, slice_get, slice_set, length}
 use Rattle.std.proofs.lemmas.Option.{slice_get_within}
 use Rattle.xn_model.specs.declared.refusal.Refusal.{Refusal}
-use Rattle.xn_model.specs.Lives.{StoreState, Life, begun_at}
-use Rattle.xn_model.specs.Results.{Gives, GivesExactly, result_map}
+use Rattle.xn_model.specs.Lives.{StoreState, begun_at}
+use Rattle.xn_model.specs.Results.{Gives, GivesExactly}
 use Rattle.xn_model.specs.Calls.{init_of, make_root_of, begun_of, begun_place, settled_of}
-use Rattle.xn_model.specs.Lanes.{FitLives}
 use Rattle.xn_model.specs.BareDisks.{built_ins}
-use Rattle.xn_model.specs.Rules.{IsConsistent}
 use Rattle.xn_model.proofs.Given.{gives_keeps, gives_exactly-ok, gives_exactly-err}
 use Rattle.xn_model.proofs.Tests.{map_ok}
 use Rattle.xn_model.proofs.Init.{init_keeps}
@@ -15,7 +13,7 @@ use Rattle.xn_model.proofs.Roots.{make_root_keeps}
 use Rattle.xn_model.proofs.Begin.{begun_keeps}
 use Rattle.xn_model.proofs.Ends.{settled_keeps}
 use Rattle.xn_model.proofs.LaneCalls as lane
-use Rattle.xn_kernel.specs.Kernels.{IsKernel, is_in_flight}
+use Rattle.xn_kernel.specs.Kernels.{IsKernel}
 use Rattle.xn_kernel.proofs.Homes.{home, begun_idle}
 
 module _ {L : Type 0} (read : L → List ℕ) (lanes : List (Option L)) (old new : StoreState) (is : IsKernel read lanes old) where

@@ -1,5 +1,5 @@
 -- A kernel and its tickets, as contracts see them.
-use Rattle.std.specs.Prelude.{◌≡◌, ◌<◌, ℕ, List, Option, Some, None, Bool, is_some, ◌==◌, ◌&&◌, Result, Ok, Err, slice_get}
+use Rattle.std.specs.Prelude.{ℕ, List, Option, Bool, is_some, ◌==◌, ◌&&◌, Result, Ok, Err}
 use Rattle.xn_model.specs.Lives.{StoreState, life_at, alive_and}
 use Rattle.xn_model.specs.Lanes.{FitLives}
 use Rattle.xn_model.specs.BareDisks.{built_ins}

@@ -69,12 +69,7 @@ impl<L: Lane> Kernel<L> {
     }
 
     /// Starts a life with these bytes on the lowest free block.
-    pub fn init(
-        &mut self,
-        fs: u8,
-        ty: u32,
-        bytes: &[u8; 512],
-    ) -> Result<(u32, EditId), Refusal>
+    pub fn init(&mut self, fs: u8, ty: u32, bytes: &[u8; 512]) -> Result<(u32, EditId), Refusal>
         ensures state { Gives (init_of built_ins self.old.state fs ty bytes.now) self.old.state self.new.state result }
         ensures rest { self.new ≡ record self.old { state = self.new.state } }
     {

@@ -1,5 +1,5 @@
 -- The least of some numbers, and the entries of a beginning.
-use Rattle.std.proofs.Common.{◌≡◌, ℕ, zero, suc, ◌+◌, ◌<◌, Bool, true, false, cond, List, [], ◌∷◌, ◌++◌, length, take, get_or, append_assoc, refl, sym, ◌∙◌, ap, arith, min, eqb, Option, Some, None}
+use Rattle.std.proofs.Common.{◌≡◌, ℕ, ◌+◌, ◌<◌, Bool, true, false, cond, List, [], ◌∷◌, ◌++◌, length, take, get_or, append_assoc, refl, sym, ◌∙◌, ap, arith, min, Option, Some}
 use Rattle.std.proofs.lemmas.List.{take_more, append-nil}
 use Rattle.std.proofs.lemmas.Bool.{eq-eqb, ne_eqb}
 use Rattle.xn_model.specs.Lives.{BlockState, Life, Lives, least_to, is_for, entries_in, entries_at, entries_of}

@@ -1,12 +1,12 @@
 -- What the calls of a state leave keeps the model's rules.
-use Rattle.std.proofs.Common.{◌≡◌, ℕ, ◌+◌, ◌<◌, List, [], ◌∷◌, length, Option, Some, None, Result, Ok, Err, refl, sym, ◌∙◌, ap, arith, slice_get, slice_set, subst, take, drop, ◌++◌}
+use Rattle.std.proofs.Common.{◌≡◌, ℕ, ◌+◌, ◌<◌, List, [], ◌∷◌, length, Option, Some, None, Result, Ok, Err, sym, ◌∙◌, ap, arith, slice_get, slice_set, subst, take, drop, ◌++◌}
 use Rattle.std.proofs.lemmas.List.{append-nil, take_all}
 use Rattle.std.proofs.Math.ListN.{drop_of_length-le}
 use Rattle.xn_model.specs.declared.refusal.Refusal.{Refusal}
 use Rattle.xn_model.specs.Root.{with_slot}
 use Rattle.xn_model.specs.Lives.{StoreState, BlockState, Life, Lives, life_at, lowest_free, begun_at, settled_at, drops_of}
 use Rattle.xn_model.specs.Results.{unless, result_map, result_and_then}
-use Rattle.xn_model.specs.Calls.{init_of, init_at, init_refusal, new_life, own_life, root_now, root_state, accepts, make_root_of, make_root_at, make_root_refusal, begun_place, settled_place, settled_after, settled_with, first_pending}
+use Rattle.xn_model.specs.Calls.{init_at, init_refusal, new_life, own_life, root_now, root_state, accepts, make_root_of, make_root_at, make_root_refusal, begun_place, settled_place, settled_after, settled_with, first_pending}
 use Rattle.xn_model.specs.BareDisks.{built_ins}
 use Rattle.xn_model.specs.Rules.{IsConsistent}
 use Rattle.xn_model.proofs.Tests.{same_ok, never_ok}

@@ -1,5 +1,5 @@
 -- The last of a list, or of its beginning, read by its place.
-use Rattle.std.proofs.Common.{◌≡◌, ℕ, zero, suc, ◌+◌, ◌-◌, ◌<◌, ◌≤◌, List, [], ◌∷◌, ◌++◌, length, take, get_or, Option, Some, None, refl, sym, ◌∙◌, ap, arith, slice_get}
+use Rattle.std.proofs.Common.{◌≡◌, ℕ, zero, suc, ◌-◌, ◌<◌, ◌≤◌, List, [], ◌∷◌, ◌++◌, length, take, get_or, Option, Some, None, refl, sym, ◌∙◌, ap, arith, slice_get}
 use Rattle.std.specs.List.{last_or}
 use Rattle.std.specs.Prelude.{All}
 use Rattle.xn_model.specs.Lives.{BlockState, bytes_of, on_disk, durable_after, drops_of}

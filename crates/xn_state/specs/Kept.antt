@@ -1,5 +1,5 @@
 -- What the code keeps beside the model's rules.
-use Rattle.std.specs.Prelude.{◌≡◌, ℕ, ◌≤◌, ◌<◌, List, [], length, Option, None, is_some, Bool, ◌||◌, nat_lt, IsTrue, All}
+use Rattle.std.specs.Prelude.{◌≡◌, ℕ, ◌≤◌, List, [], length, Option, None, is_some, ◌||◌, nat_lt, IsTrue, All}
 use Rattle.xn_model.specs.Lives.{BlockState}
 use Rattle.xn_model.specs.Rules.{IsCount}
 

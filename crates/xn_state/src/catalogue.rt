@@ -25,10 +25,12 @@ pub fn catalogue_program(alloc: Global) -> Result<Checked, AllocError>
     let words = catalogue_words(alloc)?;
     match verify(alloc, &words, Role::Owns) {
         Ok(checked) => Ok(checked),
-        Err(VerifyFault {
-            at: _,
-            kind: FaultKind::NoMemory,
-        }) => Err(AllocError),
+        Err(
+            VerifyFault {
+                at: _,
+                kind: FaultKind::NoMemory,
+            },
+        ) => Err(AllocError),
         Err(_) => unreachable!(),
     }
 }

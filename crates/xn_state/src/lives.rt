@@ -140,11 +140,7 @@ pub fn begun_place(lives: &[Option<Life>], block: u32) -> Result<([u8; 512], u32
 }
 
 /// How many entries the bytes that are read back make durable.
-pub fn settled_place(
-    lives: &[Option<Life>],
-    block: u32,
-    bytes: &[u8; 512],
-) -> Result<u32, Refusal>
+pub fn settled_place(lives: &[Option<Life>], block: u32, bytes: &[u8; 512]) -> Result<u32, Refusal>
     ensures count { result ≡ settled_place bytes.now (slice_get lives.now block) }
     ensures within { IfOk result (λ count. (count ≤ life_pending (life_at lives.now block)) × (block < length lives.now)) }
     ensures plain { IfOk result (λ count. drops_of (first_pending count (life_at lives.now block)) ≡ []) }
@@ -157,11 +153,7 @@ pub fn settled_place(
 }
 
 /// Makes one more edit of a block in use.
-pub fn append_at(
-    lives: &mut [Option<Life>],
-    block: usize,
-    entry: Entry,
-) -> Result<(), AllocError>
+pub fn append_at(lives: &mut [Option<Life>], block: usize, entry: Entry) -> Result<(), AllocError>
     requires alive { IsTrue (is_some (life_at lives.old block)) }
     requires room { life_pending (life_at lives.old block) < 64 }
     requires plain { IsPlain entry }
@@ -209,11 +201,7 @@ pub fn settle_at(lives: &mut [Option<Life>], block: u32, count: u32)
 }
 
 /// Makes one more edit of block 0, which names this block: block 0 owns it from now on.
-pub fn attach_root(
-    lives: &mut [Option<Life>],
-    block: u32,
-    entry: Entry,
-) -> Result<(), AllocError>
+pub fn attach_root(lives: &mut [Option<Life>], block: u32, entry: Entry) -> Result<(), AllocError>
     requires alive { IsTrue (is_some (life_at lives.old 0)) }
     requires room { life_pending (life_at lives.old 0) < 64 }
     requires plain { IsPlain entry }

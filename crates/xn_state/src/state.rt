@@ -7,15 +7,21 @@ ghost use Rattle.xn_model.specs.Calls.{init_of, init_refusal, too_many, life_pen
 ghost use Rattle.xn_model.specs.Worlds.{mounted_state};
 ghost use Rattle.xn_model.specs.BareDisks.{built_ins, root_alone};
 ghost use Rattle.xn_model.specs.Rules.{IsConsistent};
+ghost use Rattle.xn_state.specs.Catalogue.{catalogue};
 ghost use Rattle.xn_state.specs.Plans.{make_root_plan};
 
+use crate::catalogue::catalogue_program;
 use crate::edit_id::EditId;
 use crate::entry::Entry;
 use crate::life::Life;
-use crate::lives::{attach_root, begin_at, begun_place, least_for, life_at, lowest_free, own_life, pending_for, settle_at, settled_place};
+use crate::lives::{
+    attach_root, begin_at, begun_place, least_for, life_at, lowest_free, own_life, pending_for,
+    settle_at, settled_place,
+};
 use crate::root::{slot, with_slot};
 use std::alloc::{AllocError, Global};
 use std::marker::Model;
+use udf_verify::Checked;
 use xn_model::Refusal;
 
 /// What a store knows of its blocks, beside the disk.
@@ -24,18 +30,21 @@ pub struct State {
     alloc: Global,
     lives: Vec<Option<Life>>,
     next: u64,
+    catalogue: Checked,
 }
 
 impl Model for State {
+    ghost use Rattle.std.specs.Prelude.{◌≡◌};
     ghost use Rattle.xn_model.specs.Lives.{StoreState};
     ghost use Rattle.xn_model.specs.BareDisks.{built_ins};
     ghost use Rattle.xn_model.specs.Rules.{IsConsistent};
+    ghost use Rattle.xn_state.specs.Catalogue.{catalogue as catalogue_program};
 
     ghost Value = { StoreState };
 
     ghost view = { λ a. record { lives = a.lives.items; next = a.next } };
 
-    ghost invariant = { λ a. IsConsistent built_ins (record { lives = a.lives.items; next = a.next }) };
+    ghost invariant = { λ a. IsConsistent built_ins (record { lives = a.lives.items; next = a.next }) × (a.catalogue ≡ catalogue_program) };
 }
 
 impl State {
@@ -45,16 +54,21 @@ impl State {
         requires { IsConsistent built_ins (mounted_state (root_alone blocks root.now)) }
         ensures { IfOk result (λ state. state ≡ mounted_state (root_alone blocks root.now)) }
     {
-        let mut lives = Vec::with_capacity(alloc, blocks as usize)?;
-        lives.push_reserved(Some(Life::root(alloc, root)));
-        for _block in 1..blocks {
-            lives.push_reserved(None);
-        }
+        let catalogue = catalogue_program(alloc)?;
+        let lives = root_alone(alloc, blocks, root)?;
         Ok(State {
             alloc,
             lives,
             next: 1,
+            catalogue,
         })
+    }
+
+    /// Block 0's owns program, which is verified when the state is made.
+    pub fn catalogue(&self) -> &Checked
+        ensures { result.now ≡ catalogue }
+    {
+        &self.catalogue
     }
 
     /// Whether so many pending entries of one block, or those of the file system, are too many.
@@ -81,12 +95,7 @@ impl State {
     }
 
     /// Starts a life with these bytes on the lowest free block.
-    pub fn init(
-        &mut self,
-        fs: u8,
-        ty: u32,
-        bytes: &[u8; 512],
-    ) -> Result<(u32, EditId), Refusal>
+    pub fn init(&mut self, fs: u8, ty: u32, bytes: &[u8; 512]) -> Result<(u32, EditId), Refusal>
         ensures { Gives (init_of built_ins self.old fs ty bytes.now) self.old self.new result }
     {
         if let Some(refusal) = self.init_refusal(fs, ty, bytes) {
@@ -183,6 +192,19 @@ impl State {
     {
         least_for(&self.lives, fs, self.next)
     }
+}
+
+/// The lives of a disk of so many blocks of which block 0 alone is alive.
+fn root_alone(alloc: Global, blocks: u32, root: &[u8; 512]) -> Result<Vec<Option<Life>>, AllocError>
+    requires { 1 ≤ blocks }
+    ensures { IfOk result (λ lives. lives.items ≡ root_alone blocks root.now) }
+{
+    let mut lives = Vec::with_capacity(alloc, blocks as usize)?;
+    lives.push_reserved(Some(Life::root(alloc, root)));
+    for _block in 1..blocks {
+        lives.push_reserved(None);
+    }
+    Ok(lives)
 }
 
 /// A list of one pair.

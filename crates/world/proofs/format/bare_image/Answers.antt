@@ -1,4 +1,4 @@
-use Rattle.std.proofs.Common.{◌≡◌, ◌-◌, ◌*◌, ◌∙◌, ◌++◌, ap, take, vec_len, rules, arith}
+use Rattle.std.proofs.Common.{◌≡◌, ◌-◌, ◌*◌, ◌∙◌, ◌++◌, ap, take, vec_len, arith}
 use Rattle.std.proofs.lemmas.Grind.{common_steps}
 use Rattle.xn_model.specs.BareDisks.{zeros}
 use Rattle.world.proofs.BareImage.{head, filled}

@@ -1,4 +1,4 @@
-use Rattle.std.proofs.Common.{◌≡◌, sym, ap, subst, Ok, Err}
+use Rattle.std.proofs.Common.{sym, subst, Ok, Err}
 use Rattle.xn_model.specs.Worlds as model
 use Rattle.xn_kernel.specs.Kernels.{KernelValue}
 use Rattle.disk.specs.Mem.{MemoryLane}

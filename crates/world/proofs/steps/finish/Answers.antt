@@ -1,9 +1,7 @@
-use Rattle.std.proofs.Common.{◌≡◌, ◌∙◌, ⊎_elim, sym, ap, subst, refl, true, false, Some, None, Ok, slice_set, rules, arith}
+use Rattle.std.proofs.Common.{◌∙◌, ⊎_elim, sym, ap, subst, Some, None, slice_set, rules}
 use Rattle.std.proofs.lemmas.Bool.{false≢true}
 use Rattle.xn_model.specs.Worlds as model
-use Rattle.xn_kernel.specs.Kernels.{KernelValue}
-use Rattle.disk.specs.Mem.{MemoryLane}
-use Rattle.world.specs.Worlds.{Tickets, IsWorld, world_of}
+use Rattle.world.specs.Worlds.{Tickets, world_of}
 use Rattle.world.proofs.Places.{place_is, set_still}
 use Rattle.world.proofs.Stepping.{finish_without, finish_step, finish_world, is_ours, block_is, calm_read, settled_at_block, never_refused}
 use Rattle.world.proofs.steps.finish.Goals as goal
@@ -31,7 +29,7 @@ returns-clause-step c =
     let ours = is_ours c.args.kernel.now c.args.tickets.now.items c.requires c.args.block c.into_ticket.result has in
     let given = c.in-Ok.ensures.given in
     let settled = settled_at_block c.args.kernel.now c.args.tickets.now.items c.requires c.args.block c.into_ticket.result has c.finish.new.self.state (c.in-Ok.landed.durable, c.in-Ok.landed.freed)
-        (⊎_elim (λ gives. gives) (λ none. absurd none) (c.in-Ok.ensures.mine ours)) in
+    (⊎_elim (λ gives. gives) (λ none. absurd none) (c.in-Ok.ensures.mine ours)) in
     let block = block_is c.args.kernel.now c.args.tickets.now.items c.requires c.args.block c.into_ticket.result has in
     let step = finish_step c.args.kernel.now c.args.tickets.now.items c.requires c.args.block c.into_ticket.result has given.0 given.3.1 (c.in-Ok.landed.durable, c.in-Ok.landed.freed) c.finish.new.self.state settled in
     rw (c.take.ensures.after, given.4, block) step
@@ -42,7 +40,7 @@ returns-clause-world c =
     let ours = is_ours c.args.kernel.now c.args.tickets.now.items c.requires c.args.block c.into_ticket.result has in
     let given = c.in-Ok.ensures.given in
     let settled = settled_at_block c.args.kernel.now c.args.tickets.now.items c.requires c.args.block c.into_ticket.result has c.finish.new.self.state (c.in-Ok.landed.durable, c.in-Ok.landed.freed)
-        (⊎_elim (λ gives. gives) (λ none. absurd none) (c.in-Ok.ensures.mine ours)) in
+    (⊎_elim (λ gives. gives) (λ none. absurd none) (c.in-Ok.ensures.mine ours)) in
     let block = block_is c.args.kernel.now c.args.tickets.now.items c.requires c.args.block c.into_ticket.result has in
     let leaves = finish_world c.args.kernel.now c.args.tickets.now.items c.requires c.args.block c.into_ticket.result has given.0 given.3.1 (c.in-Ok.landed.durable, c.in-Ok.landed.freed) c.finish.new.self.state settled in
     rw (c.take.ensures.after, given.4, block) leaves

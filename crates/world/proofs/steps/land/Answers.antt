@@ -1,6 +1,6 @@
-use Rattle.std.proofs.Common.{◌≡◌, ◌∙◌, sym, ap, subst, refl, Some, None, rules, arith}
+use Rattle.std.proofs.Common.{◌∙◌, sym, subst, rules}
 use Rattle.xn_model.specs.Worlds as model
-use Rattle.world.specs.Worlds.{Tickets, IsWorld, world_of}
+use Rattle.world.specs.Worlds.{Tickets, world_of}
 use Rattle.world.proofs.Places.{place_is, set_still}
 use Rattle.world.proofs.Stepping.{land_without, land_step, land_world}
 use Rattle.world.proofs.steps.land.Goals as goal

@@ -1,4 +1,4 @@
-use Rattle.std.proofs.Common.{◌≡◌, ◌≤◌, ◌∙◌, sym, ap, arith, take, length, vec_len, rules}
+use Rattle.std.proofs.Common.{◌≡◌, ◌≤◌, ◌∙◌, ap, arith, length, vec_len, rules}
 use Rattle.std.proofs.lemmas.List.{take_all}
 use Rattle.world.specs.Disks.{image_of}
 use Rattle.world.specs.Images.{joined}

@@ -1,4 +1,4 @@
-use Rattle.std.proofs.Common.{◌≡◌, ◌∙◌, sym, ap, arith}
+use Rattle.std.proofs.Common.{◌∙◌, sym, ap, arith}
 use Rattle.std.specs.Option.{option_copied}
 use Rattle.disk.specs.Mem.{MemoryLane}
 use Rattle.world.proofs.Images.{block_of-home, block_of-away}

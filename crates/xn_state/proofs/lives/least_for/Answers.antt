@@ -1,4 +1,4 @@
-use Rattle.std.proofs.Common.{◌≡◌, ◌∙◌, ap, sym, take}
+use Rattle.std.proofs.Common.{◌∙◌, ap, sym}
 use Rattle.xn_model.specs.Lives.{least_to, entries_at}
 use Rattle.xn_state.proofs.Floors.{least_places}
 use Rattle.xn_state.proofs.lives.least_for.Goals as goal

@@ -1,4 +1,4 @@
-use Rattle.std.proofs.Common.{◌≡◌, ◌+◌, ◌∙◌, ap, sym, subst, arith, List, length, [], take, drop}
+use Rattle.std.proofs.Common.{◌∙◌, ap, sym, subst, arith, List, []}
 use Rattle.std.specs.Prelude.{All}
 use Rattle.xn_model.specs.Lives.{BlockState, safe_count}
 use Rattle.xn_state.specs.Kept.{IsPlain}

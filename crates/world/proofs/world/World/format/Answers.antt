@@ -1,4 +1,4 @@
-use Rattle.std.proofs.Common.{◌≡◌, ◌∙◌, sym, ap, take, rules, arith}
+use Rattle.std.proofs.Common.{◌≡◌, ◌∙◌, take, arith}
 use Rattle.std.proofs.lemmas.Grind.{common_steps}
 use Rattle.world.proofs.Formats.{length_image, first_is, rules as rules_hold, fit, world_is, is_world}
 use Rattle.world.proofs.world.World.format.Goals as goal

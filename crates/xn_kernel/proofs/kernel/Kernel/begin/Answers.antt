@@ -1,7 +1,4 @@
-use Rattle.std.proofs.Common.{◌≡◌, ◌∙◌, sym, Some, None}
-use Rattle.std.proofs.lemmas.Option.{same_Some}
 use Rattle.xn_model.specs.Calls.{begun_of}
-use Rattle.xn_kernel.specs.Kernels.{IsKernel}
 use Rattle.xn_kernel.proofs.Keeping.{begun_leaves, begun_home, refused_leaves}
 use Rattle.xn_kernel.proofs.kernel.Kernel.begin.Goals as goal
 

@@ -1,4 +1,4 @@
-use Rattle.std.proofs.Common.{◌≡◌, ◌∙◌, ap, sym, None, arith, length}
+use Rattle.std.proofs.Common.{◌∙◌, ap, sym, None, arith, length}
 use Rattle.xn_model.specs.Lives.{Life, bytes_of}
 use Rattle.xn_model.specs.Calls.{bytes_at}
 use Rattle.xn_state.proofs.Lasts.{last_or-at}

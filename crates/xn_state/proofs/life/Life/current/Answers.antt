@@ -1,4 +1,4 @@
-use Rattle.std.proofs.Common.{◌≡◌, ◌-◌, ◌∙◌, ap, sym, Some, List, length, slice_get}
+use Rattle.std.proofs.Common.{◌-◌, ◌∙◌, ap, sym, List, length, slice_get}
 use Rattle.std.specs.Prelude.{option_map}
 use Rattle.std.specs.Option.{option_copied}
 use Rattle.xn_model.specs.Lives.{BlockState, bytes_of, current, on_disk}

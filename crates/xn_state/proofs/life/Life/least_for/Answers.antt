@@ -1,4 +1,4 @@
-use Rattle.std.proofs.Common.{◌≡◌, ◌∙◌, ap, sym, take, min, arith, [], ◌∷◌}
+use Rattle.std.proofs.Common.{◌≡◌, ◌∙◌, ap, sym, min, arith, [], ◌∷◌}
 use Rattle.xn_model.specs.Lives.{least_to, entries_in}
 use Rattle.xn_state.proofs.Floors.{least_entries, least_one, least_other}
 use Rattle.xn_state.proofs.life.Life.least_for.Goals as goal

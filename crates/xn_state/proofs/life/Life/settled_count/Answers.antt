@@ -1,4 +1,4 @@
-use Rattle.std.proofs.Common.{◌≡◌, [], ap, sym, ◌∙◌, take}
+use Rattle.std.proofs.Common.{ap, sym, ◌∙◌, take}
 use Rattle.xn_model.specs.Lives.{Life, drops_of}
 use Rattle.xn_state.proofs.Lasts.{no_drops}
 use Rattle.xn_state.proofs.life.Life.settled_count.Goals as goal

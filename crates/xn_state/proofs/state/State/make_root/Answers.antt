@@ -1,4 +1,4 @@
-use Rattle.std.proofs.Common.{◌≡◌, ◌∙◌, ◌+◌, [], Some, None, ap, sym, refl, Err, subst, rules, arith}
+use Rattle.std.proofs.Common.{◌∙◌, ◌+◌, [], Some, None, ap, sym, refl, Err, subst, rules, arith}
 use Rattle.std.proofs.lemmas.Result.{err_from_is_err_and}
 use Rattle.xn_model.specs.Lives.{Lives, StoreState}
 use Rattle.xn_model.specs.Results.{Gives}
@@ -26,6 +26,6 @@ invariant_of-self-2 c =
       after = None;
       fs = Some c.args.fs;
     }) c.in-Ok.ensures in
-    let consistent = rooted_consistent c.self.inside.lives.items c.self.inside.next c.args.fs c.args.block (c.in_ok-bytes.bytes, c.in_ok-bytes.ty) c.new-entry.result c.self.invariant c.requires plan made in
+    let consistent = rooted_consistent c.self.inside.lives.items c.self.inside.next c.args.fs c.args.block (c.in_ok-bytes.bytes, c.in_ok-bytes.ty) c.new-entry.result c.self.invariant.0 c.requires plan made in
     let lives = lent ∙ (c.in-Ok-attach_root.ensures.ok ∙ ap (λ (xs : Lives). rooted xs c.args.block c.new-entry.result) c.deref_mut.ensures.value) in
-    subst (λ xs. IsConsistent built_ins (state_of xs (c.self.inside.next + 1))) (sym lives) consistent
+    (subst (λ xs. IsConsistent built_ins (state_of xs (c.self.inside.next + 1))) (sym lives) consistent, c.self.invariant.1)

@@ -1,0 +1,3 @@
+pub mod BareImages
+pub mod Decimals
+pub mod HexBytes

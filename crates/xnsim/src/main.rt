@@ -1,0 +1,35 @@
+// A simulator of the block store: it formats images and runs scripts of commands on them.
+#![tactic(auto)]
+
+mod command;
+mod fault;
+mod files;
+mod hex;
+mod image;
+mod line;
+mod number;
+mod replay;
+mod script;
+#[cfg(test)]
+mod tests;
+mod words;
+
+use files::SystemFiles;
+use line::line;
+use std::process::ExitCode;
+use std::{env, io};
+
+fn main(rt: HostRuntime) -> io::Result<ExitCode> {
+    let alloc = rt.alloc();
+    let words: Vec<String> = env::args(&rt)?.skip(1).collect(alloc)?;
+    let mut files = SystemFiles { rt: &rt };
+    let status = line(
+        alloc,
+        words.as_slice(),
+        &mut files,
+        &mut rt.stdin(),
+        &mut rt.stdout(),
+        &mut rt.stderr(),
+    );
+    Ok(ExitCode::from(status))
+}

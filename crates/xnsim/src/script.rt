@@ -1,0 +1,118 @@
+ghost use Rattle.std.specs.Prelude.{◌≡◌, ◌≢◌, ◌<◌, ℕ, IfOk, IfSome, IfNone, IsSome, [], ◌∷◌, codes, map};
+ghost use Rattle.std.specs.Fmt.{decimal};
+ghost use Rattle.xnsim.specs.declared.command.Command.{Command};
+ghost use Rattle.xnsim.specs.Commands.{Spells, IsNoCommand};
+
+use crate::command::{Command, Fs};
+use crate::hex::parse_block;
+use crate::number::{parse_number, parse_u32};
+use std::alloc::{AllocError, AllocFailed, Global};
+
+/// Why a script isn't one.
+#[derive(Clone, Copy, Debug, PartialEq, Eq)]
+pub enum ScriptFault {
+    /// The first line that is no command. Lines count from 1, also those that are passed over.
+    Unreadable { line: u64 },
+    NoMemory,
+}
+
+impl From<AllocError> for ScriptFault {
+    fn from(_error: AllocError) -> ScriptFault {
+        ScriptFault::NoMemory
+    }
+}
+
+impl<T: Drop> From<AllocFailed<T>> for ScriptFault {
+    fn from(_error: AllocFailed<T>) -> ScriptFault {
+        ScriptFault::NoMemory
+    }
+}
+
+/// The file system that a word names.
+fn parse_fs(word: &str) -> Option<Fs>
+    ensures spelled { IfSome result (λ fs. word.now ≡ decimal fs.number) }
+    ensures readable { (n : ℕ) → n < 32 → word.now ≡ decimal n → IsSome result }
+{
+    let number = parse_number(word, 31)?;
+    Some(Fs {
+        number: number as u8,
+    })
+}
+
+/// The command of the words `init`, these three.
+fn parse_init(alloc: Global, fs: &str, ty: &str, bytes: &str) -> Result<Option<Command>, AllocError>
+    ensures some { IfOk result (λ read. IfSome read (Spells (codes "init" ∷ fs.now ∷ ty.now ∷ bytes.now ∷ []))) }
+    ensures none { IfOk result (λ read. IfNone read (IsNoCommand (codes "init" ∷ fs.now ∷ ty.now ∷ bytes.now ∷ []))) }
+{
+    let (Some(fs), Some(ty), Some(block)) = (parse_fs(fs), parse_u32(ty), parse_block(bytes)) else {
+        return Ok(None);
+    };
+    let bytes = Box::new(alloc, block)?;
+    Ok(Some(Command::Init { fs, ty, bytes }))
+}
+
+/// The command of the words `root`, these two.
+fn parse_root(fs: &str, block: &str) -> Option<Command>
+    ensures some { IfSome result (Spells (codes "root" ∷ fs.now ∷ block.now ∷ [])) }
+    ensures none { IfNone result (IsNoCommand (codes "root" ∷ fs.now ∷ block.now ∷ [])) }
+{
+    let fs = parse_fs(fs)?;
+    let block = parse_u32(block)?;
+    Some(Command::Root { fs, block })
+}
+
+/// The command of the words `floor`, this one.
+fn parse_floor(fs: &str) -> Option<Command>
+    ensures some { IfSome result (Spells (codes "floor" ∷ fs.now ∷ [])) }
+    ensures none { IfNone result (IsNoCommand (codes "floor" ∷ fs.now ∷ [])) }
+{
+    let fs = parse_fs(fs)?;
+    Some(Command::Floor { fs })
+}
+
+/// The command of the name of a step of a write and its block.
+fn parse_step(name: &str, block: &str) -> Option<Command>
+    ensures some { IfSome result (Spells (name.now ∷ block.now ∷ [])) }
+    ensures none { IfNone result (name.now ≢ codes "floor" → IsNoCommand (name.now ∷ block.now ∷ [])) }
+{
+    let block = parse_u32(block)?;
+    match name {
+        "begin" => Some(Command::Begin { block }),
+        "land" => Some(Command::Land { block }),
+        "finish" => Some(Command::Finish { block }),
+        _ => None,
+    }
+}
+
+/// The command of a line that is cut at each space, or `None` where it is none.
+fn parse_words(alloc: Global, words: &[&str]) -> Result<Option<Command>, AllocError>
+    ensures some { IfOk result (λ read. IfSome read (Spells (map (λ word. word.now) words.now))) }
+    ensures none { IfOk result (λ read. IfNone read (IsNoCommand (map (λ word. word.now) words.now))) }
+{
+    match words {
+        ["init", fs, ty, bytes] => parse_init(alloc, fs, ty, bytes),
+        ["root", fs, block] => Ok(parse_root(fs, block)),
+        ["floor", fs] => Ok(parse_floor(fs)),
+        [name, block] => Ok(parse_step(name, block)),
+        _ => Ok(None),
+    }
+}
+
+/// The commands of a script, in order. Empty lines and lines that begin with `#` are passed over.
+pub fn parse(alloc: Global, script: &str) -> Result<Vec<Command>, ScriptFault> {
+    let mut commands = Vec::new(alloc);
+    // A script has fewer lines than the count has numbers.
+    let mut line: u64 = 0;
+    for text in script.split('\n') {
+        line = line.wrapping_add(1);
+        if text.is_empty() || text.starts_with('#') {
+            continue;
+        }
+        let words: Vec<&str> = text.split(' ').collect(alloc)?;
+        match parse_words(alloc, words.as_slice())? {
+            Some(command) => commands.push(command)?,
+            None => return Err(ScriptFault::Unreadable { line }),
+        }
+    }
+    Ok(commands)
+}
