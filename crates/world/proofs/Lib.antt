@@ -5,3 +5,4 @@ pub mod Stepping
 pub mod Sizes
 pub mod BareImage
 pub mod Formats
+pub mod Runs

@@ -1,7 +1,7 @@
 // A world.
 
-ghost use Rattle.std.specs.Prelude.{◌≡◌, ◌*◌, ◌%◌, ◌^◌, ◌<◌, ◌≤◌, length, replicate, None, IfOk};
-ghost use Rattle.xn_model.specs.Images.{block_of};
+ghost use Rattle.std.specs.Prelude.{◌≡◌, ◌*◌, ◌%◌, ◌^◌, ◌<◌, ◌≤◌, All, length, map, replicate, None, IfOk, IfErr};
+ghost use Rattle.xn_model.specs.Images.{block_of, IsSound};
 ghost use Rattle.disk.specs.Mem.{HoldsImage};
 ghost use Rattle.xn_model.specs.BareDisks.{built_ins, bare_world, root_alone};
 ghost use Rattle.xn_model.specs.Lanes.{FitLives};
@@ -76,6 +76,25 @@ impl World {
             Event::Land(block) => steps::land(&self.kernel, &mut self.tickets, *block),
             Event::Finish(block) => steps::finish(&mut self.kernel, &mut self.tickets, *block),
         }
+    }
+
+    /// Events in their order, and their replies. After all of them the rules hold, the image is sound, and
+    /// each block that the root reaches in it holds a state of its life, from the durable to the begun
+    /// one, and has one owner. `Err` comes before the first event.
+    pub fn run(&mut self, events: &[Event]) -> Result<Vec<Reply>, AllocError>
+        requires { All (λ event. model.IsEvent (event_of event)) events.now }
+        ensures run { IfOk result (λ replies. model.Run (world_with self.old) (map event_of events.now) (map reply_of replies.items) (world_with self.new)) }
+        ensures kept { IfErr result (λ error. self.new ≡ self.old) }
+        ensures rules { Holds (world_with self.new) }
+        ensures agrees { Agrees built_ins (length self.new.state.lives) (block_of self.new.image) self.new.state.lives }
+        ensures sound { IsSound built_ins (length self.new.image) (block_of self.new.image) }
+    {
+        let mut replies = Vec::with_capacity(self.alloc, events.len())?;
+        for at in 0..events.len() {
+            let reply = self.step(&events[at]);
+            replies.push_reserved(reply);
+        }
+        Ok(replies)
     }
 
     /// The bytes that the disk holds now, block after block.

@@ -1,0 +1,50 @@
+use Rattle.std.proofs.Common.{◌≡◌, ◌≤◌, ◌<◌, ◌+◌, ◌∙◌, ap, arith, map, length, subst, refl, vec_len, rules}
+use Rattle.std.specs.Vec.{vec_capacity}
+use Rattle.std.proofs.lemmas.List.{take_all}
+use Rattle.xn_model.specs.Worlds.{Run}
+use Rattle.xn_model.specs.Rules.{Holds}
+use Rattle.world.specs.Events.{event_of, reply_of}
+use Rattle.world.specs.Worlds.{WorldValue, world_with}
+use Rattle.world.proofs.Runs.{ran_more, rules_agree, rules_sound}
+use Rattle.world.proofs.world.World.run.Goals as goal
+
+pub returns-in_err-replies-clause-agrees : goal.returns-in_err-replies-clause-agrees
+returns-in_err-replies-clause-agrees c = rules_agree c.args.self.now (subst (λ (v : WorldValue). Holds (world_with v)) c.self.view_is c.self.invariant.holds)
+
+pub returns-in_err-replies-clause-sound : goal.returns-in_err-replies-clause-sound
+returns-in_err-replies-clause-sound c = rules_sound c.args.self.now (subst (λ (v : WorldValue). Holds (world_with v)) c.self.view_is c.self.invariant.holds)
+
+pub loop-at-init : goal.loop-at-init
+loop-at-init c =
+    let holds : Holds (world_with c.args.self.now) = subst (λ (v : WorldValue). Holds (world_with v)) c.self.view_is c.self.invariant.holds in
+    (rw c.in_ok-replies.ensures.items refl, holds, c.in_ok-replies.ensures.len, search rules)
+
+pub push_reserved-requires : goal.push_reserved-requires
+push_reserved-requires c =
+    let len : vec_len c.loop-at.replies ≡ c.loop-at.at = c.loop-at.invariant.2 in
+    let room : length c.args.events.now ≤ vec_capacity c.loop-at.replies = c.loop-at.invariant.3 in
+    let more = c.loop-at-test.true in
+    omega arith
+
+pub loop-at-preserved : goal.loop-at-preserved
+loop-at-preserved c =
+    let within : c.loop-at.at < length c.args.events.now = c.loop-at-test.true in
+    let before : vec_len c.loop-at.replies ≡ c.loop-at.at = c.loop-at.invariant.2 in
+    let room : length c.args.events.now ≤ vec_capacity c.loop-at.replies = c.loop-at.invariant.3 in
+    let ran = ran_more c.args.self.now c.loop-at.self c.step-reply.new.self c.args.events.now c.loop-at.at _ c.loop-at.replies.items c.push_reserved.new.self.items c.step-reply.result
+    within c.push_reserved.ensures.items c.loop-at.invariant.0 c.step-reply.ensures.step in
+    (ran, c.step-reply.ensures.rules, c.push_reserved.ensures.len ∙ ap (λ n. n + 1) before, rw c.push_reserved.ensures.capacity room)
+
+pub returns-clause-run : goal.returns-clause-run
+returns-clause-run c =
+    let past : length c.args.events.now ≤ c.loop-at.at = omega (arith, c.loop-at-test.false) in
+    subst (λ es. Run (world_with c.args.self.now) (map event_of es) (map reply_of c.loop-at.replies.items) (world_with c.loop-at.self)) (take_all c.loop-at.at c.args.events.now past) c.loop-at.invariant.0
+
+pub returns-clause-rules : goal.returns-clause-rules
+returns-clause-rules c = c.loop-at.invariant.1
+
+pub returns-clause-agrees : goal.returns-clause-agrees
+returns-clause-agrees c = rules_agree c.loop-at.self c.loop-at.invariant.1
+
+pub returns-clause-sound : goal.returns-clause-sound
+returns-clause-sound c = rules_sound c.loop-at.self c.loop-at.invariant.1
