@@ -6,9 +6,16 @@ ghost use Rattle.udf_code.specs.declared.fault.CodeFault.TheVariants.{NoMemory};
 ghost use Rattle.udf_code.specs.Tree.{Tree, Spells};
 ghost use Rattle.udf_code.specs.Reading.{tree_of};
 ghost use Rattle.udf_code.specs.Structure.{structure_of};
-ghost use Rattle.udf_code.specs.Words.{AllInRange};
+ghost use Rattle.udf_code.specs.Words.{AllInRange, InRange};
 ghost use Rattle.udf_code.specs.Bytes.{IsCode, encoded};
 ghost use Rattle.udf_code.specs.Decoding.{decoded};
+
+use crate::word::Word;
+
+/// The operands of each word are in range, by their types.
+pub fn operands_are_in_range(word: Word)
+    ensures { InRange word }
+{}
 
 /// Words spell at most one tree, which is the one that is read from them.
 pub fn one_tree()

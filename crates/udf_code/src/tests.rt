@@ -80,6 +80,27 @@ fn faults_of_many_words(rt: HostRuntime) -> Result<(), Fail> {
     Ok(())
 }
 
+#[test]
+fn words_at_the_limits(rt: HostRuntime) -> Result<(), Fail> {
+    let register = Register::new(1).ok_or("a register")?;
+    let turns = Turns::new(512).ok_or("turns")?;
+    assert_eq!(rt; well_formed(&[]), Ok(()));
+    assert_eq!(rt; well_formed(&[Word::Set(register, 0); 127]), Ok(()));
+    assert_eq!(rt;
+        well_formed(&[Word::Set(register, 0); 128]),
+        Err(CodeFault::TooLong)
+    );
+    let mut nested = [Word::For(register, turns); 18];
+    for i in 9..18 {
+        nested[i] = Word::End;
+    }
+    assert_eq!(rt; well_formed(&nested), Err(CodeFault::TooDeep(8)));
+    let words = nested.as_slice();
+    let eight = &words[1..17];
+    assert_eq!(rt; well_formed(eight), Ok(()));
+    Ok(())
+}
+
 // The next number of a fixed pseudo-random sequence, below `bound`.
 fn next(state: &mut u64, bound: u64) -> u8
     requires low { 0 < bound }

@@ -6,6 +6,8 @@
 mod blocks;
 pub mod law;
 pub mod pair;
+#[cfg(test)]
+mod random_tests;
 pub mod run;
 mod step;
 #[cfg(test)]

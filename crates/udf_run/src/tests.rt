@@ -141,3 +141,53 @@ fn sizes(rt: HostRuntime) -> Result<(), Fail> {
     assert_eq!(rt; size(&checked, &[0u8; 512]), 328);
     Ok(())
 }
+
+#[test]
+fn programs_at_the_limits(rt: HostRuntime) -> Result<(), Fail> {
+    let block = [7u8; 512];
+    let mut out = ArrayVec::<Pair, 128>::new();
+    // Eight loops in one another, which emit 128 pairs.
+    let deep = [
+        Word::For(r(1), turns(1)),
+        Word::For(r(2), turns(2)),
+        Word::For(r(3), turns(2)),
+        Word::For(r(4), turns(2)),
+        Word::For(r(5), turns(2)),
+        Word::For(r(6), turns(2)),
+        Word::For(r(7), turns(2)),
+        Word::For(r(8), turns(2)),
+        Word::Emit(r(8), r(2)),
+        Word::End,
+        Word::End,
+        Word::End,
+        Word::End,
+        Word::End,
+        Word::End,
+        Word::End,
+        Word::End,
+    ];
+    assert!(rt; well_formed(&deep).is_ok());
+    let checked = verify(rt.alloc(), &deep, Role::Owns)?;
+    assert_eq!(rt; (checked.cost(), checked.emits()), (511, 128));
+    assert!(rt; checked.role() == Role::Owns);
+    owns(&checked, &block, &mut out);
+    assert_eq!(rt; out.len(), 128);
+    for (i, pair) in out.as_slice().iter().enumerate() {
+        assert!(rt; pair.block as usize == i % 2 && pair.ty as usize == i / 64);
+    }
+    // 127 words.
+    let long = [Word::Set(r(0), 512); 127];
+    assert!(rt; well_formed(&long).is_ok());
+    let checked = verify(rt.alloc(), &long, Role::Size)?;
+    assert_eq!(rt; checked.cost(), 127);
+    assert!(rt; checked.role() == Role::Size);
+    assert_eq!(rt; size(&checked, &block), 512);
+    // The empty program.
+    assert!(rt; well_formed(&[]).is_ok());
+    let checked = verify(rt.alloc(), &[], Role::Owns)?;
+    assert_eq!(rt; (checked.cost(), checked.emits()), (0, 0));
+    assert!(rt; checked.role() == Role::Owns);
+    owns(&checked, &block, &mut out);
+    assert_eq!(rt; out.len(), 0);
+    Ok(())
+}

@@ -5,3 +5,4 @@ pub mod Layout
 pub mod Program
 pub mod Checks
 pub mod Surveyed
+pub mod Names

@@ -1,6 +1,7 @@
 // What a program is for, and why it is refused.
 
 use std::fmt;
+use thiserror::Error;
 
 /// What a program is for.
 #[derive(Clone, Copy, Debug, PartialEq, Eq)]
@@ -42,15 +43,47 @@ pub enum FaultKind {
     SizeAnswer,
 }
 
+impl FaultKind {
+    ghost use Rattle.std.specs.Prelude.{◌≡◌};
+    ghost use Rattle.udf_verify.specs.Names.{name_of};
+
+    /// Its name.
+    pub fn name(self) -> &'static str
+        ensures { result.now ≡ name_of self }
+    {
+        match self {
+            FaultKind::NoMemory => "NoMemory",
+            FaultKind::Load => "Load",
+            FaultKind::Sum => "Sum",
+            FaultKind::Difference => "Difference",
+            FaultKind::Product => "Product",
+            FaultKind::Divisor => "Divisor",
+            FaultKind::Counter => "Counter",
+            FaultKind::SameRegister => "SameRegister",
+            FaultKind::DeadBranch => "DeadBranch",
+            FaultKind::Keep => "Keep",
+            FaultKind::Emits => "Emits",
+            FaultKind::Cost => "Cost",
+            FaultKind::SizeAnswer => "SizeAnswer",
+        }
+    }
+}
+
 /// Its name.
 impl fmt::Display for FaultKind {
+    ghost use Rattle.std.specs.Prelude.{Some};
+    ghost use Rattle.udf_verify.specs.Names.{name_of};
+
+    ghost output = { λ kind. Some (name_of kind) };
+
     fn fmt<W: fmt::Write>(&self, f: &mut fmt::Formatter<W>) -> fmt::Result {
-        write!(f, "{self:?}")
+        f.write_str(self.name())
     }
 }
 
 /// The first word that breaks a rule, and the rule. The number of words stands for the end.
-#[derive(Clone, Copy, Debug, PartialEq, Eq)]
+#[derive(Clone, Copy, Debug, Drop, PartialEq, Eq, Error)]
+#[error("{kind} at {at}")]
 pub struct VerifyFault {
     pub at: usize,
     pub kind: FaultKind,

@@ -1,5 +1,6 @@
 -- The first mount of a bare disk.
-use Rattle.std.proofs.Common.{◌≡◌, ℕ, zero, suc, ◌+◌, ◌-◌, ◌*◌, ◌≤◌, ◌<◌, List, [], ◌∷◌, ◌++◌, length, take, drop, replicate, false, Option, Some, None, refl, sym, ◌∙◌, ap, arith, subst, slice_get}
+use Rattle.std.proofs.Common.{◌≡◌, ℕ, zero, get_or, suc, ◌+◌, ◌-◌, ◌*◌, ◌≤◌, ◌<◌, List, [], ◌∷◌, ◌++◌, length, take, drop, replicate, false, Option, Some, None, Result, Ok, Err, refl, sym, ◌∙◌, ap, arith, subst, slice_get}
+use Rattle.std.specs.Prelude.{IfOk}
 use Rattle.std.specs.List.{AllByRecursion, AllZip}
 use Rattle.std.proofs.lemmas.Option.{same_Some, none-some, slice_get_within}
 use Rattle.std.proofs.lemmas.List.{length-replicate, length-append}
@@ -8,17 +9,45 @@ use Rattle.disk.specs.Images.{block_at}
 use Rattle.disk.proofs.BlockAt.{block_at-append_front, block_at-append_last}
 use Rattle.disk.specs.Mem.{MemoryLane, HoldsImage, fresh_lane}
 use Rattle.xn_model.specs.Images.{IsDiskSize, block_of}
-use Rattle.xn_model.specs.Lives.{life_at}
+use Rattle.xn_model.specs.Lives.{Lives, life_at}
 use Rattle.xn_model.specs.Worlds.{mounted_state}
 use Rattle.xn_model.specs.Lanes.{FitsLife, FitLives}
 use Rattle.xn_model.specs.Flights.{flight_of}
-use Rattle.xn_model.specs.BareDisks.{built_ins, zeros, bare_root, bare_disk, root_life, root_alone, bare_lives, bare_world}
+use Rattle.xn_model.specs.BareDisks.{zeros, bare_root, bare_disk, root_life, root_alone, bare_lives, bare_world}
 use Rattle.xn_model.specs.Rules.{IsConsistent, Holds}
 use Rattle.xn_model.proofs.BareDisks.{bare_holds}
+use Rattle.xn_model.specs.Types.{Types}
+use Rattle.templates.specs.Tables.{TableValue, IsTable, no_templates, types_of}
+use Rattle.templates.specs.Templates.{TemplateValue, IsTemplate}
+use Rattle.templates.proofs.BuiltInTypes.{tables_have_built_ins}
+use Rattle.xn_model.specs.Root.{HasBuiltIns}
+use Rattle.xn_state.specs.States.{StateValue}
 use Rattle.xn_kernel.specs.Kernels.{KernelValue, TicketValue}
 use Rattle.world.specs.Disks.{bytes_in, image_of, IsCalm, ticket_at}
 use Rattle.world.specs.Images.{joined}
-use Rattle.world.specs.Worlds.{Tickets, world_of, ticket_flight, IsWorld}
+use Rattle.world.specs.Worlds.{Tickets, world_of, ticket_flight, IsWorld, IsFresh}
+
+-- what holds of a value that may be missing
+pub if_ok : {T E : Type 0} {P Q : T → Type 0} (r : Result T E) → IfOk r P → ((x : T) → P x → Q x) → IfOk r Q
+if_ok (Ok x) h f = f x h
+if_ok (Err e) h f = h
+
+-- The built-in types
+
+no_place : (n i : ℕ) → get_or (replicate {A = Option TemplateValue} n None) i None ≡ None
+no_place zero i = refl
+no_place (suc n) zero = refl
+no_place (suc n) (suc i) = no_place n i
+
+empty_table : IsTable no_templates
+empty_table = record { places = refl; templates = λ i t e. absurd (none-some t (sym (no_place 16 i) ∙ e)) }
+
+has_built_ins : HasBuiltIns (types_of no_templates)
+has_built_ins = tables_have_built_ins no_templates empty_table
+
+-- a state without templates
+abbrev plain_state : Lives → StateValue
+plain_state lives = record { table = no_templates; store = mounted_state lives }
 
 -- Blocks of 512 bytes
 
@@ -158,27 +187,36 @@ module _ (count : ℕ) (size : IsDiskSize count) where
         lives_are : root_alone (length lanes) root ≡ bare_lives count
         lives_are = λ i. root_alone (length_lanes i) (root_is i)
 
-        pub rules : IsConsistent built_ins (mounted_state (root_alone (length lanes) root))
-        rules = subst (λ lives. IsConsistent built_ins (mounted_state lives)) (sym lives_are) (bare_holds count size).state
+        pub rules : (table : TableValue) → table ≡ no_templates → IsConsistent (types_of table) (mounted_state (root_alone (length lanes) root))
+        rules table none = subst (λ t. IsConsistent (types_of t) (mounted_state (root_alone (length lanes) root))) (sym none)
+            (subst (λ lives. IsConsistent (types_of no_templates) (mounted_state lives)) (sym lives_are) (bare_holds (types_of no_templates) has_built_ins count size).state)
 
         pub fit : FitLives (λ lane. lane.bytes) lanes (root_alone (length lanes) root)
         fit = fits lanes (bare_disk count) root (length lanes) refl (let long = length_lanes in let low = size.0 in omega arith) lane_is (sym root_is)
 
+        pub fresh : (table : TableValue) → table ≡ no_templates → (kernel : KernelValue MemoryLane) →
+            kernel ≡ record { id = 1; lanes = lanes; state = record { table = table; store = mounted_state (root_alone (length lanes) root) } } → IsFresh count kernel
+        fresh table none kernel is_kernel = record {
+          first = ap (λ (k : KernelValue MemoryLane). k.id) is_kernel;
+          lanes = subst (λ (ls : List (Option MemoryLane)). HoldsImage (joined (bare_disk count)) ls) (sym (ap (λ (k : KernelValue MemoryLane). k.lanes) is_kernel)) (subst (λ bytes. HoldsImage bytes lanes) is holds);
+          state = ap (λ (k : KernelValue MemoryLane). k.state) is_kernel ∙ (λ i. record { table = none i; store = mounted_state (lives_are i) });
+        }
+
         -- the world that is made of them
         abbrev started_kernel : KernelValue MemoryLane
-        started_kernel = record { id = 1; lanes = lanes; state = mounted_state (root_alone (length lanes) root) }
+        started_kernel = record { id = 1; lanes = lanes; state = plain_state (root_alone (length lanes) root) }
 
         abbrev started_tickets : Tickets
         started_tickets = replicate count None
 
         module _ (kernel : KernelValue MemoryLane) (kernel_is : kernel ≡ started_kernel)
             (tickets : Tickets) (tickets_are : tickets ≡ started_tickets) where
-          same_world : world_of started_kernel started_tickets ≡ bare_world count
-          same_world = λ i. record { types = built_ins; image = image_is i; state = mounted_state (lives_are i); down = false }
+          same_world : world_of started_kernel started_tickets ≡ bare_world (types_of no_templates) count
+          same_world = λ i. record { types = types_of no_templates; image = image_is i; state = mounted_state (lives_are i); down = false }
 
           started : IsWorld started_kernel started_tickets
           started = record {
-            holds = subst Holds (sym same_world) (bare_holds count size);
+            holds = subst Holds (sym same_world) (bare_holds (types_of no_templates) has_built_ins count size);
             fit = fit;
             calm = λ b lane at. let h = lane_is b (slice_get_within lanes b (Some lane) at) in
                 subst IsCalm (same_Some h.lane lane (same_Some (Some h.lane) (Some lane) (sym h.home ∙ at))) h.calm;
@@ -187,8 +225,20 @@ module _ (count : ℕ) (size : IsDiskSize count) where
             mine = λ b ticket at. absurd (none-some ticket (sym (no_ticket count b) ∙ at));
           }
 
-          pub world_is : world_of kernel tickets ≡ bare_world count
+          pub world_is : world_of kernel tickets ≡ bare_world (types_of no_templates) count
           world_is = (λ i. world_of (kernel_is i) (tickets_are i)) ∙ same_world
 
           pub is_world : IsWorld kernel tickets
           is_world = subst (λ (p : KernelValue MemoryLane × Tickets). IsWorld p.0 p.1) (λ i. (sym kernel_is i, sym tickets_are i)) started
+
+module _ (count : ℕ) (size : IsDiskSize count) (kernel : KernelValue MemoryLane) (fresh_kernel : IsFresh count kernel) (tickets : Tickets) (tickets_are : tickets ≡ replicate count None) where
+  kernel_is : kernel ≡ started_kernel count size (joined (bare_disk count)) refl kernel.lanes fresh_kernel.lanes (bare_root count) refl
+  kernel_is =
+      let state = fresh_kernel.state ∙ ap plain_state (sym (lives_are count size (joined (bare_disk count)) refl kernel.lanes fresh_kernel.lanes (bare_root count) refl)) in
+      λ i. record { id = fresh_kernel.first i; lanes = kernel.lanes; state = state i }
+
+  pub fresh_world : world_of kernel tickets ≡ bare_world (types_of no_templates) count
+  fresh_world = world_is count size (joined (bare_disk count)) refl kernel.lanes fresh_kernel.lanes (bare_root count) refl kernel kernel_is tickets tickets_are
+
+  pub fresh_is_world : IsWorld kernel tickets
+  fresh_is_world = is_world count size (joined (bare_disk count)) refl kernel.lanes fresh_kernel.lanes (bare_root count) refl kernel kernel_is tickets tickets_are

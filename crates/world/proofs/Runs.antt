@@ -4,7 +4,7 @@ use Rattle.std.proofs.lemmas.List.{take_more, map-append}
 use Rattle.xn_model.specs.Images.{block_of, IsSound}
 use Rattle.xn_model.specs.Worlds as model
 use Rattle.xn_model.specs.Worlds.{Run, Step}
-use Rattle.xn_model.specs.BareDisks.{built_ins}
+use Rattle.templates.specs.Tables.{types_of}
 use Rattle.xn_model.specs.Rules.{Holds, Agrees}
 use Rattle.xn_model.proofs.Reached.{agreement}
 use Rattle.xn_model.proofs.Runs.{world_sound}
@@ -34,8 +34,8 @@ ran_more old mid after events at default replies new reply within more run step 
     (run_more (world_with old) (map event_of (take at events)) (map reply_of replies) (world_with mid) (event_of event) (reply_of reply) (world_with after) run step))
 
 -- what the rules say of the image
-pub rules_agree : (value : WorldValue) → Holds (world_with value) → Agrees built_ins (length value.state.lives) (block_of value.image) value.state.lives
-rules_agree value holds = agreement built_ins value.state holds.state (block_of value.image) holds.placed
+pub rules_agree : (value : WorldValue) → Holds (world_with value) → Agrees (types_of value.table) (length value.state.lives) (block_of value.image) value.state.lives
+rules_agree value holds = agreement (types_of value.table) value.state holds.state (block_of value.image) holds.placed
 
-pub rules_sound : (value : WorldValue) → Holds (world_with value) → IsSound built_ins (length value.image) (block_of value.image)
+pub rules_sound : (value : WorldValue) → Holds (world_with value) → IsSound (types_of value.table) (length value.image) (block_of value.image)
 rules_sound value holds = world_sound (world_with value) holds

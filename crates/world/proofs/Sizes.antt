@@ -8,7 +8,7 @@ use Rattle.xn_model.specs.Lives.{Life, Lives, life_at}
 use Rattle.xn_model.specs.Worlds.{begun_count}
 use Rattle.xn_model.specs.Lanes.{FitsLife, FitLives}
 use Rattle.xn_model.specs.Images.{block_of}
-use Rattle.xn_model.specs.BareDisks.{built_ins}
+use Rattle.xn_state.specs.States.{types_in}
 use Rattle.xn_model.specs.Rules.{Agrees}
 use Rattle.xn_model.proofs.Reached.{agreement}
 use Rattle.xn_kernel.specs.Kernels.{KernelValue}
@@ -41,11 +41,11 @@ module _ (kernel : KernelValue MemoryLane) (tickets : Tickets) (is : IsWorld ker
   pub nowhere : (b : ℕ) → b < length tickets → place_at kernel.lanes b ≡ None → ticket_at tickets b ≡ None → ⊥
   nowhere b within home ticket =
       let count = is.count in
-      let life = away_life kernel.lanes kernel.state.lives b is.fit (empty_get kernel.lanes b home (omega arith)) in
-      let idle = not_flying (life_at kernel.state.lives b) (sym (is.flights b) ∙ ap ticket_flight ticket) in
+      let life = away_life kernel.lanes kernel.state.store.lives b is.fit (empty_get kernel.lanes b home (omega arith)) in
+      let idle = not_flying (life_at kernel.state.store.lives b) (sym (is.flights b) ∙ ap ticket_flight ticket) in
       let begun : life.0.begun ≡ None = sym (ap begun_count life.1) ∙ idle in
       false≢true (sym (ap is_some begun) ∙ life.2)
 
   -- the image agrees with the lives
-  pub agrees : Agrees built_ins (length kernel.state.lives) (block_of (image_of kernel.lanes tickets)) kernel.state.lives
-  agrees = agreement built_ins kernel.state is.holds.state (block_of (image_of kernel.lanes tickets)) is.holds.placed
+  pub agrees : Agrees (types_in kernel.state) (length kernel.state.store.lives) (block_of (image_of kernel.lanes tickets)) kernel.state.store.lives
+  agrees = agreement (types_in kernel.state) kernel.state.store is.holds.state (block_of (image_of kernel.lanes tickets)) is.holds.placed

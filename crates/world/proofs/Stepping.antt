@@ -13,7 +13,7 @@ use Rattle.xn_model.specs.Calls.{init_of, make_root_of, begun_of, settled_of, se
 use Rattle.xn_model.specs.Worlds.{World, Event, Client, Begin, Land, Finish, Init, MakeRoot, Reply, Started, Edited, Begun, Landed, Finished, NoTicket, Refused, act, reply_and_world, write, with_ticket, begun_count, is_refusal, asks_memory, AfterCall, Step}
 use Rattle.xn_model.specs.Lanes.{FitLives}
 use Rattle.xn_model.specs.Flights.{flight_of, HaveSameFlights}
-use Rattle.xn_model.specs.BareDisks.{built_ins}
+use Rattle.xn_state.specs.States.{types_in}
 use Rattle.xn_model.specs.Rules.{Holds}
 use Rattle.xn_model.proofs.Given.{gives_keeps, gives_exactly-ok}
 use Rattle.xn_model.proofs.Runs.{step_keeps}
@@ -48,38 +48,38 @@ module _ (kernel : KernelValue MemoryLane) (tickets : Tickets) (is : IsWorld ker
   now = world_of kernel tickets
 
   -- the lives may change where lanes and writes stay
-  new_state : (new : StoreState) → Holds (world_of (record kernel { state = new }) tickets) → FitLives (λ lane. lane.bytes) kernel.lanes new.lives → HaveSameFlights kernel.state.lives new.lives →
-      IsWorld (record kernel { state = new }) tickets
+  new_state : (new : StoreState) → Holds (world_of (record kernel { state = record kernel.state { store = new } }) tickets) → FitLives (λ lane. lane.bytes) kernel.lanes new.lives → HaveSameFlights kernel.state.store.lives new.lives →
+      IsWorld (record kernel { state = record kernel.state { store = new } }) tickets
   new_state new holds fit flights = record { holds = holds; fit = fit; calm = is.calm; count = is.count; flights = λ b. is.flights b ∙ sym (flights b); mine = λ b t e. let m = is.mine b t e in record { kernel_is = m.kernel_is; block_is = m.block_is; calm = m.calm } }
 
-  pub init_step : (fs ty : ℕ) (bytes : List ℕ) (new : StoreState) (result : Result (ℕ × ℕ) Refusal) → Gives (init_of built_ins kernel.state fs ty bytes) kernel.state new result →
-      Step (world_of kernel tickets) (Client fs (Init ty bytes)) (told (λ made. Started made.0 made.1) result) (world_of (record kernel { state = new }) tickets)
-  init_step fs ty bytes new result h = gives_step (world_of kernel tickets) (Client fs (Init ty bytes)) (λ made. Started made.0 made.1) (init_of built_ins kernel.state fs ty bytes) new result refl refl refl (λ a. refl) h
+  pub init_step : (fs ty : ℕ) (bytes : List ℕ) (new : StoreState) (result : Result (ℕ × ℕ) Refusal) → Gives (init_of (types_in kernel.state) kernel.state.store fs ty bytes) kernel.state.store new result →
+      Step (world_of kernel tickets) (Client fs (Init ty bytes)) (told (λ made. Started made.0 made.1) result) (world_of (record kernel { state = record kernel.state { store = new } }) tickets)
+  init_step fs ty bytes new result h = gives_step (world_of kernel tickets) (Client fs (Init ty bytes)) (λ made. Started made.0 made.1) (init_of (types_in kernel.state) kernel.state.store fs ty bytes) new result refl refl refl (λ a. refl) h
 
-  pub init_world : (fs ty : ℕ) (bytes : List ℕ) (new : StoreState) (result : Result (ℕ × ℕ) Refusal) → fs < 32 → Gives (init_of built_ins kernel.state fs ty bytes) kernel.state new result →
-      IsWorld (record kernel { state = new }) tickets
+  pub init_world : (fs ty : ℕ) (bytes : List ℕ) (new : StoreState) (result : Result (ℕ × ℕ) Refusal) → fs < 32 → Gives (init_of (types_in kernel.state) kernel.state.store fs ty bytes) kernel.state.store new result →
+      IsWorld (record kernel { state = record kernel.state { store = new } }) tickets
   init_world fs ty bytes new result few h = new_state new
-      (step_keeps (world_of kernel tickets) (Client fs (Init ty bytes)) (told (λ made. Started made.0 made.1) result) (world_of (record kernel { state = new }) tickets) few is.holds (init_step fs ty bytes new result h))
-      (gives_keeps (λ s. FitLives (λ (l : MemoryLane). l.bytes) kernel.lanes s.lives) (init_of built_ins kernel.state fs ty bytes) kernel.state new result h is.fit (λ made e. lane.lanes_init (λ (l : MemoryLane). l.bytes) kernel.lanes built_ins kernel.state new fs ty bytes made e is.fit))
-      (gives_keeps (λ s. HaveSameFlights kernel.state.lives s.lives) (init_of built_ins kernel.state fs ty bytes) kernel.state new result h (λ b. refl) (λ made e. flight.flights_init built_ins kernel.state new fs ty bytes made e))
+      (step_keeps (world_of kernel tickets) (Client fs (Init ty bytes)) (told (λ made. Started made.0 made.1) result) (world_of (record kernel { state = record kernel.state { store = new } }) tickets) few is.holds (init_step fs ty bytes new result h))
+      (gives_keeps (λ s. FitLives (λ (l : MemoryLane). l.bytes) kernel.lanes s.lives) (init_of (types_in kernel.state) kernel.state.store fs ty bytes) kernel.state.store new result h is.fit (λ made e. lane.lanes_init (λ (l : MemoryLane). l.bytes) kernel.lanes (types_in kernel.state) kernel.state.store new fs ty bytes made e is.fit))
+      (gives_keeps (λ s. HaveSameFlights kernel.state.store.lives s.lives) (init_of (types_in kernel.state) kernel.state.store fs ty bytes) kernel.state.store new result h (λ b. refl) (λ made e. flight.flights_init (types_in kernel.state) kernel.state.store new fs ty bytes made e))
 
-  pub root_step : (fs b : ℕ) (new : StoreState) (result : Result ℕ Refusal) → Gives (make_root_of kernel.state fs b) kernel.state new result →
-      Step (world_of kernel tickets) (Client fs (MakeRoot b)) (told Edited result) (world_of (record kernel { state = new }) tickets)
-  root_step fs b new result h = gives_step (world_of kernel tickets) (Client fs (MakeRoot b)) Edited (make_root_of kernel.state fs b) new result refl refl refl (λ a. refl) h
+  pub root_step : (fs b : ℕ) (new : StoreState) (result : Result ℕ Refusal) → Gives (make_root_of kernel.state.store fs b) kernel.state.store new result →
+      Step (world_of kernel tickets) (Client fs (MakeRoot b)) (told Edited result) (world_of (record kernel { state = record kernel.state { store = new } }) tickets)
+  root_step fs b new result h = gives_step (world_of kernel tickets) (Client fs (MakeRoot b)) Edited (make_root_of kernel.state.store fs b) new result refl refl refl (λ a. refl) h
 
-  pub root_world : (fs b : ℕ) (new : StoreState) (result : Result ℕ Refusal) → fs < 32 → Gives (make_root_of kernel.state fs b) kernel.state new result →
-      IsWorld (record kernel { state = new }) tickets
+  pub root_world : (fs b : ℕ) (new : StoreState) (result : Result ℕ Refusal) → fs < 32 → Gives (make_root_of kernel.state.store fs b) kernel.state.store new result →
+      IsWorld (record kernel { state = record kernel.state { store = new } }) tickets
   root_world fs b new result few h = new_state new
-      (step_keeps (world_of kernel tickets) (Client fs (MakeRoot b)) (told Edited result) (world_of (record kernel { state = new }) tickets) few is.holds (root_step fs b new result h))
-      (gives_keeps (λ s. FitLives (λ (l : MemoryLane). l.bytes) kernel.lanes s.lives) (make_root_of kernel.state fs b) kernel.state new result h is.fit (λ entry e. lane.lanes_make_root (λ (l : MemoryLane). l.bytes) kernel.lanes kernel.state new fs b entry e is.fit))
-      (gives_keeps (λ s. HaveSameFlights kernel.state.lives s.lives) (make_root_of kernel.state fs b) kernel.state new result h (λ b. refl) (λ entry e. flight.flights_make_root built_ins kernel.state new is.holds.state fs b entry e))
+      (step_keeps (world_of kernel tickets) (Client fs (MakeRoot b)) (told Edited result) (world_of (record kernel { state = record kernel.state { store = new } }) tickets) few is.holds (root_step fs b new result h))
+      (gives_keeps (λ s. FitLives (λ (l : MemoryLane). l.bytes) kernel.lanes s.lives) (make_root_of kernel.state.store fs b) kernel.state.store new result h is.fit (λ entry e. lane.lanes_make_root (λ (l : MemoryLane). l.bytes) kernel.lanes kernel.state.store new fs b entry e is.fit))
+      (gives_keeps (λ s. HaveSameFlights kernel.state.store.lives s.lives) (make_root_of kernel.state.store fs b) kernel.state.store new result h (λ b. refl) (λ entry e. flight.flights_make_root (types_in kernel.state) kernel.state.store new is.holds.state fs b entry e))
 
   -- A write begins
 
-  module _ (b : ℕ) (given : List ℕ × ℕ) (new : StoreState) (begun : begun_of kernel.state b ≡ Ok (given, new)) (ticket : TicketValue MemoryLane) (carries : (given.0 ≡ ticket.bytes) × (given.1 ≡ ticket.count))
+  module _ (b : ℕ) (given : List ℕ × ℕ) (new : StoreState) (begun : begun_of kernel.state.store b ≡ Ok (given, new)) (ticket : TicketValue MemoryLane) (carries : (given.0 ≡ ticket.bytes) × (given.1 ≡ ticket.count))
       (ours : (ticket.kernel ≡ kernel.id) × (ticket.block ≡ b)) (home : slice_get kernel.lanes b ≡ Some (Some ticket.lane)) where
     abbrev begun_kernel : KernelValue MemoryLane
-    begun_kernel = record kernel { lanes = slice_set kernel.lanes b None; state = new }
+    begun_kernel = record kernel { lanes = slice_set kernel.lanes b None; state = record kernel.state { store = new } }
 
     abbrev begun_tickets : Tickets
     begun_tickets = slice_set tickets b (Some ticket)
@@ -97,10 +97,10 @@ module _ (kernel : KernelValue MemoryLane) (tickets : Tickets) (is : IsWorld ker
 
     pub begin_world : IsWorld begun_kernel begun_tickets
     begin_world =
-        let flights = flight.flights_begun kernel.state new b given begun in
+        let flights = flight.flights_begun kernel.state.store new b given begun in
         record {
           holds = step_keeps (world_of kernel tickets) (Begin b) (Begun ticket.count) (world_of begun_kernel begun_tickets) tt is.holds begin_step;
-          fit = lane.lanes_begun (λ (l : MemoryLane). l.bytes) kernel.lanes kernel.state new b given begun is.fit;
+          fit = lane.lanes_begun (λ (l : MemoryLane). l.bytes) kernel.lanes kernel.state.store new b given begun is.fit;
           calm = λ c l at. elim (cases_eq c b) [
             | inl same ↦ absurd (none-some l (sym (place_at-same kernel.lanes b None (slice_get_within kernel.lanes b (Some ticket.lane) home)) ∙ (ap (place_at (slice_set kernel.lanes b None)) (sym same) ∙ full_place (slice_set kernel.lanes b None) c l at)))
             | inr other ↦ is.calm c l (full_get kernel.lanes c l (sym (place_at-other kernel.lanes b c None other) ∙ full_place (slice_set kernel.lanes b None) c l at))
@@ -121,9 +121,9 @@ module _ (kernel : KernelValue MemoryLane) (tickets : Tickets) (is : IsWorld ker
 
   -- A block without a ticket
 
-  no_ticket : (b : ℕ) (go : ℕ → Reply × World) → ticket_at tickets b ≡ None → with_ticket (world_of kernel tickets) (begun_count (life_at kernel.state.lives b)) go ≡ (NoTicket, world_of kernel tickets)
+  no_ticket : (b : ℕ) (go : ℕ → Reply × World) → ticket_at tickets b ≡ None → with_ticket (world_of kernel tickets) (begun_count (life_at kernel.state.store.lives b)) go ≡ (NoTicket, world_of kernel tickets)
   no_ticket b go none =
-      let idle = not_flying (life_at kernel.state.lives b) (sym (is.flights b) ∙ ap ticket_flight none) in
+      let idle = not_flying (life_at kernel.state.store.lives b) (sym (is.flights b) ∙ ap ticket_flight none) in
       ap (λ o. with_ticket (world_of kernel tickets) o go) idle
 
   told_no_ticket : (e : Event) → act (world_of kernel tickets) e ≡ (NoTicket, world_of kernel tickets) → AfterCall (world_of kernel tickets) e NoTicket (world_of kernel tickets)
@@ -133,22 +133,22 @@ module _ (kernel : KernelValue MemoryLane) (tickets : Tickets) (is : IsWorld ker
   land_without b none = told_no_ticket (Land b) (no_ticket b (λ k. (Landed, write (world_of kernel tickets) b k true)) none)
 
   pub finish_without : (b : ℕ) → ticket_at tickets b ≡ None → Step (world_of kernel tickets) (Finish b) NoTicket (world_of kernel tickets)
-  finish_without b none = told_no_ticket (Finish b) (no_ticket b (λ k. reply_and_world (λ (done : ℕ × ℕ). Finished done.0 done.1) (world_of kernel tickets) (settled_of kernel.state b (block_of (image_of kernel.lanes tickets) b))) none)
+  finish_without b none = told_no_ticket (Finish b) (no_ticket b (λ k. reply_and_world (λ (done : ℕ × ℕ). Finished done.0 done.1) (world_of kernel tickets) (settled_of kernel.state.store b (block_of (image_of kernel.lanes tickets) b))) none)
 
   -- A block with one
 
   module _ (b : ℕ) (ticket : TicketValue MemoryLane) (has : ticket_at tickets b ≡ Some ticket) where
-    pub flies : IsFlying (life_at kernel.state.lives b) ticket.count ticket.bytes
-    flies = flying (life_at kernel.state.lives b) ticket.count ticket.bytes (sym (is.flights b) ∙ ap ticket_flight has)
+    pub flies : IsFlying (life_at kernel.state.store.lives b) ticket.count ticket.bytes
+    flies = flying (life_at kernel.state.store.lives b) ticket.count ticket.bytes (sym (is.flights b) ∙ ap ticket_flight has)
 
     pub away : slice_get kernel.lanes b ≡ Some None
-    away = away_in_flight (λ (l : MemoryLane). l.bytes) kernel.lanes kernel.state b is.fit (flying_test kernel.state b ticket.count ticket.bytes flies)
+    away = away_in_flight (λ (l : MemoryLane). l.bytes) kernel.lanes kernel.state.store b is.fit (flying_test kernel.state.store b ticket.count ticket.bytes flies)
 
     pub within_tickets : b < length tickets
     within_tickets = let lt = slice_get_within tickets b (Some ticket) (full_get tickets b ticket has) in lt
 
-    held : (go : ℕ → Reply × World) → with_ticket (world_of kernel tickets) (begun_count (life_at kernel.state.lives b)) go ≡ go ticket.count
-    held go = ap (λ o. with_ticket (world_of kernel tickets) o go) (flying_count (life_at kernel.state.lives b) ticket.count ticket.bytes flies)
+    held : (go : ℕ → Reply × World) → with_ticket (world_of kernel tickets) (begun_count (life_at kernel.state.store.lives b)) go ≡ go ticket.count
+    held go = ap (λ o. with_ticket (world_of kernel tickets) o go) (flying_count (life_at kernel.state.store.lives b) ticket.count ticket.bytes flies)
 
     -- The write is carried out
 
@@ -162,7 +162,7 @@ module _ (kernel : KernelValue MemoryLane) (tickets : Tickets) (is : IsWorld ker
       landed_same : world_of kernel landed_tickets ≡ write (world_of kernel tickets) b ticket.count true
       landed_same =
           let image = image_of-landed kernel.lanes tickets b landed_ticket is.count away
-          ∙ ap (slice_set (image_of kernel.lanes tickets) b) (ap (λ (l : MemoryLane). l.bytes) written ∙ sym (flying_bytes (life_at kernel.state.lives b) ticket.count ticket.bytes flies)) in
+          ∙ ap (slice_set (image_of kernel.lanes tickets) b) (ap (λ (l : MemoryLane). l.bytes) written ∙ sym (flying_bytes (life_at kernel.state.store.lives b) ticket.count ticket.bytes flies)) in
           ap (λ image. record (world_of kernel tickets) { image = image }) image
 
       pub land_step : Step (world_of kernel tickets) (Land b) Landed (world_of kernel landed_tickets)
@@ -178,7 +178,7 @@ module _ (kernel : KernelValue MemoryLane) (tickets : Tickets) (is : IsWorld ker
         count = length-set tickets b (Some landed_ticket) ∙ is.count;
         flights = λ c. elim (cases_eq c b) [
           | inl same ↦ ap (λ n. ticket_flight (ticket_at landed_tickets n)) same ∙ (ap ticket_flight (place_at-same tickets b (Some landed_ticket) within_tickets)
-              ∙ (sym (ap ticket_flight has) ∙ (is.flights b ∙ sym (ap (λ n. flight_of (life_at kernel.state.lives n)) same))))
+              ∙ (sym (ap ticket_flight has) ∙ (is.flights b ∙ sym (ap (λ n. flight_of (life_at kernel.state.store.lives n)) same))))
           | inr other ↦ ap ticket_flight (place_at-other tickets b c (Some landed_ticket) other) ∙ is.flights c
         ];
         mine = λ c t at. elim (cases_eq c b) [
@@ -196,9 +196,9 @@ module _ (kernel : KernelValue MemoryLane) (tickets : Tickets) (is : IsWorld ker
     there : block_of (image_of kernel.lanes tickets) b ≡ ticket.lane.bytes
     there = block_of-away kernel.lanes tickets b ticket away has
 
-    module _ (lane' : MemoryLane) (read : lane' ≡ ticket.lane) (done : ℕ × ℕ) (new : StoreState) (settled : settled_of kernel.state b ticket.lane.bytes ≡ Ok (done, new)) where
+    module _ (lane' : MemoryLane) (read : lane' ≡ ticket.lane) (done : ℕ × ℕ) (new : StoreState) (settled : settled_of kernel.state.store b ticket.lane.bytes ≡ Ok (done, new)) where
       abbrev finished_kernel : KernelValue MemoryLane
-      finished_kernel = record kernel { lanes = slice_set kernel.lanes b (Some lane'); state = new }
+      finished_kernel = record kernel { lanes = slice_set kernel.lanes b (Some lane'); state = record kernel.state { store = new } }
 
       abbrev finished_tickets : Tickets
       finished_tickets = slice_set tickets b None
@@ -207,23 +207,23 @@ module _ (kernel : KernelValue MemoryLane) (tickets : Tickets) (is : IsWorld ker
       finished_same = ap (λ image. record (world_of kernel tickets) { image = image; state = new })
           (image_of-finished kernel.lanes tickets b lane' ticket is.count away has (ap (λ (l : MemoryLane). l.bytes) read))
 
-      settled_there : settled_of kernel.state b (block_of (image_of kernel.lanes tickets) b) ≡ Ok (done, new)
-      settled_there = ap (settled_of kernel.state b) there ∙ settled
+      settled_there : settled_of kernel.state.store b (block_of (image_of kernel.lanes tickets) b) ≡ Ok (done, new)
+      settled_there = ap (settled_of kernel.state.store b) there ∙ settled
 
       pub finish_step : Step (world_of kernel tickets) (Finish b) (Finished done.0 done.1) (world_of finished_kernel finished_tickets)
       finish_step =
           let acts : act (world_of kernel tickets) (Finish b) ≡ (Finished done.0 done.1, record (world_of kernel tickets) { state = new }) =
-          held (λ k. reply_and_world (λ (x : ℕ × ℕ). Finished x.0 x.1) (world_of kernel tickets) (settled_of kernel.state b (block_of (image_of kernel.lanes tickets) b)))
+          held (λ k. reply_and_world (λ (x : ℕ × ℕ). Finished x.0 x.1) (world_of kernel tickets) (settled_of kernel.state.store b (block_of (image_of kernel.lanes tickets) b)))
           ∙ ap (reply_and_world (λ (x : ℕ × ℕ). Finished x.0 x.1) (world_of kernel tickets)) settled_there in
           inl (sym (ap (λ (x : Reply × World). x.0) acts), finished_same ∙ sym (ap (λ (x : Reply × World). x.1) acts))
 
       pub finish_world : IsWorld finished_kernel finished_tickets
       finish_world =
-          let flights = flight.flights_settled built_ins kernel.state new b ticket.lane.bytes done is.holds.state settled in
+          let flights = flight.flights_settled (types_in kernel.state) kernel.state.store new b ticket.lane.bytes done is.holds.state settled in
           let same_bytes : lane'.bytes ≡ ticket.lane.bytes = ap (λ (l : MemoryLane). l.bytes) read in
           record {
             holds = step_keeps (world_of kernel tickets) (Finish b) (Finished done.0 done.1) (world_of finished_kernel finished_tickets) tt is.holds finish_step;
-            fit = lane.lanes_settled built_ins (λ (l : MemoryLane). l.bytes) kernel.lanes kernel.state new b lane' done is.holds.state (ap (settled_of kernel.state b) same_bytes ∙ settled) is.fit;
+            fit = lane.lanes_settled (types_in kernel.state) (λ (l : MemoryLane). l.bytes) kernel.lanes kernel.state.store new b lane' done is.holds.state (ap (settled_of kernel.state.store b) same_bytes ∙ settled) is.fit;
             calm = λ c l at. elim (cases_eq c b) [
               | inl same ↦
                   let it : lane' ≡ l = same_Some lane' l (sym (place_at-same kernel.lanes b (Some lane') (slice_get_within kernel.lanes b None away)) ∙ (ap (place_at (slice_set kernel.lanes b (Some lane'))) (sym same) ∙ full_place (slice_set kernel.lanes b (Some lane')) c l at)) in
@@ -242,15 +242,15 @@ module _ (kernel : KernelValue MemoryLane) (tickets : Tickets) (is : IsWorld ker
           }
 
     -- it settles
-    pub settles : (n : ℕ) × (settled_place ticket.lane.bytes (slice_get kernel.state.lives b) ≡ Ok n)
+    pub settles : (n : ℕ) × (settled_place ticket.lane.bytes (slice_get kernel.state.store.lives b) ≡ Ok n)
     settles =
-        let r = settled_well (block_of (image_of kernel.lanes tickets)) kernel.state.lives b ticket.count ticket.bytes flies (λ l s alive durable. is.holds.placed b l s alive durable) (full_get kernel.state.lives b flies.life flies.alive) in
-        (r.0, sym (ap (λ bytes. settled_place bytes (slice_get kernel.state.lives b)) there) ∙ r.1)
+        let r = settled_well (block_of (image_of kernel.lanes tickets)) kernel.state.store.lives b ticket.count ticket.bytes flies (λ l s alive durable. is.holds.placed b l s alive durable) (full_get kernel.state.store.lives b flies.life flies.alive) in
+        (r.0, sym (ap (λ bytes. settled_place bytes (slice_get kernel.state.store.lives b)) there) ∙ r.1)
 
     pub is_ours : is_mine kernel ticket ≡ true
     is_ours =
         let m = is.mine b ticket has in
-        (λ i. eq-eqb ticket.kernel kernel.id m.kernel_is i && is_in_flight kernel.state (m.block_is i)) ∙ flying_test kernel.state b ticket.count ticket.bytes flies
+        (λ i. eq-eqb ticket.kernel kernel.id m.kernel_is i && is_in_flight kernel.state.store (m.block_is i)) ∙ flying_test kernel.state.store b ticket.count ticket.bytes flies
 
     pub block_is : ticket.block ≡ b
     block_is = (is.mine b ticket has).block_is
@@ -259,15 +259,15 @@ module _ (kernel : KernelValue MemoryLane) (tickets : Tickets) (is : IsWorld ker
     calm_read = (is.mine b ticket has).calm.1
 
     -- what the kernel says of the settling, at this block
-    pub settled_at_block : (new : StoreState) (done : ℕ × ℕ) → GivesExactly (settled_of kernel.state ticket.block ticket.lane.bytes) kernel.state new (Ok done) → settled_of kernel.state b ticket.lane.bytes ≡ Ok (done, new)
-    settled_at_block new done h = ap (λ c. settled_of kernel.state c ticket.lane.bytes) (sym block_is) ∙ gives_exactly-ok (settled_of kernel.state ticket.block ticket.lane.bytes) kernel.state new done h
+    pub settled_at_block : (new : StoreState) (done : ℕ × ℕ) → GivesExactly (settled_of kernel.state.store ticket.block ticket.lane.bytes) kernel.state.store new (Ok done) → settled_of kernel.state.store b ticket.lane.bytes ≡ Ok (done, new)
+    settled_at_block new done h = ap (λ c. settled_of kernel.state.store c ticket.lane.bytes) (sym block_is) ∙ gives_exactly-ok (settled_of kernel.state.store ticket.block ticket.lane.bytes) kernel.state.store new done h
 
-    pub never_refused : (new : StoreState) (refusal : Refusal) → GivesExactly (settled_of kernel.state ticket.block ticket.lane.bytes) kernel.state new (Err refusal) → ⊥
+    pub never_refused : (new : StoreState) (refusal : Refusal) → GivesExactly (settled_of kernel.state.store ticket.block ticket.lane.bytes) kernel.state.store new (Err refusal) → ⊥
     never_refused new refusal h =
-        let given : settled_of kernel.state ticket.block ticket.lane.bytes ≡ Ok (settled_after kernel.state b settles.0) =
-        ap (λ c. settled_of kernel.state c ticket.lane.bytes) block_is ∙ ap (result_map (settled_after kernel.state b)) settles.1 in
-        given_never (settled_of kernel.state ticket.block ticket.lane.bytes) (settled_after kernel.state b settles.0) new refusal given h
+        let given : settled_of kernel.state.store ticket.block ticket.lane.bytes ≡ Ok (settled_after kernel.state.store b settles.0) =
+        ap (λ c. settled_of kernel.state.store c ticket.lane.bytes) block_is ∙ ap (result_map (settled_after kernel.state.store b)) settles.1 in
+        given_never (settled_of kernel.state.store ticket.block ticket.lane.bytes) (settled_after kernel.state.store b settles.0) new refusal given h
       where
-        given_never : (r : Result ((ℕ × ℕ) × StoreState) Refusal) (x : (ℕ × ℕ) × StoreState) (new : StoreState) (refusal : Refusal) → r ≡ Ok x → GivesExactly r kernel.state new (Err refusal) → ⊥
+        given_never : (r : Result ((ℕ × ℕ) × StoreState) Refusal) (x : (ℕ × ℕ) × StoreState) (new : StoreState) (refusal : Refusal) → r ≡ Ok x → GivesExactly r kernel.state.store new (Err refusal) → ⊥
         given_never (Ok (answer, after)) x new refusal e h = cc
         given_never (Err first) x new refusal e h = cc

@@ -13,7 +13,7 @@ call_of (MakeRoot block) = model.MakeRoot block
 call_of Floor = model.Floor
 
 abbrev pub event_of : Event → model.Event
-event_of (event.Call fs call) = model.Client fs (call_of call)
+event_of (event.Call fs call) = model.Client fs.number (call_of call)
 event_of (event.Begin block) = model.Begin block
 event_of (event.Land block) = model.Land block
 event_of (event.Finish block) = model.Finish block

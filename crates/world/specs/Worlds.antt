@@ -1,31 +1,34 @@
 -- A world, as its kernel and its tickets make it.
 use Rattle.std.specs.Prelude.{◌≡◌, ℕ, List, length, Option, Some, Bool, false, option_map, slice_get}
-use Rattle.disk.specs.Mem.{MemoryLane}
+use Rattle.disk.specs.Mem.{MemoryLane, HoldsImage}
 use Rattle.xn_model.specs.Lives.{StoreState, life_at}
 use Rattle.xn_model.specs.Lanes.{FitLives}
 use Rattle.xn_model.specs.Flights.{flight_of}
-use Rattle.xn_model.specs.Worlds.{World}
-use Rattle.xn_model.specs.BareDisks.{built_ins}
+use Rattle.xn_model.specs.Worlds.{World, mounted_state}
+use Rattle.xn_model.specs.BareDisks.{bare_disk, bare_lives}
+use Rattle.templates.specs.Tables.{TableValue, no_templates, types_of}
 use Rattle.xn_model.specs.Rules.{Holds}
 use Rattle.xn_kernel.specs.Kernels.{KernelValue, TicketValue}
+use Rattle.world.specs.Images.{joined}
 use Rattle.world.specs.Disks.{image_of, IsCalm, ticket_at}
 
 abbrev pub Tickets : Type 0
 Tickets = List (Option (TicketValue MemoryLane))
 
--- a world without the meaning of its types
+-- a world, with the table of its types in place of their meaning
 pub record WorldValue : Type 0 where
   -- the bytes of each block on the disk
   pub image : List (List ℕ)
+  pub table : TableValue
   pub state : StoreState
   pub down : Bool
 
 abbrev pub value_of : KernelValue MemoryLane → Tickets → WorldValue
-value_of kernel tickets = record { image = image_of kernel.lanes tickets; state = kernel.state; down = false }
+value_of kernel tickets = record { image = image_of kernel.lanes tickets; table = kernel.state.table; state = kernel.state.store; down = false }
 
--- a world with the built-in types, as the model has it
+-- a world as the model has it, with the meaning that its table gives to types
 abbrev pub world_with : WorldValue → World
-world_with value = record { types = built_ins; image = value.image; state = value.state; down = value.down }
+world_with value = record { types = types_of value.table; image = value.image; state = value.state; down = value.down }
 
 abbrev pub world_of : KernelValue MemoryLane → Tickets → World
 world_of kernel tickets = world_with (value_of kernel tickets)
@@ -42,9 +45,15 @@ pub record IsTicketOf (kernel : KernelValue MemoryLane) (b : ℕ) (ticket : Tick
 
 pub record IsWorld (kernel : KernelValue MemoryLane) (tickets : Tickets) : Type 0 where
   pub holds : Holds (world_of kernel tickets)
-  pub fit : FitLives (λ lane. lane.bytes) kernel.lanes kernel.state.lives
+  pub fit : FitLives (λ lane. lane.bytes) kernel.lanes kernel.state.store.lives
   pub calm : (b : ℕ) (lane : MemoryLane) → slice_get kernel.lanes b ≡ Some (Some lane) → IsCalm lane
   -- there is a ticket for each write that is under way, and for no other block
   pub count : length tickets ≡ length kernel.lanes
-  pub flights : (b : ℕ) → ticket_flight (ticket_at tickets b) ≡ flight_of (life_at kernel.state.lives b)
+  pub flights : (b : ℕ) → ticket_flight (ticket_at tickets b) ≡ flight_of (life_at kernel.state.store.lives b)
   pub mine : (b : ℕ) (ticket : TicketValue MemoryLane) → ticket_at tickets b ≡ Some ticket → IsTicketOf kernel b ticket
+
+-- the kernel of a fresh disk of so many blocks: each lane is at home, over its block's bytes
+pub record IsFresh (blocks : ℕ) (kernel : KernelValue MemoryLane) : Type 0 where
+  pub first : kernel.id ≡ 1
+  pub lanes : HoldsImage (joined (bare_disk blocks)) kernel.lanes
+  pub state : kernel.state ≡ record { table = no_templates; store = mounted_state (bare_lives blocks) }

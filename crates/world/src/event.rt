@@ -1,5 +1,7 @@
 // What may happen to a world.
 
+use xn_kernel::Fs;
+
 /// What a client asks of the kernel.
 #[derive(Clone, Copy, Debug, PartialEq, Eq)]
 pub enum Call {
@@ -14,8 +16,8 @@ pub enum Call {
 /// One step of a world. Tickets are named by their block.
 #[derive(Clone, Copy, Debug, PartialEq, Eq)]
 pub enum Event {
-    /// A client's call, for a file system from 0 to 31.
-    Call(u8, Call),
+    /// A client's call, for its file system.
+    Call(Fs, Call),
     /// A write of the block begins.
     Begin(u32),
     /// The begun write of the block is carried out.

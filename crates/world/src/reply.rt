@@ -1,6 +1,6 @@
 // What a world answers.
 
-use xn_state::{EditId, Refusal};
+use xn_kernel::{EditId, Refusal};
 
 /// The answer to an event.
 #[derive(Clone, Copy, Debug, PartialEq, Eq)]

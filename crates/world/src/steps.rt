@@ -9,13 +9,12 @@ use crate::event::Call;
 use crate::reply::Reply;
 use crate::ticket::Held;
 use disk::MemLane;
-use xn_kernel::Kernel;
+use xn_kernel::{Fs, Kernel};
 
 /// A client's call.
-pub fn call(kernel: &mut Kernel<MemLane>, tickets: &Vec<Option<Held>>, fs: u8, call: &Call) -> Reply
-    requires few { fs < 32 }
+pub fn call(kernel: &mut Kernel<MemLane>, tickets: &Vec<Option<Held>>, fs: Fs, call: &Call) -> Reply
     requires world { IsWorld kernel.old tickets.now.items }
-    ensures step { model.Step (world_of kernel.old tickets.now.items) (model.Client fs (call_of call.now)) (reply_of result) (world_of kernel.new tickets.now.items) }
+    ensures step { model.Step (world_of kernel.old tickets.now.items) (model.Client fs.number (call_of call.now)) (reply_of result) (world_of kernel.new tickets.now.items) }
     ensures world { IsWorld kernel.new tickets.now.items }
 {
     match call {

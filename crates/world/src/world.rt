@@ -3,15 +3,16 @@
 ghost use Rattle.std.specs.Prelude.{◌≡◌, ◌*◌, ◌%◌, ◌^◌, ◌<◌, ◌≤◌, All, length, map, replicate, None, IfOk, IfErr};
 ghost use Rattle.xn_model.specs.Images.{block_of, IsSound};
 ghost use Rattle.disk.specs.Mem.{HoldsImage};
-ghost use Rattle.xn_model.specs.BareDisks.{built_ins, bare_world, root_alone};
+ghost use Rattle.xn_model.specs.BareDisks.{bare_world, root_alone};
 ghost use Rattle.xn_model.specs.Lanes.{FitLives};
 ghost use Rattle.xn_model.specs.Worlds as model;
 ghost use Rattle.xn_model.specs.Worlds.{mounted_state};
 ghost use Rattle.xn_model.specs.Rules.{IsConsistent, Holds, Agrees};
+ghost use Rattle.templates.specs.Tables.{TableValue, no_templates, types_of};
 ghost use Rattle.world.specs.Disks.{image_of};
 ghost use Rattle.world.specs.Events.{event_of, reply_of};
 ghost use Rattle.world.specs.Images.{joined};
-ghost use Rattle.world.specs.Worlds.{world_with, IsWorld};
+ghost use Rattle.world.specs.Worlds.{world_with, IsWorld, IsFresh};
 
 use crate::event::Event;
 use crate::format::bare_image;
@@ -21,7 +22,11 @@ use crate::ticket::Held;
 use disk::{BLOCK_LEN, Lanes, MemDisk, MemLane};
 use std::alloc::{AllocError, Global};
 use std::marker::Model;
+use templates::Table;
 use xn_kernel::Kernel;
+
+#[cfg(test)]
+mod tests;
 
 /// A disk in memory, its kernel, and the tickets of the writes that are under way.
 #[derive(Drop)]
@@ -46,13 +51,9 @@ impl World {
     pub fn format(alloc: Global, blocks: u32) -> Result<World, AllocError>
         requires few { 32 ≤ blocks }
         requires many { blocks ≤ 32768 }
-        ensures { IfOk result (λ world. world_with world ≡ bare_world blocks) }
+        ensures { IfOk result (λ world. world_with world ≡ bare_world (types_of no_templates) blocks) }
     {
-        let image = bare_image(alloc, blocks)?;
-        let mut root = [0; BLOCK_LEN];
-        root.copy_from_slice(&image[..BLOCK_LEN]);
-        let lanes = fresh_lanes(alloc, &image)?;
-        let kernel = start(alloc, lanes, &root)?;
+        let kernel = fresh_kernel(alloc, blocks)?;
         let tickets = no_tickets(alloc, blocks)?;
         Ok(World {
             alloc,
@@ -65,10 +66,9 @@ impl World {
     /// root reaches in the image holds a state of its life, from the durable to the begun one, and has
     /// one owner.
     pub fn step(&mut self, event: &Event) -> Reply
-        requires { model.IsEvent (event_of event.now) }
         ensures step { model.Step (world_with self.old) (event_of event.now) (reply_of result) (world_with self.new) }
         ensures rules { Holds (world_with self.new) }
-        ensures agrees { Agrees built_ins (length self.new.state.lives) (block_of self.new.image) self.new.state.lives }
+        ensures agrees { Agrees (types_of self.new.table) (length self.new.state.lives) (block_of self.new.image) self.new.state.lives }
     {
         match event {
             Event::Call(fs, call) => steps::call(&mut self.kernel, &self.tickets, *fs, call),
@@ -82,12 +82,11 @@ impl World {
     /// each block that the root reaches in it holds a state of its life, from the durable to the begun
     /// one, and has one owner. `Err` comes before the first event.
     pub fn run(&mut self, events: &[Event]) -> Result<Vec<Reply>, AllocError>
-        requires { All (λ event. model.IsEvent (event_of event)) events.now }
         ensures run { IfOk result (λ replies. model.Run (world_with self.old) (map event_of events.now) (map reply_of replies.items) (world_with self.new)) }
         ensures kept { IfErr result (λ error. self.new ≡ self.old) }
         ensures rules { Holds (world_with self.new) }
-        ensures agrees { Agrees built_ins (length self.new.state.lives) (block_of self.new.image) self.new.state.lives }
-        ensures sound { IsSound built_ins (length self.new.image) (block_of self.new.image) }
+        ensures agrees { Agrees (types_of self.new.table) (length self.new.state.lives) (block_of self.new.image) self.new.state.lives }
+        ensures sound { IsSound (types_of self.new.table) (length self.new.image) (block_of self.new.image) }
     {
         let mut replies = Vec::with_capacity(self.alloc, events.len())?;
         for at in 0..events.len() {
@@ -140,6 +139,20 @@ fn block_bytes<'a>(
     }
 }
 
+/// The kernel of a fresh disk's first mount, over lanes in memory.
+fn fresh_kernel(alloc: Global, blocks: u32) -> Result<Kernel<MemLane>, AllocError>
+    requires few { 32 ≤ blocks }
+    requires many { blocks ≤ 32768 }
+    ensures { IfOk result (IsFresh blocks) }
+{
+    let image = bare_image(alloc, blocks)?;
+    let mut root = [0; BLOCK_LEN];
+    root.copy_from_slice(&image[..BLOCK_LEN]);
+    let lanes = fresh_lanes(alloc, &image)?;
+    let table = Table::new(alloc)?;
+    start(alloc, lanes, table, &root)
+}
+
 /// Fresh lanes over the bytes of a disk.
 fn fresh_lanes(alloc: Global, image: &[u8]) -> Result<Lanes<MemLane>, AllocError>
     requires whole { length image.now % 512 ≡ 0 }
@@ -157,17 +170,18 @@ fn fresh_lanes(alloc: Global, image: &[u8]) -> Result<Lanes<MemLane>, AllocError
 fn start(
     alloc: Global,
     lanes: Lanes<MemLane>,
+    table: Table,
     root: &[u8; 512],
 ) -> Result<Kernel<MemLane>, AllocError>
-    requires rules { IsConsistent built_ins (mounted_state (root_alone (length lanes) root.now)) }
+    requires rules { IsConsistent (types_of table) (mounted_state (root_alone (length lanes) root.now)) }
     requires fit { FitLives (λ lane. lane.bytes) lanes (root_alone (length lanes) root.now) }
     ensures { IfOk result (λ kernel. kernel ≡ record {
       id = 1;
       lanes = lanes;
-      state = mounted_state (root_alone (length lanes) root.now);
+      state = record { table = table; store = mounted_state (root_alone (length lanes) root.now) };
     }) }
 {
-    match Kernel::start(alloc, lanes, 1, root) {
+    match Kernel::start(alloc, lanes, 1, table, root) {
         Ok(kernel) => Ok(kernel),
         Err(_) => Err(AllocError),
     }

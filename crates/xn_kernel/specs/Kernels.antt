@@ -2,14 +2,14 @@
 use Rattle.std.specs.Prelude.{ℕ, List, Option, Bool, is_some, ◌==◌, ◌&&◌, Result, Ok, Err}
 use Rattle.xn_model.specs.Lives.{StoreState, life_at, alive_and}
 use Rattle.xn_model.specs.Lanes.{FitLives}
-use Rattle.xn_model.specs.BareDisks.{built_ins}
 use Rattle.xn_model.specs.Rules.{IsConsistent}
+use Rattle.xn_state.specs.States.{StateValue, types_in}
 
--- the kernel's own number, the places of its lanes, and what it knows of the blocks
+-- the kernel's own number, the places of its lanes, and what it knows of types and blocks
 pub record KernelValue (L : Type 0) : Type 0 where
   pub id : ℕ
   pub lanes : List (Option L)
-  pub state : StoreState
+  pub state : StateValue
 
 -- a write that was begun: its kernel and block, how many entries it carries, the bytes that it is to write, and the block's lane
 pub record TicketValue (L : Type 0) : Type 0 where
@@ -20,9 +20,9 @@ pub record TicketValue (L : Type 0) : Type 0 where
   pub lane : L
 
 -- what is true of every kernel: the rules of the store, and lanes that fit the lives
-pub record IsKernel {L : Type 0} (bytes_of : L → List ℕ) (lanes : List (Option L)) (state : StoreState) : Type 0 where
-  pub rules : IsConsistent built_ins state
-  pub fit : FitLives bytes_of lanes state.lives
+pub record IsKernel {L : Type 0} (bytes_of : L → List ℕ) (lanes : List (Option L)) (state : StateValue) : Type 0 where
+  pub rules : IsConsistent (types_in state) state.store
+  pub fit : FitLives bytes_of lanes state.store.lives
 
 -- a write of the block is under way
 abbrev pub is_in_flight : StoreState → ℕ → Bool
@@ -30,7 +30,7 @@ is_in_flight state b = alive_and (λ l. is_some l.begun) (life_at state.lives b)
 
 -- the ticket is of this kernel, and its block is in flight there
 abbrev pub is_mine : {L : Type 0} → KernelValue L → TicketValue L → Bool
-is_mine kernel ticket = (ticket.kernel == kernel.id) && is_in_flight kernel.state ticket.block
+is_mine kernel ticket = (ticket.kernel == kernel.id) && is_in_flight kernel.state.store ticket.block
 
 abbrev pub result_map_err : {T E F : Type 0} → (E → F) → Result T E → Result T F
 result_map_err f (Ok x) = Ok x

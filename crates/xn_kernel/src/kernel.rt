@@ -5,16 +5,19 @@ ghost use Rattle.disk.specs.Lanes.{CountsOne};
 ghost use Rattle.xn_model.specs.Results.{Gives, GivesExactly, result_map};
 ghost use Rattle.xn_model.specs.Calls.{init_of, make_root_of, begun_of, settled_of, floor_of};
 ghost use Rattle.xn_model.specs.Worlds.{mounted_state};
-ghost use Rattle.xn_model.specs.BareDisks.{built_ins, root_alone};
+ghost use Rattle.xn_model.specs.BareDisks.{root_alone};
 ghost use Rattle.xn_model.specs.Lanes.{FitLives};
 ghost use Rattle.xn_model.specs.Rules.{IsConsistent};
+ghost use Rattle.templates.specs.Tables.{types_of};
+ghost use Rattle.xn_state.specs.States.{StateValue, types_in};
 ghost use Rattle.xn_kernel.specs.Kernels.{KernelValue, TicketValue, is_in_flight, is_mine, result_map_err};
 
 use crate::ticket::Ticket;
 use disk::{Lane, Lanes};
 use std::alloc::Global;
 use std::marker::Model;
-use xn_state::{EditId, Refusal, State};
+use templates::Table;
+use xn_state::{EditId, Fs, Refusal, State};
 
 /// What a finished write did: how many of its entries are durable, and how many blocks are free.
 #[derive(Clone, Copy, Debug, PartialEq, Eq)]
@@ -32,6 +35,8 @@ pub struct Kernel<L: Lane> {
 }
 
 impl<L: Lane> Model for Kernel<L> {
+    ghost use Rattle.templates.specs.Tables.{types_of};
+    ghost use Rattle.xn_state.specs.States.{StateValue, types_in};
     ghost use Rattle.xn_kernel.specs.Kernels.{KernelValue, IsKernel};
 
     ghost Value = { KernelValue L };
@@ -44,50 +49,50 @@ impl<L: Lane> Model for Kernel<L> {
 impl<L: Lane> Kernel<L> {
     ghost use Rattle.disk.specs.declared.lane.DeviceFault.{DeviceFault};
 
-    /// A kernel over a disk on which block 0, with these bytes, is all that is reached. `Err` gives
-    /// the lanes back and comes only for want of memory.
+    /// A kernel over a disk on which block 0, with these bytes, is all that is reached, with the types
+    /// of a table. `Err` gives the lanes back and comes only for want of memory.
     pub fn start(
         alloc: Global,
         lanes: Lanes<L>,
         id: u64,
+        table: Table,
         root: &[u8; 512],
     ) -> Result<Kernel<L>, Lanes<L>>
-        requires rules { IsConsistent built_ins (mounted_state (root_alone (length lanes) root.now)) }
+        requires rules { IsConsistent (types_of table) (mounted_state (root_alone (length lanes) root.now)) }
         requires fit { FitLives L.bytes_of lanes (root_alone (length lanes) root.now) }
         ensures ok { IfOk result (λ kernel. kernel ≡ record {
           id = id;
           lanes = lanes;
-          state = mounted_state (root_alone (length lanes) root.now);
+          state = record { table = table; store = mounted_state (root_alone (length lanes) root.now) };
         }) }
         ensures err { IfErr result (λ back. back ≡ lanes) }
     {
         let blocks = lanes.blocks() as u32;
-        match State::new(alloc, blocks, root) {
+        match State::new(alloc, table, blocks, root) {
             Ok(state) => Ok(Kernel { id, lanes, state }),
             Err(_) => Err(lanes),
         }
     }
 
     /// Starts a life with these bytes on the lowest free block.
-    pub fn init(&mut self, fs: u8, ty: u32, bytes: &[u8; 512]) -> Result<(u32, EditId), Refusal>
-        ensures state { Gives (init_of built_ins self.old.state fs ty bytes.now) self.old.state self.new.state result }
-        ensures rest { self.new ≡ record self.old { state = self.new.state } }
+    pub fn init(&mut self, fs: Fs, ty: u32, bytes: &[u8; 512]) -> Result<(u32, EditId), Refusal>
+        ensures state { Gives (init_of (types_in self.old.state) self.old.state.store fs.number ty bytes.now) self.old.state.store self.new.state.store result }
+        ensures rest { self.new ≡ record self.old { state = record self.old.state { store = self.new.state.store } } }
     {
         self.state.init(fs, ty, bytes)
     }
 
     /// Sets the file system's root slot, in block 0, to a fresh block.
-    pub fn make_root(&mut self, fs: u8, block: u32) -> Result<EditId, Refusal>
-        requires { fs < 32 }
-        ensures state { Gives (make_root_of self.old.state fs block) self.old.state self.new.state result }
-        ensures rest { self.new ≡ record self.old { state = self.new.state } }
+    pub fn make_root(&mut self, fs: Fs, block: u32) -> Result<EditId, Refusal>
+        ensures state { Gives (make_root_of self.old.state.store fs.number block) self.old.state.store self.new.state.store result }
+        ensures rest { self.new ≡ record self.old { state = record self.old.state { store = self.new.state.store } } }
     {
         self.state.make_root(fs, block)
     }
 
     /// The least pending entry of a file system, or the next number to be given.
-    pub fn floor(&self, fs: u8) -> u64
-        ensures { result ≡ floor_of self.now.state fs }
+    pub fn floor(&self, fs: Fs) -> u64
+        ensures { result ≡ floor_of self.now.state.store fs.number }
     {
         self.state.floor(fs)
     }
@@ -106,11 +111,11 @@ impl<L: Lane> Kernel<L> {
 
     /// Begins a write of a block: the ticket has its lane, and the bytes that its safe entries leave.
     pub fn begin(&mut self, block: u32) -> Result<Ticket<L>, Refusal>
-        ensures state { GivesExactly (begun_of self.old.state block) self.old.state self.new.state
+        ensures state { GivesExactly (begun_of self.old.state.store block) self.old.state.store self.new.state.store
             (result_map (λ ticket. (ticket.bytes, ticket.count)) result) }
         ensures ticket { IfOk result (λ ticket. (ticket.kernel ≡ self.old.id) × (ticket.block ≡ block)
             × (slice_get self.old.lanes block ≡ Some (Some ticket.lane))) }
-        ensures lanes { OnOk result (self.new ≡ record self.old { lanes = slice_set self.old.lanes block None; state = self.new.state }) }
+        ensures lanes { OnOk result (self.new ≡ record self.old { lanes = slice_set self.old.lanes block None; state = record self.old.state { store = self.new.state.store } }) }
         ensures err { OnErr result (self.new ≡ self.old) }
     {
         let (bytes, count) = self.state.begun(block)?;
@@ -134,13 +139,13 @@ impl<L: Lane> Kernel<L> {
     pub fn finish(&mut self, mut ticket: Ticket<L>) -> Result<Landed, (Ticket<L>, Refusal)>
         ensures foreign { is_mine self.old ticket ≡ false → IsErrAnd result (λ back. (back.0 ≡ ticket) × (back.1 ≡ Refusal.NotMine)) }
         ensures mine { IsTrue (is_mine self.old ticket) →
-            GivesExactly (settled_of self.old.state ticket.block (L.bytes_of ticket.lane)) self.old.state self.new.state
+            GivesExactly (settled_of self.old.state.store ticket.block (L.bytes_of ticket.lane)) self.old.state.store self.new.state.store
             (result_map (λ landed. (landed.durable, landed.freed)) (result_map_err (λ back. back.1) result))
             ⊎ IsErrAnd result (λ back. (back.1 ≡ Refusal.Device) × CountsOne (L.faults_of ticket.lane) (L.faults_of back.0.lane)) }
 
         // The lane comes back with its bytes.
         ensures given { OnOk result ((lane : L) × (L.bytes_of lane ≡ L.bytes_of ticket.lane) × (L.faults_of lane ≡ L.faults_of ticket.lane)
-            × L.read_gives ticket.lane (Ok tt) lane × (self.new ≡ record self.old { lanes = slice_set self.old.lanes ticket.block (Some lane); state = self.new.state })) }
+            × L.read_gives ticket.lane (Ok tt) lane × (self.new ≡ record self.old { lanes = slice_set self.old.lanes ticket.block (Some lane); state = record self.old.state { store = self.new.state.store } })) }
 
         // A refusal changes nothing but what the lane keeps beside its bytes.
         ensures err { OnErr result (self.new ≡ self.old) }

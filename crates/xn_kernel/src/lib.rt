@@ -6,3 +6,4 @@ mod ticket;
 
 pub use kernel::{Kernel, Landed};
 pub use ticket::Ticket;
+pub use xn_state::{EditId, Fs, Refusal};

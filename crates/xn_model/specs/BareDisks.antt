@@ -40,9 +40,9 @@ root_alone count bytes = Some (root_life bytes) ∷ replicate (count - 1) None
 abbrev pub bare_lives : ℕ → Lives
 bare_lives count = root_alone count (bare_root count)
 
--- such a disk, mounted
-abbrev pub bare_world : ℕ → World
-bare_world count = record { types = built_ins; image = bare_disk count; state = mounted_state (bare_lives count); down = false }
+-- such a disk, mounted under types
+abbrev pub bare_world : Types → ℕ → World
+bare_world T count = record { types = T; image = bare_disk count; state = mounted_state (bare_lives count); down = false }
 
 abbrev pub mounted_disk : Types → List (List ℕ) → World
 mounted_disk T image = record { types = T; image = image; state = mounted_state (recovered T image); down = false }

@@ -204,9 +204,9 @@ pub fn acts_run()
 /// A disk as formatting leaves it is sound, its first mount finds block 0 alone, and begins with the
 /// rules.
 pub fn bare_holds()
-    ensures sound { (count : ℕ) → IsDiskSize count → IsSound built_ins count (block_of (bare_disk count)) }
-    ensures recovered { (count : ℕ) → IsDiskSize count → IsRecovered built_ins (bare_disk count) (bare_lives count) }
-    ensures holds { (count : ℕ) → IsDiskSize count → Holds (bare_world count) }
+    ensures sound { (types : Types) → HasBuiltIns types → (count : ℕ) → IsDiskSize count → IsSound types count (block_of (bare_disk count)) }
+    ensures recovered { (types : Types) → HasBuiltIns types → (count : ℕ) → IsDiskSize count → IsRecovered types (bare_disk count) (bare_lives count) }
+    ensures holds { (types : Types) → HasBuiltIns types → (count : ℕ) → IsDiskSize count → Holds (bare_world types count) }
 {}
 
 /// Rows of commands on a disk with the built-in types, with their replies.

@@ -7,7 +7,7 @@ use Rattle.xn_model.specs.Root.{with_slot}
 use Rattle.xn_model.specs.Lives.{StoreState, BlockState, Life, Lives, life_at, lowest_free, begun_at, settled_at, drops_of}
 use Rattle.xn_model.specs.Results.{unless, result_map, result_and_then}
 use Rattle.xn_model.specs.Calls.{init_at, init_refusal, new_life, own_life, root_now, root_state, accepts, make_root_of, make_root_at, make_root_refusal, begun_place, settled_place, settled_after, settled_with, first_pending}
-use Rattle.xn_model.specs.BareDisks.{built_ins}
+use Rattle.xn_model.specs.Types.{Types}
 use Rattle.xn_model.specs.Rules.{IsConsistent}
 use Rattle.xn_model.proofs.Tests.{same_ok, never_ok}
 use Rattle.xn_model.proofs.Init.{init_keeps}
@@ -20,27 +20,27 @@ use Rattle.xn_state.specs.Plans.{make_root_plan, make_root_plan_at, root_entry, 
 abbrev pub state_of : Lives → ℕ → StoreState
 state_of lives next = record { lives = lives; next = next }
 
-pub started_consistent : (lives : Lives) (next fs ty : ℕ) (bytes : List ℕ) (block : ℕ) (life : Life) → IsConsistent built_ins (state_of lives next) →
-    init_refusal built_ins (state_of lives next) fs ty bytes ≡ None → lowest_free lives ≡ Some block → life ≡ new_life next fs ty bytes →
-    IsConsistent built_ins (state_of (slice_set lives block (Some life)) (next + 1))
-started_consistent lives next fs ty bytes block life h allowed free started =
+pub started_consistent : (T : Types) (lives : Lives) (next fs ty : ℕ) (bytes : List ℕ) (block : ℕ) (life : Life) → IsConsistent T (state_of lives next) →
+    init_refusal T (state_of lives next) fs ty bytes ≡ None → lowest_free lives ≡ Some block → life ≡ new_life next fs ty bytes →
+    IsConsistent T (state_of (slice_set lives block (Some life)) (next + 1))
+started_consistent T lives next fs ty bytes block life h allowed free started =
     let after = state_of (slice_set lives block (Some (new_life next fs ty bytes))) (next + 1) in
     let state = state_of lives next in
     let given = ap (λ r. unless r (init_at state fs ty bytes (lowest_free lives))) allowed ∙ ap (init_at state fs ty bytes) free in
-    subst (λ l. IsConsistent built_ins (state_of (slice_set lives block (Some l)) (next + 1))) (sym started) (init_keeps built_ins state h fs ty bytes (block, next) after given).consistent
+    subst (λ l. IsConsistent T (state_of (slice_set lives block (Some l)) (next + 1))) (sym started) (init_keeps T state h fs ty bytes (block, next) after given).consistent
 
-pub begun_consistent : (lives : Lives) (next b : ℕ) (given : List ℕ × ℕ) → IsConsistent built_ins (state_of lives next) → begun_place lives (slice_get lives b) ≡ Ok given →
-    IsConsistent built_ins (state_of (begun_at lives b given.1) next)
-begun_consistent lives next b given h e =
+pub begun_consistent : (T : Types) (lives : Lives) (next b : ℕ) (given : List ℕ × ℕ) → IsConsistent T (state_of lives next) → begun_place lives (slice_get lives b) ≡ Ok given →
+    IsConsistent T (state_of (begun_at lives b given.1) next)
+begun_consistent T lives next b given h e =
     let whole = ap (result_map (λ (x : List ℕ × ℕ). (x, state_of (begun_at lives b x.1) next))) e in
-    (begun_keeps built_ins (state_of lives next) h b given (state_of (begun_at lives b given.1) next) whole).consistent
+    (begun_keeps T (state_of lives next) h b given (state_of (begun_at lives b given.1) next) whole).consistent
 
-pub settled_consistent : (lives : Lives) (next b k : ℕ) (bytes : List ℕ) → IsConsistent built_ins (state_of lives next) → settled_place bytes (slice_get lives b) ≡ Ok k →
-    drops_of (first_pending k (life_at lives b)) ≡ [] → IsConsistent built_ins (state_of (settled_at lives b k) next)
-settled_consistent lives next b k bytes h e none =
+pub settled_consistent : (T : Types) (lives : Lives) (next b k : ℕ) (bytes : List ℕ) → IsConsistent T (state_of lives next) → settled_place bytes (slice_get lives b) ≡ Ok k →
+    drops_of (first_pending k (life_at lives b)) ≡ [] → IsConsistent T (state_of (settled_at lives b k) next)
+settled_consistent T lives next b k bytes h e none =
     let state = state_of lives next in
     let whole = ap (result_map (settled_after state b)) e ∙ ap (λ drops. Ok (settled_with state b drops k)) none in
-    (settled_keeps built_ins state h b bytes (k, 0) (state_of (settled_at lives b k) next) whole).0
+    (settled_keeps T state h b bytes (k, 0) (state_of (settled_at lives b k) next) whole).0
 
 -- make_root, from its plan
 
@@ -71,13 +71,13 @@ refused (Err refusal) state fs b e h = cc
 pub root_refused : (state : StoreState) (fs b : ℕ) (e : Refusal) → make_root_plan state fs b ≡ Err e → make_root_of state fs b ≡ Err e
 root_refused state fs b e h = refused (own_life state fs b) state fs b e h
 
-pub rooted_consistent : (lives : Lives) (next fs b : ℕ) (plan : List ℕ × ℕ) (entry : BlockState) → IsConsistent built_ins (state_of lives next) → fs < 32 →
-    make_root_plan (state_of lives next) fs b ≡ Ok plan → entry ≡ root_entry next fs b plan.0 plan.1 → IsConsistent built_ins (state_of (rooted lives b entry) (next + 1))
-rooted_consistent lives next fs b plan entry h few e made =
+pub rooted_consistent : (T : Types) (lives : Lives) (next fs b : ℕ) (plan : List ℕ × ℕ) (entry : BlockState) → IsConsistent T (state_of lives next) → fs < 32 →
+    make_root_plan (state_of lives next) fs b ≡ Ok plan → entry ≡ root_entry next fs b plan.0 plan.1 → IsConsistent T (state_of (rooted lives b entry) (next + 1))
+rooted_consistent T lives next fs b plan entry h few e made =
     let state = state_of lives next in
     let whole = planned (own_life state fs b) state fs b plan e in
-    subst (λ s. IsConsistent built_ins (state_of (rooted lives b s) (next + 1))) (sym made)
-    (make_root_keeps built_ins state h fs few b next (accepts state 0 (root_entry next fs b plan.0 plan.1)).1 whole).consistent
+    subst (λ s. IsConsistent T (state_of (rooted lives b s) (next + 1))) (sym made)
+    (make_root_keeps T state h fs few b next (accepts state 0 (root_entry next fs b plan.0 plan.1)).1 whole).consistent
 
 -- a vector whose slice was lent and came back
 pub lent_back : {A : Type 0} (len : ℕ) (old new : List A) → len ≡ length old → length new ≡ length old → take len (new ++ drop (length new) old) ≡ new

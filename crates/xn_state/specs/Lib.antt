@@ -1,3 +1,3 @@
 pub mod Kept
 pub mod Plans
-pub mod Catalogue
+pub mod States

@@ -2,6 +2,7 @@
 
 ghost use Rattle.std.specs.Prelude.{◌≡◌, [], Some, None, Option};
 
+use crate::fs::Fs;
 use std::marker::Model;
 
 /// One accepted edit of a block: the whole bytes that it leaves, with its number and its claims.
@@ -10,7 +11,7 @@ pub struct Entry {
     number: u64,
     bytes: [u8; 512],
     adds: Vec<(u32, u32)>,
-    fs: u8,
+    fs: Fs,
 }
 
 impl Model for Entry {
@@ -25,20 +26,20 @@ impl Model for Entry {
       adds = a.adds.items;
       drops = [];
       after = None;
-      fs = Some a.fs;
+      fs = Some a.fs.number;
     } };
 }
 
 impl Entry {
     /// An entry that counts for a file system and attaches these blocks, each with its type.
-    pub fn new(number: u64, bytes: [u8; 512], adds: Vec<(u32, u32)>, fs: u8) -> Entry
+    pub fn new(number: u64, bytes: [u8; 512], adds: Vec<(u32, u32)>, fs: Fs) -> Entry
         ensures { result ≡ record {
           bytes = bytes;
           entry = number;
           adds = adds.items;
           drops = [];
           after = None;
-          fs = Some fs;
+          fs = Some fs.number;
         } }
     {
         Entry {
@@ -69,8 +70,8 @@ impl Entry {
     }
 
     /// The file system for which it counts.
-    pub fn fs(&self) -> u8
-        ensures { self.now.fs ≡ Some result }
+    pub fn fs(&self) -> Fs
+        ensures { self.now.fs ≡ Some result.number }
     {
         self.fs
     }

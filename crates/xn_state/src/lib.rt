@@ -1,14 +1,18 @@
 // The state of a store without its disk: what each block has been since it was last free.
 #![tactic(auto)]
 
-mod catalogue;
 mod edit_id;
 mod entry;
+mod fs;
 mod life;
 mod lives;
+mod places;
 mod root;
 mod state;
+#[cfg(test)]
+mod tests;
 
 pub use edit_id::EditId;
+pub use fs::Fs;
 pub use state::State;
 pub use xn_model::{Refusal, Status};

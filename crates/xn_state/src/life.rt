@@ -7,6 +7,7 @@ ghost use Rattle.xn_model.specs.BareDisks.{root_life};
 ghost use Rattle.xn_state.specs.Kept.{IsPlain};
 
 use crate::entry::Entry;
+use crate::fs::Fs;
 use std::alloc::{AllocError, Global};
 use std::marker::Model;
 use xn_model::{Refusal, Status};
@@ -14,7 +15,7 @@ use xn_model::{Refusal, Status};
 /// What a block in use holds: its state on the disk, if it is known, and the pending states after it.
 #[derive(Drop)]
 pub struct Life {
-    fs: Option<u8>,
+    fs: Option<Fs>,
     ty: u32,
     status: Status,
     durable: Option<[u8; 512]>,
@@ -30,7 +31,7 @@ impl Model for Life {
     ghost Value = { LifeValue };
 
     ghost view = { λ a. record {
-      fs = a.fs;
+      fs = option_map (λ f. f.number) a.fs;
       ty = a.ty;
       status = a.status;
       durable = option_map on_disk a.durable;
@@ -46,11 +47,11 @@ impl Life {
     pub fn start(
         alloc: Global,
         number: u64,
-        fs: u8,
+        fs: Fs,
         ty: u32,
         bytes: &[u8; 512],
     ) -> Result<Life, AllocError>
-        ensures { IfOk result (λ life. life ≡ new_life number fs ty bytes.now) }
+        ensures { IfOk result (λ life. life ≡ new_life number fs.number ty bytes.now) }
     {
         let mut pending = Vec::with_capacity(alloc, 1)?;
         pending.push_reserved(Entry::new(number, *bytes, Vec::new(alloc), fs));
@@ -79,11 +80,11 @@ impl Life {
     }
 
     /// Whether the block belongs to a file system.
-    pub fn is_for(&self, fs: u8) -> bool
-        ensures { result ≡ is_for fs self.now.fs }
+    pub fn is_for(&self, fs: Fs) -> bool
+        ensures { result ≡ is_for fs.number self.now.fs }
     {
         match self.fs {
-            Some(owner) => owner == fs,
+            Some(owner) => owner.number() == fs.number(),
             None => false,
         }
     }
@@ -228,21 +229,13 @@ impl Life {
         self.begun = None;
     }
 
-    /// How many of its pending entries count for a file system.
-    pub fn pending_for(&self, fs: u8) -> u32
-        ensures pending { result ≡ pending_in fs (Some self.now) }
-        ensures few { result ≤ 64 }
-    {
-        self.pending.iter().filter(|entry| entry.fs() == fs).count() as u32
-    }
-
     /// The least of a number and the pending entries that count for a file system.
-    pub fn least_for(&self, fs: u8, most: u64) -> u64
-        ensures { result ≡ least_to most (entries_at fs (Some self.now)) }
+    pub fn least_for(&self, fs: Fs, most: u64) -> u64
+        ensures { result ≡ least_to most (entries_at fs.number (Some self.now)) }
     {
         let mut least = most;
         for entry in &self.pending {
-            if entry.fs() == fs {
+            if entry.fs().number() == fs.number() {
                 least = least.min(entry.number());
             }
         }

@@ -1,214 +1,180 @@
-// The lives of all blocks, by block number.
+// The lives of all blocks, with what is counted of them.
 
-ghost use Rattle.std.specs.Prelude.{◌≡◌, ℕ, ◌+◌, ◌*◌, ◌<◌, ◌≤◌, [], length, Option, Some, None, IfOk, IfSome, OnOk, OnErr, IsTrue, All, slice_get, is_some, is_none, position, sum_by};
-ghost use Rattle.std.specs.List.{list_all};
+ghost use Rattle.std.specs.Prelude.{◌≡◌, ℕ, List, ◌+◌, ◌<◌, ◌≤◌, [], ◌∷◌, length, replicate, Option, Some, None, IfOk, IsTrue, OnOk, OnErr, is_some, slice_get, slice_index, slice_set, count_by, sum_by, is_none, position};
 ghost use Rattle.std.specs.Option.{option_copied};
 ghost use Rattle.xn_model.specs.Results.{Lends};
-ghost use Rattle.xn_model.specs.Lives.{life_at, change_at, with_state, with_status, settled_at, begun_at, has_durable, safe_count, lowest_free, least_to, entries_of, drops_of};
-ghost use Rattle.xn_model.specs.Calls.{pending_in, own_place, begun_place, settled_place, first_pending, life_pending};
+ghost use Rattle.xn_model.specs.Lives.{life_at, is_for, begun_at, settled_at, lowest_free, least_to, entries_of, drops_of};
+ghost use Rattle.xn_model.specs.Calls.{pending_in, own_place, begun_place, settled_place, first_pending, life_pending, new_life};
+ghost use Rattle.xn_model.specs.BareDisks.{root_life, root_alone};
 ghost use Rattle.xn_state.specs.Kept.{IsPlain};
 ghost use Rattle.xn_state.specs.Plans.{rooted};
 
 use crate::entry::Entry;
+use crate::fs::Fs;
 use crate::life::Life;
-use std::alloc::AllocError;
-use xn_model::{Refusal, Status};
+use crate::places;
+use std::alloc::{AllocError, Global};
+use std::marker::Model;
+use xn_model::Refusal;
 
-/// The life of a block, unless it is free or past the end.
-pub fn life_at(lives: &[Option<Life>], block: usize) -> Option<&Life>
-    ensures { option_copied result ≡ life_at lives.now block }
-{
-    match lives.get(block) {
-        Some(Some(life)) => Some(life),
-        Some(None) => None,
-        None => None,
-    }
+/// The lives of all blocks, by block number. How many pending entries count for a file system, and where
+/// the search for a free block starts, is kept beside them, so that no call walks all lives for it.
+#[derive(Drop)]
+pub struct Lives {
+    places: Vec<Option<Life>>,
+    pending: [u32; 32],
+    // Each block below this one is in use.
+    used: usize,
 }
 
-/// The life of a block that a file system may use: refused are a block past the end, a free or
-/// dropped one, and one of another file system or of nobody.
-pub fn own_life(lives: &[Option<Life>], fs: u8, block: u32) -> Result<&Life, Refusal>
-    ensures { Lends (own_place fs (slice_get lives.now block)) result }
-{
-    match lives.get(block as usize) {
-        None => Err(Refusal::NoSuchBlock),
-        Some(None) => Err(Refusal::NotInUse),
-        Some(Some(life)) => {
-            if life.is_dropped() {
-                Err(Refusal::NotInUse)
-            } else if !life.is_for(fs) {
-                Err(Refusal::NotYours)
-            } else {
-                Ok(life)
-            }
+impl Model for Lives {
+    ghost use Rattle.std.specs.Prelude.{List, Option};
+    ghost use Rattle.xn_model.specs.Lives.{Life as LifeValue};
+    ghost use Rattle.xn_state.specs.Kept.{IsCounted};
+
+    ghost Value = { List (Option LifeValue) };
+
+    ghost view = { λ a. a.places.items };
+
+    ghost invariant = { λ a. IsCounted a.places.items a.pending a.used };
+}
+
+impl Lives {
+    /// The lives of a disk of so many blocks of which block 0, with these bytes, is alone in use.
+    pub fn root_alone(alloc: Global, blocks: u32, root: &[u8; 512]) -> Result<Lives, AllocError>
+        requires { 1 ≤ blocks }
+        ensures { IfOk result (λ lives. lives ≡ root_alone blocks root.now) }
+    {
+        let places = root_alone(alloc, blocks, root)?;
+        Ok(Lives {
+            places,
+            pending: [0; 32],
+            used: 1,
+        })
+    }
+
+    /// The life of a block, unless it is free or past the end.
+    pub fn life(&self, block: usize) -> Option<&Life>
+        ensures { option_copied result ≡ life_at self.now block }
+    {
+        places::life_at(&self.places, block)
+    }
+
+    /// The life of a block that a file system may use: refused are a block past the end, a free or
+    /// dropped one, and one of another file system or of nobody.
+    pub fn own_life(&self, fs: Fs, block: u32) -> Result<&Life, Refusal>
+        ensures { Lends (own_place fs.number (slice_get self.now block)) result }
+    {
+        places::own_life(&self.places, fs, block)
+    }
+
+    /// How many pending entries count for a file system.
+    pub fn pending_for(&self, fs: Fs) -> u32
+        ensures { result ≡ sum_by (pending_in fs.number) self.now }
+    {
+        self.pending[fs.index()]
+    }
+
+    /// The least of a number and the pending entries that count for a file system.
+    pub fn least_for(&self, fs: Fs, most: u64) -> u64
+        ensures { result ≡ least_to most (entries_of fs.number self.now) }
+    {
+        places::least_for(&self.places, fs, most)
+    }
+
+    /// The least free block.
+    pub fn lowest_free(&self) -> Option<usize>
+        ensures { result ≡ lowest_free self.now }
+    {
+        places::free_from(&self.places, self.used)
+    }
+
+    /// The bytes that a write of a block is to carry, and how many entries are in them.
+    pub fn begun(&self, block: u32) -> Result<([u8; 512], u32), Refusal>
+        ensures plan { result ≡ begun_place self.now (slice_get self.now block) }
+        ensures within { IfOk result (λ plan. (1 ≤ plan.1) × (plan.1 ≤ life_pending (life_at self.now block)) × (block < length self.now)) }
+    {
+        places::begun_place(&self.places, block)
+    }
+
+    /// How many entries the bytes that are read back make durable.
+    pub fn settled(&self, block: u32, bytes: &[u8; 512]) -> Result<u32, Refusal>
+        ensures count { result ≡ settled_place bytes.now (slice_get self.now block) }
+        ensures within { IfOk result (λ count. (count ≤ life_pending (life_at self.now block)) × (block < length self.now)) }
+        ensures plain { IfOk result (λ count. drops_of (first_pending count (life_at self.now block)) ≡ []) }
+    {
+        places::settled_place(&self.places, block, bytes)
+    }
+
+    /// Puts a life that has just started on the least free block.
+    pub fn start(&mut self, block: usize, fs: Fs, life: Life)
+        requires free { lowest_free self.old ≡ Some block }
+        requires room { sum_by (pending_in fs.number) self.old < 4096 }
+        requires first { (number ty : ℕ) × (bytes : List ℕ) × (life ≡ new_life number fs.number ty bytes) }
+        ensures { self.new ≡ slice_set self.old block (Some life) }
+    {
+        self.places[block] = Some(life);
+        self.pending[fs.index()] += 1;
+        self.used = block + 1;
+    }
+
+    /// Makes one more edit of block 0, which names this block: block 0 owns it from now on.
+    pub fn attach_root(&mut self, block: u32, entry: Entry) -> Result<(), AllocError>
+        requires alive { IsTrue (is_some (life_at self.old 0)) }
+        requires room { life_pending (life_at self.old 0) < 64 }
+        requires few { (fs : ℕ) → entry.fs ≡ Some fs → sum_by (pending_in fs) self.old < 4096 }
+        requires plain { IsPlain entry }
+        ensures ok { OnOk result (self.new ≡ rooted self.old block entry) }
+        ensures err { OnErr result (self.new ≡ self.old) }
+    {
+        let fs = entry.fs();
+        places::attach_root(&mut self.places, block, entry)?;
+        self.pending[fs.index()] += 1;
+        Ok(())
+    }
+
+    /// Begins a write of a block that carries its first entries.
+    pub fn begin(&mut self, block: u32, count: u32)
+        requires in_range { block < length self.old }
+        requires some { 1 ≤ count }
+        requires within { count ≤ life_pending (life_at self.old block) }
+        ensures { self.new ≡ begun_at self.old block count }
+    {
+        places::begin_at(&mut self.places, block, count);
+    }
+
+    /// Ends a write of a block that made its first entries durable.
+    pub fn settle(&mut self, block: u32, count: u32)
+        requires in_range { block < length self.old }
+        requires within { count ≤ life_pending (life_at self.old block) }
+        ensures { self.new ≡ settled_at self.old block count }
+    {
+        if let Some(life) = &self.places[block as usize] {
+            discount(&mut self.pending, &life.pending()[..count as usize]);
         }
+        places::settle_at(&mut self.places, block, count);
     }
 }
 
-/// How many pending entries count for a file system.
-pub fn pending_for(lives: &[Option<Life>], fs: u8) -> u32
-    requires { length lives.now ≤ 32768 }
-    ensures { result ≡ sum_by (pending_in fs) lives.now }
+/// Takes entries that are pending no longer out of the counts.
+fn discount(pending: &mut [u32; 32], entries: &[Entry])
+    requires { (fs : ℕ) → fs < 32 → count_by (λ s. is_for fs s.fs) entries.now ≤ slice_index pending.old fs }
+    ensures { (fs : ℕ) → fs < 32 → slice_index pending.new fs + count_by (λ s. is_for fs s.fs) entries.now ≡ slice_index pending.old fs }
 {
-    let mut pending = 0;
-    for place in lives {
-        if let Some(life) = place {
-            pending += life.pending_for(fs);
-        }
-    }
-    pending
-}
-
-/// The least of a number and the pending entries that count for a file system.
-pub fn least_for(lives: &[Option<Life>], fs: u8, most: u64) -> u64
-    ensures { result ≡ least_to most (entries_of fs lives.now) }
-{
-    let mut least = most;
-    for place in lives {
-        if let Some(life) = place {
-            least = life.least_for(fs, least);
-        }
-    }
-    least
-}
-
-/// The least free block.
-pub fn lowest_free(lives: &[Option<Life>]) -> Option<usize>
-    ensures { result ≡ lowest_free lives.now }
-{
-    lives.iter().position(|place| place.is_none())
-}
-
-/// Whether some state of a block is known to be on the disk.
-fn has_durable(lives: &[Option<Life>], block: u32) -> bool
-    ensures { result ≡ has_durable lives.now block }
-{
-    match lives.get(block as usize) {
-        Some(Some(life)) => life.is_durable(),
-        Some(None) => false,
-        None => false,
+    for entry in entries {
+        pending[entry.fs().index()] -= 1;
     }
 }
 
-/// Whether each block that an entry attaches has a state on the disk, as soft updates asks before
-/// the entry may be written: never point to a structure before it has been initialised.
-fn is_safe(lives: &[Option<Life>], entry: &Entry) -> bool
-    ensures { result ≡ list_all (λ p. has_durable lives.now p.0) entry.now.adds }
+/// The places of a disk of so many blocks of which block 0 is alone in use.
+fn root_alone(alloc: Global, blocks: u32, root: &[u8; 512]) -> Result<Vec<Option<Life>>, AllocError>
+    requires { 1 ≤ blocks }
+    ensures { IfOk result (λ places. places.items ≡ root_alone blocks root.now) }
 {
-    entry.adds().iter().all(|add| has_durable(lives, add.0))
-}
-
-/// How many pending entries of a block, from the first on, are safe.
-fn safe_count(lives: &[Option<Life>], life: &Life) -> u32
-    ensures count { result ≡ safe_count lives.now [] life.now.pending }
-    ensures within { result ≤ length life.now.pending }
-{
-    let pending = life.pending();
-    for (count, entry) in pending.iter().enumerate() {
-        if !is_safe(lives, entry) {
-            return count as u32;
-        }
+    let mut places = Vec::with_capacity(alloc, blocks as usize)?;
+    places.push_reserved(Some(Life::root(alloc, root)));
+    for _block in 1..blocks {
+        places.push_reserved(None);
     }
-    pending.len() as u32
-}
-
-/// The bytes that a write of a block in use is to carry, and how many entries are in them.
-fn begun_life(lives: &[Option<Life>], life: &Life) -> Result<([u8; 512], u32), Refusal>
-    ensures plan { result ≡ begun_place lives.now (Some (Some life.now)) }
-    ensures within { IfOk result (λ plan. (1 ≤ plan.1) × (plan.1 ≤ length life.now.pending)) }
-{
-    if life.is_in_flight() {
-        return Err(Refusal::InFlight);
-    }
-    let count = safe_count(lives, life);
-    if count == 0 {
-        return Err(Refusal::NothingSafe);
-    }
-    Ok((*life.bytes_at(count), count))
-}
-
-/// The bytes that a write of a block is to carry, and how many entries are in them.
-pub fn begun_place(lives: &[Option<Life>], block: u32) -> Result<([u8; 512], u32), Refusal>
-    ensures plan { result ≡ begun_place lives.now (slice_get lives.now block) }
-    ensures within { IfOk result (λ plan. (1 ≤ plan.1) × (plan.1 ≤ life_pending (life_at lives.now block)) × (block < length lives.now)) }
-{
-    match lives.get(block as usize) {
-        None => Err(Refusal::NoSuchBlock),
-        Some(None) => Err(Refusal::NotInUse),
-        Some(Some(life)) => begun_life(lives, life),
-    }
-}
-
-/// How many entries the bytes that are read back make durable.
-pub fn settled_place(lives: &[Option<Life>], block: u32, bytes: &[u8; 512]) -> Result<u32, Refusal>
-    ensures count { result ≡ settled_place bytes.now (slice_get lives.now block) }
-    ensures within { IfOk result (λ count. (count ≤ life_pending (life_at lives.now block)) × (block < length lives.now)) }
-    ensures plain { IfOk result (λ count. drops_of (first_pending count (life_at lives.now block)) ≡ []) }
-{
-    match lives.get(block as usize) {
-        None => Err(Refusal::NotMine),
-        Some(None) => Err(Refusal::NotMine),
-        Some(Some(life)) => life.settled_count(bytes),
-    }
-}
-
-/// Makes one more edit of a block in use.
-pub fn append_at(lives: &mut [Option<Life>], block: usize, entry: Entry) -> Result<(), AllocError>
-    requires alive { IsTrue (is_some (life_at lives.old block)) }
-    requires room { life_pending (life_at lives.old block) < 64 }
-    requires plain { IsPlain entry }
-    ensures ok { OnOk result (lives.new ≡ change_at lives.old block (with_state entry)) }
-    ensures err { OnErr result (lives.new ≡ lives.old) }
-{
-    match &mut lives[block] {
-        Some(life) => life.append(entry),
-        None => unreachable!(),
-    }
-}
-
-/// Sets the status of a block in use; a free one, or one past the end, has none.
-pub fn set_status_at(lives: &mut [Option<Life>], block: usize, status: Status)
-    ensures { lives.new ≡ change_at lives.old block (with_status status) }
-{
-    if block < lives.len() {
-        if let Some(life) = &mut lives[block] {
-            life.set_status(status);
-        }
-    }
-}
-
-/// Begins a write of a block that carries its first entries.
-pub fn begin_at(lives: &mut [Option<Life>], block: u32, count: u32)
-    requires in_range { block < length lives.old }
-    requires some { 1 ≤ count }
-    requires within { count ≤ life_pending (life_at lives.old block) }
-    ensures { lives.new ≡ begun_at lives.old block count }
-{
-    if let Some(life) = &mut lives[block as usize] {
-        life.begin(count);
-    }
-}
-
-/// Ends a write of a block that made its first entries durable.
-pub fn settle_at(lives: &mut [Option<Life>], block: u32, count: u32)
-    requires in_range { block < length lives.old }
-    requires within { count ≤ life_pending (life_at lives.old block) }
-    ensures { lives.new ≡ settled_at lives.old block count }
-{
-    if let Some(life) = &mut lives[block as usize] {
-        life.settle(count);
-    }
-}
-
-/// Makes one more edit of block 0, which names this block: block 0 owns it from now on.
-pub fn attach_root(lives: &mut [Option<Life>], block: u32, entry: Entry) -> Result<(), AllocError>
-    requires alive { IsTrue (is_some (life_at lives.old 0)) }
-    requires room { life_pending (life_at lives.old 0) < 64 }
-    requires plain { IsPlain entry }
-    ensures ok { OnOk result (lives.new ≡ rooted lives.old block entry) }
-    ensures err { OnErr result (lives.new ≡ lives.old) }
-{
-    append_at(lives, 0, entry)?;
-    set_status_at(lives, block as usize, Status::Owned(0));
-    Ok(())
+    Ok(places)
 }

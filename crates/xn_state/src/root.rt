@@ -5,6 +5,8 @@ ghost use Rattle.std.specs.Int.{w32, from_le_bytes, to_le_bytes};
 ghost use Rattle.xn_model.specs.Lists.{put};
 ghost use Rattle.xn_model.specs.Root.{word_at, slot, with_slot};
 
+use crate::fs::Fs;
+
 /// The number in the four bytes from this place on, the lowest byte first.
 fn word_at(block: &[u8; 512], at: usize) -> u32
     requires { at + 4 ≤ 512 }
@@ -16,11 +18,10 @@ fn word_at(block: &[u8; 512], at: usize) -> u32
 }
 
 /// The block and the type in a file system's root slot; block 0 for an empty slot.
-pub fn slot(block: &[u8; 512], fs: u8) -> (u32, u32)
-    requires { fs < 32 }
-    ensures { result ≡ slot block.now fs }
+pub fn slot(block: &[u8; 512], fs: Fs) -> (u32, u32)
+    ensures { result ≡ slot block.now fs.number }
 {
-    let at = 72 + 8 * fs as usize;
+    let at = 72 + 8 * fs.index();
     (word_at(block, at), word_at(block, at + 4))
 }
 
@@ -34,12 +35,11 @@ fn slot_bytes(root: (u32, u32)) -> [u8; 8]
 }
 
 /// The bytes with a file system's root slot set.
-pub fn with_slot(block: &[u8; 512], fs: u8, root: (u32, u32)) -> [u8; 512]
-    requires { fs < 32 }
-    ensures { result ≡ with_slot block.now fs root }
+pub fn with_slot(block: &[u8; 512], fs: Fs, root: (u32, u32)) -> [u8; 512]
+    ensures { result ≡ with_slot block.now fs.number root }
 {
     let mut bytes = *block;
-    let at = 72 + 8 * fs as usize;
+    let at = 72 + 8 * fs.index();
     bytes[at..at + 8].copy_from_slice(&slot_bytes(root));
     bytes
 }

@@ -1,88 +1,85 @@
 // The state of a store, and the calls that need no disk.
 
-ghost use Rattle.std.specs.Prelude.{◌≡◌, ◌<◌, ◌≤◌, [], ◌∷◌, length, Option, Some, None, is_some, IfOk};
+ghost use Rattle.std.specs.Prelude.{◌≡◌, ◌<◌, ◌≤◌, [], ◌∷◌, length, Option, Some, None, is_some, IfOk, IsTrue};
+ghost use Rattle.xn_model.specs.Types.{within_size};
+ghost use Rattle.xn_model.specs.Lists.{blank};
 ghost use Rattle.xn_model.specs.Lives.{StoreState, life_at, alive_and};
 ghost use Rattle.xn_model.specs.Results.{Gives, GivesExactly};
-ghost use Rattle.xn_model.specs.Calls.{init_of, init_refusal, too_many, life_pending, make_root_of, begun_of, settled_of, floor_of};
+ghost use Rattle.xn_model.specs.Calls.{init_of, init_refusal, owns_nothing, too_many, life_pending, make_root_of, begun_of, settled_of, floor_of, pending_of};
 ghost use Rattle.xn_model.specs.Worlds.{mounted_state};
-ghost use Rattle.xn_model.specs.BareDisks.{built_ins, root_alone};
+ghost use Rattle.xn_model.specs.BareDisks.{root_alone};
 ghost use Rattle.xn_model.specs.Rules.{IsConsistent};
-ghost use Rattle.xn_state.specs.Catalogue.{catalogue};
+ghost use Rattle.templates.specs.Tables.{types_of};
 ghost use Rattle.xn_state.specs.Plans.{make_root_plan};
+ghost use Rattle.xn_state.specs.States.{StateValue, types_in};
 
-use crate::catalogue::catalogue_program;
 use crate::edit_id::EditId;
 use crate::entry::Entry;
+use crate::fs::Fs;
 use crate::life::Life;
-use crate::lives::{
-    attach_root, begin_at, begun_place, least_for, life_at, lowest_free, own_life, pending_for,
-    settle_at, settled_place,
-};
+use crate::lives::Lives;
 use crate::root::{slot, with_slot};
+use arrayvec::ArrayVec;
 use std::alloc::{AllocError, Global};
 use std::marker::Model;
-use udf_verify::Checked;
+use templates::Table;
+use udf_run::Pair;
 use xn_model::Refusal;
 
 /// What a store knows of its blocks, beside the disk.
 #[derive(Drop)]
 pub struct State {
     alloc: Global,
-    lives: Vec<Option<Life>>,
+    table: Table,
+    lives: Lives,
     next: u64,
-    catalogue: Checked,
 }
 
 impl Model for State {
-    ghost use Rattle.std.specs.Prelude.{◌≡◌};
-    ghost use Rattle.xn_model.specs.Lives.{StoreState};
-    ghost use Rattle.xn_model.specs.BareDisks.{built_ins};
     ghost use Rattle.xn_model.specs.Rules.{IsConsistent};
-    ghost use Rattle.xn_state.specs.Catalogue.{catalogue as catalogue_program};
+    ghost use Rattle.templates.specs.Tables.{types_of};
+    ghost use Rattle.xn_state.specs.States.{StateValue};
 
-    ghost Value = { StoreState };
+    ghost Value = { StateValue };
 
-    ghost view = { λ a. record { lives = a.lives.items; next = a.next } };
+    ghost view = { λ a. record { table = a.table; store = record { lives = a.lives; next = a.next } } };
 
-    ghost invariant = { λ a. IsConsistent built_ins (record { lives = a.lives.items; next = a.next }) × (a.catalogue ≡ catalogue_program) };
+    ghost invariant = { λ a. IsConsistent (types_of a.table) (record { lives = a.lives; next = a.next }) };
 }
 
 impl State {
     /// The state of a disk of so many blocks on which block 0, with these bytes, is all that is
-    /// reached.
-    pub fn new(alloc: Global, blocks: u32, root: &[u8; 512]) -> Result<State, AllocError>
-        requires { IsConsistent built_ins (mounted_state (root_alone blocks root.now)) }
-        ensures { IfOk result (λ state. state ≡ mounted_state (root_alone blocks root.now)) }
+    /// reached, with the types of a table. `Err` comes only for want of memory.
+    pub fn new(
+        alloc: Global,
+        table: Table,
+        blocks: u32,
+        root: &[u8; 512],
+    ) -> Result<State, AllocError>
+        requires { IsConsistent (types_of table) (mounted_state (root_alone blocks root.now)) }
+        ensures { IfOk result (λ state. state ≡ record { table = table; store = mounted_state (root_alone blocks root.now) }) }
     {
-        let catalogue = catalogue_program(alloc)?;
-        let lives = root_alone(alloc, blocks, root)?;
+        let lives = Lives::root_alone(alloc, blocks, root)?;
         Ok(State {
             alloc,
+            table,
             lives,
             next: 1,
-            catalogue,
         })
     }
 
-    /// Block 0's owns program, which is verified when the state is made.
-    pub fn catalogue(&self) -> &Checked
-        ensures { result.now ≡ catalogue }
-    {
-        &self.catalogue
-    }
-
     /// Whether so many pending entries of one block, or those of the file system, are too many.
-    fn is_too_many(&self, fs: u8, in_block: usize) -> bool
-        ensures { result ≡ too_many self.now fs in_block }
+    fn is_too_many(&self, fs: Fs, in_block: usize) -> bool
+        ensures { result ≡ too_many self.now.store fs.number in_block }
     {
-        in_block >= 64 || pending_for(&self.lives, fs) >= 4096
+        in_block >= 64 || self.lives.pending_for(fs) >= 4096
     }
 
     /// The first refusal of `init` that applies.
-    fn init_refusal(&self, fs: u8, ty: u32, bytes: &[u8; 512]) -> Option<Refusal>
-        ensures { result ≡ init_refusal built_ins self.now fs ty bytes.now }
+    fn init_refusal(&self, fs: Fs, ty: u32, bytes: &[u8; 512]) -> Option<Refusal>
+        ensures { result ≡ init_refusal (types_in self.now) self.now.store fs.number ty bytes.now }
     {
-        if ty != 2 {
+        if ty < 2 || !self.table.is_installed(ty) {
             return Some(Refusal::BadType);
         }
         if self.is_too_many(fs, 0) {
@@ -91,37 +88,44 @@ impl State {
         if self.next == u64::MAX {
             return Some(Refusal::Exhausted);
         }
+        if !is_within_size(&self.table, ty, bytes) {
+            return Some(Refusal::SizeWrong);
+        }
+        if !owns_nothing(&self.table, ty, bytes) {
+            return Some(Refusal::ClaimWrong);
+        }
         None
     }
 
     /// Starts a life with these bytes on the lowest free block.
-    pub fn init(&mut self, fs: u8, ty: u32, bytes: &[u8; 512]) -> Result<(u32, EditId), Refusal>
-        ensures { Gives (init_of built_ins self.old fs ty bytes.now) self.old self.new result }
+    pub fn init(&mut self, fs: Fs, ty: u32, bytes: &[u8; 512]) -> Result<(u32, EditId), Refusal>
+        ensures state { Gives (init_of (types_in self.old) self.old.store fs.number ty bytes.now) self.old.store self.new.store result }
+        ensures table { self.new.table ≡ self.old.table }
     {
         if let Some(refusal) = self.init_refusal(fs, ty, bytes) {
             return Err(refusal);
         }
-        let Some(block) = lowest_free(&self.lives) else {
+        let Some(block) = self.lives.lowest_free() else {
             return Err(Refusal::NoSpace);
         };
         let number = self.next;
         let Ok(life) = Life::start(self.alloc, number, fs, ty, bytes) else {
             return Err(Refusal::NoMemory);
         };
-        self.lives[block] = Some(life);
+        self.lives.start(block, fs, life);
         self.next += 1;
         Ok((block as u32, EditId(number)))
     }
 
     /// Block 0's bytes with the root slot set to a fresh block of the file system, and that block's
     /// type.
-    fn make_root_plan(&self, fs: u8, block: u32) -> Result<([u8; 512], u32), Refusal>
-        requires { fs < 32 }
-        ensures plan { result ≡ make_root_plan self.now fs block }
-        ensures room { IfOk result (λ plan. life_pending (life_at self.now.lives 0) < 64) }
+    fn make_root_plan(&self, fs: Fs, block: u32) -> Result<([u8; 512], u32), Refusal>
+        ensures plan { result ≡ make_root_plan self.now.store fs.number block }
+        ensures room { IfOk result (λ plan. life_pending (life_at self.now.store.lives 0) < 64) }
+        ensures few { IfOk result (λ plan. pending_of self.now.store fs.number < 4096) }
     {
-        let life = own_life(&self.lives, fs, block)?;
-        let Some(root) = life_at(&self.lives, 0) else {
+        let life = self.lives.own_life(fs, block)?;
+        let Some(root) = self.lives.life(0) else {
             unreachable!()
         };
         if slot(root.current(), fs).0 != 0 {
@@ -140,9 +144,9 @@ impl State {
     }
 
     /// Sets the file system's root slot, in block 0, to a fresh block.
-    pub fn make_root(&mut self, fs: u8, block: u32) -> Result<EditId, Refusal>
-        requires { fs < 32 }
-        ensures { Gives (make_root_of self.old fs block) self.old self.new result }
+    pub fn make_root(&mut self, fs: Fs, block: u32) -> Result<EditId, Refusal>
+        ensures state { Gives (make_root_of self.old.store fs.number block) self.old.store self.new.store result }
+        ensures table { self.new.table ≡ self.old.table }
     {
         let (bytes, ty) = self.make_root_plan(fs, block)?;
         let number = self.next;
@@ -150,7 +154,7 @@ impl State {
             return Err(Refusal::NoMemory);
         };
         let entry = Entry::new(number, bytes, adds, fs);
-        let Ok(()) = attach_root(&mut self.lives, block, entry) else {
+        let Ok(()) = self.lives.attach_root(block, entry) else {
             return Err(Refusal::NoMemory);
         };
         self.next += 1;
@@ -159,52 +163,67 @@ impl State {
 
     /// Begins a write of a block: the bytes that its safe entries leave, and how many those are.
     pub fn begun(&mut self, block: u32) -> Result<([u8; 512], u32), Refusal>
-        ensures { GivesExactly (begun_of self.old block) self.old self.new result }
+        ensures state { GivesExactly (begun_of self.old.store block) self.old.store self.new.store result }
+        ensures table { self.new.table ≡ self.old.table }
     {
-        let (bytes, count) = begun_place(&self.lives, block)?;
-        begin_at(&mut self.lives, block, count);
+        let (bytes, count) = self.lives.begun(block)?;
+        self.lives.begin(block, count);
         Ok((bytes, count))
     }
 
     /// Ends a write of a block by the bytes that are read back: how many entries are durable now,
     /// and how many blocks are free.
     pub fn settled(&mut self, block: u32, bytes: &[u8; 512]) -> Result<(u32, u32), Refusal>
-        ensures { GivesExactly (settled_of self.old block bytes.now) self.old self.new result }
+        ensures state { GivesExactly (settled_of self.old.store block bytes.now) self.old.store self.new.store result }
+        ensures table { self.new.table ≡ self.old.table }
     {
-        let count = settled_place(&self.lives, block, bytes)?;
-        settle_at(&mut self.lives, block, count);
+        let count = self.lives.settled(block, bytes)?;
+        self.lives.settle(block, count);
         Ok((count, 0))
     }
 
     /// Whether a write of a block is under way.
     pub fn is_in_flight(&self, block: u32) -> bool
-        ensures { result ≡ alive_and (λ l. is_some l.begun) (life_at self.now.lives block) }
+        ensures { result ≡ alive_and (λ l. is_some l.begun) (life_at self.now.store.lives block) }
     {
-        match life_at(&self.lives, block as usize) {
+        match self.lives.life(block as usize) {
             Some(life) => life.is_in_flight(),
             None => false,
         }
     }
 
     /// The least pending entry of a file system, or the next number to be given.
-    pub fn floor(&self, fs: u8) -> u64
-        ensures { result ≡ floor_of self.now fs }
+    pub fn floor(&self, fs: Fs) -> u64
+        ensures { result ≡ floor_of self.now.store fs.number }
     {
-        least_for(&self.lives, fs, self.next)
+        self.lives.least_for(fs, self.next)
     }
 }
 
-/// The lives of a disk of so many blocks of which block 0 alone is alive.
-fn root_alone(alloc: Global, blocks: u32, root: &[u8; 512]) -> Result<Vec<Option<Life>>, AllocError>
-    requires { 1 ≤ blocks }
-    ensures { IfOk result (λ lives. lives.items ≡ root_alone blocks root.now) }
+/// Whether a block of an installed type is zero from its size on.
+fn is_within_size(table: &Table, ty: u32, bytes: &[u8; 512]) -> bool
+    requires { IsTrue ((types_of table.now).installed ty) }
+    ensures { result ≡ within_size (types_of table.now) ty bytes.now }
 {
-    let mut lives = Vec::with_capacity(alloc, blocks as usize)?;
-    lives.push_reserved(Some(Life::root(alloc, root)));
-    for _block in 1..blocks {
-        lives.push_reserved(None);
-    }
-    Ok(lives)
+    let size = table.size(ty, bytes);
+    is_blank(&bytes[size as usize..])
+}
+
+/// Whether all bytes are zero.
+fn is_blank(bytes: &[u8]) -> bool
+    ensures { result ≡ blank bytes.now }
+{
+    bytes.iter().all(|byte| *byte == 0)
+}
+
+/// Whether a block of an installed type points to no other.
+fn owns_nothing(table: &Table, ty: u32, bytes: &[u8; 512]) -> bool
+    requires { IsTrue ((types_of table.now).installed ty) }
+    ensures { result ≡ owns_nothing (types_of table.now) ty bytes.now }
+{
+    let mut pairs = ArrayVec::<Pair, 128>::new();
+    table.owns(ty, bytes, &mut pairs);
+    pairs.is_empty()
 }
 
 /// A list of one pair.

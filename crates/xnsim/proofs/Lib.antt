@@ -1,3 +1,6 @@
 pub mod BareImages
 pub mod Decimals
 pub mod HexBytes
+pub mod ScriptLines
+pub mod ScriptRuns
+pub mod CommandLines

@@ -1,8 +1,30 @@
-use Rattle.std.specs.Prelude.{ℕ}
+-- Faults of the program: their status, and what is printed of them.
+use Rattle.std.specs.Prelude.{◌≡◌, ℕ, List, [], ◌∷◌, ◌++◌, Option}
+use Rattle.std.specs.Io.KnownBytes.{Appends}
 use Rattle.xnsim.specs.declared.fault.Fault.{Fault}
-use Rattle.xnsim.specs.declared.fault.Fault.TheVariants.{Usage}
+use Rattle.xnsim.specs.declared.fault.Fault.TheVariants.{Usage, Unreadable, NoMemory, Program}
+use Rattle.xnsim.specs.declared.script.ScriptFault.{ScriptFault}
+use Rattle.xnsim.specs.declared.script.ScriptFault.TheVariants as script
+use Rattle.xnsim.specs.declared.words.LineFault.{LineFault}
+use Rattle.xnsim.specs.declared.words.LineFault.TheVariants as line
+use Rattle.xnsim.specs.ProgramFaults.{program_fault_text}
 
 -- the status with which the program ends after a fault
 abbrev pub status_of : Fault → ℕ
 status_of Usage = 2
 status_of _ = 1
+
+-- what is printed of a fault: that of a program, and no other
+abbrev pub IsTold : Fault → Option (List ℕ) → Option (List ℕ) → Type 0
+IsTold (Program fault) old new = Appends old new (program_fault_text fault ++ 10 ∷ [])
+IsTold _ old new = new ≡ old
+
+-- the fault of the program that a fault of its line is
+abbrev pub of_line : LineFault → Fault
+of_line line.Usage = Usage
+of_line line.NoMemory = NoMemory
+
+-- the fault of the program that a fault of its script is
+abbrev pub of_script : ScriptFault → Fault
+of_script (script.Unreadable number) = Unreadable number
+of_script script.NoMemory = NoMemory

@@ -1,6 +1,14 @@
 pub mod Hex
 pub mod Images
 pub mod Lines
+pub mod CommandLine
 pub mod Numbers
 pub mod Commands
+pub mod Scripts
+pub mod Events
+pub mod Replies
+pub mod Runs
+pub mod ProgramFaults
+pub mod Programs
+pub mod Done
 pub mod Faults

@@ -1,11 +1,30 @@
-use Rattle.std.specs.Prelude.{◌≡◌, ◌≢◌, ◌≤◌, ℕ, List, [], ◌∷◌, slice_index, codes}
+use Rattle.std.specs.Prelude.{◌≡◌, ◌≢◌, ◌≤◌, ◌⊎◌, ℕ, List, [], ◌∷◌, slice_index, codes}
 use Rattle.std.specs.Fmt.{decimal}
+use Rattle.clap.specs.declared.error.kind.ErrorKind.{ErrorKind}
+use Rattle.clap.specs.declared.error.kind.ErrorKind.TheVariants.{OutOfMemory}
+use Rattle.xnsim.specs.declared.words.LineFault.{LineFault}
+use Rattle.xnsim.specs.declared.words.LineFault.TheVariants.{NoMemory, Usage}
 use Rattle.xnsim.specs.declared.words.Words.{Words}
-use Rattle.xnsim.specs.declared.words.Words.TheVariants.{Bare, Format, Run}
+use Rattle.xnsim.specs.declared.words.Words.TheVariants.{Bare, Format, Run, Verify}
+use Rattle.xnsim.specs.Programs.{role_name}
 
 -- a word that doesn't begin with `-`
 abbrev pub IsName : List ℕ → Type 0
 IsName word = slice_index word 0 ≢ 45
+
+-- words of which the command line's reader finds three: a command, and two that don't begin with `-`
+pub record IsThreeWords (words : List (List ℕ)) : Type 0 where
+  pub first : List ℕ
+  pub second : List ℕ
+  pub command : (words ≡ codes "format" ∷ first ∷ second ∷ []) ⊎ (words ≡ codes "run" ∷ first ∷ second ∷ [])
+      ⊎ (words ≡ codes "verify" ∷ first ∷ second ∷ [])
+  pub first_name : IsName first
+  pub second_name : IsName second
+
+-- the fault of a line that its reader refuses
+abbrev pub fault_of_kind : ErrorKind → LineFault
+fault_of_kind OutOfMemory = NoMemory
+fault_of_kind _ = Usage
 
 -- the words of a line
 abbrev pub IsLine : List (List ℕ) → Words → Type 0
@@ -13,3 +32,8 @@ IsLine words Bare = words ≡ []
 IsLine words (Format image blocks) =
     (words ≡ codes "format" ∷ image.now ∷ decimal blocks ∷ []) × IsName image.now × (32 ≤ blocks) × (blocks ≤ 32768)
 IsLine words (Run image script) = (words ≡ codes "run" ∷ image.now ∷ script.now ∷ []) × IsName image.now × IsName script.now
+IsLine words (Verify text role) = (words ≡ codes "verify" ∷ text.now ∷ role_name role ∷ []) × IsName text.now
+
+-- words that are no line of the program
+abbrev pub IsNoLine : List (List ℕ) → Type 0
+IsNoLine words = (asked : Words) → ¬ IsLine words asked

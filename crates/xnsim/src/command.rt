@@ -1,11 +1,4 @@
-ghost use Rattle.std.specs.Prelude.{◌<◌};
-
-/// The number of a library file system.
-#[derive(Clone, Copy, Debug, PartialEq, Eq)]
-pub struct Fs {
-    pub number: u8,
-    ghost few: { number < 32 },
-}
+use xn_kernel::Fs;
 
 /// A command of a script.
 #[derive(Debug, Drop, PartialEq)]

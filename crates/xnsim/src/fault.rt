@@ -1,10 +1,13 @@
 ghost use Rattle.std.specs.Prelude.{◌≡◌};
 
+use crate::program::ProgramFault;
 use crate::script::ScriptFault;
 use crate::words::LineFault;
 use std::alloc::AllocError;
 use std::io;
 use thiserror::Error;
+use udf_asm::AsmFault;
+use udf_verify::VerifyFault;
 
 /// Why a run ends with a status other than 0. The text of a fault is the line that tells it.
 #[derive(Debug, Drop, Error)]
@@ -21,15 +24,10 @@ pub enum Fault<'a> {
     CannotWrite(&'a str),
     #[error("no memory")]
     NoMemory,
+    #[error("{0}")]
+    Program(ProgramFault),
     #[error("a standard stream failed")]
     Stream,
-}
-
-/// Where a fault is told.
-#[derive(Clone, Copy, Debug, PartialEq, Eq)]
-pub enum Place {
-    StandardError,
-    Nowhere,
 }
 
 impl<'a> Fault<'a> {
@@ -44,17 +42,13 @@ impl<'a> Fault<'a> {
             _ => 1,
         }
     }
-
-    /// Where the fault is told: nowhere after a fault of a standard stream.
-    pub fn place(&self) -> Place {
-        match self {
-            Fault::Stream => Place::Nowhere,
-            _ => Place::StandardError,
-        }
-    }
 }
 
 impl<'a> From<LineFault> for Fault<'a> {
+    ghost use Rattle.xnsim.specs.Faults.{of_line};
+
+    ghost from_gives = { λ fault given. given ≡ of_line fault };
+
     fn from(fault: LineFault) -> Fault<'a> {
         match fault {
             LineFault::Usage => Fault::Usage,
@@ -64,6 +58,10 @@ impl<'a> From<LineFault> for Fault<'a> {
 }
 
 impl<'a> From<ScriptFault> for Fault<'a> {
+    ghost use Rattle.xnsim.specs.Faults.{of_script};
+
+    ghost from_gives = { λ fault given. given ≡ of_script fault };
+
     fn from(fault: ScriptFault) -> Fault<'a> {
         match fault {
             ScriptFault::Unreadable { line } => Fault::Unreadable { line },
@@ -72,13 +70,43 @@ impl<'a> From<ScriptFault> for Fault<'a> {
     }
 }
 
+impl<'a> From<AsmFault> for Fault<'a> {
+    ghost use Rattle.xnsim.specs.declared.fault.Fault.TheVariants.{Program};
+    ghost use Rattle.xnsim.specs.declared.program.ProgramFault.TheVariants.{Text};
+
+    ghost from_gives = { λ fault given. given ≡ Program (Text fault) };
+
+    fn from(fault: AsmFault) -> Fault<'a> {
+        Fault::Program(ProgramFault::Text(fault))
+    }
+}
+
+impl<'a> From<VerifyFault> for Fault<'a> {
+    ghost use Rattle.xnsim.specs.declared.fault.Fault.TheVariants.{Program};
+    ghost use Rattle.xnsim.specs.declared.program.ProgramFault.TheVariants.{Rule};
+
+    ghost from_gives = { λ fault given. given ≡ Program (Rule fault) };
+
+    fn from(fault: VerifyFault) -> Fault<'a> {
+        Fault::Program(ProgramFault::Rule(fault))
+    }
+}
+
 impl<'a> From<AllocError> for Fault<'a> {
+    ghost use Rattle.xnsim.specs.declared.fault.Fault.TheVariants.{NoMemory};
+
+    ghost from_gives = { λ _ fault. fault ≡ NoMemory };
+
     fn from(_error: AllocError) -> Fault<'a> {
         Fault::NoMemory
     }
 }
 
 impl<'a> From<io::Error> for Fault<'a> {
+    ghost use Rattle.xnsim.specs.declared.fault.Fault.TheVariants.{Stream};
+
+    ghost from_gives = { λ _ fault. fault ≡ Stream };
+
     fn from(_error: io::Error) -> Fault<'a> {
         Fault::Stream
     }

@@ -1,16 +1,22 @@
-ghost use Rattle.std.specs.Prelude.{◌≡◌, ◌≤◌, ◌++◌, ◌∷◌, [], OnOk, codes};
-ghost use Rattle.std.specs.Fmt.{decimal};
+ghost use Rattle.std.specs.Prelude.{◌≡◌, ◌≤◌, ◌⊎◌, ℕ, List, None, IfErr, IfOk, OnOk, map, string_bytes};
+ghost use Rattle.std.specs.Str.{IsUtf8};
 ghost use Rattle.std.specs.Io.KnownBytes.{Appends};
+ghost use Rattle.xnsim.specs.Done.{made_line, IsFaultOf, IsLineDone, IsLineFault, IsSomeBare, PrintsReplies};
+ghost use Rattle.xnsim.specs.Faults.{status_of, IsTold};
+ghost use Rattle.xnsim.specs.Lines.{IsNoLine};
+ghost use Rattle.xnsim.specs.Programs.{PrintsAccepted};
 
-use crate::fault::{Fault, Place};
+use crate::fault::Fault;
 use crate::files::Files;
 use crate::image::{LEAST_BLOCKS, bare_blocks};
+use crate::program::verify_text;
 use crate::replay::run_script;
 use crate::script::parse;
 use crate::words::{Words, read};
 use std::alloc::Global;
 use std::io::{ErrorKind, Read, Write};
 use std::{io, str};
+use udf_verify::Role;
 use world::bare_image;
 
 /// The name of standard input in what is told.
@@ -18,14 +24,16 @@ const STANDARD_INPUT: &str = "-";
 
 /// Says what was formatted.
 fn print_made<W: Write>(out: &mut W, blocks: u32) -> io::Result<()>
-    ensures { OnOk result (Appends (W.contents out.old) (W.contents out.new)
-        (codes "blocks " ++ decimal blocks ++ codes " templates 0" ++ 10 ∷ [])) }
+    ensures { OnOk result (Appends (W.contents out.old) (W.contents out.new) (made_line blocks)) }
 {
     writeln!(out, "blocks {blocks} templates 0")
 }
 
 /// The text of bytes that were read under this name.
-fn text_of<'a, 'b>(bytes: &'b [u8], name: &'a str) -> Result<&'b str, Fault<'a>> {
+fn text_of<'a, 'b>(bytes: &'b [u8], name: &'a str) -> Result<&'b str, Fault<'a>>
+    ensures text { IfOk result (λ text. text.now ≡ bytes.now) }
+    ensures fault { IfErr result (λ fault. (fault ≡ Fault.CannotRead name.entry) × ¬ (IsUtf8 bytes.now)) }
+{
     str::from_utf8(bytes).map_err(|_| Fault::CannotRead(name))
 }
 
@@ -39,6 +47,8 @@ fn format<'a, F: Files, W: Write>(
 ) -> Result<(), Fault<'a>>
     requires least { 32 ≤ blocks }
     requires greatest { blocks ≤ 32768 }
+    ensures told { OnOk result (Appends (W.contents out.old) (W.contents out.new) (made_line blocks)) }
+    ensures fault { IfErr result (IsFaultOf None (Words.Format image.entry blocks)) }
 {
     let bytes = bare_image(alloc, blocks)?;
     if !files.write(image, bytes.as_slice()) {
@@ -55,7 +65,10 @@ fn run_on_image<'a, F: Files, W: Write>(
     out: &mut W,
     image: &'a str,
     script: &'a str,
-) -> Result<(), Fault<'a>> {
+) -> Result<(), Fault<'a>>
+    ensures told { OnOk result ((blocks : ℕ) × IsSomeBare blocks × PrintsReplies None blocks (W.contents out.old) (W.contents out.new)) }
+    ensures fault { IfErr result (IsFaultOf None (Words.Run image.entry script.entry)) }
+{
     let before = files.read(alloc, image).ok_or(Fault::CannotRead(image))?;
     let text = files.read(alloc, script).ok_or(Fault::CannotRead(script))?;
     let commands = parse(alloc, text_of(text.as_slice(), script)?)?;
@@ -74,7 +87,10 @@ fn run_input<'a, R: Read, W: Write>(
     alloc: Global,
     input: &mut R,
     out: &mut W,
-) -> Result<(), Fault<'a>> {
+) -> Result<(), Fault<'a>>
+    ensures told { OnOk result (PrintsReplies (R.remaining input.old) 32 (W.contents out.old) (W.contents out.new)) }
+    ensures fault { IfErr result (IsFaultOf (R.remaining input.old) Words.Bare) }
+{
     let mut text = Vec::new(alloc);
     if let Err(error) = input.read_to_end(&mut text) {
         return Err(match error.kind() {
@@ -87,6 +103,21 @@ fn run_input<'a, R: Read, W: Write>(
     Ok(())
 }
 
+/// Verifies the program of a text file, and says what it comes to.
+fn verify_file<'a, F: Files, W: Write>(
+    alloc: Global,
+    files: &mut F,
+    out: &mut W,
+    text: &'a str,
+    role: Role,
+) -> Result<(), Fault<'a>>
+    ensures told { OnOk result ((bytes : List ℕ) × PrintsAccepted bytes role (W.contents out.old) (W.contents out.new)) }
+    ensures fault { IfErr result (IsFaultOf None (Words.Verify text.entry role)) }
+{
+    let bytes = files.read(alloc, text).ok_or(Fault::CannotRead(text))?;
+    verify_text(alloc, text_of(bytes.as_slice(), text)?, role, out)
+}
+
 /// Does what the words ask for.
 fn run<'a, F: Files, R: Read, W: Write>(
     alloc: Global,
@@ -94,11 +125,38 @@ fn run<'a, F: Files, R: Read, W: Write>(
     files: &mut F,
     input: &mut R,
     out: &mut W,
-) -> Result<(), Fault<'a>> {
+) -> Result<(), Fault<'a>>
+    ensures done { OnOk result (IsLineDone (R.remaining input.old) (map string_bytes words.entry.now) (W.contents out.old) (W.contents out.new)) }
+    ensures fault { IfErr result (IsLineFault (R.remaining input.old) (map string_bytes words.entry.now)) }
+    ensures usage { IfErr result (λ fault. fault ≡ Fault.Usage → IsNoLine (map string_bytes words.entry.now)) }
+{
     match read(alloc, words)? {
         Words::Format { image, blocks } => format(alloc, files, out, image, blocks),
         Words::Run { image, script } => run_on_image(alloc, files, out, image, script),
+        Words::Verify { text, role } => verify_file(alloc, files, out, text, role),
         Words::Bare => run_input(alloc, input, out),
+    }
+}
+
+/// Tells a fault in a line: that of a program on `out`, and every other on `err`. A fault of a standard stream isn't told.
+fn tell<W: Write, E: Write>(fault: &Fault, out: &mut W, err: &mut E) -> io::Result<()>
+    ensures { OnOk result (IsTold fault.now (W.contents out.old) (W.contents out.new)) }
+{
+    match fault {
+        Fault::Program(found) => writeln!(out, "{found}"),
+        Fault::Stream => Ok(()),
+        _ => writeln!(err, "{fault}"),
+    }
+}
+
+/// Tells a fault, and answers the status with which the program ends: that of the fault, or 1 where it can't be told.
+fn end<W: Write, E: Write>(fault: &Fault, out: &mut W, err: &mut E) -> u8
+    ensures { (result ≡ status_of fault.now) ⊎ (result ≡ 1) }
+{
+    if tell(fault, out, err).is_err() {
+        1
+    } else {
+        fault.status()
     }
 }
 
@@ -112,15 +170,12 @@ pub fn line<F: Files, R: Read, W: Write, E: Write>(
     out: &mut W,
     err: &mut E,
 ) -> u8
-    ensures { result ≤ 2 }
+    ensures done { result ≡ 0 → IsLineDone (R.remaining input.old) (map string_bytes words.now) (W.contents out.old) (W.contents out.new) }
+    ensures usage { result ≡ 2 → IsNoLine (map string_bytes words.now) }
+    ensures status { result ≤ 2 }
 {
-    let fault = match run(alloc, words, files, input, out) {
-        Ok(()) => return 0,
-        Err(fault) => fault,
-    };
-    let told = match fault.place() {
-        Place::StandardError => writeln!(err, "{fault}"),
-        Place::Nowhere => Ok(()),
-    };
-    if told.is_err() { 1 } else { fault.status() }
+    match run(alloc, words, files, input, out) {
+        Ok(()) => 0,
+        Err(fault) => end(&fault, out, err),
+    }
 }

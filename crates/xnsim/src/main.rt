@@ -1,4 +1,4 @@
-// A simulator of the block store: it formats images and runs scripts of commands on them.
+// A simulator of the block store: it formats images, runs scripts of commands on them, and verifies programs.
 #![tactic(auto)]
 
 mod command;
@@ -8,6 +8,7 @@ mod hex;
 mod image;
 mod line;
 mod number;
+mod program;
 mod replay;
 mod script;
 #[cfg(test)]

@@ -1,8 +1,12 @@
 // A script is run.
 
-ghost use Rattle.std.specs.Prelude.{◌≤◌, ◌<◌};
-ghost use Rattle.xn_model.specs.Worlds.{IsEvent};
+ghost use Rattle.std.specs.Prelude.{◌≡◌, ◌≤◌, ◌<◌, IfOk, IfErr, OnOk};
+ghost use Rattle.std.specs.Io.KnownBytes.{Appends};
 ghost use Rattle.world.specs.Events as event;
+ghost use Rattle.xnsim.specs.Done.{IsRunFault};
+ghost use Rattle.xnsim.specs.Events.{event_of_command};
+ghost use Rattle.xnsim.specs.Replies.{refusal_text, reply_line};
+ghost use Rattle.xnsim.specs.Runs.{IsPrintedRun};
 
 use crate::command::Command;
 use crate::fault::Fault;
@@ -10,6 +14,7 @@ use std::alloc::Global;
 use std::io;
 use std::io::Write;
 use world::{Call, Event, Reply, World};
+use xn_model::Refusal;
 
 /// Runs the commands on a fresh disk of so many blocks, prints a reply a command, and answers the bytes
 /// that are then on the disk.
@@ -21,6 +26,8 @@ pub fn run_script<'a, W: Write>(
 ) -> Result<Vec<u8>, Fault<'a>>
     requires least { 32 ≤ blocks }
     requires greatest { blocks ≤ 32768 }
+    ensures run { IfOk result (λ image. IsPrintedRun blocks commands.now (W.contents out.old) (W.contents out.new) image.items) }
+    ensures fault { IfErr result IsRunFault }
 {
     let mut world = World::format(alloc, blocks)?;
     for command in commands {
@@ -32,26 +39,28 @@ pub fn run_script<'a, W: Write>(
 
 /// The event that a command asks for.
 fn event_of(command: &Command) -> Event
-    ensures { IsEvent (event.event_of result) }
+    ensures { event.event_of result ≡ event_of_command command.now }
 {
     match command {
         Command::Init { fs, ty, bytes } => Event::Call(
-            fs.number,
+            *fs,
             Call::Init {
                 ty: *ty,
                 bytes: **bytes,
             },
         ),
-        Command::Root { fs, block } => Event::Call(fs.number, Call::MakeRoot { block: *block }),
+        Command::Root { fs, block } => Event::Call(*fs, Call::MakeRoot { block: *block }),
         Command::Begin { block } => Event::Begin(*block),
         Command::Land { block } => Event::Land(*block),
         Command::Finish { block } => Event::Finish(*block),
-        Command::Floor { fs } => Event::Call(fs.number, Call::Floor),
+        Command::Floor { fs } => Event::Call(*fs, Call::Floor),
     }
 }
 
-/// The line of a reply.
-fn print_reply<W: Write>(out: &mut W, reply: Reply) -> io::Result<()> {
+/// Prints the line of a reply.
+fn print_reply<W: Write>(out: &mut W, reply: Reply) -> io::Result<()>
+    ensures { OnOk result (Appends (W.contents out.old) (W.contents out.new) (reply_line reply)) }
+{
     match reply {
         Reply::Started { block, entry } => writeln!(out, "block {block} edit {}", entry.0),
         Reply::Edited { entry } => writeln!(out, "edit {}", entry.0),
@@ -60,6 +69,35 @@ fn print_reply<W: Write>(out: &mut W, reply: Reply) -> io::Result<()> {
         Reply::Landed => writeln!(out, "landed"),
         Reply::Finished { durable, freed } => writeln!(out, "durable {durable} freed {freed}"),
         Reply::NoTicket => writeln!(out, "no ticket"),
-        Reply::Refused(refusal) => writeln!(out, "refused {refusal}"),
+        Reply::Refused(refusal) => writeln!(out, "refused {}", refusal_text(refusal)),
+    }
+}
+
+/// The number and the name of a refusal.
+pub fn refusal_text(refusal: Refusal) -> &'static str
+    ensures { result.now ≡ refusal_text refusal }
+{
+    match refusal {
+        Refusal::NoMemory => "1 NoMemory",
+        Refusal::NoSuchBlock => "2 NoSuchBlock",
+        Refusal::NotInUse => "3 NotInUse",
+        Refusal::NotYours => "4 NotYours",
+        Refusal::BadPatch => "5 BadPatch",
+        Refusal::BadAfter => "6 BadAfter",
+        Refusal::NotFresh => "7 NotFresh",
+        Refusal::NotOwned => "8 NotOwned",
+        Refusal::NotEmpty => "9 NotEmpty",
+        Refusal::ClaimWrong => "10 ClaimWrong",
+        Refusal::SizeWrong => "11 SizeWrong",
+        Refusal::Unattached => "12 Unattached",
+        Refusal::TooManyPending => "13 TooManyPending",
+        Refusal::NoSpace => "14 NoSpace",
+        Refusal::BadType => "15 BadType",
+        Refusal::InFlight => "16 InFlight",
+        Refusal::NotMine => "17 NotMine",
+        Refusal::Device => "18 Device",
+        Refusal::RootTaken => "19 RootTaken",
+        Refusal::NothingSafe => "20 NothingSafe",
+        Refusal::Exhausted => "21 Exhausted",
     }
 }

@@ -1,12 +1,15 @@
-ghost use Rattle.std.specs.Prelude.{◌≡◌, ◌≢◌, ◌<◌, ℕ, IfOk, IfSome, IfNone, IsSome, [], ◌∷◌, codes, map};
+ghost use Rattle.std.specs.Prelude.{◌≡◌, ◌≢◌, ◌<◌, ◌==◌, ℕ, IfOk, IfErr, IfSome, IfNone, IsSome, [], ◌∷◌, codes, map};
 ghost use Rattle.std.specs.Fmt.{decimal};
+ghost use Rattle.std.specs.List.{slice_split};
 ghost use Rattle.xnsim.specs.declared.command.Command.{Command};
 ghost use Rattle.xnsim.specs.Commands.{Spells, IsNoCommand};
+ghost use Rattle.xnsim.specs.Scripts.{is_passed_over, words_of, IsScript, IsScriptFault, LineSpells};
 
-use crate::command::{Command, Fs};
+use crate::command::Command;
 use crate::hex::parse_block;
 use crate::number::{parse_number, parse_u32};
 use std::alloc::{AllocError, AllocFailed, Global};
+use xn_kernel::Fs;
 
 /// Why a script isn't one.
 #[derive(Clone, Copy, Debug, PartialEq, Eq)]
@@ -17,12 +20,22 @@ pub enum ScriptFault {
 }
 
 impl From<AllocError> for ScriptFault {
+    ghost use Rattle.std.specs.Prelude.{◌≡◌};
+    ghost use Rattle.xnsim.specs.declared.script.ScriptFault.TheVariants.{NoMemory};
+
+    ghost from_gives = { λ _ fault. fault ≡ NoMemory };
+
     fn from(_error: AllocError) -> ScriptFault {
         ScriptFault::NoMemory
     }
 }
 
 impl<T: Drop> From<AllocFailed<T>> for ScriptFault {
+    ghost use Rattle.std.specs.Prelude.{◌≡◌};
+    ghost use Rattle.xnsim.specs.declared.script.ScriptFault.TheVariants.{NoMemory};
+
+    ghost from_gives = { λ _ fault. fault ≡ NoMemory };
+
     fn from(_error: AllocFailed<T>) -> ScriptFault {
         ScriptFault::NoMemory
     }
@@ -34,9 +47,7 @@ fn parse_fs(word: &str) -> Option<Fs>
     ensures readable { (n : ℕ) → n < 32 → word.now ≡ decimal n → IsSome result }
 {
     let number = parse_number(word, 31)?;
-    Some(Fs {
-        number: number as u8,
-    })
+    Fs::new(number as u8)
 }
 
 /// The command of the words `init`, these three.
@@ -98,20 +109,50 @@ fn parse_words(alloc: Global, words: &[&str]) -> Result<Option<Command>, AllocEr
     }
 }
 
-/// The commands of a script, in order. Empty lines and lines that begin with `#` are passed over.
-pub fn parse(alloc: Global, script: &str) -> Result<Vec<Command>, ScriptFault> {
+/// The parts of a text that is cut at each `separator`.
+fn cut<'a>(alloc: Global, text: &'a str, separator: char) -> Result<Vec<&'a str>, AllocError>
+    requires { separator < 128 }
+    ensures { IfOk result (λ parts. map (λ part. part.now) parts.items ≡ slice_split (λ byte. byte == separator) text.now) }
+{
+    text.split(separator).collect(alloc)
+}
+
+/// Whether a line is empty or begins with `#`.
+fn is_passed_over(line: &str) -> bool
+    ensures { result ≡ is_passed_over line.now }
+{
+    match line.as_bytes() {
+        [] => true,
+        [first, ..] => *first == b'#',
+    }
+}
+
+/// The command of a line, or `None` where it is none.
+fn parse_line(alloc: Global, line: &str) -> Result<Option<Command>, AllocError>
+    ensures some { IfOk result (λ read. IfSome read (LineSpells line.now)) }
+    ensures none { IfOk result (λ read. IfNone read (IsNoCommand (words_of line.now))) }
+{
+    let words = cut(alloc, line, ' ')?;
+    parse_words(alloc, words.as_slice())
+}
+
+/// The commands of a script, in order, one a line. Empty lines and lines that begin with `#` are passed over.
+pub fn parse(alloc: Global, script: &str) -> Result<Vec<Command>, ScriptFault>
+    ensures script { IfOk result (λ commands. IsScript script.now commands.items) }
+    ensures fault { IfErr result (IsScriptFault script.now) }
+{
+    let lines = cut(alloc, script, '\n')?;
     let mut commands = Vec::new(alloc);
-    // A script has fewer lines than the count has numbers.
-    let mut line: u64 = 0;
-    for text in script.split('\n') {
-        line = line.wrapping_add(1);
-        if text.is_empty() || text.starts_with('#') {
+    for (place, line) in lines.iter().enumerate() {
+        if is_passed_over(line) {
             continue;
         }
-        let words: Vec<&str> = text.split(' ').collect(alloc)?;
-        match parse_words(alloc, words.as_slice())? {
+        match parse_line(alloc, line)? {
             Some(command) => commands.push(command)?,
-            None => return Err(ScriptFault::Unreadable { line }),
+            None => {
+                let line = place as u64 + 1;
+                return Err(ScriptFault::Unreadable { line });
+            }
         }
     }
     Ok(commands)

@@ -1,11 +1,16 @@
-use crate::command::{Command, Fs};
+mod programs;
+
+use crate::command::Command;
 use crate::files::Files;
 use crate::line::line;
+use crate::replay::refusal_text;
 use crate::script::{ScriptFault, parse};
 use std::alloc::{AllocError, Global};
 use std::io;
 use std::io::{Read, Write};
 use std::test::Fail;
+use xn_kernel::Fs;
+use xn_model::Refusal;
 
 /// A file in memory.
 #[derive(Drop)]
@@ -329,6 +334,39 @@ fn prints_refusals(rt: HostRuntime) -> Result<(), Fail> {
     Ok(())
 }
 
+/// The library's own names of refusals are those that are printed.
+#[test]
+fn names_refusals(rt: HostRuntime) -> Result<(), Fail> {
+    let refusals = [
+        Refusal::NoMemory,
+        Refusal::NoSuchBlock,
+        Refusal::NotInUse,
+        Refusal::NotYours,
+        Refusal::BadPatch,
+        Refusal::BadAfter,
+        Refusal::NotFresh,
+        Refusal::NotOwned,
+        Refusal::NotEmpty,
+        Refusal::ClaimWrong,
+        Refusal::SizeWrong,
+        Refusal::Unattached,
+        Refusal::TooManyPending,
+        Refusal::NoSpace,
+        Refusal::BadType,
+        Refusal::InFlight,
+        Refusal::NotMine,
+        Refusal::Device,
+        Refusal::RootTaken,
+        Refusal::NothingSafe,
+        Refusal::Exhausted,
+    ];
+    for refusal in refusals {
+        let name = format!(in rt.alloc(); "{refusal}")?;
+        assert_eq!(rt; refusal_text(refusal), name.as_str());
+    }
+    Ok(())
+}
+
 #[test]
 fn fills_a_disk(rt: HostRuntime) -> Result<(), Fail> {
     let alloc = rt.alloc();
@@ -379,10 +417,12 @@ fn reads_each_command(rt: HostRuntime) -> Result<(), Fail> {
     let mut bytes = [0; 512];
     bytes[0] = 10;
     bytes[1] = 249;
-    let zero = Fs { number: 0 };
+    let [Some(zero), Some(seven), Some(last)] = [Fs::new(0), Fs::new(7), Fs::new(31)] else {
+        return Err("no file system".into());
+    };
     let wanted = [
         Command::Init {
-            fs: Fs { number: 31 },
+            fs: last,
             ty: 4294967295,
             bytes: Box::new(rt.alloc(), bytes)?,
         },
@@ -390,9 +430,7 @@ fn reads_each_command(rt: HostRuntime) -> Result<(), Fail> {
         Command::Begin { block: 10 },
         Command::Land { block: 11 },
         Command::Finish { block: 12 },
-        Command::Floor {
-            fs: Fs { number: 7 },
-        },
+        Command::Floor { fs: seven },
     ];
     assert_eq!(rt; commands.as_slice(), wanted.as_slice());
     Ok(())

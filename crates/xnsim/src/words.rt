@@ -1,12 +1,18 @@
-ghost use Rattle.std.specs.Prelude.{◌≡◌, ◌≢◌, ◌≤◌, ◌↔◌, [], ◌∷◌, Ok, IfSome, IfOk, IsTrue, map, slice_index, string_bytes};
+ghost use Rattle.std.specs.Prelude.{◌≡◌, ◌≢◌, ◌<◌, ◌≤◌, ◌↔◌, ℕ, List, [], ◌∷◌, Ok, Some, false, true, IfSome, IfNone, IfOk, IfErr, IsSomeAnd, IsTrue, codes, length, map, string_bytes};
 ghost use Rattle.std.specs.Fmt.{decimal};
-ghost use Rattle.xnsim.specs.Lines.{IsName, IsLine};
+ghost use Rattle.clap.specs.Words.{app_of, kind_of, rule_of, takes, with_subcommand, HasMatchesOf};
+ghost use Rattle.clap.specs.declared.builder.command.Command.TheViews.{out-Command as fields_of};
+ghost use Rattle.udf_verify.specs.declared.Role.{Role};
+ghost use Rattle.xnsim.specs.CommandLine.{no_commands, program, two_words, wanted};
+ghost use Rattle.xnsim.specs.Lines.{IsName, IsLine, IsNoLine, IsThreeWords};
+ghost use Rattle.xnsim.specs.Programs.{role_name};
 
 use crate::image::{GREATEST_BLOCKS, LEAST_BLOCKS};
 use crate::number::parse_number;
 use clap::error::ErrorKind;
 use clap::{Arg, ArgMatches, Command, Error};
 use std::alloc::{AllocError, Global};
+use udf_verify::Role;
 
 /// What a command line asks for.
 #[derive(Drop)]
@@ -15,6 +21,8 @@ pub enum Words<'a> {
     Bare,
     Format { image: &'a str, blocks: u32 },
     Run { image: &'a str, script: &'a str },
+    /// The program of a text file is verified for a role.
+    Verify { text: &'a str, role: Role },
 }
 
 /// Why a command line isn't one.
@@ -25,6 +33,12 @@ pub enum LineFault {
 }
 
 impl From<Error> for LineFault {
+    ghost use Rattle.std.specs.Prelude.{◌≡◌};
+    ghost use Rattle.clap.specs.Words.{kind_of};
+    ghost use Rattle.xnsim.specs.Lines.{fault_of_kind};
+
+    ghost from_gives = { λ error fault. fault ≡ fault_of_kind (kind_of error) };
+
     fn from(error: Error) -> LineFault {
         match error.kind() {
             ErrorKind::OutOfMemory => LineFault::NoMemory,
@@ -34,37 +48,91 @@ impl From<Error> for LineFault {
 }
 
 impl From<AllocError> for LineFault {
+    ghost use Rattle.std.specs.Prelude.{◌≡◌};
+    ghost use Rattle.xnsim.specs.declared.words.LineFault.TheVariants.{NoMemory};
+
+    ghost from_gives = { λ _ fault. fault ≡ NoMemory };
+
     fn from(_error: AllocError) -> LineFault {
         LineFault::NoMemory
     }
 }
 
-/// A command that is followed by two words.
-fn two_words<'a>(
-    alloc: Global,
-    name: &'a str,
-    first: &'a str,
-    second: &'a str,
-) -> Result<Command<'a>, AllocError> {
-    Command::new(alloc, name)
-        .disable_help_flag(true)
-        .arg(Arg::new(alloc, first).required(true))?
-        .arg(Arg::new(alloc, second).required(true))
+/// What the reader calls the two words behind a command.
+const FIRST: &str = "first";
+
+const SECOND: &str = "second";
+
+/// A word that has to be there.
+fn wanted<'a>(alloc: Global, id: &'a str) -> Arg<'a>
+    ensures rule { rule_of result ≡ wanted id.entry.now }
+    ensures local { result.global ≡ false }
+{
+    Arg::new(alloc, id).required(true)
 }
 
-fn matches<'a>(alloc: Global, words: &'a [String]) -> Result<ArgMatches<'a>, Error> {
+/// A command that is followed by two words.
+fn two_words<'a>(alloc: Global, name: &'a str) -> Result<Command<'a>, AllocError>
+    ensures shape { IfOk result (λ command. app_of command ≡ two_words name.entry.now) }
+    ensures local { IfOk result (λ command. (fields_of command).has_globals ≡ false) }
+{
+    Command::new(alloc, name)
+        .disable_help_flag(true)
+        .arg(wanted(alloc, FIRST))?
+        .arg(wanted(alloc, SECOND))
+}
+
+/// The reader of the command line with one more command, which is followed by two words.
+fn with_command<'a>(
+    alloc: Global,
+    program: Command<'a>,
+    name: &'a str,
+) -> Result<Command<'a>, AllocError>
+    ensures { IfOk result (λ more. app_of more ≡ with_subcommand (app_of program.entry) (two_words name.entry.now).top) }
+{
+    program.subcommand(two_words(alloc, name)?)
+}
+
+/// The reader of the command line without its commands.
+fn no_commands<'a>(alloc: Global) -> Command<'a>
+    ensures { app_of result ≡ no_commands }
+{
     Command::new(alloc, "xnsim")
         .no_binary_name(true)
         .disable_help_flag(true)
         .disable_help_subcommand(true)
-        .subcommand(two_words(alloc, "format", "image", "blocks")?)?
-        .subcommand(two_words(alloc, "run", "image", "script")?)?
-        .try_get_matches_from(words)
+}
+
+/// The reader of the command line.
+fn program<'a>(alloc: Global) -> Result<Command<'a>, AllocError>
+    ensures { IfOk result (λ command. app_of command ≡ program) }
+{
+    let format = with_command(alloc, no_commands(alloc), "format")?;
+    let run = with_command(alloc, format, "run")?;
+    with_command(alloc, run, "verify")
+}
+
+/// What the reader finds in the words.
+fn matches<'a>(alloc: Global, words: &'a [String]) -> Result<ArgMatches<'a>, Error>
+    ensures found { IfOk result (HasMatchesOf program (map string_bytes words.entry.now)) }
+    ensures refused { IfErr result (λ error. takes program (map string_bytes words.entry.now) ≡ true → kind_of error ≡ ErrorKind.OutOfMemory) }
+{
+    program(alloc)?.try_get_matches_from(words)
+}
+
+/// The command that was found and the two words behind it.
+fn three_words<'a>(matches: &ArgMatches<'a>) -> Option<(&'a str, &'a str, &'a str)>
+    ensures { (words : List (List ℕ)) → HasMatchesOf program words matches.now → IsThreeWords words
+        → IsSomeAnd result (λ three. words ≡ three.0.now ∷ three.1.now ∷ three.2.now ∷ []) }
+{
+    let (name, behind) = matches.subcommand()?;
+    Some((name, behind.get_str(FIRST)?, behind.get_str(SECOND)?))
 }
 
 /// The number of blocks that a word asks for.
 fn parse_blocks(word: &str) -> Option<u32>
-    ensures { IfSome result (λ blocks. (word.now ≡ decimal blocks) × (32 ≤ blocks) × (blocks ≤ 32768)) }
+    ensures spelled { IfSome result (λ blocks. (word.now ≡ decimal blocks) × (32 ≤ blocks) × (blocks ≤ 32768)) }
+    ensures readable { (blocks : ℕ) → 32 ≤ blocks → blocks ≤ 32768 → word.now ≡ decimal blocks → result ≡ Some blocks }
 {
     let blocks = parse_number(word, u64::from(GREATEST_BLOCKS))? as u32;
     if blocks < LEAST_BLOCKS {
@@ -89,7 +157,7 @@ fn is_word(word: &String, text: &str) -> bool
 
 /// Whether the words of a line are these three.
 fn are_words(words: &[String], first: &str, second: &str, third: &str) -> bool
-    ensures { IsTrue result → map string_bytes words.now ≡ first.now ∷ second.now ∷ third.now ∷ [] }
+    ensures { IsTrue result ↔ (map string_bytes words.now ≡ first.now ∷ second.now ∷ third.now ∷ []) }
 {
     match words {
         [a, b, c] => is_word(a, first) && is_word(b, second) && is_word(c, third),
@@ -97,49 +165,90 @@ fn are_words(words: &[String], first: &str, second: &str, third: &str) -> bool
     }
 }
 
-/// What a line asks for, of which the command line's reader read these two words behind `format`.
-fn asked_format<'a>(words: &[String], image: &'a str, blocks: &str) -> Option<Words<'a>>
-    ensures { IfSome result (IsLine (map string_bytes words.now)) }
+/// What `format` with these two words asks for.
+fn asked_format<'a>(image: &'a str, blocks: &str) -> Option<Words<'a>>
+    ensures some { IfSome result (IsLine (codes "format" ∷ image.entry.now ∷ blocks.now ∷ [])) }
+    ensures none { IfNone result (IsNoLine (codes "format" ∷ image.entry.now ∷ blocks.now ∷ [])) }
 {
-    if !are_words(words, "format", image, blocks) || !is_name(image) {
+    if !is_name(image) {
         return None;
     }
     let blocks = parse_blocks(blocks)?;
     Some(Words::Format { image, blocks })
 }
 
-/// What a line asks for, of which the command line's reader read these two words behind `run`.
-fn asked_run<'a>(words: &[String], image: &'a str, script: &'a str) -> Option<Words<'a>>
-    ensures { IfSome result (IsLine (map string_bytes words.now)) }
+/// What `run` with these two words asks for.
+fn asked_run<'a>(image: &'a str, script: &'a str) -> Option<Words<'a>>
+    ensures some { IfSome result (IsLine (codes "run" ∷ image.entry.now ∷ script.entry.now ∷ [])) }
+    ensures none { IfNone result (IsNoLine (codes "run" ∷ image.entry.now ∷ script.entry.now ∷ [])) }
 {
-    if !are_words(words, "run", image, script) || !is_name(image) || !is_name(script) {
+    if !is_name(image) || !is_name(script) {
         return None;
     }
     Some(Words::Run { image, script })
 }
 
-/// What a line asks for that the command line's reader accepts, where it is a line of the program word for word.
-fn asked<'a>(words: &[String], matches: &ArgMatches<'a>) -> Option<Words<'a>>
-    ensures { IfSome result (IsLine (map string_bytes words.now)) }
+/// The role that a word names.
+fn parse_role(word: &str) -> Option<Role>
+    ensures some { IfSome result (λ role. word.now ≡ role_name role) }
+    ensures none { IfNone result ((role : Role) → word.now ≢ role_name role) }
 {
-    match matches.subcommand() {
-        Some(("format", format)) => {
-            asked_format(words, format.get_str("image")?, format.get_str("blocks")?)
-        }
-        Some(("run", run)) => asked_run(words, run.get_str("image")?, run.get_str("script")?),
+    match word {
+        "owns" => Some(Role::Owns),
+        "size" => Some(Role::Size),
         _ => None,
     }
 }
 
-/// Reads a command line: `format IMAGE BLOCKS`, `run IMAGE SCRIPT`, or no words. Every other line is `Usage`, also one that
-/// says the same in other words.
+/// What `verify` with these two words asks for.
+fn asked_verify<'a>(text: &'a str, role: &str) -> Option<Words<'a>>
+    ensures some { IfSome result (IsLine (codes "verify" ∷ text.entry.now ∷ role.now ∷ [])) }
+    ensures none { IfNone result (IsNoLine (codes "verify" ∷ text.entry.now ∷ role.now ∷ [])) }
+{
+    if !is_name(text) {
+        return None;
+    }
+    let role = parse_role(role)?;
+    Some(Words::Verify { text, role })
+}
+
+/// What a command with these two words asks for.
+fn asked<'a>(name: &str, first: &'a str, second: &'a str) -> Option<Words<'a>>
+    ensures some { IfSome result (IsLine (name.now ∷ first.entry.now ∷ second.entry.now ∷ [])) }
+    ensures none { IfNone result (IsNoLine (name.now ∷ first.entry.now ∷ second.entry.now ∷ [])) }
+{
+    match name {
+        "format" => asked_format(first, second),
+        "run" => asked_run(first, second),
+        "verify" => asked_verify(first, second),
+        _ => None,
+    }
+}
+
+/// What the words ask for of which this was found. They have to be these words and no others.
+fn line_of<'a>(words: &[String], matches: &ArgMatches<'a>) -> Option<Words<'a>>
+    requires some { 0 < length words.now }
+    requires found { HasMatchesOf program (map string_bytes words.now) matches.now }
+    ensures some { IfSome result (IsLine (map string_bytes words.now)) }
+    ensures none { IfNone result (IsNoLine (map string_bytes words.now)) }
+{
+    let (name, first, second) = three_words(matches)?;
+    if !are_words(words, name, first, second) {
+        return None;
+    }
+    asked(name, first, second)
+}
+
+/// Reads a command line: `format IMAGE BLOCKS`, `run IMAGE SCRIPT`, `verify TEXT ROLE`, or no words. Every other line is
+/// `Usage`, also one that says the same in other words.
 pub fn read<'a>(alloc: Global, words: &'a [String]) -> Result<Words<'a>, LineFault>
     ensures line { IfOk result (IsLine (map string_bytes words.now)) }
     ensures bare { words.now ≡ [] → result ≡ Ok Words.Bare }
+    ensures usage { IfErr result (λ fault. fault ≡ LineFault.Usage → IsNoLine (map string_bytes words.now)) }
 {
     if words.is_empty() {
         return Ok(Words::Bare);
     }
     let matches = matches(alloc, words)?;
-    asked(words, &matches).ok_or(LineFault::Usage)
+    line_of(words, &matches).ok_or(LineFault::Usage)
 }

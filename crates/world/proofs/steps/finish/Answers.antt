@@ -19,7 +19,7 @@ unreachable-requires c =
     let ours = is_ours c.args.kernel.now c.args.tickets.now.items c.requires c.args.block c.into_ticket.result has in
     let calm = calm_read c.args.kernel.now c.args.tickets.now.items c.requires c.args.block c.into_ticket.result has in
     ⊎_elim
-    (λ gives. never_refused c.args.kernel.now c.args.tickets.now.items c.requires c.args.block c.into_ticket.result has c.finish.new.self.state c.in-Err._refusal gives)
+    (λ gives. never_refused c.args.kernel.now c.args.tickets.now.items c.requires c.args.block c.into_ticket.result has c.finish.new.self.state.store c.in-Err._refusal gives)
     (λ device. let unread = c.in-Err.ensures.unread device.0 in false≢true (sym calm ∙ unread.1.0))
     (c.in-Err.ensures.mine ours)
 
@@ -28,10 +28,10 @@ returns-clause-step c =
     let has = place_is c.args.tickets.now.items c.args.block c.index_mut.result.now (search rules) c.index_mut.ensures.value ∙ (sym c.take.ensures.value ∙ (c.in-Some.is ∙ ap (λ t. Some t) (sym c.into_ticket.ensures))) in
     let ours = is_ours c.args.kernel.now c.args.tickets.now.items c.requires c.args.block c.into_ticket.result has in
     let given = c.in-Ok.ensures.given in
-    let settled = settled_at_block c.args.kernel.now c.args.tickets.now.items c.requires c.args.block c.into_ticket.result has c.finish.new.self.state (c.in-Ok.landed.durable, c.in-Ok.landed.freed)
+    let settled = settled_at_block c.args.kernel.now c.args.tickets.now.items c.requires c.args.block c.into_ticket.result has c.finish.new.self.state.store (c.in-Ok.landed.durable, c.in-Ok.landed.freed)
     (⊎_elim (λ gives. gives) (λ none. absurd none) (c.in-Ok.ensures.mine ours)) in
     let block = block_is c.args.kernel.now c.args.tickets.now.items c.requires c.args.block c.into_ticket.result has in
-    let step = finish_step c.args.kernel.now c.args.tickets.now.items c.requires c.args.block c.into_ticket.result has given.0 given.3.1 (c.in-Ok.landed.durable, c.in-Ok.landed.freed) c.finish.new.self.state settled in
+    let step = finish_step c.args.kernel.now c.args.tickets.now.items c.requires c.args.block c.into_ticket.result has given.0 given.3.1 (c.in-Ok.landed.durable, c.in-Ok.landed.freed) c.finish.new.self.state.store settled in
     rw (c.take.ensures.after, given.4, block) step
 
 pub returns-clause-world : goal.returns-clause-world
@@ -39,8 +39,8 @@ returns-clause-world c =
     let has = place_is c.args.tickets.now.items c.args.block c.index_mut.result.now (search rules) c.index_mut.ensures.value ∙ (sym c.take.ensures.value ∙ (c.in-Some.is ∙ ap (λ t. Some t) (sym c.into_ticket.ensures))) in
     let ours = is_ours c.args.kernel.now c.args.tickets.now.items c.requires c.args.block c.into_ticket.result has in
     let given = c.in-Ok.ensures.given in
-    let settled = settled_at_block c.args.kernel.now c.args.tickets.now.items c.requires c.args.block c.into_ticket.result has c.finish.new.self.state (c.in-Ok.landed.durable, c.in-Ok.landed.freed)
+    let settled = settled_at_block c.args.kernel.now c.args.tickets.now.items c.requires c.args.block c.into_ticket.result has c.finish.new.self.state.store (c.in-Ok.landed.durable, c.in-Ok.landed.freed)
     (⊎_elim (λ gives. gives) (λ none. absurd none) (c.in-Ok.ensures.mine ours)) in
     let block = block_is c.args.kernel.now c.args.tickets.now.items c.requires c.args.block c.into_ticket.result has in
-    let leaves = finish_world c.args.kernel.now c.args.tickets.now.items c.requires c.args.block c.into_ticket.result has given.0 given.3.1 (c.in-Ok.landed.durable, c.in-Ok.landed.freed) c.finish.new.self.state settled in
+    let leaves = finish_world c.args.kernel.now c.args.tickets.now.items c.requires c.args.block c.into_ticket.result has given.0 given.3.1 (c.in-Ok.landed.durable, c.in-Ok.landed.freed) c.finish.new.self.state.store settled in
     rw (c.take.ensures.after, given.4, block) leaves

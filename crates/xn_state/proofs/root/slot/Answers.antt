@@ -5,5 +5,6 @@ use Rattle.xn_state.proofs.root.slot.Goals as goal
 pub returns : goal.returns
 unfolding slot
 returns c =
-    let at : 72 + 8 * c.args.fs + 4 ≡ 76 + 8 * c.args.fs = omega arith in
-    λ i. (c.word_at.ensures i, (c.word_at-2.ensures ∙ ap (word_at c.args.block.now) at) i)
+    let first : 72 + 8 * c.index.result ≡ 72 + 8 * c.args.fs.number = omega (arith, c.index.ensures.value) in
+    let second : 72 + 8 * c.index.result + 4 ≡ 76 + 8 * c.args.fs.number = omega (arith, c.index.ensures.value) in
+    λ i. ((c.word_at.ensures ∙ ap (word_at c.args.block.now) first) i, (c.word_at-2.ensures ∙ ap (word_at c.args.block.now) second) i)

@@ -1,7 +1,7 @@
 use Rattle.std.proofs.Common.{◌≡◌, ◌≤◌, ◌<◌, ◌+◌, ◌∙◌, ap, arith, map, length, subst, refl, vec_len, rules}
 use Rattle.std.specs.Vec.{vec_capacity}
 use Rattle.std.proofs.lemmas.List.{take_all}
-use Rattle.xn_model.specs.Worlds.{Run}
+use Rattle.xn_model.specs.Worlds.{Run, Step}
 use Rattle.xn_model.specs.Rules.{Holds}
 use Rattle.world.specs.Events.{event_of, reply_of}
 use Rattle.world.specs.Worlds.{WorldValue, world_with}
@@ -31,8 +31,9 @@ loop-at-preserved c =
     let within : c.loop-at.at < length c.args.events.now = c.loop-at-test.true in
     let before : vec_len c.loop-at.replies ≡ c.loop-at.at = c.loop-at.invariant.2 in
     let room : length c.args.events.now ≤ vec_capacity c.loop-at.replies = c.loop-at.invariant.3 in
-    let ran = ran_more c.args.self.now c.loop-at.self c.step-reply.new.self c.args.events.now c.loop-at.at _ c.loop-at.replies.items c.push_reserved.new.self.items c.step-reply.result
-    within c.push_reserved.ensures.items c.loop-at.invariant.0 c.step-reply.ensures.step in
+    let step = subst (λ event. Step (world_with c.loop-at.self) (event_of event) (reply_of c.step-reply.result) (world_with c.step-reply.new.self)) c.index-events-at.is c.step-reply.ensures.step in
+    let ran = ran_more c.args.self.now c.loop-at.self c.step-reply.new.self c.args.events.now c.loop-at.at c.index-events-at.result c.loop-at.replies.items c.push_reserved.new.self.items c.step-reply.result
+    within c.push_reserved.ensures.items c.loop-at.invariant.0 step in
     (ran, c.step-reply.ensures.rules, c.push_reserved.ensures.len ∙ ap (λ n. n + 1) before, rw c.push_reserved.ensures.capacity room)
 
 pub returns-clause-run : goal.returns-clause-run

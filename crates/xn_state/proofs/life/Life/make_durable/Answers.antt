@@ -14,7 +14,7 @@ returns c =
     let durable = first_durable (option_map on_disk c.self.inside.durable) c.self.inside.pending.items c.args.count c.requires.some (omega arith) in
     let on_disk_now = ap (λ m. Some (on_disk m)) (bytes ∙ sym (ap (bytes_at c.args.count) c.self.view_is)) ∙ sym durable in
     (λ i. record {
-      fs = c.self.inside.fs;
+      fs = option_map (λ f. f.number) c.self.inside.fs;
       ty = c.self.inside.ty;
       status = c.self.inside.status;
       durable = on_disk_now i;

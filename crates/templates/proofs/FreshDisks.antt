@@ -1,0 +1,245 @@
+-- A fresh disk: what its catalogue names, and that it is sound.
+use Rattle.std.proofs.Common.{◌≡◌, ℕ, zero, suc, ◌++◌, suc, ◌+◌, ◌-◌, ◌≤◌, ◌<◌, ◌∙◌, ap, sym, refl, subst, true, cond, List, [], ◌∷◌, map, length, get_or, drop, replicate, length-append, inl, inr, arith}
+use Rattle.std.specs.Prelude.{All, Contains, IsTrue, Option, Some, None, Ok}
+use Rattle.std.specs.Result.{result_ok, is_ok}
+use Rattle.std.specs.Option.{ForSome}
+use Rattle.std.proofs.lemmas.Bool.{cases_lt, ne_eqb, and_from}
+use Rattle.std.proofs.lemmas.List.{length-map, length-replicate, get_or_append_left, get_or-append_right, get_or-map, get_or-replicate, drop_all}
+use Rattle.std.proofs.lemmas.Option.{same_Some, none-some}
+use Rattle.std.proofs.lemmas.List.FromFn.{fill_by_all}
+use Rattle.xn_model.specs.Lists.{distinct, blank, blocks_of}
+use Rattle.xn_model.specs.Types.{Types, fits}
+use Rattle.xn_model.specs.Root.{marked, pointer, templates_of, owned_by_root, HasBuiltIns}
+use Rattle.xn_model.specs.Images.{Reach, root, step, HasOneOwner, IsSound, IsDiskSize, block_of}
+use Rattle.xn_model.proofs.Lists.{Contains-none}
+use Rattle.xn_model.specs.BareDisks.{zeros, bare_root, bare_disk}
+use Rattle.templates.specs.Templates.{TemplateValue, IsTemplate, template_bytes}
+use Rattle.templates.specs.BuiltIns.{root_template}
+use Rattle.templates.specs.Reading.{template_of_bytes}
+use Rattle.templates.specs.Tables.{types_of, template_named, table_of_image}
+use Rattle.templates.specs.Formats.{formatted_root, formatted, table_of}
+use Rattle.templates.proofs.TablePlaces.{get_or-none}
+use Rattle.templates.proofs.OneSpelling.{templates_are_read}
+use Rattle.templates.proofs.BuiltInTypes.{tables_have_built_ins, template_size}
+use Rattle.templates.proofs.WordsWritten.{length-template_bytes}
+use Rattle.templates.proofs.FreshRoots.{named, length-named, get_or-named, distinct_named, root_owns, root_templates, root_clear, root_length, root_marked, pointer_named, pointer_blank}
+
+pub formatted_without_templates : (count : ℕ) → formatted count [] ≡ bare_disk count
+unfolding formatted formatted_root
+formatted_without_templates count =
+    let left : count - 1 - 0 ≡ count - 1 = omega arith in
+    ap (λ n. bare_root count ∷ replicate n (zeros 512)) left
+
+module _ (count : ℕ) (ts : List TemplateValue) (size : IsDiskSize count) (few : length ts ≤ 16) (all : All IsTemplate ts) where
+  abbrev n : ℕ
+  n = length ts
+
+  abbrev content : ℕ → List ℕ
+  content = block_of (formatted count ts)
+
+  abbrev root_bytes : List ℕ
+  root_bytes = formatted_root count n
+
+  abbrev at : ℕ → TemplateValue
+  at i = get_or ts i root_template
+
+  content_root : content 0 ≡ root_bytes
+  unfolding formatted
+  content_root = refl
+
+  content_template : (b i : ℕ) → b ≡ 1 + i → i < n → content b ≡ template_bytes (at i)
+  unfolding formatted
+  content_template b i e lt =
+      let next : b ≡ suc i = omega arith in
+      let long = length-map ts template_bytes in
+      ap content next ∙ (get_or_append_left (map template_bytes ts) (replicate (count - 1 - n) (zeros 512)) [] i (omega arith) ∙ get_or-map template_bytes ts i root_template [] lt)
+
+  template_read : (b i : ℕ) → b ≡ 1 + i → i < n → template_of_bytes (content b) ≡ Ok (at i)
+  template_read b i e lt = ap template_of_bytes (content_template b i e lt) ∙ templates_are_read (at i) (all i root_template lt)
+
+  place_named : (k b : ℕ) → b ≡ 1 + k → k < n → template_named content b ≡ Some (at k)
+  place_named k b e lt =
+      ap (λ t. cond t None (result_ok (template_of_bytes (content b)))) (ne_eqb b 0 (λ z. absurd (omega arith))) ∙ ap result_ok (template_read b k e lt)
+
+  pointers_of : (k : ℕ) → pointer (content 0) k ≡ pointer root_bytes k
+  pointers_of k = ap (λ m. pointer m k) content_root
+
+  table_place : (k : ℕ) → k < 16 → get_or (table_of ts) k None ≡ template_named content (pointer (content 0) k)
+  table_place k within = elim (cases_lt k n) [
+    | inl lt ↦
+        let long = length-map ts (λ (t : TemplateValue). Some t) in
+        get_or_append_left (map Some ts) (replicate (16 - n) None) None k (omega arith)
+        ∙ (get_or-map (λ (t : TemplateValue). Some t) ts k root_template None lt
+        ∙ sym (place_named k (pointer (content 0) k) (pointers_of k ∙ pointer_named count n few k lt) lt))
+    | inr past ↦
+        get_or-append_right (map Some ts) (replicate (16 - n) None) n k None (length-map ts (λ (t : TemplateValue). Some t)) past
+        ∙ (get_or-none (16 - n) (k - n)
+        ∙ sym (ap (template_named content) (pointers_of k ∙ pointer_blank count n few k past)))
+  ]
+
+  table_length : length (table_of ts) ≡ 16
+  table_length =
+      let front = length-map ts (λ (t : TemplateValue). Some t) in
+      let back = length-replicate {A = Option TemplateValue} (16 - n) None in
+      length-append (map Some ts) (replicate (16 - n) None) ∙ omega arith
+
+  places_are : (i : ℕ) → ForSome (get_or (table_of ts) i None) IsTemplate
+  places_are i x h = elim (cases_lt i n) [
+    | inl lt ↦
+        let long = length-map ts (λ (t : TemplateValue). Some t) in
+        let is = get_or_append_left (map Some ts) (replicate (16 - n) None) None i (omega arith) ∙ get_or-map (λ (t : TemplateValue). Some t) ts i root_template None lt in
+        subst IsTemplate (same_Some (at i) x (sym is ∙ h)) (all i root_template lt)
+    | inr past ↦
+        let is = get_or-append_right (map Some ts) (replicate (16 - n) None) n i None (length-map ts (λ (t : TemplateValue). Some t)) past ∙ get_or-none (16 - n) (i - n) in
+        absurd (none-some x (sym is ∙ h))
+  ]
+
+  table_is : table_of_image content ≡ table_of ts
+  unfolding table_of_image
+  table_is = sym (fill_by_all (λ k. template_named content (pointer (content 0) k)) (table_of ts) 16 None table_length table_place)
+
+  -- There are so many blocks, each of 512 bytes
+
+  blocks_count : length (formatted count ts) ≡ count
+  unfolding formatted
+  blocks_count =
+      let least = size.0 in
+      let front = length-map ts template_bytes in
+      let back = length-replicate {A = List ℕ} (count - 1 - n) (zeros 512) in
+      let both = length-append (map template_bytes ts) (replicate (count - 1 - n) (zeros 512)) in
+      omega arith
+
+  behind_root : (i : ℕ) (d : List ℕ) → i < count - 1 → length (get_or (map template_bytes ts ++ replicate (count - 1 - n) (zeros 512)) i d) ≡ 512
+  behind_root i d lt = elim (cases_lt i n) [
+    | inl named ↦
+        let front = length-map ts template_bytes in
+        ap length (get_or_append_left (map template_bytes ts) (replicate (count - 1 - n) (zeros 512)) d i (omega arith) ∙ get_or-map template_bytes ts i root_template d named)
+        ∙ length-template_bytes (at i) (all i root_template named)
+    | inr past ↦
+        ap length (get_or-append_right (map template_bytes ts) (replicate (count - 1 - n) (zeros 512)) n i d (length-map ts template_bytes) past
+        ∙ get_or-replicate (count - 1 - n) (i - n) (zeros 512) d (omega arith))
+        ∙ length-replicate {A = ℕ} 512 0
+  ]
+
+  blocks_are_whole : All (λ block. length block ≡ 512) (formatted count ts)
+  unfolding formatted
+  blocks_are_whole zero d lt = root_length count n few
+  blocks_are_whole (suc i) d lt = let whole = blocks_count in behind_root i d (omega arith)
+
+  -- What is reached: block 0, and each template's block
+
+  abbrev T : Types
+  T = types_of (table_of ts)
+
+  built_ins : HasBuiltIns T
+  built_ins = tables_have_built_ins (table_of ts) (record { places = table_length; templates = places_are })
+
+  root_names : T.owned 0 (content 0) ≡ named n
+  root_names = built_ins.root_owns (content 0) ∙ (ap owned_by_root content_root ∙ root_owns count n few)
+
+  -- a block with a type is block 0 or a template's
+  data Known : ℕ → ℕ → Type 0 where
+    is_root : {b t : ℕ} → b ≡ 0 → t ≡ 0 → Known b t
+    is_template : {b t : ℕ} → (i : ℕ) → i < n → b ≡ 1 + i → t ≡ 1 → Known b t
+
+  known_named : (c u : ℕ) → Contains (named n) (c, u) → (i : ℕ) × (i < n) × (c ≡ 1 + i) × (u ≡ 1)
+  known_named c u h =
+      let long = length-named n in
+      let lt : h.0 < n = omega (arith, h.1) in
+      let is : (1 + h.0, 1) ≡ (c, u) = sym (get_or-named n h.0 (c, u) lt) ∙ h.2 in
+      (h.0, lt, (λ j. (sym is j).0), (λ j. (sym is j).1))
+
+  -- what a known block names
+  known_owns : (b t c u : ℕ) → Known b t → Contains (T.owned t (content b)) (c, u) → Contains (named n) (c, u)
+  known_owns b t c u (is_root e f) h = subst (λ ps. Contains ps (c, u)) ((λ j. T.owned (f j) (content (e j))) ∙ root_names) h
+  known_owns b t c u (is_template i lt e f) h =
+      absurd (Contains-none (c, u) (subst (λ ps. Contains ps (c, u)) (ap (λ v. T.owned v (content b)) f ∙ built_ins.template_owns (content b)) h))
+
+  reached : (c u : ℕ) → Reach T count content c u → Known c u
+  reached c u root = is_root refl refl
+  reached c u (step {b} {t} r lt is h) =
+      let k = known_named c u (known_owns b t c u (reached b t r) h) in
+      is_template k.0 k.1 k.2 k.3
+
+  -- Each known block fits
+
+  root_fits : fits T 0 (content 0) ≡ true
+  root_fits = and_from _ _
+      (ap (λ ps. distinct (blocks_of ps)) root_names ∙ distinct_named n)
+      ((λ j. blank (drop (built_ins.root_size (content 0) j) (content_root j))) ∙ root_clear count n few)
+
+  template_fits : (b i : ℕ) → b ≡ 1 + i → i < n → fits T 1 (content b) ≡ true
+  template_fits b i e lt =
+      let long = ap length (content_template b i e lt) ∙ length-template_bytes (at i) (all i root_template lt) in
+      and_from _ _ (ap (λ ps. distinct (blocks_of ps)) (built_ins.template_owns (content b)))
+      (ap (λ k. blank (drop k (content b))) (template_size (table_of ts) (content b)) ∙ ap blank (drop_all 512 (content b) (omega arith)))
+
+  known_fits : (b t : ℕ) → Known b t → fits T t (content b) ≡ true
+  known_fits b t (is_root e f) = (λ j. fits T (f j) (content (e j))) ∙ root_fits
+  known_fits b t (is_template i lt e f) = ap (λ v. fits T v (content b)) f ∙ template_fits b i e lt
+
+  -- Each named block has one owner
+
+  root_count : length (T.owned 0 (content 0)) ≡ n
+  root_count = ap length root_names ∙ length-named n
+
+  abbrev block_at : ℕ → List (ℕ × ℕ) → ℕ
+  block_at j ps = (get_or {A = ℕ × ℕ} ps j (0, 0)).0
+
+  root_names_at : (j : ℕ) → j < n → (get_or (T.owned 0 (content 0)) j (0, 0)).0 ≡ 1 + j
+  root_names_at j lt = ap (block_at j) root_names ∙ ap (λ (p : ℕ × ℕ). p.0) (get_or-named n j (0, 0) lt)
+
+  only_owner : (b t j c i : ℕ) → c ≡ 1 + i → Known b t → j < length (T.owned t (content b)) → (get_or (T.owned t (content b)) j (0, 0)).0 ≡ c → (b ≡ 0) × (j ≡ i)
+  only_owner b t j c i is (is_root e f) within names =
+      let same : T.owned t (content b) ≡ T.owned 0 (content 0) = λ k. T.owned (f k) (content (e k)) in
+      let few_names = ap length same ∙ root_count in
+      let here = sym (root_names_at j (omega arith)) ∙ (ap (block_at j) (sym same) ∙ (names ∙ is)) in
+      (e, omega arith)
+  only_owner b t j c i is (is_template k lt e f) within names =
+      let none = ap length (ap (λ v. T.owned v (content b)) f ∙ built_ins.template_owns (content b)) in
+      absurd (omega arith)
+
+  one_owner : (c i : ℕ) → c ≡ 1 + i → i < n → HasOneOwner T count content c
+  one_owner c i is lt = record {
+    owner = 0;
+    place = i;
+    owns = record { ty = 0; reached = root; within = (let long = root_count in omega arith); names = root_names_at i lt ∙ sym is };
+    only = λ b j o. only_owner b o.ty j c i is (reached b o.ty o.reached) o.within o.names;
+  }
+
+  -- what a reached block names
+  named_by : (b t c u : ℕ) → Reach T count content b t → Contains (T.owned t (content b)) (c, u) → (i : ℕ) × (i < n) × (c ≡ 1 + i) × (u ≡ 1)
+  named_by b t c u r h = known_named c u (known_owns b t c u (reached b t r) h)
+
+  sound : IsSound T count content
+  unfolding types_of
+  sound = record {
+    size = size;
+    long = ap length content_root ∙ root_length count n few;
+    head = ap (marked count) content_root ∙ root_marked count n few (let most = size.1 in omega arith);
+    templates = λ c u h.
+        let k = known_named c u (subst (λ ps. Contains ps (c, u)) (ap templates_of content_root ∙ root_templates count n few) h) in
+        let least = size.0 in
+        (omega (arith, k.1, k.2), ap is_ok (template_read c k.0 k.2 k.1));
+    fit = λ b t r. known_fits b t (reached b t r);
+    range = λ b t c u r h.
+        let k = named_by b t c u r h in
+        let least = size.0 in
+        (omega (arith, k.2), omega (arith, k.1, k.2));
+    types = λ b t c u r h.
+        let k = named_by b t c u r h in
+        (omega (arith, k.3), subst (λ v. IsTrue (T.installed v)) (sym k.3) built_ins.template);
+    owner = λ b t c u r h. let k = named_by b t c u r h in one_owner c k.0 k.2 k.1;
+  }
+
+pub formatted_has_its_blocks : (count : ℕ) (templates : List TemplateValue) → IsDiskSize count → length templates ≤ 16 → All IsTemplate templates →
+    (length (formatted count templates) ≡ count) × All (λ block. length block ≡ 512) (formatted count templates)
+formatted_has_its_blocks count ts size few all = (blocks_count count ts size few all, blocks_are_whole count ts size few all)
+
+pub formatted_has_its_templates : (count : ℕ) (templates : List TemplateValue) → IsDiskSize count → length templates ≤ 16 → All IsTemplate templates →
+    table_of_image (block_of (formatted count templates)) ≡ table_of templates
+formatted_has_its_templates = table_is
+
+pub formatted_is_sound : (count : ℕ) (templates : List TemplateValue) → IsDiskSize count → length templates ≤ 16 → All IsTemplate templates →
+    IsSound (types_of (table_of templates)) count (block_of (formatted count templates))
+formatted_is_sound = sound

@@ -1,0 +1,11 @@
+pub mod Ranges
+pub mod ReadSteps
+pub mod WordsWritten
+pub mod KnownPrograms
+pub mod TablePlaces
+pub mod FreshImages
+pub mod CataloguePairs
+pub mod BuiltInTypes
+pub mod OneSpelling
+pub mod FreshRoots
+pub mod FreshDisks

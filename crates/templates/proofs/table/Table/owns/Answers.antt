@@ -1,0 +1,10 @@
+use Rattle.std.proofs.Common.{sym}
+use Rattle.templates.proofs.TablePlaces.{not_absent, owned_is}
+use Rattle.templates.proofs.table.Table.owns.Goals as goal
+
+pub unreachable-requires : goal.unreachable-requires
+unreachable-requires c = not_absent c.args.self.now c.args.ty c.requires (sym c.in-None.ensures.value)
+
+pub returns : goal.returns
+returns c = owned_is c.args.self.now c.args.ty c.in-Some.template.now (sym c.in-Some.ensures.value) c.owns.result.now c.args.block.now
+    c.owns-in-Some.new.out.items c.owns.ensures.value c.owns-in-Some.ensures.pairs

@@ -1,0 +1,39 @@
+-- A fresh disk: block 0, the blocks of the templates it is made with, and blocks of zeros.
+use Rattle.std.specs.Prelude.{ℕ, ◌-◌, ◌*◌, nat_le, ◌&&◌, if◌then◌else◌, List, ◌∷◌, ◌++◌, map, length, replicate, Option, Some, None}
+use Rattle.std.specs.Int.{w32, to_le_bytes}
+use Rattle.std.specs.List.{flat_map, range_with_len}
+use Rattle.xn_model.specs.BareDisks.{zeros}
+use Rattle.templates.specs.declared.fault.FormatFault.{FormatFault}
+use Rattle.templates.specs.declared.fault.FormatFault.TheVariants.{BadCount, TooManyTemplates}
+use Rattle.templates.specs.Templates.{TemplateValue, template_bytes}
+use Rattle.templates.specs.Tables.{TableValue}
+use Rattle.templates.specs.RootFields.{root_mark}
+
+-- pointers to the n blocks from block 1 on
+abbrev pub pointer_bytes : ℕ → List ℕ
+pointer_bytes n = flat_map (to_le_bytes w32) (range_with_len 1 n)
+
+-- block 0 of a disk of so many blocks with n templates: the mark, the count, the pointers, then zeros
+unfoldable pub formatted_root : ℕ → ℕ → List ℕ
+formatted_root count n = root_mark ++ (to_le_bytes w32 count ++ (pointer_bytes n ++ zeros (504 - 4 * n)))
+
+-- its blocks: template i stands in block 1 + i
+unfoldable pub formatted : ℕ → List TemplateValue → List (List ℕ)
+formatted count templates =
+    formatted_root count (length templates)
+    ∷ (map template_bytes templates ++ replicate (count - 1 - length templates) (zeros 512))
+
+-- the blocks one after another
+abbrev pub joined : List (List ℕ) → List ℕ
+joined blocks = flat_map (λ block. block) blocks
+
+-- the first fault of such a disk: its count of blocks, then its count of templates
+abbrev pub format_fault : ℕ → ℕ → Option FormatFault
+format_fault count n =
+    if nat_le 32 count && nat_le count 32768
+    then (if nat_le n 16 then None else Some TooManyTemplates)
+    else Some BadCount
+
+-- the table of these templates, from place 0 on
+abbrev pub table_of : List TemplateValue → TableValue
+table_of templates = map Some templates ++ replicate (16 - length templates) None

@@ -1,0 +1,7 @@
+pub mod Templates
+pub mod BuiltIns
+pub mod Reading
+pub mod Meaning
+pub mod Tables
+pub mod RootFields
+pub mod Formats

@@ -1,0 +1,37 @@
+// Why a block is no template, and why no image is made.
+
+use thiserror::Error;
+
+/// Why a block is no template. The faults are found in the order `BadMark`, `BadCode`, `NotVerified`, `BytesAfter`.
+#[derive(Clone, Copy, Debug, Drop, PartialEq, Eq, Error)]
+pub enum TemplateFault {
+    /// No memory for the programs.
+    #[error("NoMemory")]
+    NoMemory = 1,
+    /// The block doesn't begin with the two bytes 58 54.
+    #[error("BadMark")]
+    BadMark = 2,
+    /// More than 127 words together, or bytes that are no program.
+    #[error("BadCode")]
+    BadCode = 3,
+    /// The verifier refuses one of the two programs.
+    #[error("NotVerified")]
+    NotVerified = 4,
+    /// A byte behind the words isn't zero.
+    #[error("BytesAfter")]
+    BytesAfter = 5,
+}
+
+/// Why no image is made. The faults are found in the order `BadCount`, `TooManyTemplates`, `NoMemory`.
+#[derive(Clone, Copy, Debug, Drop, PartialEq, Eq, Error)]
+pub enum FormatFault {
+    /// No memory for the image.
+    #[error("NoMemory")]
+    NoMemory = 1,
+    /// Fewer than 32 blocks, or more than 32,768.
+    #[error("BadCount")]
+    BadCount = 2,
+    /// More than 16 templates.
+    #[error("TooManyTemplates")]
+    TooManyTemplates = 3,
+}

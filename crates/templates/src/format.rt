@@ -1,0 +1,78 @@
+// A disk as formatting leaves it.
+
+ghost use Rattle.std.specs.Prelude.{◌≡◌, ◌⊎◌, ◌≤◌, [], length, Some, None, IfOk, OnOk, MatchResult};
+ghost use Rattle.std.specs.Vec.{vec_len};
+ghost use Rattle.templates.specs.declared.fault.FormatFault.TheVariants.{NoMemory};
+ghost use Rattle.templates.specs.Formats.{formatted, formatted_root, joined, format_fault};
+
+use crate::block::write_block;
+use crate::fault::FormatFault;
+use crate::root::MARK;
+use crate::template::Template;
+use std::alloc::{AllocError, Global};
+
+/// The bytes of a block.
+const BLOCK_LEN: usize = 512;
+
+/// The block of the first template.
+const FIRST_TEMPLATE: u32 = 1;
+
+/// The bytes of a fresh disk of 32 to 32,768 blocks with at most 16 templates: block 0 has the mark, the count and a
+/// pointer to each template, template `i` stands in block 1 + `i`, and all else is zero. The faults come in the order
+/// `BadCount`, `TooManyTemplates`, `NoMemory`.
+pub fn format_image(
+    alloc: Global,
+    blocks: u32,
+    templates: &[Template],
+) -> Result<Vec<u8>, FormatFault>
+    ensures { MatchResult result
+        (λ image. (format_fault blocks (length templates.now) ≡ None)
+        × (image.items ≡ joined (formatted blocks templates.now)))
+        (λ fault. (format_fault blocks (length templates.now) ≡ Some fault)
+        ⊎ ((fault ≡ NoMemory) × (format_fault blocks (length templates.now) ≡ None))) }
+{
+    if blocks < 32 || blocks > 32768 {
+        return Err(FormatFault::BadCount);
+    }
+    if templates.len() > 16 {
+        return Err(FormatFault::TooManyTemplates);
+    }
+    match fresh_image(alloc, blocks, templates) {
+        Ok(image) => Ok(image),
+        Err(AllocError) => Err(FormatFault::NoMemory),
+    }
+}
+
+/// The image of so many blocks with these templates. All memory is taken at the start.
+fn fresh_image(alloc: Global, blocks: u32, templates: &[Template]) -> Result<Vec<u8>, AllocError>
+    requires least { 32 ≤ blocks }
+    requires greatest { blocks ≤ 32768 }
+    requires few { length templates.now ≤ 16 }
+    ensures { IfOk result (λ image. image.items ≡ joined (formatted blocks templates.now)) }
+{
+    let image_len = BLOCK_LEN * blocks as usize;
+    let mut image = Vec::with_capacity(alloc, image_len)?;
+    write_root(&mut image, blocks, templates.len())?;
+    for template in templates {
+        image.extend_from_slice(&write_block(template))?;
+    }
+    image.resize(image_len, 0)?;
+    Ok(image)
+}
+
+/// Writes block 0 of a disk of so many blocks with `count` templates into an empty image.
+fn write_root(image: &mut Vec<u8>, blocks: u32, count: usize) -> Result<(), AllocError>
+    requires empty { image.old.items ≡ [] }
+    requires few { count ≤ 16 }
+    ensures items { OnOk result (image.new.items ≡ formatted_root blocks count) }
+    ensures len { OnOk result (vec_len image.new ≡ 512) }
+{
+    image.extend_from_slice(&MARK)?;
+    image.extend_from_slice(&blocks.to_le_bytes())?;
+    for i in 0..count {
+        let block = FIRST_TEMPLATE + i as u32;
+        image.extend_from_slice(&block.to_le_bytes())?;
+    }
+    image.resize(BLOCK_LEN, 0)?;
+    Ok(())
+}

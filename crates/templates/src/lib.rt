@@ -1,0 +1,23 @@
+//! Templates: how blocks of a type are read, the block that spells one, the table of all types, and fresh images.
+#![tactic(auto)]
+
+pub mod block;
+pub mod built_ins;
+mod code;
+pub mod fault;
+pub mod format;
+pub mod law;
+pub mod root;
+pub mod table;
+pub mod template;
+#[cfg(test)]
+mod tests;
+mod words;
+
+pub use block::{read_block, write_block};
+pub use built_ins::builtin;
+pub use fault::{FormatFault, TemplateFault};
+pub use format::format_image;
+pub use root::{count_of, mark_is_right, pointer, root_bytes, root_slot};
+pub use table::Table;
+pub use template::Template;

@@ -1,0 +1,76 @@
+// Block 0: a mark, the count of blocks, 16 pointers to templates and 32 root slots. Numbers are four bytes, the lowest
+// byte first.
+
+ghost use Rattle.std.specs.Prelude.{◌≡◌, ◌+◌, ◌<◌, ◌≤◌, ◌&&◌, ◌==◌, ℕ};
+ghost use Rattle.xn_model.specs.Root.{word_at, marked, pointer, slot};
+ghost use Rattle.templates.specs.Meaning.{pair_of};
+ghost use Rattle.templates.specs.RootFields.{has_mark, slot_bytes};
+
+use udf_run::Pair;
+
+/// The first bytes of block 0.
+pub(crate) const MARK: [u8; 4] = [0x58, 0x4e, 0x39, 0x37];
+
+/// The byte at which the count of blocks stands.
+const COUNT_START: usize = 4;
+
+/// The byte at which the first pointer stands; each has four.
+const POINTERS_START: usize = 8;
+
+/// The byte at which the first root slot stands; each has eight.
+const SLOTS_START: usize = 72;
+
+/// The number in the four bytes from a place on.
+fn word_at(block: &[u8; 512], at: usize) -> u32
+    requires { at + 4 ≤ 512 }
+    ensures { result ≡ word_at block.now at }
+{
+    let mut bytes = [0u8; 4];
+    bytes.copy_from_slice(&block[at..at + 4]);
+    u32::from_le_bytes(bytes)
+}
+
+/// Whether the block begins with block 0's mark.
+pub fn mark_is_right(block: &[u8; 512]) -> bool
+    ensures value { result ≡ has_mark block.now }
+    // So, with the count, it is marked.
+    ensures marked { (count : ℕ) → marked count block.now ≡ (result && word_at block.now 4 == count) }
+{
+    &block[..MARK.len()] == MARK.as_slice()
+}
+
+/// How many blocks the disk has, as block 0 says.
+pub fn count_of(block: &[u8; 512]) -> u32
+    ensures { result ≡ word_at block.now 4 }
+{
+    word_at(block, COUNT_START)
+}
+
+/// The block of template `i`, from 0 to 15, or 0 where that place of the catalogue is empty.
+pub fn pointer(block: &[u8; 512], i: usize) -> u32
+    requires { i < 16 }
+    ensures { result ≡ pointer block.now i }
+{
+    word_at(block, POINTERS_START + 4 * i)
+}
+
+/// The root of file system `i`, from 0 to 31, with its type; the slot is empty where the block is 0.
+pub fn root_slot(block: &[u8; 512], i: usize) -> Pair
+    requires { i < 32 }
+    ensures { pair_of result ≡ slot block.now i }
+{
+    let at = SLOTS_START + 8 * i;
+    Pair {
+        block: word_at(block, at),
+        ty: word_at(block, at + 4),
+    }
+}
+
+/// A root slot as its eight bytes.
+pub fn root_bytes(root: Pair) -> [u8; 8]
+    ensures { result ≡ slot_bytes (pair_of root) }
+{
+    let [a, b, c, d] = root.block.to_le_bytes();
+    let [e, f, g, h] = root.ty.to_le_bytes();
+    [a, b, c, d, e, f, g, h]
+}

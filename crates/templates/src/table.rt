@@ -1,0 +1,112 @@
+// The templates of all types.
+
+ghost use Rattle.std.specs.Prelude.{◌≡◌, ◌-◌, ◌≤◌, map, slice_set, Some, None, IsTrue, IfOk};
+ghost use Rattle.std.specs.Option.{option_copied};
+ghost use Rattle.templates.specs.Meaning.{pair_of};
+ghost use Rattle.templates.specs.Tables.{IsTable, no_templates, template_of, types_of};
+
+use crate::built_ins::builtin;
+use crate::template::Template;
+use arrayvec::ArrayVec;
+use std::alloc::{AllocError, Global};
+use std::marker::Model;
+use udf_run::{Pair, owns, size};
+use udf_verify::Role;
+
+/// How many places the catalogue has.
+const PLACES: usize = 16;
+
+/// The type of the catalogue's first place.
+const FIRST_PLACE: u32 = 3;
+
+/// The templates by type: 0 to 2 are built in, and type 3 + i stands at place i of the catalogue, i from 0 to 15.
+#[derive(Drop)]
+pub struct Table {
+    root: Template,
+    leaf: Template,
+    places: Vec<Option<Template>>,
+}
+
+impl Model for Table {
+    ghost use Rattle.std.specs.Prelude.{◌≡◌};
+    ghost use Rattle.templates.specs.Tables.{TableValue, IsTable};
+    ghost use Rattle.templates.specs.BuiltIns.{root_template, leaf_template};
+
+    ghost Value = { TableValue };
+
+    ghost view = { λ t. t.places.items };
+
+    ghost invariant = { λ t. IsTable t.places.items × (t.root ≡ root_template) × (t.leaf ≡ leaf_template) };
+}
+
+impl Table {
+    /// The built-in templates alone.
+    pub fn new(alloc: Global) -> Result<Table, AllocError>
+        ensures { IfOk result (λ table. table ≡ no_templates) }
+    {
+        let root = builtin(alloc, 0)?;
+        let leaf = builtin(alloc, 2)?;
+        let mut places = Vec::with_capacity(alloc, PLACES)?;
+        for _place in 0..PLACES {
+            places.push_reserved(None);
+        }
+        Ok(Table { root, leaf, places })
+    }
+
+    /// Puts a template into the empty place of a type from 3 to 18.
+    pub fn put(&mut self, ty: u32, template: Template)
+        requires first { 3 ≤ ty }
+        requires last { ty ≤ 18 }
+        requires empty { template_of self.old ty ≡ None }
+        ensures { self.new ≡ slice_set self.old (ty - 3) (Some template) }
+    {
+        prove!(template.owns().role() == Role::Owns);
+        self.places[(ty - FIRST_PLACE) as usize] = Some(template);
+    }
+
+    /// The template of a type, or `None` where the type is not installed.
+    pub fn get(&self, ty: u32) -> Option<&Template>
+        ensures value { option_copied result ≡ template_of self.now ty }
+        ensures table { IsTable self.now }
+    {
+        match ty {
+            0 => Some(&self.root),
+            1 | 2 => Some(&self.leaf),
+            _ => match self.places.get((ty - FIRST_PLACE) as usize) {
+                Some(place) => place.as_ref(),
+                None => None,
+            },
+        }
+    }
+
+    /// Whether there is such a type.
+    pub fn is_installed(&self, ty: u32) -> bool
+        ensures { result ≡ (types_of self.now).installed ty }
+    {
+        self.get(ty).is_some()
+    }
+
+    /// Leaves in `out` the blocks that a block of an installed type points to, each with its type, in the order of its
+    /// owns program, whatever stood there.
+    pub fn owns(&self, ty: u32, block: &[u8; 512], out: &mut ArrayVec<Pair, 128>)
+        requires { IsTrue ((types_of self.now).installed ty) }
+        ensures { map pair_of out.new.items ≡ (types_of self.now).owned ty block.now }
+    {
+        match self.get(ty) {
+            Some(template) => owns(template.owns(), block, out),
+            None => unreachable!(),
+        }
+    }
+
+    /// From which byte on a block of an installed type is zero, at most 512.
+    pub fn size(&self, ty: u32, block: &[u8; 512]) -> u16
+        requires { IsTrue ((types_of self.now).installed ty) }
+        ensures value { result ≡ (types_of self.now).size ty block.now }
+        ensures small { result ≤ 512 }
+    {
+        match self.get(ty) {
+            Some(template) => size(template.size(), block),
+            None => unreachable!(),
+        }
+    }
+}

@@ -1,0 +1,225 @@
+-- What is counted of lives, where one of them changes.
+use Rattle.std.proofs.Common.{◌≡◌, ℕ, zero, suc, ◌+◌, ◌-◌, ◌<◌, ◌≤◌, Bool, true, false, cond, not, List, [], ◌∷◌, length, take, drop, get_or, replicate, Option, Some, None, refl, sym, ◌∙◌, ap, arith, subst, inl, inr}
+use Rattle.std.specs.Prelude.{sum_by, count_by, slice_set, slice_index, slice_index_or, is_some, is_none, IsTrue, option_map, ◌==◌, nat_lt}
+use Rattle.std.specs.List.{sum, prefix_len, position_or_len}
+use Rattle.std.proofs.Math.Seq.{map-set_same}
+use Rattle.std.proofs.lemmas.Bool.{cases_eq, eq-eqb, ne_eqb, false≢true}
+use Rattle.std.proofs.lemmas.Option.{unwrap_or-slice_get, slice_get_within}
+use Rattle.std.proofs.lemmas.List.{get_or-set_same, get_or-set_other, get_or-replicate, length-set, length-drop, take_all}
+use Rattle.std.proofs.lemmas.List.Sums.{sum-map, sum_by-set, sum_by_push, sum_by-take-drop, sum_by-cons}
+use Rattle.std.proofs.lemmas.List.Folds.{sum_by-replicate}
+use Rattle.std.proofs.lemmas.List.Quantifiers.{position-Some}
+use Rattle.xn_model.specs.declared.status.Status.TheVariants.{Owned}
+use Rattle.xn_model.specs.Lives.{BlockState, Life, Lives, life_at, change_at, with_state, with_status, settle, begun_at, settled_at, is_for, lowest_free}
+use Rattle.xn_model.specs.Calls.{pending_in, new_life}
+use Rattle.xn_model.specs.BareDisks.{root_life}
+use Rattle.xn_model.proofs.Lives.{place_from, length_change, change_same, set_other, set_same}
+use Rattle.xn_state.specs.Kept.{IsCounted}
+use Rattle.xn_state.specs.Plans.{rooted}
+
+-- whether an entry counts for a file system
+abbrev pub counts_for : ℕ → BlockState → Bool
+counts_for fs s = is_for fs s.fs
+
+-- how many pending entries count for a file system
+abbrev pub counted : ℕ → Lives → ℕ
+counted fs lives = sum_by (pending_in fs) lives
+
+sum_same : {X : Type 0} (f : X → ℕ) (xs : List X) (i : ℕ) (y d : X) → f y ≡ f (get_or xs i d) → sum_by f (slice_set xs i y) ≡ sum_by f xs
+sum_same f xs i y d e = sym (sum-map f (slice_set xs i y)) ∙ (ap sum (map-set_same f xs i y d e) ∙ sum-map f xs)
+
+alive_within : (lives : Lives) (b : ℕ) (l : Life) → life_at lives b ≡ Some l → b < length lives
+alive_within lives b l e = slice_get_within lives b (Some l) (place_from lives b l e)
+
+place_is : (lives : Lives) (b : ℕ) → life_at lives b ≡ get_or lives b None
+place_is lives b = unwrap_or-slice_get lives b None
+
+-- a change of a life that leaves its pending entries
+changed_counted : (fs : ℕ) (lives : Lives) (b : ℕ) (g : Life → Life) → ((l : Life) → pending_in fs (Some (g l)) ≡ pending_in fs (Some l)) → counted fs (change_at lives b g) ≡ counted fs lives
+changed_counted fs lives b g same = sum_same (pending_in fs) lives b (option_map g (life_at lives b)) None (at (life_at lives b) ∙ ap (pending_in fs) (place_is lives b))
+  where
+    at : (o : Option Life) → pending_in fs (option_map g o) ≡ pending_in fs o
+    at None = refl
+    at (Some l) = same l
+
+-- a block stays in use where a life changes
+still_in_use : (lives : Lives) (b c : ℕ) (g : Life → Life) → IsTrue (is_some (life_at lives c)) → IsTrue (is_some (life_at (change_at lives b g) c))
+still_in_use lives b c g alive = elim (cases_eq c b) [
+  | inl same ↦ subst (λ o. IsTrue (is_some o)) (sym (ap (life_at (change_at lives b g)) same ∙ change_same lives b g)) (mapped (life_at lives b) (subst (λ x. IsTrue (is_some (life_at lives x))) same alive))
+  | inr other ↦ subst (λ o. IsTrue (is_some o)) (sym (set_other lives b c (option_map g (life_at lives b)) other)) alive
+]
+  where
+    mapped : (o : Option Life) → IsTrue (is_some o) → IsTrue (is_some (option_map g o))
+    mapped None h = h
+    mapped (Some l) h = h
+
+-- A write begins
+
+pub begun_counted : (lives : Lives) (pending : List ℕ) (used b k : ℕ) → IsCounted lives pending used → IsCounted (begun_at lives b k) pending used
+begun_counted lives pending used b k h = record {
+  counts = λ fs few. h.counts fs few ∙ sym (changed_counted fs lives b (λ l. record l { begun = Some k }) (λ l. refl));
+  in_use = λ c below. still_in_use lives b c (λ l. record l { begun = Some k }) (h.in_use c below);
+  within = subst (λ n. used ≤ n) (sym (length_change lives b (λ l. record l { begun = Some k }))) h.within;
+}
+
+-- A write ends
+
+-- the entries of a life that are durable now
+settled_less : (fs : ℕ) (lives : Lives) (b k : ℕ) (l : Life) → life_at lives b ≡ Some l → b < length lives → counted fs (settled_at lives b k) + count_by (counts_for fs) (take k l.pending) ≡ counted fs lives
+settled_less fs lives b k l here within =
+    let now = ap (λ o. counted fs (slice_set lives b (option_map (settle k) o))) here in
+    let moved = sum_by-set (pending_in fs) lives b (Some (settle k l)) None within in
+    let before = ap (pending_in fs) (sym here ∙ place_is lives b) in
+    let parts = sum_by-take-drop (λ s. cond (counts_for fs s) 1 0) l.pending k in
+    omega (arith, now, moved, before, parts)
+
+-- they were counted
+pub few_settled : (fs : ℕ) (lives : Lives) (b k : ℕ) (l : Life) → life_at lives b ≡ Some l → b < length lives → count_by (counts_for fs) (take k l.pending) ≤ counted fs lives
+few_settled fs lives b k l here within = omega (arith, settled_less fs lives b k l here within)
+
+settled_frame : (lives : Lives) (pending pending' : List ℕ) (used b k : ℕ) → IsCounted lives pending used → ((fs : ℕ) → fs < 32 → slice_index pending' fs ≡ counted fs (settled_at lives b k)) → IsCounted (settled_at lives b k) pending' used
+settled_frame lives pending pending' used b k h counts = record {
+  counts = counts;
+  in_use = λ c below. still_in_use lives b c (settle k) (h.in_use c below);
+  within = subst (λ n. used ≤ n) (sym (length_change lives b (settle k))) h.within;
+}
+
+pub settled_counted : (lives : Lives) (pending pending' : List ℕ) (used b k : ℕ) (l : Life) → IsCounted lives pending used → life_at lives b ≡ Some l → b < length lives →
+    ((fs : ℕ) → fs < 32 → slice_index pending' fs + count_by (counts_for fs) (take k l.pending) ≡ slice_index pending fs) → IsCounted (settled_at lives b k) pending' used
+settled_counted lives pending pending' used b k l h here within less =
+    settled_frame lives pending pending' used b k h (λ fs few. omega (arith, less fs few, h.counts fs few, settled_less fs lives b k l here within))
+
+-- nothing ends on a free block
+pub nothing_settled : (lives : Lives) (pending : List ℕ) (used b k : ℕ) → IsCounted lives pending used → life_at lives b ≡ None → IsCounted (settled_at lives b k) pending used
+nothing_settled lives pending used b k h free =
+    settled_frame lives pending pending used b k h (λ fs few. h.counts fs few
+    ∙ sym (sum_same (pending_in fs) lives b (option_map (settle k) (life_at lives b)) None (ap (λ o. pending_in fs (option_map (settle k) o)) free ∙ ap (pending_in fs) (sym free ∙ place_is lives b))))
+
+-- One more entry
+
+-- the counts with one more for a file system
+pub one_more : (pending : List ℕ) (f fs : ℕ) → f < length pending → slice_index (slice_set pending f (slice_index_or pending f 0 + 1)) fs ≡ slice_index pending fs + cond (f == fs) 1 0
+one_more pending f fs within = elim (cases_eq fs f) [
+  | inl same ↦
+      ap (slice_index (slice_set pending f (slice_index_or pending f 0 + 1))) same
+      ∙ (get_or-set_same pending f (slice_index_or pending f 0 + 1) 0 within
+      ∙ (λ i. slice_index pending (sym same i) + cond (sym (eq-eqb f fs (sym same)) i) 1 0))
+  | inr other ↦
+      let same = get_or-set_other pending f fs (slice_index_or pending f 0 + 1) 0 other in
+      let none = ap {B = ℕ} (λ t. cond t 1 0) (ne_eqb f fs (λ e. other (sym e))) in
+      omega (arith, same, none)
+]
+
+started_more : (fs : ℕ) (lives : Lives) (b n f ty : ℕ) (bytes : List ℕ) → b < length lives → life_at lives b ≡ None →
+    counted fs (slice_set lives b (Some (new_life n f ty bytes))) ≡ counted fs lives + cond (f == fs) 1 0
+started_more fs lives b n f ty bytes within free =
+    let moved = sum_by-set (pending_in fs) lives b (Some (new_life n f ty bytes)) None within in
+    let before = ap (pending_in fs) (sym free ∙ place_is lives b) in
+    omega (arith, moved, before)
+
+-- a life starts on the least free block
+pub started_counted : (lives : Lives) (pending : List ℕ) (used b n f ty : ℕ) (bytes : List ℕ) (life : Life) → IsCounted lives pending used → f < length pending → lowest_free lives ≡ Some b →
+    life ≡ new_life n f ty bytes → IsCounted (slice_set lives b (Some life)) (slice_set pending f (slice_index_or pending f 0 + 1)) (b + 1)
+started_counted lives pending used b n f ty bytes life h few lowest started =
+    let least = position-Some is_none lives b None lowest in
+    let free = place_is lives b ∙ none_of (get_or lives b None) least.1 in
+    let now = ap (λ l. slice_set lives b (Some l)) started in
+    record {
+      counts = λ fs low. one_more pending f fs few ∙ (ap (λ n. n + cond (f == fs) 1 0) (h.counts fs low) ∙ sym (ap (counted fs) now ∙ started_more fs lives b n f ty bytes least.0 free));
+      in_use = λ c below. elim (cases_eq c b) [
+        | inl same ↦ subst (λ o. IsTrue (is_some o)) (sym (ap (life_at (slice_set lives b (Some life))) same ∙ set_same lives b (Some life) least.0)) refl
+        | inr other ↦ subst (λ o. IsTrue (is_some o)) (sym (set_other lives b c (Some life) other ∙ place_is lives c)) (some_of (get_or lives c None) (least.2 c (omega (arith, other))))
+      ];
+      within = subst (λ n. b + 1 ≤ n) (sym (length-set lives b (Some life))) (omega (arith, least.0));
+    }
+  where
+    none_of : (o : Option Life) → is_none o ≡ true → o ≡ None
+    none_of None f = refl
+    none_of (Some l) f = absurd (false≢true f)
+
+    some_of : (o : Option Life) → is_none o ≡ false → IsTrue (is_some o)
+    some_of None f = absurd (false≢true (sym f))
+    some_of (Some l) f = refl
+
+appended_more : (fs : ℕ) (lives : Lives) (s : BlockState) (l : Life) → life_at lives 0 ≡ Some l → 0 < length lives → counted fs (change_at lives 0 (with_state s)) ≡ counted fs lives + cond (counts_for fs s) 1 0
+appended_more fs lives s l here within =
+    let now = ap (λ o. counted fs (slice_set lives 0 (option_map (with_state s) o))) here in
+    let moved = sum_by-set (pending_in fs) lives 0 (Some (with_state s l)) None within in
+    let before = ap (pending_in fs) (sym here ∙ place_is lives 0) in
+    let pushed = sum_by_push (λ t. cond (counts_for fs t) 1 0) l.pending s in
+    omega (arith, now, moved, before, pushed)
+
+-- block 0 owns one more block
+rooted_over : (lives : Lives) (pending : List ℕ) (used b f : ℕ) (s : BlockState) (l : Life) → IsCounted lives pending used → f < length pending → life_at lives 0 ≡ Some l → 0 < length lives →
+    s.fs ≡ Some f → IsCounted (rooted lives b s) (slice_set pending f (slice_index_or pending f 0 + 1)) used
+rooted_over lives pending used b f s l h few here within for =
+    let mid = change_at lives 0 (with_state s) in
+    record {
+      counts = λ fs low. one_more pending f fs few ∙ (ap (λ n. n + cond (f == fs) 1 0) (h.counts fs low)
+          ∙ (ap (λ o. counted fs lives + cond (is_for fs o) 1 0) (sym for)
+          ∙ sym (changed_counted fs mid b (with_status (Owned 0)) (λ l. refl) ∙ appended_more fs lives s l here within)));
+      in_use = λ c below. still_in_use mid b c (with_status (Owned 0)) (still_in_use lives 0 c (with_state s) (h.in_use c below));
+      within = subst (λ n. used ≤ n) (sym (length_change mid b (with_status (Owned 0)) ∙ length_change lives 0 (with_state s))) h.within;
+    }
+
+pub rooted_counted : (lives : Lives) (pending : List ℕ) (used b f : ℕ) (s : BlockState) → IsCounted lives pending used → f < length pending → IsTrue (is_some (life_at lives 0)) →
+    s.fs ≡ Some f → IsCounted (rooted lives b s) (slice_set pending f (slice_index_or pending f 0 + 1)) used
+rooted_counted lives pending used b f s h few alive for = by (life_at lives 0) refl alive
+  where
+    by : (o : Option Life) → life_at lives 0 ≡ o → IsTrue (is_some o) → IsCounted (rooted lives b s) (slice_set pending f (slice_index_or pending f 0 + 1)) used
+    by None e t = absurd (false≢true t)
+    by (Some l) e t = rooted_over lives pending used b f s l h few e (alive_within lives 0 l e) for
+
+-- Block 0 alone
+
+-- where nothing is pending, and block 0 is in use
+pub root_counted : (lives : Lives) (pending : List ℕ) (n : ℕ) (root : List ℕ) → lives ≡ Some (root_life root) ∷ replicate n None → pending ≡ replicate 32 0 → IsCounted lives pending 1
+root_counted lives pending n root e zeros = record {
+  counts = λ fs few. ap (λ ps. slice_index ps fs) zeros ∙ (get_or-replicate 32 fs 0 0 few ∙ sym (ap (counted fs) e ∙ nothing fs));
+  in_use = λ b below. subst (λ c. IsTrue (is_some (life_at lives c))) (zero_is b below) (subst (λ ls. IsTrue (is_some (life_at ls 0))) (sym e) refl);
+  within = subst (λ ls. 1 ≤ length ls) (sym e) (omega arith);
+}
+  where
+    zero_is : (b : ℕ) → b < 1 → 0 ≡ b
+    zero_is b below = omega (arith, below)
+
+    nothing : (fs : ℕ) → counted fs (Some (root_life root) ∷ replicate n None) ≡ 0
+    nothing fs =
+        let first = sum_by-cons (pending_in fs) (Some (root_life root)) (replicate n None) in
+        let rest = sum_by-replicate (pending_in fs) n None in
+        omega (arith, first, rest)
+
+-- The search for a free block
+
+pub prefix_behind : {X : Type 0} (p : X → Bool) (xs : List X) (n : ℕ) (d : X) → n ≤ length xs → ((k : ℕ) → k < n → p (get_or xs k d) ≡ true) → prefix_len p xs ≡ n + prefix_len p (drop n xs)
+prefix_behind p xs zero d within all = omega arith
+prefix_behind p [] (suc n) d within all = absurd (omega (arith, within))
+prefix_behind p (x ∷ xs) (suc n) d within all =
+    let rest = prefix_behind p xs n d (omega (arith, within)) (λ k lt. all (suc k) (omega (arith, lt))) in
+    ap (λ t. cond t (1 + prefix_len p xs) 0) (all 0 (omega arith)) ∙ omega (arith, rest)
+
+-- behind blocks that are in use
+pub free_behind : (lives : Lives) (used : ℕ) → used ≤ length lives → ((c : ℕ) → c < used → IsTrue (is_some (life_at lives c))) → lowest_free lives ≡ option_map (λ k. used + k) (lowest_free (drop used lives))
+free_behind lives used within in_use =
+    let behind = prefix_behind (λ o. not (is_none o)) lives used None within (λ c below. passes (get_or lives c None) (subst (λ o. IsTrue (is_some o)) (place_is lives c) (in_use c below))) in
+    shifted (position_or_len is_none lives) (position_or_len is_none (drop used lives)) (length lives) (length (drop used lives)) used behind (length-drop used lives) within
+  where
+    shifted : (p q l m used : ℕ) → p ≡ used + q → m ≡ l - used → used ≤ l → cond (nat_lt p l) (Some p) None ≡ option_map (λ k. used + k) (cond (nat_lt q m) (Some q) None)
+    shifted p q l m used e f within = grind arith
+
+    passes : (o : Option Life) → IsTrue (is_some o) → not (is_none o) ≡ true
+    passes None h = absurd (false≢true h)
+    passes (Some l) h = refl
+
+-- what a slice from a place on holds
+pub all_behind : {X : Type 0} (xs : List X) (n : ℕ) → take (length xs - n) (drop n xs) ≡ drop n xs
+all_behind xs n = take_all (length xs - n) (drop n xs) (omega (arith, length-drop n xs))
+
+-- a place that is read
+pub place_read : (lives : Lives) (b : ℕ) (o : Option Life) → b < length lives → o ≡ get_or lives b o → life_at lives b ≡ o
+place_read lives b o within e = place_is lives b ∙ (same lives b within ∙ sym e)
+  where
+    same : (xs : Lives) (b : ℕ) → b < length xs → get_or xs b None ≡ get_or xs b o
+    same [] b lt = absurd (omega (arith, lt))
+    same (x ∷ xs) zero lt = refl
+    same (x ∷ xs) (suc b) lt = same xs b (omega (arith, lt))

@@ -1,6 +1,0 @@
-use Rattle.std.proofs.Common.{◌≡◌, take}
-use Rattle.xn_model.specs.Lives.{least_to, entries_of}
-use Rattle.xn_state.proofs.lives.least_for.Given as goal
-
-abbrev pub invariant-loop-place : goal.invariant-loop-place
-invariant-loop-place l = l.least ≡ least_to l.most (entries_of l.fs (take l.place-index l.lives))

@@ -1,0 +1,122 @@
+// The first script, by the state alone.
+
+ghost use Rattle.std.specs.Prelude.{◌≡◌};
+ghost use Rattle.xn_model.specs.BareDisks.{bare_root};
+
+use crate::{EditId, Fs, Refusal, State};
+use std::alloc::{AllocError, Global};
+use std::test::Fail;
+use templates::{Table, read_block};
+
+/// Block 0 of a fresh disk of 32 blocks.
+fn fresh_root() -> [u8; 512]
+    ensures { result ≡ bare_root 32 }
+{
+    let mut root = [0u8; 512];
+    root[0] = 0x58;
+    root[1] = 0x4e;
+    root[2] = 0x39;
+    root[3] = 0x37;
+    root[4] = 32;
+    root
+}
+
+/// The state of a fresh disk of 32 blocks with the types of a table.
+fn state_with(alloc: Global, table: Table) -> Result<State, AllocError> {
+    let _root = table.get(0);
+    State::new(alloc, table, 32, &fresh_root())
+}
+
+/// The state of a fresh disk of 32 blocks without templates.
+fn fresh_state(alloc: Global) -> Result<State, AllocError> {
+    state_with(alloc, Table::new(alloc)?)
+}
+
+/// The block of a template of a list: a block may point to one more, of type 3, and is zero from byte 4 on.
+fn list_template() -> [u8; 512] {
+    let mut block = [0u8; 512];
+    let code = [
+        0x58, 0x54, 0x05, 0x01, 0x0c, 0x01, 0x00, 0x00, 0x0e, 0x00, 0x01, 0x00, 0x01, 0x02, 0x03,
+        0x00, 0x0d, 0x01, 0x02, 0x00, 0x11, 0x00, 0x00, 0x00, 0x01, 0x00, 0x04, 0x00,
+    ];
+    block[..28].copy_from_slice(&code);
+    block
+}
+
+fn fs(number: u8) -> Result<Fs, Fail> {
+    Ok(Fs::new(number).ok_or("no file system")?)
+}
+
+#[test]
+fn file_systems_are_numbered_0_to_31(rt: HostRuntime) -> Result<(), Fail> {
+    assert_eq!(rt; fs(0)?.number(), 0);
+    assert_eq!(rt; fs(31)?.index(), 31);
+    assert!(rt; Fs::new(32).is_none());
+    Ok(())
+}
+
+#[test]
+fn a_root_is_durable_after_the_block_that_it_names(rt: HostRuntime) -> Result<(), Fail> {
+    let owner = fs(0)?;
+    let mut state = fresh_state(rt.alloc())?;
+    let mut bytes = [0u8; 512];
+    bytes[0] = 0x41;
+    assert!(rt; state.init(owner, 2, &bytes) == Ok((1, EditId(1))));
+    assert!(rt; state.make_root(owner, 1) == Ok(EditId(2)));
+    assert!(rt; state.begun(0) == Err(Refusal::NothingSafe));
+    assert!(rt; !state.is_in_flight(1));
+    assert!(rt; state.begun(1) == Ok((bytes, 1)));
+    assert!(rt; state.is_in_flight(1));
+    assert!(rt; state.begun(1) == Err(Refusal::InFlight));
+    assert!(rt; state.settled(1, &bytes) == Ok((1, 0)));
+    assert_eq!(rt; state.floor(owner), 2);
+    assert!(rt; state.settled(1, &bytes) == Err(Refusal::NotMine));
+    let mut root = fresh_root();
+    root[72] = 1;
+    root[76] = 2;
+    assert!(rt; state.begun(0) == Ok((root, 1)));
+    // A read that finds other bytes than the durable and the begun ones settles nothing.
+    assert!(rt; state.settled(0, &bytes) == Err(Refusal::NotMine));
+    assert!(rt; state.settled(0, &root) == Ok((1, 0)));
+    assert_eq!(rt; state.floor(owner), 3);
+    Ok(())
+}
+
+#[test]
+fn each_block_is_taken_once(rt: HostRuntime) -> Result<(), Fail> {
+    let mut state = fresh_state(rt.alloc())?;
+    for block in 1..32u32 {
+        let number = EditId(u64::from(block));
+        assert!(rt; state.init(fs(0)?, 2, &[0; 512]) == Ok((block, number)));
+    }
+    assert!(rt; state.init(fs(0)?, 2, &[0; 512]) == Err(Refusal::NoSpace));
+    assert!(rt; state.init(fs(0)?, 3, &[0; 512]) == Err(Refusal::BadType));
+    assert_eq!(rt; state.floor(fs(0)?), 1);
+    assert_eq!(rt; state.floor(fs(1)?), 32);
+    Ok(())
+}
+
+#[test]
+fn a_block_of_an_installed_type_fits_it_and_points_to_nothing(rt: HostRuntime) -> Result<(), Fail> {
+    let owner = fs(0)?;
+    let mut table = Table::new(rt.alloc())?;
+    let Ok(template) = read_block(rt.alloc(), &list_template()) else {
+        return Err("no template".into());
+    };
+    if table.get(3).is_none() {
+        table.put(3, template);
+    }
+    let mut state = state_with(rt.alloc(), table)?;
+    let mut pointing = [0u8; 512];
+    pointing[0] = 5;
+    let mut long = [0u8; 512];
+    long[4] = 1;
+    assert!(rt; state.init(owner, 0, &long) == Err(Refusal::BadType));
+    assert!(rt; state.init(owner, 1, &long) == Err(Refusal::BadType));
+    assert!(rt; state.init(owner, 4, &long) == Err(Refusal::BadType));
+    assert!(rt; state.init(owner, 3, &long) == Err(Refusal::SizeWrong));
+    assert!(rt; state.init(owner, 3, &pointing) == Err(Refusal::ClaimWrong));
+    assert!(rt; state.init(owner, 2, &pointing) == Ok((1, EditId(1))));
+    assert!(rt; state.init(owner, 3, &[0; 512]) == Ok((2, EditId(2))));
+    Ok(())
+}

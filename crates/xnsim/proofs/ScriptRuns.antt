@@ -1,0 +1,64 @@
+-- Runs of the first commands of a script.
+use Rattle.std.proofs.Common.{◌≡◌, ◌<◌, ◌+◌, ℕ, Option, None, Some, List, [], ◌∷◌, ◌++◌, length, take, map, get_or, refl, sym, ◌∙◌, ap, subst}
+use Rattle.std.specs.List.{flat_map}
+use Rattle.std.specs.Io.KnownBytes.{Appends}
+use Rattle.std.proofs.lemmas.List.{take_more, map-append, append-nil, append_assoc}
+use Rattle.std.proofs.lemmas.Grind.{flat_map-append}
+use Rattle.xn_model.specs.Worlds as model
+use Rattle.xn_model.specs.Worlds.{Run, Step}
+use Rattle.xn_model.specs.BareDisks.{bare_world}
+use Rattle.templates.specs.Tables.{no_templates, types_of}
+use Rattle.world.specs.declared.reply.Reply.{Reply}
+use Rattle.world.specs.Events.{reply_of}
+use Rattle.xnsim.specs.declared.command.Command.{Command}
+use Rattle.xnsim.specs.Events.{event_of_command}
+use Rattle.xnsim.specs.Replies.{reply_line}
+use Rattle.xnsim.specs.Runs.{IsRun}
+
+-- these commands were run, their replies printed, and the world is this
+pub record IsRunTo (blocks : ℕ) (commands : List Command) (old new : Option (List ℕ)) (after : model.World) : Type 0 where
+  pub replies : List Reply
+  pub run : IsRun blocks commands replies after
+  pub printed : Appends old new (flat_map reply_line replies)
+
+run_more : (w : model.World) (es : List model.Event) (rs : List model.Reply) (mid : model.World) (e : model.Event) (r : model.Reply) (after : model.World) →
+    Run w es rs mid → Step mid e r after → Run w (es ++ e ∷ []) (rs ++ r ∷ []) after
+run_more w [] [] mid e r after run step = (after, subst (λ v. Step v e r after) run step, refl)
+run_more w [] (y ∷ rs) mid e r after run step = absurd run
+run_more w (x ∷ es) [] mid e r after run step = absurd run
+run_more w (x ∷ es) (y ∷ rs) mid e r after run step = (run.0, run.1, run_more run.0 es rs mid e r after run.2 step)
+
+-- what was printed, and one line more
+printed_more : (old mid new : Option (List ℕ)) (bytes line : List ℕ) → Appends old mid bytes → Appends mid new line → Appends old new (bytes ++ line)
+printed_more None mid new bytes line first second = tt
+printed_more (Some xs) None new bytes line first second = absurd first
+printed_more (Some xs) (Some ys) None bytes line first second = absurd second
+printed_more (Some xs) (Some ys) (Some zs) bytes line first second = second ∙ (ap (λ start. start ++ line) first ∙ append_assoc xs bytes line)
+
+nothing_printed : (old : Option (List ℕ)) → Appends old old []
+nothing_printed None = tt
+nothing_printed (Some xs) = sym (append-nil xs)
+
+-- before the first command
+pub none_run : (blocks : ℕ) (old : Option (List ℕ)) (after : model.World) → after ≡ bare_world (types_of no_templates) blocks → IsRunTo blocks [] old old after
+none_run blocks old after fresh = record { replies = []; run = fresh; printed = nothing_printed old }
+
+-- one command more
+pub run_one_more : (blocks : ℕ) (commands : List Command) (at : ℕ) (command : Command) (old mid new : Option (List ℕ)) (before after : model.World) (event : model.Event) (reply : Reply) →
+    at < length commands → get_or commands at command ≡ command → event ≡ event_of_command command →
+    Step before event (reply_of reply) after → Appends mid new (reply_line reply) →
+    IsRunTo blocks (take at commands) old mid before → IsRunTo blocks (take (at + 1) commands) old new after
+run_one_more blocks commands at command old mid new before after event reply within here asked step printed so_far =
+    let rs = so_far.replies in
+    let sent : map event_of_command (take (at + 1) commands) ≡ map event_of_command (take at commands) ++ event ∷ [] =
+    ap (map event_of_command) (take_more commands at command within) ∙ (map-append event_of_command (take at commands) (get_or commands at command ∷ [])
+    ∙ ap (λ (e : model.Event). map event_of_command (take at commands) ++ e ∷ []) (ap event_of_command here ∙ sym asked)) in
+    let told = map-append reply_of rs (reply ∷ []) in
+    let ran = run_more (bare_world (types_of no_templates) blocks) (map event_of_command (take at commands)) (map reply_of rs) before event (reply_of reply) after so_far.run step in
+    let lines : flat_map reply_line (rs ++ reply ∷ []) ≡ flat_map reply_line rs ++ reply_line reply =
+    flat_map-append reply_line rs (reply ∷ []) ∙ ap (λ last. flat_map reply_line rs ++ last) (append-nil (reply_line reply)) in
+    record {
+      replies = rs ++ reply ∷ [];
+      run = rw (sent, told) ran;
+      printed = rw lines (printed_more old mid new (flat_map reply_line rs) (reply_line reply) so_far.printed printed);
+    }

@@ -1,0 +1,115 @@
+// The text of a program is verified.
+
+ghost use Rattle.std.specs.Prelude.{◌≡◌, IfErr, OnOk};
+ghost use Rattle.std.specs.Io.KnownBytes.{Appends};
+ghost use Rattle.xnsim.specs.ProgramFaults.{asm_kind_name, code_fault_name, fault_kind_name};
+ghost use Rattle.xnsim.specs.Programs.{accepted_line, IsTextFault, PrintsAccepted};
+
+use crate::fault::Fault;
+use std::alloc::Global;
+use std::io::Write;
+use std::{fmt, io};
+use udf_asm::{AsmFault, AsmKind, assemble};
+use udf_code::CodeFault;
+use udf_verify::{FaultKind, Role, VerifyFault, verify};
+
+/// Why a text is no program, or the program is refused.
+#[derive(Clone, Copy, Debug, PartialEq, Eq)]
+pub enum ProgramFault {
+    Text(AsmFault),
+    Rule(VerifyFault),
+}
+
+/// The line that tells the fault, without its newline.
+impl fmt::Display for ProgramFault {
+    ghost use Rattle.std.specs.Prelude.{Some};
+    ghost use Rattle.xnsim.specs.ProgramFaults.{program_fault_text};
+
+    ghost output = { λ fault. Some (program_fault_text fault) };
+
+    fn fmt<W: fmt::Write>(&self, f: &mut fmt::Formatter<W>) -> fmt::Result {
+        match self {
+            ProgramFault::Text(fault) => {
+                write!(f, "line {}: {}", fault.line, asm_kind_name(fault.kind))
+            }
+            ProgramFault::Rule(fault) => {
+                write!(f, "refused {} at {}", fault_kind_name(fault.kind), fault.at)
+            }
+        }
+    }
+}
+
+/// Verifies the program of a text for a role, and prints what it comes to. A fault of the text comes before those of the
+/// program, and `Stream` last.
+pub fn verify_text<'a, W: Write>(
+    alloc: Global,
+    text: &str,
+    role: Role,
+    out: &mut W,
+) -> Result<(), Fault<'a>>
+    ensures accepted { OnOk result (PrintsAccepted text.now role (W.contents out.old) (W.contents out.new)) }
+    ensures fault { IfErr result (IsTextFault text.now role) }
+{
+    let words = assemble(alloc, text)?;
+    let program = verify(alloc, words.as_slice(), role)?;
+    print_accepted(out, program.cost(), program.emits())?;
+    Ok(())
+}
+
+/// Prints what an accepted program comes to.
+fn print_accepted<W: Write>(out: &mut W, cost: u32, emits: u32) -> io::Result<()>
+    ensures { OnOk result (Appends (W.contents out.old) (W.contents out.new) (accepted_line cost emits)) }
+{
+    writeln!(out, "accepted cost {cost} emits {emits}")
+}
+
+/// The name of what is wrong with a text. A fault of its words is told without its place.
+fn asm_kind_name(kind: AsmKind) -> &'static str
+    ensures { result.now ≡ asm_kind_name kind }
+{
+    match kind {
+        AsmKind::NoMemory => "NoMemory",
+        AsmKind::BadLine => "BadLine",
+        AsmKind::BadName => "BadName",
+        AsmKind::BadCount => "BadCount",
+        AsmKind::BadNumber => "BadNumber",
+        AsmKind::Code(fault) => code_fault_name(fault),
+    }
+}
+
+/// The name of what is wrong with words.
+fn code_fault_name(fault: CodeFault) -> &'static str
+    ensures { result.now ≡ code_fault_name fault }
+{
+    match fault {
+        CodeFault::NoMemory => "NoMemory",
+        CodeFault::OddLength(_) => "OddLength",
+        CodeFault::BadOp(_) => "BadOp",
+        CodeFault::BadOperand(_) => "BadOperand",
+        CodeFault::Unmatched(_) => "Unmatched",
+        CodeFault::MisplacedKeep(_) => "MisplacedKeep",
+        CodeFault::TooDeep(_) => "TooDeep",
+        CodeFault::TooLong => "TooLong",
+    }
+}
+
+/// The name of the rule that a program breaks.
+pub fn fault_kind_name(kind: FaultKind) -> &'static str
+    ensures { result.now ≡ fault_kind_name kind }
+{
+    match kind {
+        FaultKind::NoMemory => "NoMemory",
+        FaultKind::Load => "Load",
+        FaultKind::Sum => "Sum",
+        FaultKind::Difference => "Difference",
+        FaultKind::Product => "Product",
+        FaultKind::Divisor => "Divisor",
+        FaultKind::Counter => "Counter",
+        FaultKind::SameRegister => "SameRegister",
+        FaultKind::DeadBranch => "DeadBranch",
+        FaultKind::Keep => "Keep",
+        FaultKind::Emits => "Emits",
+        FaultKind::Cost => "Cost",
+        FaultKind::SizeAnswer => "SizeAnswer",
+    }
+}
