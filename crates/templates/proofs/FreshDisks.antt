@@ -1,28 +1,33 @@
 -- A fresh disk: what its catalogue names, and that it is sound.
 use Rattle.std.proofs.Common.{◌≡◌, ℕ, zero, suc, ◌++◌, suc, ◌+◌, ◌-◌, ◌≤◌, ◌<◌, ◌∙◌, ap, sym, refl, subst, true, cond, List, [], ◌∷◌, map, length, get_or, drop, replicate, length-append, inl, inr, arith}
-use Rattle.std.specs.Prelude.{All, Contains, IsTrue, Option, Some, None, Ok}
+use Rattle.std.specs.Prelude.{All, Contains, IsTrue, Option, Some, None, Ok, option_to_list, flat_map}
+use Rattle.std.specs.List.{range_with_len}
 use Rattle.std.specs.Result.{result_ok, is_ok}
 use Rattle.std.specs.Option.{ForSome}
 use Rattle.std.proofs.lemmas.Bool.{cases_lt, ne_eqb, and_from}
-use Rattle.std.proofs.lemmas.List.{length-map, length-replicate, get_or_append_left, get_or-append_right, get_or-map, get_or-replicate, drop_all}
+use Rattle.std.proofs.lemmas.List.{length-map, length-replicate, get_or_append_left, get_or-append_right, get_or-map, get_or-replicate, drop_all, append-nil}
 use Rattle.std.proofs.lemmas.Option.{same_Some, none-some}
-use Rattle.std.proofs.lemmas.List.FromFn.{fill_by_all}
+use Rattle.std.proofs.lemmas.List.FromFn.{fill_by_all, length-range_with_len}
 use Rattle.xn_model.specs.Lists.{distinct, blank, blocks_of}
 use Rattle.xn_model.specs.Types.{Types, fits}
-use Rattle.xn_model.specs.Root.{marked, pointer, templates_of, owned_by_root, HasBuiltIns}
+use Rattle.xn_model.specs.Root.{marked, pointer, slot, unless_empty, templates_of, owned_by_root, HasBuiltIns}
+use Rattle.xn_model.specs.Mounts.{IsRecovered, recovered, found, found_by, found_in, found_in_slot, walk}
 use Rattle.xn_model.specs.Images.{Reach, root, step, HasOneOwner, IsSound, IsDiskSize, block_of}
 use Rattle.xn_model.proofs.Lists.{Contains-none}
-use Rattle.xn_model.specs.BareDisks.{zeros, bare_root, bare_disk}
+use Rattle.xn_model.specs.BareDisks.{zeros, bare_root, bare_disk, mounted_disk}
+use Rattle.xn_model.specs.Rules.{Holds}
+use Rattle.xn_model.proofs.Mount.{mount_holds}
+use Rattle.xn_model.proofs.Walk.{recovered_is}
 use Rattle.templates.specs.Templates.{TemplateValue, IsTemplate, template_bytes}
 use Rattle.templates.specs.BuiltIns.{root_template}
 use Rattle.templates.specs.Reading.{template_of_bytes}
 use Rattle.templates.specs.Tables.{types_of, template_named, table_of_image}
-use Rattle.templates.specs.Formats.{formatted_root, formatted, table_of}
+use Rattle.templates.specs.Formats.{formatted_root, formatted, root_found, template_found, fresh_found, table_of}
 use Rattle.templates.proofs.TablePlaces.{get_or-none}
 use Rattle.templates.proofs.OneSpelling.{templates_are_read}
 use Rattle.templates.proofs.BuiltInTypes.{tables_have_built_ins, template_size}
 use Rattle.templates.proofs.WordsWritten.{length-template_bytes}
-use Rattle.templates.proofs.FreshRoots.{named, length-named, get_or-named, distinct_named, root_owns, root_templates, root_clear, root_length, root_marked, pointer_named, pointer_blank}
+use Rattle.templates.proofs.FreshRoots.{named, length-named, get_or-named, distinct_named, root_owns, root_templates, root_clear, root_length, root_marked, pointer_named, pointer_blank, slot_blank}
 
 pub formatted_without_templates : (count : ℕ) → formatted count [] ≡ bare_disk count
 unfolding formatted formatted_root
@@ -131,7 +136,7 @@ module _ (count : ℕ) (ts : List TemplateValue) (size : IsDiskSize count) (few 
   abbrev T : Types
   T = types_of (table_of ts)
 
-  built_ins : HasBuiltIns T
+  pub built_ins : HasBuiltIns T
   built_ins = tables_have_built_ins (table_of ts) (record { places = table_length; templates = places_are })
 
   root_names : T.owned 0 (content 0) ≡ named n
@@ -231,6 +236,64 @@ module _ (count : ℕ) (ts : List TemplateValue) (size : IsDiskSize count) (few 
         (omega (arith, k.3), subst (λ v. IsTrue (T.installed v)) (sym k.3) built_ins.template);
     owner = λ b t c u r h. let k = named_by b t c u r h in one_owner c k.0 k.2 k.1;
   }
+
+  -- What a mount finds: block 0, and then the templates' blocks, which name nothing
+
+  abbrev image : List (List ℕ)
+  image = formatted count ts
+
+  no_slots : (is : List ℕ) → flat_map (found_in_slot (content 0)) is ≡ []
+  no_slots [] = refl
+  no_slots (i ∷ is) =
+      let empty : slot (content 0) i ≡ (0, 0) = ap (λ m. slot m i) content_root ∙ slot_blank count n few i in
+      (λ j. found_by (Some 0) (Some i) (option_to_list (unless_empty (empty j))) ++ no_slots is j)
+
+  found_named : (is : List ℕ) → found_by (Some 0) None (map (λ i. (1 + i, 1)) is) ≡ map template_found is
+  found_named [] = refl
+  found_named (i ∷ is) = ap (λ fs. template_found i ∷ fs) (found_named is)
+
+  root_finds : found_in T image root_found ≡ map template_found (range_with_len 0 n)
+  root_finds =
+      (λ j. found_by (Some 0) None ((ap templates_of content_root ∙ root_templates count n few) j) ++ no_slots (range_with_len 0 32) j)
+      ∙ (append-nil (found_by (Some 0) None (named n)) ∙ found_named (range_with_len 0 n))
+
+  template_finds : (i : ℕ) → found_in T image (template_found i) ≡ []
+  template_finds i =
+      ap (λ t. cond t (found_by (Some 0) None (templates_of (content 0)) ++ flat_map (found_in_slot (content 0)) (range_with_len 0 32)) (found_by (Some (1 + i)) None (T.owned 1 (content (1 + i))))) (ne_eqb (1 + i) 0 (λ z. absurd (omega arith)))
+      ∙ ap (found_by (Some (1 + i)) None) (built_ins.template_owns (content (1 + i)))
+
+  walk_templates : (m : ℕ) (is : List ℕ) → length is ≤ m → walk m T image (map template_found is) ≡ map template_found is
+  walk_templates zero [] h = refl
+  walk_templates zero (i ∷ is) h = absurd (omega arith)
+  walk_templates (suc m) [] h = refl
+  walk_templates (suc m) (i ∷ is) h = ap (λ fs. template_found i ∷ fs)
+      (ap (walk m T image) (ap (λ fs. map template_found is ++ fs) (template_finds i) ∙ append-nil (map template_found is)) ∙ walk_templates m is (omega arith))
+
+  walk_root : (m : ℕ) → n + 1 ≤ m → walk m T image (root_found ∷ []) ≡ fresh_found n
+  walk_root zero h = absurd (omega arith)
+  walk_root (suc m) h =
+      let long = length-range_with_len 0 n in
+      ap (λ fs. root_found ∷ fs) (ap (walk m T image) root_finds ∙ walk_templates m (range_with_len 0 n) (omega arith))
+
+  found_are : found T image ≡ fresh_found n
+  found_are = let whole = blocks_count in let least = size.0 in walk_root (length image) (omega arith)
+
+  whole_sound : IsSound T (length image) content
+  whole_sound = subst (λ k. IsSound T k content) (sym blocks_count) sound
+
+  pub mount_recovers : IsRecovered T image (recovered T image)
+  mount_recovers = recovered_is T built_ins image whole_sound
+
+  pub holds : Holds (mounted_disk T image)
+  holds = mount_holds (mounted_disk T image) built_ins whole_sound (recovered T image) mount_recovers
+
+pub formatted_holds : (count : ℕ) (templates : List TemplateValue) → IsDiskSize count → length templates ≤ 16 → All IsTemplate templates →
+    Holds (mounted_disk (types_of (table_of templates)) (formatted count templates))
+formatted_holds = holds
+
+pub formatted_is_found : (count : ℕ) (templates : List TemplateValue) → IsDiskSize count → length templates ≤ 16 → All IsTemplate templates →
+    found (types_of (table_of templates)) (formatted count templates) ≡ fresh_found (length templates)
+formatted_is_found = found_are
 
 pub formatted_has_its_blocks : (count : ℕ) (templates : List TemplateValue) → IsDiskSize count → length templates ≤ 16 → All IsTemplate templates →
     (length (formatted count templates) ≡ count) × All (λ block. length block ≡ 512) (formatted count templates)

@@ -8,7 +8,8 @@ use Rattle.xn_model.specs.BareDisks.{zeros}
 use Rattle.templates.proofs.Ranges.{range-more}
 use Rattle.templates.specs.Templates.{TemplateValue, template_bytes}
 use Rattle.templates.specs.RootFields.{root_mark}
-use Rattle.templates.specs.Formats.{pointer_bytes, formatted_root, formatted, joined}
+use Rattle.xn_model.specs.Images.{joined}
+use Rattle.templates.specs.Formats.{pointer_bytes, formatted_root, formatted}
 
 -- Block 0
 

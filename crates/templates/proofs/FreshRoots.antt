@@ -106,7 +106,7 @@ module _ (count n : ℕ) (few : n ≤ 16) where
   unfolding pointer
   pointer_blank = word_blank
 
-  slot_blank : (i : ℕ) → slot (formatted_root count n) i ≡ (0, 0)
+  pub slot_blank : (i : ℕ) → slot (formatted_root count n) i ≡ (0, 0)
   unfolding slot
   slot_blank i =
       let block : 72 + 8 * i ≡ 8 + 4 * (16 + 2 * i) = omega arith in

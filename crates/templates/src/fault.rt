@@ -1,5 +1,6 @@
 // Why a block is no template, and why no image is made.
 
+use std::alloc::AllocError;
 use thiserror::Error;
 
 /// Why a block is no template. The faults are found in the order `BadMark`, `BadCode`, `NotVerified`, `BytesAfter`.
@@ -34,4 +35,15 @@ pub enum FormatFault {
     /// More than 16 templates.
     #[error("TooManyTemplates")]
     TooManyTemplates = 3,
+}
+
+impl From<AllocError> for FormatFault {
+    ghost use Rattle.std.specs.Prelude.{◌≡◌};
+    ghost use Rattle.templates.specs.declared.fault.FormatFault.TheVariants.{NoMemory};
+
+    ghost from_gives = { λ _ fault. fault ≡ NoMemory };
+
+    fn from(_error: AllocError) -> FormatFault {
+        FormatFault::NoMemory
+    }
 }

@@ -1,9 +1,9 @@
 // A disk as formatting leaves it.
 
-ghost use Rattle.std.specs.Prelude.{◌≡◌, ◌⊎◌, ◌≤◌, [], length, Some, None, IfOk, OnOk, MatchResult};
+ghost use Rattle.std.specs.Prelude.{◌≡◌, ◌≤◌, [], length, None, IfOk, OnOk, MatchResult};
 ghost use Rattle.std.specs.Vec.{vec_len};
-ghost use Rattle.templates.specs.declared.fault.FormatFault.TheVariants.{NoMemory};
-ghost use Rattle.templates.specs.Formats.{formatted, formatted_root, joined, format_fault};
+ghost use Rattle.templates.specs.Formats.{formatted, formatted_root, format_fault, IsFormatFault};
+ghost use Rattle.xn_model.specs.Images.{joined};
 
 use crate::block::write_block;
 use crate::fault::FormatFault;
@@ -28,8 +28,7 @@ pub fn format_image(
     ensures { MatchResult result
         (λ image. (format_fault blocks (length templates.now) ≡ None)
         × (image.items ≡ joined (formatted blocks templates.now)))
-        (λ fault. (format_fault blocks (length templates.now) ≡ Some fault)
-        ⊎ ((fault ≡ NoMemory) × (format_fault blocks (length templates.now) ≡ None))) }
+        (IsFormatFault blocks (length templates.now)) }
 {
     if blocks < 32 || blocks > 32768 {
         return Err(FormatFault::BadCount);
@@ -37,10 +36,7 @@ pub fn format_image(
     if templates.len() > 16 {
         return Err(FormatFault::TooManyTemplates);
     }
-    match fresh_image(alloc, blocks, templates) {
-        Ok(image) => Ok(image),
-        Err(AllocError) => Err(FormatFault::NoMemory),
-    }
+    Ok(fresh_image(alloc, blocks, templates)?)
 }
 
 /// The image of so many blocks with these templates. All memory is taken at the start.

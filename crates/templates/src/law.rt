@@ -3,12 +3,14 @@
 ghost use Rattle.std.specs.Prelude.{◌≡◌, ◌≢◌, ◌≤◌, ◌<◌, ℕ, List, [], length, All, Ok, Err};
 ghost use Rattle.xn_model.specs.Root.{HasBuiltIns};
 ghost use Rattle.xn_model.specs.Images.{IsSound, IsDiskSize, block_of};
-ghost use Rattle.xn_model.specs.BareDisks.{built_ins, bare_disk};
+ghost use Rattle.xn_model.specs.BareDisks.{built_ins, bare_disk, mounted_disk};
+ghost use Rattle.xn_model.specs.Rules.{Holds};
+ghost use Rattle.xn_model.specs.Mounts.{found};
 ghost use Rattle.templates.specs.declared.fault.TemplateFault.TheVariants.{NoMemory};
 ghost use Rattle.templates.specs.Templates.{TemplateValue, IsTemplate, template_bytes};
 ghost use Rattle.templates.specs.Reading.{template_of_bytes};
 ghost use Rattle.templates.specs.Tables.{TableValue, IsTable, no_templates, types_of, table_of_image};
-ghost use Rattle.templates.specs.Formats.{formatted, table_of};
+ghost use Rattle.templates.specs.Formats.{formatted, fresh_found, table_of};
 
 /// A template is read from its block.
 pub fn templates_are_read()
@@ -57,4 +59,16 @@ pub fn formatted_has_its_templates()
 pub fn formatted_is_sound()
     ensures { (count : ℕ) (templates : List TemplateValue) → IsDiskSize count → length templates ≤ 16 → All IsTemplate templates →
         IsSound (types_of (table_of templates)) count (block_of (formatted count templates)) }
+{}
+
+/// A mount of it finds block 0 and the templates' blocks.
+pub fn formatted_is_found()
+    ensures { (count : ℕ) (templates : List TemplateValue) → IsDiskSize count → length templates ≤ 16 → All IsTemplate templates →
+        found (types_of (table_of templates)) (formatted count templates) ≡ fresh_found (length templates) }
+{}
+
+/// So its first mount begins with the rules.
+pub fn formatted_holds()
+    ensures { (count : ℕ) (templates : List TemplateValue) → IsDiskSize count → length templates ≤ 16 → All IsTemplate templates →
+        Holds (mounted_disk (types_of (table_of templates)) (formatted count templates)) }
 {}

@@ -5,7 +5,7 @@ use Rattle.disk.specs.Mem.{MemoryLane}
 use Rattle.xn_kernel.specs.Kernels.{TicketValue}
 use Rattle.xn_model.specs.Images.{block_of}
 use Rattle.std.proofs.lemmas.List.{take_more, append-nil}
-use Rattle.world.specs.Images.{joined}
+use Rattle.xn_model.specs.Images.{joined}
 use Rattle.world.specs.Disks.{bytes_in, image_of, ticket_at}
 
 abbrev Lanes : Type 0

@@ -3,6 +3,6 @@ pub mod Places
 pub mod Flights
 pub mod Stepping
 pub mod Sizes
-pub mod BareImage
 pub mod Formats
 pub mod Runs
+pub mod FreshTables

@@ -1,4 +1,3 @@
 pub mod Events
 pub mod Disks
-pub mod Images
 pub mod Worlds

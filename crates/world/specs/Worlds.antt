@@ -1,15 +1,17 @@
 -- A world, as its kernel and its tickets make it.
-use Rattle.std.specs.Prelude.{◌≡◌, ℕ, List, length, Option, Some, Bool, false, option_map, slice_get}
+use Rattle.std.specs.Prelude.{◌≡◌, ℕ, List, length, Option, Some, Bool, false, option_map, slice_get, All}
 use Rattle.disk.specs.Mem.{MemoryLane, HoldsImage}
 use Rattle.xn_model.specs.Lives.{StoreState, life_at}
 use Rattle.xn_model.specs.Lanes.{FitLives}
 use Rattle.xn_model.specs.Flights.{flight_of}
 use Rattle.xn_model.specs.Worlds.{World, mounted_state}
-use Rattle.xn_model.specs.BareDisks.{bare_disk, bare_lives}
-use Rattle.templates.specs.Tables.{TableValue, no_templates, types_of}
+use Rattle.xn_model.specs.Images.{joined}
+use Rattle.xn_model.specs.Mounts.{recovered}
+use Rattle.templates.specs.Templates.{TemplateValue, IsTemplate}
+use Rattle.templates.specs.Tables.{TableValue, types_of}
+use Rattle.templates.specs.Formats.{formatted, table_of}
 use Rattle.xn_model.specs.Rules.{Holds}
 use Rattle.xn_kernel.specs.Kernels.{KernelValue, TicketValue}
-use Rattle.world.specs.Images.{joined}
 use Rattle.world.specs.Disks.{image_of, IsCalm, ticket_at}
 
 abbrev pub Tickets : Type 0
@@ -52,8 +54,10 @@ pub record IsWorld (kernel : KernelValue MemoryLane) (tickets : Tickets) : Type 
   pub flights : (b : ℕ) → ticket_flight (ticket_at tickets b) ≡ flight_of (life_at kernel.state.store.lives b)
   pub mine : (b : ℕ) (ticket : TicketValue MemoryLane) → ticket_at tickets b ≡ Some ticket → IsTicketOf kernel b ticket
 
--- the kernel of a fresh disk of so many blocks: each lane is at home, over its block's bytes
-pub record IsFresh (blocks : ℕ) (kernel : KernelValue MemoryLane) : Type 0 where
+-- the kernel of a fresh disk with these templates: each lane is at home, over its block's bytes
+pub record IsFresh (blocks : ℕ) (templates : List TemplateValue) (kernel : KernelValue MemoryLane) : Type 0 where
   pub first : kernel.id ≡ 1
-  pub lanes : HoldsImage (joined (bare_disk blocks)) kernel.lanes
-  pub state : kernel.state ≡ record { table = no_templates; store = mounted_state (bare_lives blocks) }
+  pub lanes : HoldsImage (joined (formatted blocks templates)) kernel.lanes
+  pub table : kernel.state.table ≡ table_of templates
+  pub store : kernel.state.store ≡ mounted_state (recovered (types_of (table_of templates)) (formatted blocks templates))
+  pub checked : All IsTemplate templates

@@ -9,6 +9,5 @@ mod ticket;
 mod world;
 
 pub use event::{Call, Event};
-pub use format::bare_image;
 pub use reply::Reply;
 pub use world::World;

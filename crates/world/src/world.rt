@@ -1,28 +1,25 @@
 // A world.
 
-ghost use Rattle.std.specs.Prelude.{◌≡◌, ◌*◌, ◌%◌, ◌^◌, ◌<◌, ◌≤◌, All, length, map, replicate, None, IfOk, IfErr};
-ghost use Rattle.xn_model.specs.Images.{block_of, IsSound};
-ghost use Rattle.disk.specs.Mem.{HoldsImage};
-ghost use Rattle.xn_model.specs.BareDisks.{bare_world, root_alone};
-ghost use Rattle.xn_model.specs.Lanes.{FitLives};
+ghost use Rattle.std.specs.Prelude.{◌≡◌, ◌<◌, length, map, replicate, None, IfOk, IfErr, MatchResult};
+ghost use Rattle.xn_model.specs.Images.{block_of, joined, IsSound};
+ghost use Rattle.xn_model.specs.BareDisks.{mounted_disk};
 ghost use Rattle.xn_model.specs.Worlds as model;
-ghost use Rattle.xn_model.specs.Worlds.{mounted_state};
-ghost use Rattle.xn_model.specs.Rules.{IsConsistent, Holds, Agrees};
-ghost use Rattle.templates.specs.Tables.{TableValue, no_templates, types_of};
+ghost use Rattle.xn_model.specs.Rules.{Holds, Agrees};
+ghost use Rattle.templates.specs.Tables.{types_of};
+ghost use Rattle.templates.specs.Formats.{formatted, format_fault, table_of, IsFormatFault};
 ghost use Rattle.world.specs.Disks.{image_of};
 ghost use Rattle.world.specs.Events.{event_of, reply_of};
-ghost use Rattle.world.specs.Images.{joined};
-ghost use Rattle.world.specs.Worlds.{world_with, IsWorld, IsFresh};
+ghost use Rattle.world.specs.Worlds.{world_with, IsWorld};
 
 use crate::event::Event;
-use crate::format::bare_image;
+use crate::format::fresh_kernel;
 use crate::reply::Reply;
 use crate::steps;
 use crate::ticket::Held;
-use disk::{BLOCK_LEN, Lanes, MemDisk, MemLane};
+use disk::{BLOCK_LEN, MemLane};
 use std::alloc::{AllocError, Global};
 use std::marker::Model;
-use templates::Table;
+use templates::{FormatFault, Template};
 use xn_kernel::Kernel;
 
 #[cfg(test)]
@@ -47,13 +44,15 @@ impl Model for World {
 }
 
 impl World {
-    /// A fresh disk of so many blocks, from 32 to 32,768, without templates, and its first mount.
-    pub fn format(alloc: Global, blocks: u32) -> Result<World, AllocError>
-        requires few { 32 ≤ blocks }
-        requires many { blocks ≤ 32768 }
-        ensures { IfOk result (λ world. world_with world ≡ bare_world (types_of no_templates) blocks) }
+    /// A fresh disk of 32 to 32,768 blocks with at most 16 templates, whose types are 3 and those that follow, and its
+    /// first mount. The faults come in the order `BadCount`, `TooManyTemplates`, `NoMemory`.
+    pub fn format(alloc: Global, blocks: u32, templates: &[Template]) -> Result<World, FormatFault>
+        ensures { MatchResult result
+            (λ world. (format_fault blocks (length templates.now) ≡ None)
+            × (world_with world ≡ mounted_disk (types_of (table_of templates.now)) (formatted blocks templates.now)))
+            (IsFormatFault blocks (length templates.now)) }
     {
-        let kernel = fresh_kernel(alloc, blocks)?;
+        let kernel = fresh_kernel(alloc, blocks, templates)?;
         let tickets = no_tickets(alloc, blocks)?;
         Ok(World {
             alloc,
@@ -136,54 +135,6 @@ fn block_bytes<'a>(
             Some(held) => held.lane().bytes(),
             None => unreachable!(),
         },
-    }
-}
-
-/// The kernel of a fresh disk's first mount, over lanes in memory.
-fn fresh_kernel(alloc: Global, blocks: u32) -> Result<Kernel<MemLane>, AllocError>
-    requires few { 32 ≤ blocks }
-    requires many { blocks ≤ 32768 }
-    ensures { IfOk result (IsFresh blocks) }
-{
-    let image = bare_image(alloc, blocks)?;
-    let mut root = [0; BLOCK_LEN];
-    root.copy_from_slice(&image[..BLOCK_LEN]);
-    let lanes = fresh_lanes(alloc, &image)?;
-    let table = Table::new(alloc)?;
-    start(alloc, lanes, table, &root)
-}
-
-/// Fresh lanes over the bytes of a disk.
-fn fresh_lanes(alloc: Global, image: &[u8]) -> Result<Lanes<MemLane>, AllocError>
-    requires whole { length image.now % 512 ≡ 0 }
-    requires small { length image.now < 512 * 2 ^ 32 }
-    ensures { IfOk result (λ lanes. HoldsImage image.now lanes) }
-{
-    let disk = MemDisk::new(alloc, image)?;
-    match disk.split(alloc) {
-        Ok(lanes) => Ok(lanes),
-        Err(_) => Err(AllocError),
-    }
-}
-
-/// The kernel of the disk's first mount.
-fn start(
-    alloc: Global,
-    lanes: Lanes<MemLane>,
-    table: Table,
-    root: &[u8; 512],
-) -> Result<Kernel<MemLane>, AllocError>
-    requires rules { IsConsistent (types_of table) (mounted_state (root_alone (length lanes) root.now)) }
-    requires fit { FitLives (λ lane. lane.bytes) lanes (root_alone (length lanes) root.now) }
-    ensures { IfOk result (λ kernel. kernel ≡ record {
-      id = 1;
-      lanes = lanes;
-      state = record { table = table; store = mounted_state (root_alone (length lanes) root.now) };
-    }) }
-{
-    match Kernel::start(alloc, lanes, 1, table, root) {
-        Ok(kernel) => Ok(kernel),
-        Err(_) => Err(AllocError),
     }
 }
 

@@ -5,10 +5,10 @@ ghost use Rattle.disk.specs.Lanes.{CountsOne};
 ghost use Rattle.xn_model.specs.Results.{Gives, GivesExactly, result_map};
 ghost use Rattle.xn_model.specs.Calls.{init_of, make_root_of, begun_of, settled_of, floor_of};
 ghost use Rattle.xn_model.specs.Worlds.{mounted_state};
-ghost use Rattle.xn_model.specs.BareDisks.{root_alone};
-ghost use Rattle.xn_model.specs.Lanes.{FitLives};
-ghost use Rattle.xn_model.specs.Rules.{IsConsistent};
+ghost use Rattle.xn_model.specs.Images.{blocks_in};
+ghost use Rattle.xn_model.specs.Lanes.{HoldImage};
 ghost use Rattle.templates.specs.Tables.{types_of};
+ghost use Rattle.xn_state.specs.Mounts.{lives_in, AreFound};
 ghost use Rattle.xn_state.specs.States.{StateValue, types_in};
 ghost use Rattle.xn_kernel.specs.Kernels.{KernelValue, TicketValue, is_in_flight, is_mine, result_map_err};
 
@@ -17,7 +17,7 @@ use disk::{Lane, Lanes};
 use std::alloc::Global;
 use std::marker::Model;
 use templates::Table;
-use xn_state::{EditId, Fs, Refusal, State};
+use xn_state::{EditId, Found, Fs, Refusal, State};
 
 /// What a finished write did: how many of its entries are durable, and how many blocks are free.
 #[derive(Clone, Copy, Debug, PartialEq, Eq)]
@@ -49,26 +49,27 @@ impl<L: Lane> Model for Kernel<L> {
 impl<L: Lane> Kernel<L> {
     ghost use Rattle.disk.specs.declared.lane.DeviceFault.{DeviceFault};
 
-    /// A kernel over a disk on which block 0, with these bytes, is all that is reached, with the types
-    /// of a table. `Err` gives the lanes back and comes only for want of memory.
+    /// A kernel over a disk whose lanes hold a sound image, of which these are the reached blocks, each once, with the types of the
+    /// image's table. Each of them has one state, the durable one, and entry numbers start at 1. `Err` gives the lanes
+    /// back and comes only for want of memory.
     pub fn start(
         alloc: Global,
         lanes: Lanes<L>,
         id: u64,
         table: Table,
-        root: &[u8; 512],
+        image: &[u8],
+        found: &[Found],
     ) -> Result<Kernel<L>, Lanes<L>>
-        requires rules { IsConsistent (types_of table) (mounted_state (root_alone (length lanes) root.now)) }
-        requires fit { FitLives L.bytes_of lanes (root_alone (length lanes) root.now) }
+        requires held { HoldImage L.bytes_of lanes (blocks_in image.now) }
+        requires found { AreFound (types_of table) image.now found.now }
         ensures ok { IfOk result (λ kernel. kernel ≡ record {
           id = id;
           lanes = lanes;
-          state = record { table = table; store = mounted_state (root_alone (length lanes) root.now) };
+          state = record { table = table; store = mounted_state (lives_in image.now found.now) };
         }) }
         ensures err { IfErr result (λ back. back ≡ lanes) }
     {
-        let blocks = lanes.blocks() as u32;
-        match State::new(alloc, table, blocks, root) {
+        match State::new(alloc, table, image, found) {
             Ok(state) => Ok(Kernel { id, lanes, state }),
             Err(_) => Err(lanes),
         }

@@ -1,4 +1,5 @@
 pub mod Lists
+pub mod Bytes
 pub mod Reached
 pub mod Changes
 pub mod Lives
@@ -31,5 +32,4 @@ pub mod Acts
 pub mod Floors
 pub mod Flights
 pub mod Given
-pub mod BareDisks
 pub mod Examples

@@ -1,12 +1,11 @@
 -- A disk as it is after formatting, with the built-in types alone.
 --     built_ins              the types without any template
 --     bare_disk count        its blocks: block 0 with a mark and the count, all else 0
---     bare_lives count       the lives of its first mount: block 0's alone
-use Rattle.std.specs.Prelude.{ℕ, ◌-◌, false, cond, nat_lt, List, [], ◌∷◌, ◌++◌, replicate, Some, None}
+--     mounted_disk T image   a disk with the state of its mount
+use Rattle.std.specs.Prelude.{ℕ, ◌-◌, false, cond, nat_lt, List, [], ◌∷◌, ◌++◌, replicate}
 use Rattle.std.specs.Int.{w32, to_le_bytes}
 use Rattle.xn_model.specs.Types.{Types}
 use Rattle.xn_model.specs.Root.{owned_by_root}
-use Rattle.xn_model.specs.Lives.{on_disk, Fresh, Life, Lives}
 use Rattle.xn_model.specs.Mounts.{recovered}
 use Rattle.xn_model.specs.Worlds.{World, mounted_state}
 
@@ -29,20 +28,6 @@ bare_root count = (88 ∷ 78 ∷ 57 ∷ 55 ∷ []) ++ (to_le_bytes w32 count ++ 
 abbrev pub bare_disk : ℕ → List (List ℕ)
 bare_disk count = bare_root count ∷ replicate (count - 1) (zeros 512)
 
--- block 0's life, which is nobody's
-abbrev pub root_life : List ℕ → Life
-root_life bytes = record { fs = None; ty = 0; status = Fresh; durable = Some (on_disk bytes); pending = []; begun = None }
-
--- that life, and free blocks behind it
-abbrev pub root_alone : ℕ → List ℕ → Lives
-root_alone count bytes = Some (root_life bytes) ∷ replicate (count - 1) None
-
-abbrev pub bare_lives : ℕ → Lives
-bare_lives count = root_alone count (bare_root count)
-
--- such a disk, mounted under types
-abbrev pub bare_world : Types → ℕ → World
-bare_world T count = record { types = T; image = bare_disk count; state = mounted_state (bare_lives count); down = false }
-
+-- a disk, mounted under types
 abbrev pub mounted_disk : Types → List (List ℕ) → World
 mounted_disk T image = record { types = T; image = image; state = mounted_state (recovered T image); down = false }

@@ -1,9 +1,20 @@
 -- A disk's blocks seen by what is read of each, and how many there are.
+--     blocks_in bytes                  the blocks that stand one after another in bytes
 --     Reach T count content c u        block c is reached under type u
 --     IsSound T count content            what check accepts
-use Rattle.std.specs.Prelude.{◌≡◌, ℕ, ◌<◌, ◌≤◌, List, slice_index_or, [], length, IsTrue, Contains}
+use Rattle.std.specs.Prelude.{◌≡◌, ℕ, ◌/◌, ◌<◌, ◌≤◌, List, slice_index_or, [], length, IsTrue, Contains}
+use Rattle.std.specs.List.{flat_map}
+use Rattle.std.specs.Simd.{first_chunks}
 use Rattle.xn_model.specs.Types.{Types, fits}
 use Rattle.xn_model.specs.Root.{marked, templates_of}
+
+-- blocks one after another
+abbrev pub joined : List (List ℕ) → List ℕ
+joined blocks = flat_map (λ block. block) blocks
+
+-- each whole 512 bytes
+abbrev pub blocks_in : List ℕ → List (List ℕ)
+blocks_in bytes = first_chunks 512 (length bytes / 512) bytes
 
 -- the bytes of a block of an image
 abbrev pub block_of : List (List ℕ) → ℕ → List ℕ

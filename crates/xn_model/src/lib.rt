@@ -1,18 +1,18 @@
 //! The abstract model of a block store with soft updates, and its laws.
 #![tactic(auto)]
 
-ghost use Rattle.std.specs.Prelude.{◌≡◌, ◌≤◌, ◌<◌, ◌⊎◌, ℕ, List, Option, length, slice_get, slice_set, Some, None, Ok, Contains, IsSome};
+ghost use Rattle.std.specs.Prelude.{◌≡◌, ◌≤◌, ◌<◌, ◌⊎◌, ℕ, List, Option, length, slice_get, slice_set, Some, None, Ok, All, Contains, IsSome, ◌*◌};
 ghost use Rattle.std.specs.List.{AllByRecursion};
 ghost use Rattle.xn_model.specs.Types.{Types};
 ghost use Rattle.xn_model.specs.Root.{HasBuiltIns};
-ghost use Rattle.xn_model.specs.Images.{IsSound, IsDiskSize, block_of};
+ghost use Rattle.xn_model.specs.Images.{IsSound, IsDiskSize, block_of, blocks_in, joined};
 ghost use Rattle.xn_model.specs.Lives.{Lives, Life, StoreState, BlockState, life_at, floor, entries_of};
 ghost use Rattle.xn_model.specs.Calls.{Edit, init_of, propose_of, make_root_of, drop_root_of, forget_of, begun_of, settled_of, pick_of, pending_of};
 ghost use Rattle.xn_model.specs.Mounts.{recovered, IsRecovered};
 ghost use Rattle.xn_model.specs.Worlds.{World, Event, Reply, Drained, replies, world_after, mounted, drain, all_pending, IsEvent, Step, Run};
 ghost use Rattle.xn_model.specs.Lanes.{FitLives, HoldImage};
 ghost use Rattle.xn_model.specs.Flights.{flight_of, HaveSameFlights, HaveSameFlightsBut};
-ghost use Rattle.xn_model.specs.BareDisks.{built_ins, bare_disk, bare_lives, bare_world, mounted_disk};
+ghost use Rattle.xn_model.specs.BareDisks.{built_ins, bare_disk, mounted_disk};
 ghost use Rattle.xn_model.specs.Rules.{IsConsistent, Keeps, Holds, IsIdle, IsPlaced, ArePlaced, Agrees};
 ghost use Rattle.xn_model.specs.Rows.{sent, answered, library, library_disk, first_row, dropped_row, landed_row, lost_row, failed_new_row, failed_old_row, many_row, refused_row, after_row, drained_row, rolled_back_row, claimed_row};
 
@@ -147,6 +147,12 @@ pub fn step_keeps()
     ensures { (w : World) (e : Event) (r : Reply) (after : World) → IsEvent e → Holds w → Step w e r after → Holds after }
 {}
 
+/// The blocks of an image are read back from its bytes.
+pub fn blocks_are_read()
+    ensures blocks { (blocks : List (List ℕ)) → All (λ block. length block ≡ 512) blocks → blocks_in (joined blocks) ≡ blocks }
+    ensures bytes { (blocks : List (List ℕ)) → All (λ block. length block ≡ 512) blocks → length (joined blocks) ≡ 512 * length blocks }
+{}
+
 /// A mount of a sound image begins with the rules.
 pub fn mount_holds()
     ensures { (w : World) (lives : Lives) → HasBuiltIns w.types → IsSound w.types (length w.image) (block_of w.image) →
@@ -199,14 +205,6 @@ pub fn mount_finds()
 /// What happens with ample memory is a run, for every list of events.
 pub fn acts_run()
     ensures { (w : World) (es : List Event) → Holds w → AllByRecursion IsEvent es → Run w es (replies w es) (world_after w es) }
-{}
-
-/// A disk as formatting leaves it is sound, its first mount finds block 0 alone, and begins with the
-/// rules.
-pub fn bare_holds()
-    ensures sound { (types : Types) → HasBuiltIns types → (count : ℕ) → IsDiskSize count → IsSound types count (block_of (bare_disk count)) }
-    ensures recovered { (types : Types) → HasBuiltIns types → (count : ℕ) → IsDiskSize count → IsRecovered types (bare_disk count) (bare_lives count) }
-    ensures holds { (types : Types) → HasBuiltIns types → (count : ℕ) → IsDiskSize count → Holds (bare_world types count) }
 {}
 
 /// Rows of commands on a disk with the built-in types, with their replies.

@@ -1,18 +1,16 @@
 -- What is counted of lives, where one of them changes.
-use Rattle.std.proofs.Common.{◌≡◌, ℕ, zero, suc, ◌+◌, ◌-◌, ◌<◌, ◌≤◌, Bool, true, false, cond, not, List, [], ◌∷◌, length, take, drop, get_or, replicate, Option, Some, None, refl, sym, ◌∙◌, ap, arith, subst, inl, inr}
+use Rattle.std.proofs.Common.{◌≡◌, ℕ, zero, suc, ◌+◌, ◌-◌, ◌<◌, ◌≤◌, Bool, true, false, cond, not, List, [], ◌∷◌, length, take, drop, get_or, Option, Some, None, refl, sym, ◌∙◌, ap, arith, subst, inl, inr}
 use Rattle.std.specs.Prelude.{sum_by, count_by, slice_set, slice_index, slice_index_or, is_some, is_none, IsTrue, option_map, ◌==◌, nat_lt}
 use Rattle.std.specs.List.{sum, prefix_len, position_or_len}
 use Rattle.std.proofs.Math.Seq.{map-set_same}
 use Rattle.std.proofs.lemmas.Bool.{cases_eq, eq-eqb, ne_eqb, false≢true}
 use Rattle.std.proofs.lemmas.Option.{unwrap_or-slice_get, slice_get_within}
-use Rattle.std.proofs.lemmas.List.{get_or-set_same, get_or-set_other, get_or-replicate, length-set, length-drop, take_all}
-use Rattle.std.proofs.lemmas.List.Sums.{sum-map, sum_by-set, sum_by_push, sum_by-take-drop, sum_by-cons}
-use Rattle.std.proofs.lemmas.List.Folds.{sum_by-replicate}
+use Rattle.std.proofs.lemmas.List.{get_or-set_same, get_or-set_other, length-set, length-drop, take_all}
+use Rattle.std.proofs.lemmas.List.Sums.{sum-map, sum_by-set, sum_by_push, sum_by-take-drop}
 use Rattle.std.proofs.lemmas.List.Quantifiers.{position-Some}
 use Rattle.xn_model.specs.declared.status.Status.TheVariants.{Owned}
 use Rattle.xn_model.specs.Lives.{BlockState, Life, Lives, life_at, change_at, with_state, with_status, settle, begun_at, settled_at, is_for, lowest_free}
 use Rattle.xn_model.specs.Calls.{pending_in, new_life}
-use Rattle.xn_model.specs.BareDisks.{root_life}
 use Rattle.xn_model.proofs.Lives.{place_from, length_change, change_same, set_other, set_same}
 use Rattle.xn_state.specs.Kept.{IsCounted}
 use Rattle.xn_state.specs.Plans.{rooted}
@@ -169,25 +167,6 @@ rooted_counted lives pending used b f s h few alive for = by (life_at lives 0) r
     by : (o : Option Life) → life_at lives 0 ≡ o → IsTrue (is_some o) → IsCounted (rooted lives b s) (slice_set pending f (slice_index_or pending f 0 + 1)) used
     by None e t = absurd (false≢true t)
     by (Some l) e t = rooted_over lives pending used b f s l h few e (alive_within lives 0 l e) for
-
--- Block 0 alone
-
--- where nothing is pending, and block 0 is in use
-pub root_counted : (lives : Lives) (pending : List ℕ) (n : ℕ) (root : List ℕ) → lives ≡ Some (root_life root) ∷ replicate n None → pending ≡ replicate 32 0 → IsCounted lives pending 1
-root_counted lives pending n root e zeros = record {
-  counts = λ fs few. ap (λ ps. slice_index ps fs) zeros ∙ (get_or-replicate 32 fs 0 0 few ∙ sym (ap (counted fs) e ∙ nothing fs));
-  in_use = λ b below. subst (λ c. IsTrue (is_some (life_at lives c))) (zero_is b below) (subst (λ ls. IsTrue (is_some (life_at ls 0))) (sym e) refl);
-  within = subst (λ ls. 1 ≤ length ls) (sym e) (omega arith);
-}
-  where
-    zero_is : (b : ℕ) → b < 1 → 0 ≡ b
-    zero_is b below = omega (arith, below)
-
-    nothing : (fs : ℕ) → counted fs (Some (root_life root) ∷ replicate n None) ≡ 0
-    nothing fs =
-        let first = sum_by-cons (pending_in fs) (Some (root_life root)) (replicate n None) in
-        let rest = sum_by-replicate (pending_in fs) n None in
-        omega (arith, first, rest)
 
 -- The search for a free block
 

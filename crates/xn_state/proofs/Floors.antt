@@ -1,6 +1,10 @@
 -- The least of some numbers, and the entries of a beginning.
-use Rattle.std.proofs.Common.{◌≡◌, ℕ, ◌+◌, ◌<◌, Bool, true, false, cond, List, [], ◌∷◌, ◌++◌, length, take, get_or, append_assoc, refl, sym, ◌∙◌, ap, arith, min, Option, Some}
-use Rattle.std.proofs.lemmas.List.{take_more, append-nil}
+use Rattle.std.proofs.Common.{◌≡◌, ℕ, ◌+◌, ◌<◌, Bool, true, false, cond, List, [], ◌∷◌, ◌++◌, length, take, drop, get_or, append_assoc, refl, sym, ◌∙◌, ap, arith, min, Option, Some}
+use Rattle.std.specs.Prelude.{sum_by}
+use Rattle.std.proofs.lemmas.List.{take_more, append-nil, take-append-drop}
+use Rattle.std.proofs.lemmas.List.Sums.{sum_by-take-drop}
+use Rattle.xn_model.specs.Calls.{pending_in}
+use Rattle.xn_model.proofs.Floors.{entries_counted}
 use Rattle.std.proofs.lemmas.Bool.{eq-eqb, ne_eqb}
 use Rattle.xn_model.specs.Lives.{BlockState, Life, Lives, least_to, is_for, entries_in, entries_at, entries_of}
 
@@ -50,3 +54,15 @@ least_places n fs i xs x within e =
     ∙ (ap (least_to n) (entries_of-append fs (take i xs) (x ∷ []))
     ∙ (least_to-append n (entries_of fs (take i xs)) (entries_of fs (x ∷ []))
     ∙ ap (least_to (least_to n (entries_of fs (take i xs)))) (append-nil (entries_at fs x))))
+
+-- where no entry is left behind a place
+nothing_in : (ns : List ℕ) → length ns ≡ 0 → ns ≡ []
+nothing_in [] e = refl
+nothing_in (n ∷ ns) e = absurd (omega arith)
+
+pub least_of_all : (n fs i : ℕ) (xs : Lives) → sum_by (pending_in fs) (take i xs) ≡ sum_by (pending_in fs) xs → least_to n (entries_of fs xs) ≡ least_to n (entries_of fs (take i xs))
+least_of_all n fs i xs e =
+    let both = sum_by-take-drop (pending_in fs) xs i in
+    let none = nothing_in (entries_of fs (drop i xs)) (entries_counted fs (record { lives = drop i xs; next = 0 }) ∙ omega (arith, both, e)) in
+    ap (λ ys. least_to n (entries_of fs ys)) (sym (take-append-drop i xs))
+    ∙ ap (least_to n) (entries_of-append fs (take i xs) (drop i xs) ∙ (ap (λ zs. entries_of fs (take i xs) ++ zs) none ∙ append-nil (entries_of fs (take i xs))))

@@ -1,5 +1,5 @@
 -- What the calls of a state leave keeps the model's rules.
-use Rattle.std.proofs.Common.{◌≡◌, ℕ, ◌+◌, ◌<◌, List, [], ◌∷◌, length, Option, Some, None, Result, Ok, Err, sym, ◌∙◌, ap, arith, slice_get, slice_set, subst, take, drop, ◌++◌}
+use Rattle.std.proofs.Common.{◌≡◌, ℕ, ◌+◌, ◌<◌, List, [], ◌∷◌, length, false, Option, Some, None, Result, Ok, Err, sym, ◌∙◌, ap, arith, slice_get, slice_set, subst, take, drop, ◌++◌}
 use Rattle.std.proofs.lemmas.List.{append-nil, take_all}
 use Rattle.std.proofs.Math.ListN.{drop_of_length-le}
 use Rattle.xn_model.specs.declared.refusal.Refusal.{Refusal}
@@ -9,6 +9,12 @@ use Rattle.xn_model.specs.Results.{unless, result_map, result_and_then}
 use Rattle.xn_model.specs.Calls.{init_at, init_refusal, new_life, own_life, root_now, root_state, accepts, make_root_of, make_root_at, make_root_refusal, begun_place, settled_place, settled_after, settled_with, first_pending}
 use Rattle.xn_model.specs.Types.{Types}
 use Rattle.xn_model.specs.Rules.{IsConsistent}
+use Rattle.xn_model.specs.Images.{IsSound, block_of}
+use Rattle.xn_model.specs.Mounts.{IsRecovered}
+use Rattle.xn_model.specs.Worlds.{World}
+use Rattle.xn_model.proofs.Mount.{mount_holds}
+use Rattle.templates.specs.Tables.{TableValue, IsTable, types_of}
+use Rattle.templates.proofs.BuiltInTypes.{tables_have_built_ins}
 use Rattle.xn_model.proofs.Tests.{same_ok, never_ok}
 use Rattle.xn_model.proofs.Init.{init_keeps}
 use Rattle.xn_model.proofs.Roots.{make_root_keeps}
@@ -19,6 +25,13 @@ use Rattle.xn_state.specs.Plans.{make_root_plan, make_root_plan_at, root_entry, 
 -- a state with these lives and this next number
 abbrev pub state_of : Lives → ℕ → StoreState
 state_of lives next = record { lives = lives; next = next }
+
+-- the first state of a mount
+pub mounted_consistent : (table : TableValue) (image : List (List ℕ)) (lives : Lives) → IsTable table → IsSound (types_of table) (length image) (block_of image) →
+    IsRecovered (types_of table) image lives → IsConsistent (types_of table) (state_of lives 1)
+mounted_consistent table image lives is sound recovered =
+    let world : World = record { types = types_of table; image = image; state = state_of [] 1; down = false } in
+    (mount_holds world (tables_have_built_ins table is) sound lives recovered).state
 
 pub started_consistent : (T : Types) (lives : Lives) (next fs ty : ℕ) (bytes : List ℕ) (block : ℕ) (life : Life) → IsConsistent T (state_of lives next) →
     init_refusal T (state_of lives next) fs ty bytes ≡ None → lowest_free lives ≡ Some block → life ≡ new_life next fs ty bytes →

@@ -3,3 +3,5 @@ pub mod Floors
 pub mod Safety
 pub mod Keeping
 pub mod Counting
+pub mod Finding
+pub mod FreshDisks

@@ -3,7 +3,9 @@
 
 mod edit_id;
 mod entry;
+mod found;
 mod fs;
+pub mod law;
 mod life;
 mod lives;
 mod places;
@@ -13,6 +15,7 @@ mod state;
 mod tests;
 
 pub use edit_id::EditId;
+pub use found::Found;
 pub use fs::Fs;
 pub use state::State;
 pub use xn_model::{Refusal, Status};

@@ -3,10 +3,12 @@
 ghost use Rattle.std.specs.Prelude.{◌≡◌, ℕ, ◌+◌, ◌<◌, ◌≤◌, [], ◌∷◌, ◌++◌, length, take, Option, Some, None, is_some, IfOk, IfSome, OnOk, OnErr, IsTrue, ◌↔◌, count_by, All};
 ghost use Rattle.xn_model.specs.Lives.{current, with_state, with_status, settle, entries_at, least_to, drops_of, is_for, is_fresh, is_dropped};
 ghost use Rattle.xn_model.specs.Calls.{pending_in, settled_count, bytes_at, new_life};
-ghost use Rattle.xn_model.specs.BareDisks.{root_life};
+ghost use Rattle.xn_model.specs.Mounts.{found_status, life_at_rest};
 ghost use Rattle.xn_state.specs.Kept.{IsPlain};
+ghost use Rattle.xn_state.specs.Mounts.{found_of};
 
 use crate::entry::Entry;
+use crate::found::Found;
 use crate::fs::Fs;
 use std::alloc::{AllocError, Global};
 use std::marker::Model;
@@ -65,14 +67,14 @@ impl Life {
         })
     }
 
-    /// Block 0's life, which is nobody's, with the bytes that the disk has.
-    pub fn root(alloc: Global, bytes: &[u8; 512]) -> Life
-        ensures { result ≡ root_life bytes.now }
+    /// The life of a block that is found with these bytes on the disk, which are its one state.
+    pub fn found(alloc: Global, found: &Found, bytes: &[u8; 512]) -> Life
+        ensures { result ≡ life_at_rest (found_of found.now) bytes.now }
     {
         Life {
-            fs: None,
-            ty: 0,
-            status: Status::Fresh,
+            fs: found.fs,
+            ty: found.ty,
+            status: found_status(found.owner),
             durable: Some(*bytes),
             pending: Vec::new(alloc),
             begun: None,
@@ -229,6 +231,19 @@ impl Life {
         self.begun = None;
     }
 
+    /// How many pending entries count for a file system.
+    pub fn count_for(&self, fs: Fs) -> u32
+        ensures { result ≡ pending_in fs.number (Some self.now) }
+    {
+        let mut count = 0;
+        for entry in &self.pending {
+            if entry.fs().number() == fs.number() {
+                count += 1;
+            }
+        }
+        count
+    }
+
     /// The least of a number and the pending entries that count for a file system.
     pub fn least_for(&self, fs: Fs, most: u64) -> u64
         ensures { result ≡ least_to most (entries_at fs.number (Some self.now)) }
@@ -240,5 +255,15 @@ impl Life {
             }
         }
         least
+    }
+}
+
+/// The status of a block with this owner.
+fn found_status(owner: Option<u32>) -> Status
+    ensures { result ≡ found_status owner }
+{
+    match owner {
+        Some(owner) => Status::Owned(owner),
+        None => Status::Fresh,
     }
 }

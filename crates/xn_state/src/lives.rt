@@ -1,15 +1,18 @@
 // The lives of all blocks, with what is counted of them.
 
-ghost use Rattle.std.specs.Prelude.{◌≡◌, ℕ, List, ◌+◌, ◌<◌, ◌≤◌, [], ◌∷◌, length, replicate, Option, Some, None, IfOk, IsTrue, OnOk, OnErr, is_some, slice_get, slice_index, slice_set, count_by, sum_by, is_none, position};
+ghost use Rattle.std.specs.Prelude.{◌≡◌, ℕ, List, ◌+◌, ◌*◌, ◌<◌, ◌≤◌, [], ◌∷◌, All, length, map, replicate, Option, Some, None, IfOk, IsTrue, OnOk, OnErr, is_some, slice_get, slice_index, slice_set, count_by, sum_by, is_none, position};
 ghost use Rattle.std.specs.Option.{option_copied};
 ghost use Rattle.xn_model.specs.Results.{Lends};
 ghost use Rattle.xn_model.specs.Lives.{life_at, is_for, begun_at, settled_at, lowest_free, least_to, entries_of, drops_of};
 ghost use Rattle.xn_model.specs.Calls.{pending_in, own_place, begun_place, settled_place, first_pending, life_pending, new_life};
-ghost use Rattle.xn_model.specs.BareDisks.{root_life, root_alone};
+ghost use Rattle.xn_model.specs.Images.{blocks_in};
+ghost use Rattle.xn_model.specs.Lists.{distinct};
 ghost use Rattle.xn_state.specs.Kept.{IsPlain};
+ghost use Rattle.xn_state.specs.Mounts.{lives_in};
 ghost use Rattle.xn_state.specs.Plans.{rooted};
 
 use crate::entry::Entry;
+use crate::found::Found;
 use crate::fs::Fs;
 use crate::life::Life;
 use crate::places;
@@ -40,16 +43,22 @@ impl Model for Lives {
 }
 
 impl Lives {
-    /// The lives of a disk of so many blocks of which block 0, with these bytes, is alone in use.
-    pub fn root_alone(alloc: Global, blocks: u32, root: &[u8; 512]) -> Result<Lives, AllocError>
-        requires { 1 ≤ blocks }
-        ensures { IfOk result (λ lives. lives ≡ root_alone blocks root.now) }
+    /// The lives of the blocks that are found in an image; all others are free.
+    pub fn found(alloc: Global, image: &[u8], found: &[Found]) -> Result<Lives, AllocError>
+        requires within { All (λ f. f.block < length (blocks_in image.now)) found.now }
+        requires once { IsTrue (distinct (map (λ f. f.block) found.now)) }
+        ensures { IfOk result (λ lives. lives ≡ lives_in image.now found.now) }
     {
-        let places = root_alone(alloc, blocks, root)?;
+        let (blocks, _) = image.as_chunks::<512>();
+        let mut places = free_places(alloc, blocks.len())?;
+        for block in found {
+            let at = block.block as usize;
+            places[at] = Some(Life::found(alloc, block, &blocks[at]));
+        }
         Ok(Lives {
             places,
             pending: [0; 32],
-            used: 1,
+            used: 0,
         })
     }
 
@@ -79,7 +88,7 @@ impl Lives {
     pub fn least_for(&self, fs: Fs, most: u64) -> u64
         ensures { result ≡ least_to most (entries_of fs.number self.now) }
     {
-        places::least_for(&self.places, fs, most)
+        places::least_for(&self.places, fs, most, self.pending_for(fs))
     }
 
     /// The least free block.
@@ -166,14 +175,12 @@ fn discount(pending: &mut [u32; 32], entries: &[Entry])
     }
 }
 
-/// The places of a disk of so many blocks of which block 0 is alone in use.
-fn root_alone(alloc: Global, blocks: u32, root: &[u8; 512]) -> Result<Vec<Option<Life>>, AllocError>
-    requires { 1 ≤ blocks }
-    ensures { IfOk result (λ places. places.items ≡ root_alone blocks root.now) }
+/// So many free places.
+fn free_places(alloc: Global, blocks: usize) -> Result<Vec<Option<Life>>, AllocError>
+    ensures { IfOk result (λ places. places.items ≡ replicate blocks None) }
 {
-    let mut places = Vec::with_capacity(alloc, blocks as usize)?;
-    places.push_reserved(Some(Life::root(alloc, root)));
-    for _block in 1..blocks {
+    let mut places = Vec::with_capacity(alloc, blocks)?;
+    for _block in 0..blocks {
         places.push_reserved(None);
     }
     Ok(places)

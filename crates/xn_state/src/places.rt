@@ -46,14 +46,21 @@ pub fn own_life(lives: &[Option<Life>], fs: Fs, block: u32) -> Result<&Life, Ref
     }
 }
 
-/// The least of a number and the pending entries that count for a file system.
-pub fn least_for(lives: &[Option<Life>], fs: Fs, most: u64) -> u64
+/// The least of a number and the pending entries that count for a file system. As there are `count` of these, the
+/// walk ends with the last of them.
+pub fn least_for(lives: &[Option<Life>], fs: Fs, most: u64, count: u32) -> u64
+    requires { count ≡ sum_by (pending_in fs.number) lives.now }
     ensures { result ≡ least_to most (entries_of fs.number lives.now) }
 {
     let mut least = most;
+    let mut left = count;
     for place in lives {
+        if left == 0 {
+            break;
+        }
         if let Some(life) = place {
             least = life.least_for(fs, least);
+            left -= life.count_for(fs);
         }
     }
     least

@@ -6,23 +6,24 @@ ghost use Rattle.xn_model.specs.Lists.{blank};
 ghost use Rattle.xn_model.specs.Lives.{StoreState, life_at, alive_and};
 ghost use Rattle.xn_model.specs.Results.{Gives, GivesExactly};
 ghost use Rattle.xn_model.specs.Calls.{init_of, init_refusal, owns_nothing, too_many, life_pending, make_root_of, begun_of, settled_of, floor_of, pending_of};
-ghost use Rattle.xn_model.specs.Worlds.{mounted_state};
-ghost use Rattle.xn_model.specs.BareDisks.{root_alone};
 ghost use Rattle.xn_model.specs.Rules.{IsConsistent};
+ghost use Rattle.xn_model.specs.Worlds.{mounted_state};
 ghost use Rattle.templates.specs.Tables.{types_of};
+ghost use Rattle.xn_state.specs.Mounts.{lives_in, AreFound};
 ghost use Rattle.xn_state.specs.Plans.{make_root_plan};
 ghost use Rattle.xn_state.specs.States.{StateValue, types_in};
 
 use crate::edit_id::EditId;
 use crate::entry::Entry;
+use crate::found::Found;
 use crate::fs::Fs;
 use crate::life::Life;
 use crate::lives::Lives;
-use crate::root::{slot, with_slot};
+use crate::root::with_slot;
 use arrayvec::ArrayVec;
 use std::alloc::{AllocError, Global};
 use std::marker::Model;
-use templates::Table;
+use templates::{Table, root_slot};
 use udf_run::Pair;
 use xn_model::Refusal;
 
@@ -48,18 +49,20 @@ impl Model for State {
 }
 
 impl State {
-    /// The state of a disk of so many blocks on which block 0, with these bytes, is all that is
-    /// reached, with the types of a table. `Err` comes only for want of memory.
+    /// The state of a store whose disk holds a sound image, of which these are the reached blocks, each once, with the types of the
+    /// image's table. Each of them has one state, the durable one, and entry numbers start at 1. `Err` comes only for want
+    /// of memory.
     pub fn new(
         alloc: Global,
         table: Table,
-        blocks: u32,
-        root: &[u8; 512],
+        image: &[u8],
+        found: &[Found],
     ) -> Result<State, AllocError>
-        requires { IsConsistent (types_of table) (mounted_state (root_alone blocks root.now)) }
-        ensures { IfOk result (λ state. state ≡ record { table = table; store = mounted_state (root_alone blocks root.now) }) }
+        requires { AreFound (types_of table) image.now found.now }
+        ensures value { IfOk result (λ state. state ≡ record { table = table; store = mounted_state (lives_in image.now found.now) }) }
+        ensures rules { IfOk result (λ state. IsConsistent (types_in state) state.store) }
     {
-        let lives = Lives::root_alone(alloc, blocks, root)?;
+        let lives = Lives::found(alloc, image, found)?;
         Ok(State {
             alloc,
             table,
@@ -128,7 +131,7 @@ impl State {
         let Some(root) = self.lives.life(0) else {
             unreachable!()
         };
-        if slot(root.current(), fs).0 != 0 {
+        if root_slot(root.current(), fs.index()).block != 0 {
             return Err(Refusal::RootTaken);
         }
         if !life.is_fresh() {
@@ -140,7 +143,8 @@ impl State {
         if self.next == u64::MAX {
             return Err(Refusal::Exhausted);
         }
-        Ok((with_slot(root.current(), fs, (block, life.ty())), life.ty()))
+        let ty = life.ty();
+        Ok((with_slot(root.current(), fs, Pair { block, ty }), ty))
     }
 
     /// Sets the file system's root slot, in block 0, to a fresh block.

@@ -3,10 +3,10 @@
 ghost use Rattle.std.specs.Prelude.{◌≡◌};
 ghost use Rattle.xn_model.specs.BareDisks.{bare_root};
 
-use crate::{EditId, Fs, Refusal, State};
-use std::alloc::{AllocError, Global};
+use crate::{EditId, Found, Fs, Refusal, State};
+use std::alloc::Global;
 use std::test::Fail;
-use templates::{Table, read_block};
+use templates::{Table, format_image, read_block};
 
 /// Block 0 of a fresh disk of 32 blocks.
 fn fresh_root() -> [u8; 512]
@@ -21,15 +21,37 @@ fn fresh_root() -> [u8; 512]
     root
 }
 
-/// The state of a fresh disk of 32 blocks with the types of a table.
-fn state_with(alloc: Global, table: Table) -> Result<State, AllocError> {
-    let _root = table.get(0);
-    State::new(alloc, table, 32, &fresh_root())
-}
+/// Block 0 as it is found.
+const ROOT: Found = Found {
+    block: 0,
+    ty: 0,
+    owner: None,
+    fs: None,
+};
+
+/// A template's block as it is found.
+const TEMPLATE: Found = Found {
+    block: 1,
+    ty: 1,
+    owner: Some(0),
+    fs: None,
+};
 
 /// The state of a fresh disk of 32 blocks without templates.
-fn fresh_state(alloc: Global) -> Result<State, AllocError> {
-    state_with(alloc, Table::new(alloc)?)
+fn fresh_state(alloc: Global) -> Result<State, Fail> {
+    let image = format_image(alloc, 32, &[])?;
+    let table = Table::new(alloc)?;
+    Ok(State::new(alloc, table, &image, &[ROOT])?)
+}
+
+/// The state of a fresh disk of 32 blocks with the template of a list.
+fn list_state(alloc: Global) -> Result<State, Fail> {
+    let block = list_template();
+    let first = read_block(alloc, &block)?;
+    let image = format_image(alloc, 32, std::slice::from_ref(&first))?;
+    let mut table = Table::new(alloc)?;
+    table.put(3, read_block(alloc, &block)?);
+    Ok(State::new(alloc, table, &image, &[ROOT, TEMPLATE])?)
 }
 
 /// The block of a template of a list: a block may point to one more, of type 3, and is zero from byte 4 on.
@@ -99,14 +121,7 @@ fn each_block_is_taken_once(rt: HostRuntime) -> Result<(), Fail> {
 #[test]
 fn a_block_of_an_installed_type_fits_it_and_points_to_nothing(rt: HostRuntime) -> Result<(), Fail> {
     let owner = fs(0)?;
-    let mut table = Table::new(rt.alloc())?;
-    let Ok(template) = read_block(rt.alloc(), &list_template()) else {
-        return Err("no template".into());
-    };
-    if table.get(3).is_none() {
-        table.put(3, template);
-    }
-    let mut state = state_with(rt.alloc(), table)?;
+    let mut state = list_state(rt.alloc())?;
     let mut pointing = [0u8; 512];
     pointing[0] = 5;
     let mut long = [0u8; 512];
@@ -116,7 +131,8 @@ fn a_block_of_an_installed_type_fits_it_and_points_to_nothing(rt: HostRuntime) -
     assert!(rt; state.init(owner, 4, &long) == Err(Refusal::BadType));
     assert!(rt; state.init(owner, 3, &long) == Err(Refusal::SizeWrong));
     assert!(rt; state.init(owner, 3, &pointing) == Err(Refusal::ClaimWrong));
-    assert!(rt; state.init(owner, 2, &pointing) == Ok((1, EditId(1))));
-    assert!(rt; state.init(owner, 3, &[0; 512]) == Ok((2, EditId(2))));
+    assert!(rt; state.init(owner, 2, &pointing) == Ok((2, EditId(1))));
+    assert!(rt; state.init(owner, 3, &[0; 512]) == Ok((3, EditId(2))));
+    assert!(rt; state.make_root(owner, 1) == Err(Refusal::NotYours));
     Ok(())
 }

@@ -1,5 +1,5 @@
 -- The command line's reader takes each line of three words, and finds the words.
-use Rattle.std.proofs.Common.{◌≡◌, ◌≢◌, ◌==◌, ℕ, true, false, List, [], ◌∷◌, length, Option, Some, None, Result, Ok, Err, IfErr, option_map, codes, ◌^◌, ◌<◌, ◌≤◌, arith, refl, ◌∙◌, ap, inl, inr}
+use Rattle.std.proofs.Common.{◌≡◌, ◌≢◌, ◌==◌, ℕ, true, false, List, [], ◌∷◌, ◌++◌, length, length-append, Option, Some, None, Result, Ok, Err, IfErr, option_map, codes, ◌^◌, ◌<◌, ◌≤◌, arith, refl, ◌∙◌, ap, inl, inr}
 use Rattle.std.specs.Global.{Box}
 use Rattle.std.specs.Box.{box_value}
 use Rattle.std.specs.Fmt.{decimal}
@@ -21,7 +21,7 @@ use Rattle.udf_verify.specs.declared.fault.Role.TheVariants.{Owns, Size}
 use Rattle.xnsim.specs.declared.words.LineFault.{LineFault}
 use Rattle.xnsim.specs.declared.words.LineFault.TheVariants.{NoMemory, Usage}
 use Rattle.xnsim.specs.declared.words.Words.{Words}
-use Rattle.xnsim.specs.declared.words.Words.TheVariants.{Bare, Format, Run, Verify}
+use Rattle.xnsim.specs.declared.words.Words.TheVariants.{Bare, Format, Run, Asm, Verify}
 use Rattle.xnsim.specs.CommandLine.{program}
 use Rattle.xnsim.specs.Programs.{role_name}
 use Rattle.xnsim.specs.Lines.{fault_of_kind, IsLine, IsName, IsNoLine, IsThreeWords}
@@ -39,7 +39,7 @@ pub record IsFound (name first second : List ℕ) : Type 0 where
   pub taken : takes program (name ∷ first ∷ second ∷ []) ≡ true
   pub found : words_in (subcommand_of program (name ∷ first ∷ second ∷ [])) ≡ Some (name, Some first, Some second)
 
--- so it is of each command
+-- so it is of each command and the two words that it always has
 format_found : (first second : List ℕ) → IsName first → IsName second → IsFound (codes "format") first second
 unfolding clap_on_literals
 format_found [] [] a b = record { taken = refl; found = refl }
@@ -53,6 +53,13 @@ run_found [] [] a b = record { taken = refl; found = refl }
 run_found [] (y ∷ ys) a b = record { taken = simp (no_dash y b) refl; found = simp (no_dash y b) refl }
 run_found (x ∷ xs) [] a b = record { taken = simp (no_dash x a) refl; found = simp (no_dash x a) refl }
 run_found (x ∷ xs) (y ∷ ys) a b = record { taken = simp (no_dash x a, no_dash y b) refl; found = simp (no_dash x a, no_dash y b) refl }
+
+asm_found : (first second : List ℕ) → IsName first → IsName second → IsFound (codes "asm") first second
+unfolding clap_on_literals
+asm_found [] [] a b = record { taken = refl; found = refl }
+asm_found [] (y ∷ ys) a b = record { taken = simp (no_dash y b) refl; found = simp (no_dash y b) refl }
+asm_found (x ∷ xs) [] a b = record { taken = simp (no_dash x a) refl; found = simp (no_dash x a) refl }
+asm_found (x ∷ xs) (y ∷ ys) a b = record { taken = simp (no_dash x a, no_dash y b) refl; found = simp (no_dash x a, no_dash y b) refl }
 
 verify_found : (first second : List ℕ) → IsName first → IsName second → IsFound (codes "verify") first second
 unfolding clap_on_literals
@@ -97,14 +104,16 @@ pub shows_line : (words : List (List ℕ)) (m : ArgMatches) → HasMatchesOf pro
 shows_line words m matches three = elim three.command [
   | inl line ↦ shows_found words m (codes "format") three.first three.second matches line (format_found three.first three.second three.first_name three.second_name)
   | inr (inl line) ↦ shows_found words m (codes "run") three.first three.second matches line (run_found three.first three.second three.first_name three.second_name)
-  | inr (inr line) ↦ shows_found words m (codes "verify") three.first three.second matches line (verify_found three.first three.second three.first_name three.second_name)
+  | inr (inr (inl line)) ↦ shows_found words m (codes "asm") three.first three.second matches line (asm_found three.first three.second three.first_name three.second_name)
+  | inr (inr (inr line)) ↦ shows_found words m (codes "verify") three.first three.second matches line (verify_found three.first three.second three.first_name three.second_name)
 ]
 
 pub is_taken : (words : List (List ℕ)) → IsThreeWords words → takes program words ≡ true
 is_taken words three = elim three.command [
   | inl line ↦ ap (takes program) line ∙ (format_found three.first three.second three.first_name three.second_name).taken
   | inr (inl line) ↦ ap (takes program) line ∙ (run_found three.first three.second three.first_name three.second_name).taken
-  | inr (inr line) ↦ ap (takes program) line ∙ (verify_found three.first three.second three.first_name three.second_name).taken
+  | inr (inr (inl line)) ↦ ap (takes program) line ∙ (asm_found three.first three.second three.first_name three.second_name).taken
+  | inr (inr (inr line)) ↦ ap (takes program) line ∙ (verify_found three.first three.second three.first_name three.second_name).taken
 ]
 
 -- the three words, of what the reader's matches answer: the command's name, its arguments, and their values
@@ -135,22 +144,47 @@ role_is_IsName : (role : Role) → IsName (role_name role)
 role_is_IsName Owns = λ dash. absurd (omega arith)
 role_is_IsName Size = λ dash. absurd (omega arith)
 
--- each line of the program but the empty one has three words
-pub line_is_three : (words : List (List ℕ)) → 0 < length words → (asked : Words) → IsLine words asked → IsThreeWords words
-line_is_three words some Bare line = let none : length words ≡ 0 = ap length line in absurd (omega arith)
-line_is_three words some (Format image blocks) line =
-    let least : 32 ≤ blocks = line.2 in
-    let greatest : blocks ≤ 32768 = line.3 in
-    record { first = image.now; second = decimal blocks; command = inl line.0; first_name = line.1; second_name = decimal_is_IsName blocks (omega arith) (omega arith) }
-line_is_three words some (Run image script) line =
-    record { first = image.now; second = script.now; command = inr (inl line.0); first_name = line.1; second_name = line.2 }
-line_is_three words some (Verify text role) line =
-    record { first = text.now; second = role_name role; command = inr (inr line.0); first_name = line.1; second_name = role_is_IsName role }
+three_alike : (a b c x y z : List ℕ) (rest more : List (List ℕ)) → (a ∷ b ∷ c ∷ []) ++ rest ≡ x ∷ y ∷ z ∷ more → a ∷ b ∷ c ∷ [] ≡ x ∷ y ∷ z ∷ []
+three_alike a b c x y z rest more same = cc
 
--- words that the reader refuses for another cause than want of memory are no line
-pub refused_is_no_line : (words : List (List ℕ)) (kind : ErrorKind) (r : Result Words LineFault) → 0 < length words → (takes program words ≡ true → kind ≡ OutOfMemory) →
-    IsErrAnd r (λ fault. fault ≡ fault_of_kind kind) → IfErr r (λ fault. fault ≡ Usage → IsNoLine words)
-refused_is_no_line words kind (Ok asked) some wants given = tt
-refused_is_no_line words kind (Err fault) some wants given = λ usage asked line.
-    let memory : fault ≡ NoMemory = given ∙ ap fault_of_kind (wants (is_taken words (line_is_three words some asked line))) in
+-- three words, of which a line begins
+start_alike : (start rest : List (List ℕ)) (x y z : List ℕ) (more : List (List ℕ)) → length start ≡ 3 → start ++ rest ≡ x ∷ y ∷ z ∷ more → start ≡ x ∷ y ∷ z ∷ []
+start_alike [] rest x y z more three same = absurd (omega arith)
+start_alike (a ∷ []) rest x y z more three same = absurd (omega arith)
+start_alike (a ∷ b ∷ []) rest x y z more three same = absurd (omega arith)
+start_alike (a ∷ b ∷ c ∷ []) rest x y z more three same = three_alike a b c x y z rest more same
+start_alike (a ∷ b ∷ c ∷ d ∷ others) rest x y z more three same = absurd (omega arith)
+
+-- the first three words of each line of the program but the empty one are those of a command
+pub line_is_three : (start rest : List (List ℕ)) → length start ≡ 3 → (asked : Words) → IsLine (start ++ rest) asked → IsThreeWords start
+line_is_three start rest three Bare line = let none : length (start ++ rest) ≡ 0 = ap length line in absurd (omega (arith, length-append start rest))
+line_is_three start rest three (Format image blocks file_system templates) line =
+    let least : 32 ≤ blocks = line.3 in
+    let greatest : blocks ≤ 32768 = line.4 in
+    let words : start ≡ codes "format" ∷ image.now ∷ decimal blocks ∷ [] = start_alike start rest (codes "format") image.now (decimal blocks) line.0 three line.1 in
+    record { first = image.now; second = decimal blocks; command = inl words; first_name = line.2; second_name = decimal_is_IsName blocks (omega arith) (omega arith) }
+line_is_three start rest three (Run image script) line =
+    let words : start ≡ codes "run" ∷ image.now ∷ script.now ∷ [] = start_alike start rest (codes "run") image.now script.now [] three line.0 in
+    record { first = image.now; second = script.now; command = inr (inl words); first_name = line.1; second_name = line.2 }
+line_is_three start rest three (Asm owns size block) line =
+    let words : start ≡ codes "asm" ∷ owns.now ∷ size.now ∷ [] = start_alike start rest (codes "asm") owns.now size.now (block.now ∷ []) three line.0 in
+    record { first = owns.now; second = size.now; command = inr (inr (inl words)); first_name = line.1; second_name = line.2 }
+line_is_three start rest three (Verify text role) line =
+    let words : start ≡ codes "verify" ∷ text.now ∷ role_name role ∷ [] = start_alike start rest (codes "verify") text.now (role_name role) [] three line.0 in
+    record { first = text.now; second = role_name role; command = inr (inr (inr words)); first_name = line.1; second_name = role_is_IsName role }
+
+-- a line of the program has no words, or three and more
+pub few_is_no_line : (words : List (List ℕ)) → 0 < length words → length words < 3 → IsNoLine words
+few_is_no_line words some few Bare line = let none : length words ≡ 0 = ap length line in absurd (omega arith)
+few_is_no_line words some few (Format image blocks file_system templates) line = let three = ap length line.1 in absurd (omega arith)
+few_is_no_line words some few (Run image script) line = let three = ap length line.0 in absurd (omega arith)
+few_is_no_line words some few (Asm owns size block) line = let four = ap length line.0 in absurd (omega arith)
+few_is_no_line words some few (Verify text role) line = let three = ap length line.0 in absurd (omega arith)
+
+-- words that the reader refuses for another cause than want of memory begin no line
+pub refused_is_no_line : (start rest : List (List ℕ)) (kind : ErrorKind) (r : Result Words LineFault) → length start ≡ 3 → (takes program start ≡ true → kind ≡ OutOfMemory) →
+    IsErrAnd r (λ fault. fault ≡ fault_of_kind kind) → IfErr r (λ fault. fault ≡ Usage → IsNoLine (start ++ rest))
+refused_is_no_line start rest kind (Ok asked) three wants given = tt
+refused_is_no_line start rest kind (Err fault) three wants given = λ usage asked line.
+    let memory : fault ≡ NoMemory = given ∙ ap fault_of_kind (wants (is_taken start (line_is_three start rest three asked line))) in
     cc

@@ -1,6 +1,10 @@
-pub mod BareImages
+pub mod FreshImages
 pub mod Decimals
 pub mod HexBytes
 pub mod ScriptLines
 pub mod ScriptRuns
 pub mod CommandLines
+pub mod KnownTemplates
+pub mod TemplateWords
+pub mod TemplatesRead
+pub mod MountFaults

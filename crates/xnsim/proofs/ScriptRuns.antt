@@ -6,19 +6,18 @@ use Rattle.std.proofs.lemmas.List.{take_more, map-append, append-nil, append_ass
 use Rattle.std.proofs.lemmas.Grind.{flat_map-append}
 use Rattle.xn_model.specs.Worlds as model
 use Rattle.xn_model.specs.Worlds.{Run, Step}
-use Rattle.xn_model.specs.BareDisks.{bare_world}
-use Rattle.templates.specs.Tables.{no_templates, types_of}
+use Rattle.templates.specs.Templates.{TemplateValue}
 use Rattle.world.specs.declared.reply.Reply.{Reply}
 use Rattle.world.specs.Events.{reply_of}
 use Rattle.xnsim.specs.declared.command.Command.{Command}
 use Rattle.xnsim.specs.Events.{event_of_command}
 use Rattle.xnsim.specs.Replies.{reply_line}
-use Rattle.xnsim.specs.Runs.{IsRun}
+use Rattle.xnsim.specs.Runs.{fresh_world, IsRun}
 
 -- these commands were run, their replies printed, and the world is this
-pub record IsRunTo (blocks : ℕ) (commands : List Command) (old new : Option (List ℕ)) (after : model.World) : Type 0 where
+pub record IsRunTo (blocks : ℕ) (templates : List TemplateValue) (commands : List Command) (old new : Option (List ℕ)) (after : model.World) : Type 0 where
   pub replies : List Reply
-  pub run : IsRun blocks commands replies after
+  pub run : IsRun blocks templates commands replies after
   pub printed : Appends old new (flat_map reply_line replies)
 
 run_more : (w : model.World) (es : List model.Event) (rs : List model.Reply) (mid : model.World) (e : model.Event) (r : model.Reply) (after : model.World) →
@@ -40,21 +39,22 @@ nothing_printed None = tt
 nothing_printed (Some xs) = sym (append-nil xs)
 
 -- before the first command
-pub none_run : (blocks : ℕ) (old : Option (List ℕ)) (after : model.World) → after ≡ bare_world (types_of no_templates) blocks → IsRunTo blocks [] old old after
-none_run blocks old after fresh = record { replies = []; run = fresh; printed = nothing_printed old }
+pub none_run : (blocks : ℕ) (templates : List TemplateValue) (old : Option (List ℕ)) (after : model.World) → after ≡ fresh_world blocks templates →
+    IsRunTo blocks templates [] old old after
+none_run blocks templates old after fresh = record { replies = []; run = fresh; printed = nothing_printed old }
 
 -- one command more
-pub run_one_more : (blocks : ℕ) (commands : List Command) (at : ℕ) (command : Command) (old mid new : Option (List ℕ)) (before after : model.World) (event : model.Event) (reply : Reply) →
+pub run_one_more : (blocks : ℕ) (templates : List TemplateValue) (commands : List Command) (at : ℕ) (command : Command) (old mid new : Option (List ℕ)) (before after : model.World) (event : model.Event) (reply : Reply) →
     at < length commands → get_or commands at command ≡ command → event ≡ event_of_command command →
     Step before event (reply_of reply) after → Appends mid new (reply_line reply) →
-    IsRunTo blocks (take at commands) old mid before → IsRunTo blocks (take (at + 1) commands) old new after
-run_one_more blocks commands at command old mid new before after event reply within here asked step printed so_far =
+    IsRunTo blocks templates (take at commands) old mid before → IsRunTo blocks templates (take (at + 1) commands) old new after
+run_one_more blocks templates commands at command old mid new before after event reply within here asked step printed so_far =
     let rs = so_far.replies in
     let sent : map event_of_command (take (at + 1) commands) ≡ map event_of_command (take at commands) ++ event ∷ [] =
     ap (map event_of_command) (take_more commands at command within) ∙ (map-append event_of_command (take at commands) (get_or commands at command ∷ [])
     ∙ ap (λ (e : model.Event). map event_of_command (take at commands) ++ e ∷ []) (ap event_of_command here ∙ sym asked)) in
     let told = map-append reply_of rs (reply ∷ []) in
-    let ran = run_more (bare_world (types_of no_templates) blocks) (map event_of_command (take at commands)) (map reply_of rs) before event (reply_of reply) after so_far.run step in
+    let ran = run_more (fresh_world blocks templates) (map event_of_command (take at commands)) (map reply_of rs) before event (reply_of reply) after so_far.run step in
     let lines : flat_map reply_line (rs ++ reply ∷ []) ≡ flat_map reply_line rs ++ reply_line reply =
     flat_map-append reply_line rs (reply ∷ []) ∙ ap (λ last. flat_map reply_line rs ++ last) (append-nil (reply_line reply)) in
     record {

@@ -16,6 +16,8 @@ two_words name =
 abbrev pub no_commands : App
 no_commands = on_top (λ shape. record shape { no_binary_name = true; disable_help_flag = true; disable_help_subcommand = true }) (new_app (codes "xnsim"))
 
--- the program
+-- the program: each of its commands is followed by two words at least, and the reader takes no others
 abbrev pub program : App
-program = with_subcommand (with_subcommand (with_subcommand no_commands (two_words (codes "format")).top) (two_words (codes "run")).top) (two_words (codes "verify")).top
+program =
+    with_subcommand (with_subcommand (with_subcommand (with_subcommand no_commands (two_words (codes "format")).top) (two_words (codes "run")).top)
+    (two_words (codes "asm")).top) (two_words (codes "verify")).top

@@ -1,41 +1,44 @@
 -- What a line of the program prints, and the faults that may come of it.
-use Rattle.std.specs.Prelude.{◌≡◌, ◌⊎◌, ⊤, ℕ, List, [], ◌∷◌, ◌++◌, Option, None, IfSome, codes}
-use Rattle.std.specs.Fmt.{decimal}
-use Rattle.std.specs.Io.KnownBytes.{Appends}
+use Rattle.std.specs.Prelude.{◌≡◌, ◌⊎◌, ⊤, ℕ, List, [], length, map, Option, IfSome, codes, string_bytes, Contains}
+use Rattle.templates.specs.Templates.{TemplateValue}
 use Rattle.xnsim.specs.declared.command.Command.{Command}
 use Rattle.xnsim.specs.declared.words.Words.{Words}
-use Rattle.xnsim.specs.declared.words.Words.TheVariants.{Bare, Format, Run, Verify}
+use Rattle.xnsim.specs.declared.words.Words.TheVariants.{Bare, Format, Run, Asm, Verify}
 use Rattle.xnsim.specs.declared.fault.Fault.{Fault}
-use Rattle.xnsim.specs.declared.fault.Fault.TheVariants.{Usage, CannotRead, Unreadable, NotMounted, CannotWrite, NoMemory, Program, Stream}
-use Rattle.xnsim.specs.Images.{IsBareOf}
+use Rattle.xnsim.specs.declared.fault.Fault.TheVariants.{Usage, CannotRead, Unreadable, NotMounted, CannotWrite, NoMemory, Program, Owns, Size, Template, TooManyTemplates, TooManyWords, Stream}
+use Rattle.xnsim.specs.Assembling.{IsTemplateFault, PrintsTemplate}
+use Rattle.xnsim.specs.Formatting.{IsSomeFault, IsTooMany, PrintsMade}
+use Rattle.xnsim.specs.Images.{IsFresh}
 use Rattle.xnsim.specs.Lines.{IsLine, IsNoLine}
 use Rattle.xnsim.specs.Programs.{IsProgramFault, PrintsAccepted}
-use Rattle.xnsim.specs.Runs.{IsPrintedRun}
+use Rattle.xnsim.specs.Runs.{IsMountedRun, IsPrintedRun}
 use Rattle.xnsim.specs.Scripts.{IsFirstUnreadable, IsScript}
 
--- the line of an image that was made
-abbrev pub made_line : ℕ → List ℕ
-made_line blocks = codes "blocks " ++ decimal blocks ++ codes " templates 0" ++ 10 ∷ []
-
--- a script was run on a fresh disk of so many blocks, and its replies printed; where it is known which bytes were to be
--- read, they are the script's text
-pub record PrintsReplies (known : Option (List ℕ)) (blocks : ℕ) (old new : Option (List ℕ)) : Type 0 where
+-- a script was run on a fresh disk of so many blocks with these templates, and its replies printed; where it is known which
+-- bytes were to be read, they are the script's text
+pub record PrintsReplies (known : Option (List ℕ)) (blocks : ℕ) (templates : List TemplateValue) (old new : Option (List ℕ)) : Type 0 where
   pub text : List ℕ
   pub commands : List Command
   pub image : List ℕ
   pub read : IfSome known (λ bytes. text ≡ bytes)
   pub script : IsScript text commands
-  pub run : IsPrintedRun blocks commands old new image
+  pub run : IsPrintedRun blocks templates commands old new image
 
--- some image is that of a fresh disk of so many blocks
-abbrev pub IsSomeBare : ℕ → Type 0
-IsSomeBare blocks = (image : List ℕ) × IsBareOf image blocks
+-- a script was run on the disk of an image that is as formatting leaves it, and its replies printed
+pub record PrintsMounted (old new : Option (List ℕ)) : Type 0 where
+  pub image : List ℕ
+  pub text : List ℕ
+  pub commands : List Command
+  pub after : List ℕ
+  pub script : IsScript text commands
+  pub run : IsMountedRun image commands old new after
 
 -- what is printed where all that is asked for was done; the first argument is what is known of standard input
 abbrev pub IsDone : Option (List ℕ) → Words → Option (List ℕ) → Option (List ℕ) → Type 0
-IsDone input Bare old new = PrintsReplies input 32 old new
-IsDone input (Format image blocks) old new = Appends old new (made_line blocks)
-IsDone input (Run image script) old new = (blocks : ℕ) × IsSomeBare blocks × PrintsReplies None blocks old new
+IsDone input Bare old new = PrintsReplies input 32 [] old new
+IsDone input (Format image blocks file_system templates) old new = PrintsMade blocks file_system (length templates.now) old new
+IsDone input (Run image script) old new = PrintsMounted old new
+IsDone input (Asm owns size block) old new = (owns_text size_text : List ℕ) × PrintsTemplate owns_text size_text old new
 IsDone input (Verify name role) old new = (text : List ℕ) × PrintsAccepted text role old new
 
 -- these words are a line, and all that it asks for was done
@@ -48,13 +51,27 @@ IsRunFault NoMemory = ⊤
 IsRunFault Stream = ⊤
 IsRunFault fault = ⊥
 
+-- a fault that may come of a run on the disk of an image
+abbrev pub IsMountFault : List ℕ → Fault → Type 0
+IsMountFault image NotMounted = (blocks : ℕ) (templates : List TemplateValue) → ¬ IsFresh image blocks templates
+IsMountFault image fault = IsRunFault fault
+
 -- a fault that may come of what is asked for
 abbrev pub IsFaultOf : Option (List ℕ) → Words → Fault → Type 0
-IsFaultOf input (Format image blocks) (CannotWrite name) = name ≡ image
+IsFaultOf input (Format image blocks file_system templates) (CannotRead name) = Contains (map string_bytes templates.now) name.now
+IsFaultOf input (Format image blocks file_system templates) (Template place found) = IsSomeFault (length templates.now) place found
+IsFaultOf input (Format image blocks file_system templates) TooManyTemplates = IsTooMany file_system (length templates.now)
+IsFaultOf input (Format image blocks file_system templates) (CannotWrite name) = name ≡ image
 IsFaultOf input (Run image script) (CannotRead name) = (name ≡ image) ⊎ (name ≡ script)
 IsFaultOf input (Run image script) (Unreadable line) = (text : List ℕ) × IsFirstUnreadable text line
-IsFaultOf input (Run image script) NotMounted = (bytes : List ℕ) × ((blocks : ℕ) → ¬ IsBareOf bytes blocks)
+IsFaultOf input (Run image script) NotMounted = (bytes : List ℕ) × IsMountFault bytes NotMounted
 IsFaultOf input (Run image script) (CannotWrite name) = name ≡ image
+IsFaultOf input (Asm owns size block) NoMemory = ⊥
+IsFaultOf input (Asm owns size block) (CannotRead name) = (name ≡ owns) ⊎ (name ≡ size)
+IsFaultOf input (Asm owns size block) (Owns found) = (owns_text size_text : List ℕ) × IsTemplateFault owns_text size_text (Owns found)
+IsFaultOf input (Asm owns size block) (Size found) = (owns_text size_text : List ℕ) × IsTemplateFault owns_text size_text (Size found)
+IsFaultOf input (Asm owns size block) TooManyWords = (owns_text size_text : List ℕ) × IsTemplateFault owns_text size_text TooManyWords
+IsFaultOf input (Asm owns size block) (CannotWrite name) = name ≡ block
 IsFaultOf input (Verify text role) NoMemory = ⊥
 IsFaultOf input (Verify text role) (CannotRead name) = name ≡ text
 IsFaultOf input (Verify text role) (Program found) = (bytes : List ℕ) × IsProgramFault bytes role found

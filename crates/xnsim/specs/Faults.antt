@@ -1,12 +1,14 @@
 -- Faults of the program: their status, and what is printed of them.
-use Rattle.std.specs.Prelude.{◌≡◌, ℕ, List, [], ◌∷◌, ◌++◌, Option}
+use Rattle.std.specs.Prelude.{◌≡◌, ℕ, List, [], ◌∷◌, ◌++◌, Option, codes}
+use Rattle.std.specs.Fmt.{decimal}
 use Rattle.std.specs.Io.KnownBytes.{Appends}
 use Rattle.xnsim.specs.declared.fault.Fault.{Fault}
-use Rattle.xnsim.specs.declared.fault.Fault.TheVariants.{Usage, Unreadable, NoMemory, Program}
+use Rattle.xnsim.specs.declared.fault.Fault.TheVariants.{Usage, Unreadable, NoMemory, Program, Owns, Size, Template, TooManyTemplates, TooManyWords}
 use Rattle.xnsim.specs.declared.script.ScriptFault.{ScriptFault}
 use Rattle.xnsim.specs.declared.script.ScriptFault.TheVariants as script
 use Rattle.xnsim.specs.declared.words.LineFault.{LineFault}
 use Rattle.xnsim.specs.declared.words.LineFault.TheVariants as line
+use Rattle.xnsim.specs.Formatting.{template_fault_name}
 use Rattle.xnsim.specs.ProgramFaults.{program_fault_text}
 
 -- the status with which the program ends after a fault
@@ -14,9 +16,14 @@ abbrev pub status_of : Fault → ℕ
 status_of Usage = 2
 status_of _ = 1
 
--- what is printed of a fault: that of a program, and no other
+-- what is printed of a fault: those of programs and templates, and no others
 abbrev pub IsTold : Fault → Option (List ℕ) → Option (List ℕ) → Type 0
 IsTold (Program fault) old new = Appends old new (program_fault_text fault ++ 10 ∷ [])
+IsTold (Owns fault) old new = Appends old new (codes "owns " ++ program_fault_text fault ++ 10 ∷ [])
+IsTold (Size fault) old new = Appends old new (codes "size " ++ program_fault_text fault ++ 10 ∷ [])
+IsTold (Template place fault) old new = Appends old new (codes "template " ++ decimal place ++ codes ": " ++ template_fault_name fault ++ 10 ∷ [])
+IsTold TooManyTemplates old new = Appends old new (codes "too many templates" ++ 10 ∷ [])
+IsTold TooManyWords old new = Appends old new (codes "too many words" ++ 10 ∷ [])
 IsTold _ old new = new ≡ old
 
 -- the fault of the program that a fault of its line is

@@ -10,5 +10,8 @@ pub mod Replies
 pub mod Runs
 pub mod ProgramFaults
 pub mod Programs
+pub mod Library
+pub mod Formatting
+pub mod Assembling
 pub mod Done
 pub mod Faults

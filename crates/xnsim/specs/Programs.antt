@@ -9,6 +9,7 @@ use Rattle.udf_asm.specs.Printing.{IsText}
 use Rattle.udf_verify.specs.declared.fault.FaultKind.TheVariants as kind
 use Rattle.udf_verify.specs.declared.fault.Role.{Role}
 use Rattle.udf_verify.specs.declared.fault.Role.TheVariants.{Owns, Size}
+use Rattle.udf_verify.specs.Program.{Program}
 use Rattle.udf_verify.specs.Verdict.{cost, emits, verdict, IsAccepted}
 use Rattle.xnsim.specs.declared.fault.Fault.{Fault}
 use Rattle.xnsim.specs.declared.fault.Fault.TheVariants as fault
@@ -23,6 +24,12 @@ role_name Size = codes "size"
 -- the line of an accepted program, with its greatest cost and count of pairs
 abbrev pub accepted_line : ℕ → ℕ → List ℕ
 accepted_line cost emits = codes "accepted cost " ++ decimal cost ++ codes " emits " ++ decimal emits ++ 10 ∷ []
+
+-- the text is that of this program, which is accepted for the role
+pub record IsProgramOf (text : List ℕ) (role : Role) (program : Program) : Type 0 where
+  pub for_role : program.role ≡ role
+  pub written : IsText program.words text
+  pub accepted : IsAccepted role (tree_of program.words)
 
 -- the text is that of an accepted program, whose line was printed
 pub record PrintsAccepted (text : List ℕ) (role : Role) (old new : Option (List ℕ)) : Type 0 where

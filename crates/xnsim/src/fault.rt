@@ -3,11 +3,10 @@ ghost use Rattle.std.specs.Prelude.{◌≡◌};
 use crate::program::ProgramFault;
 use crate::script::ScriptFault;
 use crate::words::LineFault;
-use std::alloc::AllocError;
+use std::alloc::{AllocError, AllocFailed};
 use std::io;
+use templates::TemplateFault;
 use thiserror::Error;
-use udf_asm::AsmFault;
-use udf_verify::VerifyFault;
 
 /// Why a run ends with a status other than 0. The text of a fault is the line that tells it.
 #[derive(Debug, Drop, Error)]
@@ -26,6 +25,16 @@ pub enum Fault<'a> {
     NoMemory,
     #[error("{0}")]
     Program(ProgramFault),
+    #[error("owns {0}")]
+    Owns(ProgramFault),
+    #[error("size {0}")]
+    Size(ProgramFault),
+    #[error("template {place}: {fault}")]
+    Template { place: usize, fault: TemplateFault },
+    #[error("too many templates")]
+    TooManyTemplates,
+    #[error("too many words")]
+    TooManyWords,
     #[error("a standard stream failed")]
     Stream,
 }
@@ -70,25 +79,13 @@ impl<'a> From<ScriptFault> for Fault<'a> {
     }
 }
 
-impl<'a> From<AsmFault> for Fault<'a> {
+impl<'a> From<ProgramFault> for Fault<'a> {
     ghost use Rattle.xnsim.specs.declared.fault.Fault.TheVariants.{Program};
-    ghost use Rattle.xnsim.specs.declared.program.ProgramFault.TheVariants.{Text};
 
-    ghost from_gives = { λ fault given. given ≡ Program (Text fault) };
+    ghost from_gives = { λ fault given. given ≡ Program fault };
 
-    fn from(fault: AsmFault) -> Fault<'a> {
-        Fault::Program(ProgramFault::Text(fault))
-    }
-}
-
-impl<'a> From<VerifyFault> for Fault<'a> {
-    ghost use Rattle.xnsim.specs.declared.fault.Fault.TheVariants.{Program};
-    ghost use Rattle.xnsim.specs.declared.program.ProgramFault.TheVariants.{Rule};
-
-    ghost from_gives = { λ fault given. given ≡ Program (Rule fault) };
-
-    fn from(fault: VerifyFault) -> Fault<'a> {
-        Fault::Program(ProgramFault::Rule(fault))
+    fn from(fault: ProgramFault) -> Fault<'a> {
+        Fault::Program(fault)
     }
 }
 
@@ -98,6 +95,16 @@ impl<'a> From<AllocError> for Fault<'a> {
     ghost from_gives = { λ _ fault. fault ≡ NoMemory };
 
     fn from(_error: AllocError) -> Fault<'a> {
+        Fault::NoMemory
+    }
+}
+
+impl<'a, T: Drop> From<AllocFailed<T>> for Fault<'a> {
+    ghost use Rattle.xnsim.specs.declared.fault.Fault.TheVariants.{NoMemory};
+
+    ghost from_gives = { λ _ fault. fault ≡ NoMemory };
+
+    fn from(_error: AllocFailed<T>) -> Fault<'a> {
         Fault::NoMemory
     }
 }

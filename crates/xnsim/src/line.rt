@@ -1,32 +1,36 @@
-ghost use Rattle.std.specs.Prelude.{◌≡◌, ◌≤◌, ◌⊎◌, ℕ, List, None, IfErr, IfOk, OnOk, map, string_bytes};
+ghost use Rattle.std.specs.Prelude.{◌≡◌, ◌≤◌, ◌⊎◌, ℕ, List, [], None, IfErr, IfOk, OnOk, length, map, string_bytes};
 ghost use Rattle.std.specs.Str.{IsUtf8};
 ghost use Rattle.std.specs.Io.KnownBytes.{Appends};
-ghost use Rattle.xnsim.specs.Done.{made_line, IsFaultOf, IsLineDone, IsLineFault, IsSomeBare, PrintsReplies};
+ghost use Rattle.xnsim.specs.Assembling.{PrintsTemplate};
+ghost use Rattle.xnsim.specs.Done.{IsFaultOf, IsLineDone, IsLineFault, PrintsMounted, PrintsReplies};
 ghost use Rattle.xnsim.specs.Faults.{status_of, IsTold};
+ghost use Rattle.xnsim.specs.Formatting.{made_line, PrintsMade};
 ghost use Rattle.xnsim.specs.Lines.{IsNoLine};
 ghost use Rattle.xnsim.specs.Programs.{PrintsAccepted};
 
+use crate::assembling::{make_template, print_template};
 use crate::fault::Fault;
 use crate::files::Files;
-use crate::image::{LEAST_BLOCKS, bare_blocks};
+use crate::formatting::{all_templates, made_image, read_files, template_fault_name};
+use crate::image::LEAST_BLOCKS;
 use crate::program::verify_text;
-use crate::replay::run_script;
+use crate::replay::{run_on_image, run_script};
 use crate::script::parse;
 use crate::words::{Words, read};
 use std::alloc::Global;
 use std::io::{ErrorKind, Read, Write};
 use std::{io, str};
+use templates::write_block;
 use udf_verify::Role;
-use world::bare_image;
 
 /// The name of standard input in what is told.
 const STANDARD_INPUT: &str = "-";
 
 /// Says what was formatted.
-fn print_made<W: Write>(out: &mut W, blocks: u32) -> io::Result<()>
-    ensures { OnOk result (Appends (W.contents out.old) (W.contents out.new) (made_line blocks)) }
+fn print_made<W: Write>(out: &mut W, blocks: u32, templates: usize) -> io::Result<()>
+    ensures { OnOk result (Appends (W.contents out.old) (W.contents out.new) (made_line blocks templates)) }
 {
-    writeln!(out, "blocks {blocks} templates 0")
+    writeln!(out, "blocks {blocks} templates {templates}")
 }
 
 /// The text of bytes that were read under this name.
@@ -37,45 +41,71 @@ fn text_of<'a, 'b>(bytes: &'b [u8], name: &'a str) -> Result<&'b str, Fault<'a>>
     str::from_utf8(bytes).map_err(|_| Fault::CannotRead(name))
 }
 
-/// Writes a fresh image, and then says so.
+/// Writes a fresh image with the templates of these files, behind those of the library's file system where it is asked for,
+/// and then says so.
 fn format<'a, F: Files, W: Write>(
     alloc: Global,
     files: &mut F,
     out: &mut W,
     image: &'a str,
     blocks: u32,
+    file_system: bool,
+    names: &'a [String],
 ) -> Result<(), Fault<'a>>
     requires least { 32 ≤ blocks }
     requires greatest { blocks ≤ 32768 }
-    ensures told { OnOk result (Appends (W.contents out.old) (W.contents out.new) (made_line blocks)) }
-    ensures fault { IfErr result (IsFaultOf None (Words.Format image.entry blocks)) }
+    ensures told { OnOk result (PrintsMade blocks file_system (length names.entry.now) (W.contents out.old) (W.contents out.new)) }
+    ensures fault { IfErr result (IsFaultOf None (Words.Format image.entry blocks file_system names.entry)) }
 {
-    let bytes = bare_image(alloc, blocks)?;
+    let read = read_files(alloc, files, names)?;
+    let templates = all_templates(alloc, file_system, read.as_slice())?;
+    let bytes = made_image(alloc, blocks, templates.as_slice())?;
     if !files.write(image, bytes.as_slice()) {
         return Err(Fault::CannotWrite(image));
     }
-    print_made(out, blocks)?;
+    print_made(out, blocks, templates.len())?;
     Ok(())
 }
 
-/// Runs a script on an image and writes the image back.
-fn run_on_image<'a, F: Files, W: Write>(
+/// Writes the block of the template whose programs have the texts of two files, and then says so.
+fn assemble_files<'a, F: Files, W: Write>(
+    alloc: Global,
+    files: &mut F,
+    out: &mut W,
+    owns: &'a str,
+    size: &'a str,
+    block: &'a str,
+) -> Result<(), Fault<'a>>
+    ensures told { OnOk result ((owns_text size_text : List ℕ) × PrintsTemplate owns_text size_text (W.contents out.old) (W.contents out.new)) }
+    ensures fault { IfErr result (IsFaultOf None (Words.Asm owns.entry size.entry block.entry)) }
+{
+    let owns_bytes = files.read(alloc, owns).ok_or(Fault::CannotRead(owns))?;
+    let owns_text = text_of(owns_bytes.as_slice(), owns)?;
+    let size_bytes = files.read(alloc, size).ok_or(Fault::CannotRead(size))?;
+    let size_text = text_of(size_bytes.as_slice(), size)?;
+    let template = make_template(alloc, owns_text, size_text)?;
+    if !files.write(block, &write_block(&template)) {
+        return Err(Fault::CannotWrite(block));
+    }
+    print_template(out, &template)?;
+    Ok(())
+}
+
+/// Runs the script of a file on the image of a file, and writes the image back.
+fn run_files<'a, F: Files, W: Write>(
     alloc: Global,
     files: &mut F,
     out: &mut W,
     image: &'a str,
     script: &'a str,
 ) -> Result<(), Fault<'a>>
-    ensures told { OnOk result ((blocks : ℕ) × IsSomeBare blocks × PrintsReplies None blocks (W.contents out.old) (W.contents out.new)) }
+    ensures told { OnOk result (PrintsMounted (W.contents out.old) (W.contents out.new)) }
     ensures fault { IfErr result (IsFaultOf None (Words.Run image.entry script.entry)) }
 {
     let before = files.read(alloc, image).ok_or(Fault::CannotRead(image))?;
     let text = files.read(alloc, script).ok_or(Fault::CannotRead(script))?;
     let commands = parse(alloc, text_of(text.as_slice(), script)?)?;
-    let Some(blocks) = bare_blocks(alloc, before.as_slice())? else {
-        return Err(Fault::NotMounted);
-    };
-    let after = run_script(alloc, blocks, commands.as_slice(), out)?;
+    let after = run_on_image(alloc, before.as_slice(), commands.as_slice(), out)?;
     if !files.write(image, after.as_slice()) {
         return Err(Fault::CannotWrite(image));
     }
@@ -88,7 +118,7 @@ fn run_input<'a, R: Read, W: Write>(
     input: &mut R,
     out: &mut W,
 ) -> Result<(), Fault<'a>>
-    ensures told { OnOk result (PrintsReplies (R.remaining input.old) 32 (W.contents out.old) (W.contents out.new)) }
+    ensures told { OnOk result (PrintsReplies (R.remaining input.old) 32 [] (W.contents out.old) (W.contents out.new)) }
     ensures fault { IfErr result (IsFaultOf (R.remaining input.old) Words.Bare) }
 {
     let mut text = Vec::new(alloc);
@@ -99,7 +129,7 @@ fn run_input<'a, R: Read, W: Write>(
         });
     }
     let commands = parse(alloc, text_of(text.as_slice(), STANDARD_INPUT)?)?;
-    run_script(alloc, LEAST_BLOCKS, commands.as_slice(), out)?;
+    run_script(alloc, LEAST_BLOCKS, &[], commands.as_slice(), out)?;
     Ok(())
 }
 
@@ -131,19 +161,33 @@ fn run<'a, F: Files, R: Read, W: Write>(
     ensures usage { IfErr result (λ fault. fault ≡ Fault.Usage → IsNoLine (map string_bytes words.entry.now)) }
 {
     match read(alloc, words)? {
-        Words::Format { image, blocks } => format(alloc, files, out, image, blocks),
-        Words::Run { image, script } => run_on_image(alloc, files, out, image, script),
+        Words::Format {
+            image,
+            blocks,
+            file_system,
+            templates,
+        } => format(alloc, files, out, image, blocks, file_system, templates),
+        Words::Run { image, script } => run_files(alloc, files, out, image, script),
+        Words::Asm { owns, size, block } => { assemble_files(alloc, files, out, owns, size, block) }
         Words::Verify { text, role } => verify_file(alloc, files, out, text, role),
         Words::Bare => run_input(alloc, input, out),
     }
 }
 
-/// Tells a fault in a line: that of a program on `out`, and every other on `err`. A fault of a standard stream isn't told.
+/// Tells a fault in a line: those of programs and templates on `out`, and every other on `err`. A fault of a standard stream
+/// isn't told.
 fn tell<W: Write, E: Write>(fault: &Fault, out: &mut W, err: &mut E) -> io::Result<()>
     ensures { OnOk result (IsTold fault.now (W.contents out.old) (W.contents out.new)) }
 {
     match fault {
         Fault::Program(found) => writeln!(out, "{found}"),
+        Fault::Owns(found) => writeln!(out, "owns {found}"),
+        Fault::Size(found) => writeln!(out, "size {found}"),
+        Fault::Template { place, fault } => {
+            writeln!(out, "template {place}: {}", template_fault_name(*fault))
+        }
+        Fault::TooManyTemplates => writeln!(out, "too many templates"),
+        Fault::TooManyWords => writeln!(out, "too many words"),
         Fault::Stream => Ok(()),
         _ => writeln!(err, "{fault}"),
     }

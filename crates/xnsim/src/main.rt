@@ -1,11 +1,15 @@
-// A simulator of the block store: it formats images, runs scripts of commands on them, and verifies programs.
+// A simulator of the block store: it formats images, runs scripts of commands on them, assembles templates, and verifies
+// programs.
 #![tactic(auto)]
 
+mod assembling;
 mod command;
 mod fault;
 mod files;
+mod formatting;
 mod hex;
 mod image;
+mod library;
 mod line;
 mod number;
 mod program;

@@ -1,9 +1,9 @@
 // The text of a program is verified.
 
-ghost use Rattle.std.specs.Prelude.{◌≡◌, IfErr, OnOk};
+ghost use Rattle.std.specs.Prelude.{◌≡◌, IfErr, IfOk, OnOk};
 ghost use Rattle.std.specs.Io.KnownBytes.{Appends};
 ghost use Rattle.xnsim.specs.ProgramFaults.{asm_kind_name, code_fault_name, fault_kind_name};
-ghost use Rattle.xnsim.specs.Programs.{accepted_line, IsTextFault, PrintsAccepted};
+ghost use Rattle.xnsim.specs.Programs.{accepted_line, IsProgramFault, IsProgramOf, IsTextFault, PrintsAccepted};
 
 use crate::fault::Fault;
 use std::alloc::Global;
@@ -11,7 +11,7 @@ use std::io::Write;
 use std::{fmt, io};
 use udf_asm::{AsmFault, AsmKind, assemble};
 use udf_code::CodeFault;
-use udf_verify::{FaultKind, Role, VerifyFault, verify};
+use udf_verify::{Checked, FaultKind, Role, VerifyFault, verify};
 
 /// Why a text is no program, or the program is refused.
 #[derive(Clone, Copy, Debug, PartialEq, Eq)]
@@ -39,6 +39,38 @@ impl fmt::Display for ProgramFault {
     }
 }
 
+impl From<AsmFault> for ProgramFault {
+    ghost use Rattle.std.specs.Prelude.{◌≡◌};
+    ghost use Rattle.xnsim.specs.declared.program.ProgramFault.TheVariants.{Text};
+
+    ghost from_gives = { λ fault given. given ≡ Text fault };
+
+    fn from(fault: AsmFault) -> ProgramFault {
+        ProgramFault::Text(fault)
+    }
+}
+
+impl From<VerifyFault> for ProgramFault {
+    ghost use Rattle.std.specs.Prelude.{◌≡◌};
+    ghost use Rattle.xnsim.specs.declared.program.ProgramFault.TheVariants.{Rule};
+
+    ghost from_gives = { λ fault given. given ≡ Rule fault };
+
+    fn from(fault: VerifyFault) -> ProgramFault {
+        ProgramFault::Rule(fault)
+    }
+}
+
+/// The program of a text, verified for a role. A fault of the text comes before those of the program.
+pub fn read_program(alloc: Global, text: &str, role: Role) -> Result<Checked, ProgramFault>
+    ensures accepted { IfOk result (IsProgramOf text.now role) }
+    ensures fault { IfErr result (IsProgramFault text.now role) }
+{
+    let words = assemble(alloc, text)?;
+    let program = verify(alloc, words.as_slice(), role)?;
+    Ok(program)
+}
+
 /// Verifies the program of a text for a role, and prints what it comes to. A fault of the text comes before those of the
 /// program, and `Stream` last.
 pub fn verify_text<'a, W: Write>(
@@ -50,8 +82,7 @@ pub fn verify_text<'a, W: Write>(
     ensures accepted { OnOk result (PrintsAccepted text.now role (W.contents out.old) (W.contents out.new)) }
     ensures fault { IfErr result (IsTextFault text.now role) }
 {
-    let words = assemble(alloc, text)?;
-    let program = verify(alloc, words.as_slice(), role)?;
+    let program = read_program(alloc, text, role)?;
     print_accepted(out, program.cost(), program.emits())?;
     Ok(())
 }

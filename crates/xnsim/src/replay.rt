@@ -1,40 +1,75 @@
 // A script is run.
 
-ghost use Rattle.std.specs.Prelude.{◌≡◌, ◌≤◌, ◌<◌, IfOk, IfErr, OnOk};
+ghost use Rattle.std.specs.Prelude.{◌≡◌, ◌≤◌, length, IfOk, IfErr, OnOk};
 ghost use Rattle.std.specs.Io.KnownBytes.{Appends};
+ghost use Rattle.xn_model.specs.Images.{IsDiskSize};
 ghost use Rattle.world.specs.Events as event;
-ghost use Rattle.xnsim.specs.Done.{IsRunFault};
+ghost use Rattle.world.specs.Worlds.{world_with};
+ghost use Rattle.xnsim.specs.Done.{IsMountFault, IsRunFault};
 ghost use Rattle.xnsim.specs.Events.{event_of_command};
 ghost use Rattle.xnsim.specs.Replies.{refusal_text, reply_line};
-ghost use Rattle.xnsim.specs.Runs.{IsPrintedRun};
+ghost use Rattle.xnsim.specs.Runs.{fresh_world, IsMountedRun, IsPrintedRun};
 
 use crate::command::Command;
 use crate::fault::Fault;
-use std::alloc::Global;
+use crate::image::fresh_disk;
+use std::alloc::{AllocError, Global};
 use std::io;
 use std::io::Write;
+use templates::{FormatFault, Template};
 use world::{Call, Event, Reply, World};
 use xn_model::Refusal;
 
-/// Runs the commands on a fresh disk of so many blocks, prints a reply a command, and answers the bytes
+/// The first mount of a fresh disk.
+fn fresh_world(alloc: Global, blocks: u32, templates: &[Template]) -> Result<World, AllocError>
+    requires size { IsDiskSize blocks }
+    requires few { length templates.now ≤ 16 }
+    ensures { IfOk result (λ world. world_with world ≡ fresh_world blocks templates.now) }
+{
+    match World::format(alloc, blocks, templates) {
+        Ok(world) => Ok(world),
+        Err(FormatFault::NoMemory) => Err(AllocError),
+        Err(_) => unreachable!(),
+    }
+}
+
+/// Runs the commands on a fresh disk of so many blocks with these templates, prints a reply a command, and answers the bytes
 /// that are then on the disk.
 pub fn run_script<'a, W: Write>(
     alloc: Global,
     blocks: u32,
+    templates: &[Template],
     commands: &[Command],
     out: &mut W,
 ) -> Result<Vec<u8>, Fault<'a>>
-    requires least { 32 ≤ blocks }
-    requires greatest { blocks ≤ 32768 }
-    ensures run { IfOk result (λ image. IsPrintedRun blocks commands.now (W.contents out.old) (W.contents out.new) image.items) }
+    requires size { IsDiskSize blocks }
+    requires few { length templates.now ≤ 16 }
+    ensures run { IfOk result (λ image. IsPrintedRun blocks templates.now commands.now (W.contents out.old) (W.contents out.new) image.items) }
     ensures fault { IfErr result IsRunFault }
 {
-    let mut world = World::format(alloc, blocks)?;
+    let mut world = fresh_world(alloc, blocks, templates)?;
     for command in commands {
         let reply = world.step(&event_of(command));
         print_reply(out, reply)?;
     }
     Ok(world.image()?)
+}
+
+/// Runs the commands on the disk of an image that is as formatting leaves it, prints a reply a command, and answers the bytes
+/// that are then on the disk. Any other image is `NotMounted`.
+pub fn run_on_image<'a, W: Write>(
+    alloc: Global,
+    image: &[u8],
+    commands: &[Command],
+    out: &mut W,
+) -> Result<Vec<u8>, Fault<'a>>
+    ensures run { IfOk result (λ after. IsMountedRun image.now commands.now (W.contents out.old) (W.contents out.new) after.items) }
+    ensures fault { IfErr result (IsMountFault image.now) }
+{
+    let Some(disk) = fresh_disk(alloc, image)? else {
+        return Err(Fault::NotMounted);
+    };
+    run_script(alloc, disk.blocks, disk.templates.as_slice(), commands, out)
 }
 
 /// The event that a command asks for.

@@ -1,3 +1,6 @@
+mod assembling;
+mod formatting;
+mod mounting;
 mod programs;
 
 use crate::command::Command;
@@ -168,7 +171,24 @@ fn refuses_other_lines(rt: HostRuntime) -> Result<(), Fail> {
         "format,-image,32",
         "format,--,image,32",
         "format,--image,image,32",
-        "format,image,32,script",
+        "format,image,32,-script",
+        "format,image,32,--ff",
+        "format,image,32,--ffs=",
+        "format,image,32,--ffs,--ffs",
+        "format,image,32,script,--ffs",
+        "format,image,32,--ffs,script,-",
+        "format,image,--ffs,32",
+        "format,--ffs,image,32",
+        "--ffs,format,image,32",
+        "format,image,31,--ffs",
+        "asm",
+        "asm,owns",
+        "asm,owns,size",
+        "asm,owns,size,block,block",
+        "asm,-owns,size,block",
+        "asm,owns,-size,block",
+        "asm,owns,size,-block",
+        "asm,--,owns,size,block",
         "run,image",
         "run,image,script,script",
         "run,-,script",
@@ -182,6 +202,8 @@ fn refuses_other_lines(rt: HostRuntime) -> Result<(), Fail> {
         "--version",
         "check",
         "walk,image",
+        "walk,image,script",
+        "verify,text,owns,size",
         "ru,image,script",
         ",image,script",
     ];

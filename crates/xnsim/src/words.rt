@@ -1,10 +1,10 @@
-ghost use Rattle.std.specs.Prelude.{◌≡◌, ◌≢◌, ◌<◌, ◌≤◌, ◌↔◌, ℕ, List, [], ◌∷◌, Ok, Some, false, true, IfSome, IfNone, IfOk, IfErr, IsSomeAnd, IsTrue, codes, length, map, string_bytes};
+ghost use Rattle.std.specs.Prelude.{◌≡◌, ◌≢◌, ◌<◌, ◌≤◌, ◌↔◌, ℕ, List, [], ◌∷◌, ◌++◌, Bool, Ok, Some, false, true, IfSome, IfNone, IfOk, IfErr, IsSomeAnd, IsTrue, All, codes, length, map, string_bytes};
 ghost use Rattle.std.specs.Fmt.{decimal};
 ghost use Rattle.clap.specs.Words.{app_of, kind_of, rule_of, takes, with_subcommand, HasMatchesOf};
 ghost use Rattle.clap.specs.declared.builder.command.Command.TheViews.{out-Command as fields_of};
 ghost use Rattle.udf_verify.specs.declared.Role.{Role};
 ghost use Rattle.xnsim.specs.CommandLine.{no_commands, program, two_words, wanted};
-ghost use Rattle.xnsim.specs.Lines.{IsName, IsLine, IsNoLine, IsThreeWords};
+ghost use Rattle.xnsim.specs.Lines.{CutsFileSystem, IsName, IsLine, IsNoLine, IsTemplateWords, IsThreeWords};
 ghost use Rattle.xnsim.specs.Programs.{role_name};
 
 use crate::image::{GREATEST_BLOCKS, LEAST_BLOCKS};
@@ -19,10 +19,29 @@ use udf_verify::Role;
 pub enum Words<'a> {
     /// No words: the script on standard input is run on a fresh disk.
     Bare,
-    Format { image: &'a str, blocks: u32 },
-    Run { image: &'a str, script: &'a str },
+    /// A fresh image is written, with the templates of these files, behind those of the library's file system where it is
+    /// asked for.
+    Format {
+        image: &'a str,
+        blocks: u32,
+        file_system: bool,
+        templates: &'a [String],
+    },
+    Run {
+        image: &'a str,
+        script: &'a str,
+    },
+    /// The programs of two text files are made into the template block of a third file.
+    Asm {
+        owns: &'a str,
+        size: &'a str,
+        block: &'a str,
+    },
     /// The program of a text file is verified for a role.
-    Verify { text: &'a str, role: Role },
+    Verify {
+        text: &'a str,
+        role: Role,
+    },
 }
 
 /// Why a command line isn't one.
@@ -62,6 +81,9 @@ impl From<AllocError> for LineFault {
 const FIRST: &str = "first";
 
 const SECOND: &str = "second";
+
+/// The word that asks for the templates of the library's file system.
+const FILE_SYSTEM: &str = "--ffs";
 
 /// A word that has to be there.
 fn wanted<'a>(alloc: Global, id: &'a str) -> Arg<'a>
@@ -109,7 +131,8 @@ fn program<'a>(alloc: Global) -> Result<Command<'a>, AllocError>
 {
     let format = with_command(alloc, no_commands(alloc), "format")?;
     let run = with_command(alloc, format, "run")?;
-    with_command(alloc, run, "verify")
+    let asm = with_command(alloc, run, "asm")?;
+    with_command(alloc, asm, "verify")
 }
 
 /// What the reader finds in the words.
@@ -148,6 +171,13 @@ fn is_name(word: &str) -> bool
     word.as_bytes().first() != Some(&b'-')
 }
 
+/// Whether all these words may be names of files.
+fn are_names(words: &[String]) -> bool
+    ensures { IsTrue result ↔ All (λ word. IsName (string_bytes word)) words.now }
+{
+    words.iter().all(|word| is_name(word.as_str()))
+}
+
 /// Whether a word is this text.
 fn is_word(word: &String, text: &str) -> bool
     ensures { IsTrue result ↔ (string_bytes word.now ≡ text.now) }
@@ -165,27 +195,71 @@ fn are_words(words: &[String], first: &str, second: &str, third: &str) -> bool
     }
 }
 
-/// What `format` with these two words asks for.
-fn asked_format<'a>(image: &'a str, blocks: &str) -> Option<Words<'a>>
-    ensures some { IfSome result (IsLine (codes "format" ∷ image.entry.now ∷ blocks.now ∷ [])) }
-    ensures none { IfNone result (IsNoLine (codes "format" ∷ image.entry.now ∷ blocks.now ∷ [])) }
+/// Whether the words of a line begin with that of the library's file system, and the words behind it.
+fn cut_file_system<'a>(words: &'a [String]) -> (bool, &'a [String])
+    ensures { CutsFileSystem (map string_bytes words.entry.now) result.0 (map string_bytes result.1.now) }
+{
+    match words {
+        [first, rest @ ..] if is_word(first, FILE_SYSTEM) => (true, rest),
+        _ => (false, words),
+    }
+}
+
+/// What the words behind a count of blocks ask for: whether the templates of the library's file system come first, and the
+/// names of files.
+fn asked_templates<'a>(words: &'a [String]) -> Option<(bool, &'a [String])>
+    ensures some { IfSome result (λ asked. IsTemplateWords (map string_bytes words.entry.now) asked.0 (map string_bytes asked.1.now)) }
+    ensures none { IfNone result ((file_system : Bool) (names : List (List ℕ)) → ¬ IsTemplateWords (map string_bytes words.entry.now) file_system names) }
+{
+    let (file_system, names) = cut_file_system(words);
+    if !are_names(names) {
+        return None;
+    }
+    Some((file_system, names))
+}
+
+/// What `format` with these words asks for.
+fn asked_format<'a>(image: &'a str, blocks: &str, rest: &'a [String]) -> Option<Words<'a>>
+    ensures some { IfSome result (IsLine (codes "format" ∷ image.entry.now ∷ blocks.now ∷ map string_bytes rest.entry.now)) }
+    ensures none { IfNone result (IsNoLine (codes "format" ∷ image.entry.now ∷ blocks.now ∷ map string_bytes rest.entry.now)) }
 {
     if !is_name(image) {
         return None;
     }
     let blocks = parse_blocks(blocks)?;
-    Some(Words::Format { image, blocks })
+    let (file_system, templates) = asked_templates(rest)?;
+    Some(Words::Format {
+        image,
+        blocks,
+        file_system,
+        templates,
+    })
 }
 
-/// What `run` with these two words asks for.
-fn asked_run<'a>(image: &'a str, script: &'a str) -> Option<Words<'a>>
-    ensures some { IfSome result (IsLine (codes "run" ∷ image.entry.now ∷ script.entry.now ∷ [])) }
-    ensures none { IfNone result (IsNoLine (codes "run" ∷ image.entry.now ∷ script.entry.now ∷ [])) }
+/// What `run` with these words asks for.
+fn asked_run<'a>(image: &'a str, script: &'a str, rest: &[String]) -> Option<Words<'a>>
+    ensures some { IfSome result (IsLine (codes "run" ∷ image.entry.now ∷ script.entry.now ∷ map string_bytes rest.now)) }
+    ensures none { IfNone result (IsNoLine (codes "run" ∷ image.entry.now ∷ script.entry.now ∷ map string_bytes rest.now)) }
 {
-    if !is_name(image) || !is_name(script) {
+    if !rest.is_empty() || !is_name(image) || !is_name(script) {
         return None;
     }
     Some(Words::Run { image, script })
+}
+
+/// What `asm` with these words asks for.
+fn asked_asm<'a>(owns: &'a str, size: &'a str, rest: &'a [String]) -> Option<Words<'a>>
+    ensures some { IfSome result (IsLine (codes "asm" ∷ owns.entry.now ∷ size.entry.now ∷ map string_bytes rest.entry.now)) }
+    ensures none { IfNone result (IsNoLine (codes "asm" ∷ owns.entry.now ∷ size.entry.now ∷ map string_bytes rest.entry.now)) }
+{
+    let [block] = rest else {
+        return None;
+    };
+    let block = block.as_str();
+    if !is_name(owns) || !is_name(size) || !is_name(block) {
+        return None;
+    }
+    Some(Words::Asm { owns, size, block })
 }
 
 /// The role that a word names.
@@ -200,47 +274,62 @@ fn parse_role(word: &str) -> Option<Role>
     }
 }
 
-/// What `verify` with these two words asks for.
-fn asked_verify<'a>(text: &'a str, role: &str) -> Option<Words<'a>>
-    ensures some { IfSome result (IsLine (codes "verify" ∷ text.entry.now ∷ role.now ∷ [])) }
-    ensures none { IfNone result (IsNoLine (codes "verify" ∷ text.entry.now ∷ role.now ∷ [])) }
+/// What `verify` with these words asks for.
+fn asked_verify<'a>(text: &'a str, role: &str, rest: &[String]) -> Option<Words<'a>>
+    ensures some { IfSome result (IsLine (codes "verify" ∷ text.entry.now ∷ role.now ∷ map string_bytes rest.now)) }
+    ensures none { IfNone result (IsNoLine (codes "verify" ∷ text.entry.now ∷ role.now ∷ map string_bytes rest.now)) }
 {
-    if !is_name(text) {
+    if !rest.is_empty() || !is_name(text) {
         return None;
     }
     let role = parse_role(role)?;
     Some(Words::Verify { text, role })
 }
 
-/// What a command with these two words asks for.
-fn asked<'a>(name: &str, first: &'a str, second: &'a str) -> Option<Words<'a>>
-    ensures some { IfSome result (IsLine (name.now ∷ first.entry.now ∷ second.entry.now ∷ [])) }
-    ensures none { IfNone result (IsNoLine (name.now ∷ first.entry.now ∷ second.entry.now ∷ [])) }
+/// What a command with these words asks for.
+fn asked<'a>(name: &str, first: &'a str, second: &'a str, rest: &'a [String]) -> Option<Words<'a>>
+    ensures some { IfSome result (IsLine (name.now ∷ first.entry.now ∷ second.entry.now ∷ map string_bytes rest.entry.now)) }
+    ensures none { IfNone result (IsNoLine (name.now ∷ first.entry.now ∷ second.entry.now ∷ map string_bytes rest.entry.now)) }
 {
     match name {
-        "format" => asked_format(first, second),
-        "run" => asked_run(first, second),
-        "verify" => asked_verify(first, second),
+        "format" => asked_format(first, second, rest),
+        "run" => asked_run(first, second, rest),
+        "asm" => asked_asm(first, second, rest),
+        "verify" => asked_verify(first, second, rest),
         _ => None,
     }
 }
 
-/// What the words ask for of which this was found. They have to be these words and no others.
-fn line_of<'a>(words: &[String], matches: &ArgMatches<'a>) -> Option<Words<'a>>
-    requires some { 0 < length words.now }
-    requires found { HasMatchesOf program (map string_bytes words.now) matches.now }
-    ensures some { IfSome result (IsLine (map string_bytes words.now)) }
-    ensures none { IfNone result (IsNoLine (map string_bytes words.now)) }
+/// What a line asks for whose first three words have these matches. They have to be these words and no others.
+fn line_of<'a>(start: &[String], rest: &'a [String], matches: &ArgMatches<'a>) -> Option<Words<'a>>
+    requires found { HasMatchesOf program (map string_bytes start.now) matches.now }
+    requires three { length start.now ≡ 3 }
+    ensures some { IfSome result (IsLine (map string_bytes start.now ++ map string_bytes rest.entry.now)) }
+    ensures none { IfNone result (IsNoLine (map string_bytes start.now ++ map string_bytes rest.entry.now)) }
 {
     let (name, first, second) = three_words(matches)?;
-    if !are_words(words, name, first, second) {
+    if !are_words(start, name, first, second) {
         return None;
     }
-    asked(name, first, second)
+    asked(name, first, second, rest)
 }
 
-/// Reads a command line: `format IMAGE BLOCKS`, `run IMAGE SCRIPT`, `verify TEXT ROLE`, or no words. Every other line is
-/// `Usage`, also one that says the same in other words.
+/// What a line of these words asks for, of which the first three are a command and what it always has.
+fn read_words<'a>(
+    alloc: Global,
+    start: &'a [String],
+    rest: &'a [String],
+) -> Result<Words<'a>, LineFault>
+    requires { length start.now ≡ 3 }
+    ensures line { IfOk result (IsLine (map string_bytes start.entry.now ++ map string_bytes rest.entry.now)) }
+    ensures usage { IfErr result (λ fault. fault ≡ LineFault.Usage → IsNoLine (map string_bytes start.entry.now ++ map string_bytes rest.entry.now)) }
+{
+    let matches = matches(alloc, start)?;
+    line_of(start, rest, &matches).ok_or(LineFault::Usage)
+}
+
+/// Reads a command line: `format IMAGE BLOCKS [--ffs] [TEMPLATE]...`, `run IMAGE SCRIPT`, `asm OWNS SIZE OUT`, `verify TEXT
+/// ROLE`, or no words. Every other line is `Usage`, also one that says the same in other words.
 pub fn read<'a>(alloc: Global, words: &'a [String]) -> Result<Words<'a>, LineFault>
     ensures line { IfOk result (IsLine (map string_bytes words.now)) }
     ensures bare { words.now ≡ [] → result ≡ Ok Words.Bare }
@@ -249,6 +338,9 @@ pub fn read<'a>(alloc: Global, words: &'a [String]) -> Result<Words<'a>, LineFau
     if words.is_empty() {
         return Ok(Words::Bare);
     }
-    let matches = matches(alloc, words)?;
-    line_of(words, &matches).ok_or(LineFault::Usage)
+    if words.len() < 3 {
+        return Err(LineFault::Usage);
+    }
+    let (start, rest) = words.split_at(3);
+    read_words(alloc, start, rest)
 }

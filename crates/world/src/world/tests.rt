@@ -1,9 +1,12 @@
 // The first script, step by step: by a kernel over lanes in memory, and by a world.
 
-use super::{World, fresh_kernel};
+use super::World;
+use crate::format::fresh_kernel;
 use crate::{Call, Event, Reply};
 use disk::{BLOCK_LEN, MemLane};
+use std::alloc::{AllocError, Global};
 use std::test::Fail;
+use templates::{FormatFault, Template, read_block};
 use xn_kernel::{EditId, Fs, Kernel, Landed, Refusal, Ticket};
 
 /// A block that begins with `ABC`.
@@ -65,7 +68,7 @@ fn landed_of(finished: Result<Landed, (Ticket<MemLane>, Refusal)>) -> Option<Lan
 fn a_kernel_writes_a_block_before_the_root_that_names_it(rt: HostRuntime) -> Result<(), Fail> {
     let owner = fs(0)?;
     let other = fs(1)?;
-    let mut kernel = fresh_kernel(rt.alloc(), 32)?;
+    let mut kernel = fresh_kernel(rt.alloc(), 32, &[])?;
     assert!(rt; init(&mut kernel, owner, 2) == Ok((1, EditId(1))));
     assert!(rt; make_root(&mut kernel, owner, 1) == Ok(EditId(2)));
     assert_eq!(rt; floor(&kernel, owner), 1);
@@ -103,7 +106,7 @@ fn a_kernel_writes_a_block_before_the_root_that_names_it(rt: HostRuntime) -> Res
 #[test]
 fn a_write_that_was_not_landed_makes_nothing_durable(rt: HostRuntime) -> Result<(), Fail> {
     let owner = fs(3)?;
-    let mut kernel = fresh_kernel(rt.alloc(), 32)?;
+    let mut kernel = fresh_kernel(rt.alloc(), 32, &[])?;
     assert!(rt; init(&mut kernel, owner, 2) == Ok((1, EditId(1))));
     let Ok(ticket) = kernel.begin(1) else {
         return Err("the write of block 1 is refused".into());
@@ -126,7 +129,7 @@ fn a_write_that_was_not_landed_makes_nothing_durable(rt: HostRuntime) -> Result<
 fn refusals_of_clients_come_in_their_order(rt: HostRuntime) -> Result<(), Fail> {
     let owner = fs(0)?;
     let other = fs(1)?;
-    let mut kernel = fresh_kernel(rt.alloc(), 32)?;
+    let mut kernel = fresh_kernel(rt.alloc(), 32, &[])?;
     assert!(rt; init(&mut kernel, owner, 1) == Err(Refusal::BadType));
     assert!(rt; init(&mut kernel, owner, 3) == Err(Refusal::BadType));
     assert!(rt; make_root(&mut kernel, owner, 32) == Err(Refusal::NoSuchBlock));
@@ -145,7 +148,7 @@ fn refusals_of_clients_come_in_their_order(rt: HostRuntime) -> Result<(), Fail> 
 #[test]
 fn events_of_a_list_are_run_in_their_order(rt: HostRuntime) -> Result<(), Fail> {
     let owner = fs(0)?;
-    let mut world = World::format(rt.alloc(), 32)?;
+    let mut world = World::format(rt.alloc(), 32, &[])?;
     let bytes = letters();
     let events = [
         Event::Call(owner, Call::Init { ty: 2, bytes }),
@@ -180,4 +183,45 @@ fn events_of_a_list_are_run_in_their_order(rt: HostRuntime) -> Result<(), Fail> 
     assert!(rt; image.as_slice()[512..1024] == bytes[..]);
     assert!(rt; image.as_slice()[..8] == [0x58, 0x4e, 0x39, 0x37, 32, 0, 0, 0][..]);
     Ok(())
+}
+
+/// Templates with one of a list: a block may point to one more, of type 3, and is zero from byte 4 on.
+fn list_templates(alloc: Global) -> Result<Vec<Template>, AllocError> {
+    let code = [
+        0x58, 0x54, 0x05, 0x01, 0x0c, 0x01, 0x00, 0x00, 0x0e, 0x00, 0x01, 0x00, 0x01, 0x02, 0x03,
+        0x00, 0x0d, 0x01, 0x02, 0x00, 0x11, 0x00, 0x00, 0x00, 0x01, 0x00, 0x04, 0x00,
+    ];
+    let mut block = [0; BLOCK_LEN];
+    block[..28].copy_from_slice(&code);
+    let Ok(template) = read_block(alloc, &block) else {
+        return Err(AllocError);
+    };
+    let mut templates = Vec::new(alloc);
+    templates.push(template)?;
+    Ok(templates)
+}
+
+/// The kernel of a fresh disk of 32 blocks with that template.
+fn list_kernel(alloc: Global) -> Result<Kernel<MemLane>, FormatFault> {
+    let templates = list_templates(alloc)?;
+    fresh_kernel(alloc, 32, &templates)
+}
+
+#[test]
+fn a_template_is_a_type_and_its_block_is_nobodys(rt: HostRuntime) -> Result<(), Fail> {
+    let owner = fs(0)?;
+    let mut kernel = list_kernel(rt.alloc())?;
+    assert!(rt; make_root(&mut kernel, owner, 1) == Err(Refusal::NotYours));
+    assert!(rt; init(&mut kernel, owner, 4) == Err(Refusal::BadType));
+    assert!(rt; init(&mut kernel, owner, 3) == Err(Refusal::ClaimWrong));
+    assert!(rt; kernel.init(owner, 3, &[0; BLOCK_LEN]) == Ok((2, EditId(1))));
+    assert!(rt; init(&mut kernel, owner, 2) == Ok((3, EditId(2))));
+    assert!(rt; refusal(&mut kernel, 1) == Some(Refusal::NothingSafe));
+    Ok(())
+}
+
+#[test]
+fn disks_out_of_range_are_not_made(rt: HostRuntime) {
+    assert!(rt; World::format(rt.alloc(), 31, &[]).err() == Some(FormatFault::BadCount));
+    assert!(rt; World::format(rt.alloc(), 32769, &[]).err() == Some(FormatFault::BadCount));
 }

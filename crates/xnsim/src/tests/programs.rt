@@ -16,7 +16,7 @@ fn verified(alloc: Global, text: &str, words: &str) -> Result<Outcome, AllocErro
 }
 
 /// A text of lines that are parted by semicolons and a space.
-fn lines(alloc: Global, program: &str) -> Result<String, AllocError> {
+pub fn lines(alloc: Global, program: &str) -> Result<String, AllocError> {
     let mut text = String::new(alloc);
     for line in program.split(';') {
         text.push_str(line.trim())?;

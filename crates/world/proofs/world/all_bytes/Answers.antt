@@ -1,7 +1,7 @@
 use Rattle.std.proofs.Common.{◌≡◌, ◌≤◌, ◌∙◌, ap, arith, length, vec_len, rules}
 use Rattle.std.proofs.lemmas.List.{take_all}
 use Rattle.world.specs.Disks.{image_of}
-use Rattle.world.specs.Images.{joined}
+use Rattle.xn_model.specs.Images.{joined}
 use Rattle.world.proofs.Sizes.{long}
 use Rattle.world.proofs.world.all_bytes.Goals as goal
 

@@ -1,6 +1,6 @@
 use Rattle.std.proofs.Common.{◌≡◌, take}
 use Rattle.world.specs.Disks.{image_of}
-use Rattle.world.specs.Images.{joined}
+use Rattle.xn_model.specs.Images.{joined}
 use Rattle.world.proofs.world.all_bytes.Given as goal
 
 abbrev pub invariant-loop-block : goal.invariant-loop-block

@@ -1,6 +1,5 @@
 use Rattle.std.proofs.Common.{◌∙◌, ◌+◌, [], Some, None, ap, sym, refl, Err, subst}
 use Rattle.std.proofs.lemmas.Result.{err_from_is_err_and}
-use Rattle.xn_model.specs.Lives.{StoreState}
 use Rattle.xn_model.specs.Results.{Gives}
 use Rattle.templates.specs.Tables.{types_of}
 use Rattle.xn_state.specs.States.{StateValue}

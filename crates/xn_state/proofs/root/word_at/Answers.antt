@@ -1,7 +1,0 @@
-use Rattle.std.proofs.Common.{rules}
-use Rattle.xn_model.specs.Root.{word_at}
-use Rattle.xn_state.proofs.root.word_at.Goals as goal
-
-pub returns : goal.returns
-unfolding word_at
-returns c = search rules

@@ -1,0 +1,23 @@
+-- A mount, by the bytes of an image and a list of the blocks that are found in it.
+--     lives_in image found         the lives of those blocks
+--     AreFound T image found       the image is sound, and they are its reached blocks, each once
+use Rattle.std.specs.Prelude.{ℕ, ◌<◌, List, length, map, All, IsTrue, option_map}
+use Rattle.xn_model.specs.Lists.{distinct}
+use Rattle.xn_model.specs.Types.{Types}
+use Rattle.xn_model.specs.Images.{IsSound, block_of, blocks_in}
+use Rattle.xn_model.specs.Lives.{Lives}
+use Rattle.xn_model.specs.Mounts as model
+use Rattle.xn_model.specs.Mounts.{IsRecovered, lives_found}
+use Rattle.xn_state.specs.declared.found.Found.{Found}
+
+abbrev pub found_of : Found → model.Found
+found_of f = record { block = f.block; ty = f.ty; owner = f.owner; fs = option_map (λ s. s.number) f.fs }
+
+abbrev pub lives_in : List ℕ → List Found → Lives
+lives_in image found = lives_found (blocks_in image) (map found_of found)
+
+pub record AreFound (T : Types) (image : List ℕ) (found : List Found) : Type 0 where
+  pub sound : IsSound T (length (blocks_in image)) (block_of (blocks_in image))
+  pub within : All (λ f. f.block < length (blocks_in image)) found
+  pub once : IsTrue (distinct (map (λ f. f.block) found))
+  pub recovered : IsRecovered T (blocks_in image) (lives_in image found)
