@@ -173,14 +173,6 @@ line_is_three start rest three (Verify text role) line =
     let words : start ≡ codes "verify" ∷ text.now ∷ role_name role ∷ [] = start_alike start rest (codes "verify") text.now (role_name role) [] three line.0 in
     record { first = text.now; second = role_name role; command = inr (inr (inr words)); first_name = line.1; second_name = role_is_IsName role }
 
--- a line of the program has no words, or three and more
-pub few_is_no_line : (words : List (List ℕ)) → 0 < length words → length words < 3 → IsNoLine words
-few_is_no_line words some few Bare line = let none : length words ≡ 0 = ap length line in absurd (omega arith)
-few_is_no_line words some few (Format image blocks file_system templates) line = let three = ap length line.1 in absurd (omega arith)
-few_is_no_line words some few (Run image script) line = let three = ap length line.0 in absurd (omega arith)
-few_is_no_line words some few (Asm owns size block) line = let four = ap length line.0 in absurd (omega arith)
-few_is_no_line words some few (Verify text role) line = let three = ap length line.0 in absurd (omega arith)
-
 -- words that the reader refuses for another cause than want of memory begin no line
 pub refused_is_no_line : (start rest : List (List ℕ)) (kind : ErrorKind) (r : Result Words LineFault) → length start ≡ 3 → (takes program start ≡ true → kind ≡ OutOfMemory) →
     IsErrAnd r (λ fault. fault ≡ fault_of_kind kind) → IfErr r (λ fault. fault ≡ Usage → IsNoLine (start ++ rest))

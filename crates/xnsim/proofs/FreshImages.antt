@@ -4,7 +4,7 @@ use Rattle.std.specs.Prelude.{All, Result, Ok}
 use Rattle.std.proofs.Math.Nat.{eq-or-lt_of_le}
 use Rattle.std.proofs.Math.Seq.{drop-append-add}
 use Rattle.std.proofs.lemmas.List.{take_more, take_all}
-use Rattle.std.proofs.lemmas.List.Elements.{All-nil, All-push}
+use Rattle.std.proofs.lemmas.List.Elements.{All-push}
 use Rattle.disk.specs.Images.{block_at}
 use Rattle.disk.proofs.BlockAt.{block_at-append_front, block_at-append_last}
 use Rattle.xn_model.specs.Images.{block_of, joined}
@@ -100,9 +100,6 @@ pub record AreNamedTo (image : List ℕ) (place : ℕ) (templates : List Templat
   pub all : All IsTemplate templates
   pub named : (blocks : ℕ) (ts : List TemplateValue) → IsFresh image blocks ts → (place ≤ length ts) × (templates ≡ take place ts)
 
-pub none_named : (image : List ℕ) → AreNamedTo image 0 []
-none_named image = record { counted = refl; all = All-nil IsTemplate; named = λ blocks ts fresh. (omega arith, refl) }
-
 -- there is a template at a place that has a pointer
 more : (image : List ℕ) (place : ℕ) (items : List TemplateValue) → AreNamedTo image place items → pointer (block_at image 0) place ≢ 0 →
     (blocks : ℕ) (ts : List TemplateValue) → IsFresh image blocks ts → place < length ts
@@ -118,11 +115,6 @@ all_named image place items so_far empty blocks ts fresh = elim (eq-or-lt_of_le 
   | inl last ↦ (so_far.named blocks ts fresh).1 ∙ take_all place ts (omega (arith, last))
   | inr within ↦ let there = pointer_there image blocks ts fresh place within in absurd (omega (arith, empty, there))
 ]
-
--- after the last place
-pub most_named : (image : List ℕ) (place : ℕ) (items : List TemplateValue) → AreNamedTo image place items → 16 ≤ place →
-    (blocks : ℕ) (ts : List TemplateValue) → IsFresh image blocks ts → items ≡ ts
-most_named image place items so_far last blocks ts fresh = let few = fresh.few in (so_far.named blocks ts fresh).1 ∙ take_all place ts (omega arith)
 
 -- a template at the next place
 pub one_named : (image : List ℕ) (place : ℕ) (items next : List TemplateValue) (template : TemplateValue) → AreNamedTo image place items → pointer (block_at image 0) place ≢ 0 →

@@ -8,3 +8,4 @@ pub mod KnownTemplates
 pub mod TemplateWords
 pub mod TemplatesRead
 pub mod MountFaults
+pub mod HeldFiles

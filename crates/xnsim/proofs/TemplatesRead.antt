@@ -1,8 +1,8 @@
 -- Templates that are read from blocks, one after another.
-use Rattle.std.proofs.Common.{◌≡◌, ◌<◌, ◌≤◌, ◌+◌, ◌⊎◌, ℕ, List, [], ◌∷◌, ◌++◌, length, map, take, drop, get_or, refl, sym, ◌∙◌, ap, subst, arith, add-one}
+use Rattle.std.proofs.Common.{◌≡◌, ◌<◌, ◌+◌, ◌⊎◌, ℕ, List, [], ◌∷◌, ◌++◌, length, map, take, drop, get_or, refl, sym, ◌∙◌, ap, subst, arith, add-one}
 use Rattle.std.specs.Prelude.{All, Contains, Err}
 use Rattle.std.proofs.Math.Seq.{split_at}
-use Rattle.std.proofs.lemmas.List.{take_more, take_all, map-append, length-map, length-take-le, get_or-map}
+use Rattle.std.proofs.lemmas.List.{take_more, map-append, length-map, length-take-le, get_or-map}
 use Rattle.std.proofs.lemmas.List.Elements.{All-push, Contains-get_or}
 use Rattle.templates.specs.declared.fault.TemplateFault.{TemplateFault}
 use Rattle.templates.specs.declared.fault.TemplateFault.TheVariants.{NoMemory}
@@ -20,10 +20,6 @@ one_more blocks place block templates more template within here spelled sound pu
           ∙ (ap (λ (b : List ℕ). map template_bytes templates ++ b ∷ []) last ∙ (sym (map-append template_bytes templates (template ∷ [])) ∙ ap (map template_bytes) (sym pushed))));
       all = subst (All IsTemplate) (sym pushed) (All-push IsTemplate templates template so_far.all sound);
     }
-
--- after the last block
-pub all_read : (blocks : List (List ℕ)) (place : ℕ) (templates : List TemplateValue) → length blocks ≤ place → AreTemplates (take place blocks) templates → AreTemplates blocks templates
-all_read blocks place templates past so_far = subst (λ read. AreTemplates read templates) (take_all place blocks past) so_far
 
 split_here : (blocks : List (List ℕ)) (place : ℕ) (d : List ℕ) → place < length blocks → blocks ≡ take place blocks ++ get_or blocks place d ∷ drop (place + 1) blocks
 split_here blocks place d within = rw add-one (split_at blocks place d within)

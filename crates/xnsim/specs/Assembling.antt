@@ -7,6 +7,7 @@ use Rattle.udf_verify.specs.Program.{Program}
 use Rattle.templates.specs.Templates.{template_bytes, IsTemplate, TemplateValue}
 use Rattle.xnsim.specs.declared.fault.Fault.{Fault}
 use Rattle.xnsim.specs.declared.fault.Fault.TheVariants as fault
+use Rattle.xnsim.specs.Files.{Held, with_file}
 use Rattle.xnsim.specs.Programs.{IsProgramFault, IsProgramOf}
 
 -- the line of a template that was made, with the counts of its words
@@ -19,12 +20,13 @@ pub record IsTemplateOf (owns_text size_text : List ℕ) (template : TemplateVal
   pub size : IsProgramOf size_text role.Size template.size
   pub sound : IsTemplate template
 
--- the block of the template of the two texts was made, and its line printed
-pub record PrintsTemplate (owns_text size_text : List ℕ) (old new : Option (List ℕ)) : Type 0 where
+-- the block of the template of the two texts was made and written, and its line printed
+pub record PrintsTemplate (held held_after : Held) (block_name owns_text size_text : List ℕ) (old new : Option (List ℕ)) : Type 0 where
   pub template : TemplateValue
   pub block : List ℕ
   pub read : IsTemplateOf owns_text size_text template
   pub made : block ≡ template_bytes template
+  pub written : held_after ≡ with_file held block_name block
   pub printed : Appends old new (template_line (length template.owns.words) (length template.size.words))
 
 -- the two texts are those of programs that have too many words for one template

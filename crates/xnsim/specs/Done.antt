@@ -7,6 +7,8 @@ use Rattle.xnsim.specs.declared.words.Words.TheVariants.{Bare, Format, Run, Asm,
 use Rattle.xnsim.specs.declared.fault.Fault.{Fault}
 use Rattle.xnsim.specs.declared.fault.Fault.TheVariants.{Usage, CannotRead, Unreadable, NotMounted, CannotWrite, NoMemory, Program, Owns, Size, Template, TooManyTemplates, TooManyWords, Stream}
 use Rattle.xnsim.specs.Assembling.{IsTemplateFault, PrintsTemplate}
+use Rattle.udf_verify.specs.declared.fault.Role.{Role}
+use Rattle.xnsim.specs.Files.{Held, IsHeld, with_file}
 use Rattle.xnsim.specs.Formatting.{IsSomeFault, IsTooMany, PrintsMade}
 use Rattle.xnsim.specs.Images.{IsFresh}
 use Rattle.xnsim.specs.Lines.{IsLine, IsNoLine}
@@ -24,26 +26,46 @@ pub record PrintsReplies (known : Option (List ℕ)) (blocks : ℕ) (templates :
   pub script : IsScript text commands
   pub run : IsPrintedRun blocks templates commands old new image
 
--- a script was run on the disk of an image that is as formatting leaves it, and its replies printed
-pub record PrintsMounted (old new : Option (List ℕ)) : Type 0 where
+-- the script of a file was run on the disk of a file's image that is as formatting leaves it, its replies printed, and what is then on
+-- the disk written back
+pub record PrintsMounted (held held_after : Held) (image_name script_name : List ℕ) (old new : Option (List ℕ)) : Type 0 where
   pub image : List ℕ
   pub text : List ℕ
   pub commands : List Command
   pub after : List ℕ
+  pub image_held : IsHeld held image_name image
+  pub script_held : IsHeld held script_name text
   pub script : IsScript text commands
   pub run : IsMountedRun image commands old new after
+  pub written : held_after ≡ with_file held image_name after
 
--- what is printed where all that is asked for was done; the first argument is what is known of standard input
-abbrev pub IsDone : Option (List ℕ) → Words → Option (List ℕ) → Option (List ℕ) → Type 0
-IsDone input Bare old new = PrintsReplies input 32 [] old new
-IsDone input (Format image blocks file_system templates) old new = PrintsMade blocks file_system (length templates.now) old new
-IsDone input (Run image script) old new = PrintsMounted old new
-IsDone input (Asm owns size block) old new = (owns_text size_text : List ℕ) × PrintsTemplate owns_text size_text old new
-IsDone input (Verify name role) old new = (text : List ℕ) × PrintsAccepted text role old new
+-- the template of the texts of two files was made, its block written, and its line printed
+pub record PrintsAssembled (held held_after : Held) (owns_name size_name block_name : List ℕ) (old new : Option (List ℕ)) : Type 0 where
+  pub owns_text : List ℕ
+  pub size_text : List ℕ
+  pub owns_held : IsHeld held owns_name owns_text
+  pub size_held : IsHeld held size_name size_text
+  pub template : PrintsTemplate held held_after block_name owns_text size_text old new
+
+-- the program of a file's text was accepted, and its line printed
+pub record PrintsVerified (held held_after : Held) (name : List ℕ) (role : Role) (old new : Option (List ℕ)) : Type 0 where
+  pub text : List ℕ
+  pub text_held : IsHeld held name text
+  pub accepted : PrintsAccepted text role old new
+  pub kept : held_after ≡ held
+
+-- what is done where all that is asked for was: what is printed and written, by what is known of standard input and of the files
+abbrev pub IsDone : Option (List ℕ) → Held → Held → Words → Option (List ℕ) → Option (List ℕ) → Type 0
+IsDone input held held_after Bare old new = PrintsReplies input 32 [] old new × (held_after ≡ held)
+IsDone input held held_after (Format image blocks file_system templates) old new =
+    PrintsMade held held_after image.now blocks file_system (map string_bytes templates.now) old new
+IsDone input held held_after (Run image script) old new = PrintsMounted held held_after image.now script.now old new
+IsDone input held held_after (Asm owns size block) old new = PrintsAssembled held held_after owns.now size.now block.now old new
+IsDone input held held_after (Verify name role) old new = PrintsVerified held held_after name.now role old new
 
 -- these words are a line, and all that it asks for was done
-abbrev pub IsLineDone : Option (List ℕ) → List (List ℕ) → Option (List ℕ) → Option (List ℕ) → Type 0
-IsLineDone input words old new = (asked : Words) × IsLine words asked × IsDone input asked old new
+abbrev pub IsLineDone : Option (List ℕ) → Held → Held → List (List ℕ) → Option (List ℕ) → Option (List ℕ) → Type 0
+IsLineDone input held held_after words old new = (asked : Words) × IsLine words asked × IsDone input held held_after asked old new
 
 -- a fault that may come of a run on a fresh disk
 abbrev pub IsRunFault : Fault → Type 0

@@ -10,6 +10,7 @@ use Rattle.xn_model.specs.Images.{joined}
 use Rattle.templates.specs.Formats.{formatted}
 use Rattle.xnsim.specs.declared.fault.Fault.{Fault}
 use Rattle.xnsim.specs.declared.fault.Fault.TheVariants as fault
+use Rattle.xnsim.specs.Files.{Held, AreHeld, with_file}
 use Rattle.xnsim.specs.Library.{file_system_templates}
 
 -- the line of an image that was made
@@ -29,16 +30,17 @@ installed file_system own = if file_system then file_system_templates ++ own els
 abbrev pub installed_count : Bool → ℕ → ℕ
 installed_count file_system count = if file_system then 3 + count else count
 
--- an image was made with the templates of so many files, and its line printed
-pub record PrintsMade (blocks : ℕ) (file_system : Bool) (count : ℕ) (old new : Option (List ℕ)) : Type 0 where
+-- an image was made with the templates of these files and written, and its line printed
+pub record PrintsMade (held held_after : Held) (image_name : List ℕ) (blocks : ℕ) (file_system : Bool) (names : List (List ℕ)) (old new : Option (List ℕ)) : Type 0 where
   pub files : List (List ℕ)
   pub own : List TemplateValue
   pub image : List ℕ
-  pub counted : length files ≡ count
+  pub files_held : AreHeld held names files
   pub read : AreTemplates files own
-  pub few : installed_count file_system count ≤ 16
+  pub few : installed_count file_system (length names) ≤ 16
   pub made : image ≡ joined (formatted blocks (installed file_system own))
-  pub printed : Appends old new (made_line blocks (installed_count file_system count))
+  pub written : held_after ≡ with_file held image_name image
+  pub printed : Appends old new (made_line blocks (installed_count file_system (length names)))
 
 -- the name of what is wrong with a template's block
 abbrev pub template_fault_name : TemplateFault → List ℕ

@@ -10,6 +10,7 @@ pub mod Replies
 pub mod Runs
 pub mod ProgramFaults
 pub mod Programs
+pub mod Files
 pub mod Library
 pub mod Formatting
 pub mod Assembling

@@ -4,6 +4,7 @@ ghost use Rattle.std.specs.Prelude.{◌≡◌, ◌≤◌, List, map, length, str
 ghost use Rattle.xn_model.specs.Images.{joined};
 ghost use Rattle.templates.specs.Formats.{formatted};
 ghost use Rattle.templates.specs.Templates.{TemplateValue};
+ghost use Rattle.xnsim.specs.Files.{AreHeld, IsHeld};
 ghost use Rattle.xnsim.specs.Formatting.{installed, template_fault_name, IsBlockFault, IsFileFault, IsImageFault, AreTemplates};
 
 use crate::fault::Fault;
@@ -18,7 +19,9 @@ fn read_file<'a, F: Files>(
     files: &mut F,
     name: &'a str,
 ) -> Result<[u8; 512], Fault<'a>>
-    ensures { IfErr result (λ fault. fault ≡ Fault.CannotRead name.entry) }
+    ensures held { IfOk result (λ block. IsHeld (F.held files.old) name.entry.now block) }
+    ensures kept { F.held files.new ≡ F.held files.old }
+    ensures fault { IfErr result (λ fault. fault ≡ Fault.CannotRead name.entry) }
 {
     let bytes = files.read(alloc, name).ok_or(Fault::CannotRead(name))?;
     <[u8; 512]>::try_from(bytes.as_slice()).map_err(|_| Fault::CannotRead(name))
@@ -30,7 +33,8 @@ pub fn read_files<'a, F: Files>(
     files: &mut F,
     names: &'a [String],
 ) -> Result<Vec<[u8; 512]>, Fault<'a>>
-    ensures count { IfOk result (λ blocks. length blocks.items ≡ length names.entry.now) }
+    ensures held { IfOk result (λ blocks. AreHeld (F.held files.old) (map string_bytes names.entry.now) blocks.items) }
+    ensures kept { F.held files.new ≡ F.held files.old }
     ensures fault { IfErr result (IsFileFault (map string_bytes names.entry.now)) }
 {
     let mut blocks = Vec::new(alloc);

@@ -1,12 +1,10 @@
 ghost use Rattle.std.specs.Prelude.{◌≡◌, ◌≤◌, ◌⊎◌, ℕ, List, [], None, IfErr, IfOk, OnOk, length, map, string_bytes};
 ghost use Rattle.std.specs.Str.{IsUtf8};
 ghost use Rattle.std.specs.Io.KnownBytes.{Appends};
-ghost use Rattle.xnsim.specs.Assembling.{PrintsTemplate};
-ghost use Rattle.xnsim.specs.Done.{IsFaultOf, IsLineDone, IsLineFault, PrintsMounted, PrintsReplies};
+ghost use Rattle.xnsim.specs.Done.{IsFaultOf, IsLineDone, IsLineFault, PrintsAssembled, PrintsMounted, PrintsReplies, PrintsVerified};
 ghost use Rattle.xnsim.specs.Faults.{status_of, IsTold};
 ghost use Rattle.xnsim.specs.Formatting.{made_line, PrintsMade};
 ghost use Rattle.xnsim.specs.Lines.{IsNoLine};
-ghost use Rattle.xnsim.specs.Programs.{PrintsAccepted};
 
 use crate::assembling::{make_template, print_template};
 use crate::fault::Fault;
@@ -54,7 +52,7 @@ fn format<'a, F: Files, W: Write>(
 ) -> Result<(), Fault<'a>>
     requires least { 32 ≤ blocks }
     requires greatest { blocks ≤ 32768 }
-    ensures told { OnOk result (PrintsMade blocks file_system (length names.entry.now) (W.contents out.old) (W.contents out.new)) }
+    ensures done { OnOk result (PrintsMade (F.held files.old) (F.held files.new) image.entry.now blocks file_system (map string_bytes names.entry.now) (W.contents out.old) (W.contents out.new)) }
     ensures fault { IfErr result (IsFaultOf None (Words.Format image.entry blocks file_system names.entry)) }
 {
     let read = read_files(alloc, files, names)?;
@@ -76,7 +74,7 @@ fn assemble_files<'a, F: Files, W: Write>(
     size: &'a str,
     block: &'a str,
 ) -> Result<(), Fault<'a>>
-    ensures told { OnOk result ((owns_text size_text : List ℕ) × PrintsTemplate owns_text size_text (W.contents out.old) (W.contents out.new)) }
+    ensures done { OnOk result (PrintsAssembled (F.held files.old) (F.held files.new) owns.entry.now size.entry.now block.entry.now (W.contents out.old) (W.contents out.new)) }
     ensures fault { IfErr result (IsFaultOf None (Words.Asm owns.entry size.entry block.entry)) }
 {
     let owns_bytes = files.read(alloc, owns).ok_or(Fault::CannotRead(owns))?;
@@ -99,7 +97,7 @@ fn run_files<'a, F: Files, W: Write>(
     image: &'a str,
     script: &'a str,
 ) -> Result<(), Fault<'a>>
-    ensures told { OnOk result (PrintsMounted (W.contents out.old) (W.contents out.new)) }
+    ensures done { OnOk result (PrintsMounted (F.held files.old) (F.held files.new) image.entry.now script.entry.now (W.contents out.old) (W.contents out.new)) }
     ensures fault { IfErr result (IsFaultOf None (Words.Run image.entry script.entry)) }
 {
     let before = files.read(alloc, image).ok_or(Fault::CannotRead(image))?;
@@ -141,7 +139,7 @@ fn verify_file<'a, F: Files, W: Write>(
     text: &'a str,
     role: Role,
 ) -> Result<(), Fault<'a>>
-    ensures told { OnOk result ((bytes : List ℕ) × PrintsAccepted bytes role (W.contents out.old) (W.contents out.new)) }
+    ensures done { OnOk result (PrintsVerified (F.held files.old) (F.held files.new) text.entry.now role (W.contents out.old) (W.contents out.new)) }
     ensures fault { IfErr result (IsFaultOf None (Words.Verify text.entry role)) }
 {
     let bytes = files.read(alloc, text).ok_or(Fault::CannotRead(text))?;
@@ -156,7 +154,7 @@ fn run<'a, F: Files, R: Read, W: Write>(
     input: &mut R,
     out: &mut W,
 ) -> Result<(), Fault<'a>>
-    ensures done { OnOk result (IsLineDone (R.remaining input.old) (map string_bytes words.entry.now) (W.contents out.old) (W.contents out.new)) }
+    ensures done { OnOk result (IsLineDone (R.remaining input.old) (F.held files.old) (F.held files.new) (map string_bytes words.entry.now) (W.contents out.old) (W.contents out.new)) }
     ensures fault { IfErr result (IsLineFault (R.remaining input.old) (map string_bytes words.entry.now)) }
     ensures usage { IfErr result (λ fault. fault ≡ Fault.Usage → IsNoLine (map string_bytes words.entry.now)) }
 {
@@ -214,7 +212,7 @@ pub fn line<F: Files, R: Read, W: Write, E: Write>(
     out: &mut W,
     err: &mut E,
 ) -> u8
-    ensures done { result ≡ 0 → IsLineDone (R.remaining input.old) (map string_bytes words.now) (W.contents out.old) (W.contents out.new) }
+    ensures done { result ≡ 0 → IsLineDone (R.remaining input.old) (F.held files.old) (F.held files.new) (map string_bytes words.now) (W.contents out.old) (W.contents out.new) }
     ensures usage { result ≡ 2 → IsNoLine (map string_bytes words.now) }
     ensures status { result ≤ 2 }
 {

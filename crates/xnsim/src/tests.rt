@@ -1,3 +1,5 @@
+ghost use Rattle.std.specs.Prelude.{◌≡◌, bytes_eq, position, string_bytes};
+
 mod assembling;
 mod formatting;
 mod mounting;
@@ -30,40 +32,58 @@ struct MemoryFiles {
 }
 
 impl MemoryFiles {
+    /// The place of the file of this name.
+    fn place_of(&self, name: &str) -> Option<usize>
+        ensures { result ≡ position (λ file. bytes_eq (string_bytes file.name) name.now) self.now.files.items }
+    {
+        self.files
+            .iter()
+            .position(|file| file.name.as_str() == name)
+    }
+
+    /// Puts bytes under a name, in place of those that stood there.
     fn put(&mut self, alloc: Global, name: &str, bytes: &[u8]) -> Result<(), AllocError> {
+        let contents = Vec::from_slice(alloc, bytes)?;
+        if let Some(place) = self.place_of(name) {
+            self.files[place].bytes = contents;
+            return Ok(());
+        }
         let name = String::from_str(alloc, name)?;
-        let bytes = Vec::from_slice(alloc, bytes)?;
-        self.files.push(MemoryFile { name, bytes })?;
+        self.files.push(MemoryFile {
+            name,
+            bytes: contents,
+        })?;
         Ok(())
     }
 
-    /// The bytes that were last put under a name.
+    /// The bytes under a name.
     fn find(&self, name: &str) -> Option<&[u8]> {
-        for file in self.files.iter().rev() {
-            if file.name.as_str() == name {
-                return Some(file.bytes.as_slice());
-            }
-        }
-        None
+        let place = self.place_of(name)?;
+        Some(self.files[place].bytes.as_slice())
     }
 }
 
 impl Files for MemoryFiles {
+    ghost use Rattle.std.specs.Prelude.{Some, string_bytes};
+    ghost use Rattle.xnsim.specs.Files.{held_in};
+
+    ghost held = { λ m. Some (held_in (λ file. string_bytes file.name) (λ file. file.bytes.items) m.files.items) };
+
     fn read(&mut self, alloc: Global, name: &str) -> Option<Vec<u8>> {
-        Vec::from_slice(alloc, self.find(name)?).ok()
+        let place = self.place_of(name)?;
+        Vec::from_slice(alloc, self.files[place].bytes.as_slice()).ok()
     }
 
     fn write(&mut self, name: &str, bytes: &[u8]) -> bool {
         if self.locked {
             return false;
         }
-        for file in self.files.iter_mut().rev() {
-            if file.name.as_str() == name {
-                file.bytes.clear();
-                return file.bytes.extend_from_slice(bytes).is_ok();
-            }
-        }
-        false
+        let Some(place) = self.place_of(name) else {
+            return false;
+        };
+        let file = &mut self.files[place];
+        file.bytes.clear();
+        file.bytes.extend_from_slice(bytes).is_ok()
     }
 }
 
