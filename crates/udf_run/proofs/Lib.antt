@@ -3,3 +3,4 @@ pub mod Unwritten
 pub mod Rows
 pub mod Sound
 pub mod Runs
+pub mod Branches
