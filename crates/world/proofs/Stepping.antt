@@ -9,13 +9,13 @@ use Rattle.xn_model.specs.declared.refusal.Refusal.{Refusal}
 use Rattle.xn_model.specs.Images.{block_of}
 use Rattle.xn_model.specs.Lives.{StoreState, life_at}
 use Rattle.xn_model.specs.Results.{Gives, GivesExactly, result_map}
-use Rattle.xn_model.specs.Calls.{init_of, make_root_of, begun_of, settled_of, settled_place, settled_after}
-use Rattle.xn_model.specs.Worlds.{World, Event, Client, Begin, Land, Finish, Init, MakeRoot, Reply, Started, Edited, Begun, Landed, Finished, NoTicket, Refused, act, reply_and_world, write, with_ticket, begun_count, is_refusal, asks_memory, AfterCall, Step}
+use Rattle.xn_model.specs.Calls.{Edit, init_of, propose_of, make_root_of, drop_root_of, forget_of, begun_of, settled_of, settled_place, settled_after}
+use Rattle.xn_model.specs.Worlds.{World, Event, Client, Begin, Land, Finish, Init, Propose, MakeRoot, DropRoot, Forget, Reply, Started, Edited, Forgotten, Begun, Landed, Finished, NoTicket, Refused, act, reply_and_world, write, with_ticket, begun_count, is_refusal, asks_memory, AfterCall, Step}
 use Rattle.xn_model.specs.Lanes.{FitLives}
 use Rattle.xn_model.specs.Flights.{flight_of, HaveSameFlights}
 use Rattle.xn_state.specs.States.{types_in}
 use Rattle.xn_model.specs.Rules.{Holds}
-use Rattle.xn_model.proofs.Given.{gives_keeps, gives_exactly-ok}
+use Rattle.xn_model.proofs.Given.{gives_keeps, gives_exactly_keeps, gives_exactly-ok}
 use Rattle.xn_model.proofs.Runs.{step_keeps}
 use Rattle.xn_model.proofs.LaneCalls as lane
 use Rattle.xn_model.proofs.Flights as flight
@@ -41,6 +41,14 @@ gives_step w e reply (Ok (answer, after)) new result up acts asks answers h = �
     (λ p. inr (asks, (ap (λ (x : Reply × World). is_refusal x.0) acts ∙ answers answer, (up, (ap (told reply) p.0, ap (λ s. record w { state = s }) p.1)))))
     h
 gives_step w e reply (Err refusal) new result up acts asks answers h =
+    inl (ap (told reply) h.0 ∙ sym (ap (λ (x : Reply × World). x.0) acts), ap (λ s. record w { state = s }) h.1 ∙ sym (ap (λ (x : Reply × World). x.1) acts))
+
+-- a call that doesn't
+exactly_step : {A : Type 0} (w : World) (e : Event) (reply : A → Reply) (r : Result (A × StoreState) Refusal) (new : StoreState) (result : Result A Refusal) →
+    act w e ≡ reply_and_world reply w r → GivesExactly r w.state new result → AfterCall w e (told reply result) (record w { state = new })
+exactly_step w e reply (Ok (answer, after)) new result acts h =
+    inl (ap (told reply) h.0 ∙ sym (ap (λ (x : Reply × World). x.0) acts), ap (λ s. record w { state = s }) h.1 ∙ sym (ap (λ (x : Reply × World). x.1) acts))
+exactly_step w e reply (Err refusal) new result acts h =
     inl (ap (told reply) h.0 ∙ sym (ap (λ (x : Reply × World). x.0) acts), ap (λ s. record w { state = s }) h.1 ∙ sym (ap (λ (x : Reply × World). x.1) acts))
 
 module _ (kernel : KernelValue MemoryLane) (tickets : Tickets) (is : IsWorld kernel tickets) where
@@ -73,6 +81,39 @@ module _ (kernel : KernelValue MemoryLane) (tickets : Tickets) (is : IsWorld ker
       (step_keeps (world_of kernel tickets) (Client fs (MakeRoot b)) (told Edited result) (world_of (record kernel { state = record kernel.state { store = new } }) tickets) few is.holds (root_step fs b new result h))
       (gives_keeps (λ s. FitLives (λ (l : MemoryLane). l.bytes) kernel.lanes s.lives) (make_root_of kernel.state.store fs b) kernel.state.store new result h is.fit (λ entry e. lane.lanes_make_root (λ (l : MemoryLane). l.bytes) kernel.lanes kernel.state.store new fs b entry e is.fit))
       (gives_keeps (λ s. HaveSameFlights kernel.state.store.lives s.lives) (make_root_of kernel.state.store fs b) kernel.state.store new result h (λ b. refl) (λ entry e. flight.flights_make_root (types_in kernel.state) kernel.state.store new is.holds.state fs b entry e))
+
+  pub edit_step : (fs b : ℕ) (edit : Edit) (new : StoreState) (result : Result ℕ Refusal) → Gives (propose_of (types_in kernel.state) kernel.state.store fs b edit) kernel.state.store new result →
+      Step (world_of kernel tickets) (Client fs (Propose b edit)) (told Edited result) (world_of (record kernel { state = record kernel.state { store = new } }) tickets)
+  edit_step fs b edit new result h = gives_step (world_of kernel tickets) (Client fs (Propose b edit)) Edited (propose_of (types_in kernel.state) kernel.state.store fs b edit) new result refl refl refl (λ a. refl) h
+
+  pub edit_world : (fs b : ℕ) (edit : Edit) (new : StoreState) (result : Result ℕ Refusal) → fs < 32 → Gives (propose_of (types_in kernel.state) kernel.state.store fs b edit) kernel.state.store new result →
+      IsWorld (record kernel { state = record kernel.state { store = new } }) tickets
+  edit_world fs b edit new result few h = new_state new
+      (step_keeps (world_of kernel tickets) (Client fs (Propose b edit)) (told Edited result) (world_of (record kernel { state = record kernel.state { store = new } }) tickets) few is.holds (edit_step fs b edit new result h))
+      (gives_keeps (λ s. FitLives (λ (l : MemoryLane). l.bytes) kernel.lanes s.lives) (propose_of (types_in kernel.state) kernel.state.store fs b edit) kernel.state.store new result h is.fit (λ entry e. lane.lanes_propose (λ (l : MemoryLane). l.bytes) kernel.lanes (types_in kernel.state) kernel.state.store new fs b edit entry e is.fit))
+      (gives_keeps (λ s. HaveSameFlights kernel.state.store.lives s.lives) (propose_of (types_in kernel.state) kernel.state.store fs b edit) kernel.state.store new result h (λ b. refl) (λ entry e. flight.flights_propose (types_in kernel.state) kernel.state.store new is.holds.state fs b edit entry e))
+
+  pub drop_step : (fs : ℕ) (new : StoreState) (result : Result ℕ Refusal) → Gives (drop_root_of (types_in kernel.state) kernel.state.store fs) kernel.state.store new result →
+      Step (world_of kernel tickets) (Client fs DropRoot) (told Edited result) (world_of (record kernel { state = record kernel.state { store = new } }) tickets)
+  drop_step fs new result h = gives_step (world_of kernel tickets) (Client fs DropRoot) Edited (drop_root_of (types_in kernel.state) kernel.state.store fs) new result refl refl refl (λ a. refl) h
+
+  pub drop_world : (fs : ℕ) (new : StoreState) (result : Result ℕ Refusal) → fs < 32 → Gives (drop_root_of (types_in kernel.state) kernel.state.store fs) kernel.state.store new result →
+      IsWorld (record kernel { state = record kernel.state { store = new } }) tickets
+  drop_world fs new result few h = new_state new
+      (step_keeps (world_of kernel tickets) (Client fs DropRoot) (told Edited result) (world_of (record kernel { state = record kernel.state { store = new } }) tickets) few is.holds (drop_step fs new result h))
+      (gives_keeps (λ s. FitLives (λ (l : MemoryLane). l.bytes) kernel.lanes s.lives) (drop_root_of (types_in kernel.state) kernel.state.store fs) kernel.state.store new result h is.fit (λ entry e. lane.lanes_drop_root (λ (l : MemoryLane). l.bytes) kernel.lanes (types_in kernel.state) kernel.state.store new fs entry e is.fit))
+      (gives_keeps (λ s. HaveSameFlights kernel.state.store.lives s.lives) (drop_root_of (types_in kernel.state) kernel.state.store fs) kernel.state.store new result h (λ b. refl) (λ entry e. flight.flights_drop_root (types_in kernel.state) kernel.state.store new is.holds.state fs entry e))
+
+  pub forget_step : (fs b : ℕ) (new : StoreState) (result : Result (Unit {0}) Refusal) → GivesExactly (forget_of (types_in kernel.state) kernel.state.store fs b) kernel.state.store new result →
+      Step (world_of kernel tickets) (Client fs (Forget b)) (told (λ done. Forgotten) result) (world_of (record kernel { state = record kernel.state { store = new } }) tickets)
+  forget_step fs b new result h = exactly_step (world_of kernel tickets) (Client fs (Forget b)) (λ done. Forgotten) (forget_of (types_in kernel.state) kernel.state.store fs b) new result refl h
+
+  pub forget_world : (fs b : ℕ) (new : StoreState) (result : Result (Unit {0}) Refusal) → fs < 32 → GivesExactly (forget_of (types_in kernel.state) kernel.state.store fs b) kernel.state.store new result →
+      IsWorld (record kernel { state = record kernel.state { store = new } }) tickets
+  forget_world fs b new result few h = new_state new
+      (step_keeps (world_of kernel tickets) (Client fs (Forget b)) (told (λ done. Forgotten) result) (world_of (record kernel { state = record kernel.state { store = new } }) tickets) few is.holds (forget_step fs b new result h))
+      (gives_exactly_keeps (λ s. FitLives (λ (l : MemoryLane). l.bytes) kernel.lanes s.lives) (forget_of (types_in kernel.state) kernel.state.store fs b) kernel.state.store new result h is.fit (λ done e. lane.lanes_forget (λ (l : MemoryLane). l.bytes) kernel.lanes (types_in kernel.state) kernel.state.store new fs b done e is.fit))
+      (gives_exactly_keeps (λ s. HaveSameFlights kernel.state.store.lives s.lives) (forget_of (types_in kernel.state) kernel.state.store fs b) kernel.state.store new result h (λ b. refl) (λ done e. flight.flights_forget (types_in kernel.state) kernel.state.store new fs b done e))
 
   -- A write begins
 

@@ -1,6 +1,7 @@
 // A disk in memory with its kernel, run by events.
 #![tactic(auto)]
 
+mod calls;
 mod event;
 mod format;
 mod reply;

@@ -2,35 +2,13 @@
 
 ghost use Rattle.std.specs.Prelude.{◌<◌, ◌≤◌};
 ghost use Rattle.xn_model.specs.Worlds as model;
-ghost use Rattle.world.specs.Events.{call_of, reply_of};
+ghost use Rattle.world.specs.Events.{reply_of};
 ghost use Rattle.world.specs.Worlds.{world_of, IsWorld};
 
-use crate::event::Call;
 use crate::reply::Reply;
 use crate::ticket::Held;
 use disk::MemLane;
-use xn_kernel::{Fs, Kernel};
-
-/// A client's call.
-pub fn call(kernel: &mut Kernel<MemLane>, tickets: &Vec<Option<Held>>, fs: Fs, call: &Call) -> Reply
-    requires world { IsWorld kernel.old tickets.now.items }
-    ensures step { model.Step (world_of kernel.old tickets.now.items) (model.Client fs.number (call_of call.now)) (reply_of result) (world_of kernel.new tickets.now.items) }
-    ensures world { IsWorld kernel.new tickets.now.items }
-{
-    match call {
-        Call::Init { ty, bytes } => match kernel.init(fs, *ty, bytes) {
-            Ok((block, entry)) => Reply::Started { block, entry },
-            Err(refusal) => Reply::Refused(refusal),
-        },
-        Call::MakeRoot { block } => match kernel.make_root(fs, *block) {
-            Ok(entry) => Reply::Edited { entry },
-            Err(refusal) => Reply::Refused(refusal),
-        },
-        Call::Floor => Reply::Floor {
-            floor: kernel.floor(fs),
-        },
-    }
-}
+use xn_kernel::Kernel;
 
 /// A write of a block begins, and its ticket is kept.
 pub fn begin(kernel: &mut Kernel<MemLane>, tickets: &mut Vec<Option<Held>>, block: u32) -> Reply

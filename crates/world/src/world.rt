@@ -14,8 +14,8 @@ ghost use Rattle.world.specs.Worlds.{world_with, IsWorld};
 use crate::event::Event;
 use crate::format::fresh_kernel;
 use crate::reply::Reply;
-use crate::steps;
 use crate::ticket::Held;
+use crate::{calls, steps};
 use disk::{BLOCK_LEN, MemLane};
 use std::alloc::{AllocError, Global};
 use std::marker::Model;
@@ -70,7 +70,7 @@ impl World {
         ensures agrees { Agrees (types_of self.new.table) (length self.new.state.lives) (block_of self.new.image) self.new.state.lives }
     {
         match event {
-            Event::Call(fs, call) => steps::call(&mut self.kernel, &self.tickets, *fs, call),
+            Event::Call(fs, call) => calls::call(&mut self.kernel, &self.tickets, *fs, call),
             Event::Begin(block) => steps::begin(&mut self.kernel, &mut self.tickets, *block),
             Event::Land(block) => steps::land(&self.kernel, &mut self.tickets, *block),
             Event::Finish(block) => steps::finish(&mut self.kernel, &mut self.tickets, *block),

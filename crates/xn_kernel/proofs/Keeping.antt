@@ -4,12 +4,13 @@ use Rattle.std.proofs.lemmas.Option.{slice_get_within}
 use Rattle.xn_model.specs.declared.refusal.Refusal.{Refusal}
 use Rattle.xn_model.specs.Lives.{StoreState, begun_at}
 use Rattle.xn_model.specs.Results.{Gives, GivesExactly}
-use Rattle.xn_model.specs.Calls.{init_of, make_root_of, begun_of, begun_place, settled_of}
+use Rattle.xn_model.specs.Calls.{Edit, init_of, propose_of, make_root_of, drop_root_of, begun_of, begun_place, settled_of}
 use Rattle.xn_state.specs.States.{StateValue, types_in}
 use Rattle.xn_model.proofs.Given.{gives_keeps, gives_exactly-ok, gives_exactly-err}
 use Rattle.xn_model.proofs.Tests.{map_ok}
 use Rattle.xn_model.proofs.Init.{init_keeps}
-use Rattle.xn_model.proofs.Roots.{make_root_keeps}
+use Rattle.xn_model.proofs.Edits.{propose_keeps}
+use Rattle.xn_model.proofs.Roots.{make_root_keeps, drop_root_keeps}
 use Rattle.xn_model.proofs.Begin.{begun_keeps}
 use Rattle.xn_model.proofs.Ends.{settled_keeps}
 use Rattle.xn_model.proofs.LaneCalls as lane
@@ -31,6 +32,14 @@ module _ {L : Type 0} (read : L → List ℕ) (lanes : List (Option L)) (old new
   pub make_root_leaves : (fs b : ℕ) (result : Result ℕ Refusal) → fs < 32 → Gives (make_root_of old.store fs b) old.store new.store result → IsKernel read lanes new
   make_root_leaves fs b result few h = with_table lanes (gives_keeps (Leaves lanes) (make_root_of old.store fs b) old.store new.store result h is
       (λ entry e. record { rules = (make_root_keeps (types_in old) old.store is.rules fs few b entry new.store e).consistent; fit = lane.lanes_make_root read lanes old.store new.store fs b entry e is.fit }))
+
+  pub propose_leaves : (fs b : ℕ) (edit : Edit) (result : Result ℕ Refusal) → Gives (propose_of (types_in old) old.store fs b edit) old.store new.store result → IsKernel read lanes new
+  propose_leaves fs b edit result h = with_table lanes (gives_keeps (Leaves lanes) (propose_of (types_in old) old.store fs b edit) old.store new.store result h is
+      (λ entry e. record { rules = (propose_keeps (types_in old) old.store is.rules fs b edit entry new.store e).consistent; fit = lane.lanes_propose read lanes (types_in old) old.store new.store fs b edit entry e is.fit }))
+
+  pub drop_root_leaves : (fs : ℕ) (result : Result ℕ Refusal) → fs < 32 → Gives (drop_root_of (types_in old) old.store fs) old.store new.store result → IsKernel read lanes new
+  drop_root_leaves fs result few h = with_table lanes (gives_keeps (Leaves lanes) (drop_root_of (types_in old) old.store fs) old.store new.store result h is
+      (λ entry e. record { rules = (drop_root_keeps (types_in old) old.store is.rules fs few entry new.store e).consistent; fit = lane.lanes_drop_root read lanes (types_in old) old.store new.store fs entry e is.fit }))
 
   pub begun_leaves : (b : ℕ) (given : List ℕ × ℕ) → GivesExactly (begun_of old.store b) old.store new.store (Ok given) → IsKernel read (slice_set lanes b None) new
   begun_leaves b given h =

@@ -19,6 +19,10 @@ use std::marker::Model;
 use templates::Table;
 use xn_state::{EditId, Found, Fs, Refusal, State};
 
+mod answers;
+mod edits;
+mod forget;
+
 /// What a finished write did: how many of its entries are durable, and how many blocks are free.
 #[derive(Clone, Copy, Debug, PartialEq, Eq)]
 pub struct Landed {

@@ -6,4 +6,4 @@ mod ticket;
 
 pub use kernel::{Kernel, Landed};
 pub use ticket::Ticket;
-pub use xn_state::{EditId, Found, Fs, Refusal};
+pub use xn_state::{Edit, EditId, Found, Fs, Patch, Refusal};

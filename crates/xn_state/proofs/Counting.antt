@@ -8,12 +8,12 @@ use Rattle.std.proofs.lemmas.Option.{unwrap_or-slice_get, slice_get_within}
 use Rattle.std.proofs.lemmas.List.{get_or-set_same, get_or-set_other, length-set, length-drop, take_all}
 use Rattle.std.proofs.lemmas.List.Sums.{sum-map, sum_by-set, sum_by_push, sum_by-take-drop}
 use Rattle.std.proofs.lemmas.List.Quantifiers.{position-Some}
-use Rattle.xn_model.specs.declared.status.Status.TheVariants.{Owned}
-use Rattle.xn_model.specs.Lives.{BlockState, Life, Lives, life_at, change_at, with_state, with_status, settle, begun_at, settled_at, is_for, lowest_free}
+use Rattle.xn_model.specs.declared.status.Status.{Status}
+use Rattle.xn_model.specs.declared.status.Status.TheVariants.{Owned, Dropped}
+use Rattle.xn_model.specs.Lives.{BlockState, Life, Lives, life_at, change_at, with_state, with_status, settle, begun_at, settled_at, owned_after, dropped_after, accepted_at, is_for, lowest_free}
 use Rattle.xn_model.specs.Calls.{pending_in, new_life}
 use Rattle.xn_model.proofs.Lives.{place_from, length_change, change_same, set_other, set_same}
 use Rattle.xn_state.specs.Kept.{IsCounted}
-use Rattle.xn_state.specs.Plans.{rooted}
 
 -- whether an entry counts for a file system
 abbrev pub counts_for : ℕ → BlockState → Bool
@@ -23,13 +23,13 @@ counts_for fs s = is_for fs s.fs
 abbrev pub counted : ℕ → Lives → ℕ
 counted fs lives = sum_by (pending_in fs) lives
 
-sum_same : {X : Type 0} (f : X → ℕ) (xs : List X) (i : ℕ) (y d : X) → f y ≡ f (get_or xs i d) → sum_by f (slice_set xs i y) ≡ sum_by f xs
+pub sum_same : {X : Type 0} (f : X → ℕ) (xs : List X) (i : ℕ) (y d : X) → f y ≡ f (get_or xs i d) → sum_by f (slice_set xs i y) ≡ sum_by f xs
 sum_same f xs i y d e = sym (sum-map f (slice_set xs i y)) ∙ (ap sum (map-set_same f xs i y d e) ∙ sum-map f xs)
 
 alive_within : (lives : Lives) (b : ℕ) (l : Life) → life_at lives b ≡ Some l → b < length lives
 alive_within lives b l e = slice_get_within lives b (Some l) (place_from lives b l e)
 
-place_is : (lives : Lives) (b : ℕ) → life_at lives b ≡ get_or lives b None
+pub place_is : (lives : Lives) (b : ℕ) → life_at lives b ≡ get_or lives b None
 place_is lives b = unwrap_or-slice_get lives b None
 
 -- a change of a life that leaves its pending entries
@@ -139,34 +139,55 @@ started_counted lives pending used b n f ty bytes life h few lowest started =
     some_of None f = absurd (false≢true (sym f))
     some_of (Some l) f = refl
 
-appended_more : (fs : ℕ) (lives : Lives) (s : BlockState) (l : Life) → life_at lives 0 ≡ Some l → 0 < length lives → counted fs (change_at lives 0 (with_state s)) ≡ counted fs lives + cond (counts_for fs s) 1 0
-appended_more fs lives s l here within =
-    let now = ap (λ o. counted fs (slice_set lives 0 (option_map (with_state s) o))) here in
-    let moved = sum_by-set (pending_in fs) lives 0 (Some (with_state s l)) None within in
-    let before = ap (pending_in fs) (sym here ∙ place_is lives 0) in
+appended_more : (fs : ℕ) (lives : Lives) (b : ℕ) (s : BlockState) (l : Life) → life_at lives b ≡ Some l → b < length lives → counted fs (change_at lives b (with_state s)) ≡ counted fs lives + cond (counts_for fs s) 1 0
+appended_more fs lives b s l here within =
+    let now = ap (λ o. counted fs (slice_set lives b (option_map (with_state s) o))) here in
+    let moved = sum_by-set (pending_in fs) lives b (Some (with_state s l)) None within in
+    let before = ap (pending_in fs) (sym here ∙ place_is lives b) in
     let pushed = sum_by_push (λ t. cond (counts_for fs t) 1 0) l.pending s in
     omega (arith, now, moved, before, pushed)
 
--- block 0 owns one more block
-rooted_over : (lives : Lives) (pending : List ℕ) (used b f : ℕ) (s : BlockState) (l : Life) → IsCounted lives pending used → f < length pending → life_at lives 0 ≡ Some l → 0 < length lives →
-    s.fs ≡ Some f → IsCounted (rooted lives b s) (slice_set pending f (slice_index_or pending f 0 + 1)) used
-rooted_over lives pending used b f s l h few here within for =
-    let mid = change_at lives 0 (with_state s) in
-    record {
-      counts = λ fs low. one_more pending f fs few ∙ (ap (λ n. n + cond (f == fs) 1 0) (h.counts fs low)
-          ∙ (ap (λ o. counted fs lives + cond (is_for fs o) 1 0) (sym for)
-          ∙ sym (changed_counted fs mid b (with_status (Owned 0)) (λ l. refl) ∙ appended_more fs lives s l here within)));
-      in_use = λ c below. still_in_use mid b c (with_status (Owned 0)) (still_in_use lives 0 c (with_state s) (h.in_use c below));
-      within = subst (λ n. used ≤ n) (sym (length_change mid b (with_status (Owned 0)) ∙ length_change lives 0 (with_state s))) h.within;
-    }
+-- a block in use has one more entry
+appended_over : (lives : Lives) (pending : List ℕ) (used b f : ℕ) (s : BlockState) (l : Life) → IsCounted lives pending used → f < length pending → life_at lives b ≡ Some l → b < length lives →
+    s.fs ≡ Some f → IsCounted (change_at lives b (with_state s)) (slice_set pending f (slice_index_or pending f 0 + 1)) used
+appended_over lives pending used b f s l h few here within for = record {
+  counts = λ fs low. one_more pending f fs few ∙ (ap (λ n. n + cond (f == fs) 1 0) (h.counts fs low)
+      ∙ (ap (λ o. counted fs lives + cond (is_for fs o) 1 0) (sym for) ∙ sym (appended_more fs lives b s l here within)));
+  in_use = λ c below. still_in_use lives b c (with_state s) (h.in_use c below);
+  within = subst (λ n. used ≤ n) (sym (length_change lives b (with_state s))) h.within;
+}
 
-pub rooted_counted : (lives : Lives) (pending : List ℕ) (used b f : ℕ) (s : BlockState) → IsCounted lives pending used → f < length pending → IsTrue (is_some (life_at lives 0)) →
-    s.fs ≡ Some f → IsCounted (rooted lives b s) (slice_set pending f (slice_index_or pending f 0 + 1)) used
-rooted_counted lives pending used b f s h few alive for = by (life_at lives 0) refl alive
+appended_counted : (lives : Lives) (pending : List ℕ) (used b f : ℕ) (s : BlockState) → IsCounted lives pending used → f < length pending → IsTrue (is_some (life_at lives b)) →
+    s.fs ≡ Some f → IsCounted (change_at lives b (with_state s)) (slice_set pending f (slice_index_or pending f 0 + 1)) used
+appended_counted lives pending used b f s h few alive for = by (life_at lives b) refl alive
   where
-    by : (o : Option Life) → life_at lives 0 ≡ o → IsTrue (is_some o) → IsCounted (rooted lives b s) (slice_set pending f (slice_index_or pending f 0 + 1)) used
+    by : (o : Option Life) → life_at lives b ≡ o → IsTrue (is_some o) → IsCounted (change_at lives b (with_state s)) (slice_set pending f (slice_index_or pending f 0 + 1)) used
     by None e t = absurd (false≢true t)
-    by (Some l) e t = rooted_over lives pending used b f s l h few e (alive_within lives 0 l e) for
+    by (Some l) e t = appended_over lives pending used b f s l h few e (alive_within lives b l e) for
+
+-- a status changes nothing that is counted
+status_counted : (st : Status) (lives : Lives) (pending : List ℕ) (used c : ℕ) → IsCounted lives pending used → IsCounted (change_at lives c (with_status st)) pending used
+status_counted st lives pending used c h = record {
+  counts = λ fs few. h.counts fs few ∙ sym (changed_counted fs lives c (with_status st) (λ l. refl));
+  in_use = λ d below. still_in_use lives c d (with_status st) (h.in_use d below);
+  within = subst (λ n. used ≤ n) (sym (length_change lives c (with_status st))) h.within;
+}
+
+dropped_counted : (b : ℕ) (lives : Lives) (pending : List ℕ) (used : ℕ) (drops : List ℕ) → IsCounted lives pending used → IsCounted (dropped_after b lives drops) pending used
+dropped_counted b lives pending used [] h = h
+dropped_counted b lives pending used (c ∷ cs) h = dropped_counted b (change_at lives c (with_status (Dropped b))) pending used cs (status_counted (Dropped b) lives pending used c h)
+
+owned_counted : (b : ℕ) (lives : Lives) (pending : List ℕ) (used : ℕ) (adds : List (ℕ × ℕ)) → IsCounted lives pending used → IsCounted (owned_after b lives adds) pending used
+owned_counted b lives pending used [] h = h
+owned_counted b lives pending used (p ∷ ps) h = owned_counted b (change_at lives p.0 (with_status (Owned b))) pending used ps (status_counted (Owned b) lives pending used p.0 h)
+
+-- a block accepts one more state
+pub accepted_counted : (lives : Lives) (pending : List ℕ) (used b f : ℕ) (s : BlockState) → IsCounted lives pending used → f < length pending → IsTrue (is_some (life_at lives b)) →
+    s.fs ≡ Some f → IsCounted (accepted_at lives b s) (slice_set pending f (slice_index_or pending f 0 + 1)) used
+accepted_counted lives pending used b f s h few alive for =
+    let more = slice_set pending f (slice_index_or pending f 0 + 1) in
+    let pushed = change_at lives b (with_state s) in
+    owned_counted b (dropped_after b pushed s.drops) more used s.adds (dropped_counted b pushed more used s.drops (appended_counted lives pending used b f s h few alive for))
 
 -- The search for a free block
 

@@ -6,7 +6,7 @@ use Rattle.std.proofs.lemmas.List.Sums.{sum_by-take-drop}
 use Rattle.xn_model.specs.Calls.{pending_in}
 use Rattle.xn_model.proofs.Floors.{entries_counted}
 use Rattle.std.proofs.lemmas.Bool.{eq-eqb, ne_eqb}
-use Rattle.xn_model.specs.Lives.{BlockState, Life, Lives, least_to, is_for, entries_in, entries_at, entries_of}
+use Rattle.xn_model.specs.Lives.{BlockState, Life, Lives, least_to, drops_of, is_for, entries_in, entries_at, entries_of}
 
 min_swap : (x y z : ℕ) → min x (min y z) ≡ min y (min x z)
 min_swap x y z = grind arith
@@ -41,6 +41,23 @@ least_one m fs f x e same = ap (λ t. least_to m (cond t (x.entry ∷ []) [])) (
 
 pub least_other : (m fs f : ℕ) (x : BlockState) → x.fs ≡ Some f → (f ≡ fs → ⊥) → least_to m (entries_in fs (x ∷ [])) ≡ m
 least_other m fs f x e apart = ap (λ t. least_to m (cond t (x.entry ∷ []) [])) (ap (is_for fs) e ∙ ne_eqb f fs apart)
+
+-- one more number
+pub least_more : (n i : ℕ) (xs : List ℕ) (x : ℕ) → i < length xs → x ≡ get_or xs i x → least_to n (take (i + 1) xs) ≡ min x (least_to n (take i xs))
+least_more n i xs x within e = ap (least_to n) (take_more xs i x within ∙ ap (λ z. take i xs ++ z ∷ []) (sym e)) ∙ least_to-append n (take i xs) (x ∷ [])
+
+-- what one more state drops
+drops_of-append : (xs ys : List BlockState) → drops_of (xs ++ ys) ≡ drops_of xs ++ drops_of ys
+drops_of-append [] ys = refl
+drops_of-append (x ∷ xs) ys = ap (λ zs. x.drops ++ zs) (drops_of-append xs ys) ∙ sym (append_assoc x.drops (drops_of xs) (drops_of ys))
+
+pub least_drops : (n i : ℕ) (xs : List BlockState) (x : BlockState) → i < length xs → x ≡ get_or xs i x →
+    least_to n (drops_of (take (i + 1) xs)) ≡ least_to (least_to n (drops_of (take i xs))) x.drops
+least_drops n i xs x within e =
+    ap (λ zs. least_to n (drops_of zs)) (take_more xs i x within ∙ ap (λ z. take i xs ++ z ∷ []) (sym e))
+    ∙ (ap (least_to n) (drops_of-append (take i xs) (x ∷ []))
+    ∙ (least_to-append n (drops_of (take i xs)) (drops_of (x ∷ []))
+    ∙ ap (least_to (least_to n (drops_of (take i xs)))) (append-nil x.drops)))
 
 -- one more place
 entries_of-append : (fs : ℕ) (xs ys : Lives) → entries_of fs (xs ++ ys) ≡ entries_of fs xs ++ entries_of fs ys

@@ -4,9 +4,9 @@ use Rattle.std.proofs.lemmas.List.{append-nil, take_all}
 use Rattle.std.proofs.Math.ListN.{drop_of_length-le}
 use Rattle.xn_model.specs.declared.refusal.Refusal.{Refusal}
 use Rattle.xn_model.specs.Root.{with_slot}
-use Rattle.xn_model.specs.Lives.{StoreState, BlockState, Life, Lives, life_at, lowest_free, begun_at, settled_at, drops_of}
+use Rattle.xn_model.specs.Lives.{StoreState, Life, Lives, life_at, lowest_free, begun_at, settled_at, freed, drops_of}
 use Rattle.xn_model.specs.Results.{unless, result_map, result_and_then}
-use Rattle.xn_model.specs.Calls.{init_at, init_refusal, new_life, own_life, root_now, root_state, accepts, make_root_of, make_root_at, make_root_refusal, begun_place, settled_place, settled_after, settled_with, first_pending}
+use Rattle.xn_model.specs.Calls.{init_at, init_refusal, new_life, own_life, root_now, root_state, accepts, make_root_of, make_root_at, make_root_refusal, drop_root_of, drop_root_refusal, slot_now, begun_place, settled_place, settled_after, first_pending}
 use Rattle.xn_model.specs.Types.{Types}
 use Rattle.xn_model.specs.Rules.{IsConsistent}
 use Rattle.xn_model.specs.Images.{IsSound, block_of}
@@ -17,10 +17,11 @@ use Rattle.templates.specs.Tables.{TableValue, IsTable, types_of}
 use Rattle.templates.proofs.BuiltInTypes.{tables_have_built_ins}
 use Rattle.xn_model.proofs.Tests.{same_ok, never_ok}
 use Rattle.xn_model.proofs.Init.{init_keeps}
-use Rattle.xn_model.proofs.Roots.{make_root_keeps}
+use Rattle.xn_model.proofs.Roots.{make_root_keeps, drop_root_keeps}
 use Rattle.xn_model.proofs.Begin.{begun_keeps}
 use Rattle.xn_model.proofs.Ends.{settled_keeps}
-use Rattle.xn_state.specs.Plans.{make_root_plan, make_root_plan_at, root_entry, rooted}
+use Rattle.xn_state.specs.Plans.{make_root_plan, make_root_plan_at}
+use Rattle.xn_state.specs.Proposals.{drop_root_plan, entry_of}
 
 -- a state with these lives and this next number
 abbrev pub state_of : Lives → ℕ → StoreState
@@ -49,23 +50,24 @@ begun_consistent T lives next b given h e =
     (begun_keeps T (state_of lives next) h b given (state_of (begun_at lives b given.1) next) whole).consistent
 
 pub settled_consistent : (T : Types) (lives : Lives) (next b k : ℕ) (bytes : List ℕ) → IsConsistent T (state_of lives next) → settled_place bytes (slice_get lives b) ≡ Ok k →
-    drops_of (first_pending k (life_at lives b)) ≡ [] → IsConsistent T (state_of (settled_at lives b k) next)
-settled_consistent T lives next b k bytes h e none =
+    IsConsistent T (state_of (freed (settled_at lives b k) (drops_of (first_pending k (life_at lives b)))) next)
+settled_consistent T lives next b k bytes h e =
     let state = state_of lives next in
-    let whole = ap (result_map (settled_after state b)) e ∙ ap (λ drops. Ok (settled_with state b drops k)) none in
-    (settled_keeps T state h b bytes (k, 0) (state_of (settled_at lives b k) next) whole).0
+    let drops = drops_of (first_pending k (life_at lives b)) in
+    let whole = ap (result_map (settled_after state b)) e in
+    (settled_keeps T state h b bytes (k, length drops) (state_of (freed (settled_at lives b k) drops) next) whole).0
 
 -- make_root, from its plan
 
 unless_planned : (refusal : Option Refusal) (state : StoreState) (fs b : ℕ) (l : Life) (plan : List ℕ × ℕ) →
     unless refusal (Ok (with_slot (root_now state) fs (b, l.ty), l.ty)) ≡ Ok plan →
-    unless refusal (Ok (accepts state 0 (root_state state fs (b, l.ty) ((b, l.ty) ∷ []) []))) ≡ Ok (accepts state 0 (root_entry state.next fs b plan.0 plan.1))
+    unless refusal (Ok (accepts state 0 (root_state state fs (b, l.ty) ((b, l.ty) ∷ []) []))) ≡ Ok (accepts state 0 (entry_of state fs plan.0 ((b, plan.1) ∷ []) [] None))
 unless_planned None state fs b l plan e = let same = same_ok (with_slot (root_now state) fs (b, l.ty), l.ty) plan e in
-    λ i. Ok (accepts state 0 (root_entry state.next fs b (same i).0 (same i).1))
+    λ i. Ok (accepts state 0 (entry_of state fs (same i).0 ((b, (same i).1) ∷ []) [] None))
 unless_planned (Some refusal) state fs b l plan e = absurd (never_ok refusal plan e)
 
 planned : (r : Result Life Refusal) (state : StoreState) (fs b : ℕ) (plan : List ℕ × ℕ) → result_and_then (make_root_plan_at state fs b) r ≡ Ok plan →
-    result_and_then (make_root_at state fs b) r ≡ Ok (accepts state 0 (root_entry state.next fs b plan.0 plan.1))
+    result_and_then (make_root_at state fs b) r ≡ Ok (accepts state 0 (entry_of state fs plan.0 ((b, plan.1) ∷ []) [] None))
 planned (Ok l) state fs b plan e = unless_planned (make_root_refusal state fs l) state fs b l plan e
 planned (Err refusal) state fs b plan e = absurd (never_ok refusal plan e)
 
@@ -84,16 +86,42 @@ refused (Err refusal) state fs b e h = cc
 pub root_refused : (state : StoreState) (fs b : ℕ) (e : Refusal) → make_root_plan state fs b ≡ Err e → make_root_of state fs b ≡ Err e
 root_refused state fs b e h = refused (own_life state fs b) state fs b e h
 
-pub rooted_consistent : (T : Types) (lives : Lives) (next fs b : ℕ) (plan : List ℕ × ℕ) (entry : BlockState) → IsConsistent T (state_of lives next) → fs < 32 →
-    make_root_plan (state_of lives next) fs b ≡ Ok plan → entry ≡ root_entry next fs b plan.0 plan.1 → IsConsistent T (state_of (rooted lives b entry) (next + 1))
-rooted_consistent T lives next fs b plan entry h few e made =
-    let state = state_of lives next in
-    let whole = planned (own_life state fs b) state fs b plan e in
-    subst (λ s. IsConsistent T (state_of (rooted lives b s) (next + 1))) (sym made)
-    (make_root_keeps T state h fs few b next (accepts state 0 (root_entry next fs b plan.0 plan.1)).1 whole).consistent
+-- where it is made, this is done
+pub root_made : (state : StoreState) (fs b : ℕ) (plan : List ℕ × ℕ) → make_root_plan state fs b ≡ Ok plan → make_root_of state fs b ≡ Ok (accepts state 0 (entry_of state fs plan.0 ((b, plan.1) ∷ []) [] None))
+root_made state fs b plan e = planned (own_life state fs b) state fs b plan e
+
+pub rooted_consistent : (T : Types) (state : StoreState) (fs b : ℕ) (plan : List ℕ × ℕ) → IsConsistent T state → fs < 32 → make_root_plan state fs b ≡ Ok plan →
+    IsConsistent T (accepts state 0 (entry_of state fs plan.0 ((b, plan.1) ∷ []) [] None)).1
+rooted_consistent T state fs b plan h few e =
+    (make_root_keeps T state h fs few b state.next (accepts state 0 (entry_of state fs plan.0 ((b, plan.1) ∷ []) [] None)).1 (root_made state fs b plan e)).consistent
 
 -- a vector whose slice was lent and came back
 pub lent_back : {A : Type 0} (len : ℕ) (old new : List A) → len ≡ length old → length new ≡ length old → take len (new ++ drop (length new) old) ≡ new
 lent_back len old new e f =
     let none : drop (length new) old ≡ [] = drop_of_length-le old (omega arith) in
     ap (λ xs. take len (new ++ xs)) none ∙ (ap (take len) (append-nil new) ∙ take_all len new (omega arith))
+
+-- drop_root, from its plan
+
+dropped_by : (refusal : Option Refusal) (state : StoreState) (fs : ℕ) (plan : List ℕ × ℕ) → unless refusal (Ok (with_slot (root_now state) fs (0, 0), (slot_now state fs).0)) ≡ Ok plan →
+    unless refusal (Ok (accepts state 0 (root_state state fs (0, 0) [] ((slot_now state fs).0 ∷ [])))) ≡ Ok (accepts state 0 (entry_of state fs plan.0 [] (plan.1 ∷ []) None))
+dropped_by None state fs plan e = let same = same_ok (with_slot (root_now state) fs (0, 0), (slot_now state fs).0) plan e in
+    λ i. Ok (accepts state 0 (entry_of state fs (same i).0 [] ((same i).1 ∷ []) None))
+dropped_by (Some refusal) state fs plan e = absurd (never_ok refusal plan e)
+
+pub root_dropped : (T : Types) (state : StoreState) (fs : ℕ) (plan : List ℕ × ℕ) → drop_root_plan T state fs ≡ Ok plan →
+    drop_root_of T state fs ≡ Ok (accepts state 0 (entry_of state fs plan.0 [] (plan.1 ∷ []) None))
+root_dropped T state fs plan e = dropped_by (drop_root_refusal T state fs) state fs plan e
+
+drop_refused_by : (refusal : Option Refusal) (state : StoreState) (fs : ℕ) (r : Refusal) → unless {A = List ℕ × ℕ} refusal (Ok (with_slot (root_now state) fs (0, 0), (slot_now state fs).0)) ≡ Err r →
+    unless refusal (Ok (accepts state 0 (root_state state fs (0, 0) [] ((slot_now state fs).0 ∷ [])))) ≡ Err r
+drop_refused_by None state fs r e = cc
+drop_refused_by (Some refusal) state fs r e = cc
+
+pub drop_refused : (T : Types) (state : StoreState) (fs : ℕ) (r : Refusal) → drop_root_plan T state fs ≡ Err r → drop_root_of T state fs ≡ Err r
+drop_refused T state fs r e = drop_refused_by (drop_root_refusal T state fs) state fs r e
+
+pub dropped_consistent : (T : Types) (state : StoreState) (fs : ℕ) (plan : List ℕ × ℕ) → IsConsistent T state → fs < 32 → drop_root_plan T state fs ≡ Ok plan →
+    IsConsistent T (accepts state 0 (entry_of state fs plan.0 [] (plan.1 ∷ []) None)).1
+dropped_consistent T state fs plan h few e =
+    (drop_root_keeps T state h fs few state.next (accepts state 0 (entry_of state fs plan.0 [] (plan.1 ∷ []) None)).1 (root_dropped T state fs plan e)).consistent

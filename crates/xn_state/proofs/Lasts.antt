@@ -1,9 +1,7 @@
 -- The last of a list, or of its beginning, read by its place.
-use Rattle.std.proofs.Common.{◌≡◌, ℕ, zero, suc, ◌-◌, ◌<◌, ◌≤◌, List, [], ◌∷◌, ◌++◌, length, take, get_or, Option, Some, None, refl, sym, ◌∙◌, ap, arith, slice_get}
+use Rattle.std.proofs.Common.{◌≡◌, ℕ, zero, suc, ◌-◌, ◌<◌, ◌≤◌, List, [], ◌∷◌, length, take, get_or, Option, Some, None, refl, sym, ◌∙◌, ap, arith, slice_get}
 use Rattle.std.specs.List.{last_or}
-use Rattle.std.specs.Prelude.{All}
-use Rattle.xn_model.specs.Lives.{BlockState, bytes_of, on_disk, durable_after, drops_of}
-use Rattle.xn_state.specs.Kept.{IsPlain}
+use Rattle.xn_model.specs.Lives.{BlockState, bytes_of, on_disk, durable_after}
 use Rattle.std.proofs.lemmas.Option.{none-some, slice_get-get_or}
 
 pub last_or-last : {A : Type 0} (o : Option A) (xs : List A) (x : A) → slice_get xs (length xs - 1) ≡ Some x → last_or o xs ≡ Some x
@@ -37,11 +35,3 @@ pub first_durable : (o : Option BlockState) (xs : List BlockState) (n : ℕ) →
 first_durable o xs zero some within = absurd (omega arith)
 first_durable o [] (suc n) some within = absurd (omega arith)
 first_durable o (x ∷ xs) (suc n) some within = last_durable x (take n xs)
-
--- states that drop nothing, together
-pub no_drops : (xs : List BlockState) (n : ℕ) → All IsPlain xs → drops_of (take n xs) ≡ []
-no_drops xs zero h = refl
-no_drops [] (suc n) h = refl
-no_drops (x ∷ xs) (suc n) h =
-    let here : x.drops ≡ [] = (h 0 x (omega arith)).0 in
-    ap (λ ds. ds ++ drops_of (take n xs)) here ∙ no_drops xs n (λ k d lt. h (suc k) d (omega arith))

@@ -1,7 +1,10 @@
 pub mod Lasts
 pub mod Floors
-pub mod Safety
+pub mod SafePrefix
 pub mod Keeping
 pub mod Counting
+pub mod Freeing
+pub mod Proposing
+pub mod Forgetting
 pub mod Finding
 pub mod FreshDisks

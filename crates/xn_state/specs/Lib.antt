@@ -1,4 +1,6 @@
 pub mod Kept
 pub mod Plans
+pub mod Forgets
 pub mod States
 pub mod Mounts
+pub mod Proposals

@@ -1,7 +1,7 @@
 // The state of a store without its disk: what each block has been since it was last free.
 #![tactic(auto)]
 
-mod edit_id;
+mod claims;
 mod entry;
 mod found;
 mod fs;
@@ -10,11 +10,12 @@ mod life;
 mod lives;
 mod places;
 mod root;
+mod safety;
 mod state;
 #[cfg(test)]
 mod tests;
 
-pub use edit_id::EditId;
+pub use edit_list::{Edit, EditId, Patch};
 pub use found::Found;
 pub use fs::Fs;
 pub use state::State;

@@ -1,10 +1,10 @@
 // What a block has been since it was last free.
 
-ghost use Rattle.std.specs.Prelude.{◌≡◌, ℕ, ◌+◌, ◌<◌, ◌≤◌, [], ◌∷◌, ◌++◌, length, take, Option, Some, None, is_some, IfOk, IfSome, OnOk, OnErr, IsTrue, ◌↔◌, count_by, All};
-ghost use Rattle.xn_model.specs.Lives.{current, with_state, with_status, settle, entries_at, least_to, drops_of, is_for, is_fresh, is_dropped};
+ghost use Rattle.std.specs.Prelude.{◌≡◌, ℕ, ◌+◌, ◌<◌, ◌≤◌, ◌&&◌, [], ◌∷◌, ◌++◌, length, take, Option, Some, None, is_some, IfOk, IfSome, OnOk, OnErr, IsTrue, ◌↔◌, count_by, All};
+ghost use Rattle.xn_model.specs.Lives.{current, with_state, with_status, settle, entries_at, least_to, is_for, is_fresh, is_dropped, is_owned_by, has_entry, no_states};
 ghost use Rattle.xn_model.specs.Calls.{pending_in, settled_count, bytes_at, new_life};
 ghost use Rattle.xn_model.specs.Mounts.{found_status, life_at_rest};
-ghost use Rattle.xn_state.specs.Kept.{IsPlain};
+ghost use Rattle.xn_state.specs.Kept.{HasFewDrops};
 ghost use Rattle.xn_state.specs.Mounts.{found_of};
 
 use crate::entry::Entry;
@@ -56,7 +56,7 @@ impl Life {
         ensures { IfOk result (λ life. life ≡ new_life number fs.number ty bytes.now) }
     {
         let mut pending = Vec::with_capacity(alloc, 1)?;
-        pending.push_reserved(Entry::new(number, *bytes, Vec::new(alloc), fs));
+        pending.push_reserved(Entry::first(alloc, number, bytes, fs));
         Ok(Life {
             fs: Some(fs),
             ty,
@@ -119,6 +119,17 @@ impl Life {
         }
     }
 
+    /// Whether this block owns the block, by its newest state.
+    pub fn is_owned_by(&self, owner: u32) -> bool
+        ensures { result ≡ is_owned_by owner self.now.status }
+    {
+        match self.status {
+            Status::Fresh => false,
+            Status::Owned(by) => by == owner,
+            Status::Dropped(_) => false,
+        }
+    }
+
     pub fn is_in_flight(&self) -> bool
         ensures { result ≡ is_some self.now.begun }
     {
@@ -132,11 +143,25 @@ impl Life {
         self.durable.is_some()
     }
 
+    /// Whether the newest state of the block is known to be on the disk.
+    pub fn is_all_durable(&self) -> bool
+        ensures { result ≡ is_some self.now.durable && no_states self.now.pending }
+    {
+        self.durable.is_some() && self.pending.is_empty()
+    }
+
+    /// Whether the entry of this number is pending in the block.
+    pub fn has_entry(&self, number: u64) -> bool
+        ensures { result ≡ has_entry self.now.pending number }
+    {
+        self.pending.iter().any(|entry| entry.number() == number)
+    }
+
     /// The pending entries, the oldest first.
     pub fn pending(&self) -> &[Entry]
         ensures pending { result.now ≡ self.now.pending }
         ensures few { length self.now.pending ≤ 64 }
-        ensures plain { All IsPlain self.now.pending }
+        ensures small { All HasFewDrops self.now.pending }
     {
         self.pending.as_slice()
     }
@@ -157,7 +182,7 @@ impl Life {
     /// Makes one more edit.
     pub fn append(&mut self, entry: Entry) -> Result<(), AllocError>
         requires room { length self.old.pending < 64 }
-        requires plain { IsPlain entry }
+        requires small { HasFewDrops entry }
         ensures ok { OnOk result (self.new ≡ with_state entry self.old) }
         ensures err { OnErr result (self.new ≡ self.old) }
     {
@@ -194,7 +219,6 @@ impl Life {
     pub fn settled_count(&self, bytes: &[u8; 512]) -> Result<u32, Refusal>
         ensures count { result ≡ settled_count self.now bytes.now self.now.begun }
         ensures within { IfOk result (λ count. count ≤ length self.now.pending) }
-        ensures plain { IfOk result (λ count. drops_of (take count self.now.pending) ≡ []) }
     {
         let Some(count) = self.begun else {
             return Err(Refusal::NotMine);

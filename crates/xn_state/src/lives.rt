@@ -3,22 +3,24 @@
 ghost use Rattle.std.specs.Prelude.{◌≡◌, ℕ, List, ◌+◌, ◌*◌, ◌<◌, ◌≤◌, [], ◌∷◌, All, length, map, replicate, Option, Some, None, IfOk, IsTrue, OnOk, OnErr, is_some, slice_get, slice_index, slice_set, count_by, sum_by, is_none, position};
 ghost use Rattle.std.specs.Option.{option_copied};
 ghost use Rattle.xn_model.specs.Results.{Lends};
-ghost use Rattle.xn_model.specs.Lives.{life_at, is_for, begun_at, settled_at, lowest_free, least_to, entries_of, drops_of};
+ghost use Rattle.xn_model.specs.Lives.{life_at, is_for, begun_at, settled_at, accepted_at, freed, lowest_free, least_to, entries_of, drops_of};
 ghost use Rattle.xn_model.specs.Calls.{pending_in, own_place, begun_place, settled_place, first_pending, life_pending, new_life};
 ghost use Rattle.xn_model.specs.Images.{blocks_in};
 ghost use Rattle.xn_model.specs.Lists.{distinct};
-ghost use Rattle.xn_state.specs.Kept.{IsPlain};
+ghost use Rattle.xn_state.specs.Kept.{HasFewDrops, MayFree};
 ghost use Rattle.xn_state.specs.Mounts.{lives_in};
-ghost use Rattle.xn_state.specs.Plans.{rooted};
 
 use crate::entry::Entry;
 use crate::found::Found;
 use crate::fs::Fs;
 use crate::life::Life;
 use crate::places;
+use crate::safety::begun_place;
 use std::alloc::{AllocError, Global};
 use std::marker::Model;
 use xn_model::Refusal;
+
+mod forget;
 
 /// The lives of all blocks, by block number. How many pending entries count for a file system, and where
 /// the search for a free block starts, is kept beside them, so that no call walks all lives for it.
@@ -103,14 +105,13 @@ impl Lives {
         ensures plan { result ≡ begun_place self.now (slice_get self.now block) }
         ensures within { IfOk result (λ plan. (1 ≤ plan.1) × (plan.1 ≤ life_pending (life_at self.now block)) × (block < length self.now)) }
     {
-        places::begun_place(&self.places, block)
+        begun_place(&self.places, block)
     }
 
     /// How many entries the bytes that are read back make durable.
     pub fn settled(&self, block: u32, bytes: &[u8; 512]) -> Result<u32, Refusal>
         ensures count { result ≡ settled_place bytes.now (slice_get self.now block) }
         ensures within { IfOk result (λ count. (count ≤ life_pending (life_at self.now block)) × (block < length self.now)) }
-        ensures plain { IfOk result (λ count. drops_of (first_pending count (life_at self.now block)) ≡ []) }
     {
         places::settled_place(&self.places, block, bytes)
     }
@@ -127,17 +128,25 @@ impl Lives {
         self.used = block + 1;
     }
 
-    /// Makes one more edit of block 0, which names this block: block 0 owns it from now on.
-    pub fn attach_root(&mut self, block: u32, entry: Entry) -> Result<(), AllocError>
-        requires alive { IsTrue (is_some (life_at self.old 0)) }
-        requires room { life_pending (life_at self.old 0) < 64 }
+    /// Makes one more edit of a block in use, which owns what the edit adds and no longer what it drops.
+    pub fn accept(
+        &mut self,
+        block: u32,
+        entry: Entry,
+        adds: &[(u32, u32)],
+        drops: &[u32],
+    ) -> Result<(), AllocError>
+        requires alive { IsTrue (is_some (life_at self.old block)) }
+        requires room { life_pending (life_at self.old block) < 64 }
         requires few { (fs : ℕ) → entry.fs ≡ Some fs → sum_by (pending_in fs) self.old < 4096 }
-        requires plain { IsPlain entry }
-        ensures ok { OnOk result (self.new ≡ rooted self.old block entry) }
+        requires small { HasFewDrops entry }
+        requires adds { entry.adds ≡ adds.now }
+        requires drops { entry.drops ≡ drops.now }
+        ensures ok { OnOk result (self.new ≡ accepted_at self.old block entry) }
         ensures err { OnErr result (self.new ≡ self.old) }
     {
         let fs = entry.fs();
-        places::attach_root(&mut self.places, block, entry)?;
+        places::accept(&mut self.places, block, entry, adds, drops)?;
         self.pending[fs.index()] += 1;
         Ok(())
     }
@@ -152,16 +161,25 @@ impl Lives {
         places::begin_at(&mut self.places, block, count);
     }
 
-    /// Ends a write of a block that made its first entries durable.
-    pub fn settle(&mut self, block: u32, count: u32)
+    /// Ends a write of a block that made its first entries durable: the blocks that they drop are free. Answers how many
+    /// these are.
+    pub fn settle(&mut self, block: u32, count: u32) -> u32
         requires in_range { block < length self.old }
         requires within { count ≤ life_pending (life_at self.old block) }
-        ensures { self.new ≡ settled_at self.old block count }
+        requires drops { MayFree self.old block (drops_of (first_pending count (life_at self.old block))) }
+        ensures lives { self.new ≡ freed (settled_at self.old block count) (drops_of (first_pending count (life_at self.old block))) }
+        ensures count { result ≡ length (drops_of (first_pending count (life_at self.old block))) }
     {
-        if let Some(life) = &self.places[block as usize] {
-            discount(&mut self.pending, &life.pending()[..count as usize]);
-        }
-        places::settle_at(&mut self.places, block, count);
+        let Some(mut life) = self.places[block as usize].take() else {
+            return 0;
+        };
+        let durable = &life.pending()[..count as usize];
+        discount(&mut self.pending, durable);
+        let freed = places::free_drops(&mut self.places, durable);
+        self.used = places::least_drop(self.used, durable);
+        life.settle(count);
+        self.places[block as usize] = Some(life);
+        freed
     }
 }
 

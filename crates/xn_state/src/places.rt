@@ -1,13 +1,11 @@
 // What is read of the places of all blocks, and changed in one place.
 
 ghost use Rattle.std.specs.Prelude.{◌≡◌, ℕ, ◌+◌, ◌*◌, ◌<◌, ◌≤◌, [], length, Option, Some, None, IfOk, IfSome, OnOk, OnErr, IsTrue, All, slice_get, is_some, is_none, position, sum_by};
-ghost use Rattle.std.specs.List.{list_all};
 ghost use Rattle.std.specs.Option.{option_copied};
 ghost use Rattle.xn_model.specs.Results.{Lends};
-ghost use Rattle.xn_model.specs.Lives.{life_at, change_at, with_state, with_status, settled_at, begun_at, has_durable, safe_count, lowest_free, least_to, entries_of, drops_of};
-ghost use Rattle.xn_model.specs.Calls.{pending_in, own_place, begun_place, settled_place, first_pending, life_pending};
-ghost use Rattle.xn_state.specs.Kept.{IsPlain};
-ghost use Rattle.xn_state.specs.Plans.{rooted};
+ghost use Rattle.xn_model.specs.Lives.{life_at, change_at, with_state, with_status, begun_at, lowest_free, least_to, entries_of, drops_of, freed, owned_after, dropped_after, accepted_at};
+ghost use Rattle.xn_model.specs.Calls.{pending_in, own_place, settled_place, life_pending};
+ghost use Rattle.xn_state.specs.Kept.{HasFewDrops};
 
 use crate::entry::Entry;
 use crate::fs::Fs;
@@ -82,71 +80,10 @@ fn lowest_free(lives: &[Option<Life>]) -> Option<usize>
     lives.iter().position(|place| place.is_none())
 }
 
-/// Whether some state of a block is known to be on the disk.
-fn has_durable(lives: &[Option<Life>], block: u32) -> bool
-    ensures { result ≡ has_durable lives.now block }
-{
-    match lives.get(block as usize) {
-        Some(Some(life)) => life.is_durable(),
-        Some(None) => false,
-        None => false,
-    }
-}
-
-/// Whether each block that an entry attaches has a state on the disk, as soft updates asks before
-/// the entry may be written: never point to a structure before it has been initialised.
-fn is_safe(lives: &[Option<Life>], entry: &Entry) -> bool
-    ensures { result ≡ list_all (λ p. has_durable lives.now p.0) entry.now.adds }
-{
-    entry.adds().iter().all(|add| has_durable(lives, add.0))
-}
-
-/// How many pending entries of a block, from the first on, are safe.
-fn safe_count(lives: &[Option<Life>], life: &Life) -> u32
-    ensures count { result ≡ safe_count lives.now [] life.now.pending }
-    ensures within { result ≤ length life.now.pending }
-{
-    let pending = life.pending();
-    for (count, entry) in pending.iter().enumerate() {
-        if !is_safe(lives, entry) {
-            return count as u32;
-        }
-    }
-    pending.len() as u32
-}
-
-/// The bytes that a write of a block in use is to carry, and how many entries are in them.
-fn begun_life(lives: &[Option<Life>], life: &Life) -> Result<([u8; 512], u32), Refusal>
-    ensures plan { result ≡ begun_place lives.now (Some (Some life.now)) }
-    ensures within { IfOk result (λ plan. (1 ≤ plan.1) × (plan.1 ≤ length life.now.pending)) }
-{
-    if life.is_in_flight() {
-        return Err(Refusal::InFlight);
-    }
-    let count = safe_count(lives, life);
-    if count == 0 {
-        return Err(Refusal::NothingSafe);
-    }
-    Ok((*life.bytes_at(count), count))
-}
-
-/// The bytes that a write of a block is to carry, and how many entries are in them.
-pub fn begun_place(lives: &[Option<Life>], block: u32) -> Result<([u8; 512], u32), Refusal>
-    ensures plan { result ≡ begun_place lives.now (slice_get lives.now block) }
-    ensures within { IfOk result (λ plan. (1 ≤ plan.1) × (plan.1 ≤ life_pending (life_at lives.now block)) × (block < length lives.now)) }
-{
-    match lives.get(block as usize) {
-        None => Err(Refusal::NoSuchBlock),
-        Some(None) => Err(Refusal::NotInUse),
-        Some(Some(life)) => begun_life(lives, life),
-    }
-}
-
 /// How many entries the bytes that are read back make durable.
 pub fn settled_place(lives: &[Option<Life>], block: u32, bytes: &[u8; 512]) -> Result<u32, Refusal>
     ensures count { result ≡ settled_place bytes.now (slice_get lives.now block) }
     ensures within { IfOk result (λ count. (count ≤ life_pending (life_at lives.now block)) × (block < length lives.now)) }
-    ensures plain { IfOk result (λ count. drops_of (first_pending count (life_at lives.now block)) ≡ []) }
 {
     match lives.get(block as usize) {
         None => Err(Refusal::NotMine),
@@ -159,7 +96,7 @@ pub fn settled_place(lives: &[Option<Life>], block: u32, bytes: &[u8; 512]) -> R
 pub fn append_at(lives: &mut [Option<Life>], block: usize, entry: Entry) -> Result<(), AllocError>
     requires alive { IsTrue (is_some (life_at lives.old block)) }
     requires room { life_pending (life_at lives.old block) < 64 }
-    requires plain { IsPlain entry }
+    requires small { HasFewDrops entry }
     ensures ok { OnOk result (lives.new ≡ change_at lives.old block (with_state entry)) }
     ensures err { OnErr result (lives.new ≡ lives.old) }
 {
@@ -192,26 +129,92 @@ pub fn begin_at(lives: &mut [Option<Life>], block: u32, count: u32)
     }
 }
 
-/// Ends a write of a block that made its first entries durable.
-pub fn settle_at(lives: &mut [Option<Life>], block: u32, count: u32)
-    requires in_range { block < length lives.old }
-    requires within { count ≤ life_pending (life_at lives.old block) }
-    ensures { lives.new ≡ settled_at lives.old block count }
+/// Ends the lives of these blocks.
+fn free_blocks(lives: &mut [Option<Life>], blocks: &[u32])
+    ensures { lives.new ≡ freed lives.old blocks.now }
 {
-    if let Some(life) = &mut lives[block as usize] {
-        life.settle(count);
+    for block in blocks {
+        let at = *block as usize;
+        if at < lives.len() {
+            lives[at] = None;
+        }
     }
 }
 
-/// Makes one more edit of block 0, which names this block: block 0 owns it from now on.
-pub fn attach_root(lives: &mut [Option<Life>], block: u32, entry: Entry) -> Result<(), AllocError>
-    requires alive { IsTrue (is_some (life_at lives.old 0)) }
-    requires room { life_pending (life_at lives.old 0) < 64 }
-    requires plain { IsPlain entry }
-    ensures ok { OnOk result (lives.new ≡ rooted lives.old block entry) }
+/// The least of a number and of these blocks.
+fn least_of(most: usize, blocks: &[u32]) -> usize
+    ensures { result ≡ least_to most blocks.now }
+{
+    let mut least = most;
+    for block in blocks {
+        least = least.min(*block as usize);
+    }
+    least
+}
+
+/// Ends the lives of the blocks that entries drop, and answers how many they are.
+pub fn free_drops(lives: &mut [Option<Life>], entries: &[Entry]) -> u32
+    requires few { length entries.now ≤ 64 }
+    requires small { All HasFewDrops entries.now }
+    ensures lives { lives.new ≡ freed lives.old (drops_of entries.now) }
+    ensures count { result ≡ length (drops_of entries.now) }
+{
+    let mut count = 0;
+    for entry in entries {
+        let drops = entry.drops();
+        free_blocks(lives, drops);
+        count += drops.len() as u32;
+    }
+    count
+}
+
+/// The least of a number and of the blocks that entries drop.
+pub fn least_drop(most: usize, entries: &[Entry]) -> usize
+    ensures { result ≡ least_to most (drops_of entries.now) }
+{
+    let mut least = most;
+    for entry in entries {
+        least = least_of(least, entry.drops());
+    }
+    least
+}
+
+/// A block owns these blocks from now on.
+fn set_owned(lives: &mut [Option<Life>], owner: u32, adds: &[(u32, u32)])
+    ensures { lives.new ≡ owned_after owner lives.old adds.now }
+{
+    for add in adds {
+        set_status_at(lives, add.0 as usize, Status::Owned(owner));
+    }
+}
+
+/// A block has dropped these blocks.
+fn set_dropped(lives: &mut [Option<Life>], owner: u32, drops: &[u32])
+    ensures { lives.new ≡ dropped_after owner lives.old drops.now }
+{
+    for block in drops {
+        set_status_at(lives, *block as usize, Status::Dropped(owner));
+    }
+}
+
+/// Makes one more edit of a block in use, which owns what the edit adds and no longer what it drops.
+pub fn accept(
+    lives: &mut [Option<Life>],
+    block: u32,
+    entry: Entry,
+    adds: &[(u32, u32)],
+    drops: &[u32],
+) -> Result<(), AllocError>
+    requires alive { IsTrue (is_some (life_at lives.old block)) }
+    requires room { life_pending (life_at lives.old block) < 64 }
+    requires small { HasFewDrops entry }
+    requires adds { entry.adds ≡ adds.now }
+    requires drops { entry.drops ≡ drops.now }
+    ensures ok { OnOk result (lives.new ≡ accepted_at lives.old block entry) }
     ensures err { OnErr result (lives.new ≡ lives.old) }
 {
-    append_at(lives, 0, entry)?;
-    set_status_at(lives, block as usize, Status::Owned(0));
+    append_at(lives, block as usize, entry)?;
+    set_dropped(lives, block, drops);
+    set_owned(lives, block, adds);
     Ok(())
 }

@@ -5,27 +5,30 @@ ghost use Rattle.xn_model.specs.Types.{within_size};
 ghost use Rattle.xn_model.specs.Lists.{blank};
 ghost use Rattle.xn_model.specs.Lives.{StoreState, life_at, alive_and};
 ghost use Rattle.xn_model.specs.Results.{Gives, GivesExactly};
-ghost use Rattle.xn_model.specs.Calls.{init_of, init_refusal, owns_nothing, too_many, life_pending, make_root_of, begun_of, settled_of, floor_of, pending_of};
+ghost use Rattle.xn_model.specs.Calls.{init_of, init_refusal, owns_nothing, too_many, begun_of, settled_of, floor_of};
 ghost use Rattle.xn_model.specs.Rules.{IsConsistent};
 ghost use Rattle.xn_model.specs.Worlds.{mounted_state};
 ghost use Rattle.templates.specs.Tables.{types_of};
 ghost use Rattle.xn_state.specs.Mounts.{lives_in, AreFound};
-ghost use Rattle.xn_state.specs.Plans.{make_root_plan};
 ghost use Rattle.xn_state.specs.States.{StateValue, types_in};
 
-use crate::edit_id::EditId;
-use crate::entry::Entry;
 use crate::found::Found;
 use crate::fs::Fs;
 use crate::life::Life;
 use crate::lives::Lives;
-use crate::root::with_slot;
 use arrayvec::ArrayVec;
+use edit_list::EditId;
 use std::alloc::{AllocError, Global};
 use std::marker::Model;
-use templates::{Table, root_slot};
+use templates::Table;
 use udf_run::Pair;
 use xn_model::Refusal;
+
+mod accept;
+mod answers;
+mod forget;
+mod propose;
+mod roots;
 
 /// What a store knows of its blocks, beside the disk.
 #[derive(Drop)]
@@ -120,51 +123,6 @@ impl State {
         Ok((block as u32, EditId(number)))
     }
 
-    /// Block 0's bytes with the root slot set to a fresh block of the file system, and that block's
-    /// type.
-    fn make_root_plan(&self, fs: Fs, block: u32) -> Result<([u8; 512], u32), Refusal>
-        ensures plan { result ≡ make_root_plan self.now.store fs.number block }
-        ensures room { IfOk result (λ plan. life_pending (life_at self.now.store.lives 0) < 64) }
-        ensures few { IfOk result (λ plan. pending_of self.now.store fs.number < 4096) }
-    {
-        let life = self.lives.own_life(fs, block)?;
-        let Some(root) = self.lives.life(0) else {
-            unreachable!()
-        };
-        if root_slot(root.current(), fs.index()).block != 0 {
-            return Err(Refusal::RootTaken);
-        }
-        if !life.is_fresh() {
-            return Err(Refusal::NotFresh);
-        }
-        if self.is_too_many(fs, root.pending().len()) {
-            return Err(Refusal::TooManyPending);
-        }
-        if self.next == u64::MAX {
-            return Err(Refusal::Exhausted);
-        }
-        let ty = life.ty();
-        Ok((with_slot(root.current(), fs, Pair { block, ty }), ty))
-    }
-
-    /// Sets the file system's root slot, in block 0, to a fresh block.
-    pub fn make_root(&mut self, fs: Fs, block: u32) -> Result<EditId, Refusal>
-        ensures state { Gives (make_root_of self.old.store fs.number block) self.old.store self.new.store result }
-        ensures table { self.new.table ≡ self.old.table }
-    {
-        let (bytes, ty) = self.make_root_plan(fs, block)?;
-        let number = self.next;
-        let Ok(adds) = one_pair(self.alloc, (block, ty)) else {
-            return Err(Refusal::NoMemory);
-        };
-        let entry = Entry::new(number, bytes, adds, fs);
-        let Ok(()) = self.lives.attach_root(block, entry) else {
-            return Err(Refusal::NoMemory);
-        };
-        self.next += 1;
-        Ok(EditId(number))
-    }
-
     /// Begins a write of a block: the bytes that its safe entries leave, and how many those are.
     pub fn begun(&mut self, block: u32) -> Result<([u8; 512], u32), Refusal>
         ensures state { GivesExactly (begun_of self.old.store block) self.old.store self.new.store result }
@@ -182,8 +140,8 @@ impl State {
         ensures table { self.new.table ≡ self.old.table }
     {
         let count = self.lives.settled(block, bytes)?;
-        self.lives.settle(block, count);
-        Ok((count, 0))
+        let freed = self.lives.settle(block, count);
+        Ok((count, freed))
     }
 
     /// Whether a write of a block is under way.
@@ -228,13 +186,4 @@ fn owns_nothing(table: &Table, ty: u32, bytes: &[u8; 512]) -> bool
     let mut pairs = ArrayVec::<Pair, 128>::new();
     table.owns(ty, bytes, &mut pairs);
     pairs.is_empty()
-}
-
-/// A list of one pair.
-fn one_pair(alloc: Global, pair: (u32, u32)) -> Result<Vec<(u32, u32)>, AllocError>
-    ensures { IfOk result (λ pairs. pairs.items ≡ pair ∷ []) }
-{
-    let mut pairs = Vec::with_capacity(alloc, 1)?;
-    pairs.push_reserved(pair);
-    Ok(pairs)
 }

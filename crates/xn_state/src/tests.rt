@@ -8,6 +8,9 @@ use std::alloc::Global;
 use std::test::Fail;
 use templates::{Table, format_image, read_block};
 
+mod edits;
+mod scripts;
+
 /// Block 0 of a fresh disk of 32 blocks.
 fn fresh_root() -> [u8; 512]
     ensures { result ≡ bare_root 32 }
@@ -69,6 +72,51 @@ fn fs(number: u8) -> Result<Fs, Fail> {
     Ok(Fs::new(number).ok_or("no file system")?)
 }
 
+// These calls have no contracts, so that the proofs of the tests stay short.
+
+/// The bytes that a file system reads of a block.
+fn bytes_of(state: &State, caller: Fs, block: u32) -> Result<[u8; 512], Refusal> {
+    Ok(*state.read(caller, block)?)
+}
+
+/// The type that a file system finds at a block.
+fn kind_of(state: &State, caller: Fs, block: u32) -> Result<u32, Refusal> {
+    state.kind(caller, block)
+}
+
+/// The number of the block that a start takes.
+fn start(state: &mut State, owner: Fs, bytes: &[u8; 512]) -> Result<u32, Refusal> {
+    Ok(state.init(owner, 2, bytes)?.0)
+}
+
+fn make_root(state: &mut State, owner: Fs, block: u32) -> Result<EditId, Refusal> {
+    state.make_root(owner, block)
+}
+
+fn forget(state: &mut State, caller: Fs, block: u32) -> Result<(), Refusal> {
+    state.forget(caller, block)
+}
+
+/// How many entries a write that begins carries.
+fn begin(state: &mut State, block: u32) -> Result<u32, Refusal> {
+    Ok(state.begun(block)?.1)
+}
+
+/// How many entries are durable after a write and a look at these bytes.
+fn write(state: &mut State, block: u32, bytes: &[u8; 512]) -> Result<u32, Refusal> {
+    begin(state, block)?;
+    Ok(state.settled(block, bytes)?.0)
+}
+
+/// A fresh state in which file system 0 has started block 1 with these bytes.
+fn started_state(alloc: Global, bytes: &[u8; 512]) -> Result<State, Fail> {
+    let mut state = fresh_state(alloc)?;
+    match start(&mut state, fs(0)?, bytes) {
+        Ok(1) => Ok(state),
+        _ => Err("no first block".into()),
+    }
+}
+
 #[test]
 fn file_systems_are_numbered_0_to_31(rt: HostRuntime) -> Result<(), Fail> {
     assert_eq!(rt; fs(0)?.number(), 0);
@@ -115,6 +163,96 @@ fn each_block_is_taken_once(rt: HostRuntime) -> Result<(), Fail> {
     assert!(rt; state.init(fs(0)?, 3, &[0; 512]) == Err(Refusal::BadType));
     assert_eq!(rt; state.floor(fs(0)?), 1);
     assert_eq!(rt; state.floor(fs(1)?), 32);
+    Ok(())
+}
+
+#[test]
+fn a_file_system_reads_its_own_blocks(rt: HostRuntime) -> Result<(), Fail> {
+    let owner = fs(0)?;
+    let bytes = [0x41u8; 512];
+    let state = started_state(rt.alloc(), &bytes)?;
+    assert!(rt; bytes_of(&state, owner, 1) == Ok(bytes));
+    assert!(rt; kind_of(&state, owner, 1) == Ok(2));
+    for (caller, block, refusal) in [
+        (owner, 32, Refusal::NoSuchBlock),
+        (owner, 2, Refusal::NotInUse),
+        (fs(1)?, 1, Refusal::NotYours),
+        (owner, 0, Refusal::NotYours),
+    ] {
+        assert!(rt;
+            bytes_of(&state, caller, block) == Err(refusal),
+            "read {block}"
+        );
+        assert!(rt;
+            kind_of(&state, caller, block) == Err(refusal),
+            "kind {block}"
+        );
+    }
+    Ok(())
+}
+
+#[test]
+fn a_root_and_its_entries_are_its_file_systems(rt: HostRuntime) -> Result<(), Fail> {
+    let owner = fs(0)?;
+    let other = fs(1)?;
+    let bytes = [0x41u8; 512];
+    let mut state = started_state(rt.alloc(), &bytes)?;
+    assert!(rt; state.root(owner).is_none());
+    assert_eq!(rt; state.pending(owner), 1);
+    assert!(rt; make_root(&mut state, owner, 1) == Ok(EditId(2)));
+    assert!(rt; state.root(owner) == Some(1));
+    assert!(rt; state.root(other).is_none());
+    assert_eq!(rt; state.pending(owner), 2);
+    assert_eq!(rt; state.pending(other), 0);
+    // A block that is on the disk is read as before, and its entry is pending no longer.
+    assert!(rt; write(&mut state, 1, &bytes) == Ok(1));
+    assert_eq!(rt; state.pending(owner), 1);
+    assert!(rt; bytes_of(&state, owner, 1) == Ok(bytes));
+    Ok(())
+}
+
+#[test]
+fn a_forgotten_block_is_free_again(rt: HostRuntime) -> Result<(), Fail> {
+    let owner = fs(0)?;
+    let bytes = [0x41u8; 512];
+    let mut state = started_state(rt.alloc(), &bytes)?;
+    assert!(rt; start(&mut state, owner, &bytes) == Ok(2));
+    assert!(rt; forget(&mut state, owner, 1) == Ok(()));
+    assert_eq!(rt; state.pending(owner), 1);
+    assert_eq!(rt; state.floor(owner), 2);
+    assert!(rt; kind_of(&state, owner, 1) == Err(Refusal::NotInUse));
+    assert!(rt; start(&mut state, owner, &bytes) == Ok(1));
+    // So is one that is on the disk.
+    assert!(rt; write(&mut state, 2, &bytes) == Ok(1));
+    assert!(rt; forget(&mut state, owner, 2) == Ok(()));
+    assert!(rt; start(&mut state, owner, &bytes) == Ok(2));
+    Ok(())
+}
+
+#[test]
+fn a_forget_gives_the_first_refusal(rt: HostRuntime) -> Result<(), Fail> {
+    let owner = fs(0)?;
+    let other = fs(1)?;
+    let bytes = [0x41u8; 512];
+    let mut state = started_state(rt.alloc(), &bytes)?;
+    assert!(rt; start(&mut state, owner, &bytes) == Ok(2));
+    assert!(rt; make_root(&mut state, owner, 1) == Ok(EditId(3)));
+    assert!(rt; begin(&mut state, 1) == Ok(1));
+    assert!(rt; begin(&mut state, 2) == Ok(1));
+    for (caller, block, refusal) in [
+        (owner, 32, Refusal::NoSuchBlock),
+        (owner, 3, Refusal::NotInUse),
+        (owner, 0, Refusal::NotYours),
+        (other, 1, Refusal::NotYours),
+        (owner, 1, Refusal::NotFresh),
+        (owner, 2, Refusal::InFlight),
+    ] {
+        assert!(rt;
+            forget(&mut state, caller, block) == Err(refusal),
+            "forget {block}"
+        );
+    }
+    assert_eq!(rt; state.pending(owner), 3);
     Ok(())
 }
 

@@ -1,7 +1,4 @@
 pub mod FreshImages
-pub mod Decimals
-pub mod HexBytes
-pub mod ScriptLines
 pub mod ScriptRuns
 pub mod CommandLines
 pub mod KnownTemplates
@@ -9,3 +6,4 @@ pub mod TemplateWords
 pub mod TemplatesRead
 pub mod MountFaults
 pub mod HeldFiles
+pub mod PrintedBytes

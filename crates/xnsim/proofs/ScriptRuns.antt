@@ -9,7 +9,7 @@ use Rattle.xn_model.specs.Worlds.{Run, Step}
 use Rattle.templates.specs.Templates.{TemplateValue}
 use Rattle.world.specs.declared.reply.Reply.{Reply}
 use Rattle.world.specs.Events.{reply_of}
-use Rattle.xnsim.specs.declared.command.Command.{Command}
+use Rattle.script.specs.declared.command.Command.{Command}
 use Rattle.xnsim.specs.Events.{event_of_command}
 use Rattle.xnsim.specs.Replies.{reply_line}
 use Rattle.xnsim.specs.Runs.{fresh_world, IsRun}
@@ -44,17 +44,15 @@ pub none_run : (blocks : ℕ) (templates : List TemplateValue) (old : Option (Li
 none_run blocks templates old after fresh = record { replies = []; run = fresh; printed = nothing_printed old }
 
 -- one command more
-pub run_one_more : (blocks : ℕ) (templates : List TemplateValue) (commands : List Command) (at : ℕ) (command : Command) (old mid new : Option (List ℕ)) (before after : model.World) (event : model.Event) (reply : Reply) →
-    at < length commands → get_or commands at command ≡ command → event ≡ event_of_command command →
-    Step before event (reply_of reply) after → Appends mid new (reply_line reply) →
-    IsRunTo blocks templates (take at commands) old mid before → IsRunTo blocks templates (take (at + 1) commands) old new after
-run_one_more blocks templates commands at command old mid new before after event reply within here asked step printed so_far =
+pub run_one_more : (blocks : ℕ) (templates : List TemplateValue) (commands : List Command) (command : Command) (old mid new : Option (List ℕ)) (before after : model.World) (event : model.Event) (reply : Reply) →
+    event ≡ event_of_command command → Step before event (reply_of reply) after → Appends mid new (reply_line reply) →
+    IsRunTo blocks templates commands old mid before → IsRunTo blocks templates (commands ++ command ∷ []) old new after
+run_one_more blocks templates commands command old mid new before after event reply asked step printed so_far =
     let rs = so_far.replies in
-    let sent : map event_of_command (take (at + 1) commands) ≡ map event_of_command (take at commands) ++ event ∷ [] =
-    ap (map event_of_command) (take_more commands at command within) ∙ (map-append event_of_command (take at commands) (get_or commands at command ∷ [])
-    ∙ ap (λ (e : model.Event). map event_of_command (take at commands) ++ e ∷ []) (ap event_of_command here ∙ sym asked)) in
+    let sent : map event_of_command (commands ++ command ∷ []) ≡ map event_of_command commands ++ event ∷ [] =
+    map-append event_of_command commands (command ∷ []) ∙ ap (λ (e : model.Event). map event_of_command commands ++ e ∷ []) (sym asked) in
     let told = map-append reply_of rs (reply ∷ []) in
-    let ran = run_more (fresh_world blocks templates) (map event_of_command (take at commands)) (map reply_of rs) before event (reply_of reply) after so_far.run step in
+    let ran = run_more (fresh_world blocks templates) (map event_of_command commands) (map reply_of rs) before event (reply_of reply) after so_far.run step in
     let lines : flat_map reply_line (rs ++ reply ∷ []) ≡ flat_map reply_line rs ++ reply_line reply =
     flat_map-append reply_line rs (reply ∷ []) ∙ ap (λ last. flat_map reply_line rs ++ last) (append-nil (reply_line reply)) in
     record {

@@ -1,7 +1,7 @@
 -- What a line of the program prints, and the faults that may come of it.
 use Rattle.std.specs.Prelude.{◌≡◌, ◌⊎◌, ⊤, ℕ, List, [], length, map, Option, IfSome, codes, string_bytes, Contains}
 use Rattle.templates.specs.Templates.{TemplateValue}
-use Rattle.xnsim.specs.declared.command.Command.{Command}
+use Rattle.script.specs.declared.command.Command.{Command}
 use Rattle.xnsim.specs.declared.words.Words.{Words}
 use Rattle.xnsim.specs.declared.words.Words.TheVariants.{Bare, Format, Run, Asm, Verify}
 use Rattle.xnsim.specs.declared.fault.Fault.{Fault}
@@ -14,7 +14,7 @@ use Rattle.xnsim.specs.Images.{IsFresh}
 use Rattle.xnsim.specs.Lines.{IsLine, IsNoLine}
 use Rattle.xnsim.specs.Programs.{IsProgramFault, PrintsAccepted}
 use Rattle.xnsim.specs.Runs.{IsMountedRun, IsPrintedRun}
-use Rattle.xnsim.specs.Scripts.{IsFirstUnreadable, IsScript}
+use Rattle.script.specs.Scripts.{IsFirstUnreadable, IsScript}
 
 -- a script was run on a fresh disk of so many blocks with these templates, and its replies printed; where it is known which
 -- bytes were to be read, they are the script's text

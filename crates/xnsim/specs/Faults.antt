@@ -4,8 +4,8 @@ use Rattle.std.specs.Fmt.{decimal}
 use Rattle.std.specs.Io.KnownBytes.{Appends}
 use Rattle.xnsim.specs.declared.fault.Fault.{Fault}
 use Rattle.xnsim.specs.declared.fault.Fault.TheVariants.{Usage, Unreadable, NoMemory, Program, Owns, Size, Template, TooManyTemplates, TooManyWords}
-use Rattle.xnsim.specs.declared.script.ScriptFault.{ScriptFault}
-use Rattle.xnsim.specs.declared.script.ScriptFault.TheVariants as script
+use Rattle.script.specs.declared.script.ScriptFault.{ScriptFault}
+use Rattle.script.specs.declared.script.ScriptFault.TheVariants as script
 use Rattle.xnsim.specs.declared.words.LineFault.{LineFault}
 use Rattle.xnsim.specs.declared.words.LineFault.TheVariants as line
 use Rattle.xnsim.specs.Formatting.{template_fault_name}

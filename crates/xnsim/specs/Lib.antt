@@ -1,10 +1,6 @@
-pub mod Hex
 pub mod Images
 pub mod Lines
 pub mod CommandLine
-pub mod Numbers
-pub mod Commands
-pub mod Scripts
 pub mod Events
 pub mod Replies
 pub mod Runs
@@ -16,3 +12,4 @@ pub mod Formatting
 pub mod Assembling
 pub mod Done
 pub mod Faults
+pub mod Bytes

@@ -1,10 +1,11 @@
 -- The lines of replies.
-use Rattle.std.specs.Prelude.{ℕ, List, [], ◌∷◌, ◌++◌, codes}
+use Rattle.std.specs.Prelude.{ℕ, List, [], ◌∷◌, ◌++◌, Option, Some, None, codes}
 use Rattle.std.specs.Fmt.{decimal}
 use Rattle.xn_model.specs.declared.refusal.Refusal.{Refusal}
 use Rattle.xn_model.specs.declared.refusal.Refusal.TheVariants.{NoMemory, NoSuchBlock, NotInUse, NotYours, BadPatch, BadAfter, NotFresh, NotOwned, NotEmpty, ClaimWrong, SizeWrong, Unattached, TooManyPending, NoSpace, BadType, InFlight, NotMine, Device, RootTaken, NothingSafe, Exhausted}
 use Rattle.world.specs.declared.reply.Reply.{Reply}
-use Rattle.world.specs.declared.reply.Reply.TheVariants.{Started, Edited, Floor, Begun, Landed, Finished, NoTicket, Refused}
+use Rattle.xnsim.specs.Bytes.{bytes_text}
+use Rattle.world.specs.declared.reply.Reply.TheVariants.{Started, Edited, Forgotten, Bytes, Root, Kind, Pending, Floor, Begun, Landed, Finished, NoTicket, Refused}
 
 -- the number and the name of a refusal
 abbrev pub refusal_text : Refusal → List ℕ
@@ -30,10 +31,20 @@ refusal_text RootTaken = codes "19 RootTaken"
 refusal_text NothingSafe = codes "20 NothingSafe"
 refusal_text Exhausted = codes "21 Exhausted"
 
+-- a block, or that there is none
+abbrev pub root_text : Option ℕ → List ℕ
+root_text None = codes "none"
+root_text (Some block) = decimal block
+
 -- the line of a reply
 abbrev pub reply_line : Reply → List ℕ
 reply_line (Started block entry) = codes "block " ++ decimal block ++ codes " edit " ++ decimal entry ++ 10 ∷ []
 reply_line (Edited entry) = codes "edit " ++ decimal entry ++ 10 ∷ []
+reply_line Forgotten = codes "ok" ++ 10 ∷ []
+reply_line (Bytes bytes) = bytes_text bytes ++ 10 ∷ []
+reply_line (Root block) = codes "root " ++ root_text block ++ 10 ∷ []
+reply_line (Kind ty) = codes "kind " ++ decimal ty ++ 10 ∷ []
+reply_line (Pending entries) = codes "pending " ++ decimal entries ++ 10 ∷ []
 reply_line (Floor floor) = codes "floor " ++ decimal floor ++ 10 ∷ []
 reply_line (Begun entries) = codes "begun " ++ decimal entries ++ 10 ∷ []
 reply_line Landed = codes "landed" ++ 10 ∷ []

@@ -10,7 +10,7 @@ use Rattle.templates.specs.Tables.{types_of}
 use Rattle.templates.specs.Formats.{formatted, table_of}
 use Rattle.world.specs.declared.reply.Reply.{Reply}
 use Rattle.world.specs.Events.{reply_of}
-use Rattle.xnsim.specs.declared.command.Command.{Command}
+use Rattle.script.specs.declared.command.Command.{Command}
 use Rattle.xnsim.specs.Events.{event_of_command}
 use Rattle.xnsim.specs.Images.{IsFresh}
 use Rattle.xnsim.specs.Replies.{reply_line}

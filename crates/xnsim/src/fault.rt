@@ -1,8 +1,8 @@
 ghost use Rattle.std.specs.Prelude.{◌≡◌};
 
 use crate::program::ProgramFault;
-use crate::script::ScriptFault;
 use crate::words::LineFault;
+use script::ScriptFault;
 use std::alloc::{AllocError, AllocFailed};
 use std::io;
 use templates::TemplateFault;

@@ -13,8 +13,8 @@ use crate::formatting::{all_templates, made_image, read_files, template_fault_na
 use crate::image::LEAST_BLOCKS;
 use crate::program::verify_text;
 use crate::replay::{run_on_image, run_script};
-use crate::script::parse;
 use crate::words::{Words, read};
+use script::parse;
 use std::alloc::Global;
 use std::io::{ErrorKind, Read, Write};
 use std::{io, str};
@@ -103,7 +103,7 @@ fn run_files<'a, F: Files, W: Write>(
     let before = files.read(alloc, image).ok_or(Fault::CannotRead(image))?;
     let text = files.read(alloc, script).ok_or(Fault::CannotRead(script))?;
     let commands = parse(alloc, text_of(text.as_slice(), script)?)?;
-    let after = run_on_image(alloc, before.as_slice(), commands.as_slice(), out)?;
+    let after = run_on_image(alloc, before.as_slice(), commands, out)?;
     if !files.write(image, after.as_slice()) {
         return Err(Fault::CannotWrite(image));
     }
@@ -127,7 +127,7 @@ fn run_input<'a, R: Read, W: Write>(
         });
     }
     let commands = parse(alloc, text_of(text.as_slice(), STANDARD_INPUT)?)?;
-    run_script(alloc, LEAST_BLOCKS, &[], commands.as_slice(), out)?;
+    run_script(alloc, LEAST_BLOCKS, &[], commands, out)?;
     Ok(())
 }
 

@@ -3,18 +3,15 @@
 #![tactic(auto)]
 
 mod assembling;
-mod command;
+mod bytes;
 mod fault;
 mod files;
 mod formatting;
-mod hex;
 mod image;
 mod library;
 mod line;
-mod number;
 mod program;
 mod replay;
-mod script;
 #[cfg(test)]
 mod tests;
 mod words;

@@ -10,9 +10,10 @@ ghost use Rattle.xnsim.specs.Events.{event_of_command};
 ghost use Rattle.xnsim.specs.Replies.{refusal_text, reply_line};
 ghost use Rattle.xnsim.specs.Runs.{fresh_world, IsMountedRun, IsPrintedRun};
 
-use crate::command::Command;
+use crate::bytes::print_bytes;
 use crate::fault::Fault;
 use crate::image::fresh_disk;
+use script::Command;
 use std::alloc::{AllocError, Global};
 use std::io;
 use std::io::Write;
@@ -39,12 +40,12 @@ pub fn run_script<'a, W: Write>(
     alloc: Global,
     blocks: u32,
     templates: &[Template],
-    commands: &[Command],
+    commands: Vec<Command>,
     out: &mut W,
 ) -> Result<Vec<u8>, Fault<'a>>
     requires size { IsDiskSize blocks }
     requires few { length templates.now ≤ 16 }
-    ensures run { IfOk result (λ image. IsPrintedRun blocks templates.now commands.now (W.contents out.old) (W.contents out.new) image.items) }
+    ensures run { IfOk result (λ image. IsPrintedRun blocks templates.now commands.items (W.contents out.old) (W.contents out.new) image.items) }
     ensures fault { IfErr result IsRunFault }
 {
     let mut world = fresh_world(alloc, blocks, templates)?;
@@ -60,10 +61,10 @@ pub fn run_script<'a, W: Write>(
 pub fn run_on_image<'a, W: Write>(
     alloc: Global,
     image: &[u8],
-    commands: &[Command],
+    commands: Vec<Command>,
     out: &mut W,
 ) -> Result<Vec<u8>, Fault<'a>>
-    ensures run { IfOk result (λ after. IsMountedRun image.now commands.now (W.contents out.old) (W.contents out.new) after.items) }
+    ensures run { IfOk result (λ after. IsMountedRun image.now commands.items (W.contents out.old) (W.contents out.new) after.items) }
     ensures fault { IfErr result (IsMountFault image.now) }
 {
     let Some(disk) = fresh_disk(alloc, image)? else {
@@ -73,22 +74,21 @@ pub fn run_on_image<'a, W: Write>(
 }
 
 /// The event that a command asks for.
-fn event_of(command: &Command) -> Event
-    ensures { event.event_of result ≡ event_of_command command.now }
+fn event_of(command: Command) -> Event
+    ensures { event.event_of result ≡ event_of_command command }
 {
     match command {
-        Command::Init { fs, ty, bytes } => Event::Call(
-            *fs,
-            Call::Init {
-                ty: *ty,
-                bytes: **bytes,
-            },
-        ),
-        Command::Root { fs, block } => Event::Call(*fs, Call::MakeRoot { block: *block }),
-        Command::Begin { block } => Event::Begin(*block),
-        Command::Land { block } => Event::Land(*block),
-        Command::Finish { block } => Event::Finish(*block),
-        Command::Floor { fs } => Event::Call(*fs, Call::Floor),
+        Command::Init { fs, ty, bytes } => Event::Call(fs, Call::Init { ty, bytes: *bytes }),
+        Command::Edit { fs, block, edit } => Event::Call(fs, Call::Propose { block, edit }),
+        Command::Root { fs, block } => Event::Call(fs, Call::MakeRoot { block }),
+        Command::Unroot { fs } => Event::Call(fs, Call::DropRoot),
+        Command::Forget { fs, block } => Event::Call(fs, Call::Forget { block }),
+        Command::Read { fs, block } => Event::Call(fs, Call::Read { block }),
+        Command::Begin { block } => Event::Begin(block),
+        Command::Land { block } => Event::Land(block),
+        Command::Finish { block } => Event::Finish(block),
+        Command::Floor { fs } => Event::Call(fs, Call::Floor),
+        Command::Pending { fs } => Event::Call(fs, Call::Pending),
     }
 }
 
@@ -97,8 +97,17 @@ fn print_reply<W: Write>(out: &mut W, reply: Reply) -> io::Result<()>
     ensures { OnOk result (Appends (W.contents out.old) (W.contents out.new) (reply_line reply)) }
 {
     match reply {
-        Reply::Started { block, entry } => writeln!(out, "block {block} edit {}", entry.0),
-        Reply::Edited { entry } => writeln!(out, "edit {}", entry.0),
+        Reply::Started { block, entry } => writeln!(out, "block {block} edit {entry}"),
+        Reply::Edited { entry } => writeln!(out, "edit {entry}"),
+        Reply::Forgotten => writeln!(out, "ok"),
+        Reply::Bytes { bytes } => {
+            print_bytes(out, &bytes)?;
+            writeln!(out)
+        }
+        Reply::Root { block: Some(block) } => writeln!(out, "root {block}"),
+        Reply::Root { block: None } => writeln!(out, "root none"),
+        Reply::Kind { ty } => writeln!(out, "kind {ty}"),
+        Reply::Pending { entries } => writeln!(out, "pending {entries}"),
         Reply::Floor { floor } => writeln!(out, "floor {floor}"),
         Reply::Begun { entries } => writeln!(out, "begun {entries}"),
         Reply::Landed => writeln!(out, "landed"),

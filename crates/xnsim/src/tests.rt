@@ -1,20 +1,18 @@
 ghost use Rattle.std.specs.Prelude.{◌≡◌, bytes_eq, position, string_bytes};
 
 mod assembling;
+mod edits;
 mod formatting;
 mod mounting;
 mod programs;
 
-use crate::command::Command;
 use crate::files::Files;
 use crate::line::line;
 use crate::replay::refusal_text;
-use crate::script::{ScriptFault, parse};
 use std::alloc::{AllocError, Global};
 use std::io;
 use std::io::{Read, Write};
 use std::test::Fail;
-use xn_kernel::Fs;
 use xn_model::Refusal;
 
 /// A file in memory.
@@ -446,96 +444,5 @@ fn tells_that_the_input_fails(rt: HostRuntime) -> Result<(), Fail> {
         1
     );
     assert_eq!(rt; err.as_slice(), b"cannot read -\n".as_slice());
-    Ok(())
-}
-
-#[test]
-fn reads_each_command(rt: HostRuntime) -> Result<(), Fail> {
-    let commands = parse(
-        rt.alloc(),
-        "# all\ninit 31 4294967295 0af9\n\nroot 0 1\nbegin 10\nland 11\nfinish 12\nfloor 7",
-    )
-    .map_err(|_| "unreadable")?;
-    let mut bytes = [0; 512];
-    bytes[0] = 10;
-    bytes[1] = 249;
-    let [Some(zero), Some(seven), Some(last)] = [Fs::new(0), Fs::new(7), Fs::new(31)] else {
-        return Err("no file system".into());
-    };
-    let wanted = [
-        Command::Init {
-            fs: last,
-            ty: 4294967295,
-            bytes: Box::new(rt.alloc(), bytes)?,
-        },
-        Command::Root { fs: zero, block: 1 },
-        Command::Begin { block: 10 },
-        Command::Land { block: 11 },
-        Command::Finish { block: 12 },
-        Command::Floor { fs: seven },
-    ];
-    assert_eq!(rt; commands.as_slice(), wanted.as_slice());
-    Ok(())
-}
-
-#[test]
-fn reads_no_other_line(rt: HostRuntime) -> Result<(), Fail> {
-    let lines = [
-        " ",
-        "begin",
-        "begin ",
-        "begin 1 ",
-        " begin 1",
-        "begin  1",
-        "begin\t1",
-        "begin 1\r",
-        "begin +1",
-        "begin -1",
-        "begin 01",
-        "begin 4294967296",
-        "begin one",
-        "begin 1 2",
-        "Begin 1",
-        "land",
-        "finish",
-        "floor 32",
-        "floor 00",
-        "floor 0 0",
-        "root 0",
-        "root 32 1",
-        "root 0 1 2",
-        "init 0 2",
-        "init 0 2 ",
-        "init 0 2 4",
-        "init 0 2 4A",
-        "init 0 2 414",
-        "init 0 2 -- ",
-        "init 0 2 --",
-        "init 32 2 -",
-        "init 0 4294967296 -",
-        "init 0 2 - -",
-        "init 0 2 4g",
-        " # not a comment",
-        "pick",
-        "drain",
-        "crash",
-        "read 0 1",
-        "forget 0 1",
-        "unroot 0",
-        "pending 0",
-        "fail 1 old",
-        "edit 0 1 0=5a",
-    ];
-    let alloc = rt.alloc();
-    for line in lines {
-        let mut script = String::from_str(alloc, "#\n\n")?;
-        script.push_str(line)?;
-        script.push_str("\nbegin 1\n")?;
-        assert_eq!(rt;
-            parse(alloc, script.as_str()).err(),
-            Some(ScriptFault::Unreadable { line: 3 }),
-            "{line}"
-        );
-    }
     Ok(())
 }

@@ -8,9 +8,9 @@ ghost use Rattle.xnsim.specs.Lines.{CutsFileSystem, IsName, IsLine, IsNoLine, Is
 ghost use Rattle.xnsim.specs.Programs.{role_name};
 
 use crate::image::{GREATEST_BLOCKS, LEAST_BLOCKS};
-use crate::number::parse_number;
 use clap::error::ErrorKind;
 use clap::{Arg, ArgMatches, Command, Error};
+use script::parse_number;
 use std::alloc::{AllocError, Global};
 use udf_verify::Role;
 

@@ -162,11 +162,8 @@ fn events_of_a_list_are_run_in_their_order(rt: HostRuntime) -> Result<(), Fail> 
     ];
     let replies = world.run(&events)?;
     let want = [
-        Reply::Started {
-            block: 1,
-            entry: EditId(1),
-        },
-        Reply::Edited { entry: EditId(2) },
+        Reply::Started { block: 1, entry: 1 },
+        Reply::Edited { entry: 2 },
         Reply::Refused(Refusal::NothingSafe),
         Reply::Begun { entries: 1 },
         Reply::Landed,

@@ -15,7 +15,7 @@ fn mounted_files(alloc: Global, words: &str, script: &[u8]) -> Result<MemoryFile
 }
 
 /// What a script prints on such a disk.
-fn replies_of(alloc: Global, words: &str, script: &[u8]) -> Result<Outcome, AllocError> {
+pub fn replies_of(alloc: Global, words: &str, script: &[u8]) -> Result<Outcome, AllocError> {
     let mut files = mounted_files(alloc, words, script)?;
     run_words(alloc, &mut files, "run,image,script", b"")
 }

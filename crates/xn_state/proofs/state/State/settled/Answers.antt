@@ -2,9 +2,14 @@ use Rattle.std.proofs.Common.{sym, subst}
 use Rattle.templates.specs.Tables.{types_of}
 use Rattle.xn_model.specs.Rules.{IsConsistent}
 use Rattle.xn_state.proofs.Keeping.{state_of, settled_consistent}
+use Rattle.xn_state.proofs.Freeing.{may_free}
 use Rattle.xn_state.proofs.state.State.settled.Goals as goal
+
+pub settle-freed-requires-clause-drops : goal.settle-freed-requires-clause-drops
+settle-freed-requires-clause-drops c =
+    may_free (types_of c.self.inside.table) (state_of c.self.inside.lives c.self.inside.next) c.args.block c.in_ok-count.count c.args.bytes.now c.self.invariant (sym c.in_ok-count.ensures.count)
 
 pub invariant_of-self : goal.invariant_of-self
 invariant_of-self c =
-    let consistent = settled_consistent (types_of c.self.inside.table) c.self.inside.lives c.self.inside.next c.args.block c.in_ok-count.count c.args.bytes.now c.self.invariant (sym c.in_ok-count.ensures.count) c.in_ok-count.ensures.plain in
-    subst (λ xs. IsConsistent (types_of c.self.inside.table) (state_of xs c.self.inside.next)) (sym c.settle.ensures) consistent
+    let consistent = settled_consistent (types_of c.self.inside.table) c.self.inside.lives c.self.inside.next c.args.block c.in_ok-count.count c.args.bytes.now c.self.invariant (sym c.in_ok-count.ensures.count) in
+    subst (λ xs. IsConsistent (types_of c.self.inside.table) (state_of xs c.self.inside.next)) (sym c.settle-freed.ensures.lives) consistent

@@ -1,0 +1,86 @@
+// An edit, as a client asks for it.
+
+ghost use Rattle.std.specs.Prelude.{◌≡◌, IfOk, IsTrue};
+ghost use Rattle.xn_model.specs.Calls.{within_limits, patched};
+ghost use Rattle.edit_list.specs.Undo.{undo_of};
+
+use crate::edit_id::EditId;
+use crate::patch::Patch;
+use crate::patches;
+use std::alloc::{AllocError, Global};
+use std::marker::Model;
+
+/// A change of a block: patches, which apply in order and may overlap; the blocks that it adds to those that the block
+/// owns, each with its type; the blocks that it drops from them; and the entry that has to be durable before it.
+///
+/// Within the limits are 1 to 8 patches, none of them empty or past byte 511, together at most 512 bytes, and at most 16
+/// adds and 128 drops.
+#[derive(Debug, Drop)]
+pub struct Edit {
+    pub patches: Vec<Patch>,
+    pub adds: Vec<(u32, u32)>,
+    pub drops: Vec<u32>,
+    pub after: Option<EditId>,
+}
+
+impl Model for Edit {
+    ghost use Rattle.xn_model.specs.Calls as model;
+
+    ghost Value = { model.Edit };
+
+    ghost view = { λ a. record { patches = a.patches.items; adds = a.adds.items; drops = a.drops.items; after = a.after } };
+}
+
+impl Edit {
+    /// The blocks that it adds, each with its type.
+    pub fn adds(&self) -> &[(u32, u32)]
+        ensures { result.now ≡ self.now.adds }
+    {
+        self.adds.as_slice()
+    }
+
+    /// The blocks that it drops.
+    pub fn drops(&self) -> &[u32]
+        ensures { result.now ≡ self.now.drops }
+    {
+        self.drops.as_slice()
+    }
+
+    /// The entry that has to be durable before it.
+    pub fn after(&self) -> Option<EditId>
+        ensures { result ≡ self.now.after }
+    {
+        self.after
+    }
+
+    /// Whether the edit is within the limits.
+    pub fn is_within_limits(&self) -> bool
+        ensures { result ≡ within_limits self.now }
+    {
+        let patches = self.patches.as_slice();
+        !patches.is_empty()
+            && patches.len() <= 8
+            && patches::are_patches(patches)
+            && patches::total_length(patches) <= 512
+            && self.adds.len() <= 16
+            && self.drops.len() <= 128
+    }
+
+    /// Writes its patches into a block, in their order.
+    pub fn apply(&self, bytes: &mut [u8; 512])
+        requires { IsTrue (within_limits self.now) }
+        ensures { bytes.new ≡ patched bytes.old self.now.patches }
+    {
+        patches::apply(&self.patches, bytes);
+    }
+
+    /// The patches that undo the edit of a block which has these bytes before it: for each of its patches, in their
+    /// order, one at the same place, with the bytes that the block has there.
+    pub fn undo_of(&self, alloc: Global, bytes: &[u8; 512]) -> Result<Vec<Patch>, AllocError>
+        requires { IsTrue (within_limits self.now) }
+        ensures pieces { IfOk result (λ undo. undo.items ≡ undo_of bytes.now self.now.patches) }
+        ensures undone { IfOk result (λ undo. patched (patched bytes.now self.now.patches) undo.items ≡ bytes.now) }
+    {
+        patches::undo_of(alloc, &self.patches, bytes)
+    }
+}

@@ -1,0 +1,56 @@
+// A patch of a block's bytes.
+
+ghost use Rattle.std.specs.Prelude.{◌≡◌, IfOk, IsTrue};
+ghost use Rattle.xn_model.specs.Lists.{put};
+ghost use Rattle.xn_model.specs.Calls.{is_patch};
+ghost use Rattle.edit_list.specs.Undo.{undo_at};
+
+use std::alloc::{AllocError, Global};
+use std::marker::Model;
+
+/// Bytes that a block is to have from an offset on.
+#[derive(Debug, Drop)]
+pub struct Patch {
+    pub offset: u16,
+    pub bytes: Vec<u8>,
+}
+
+impl Model for Patch {
+    ghost use Rattle.xn_model.specs.Calls as model;
+
+    ghost Value = { model.Patch };
+
+    ghost view = { λ a. record { offset = a.offset; bytes = a.bytes.items } };
+}
+
+impl Patch {
+    /// Whether the patch has a byte, and none past byte 511 of the block.
+    pub(crate) fn is_patch(&self) -> bool
+        ensures { result ≡ is_patch self.now }
+    {
+        let length = self.bytes.len();
+        0 < length && length <= 512 && usize::from(self.offset) + length <= 512
+    }
+
+    /// Writes its bytes into a block.
+    pub(crate) fn apply(&self, bytes: &mut [u8; 512])
+        requires { IsTrue (is_patch self.now) }
+        ensures { bytes.new ≡ put bytes.old self.now.offset self.now.bytes }
+    {
+        let start = usize::from(self.offset);
+        bytes[start..start + self.bytes.len()].copy_from_slice(&self.bytes);
+    }
+
+    /// The patch at the same place that writes what a block has there now.
+    pub(crate) fn undo(&self, alloc: Global, bytes: &[u8; 512]) -> Result<Patch, AllocError>
+        requires { IsTrue (is_patch self.now) }
+        ensures { IfOk result (λ undo. undo ≡ undo_at bytes.now self.now) }
+    {
+        let start = usize::from(self.offset);
+        let there = &bytes[start..start + self.bytes.len()];
+        Ok(Patch {
+            offset: self.offset,
+            bytes: there.to_vec(alloc)?,
+        })
+    }
+}

@@ -1,0 +1,55 @@
+// The patches of an edit, which apply in order and may overlap.
+
+ghost use Rattle.std.specs.Prelude.{◌≡◌, ◌≤◌, length, IfOk, IsTrue, sum_by};
+ghost use Rattle.std.specs.List.{list_all};
+ghost use Rattle.xn_model.specs.Calls.{is_patch, patched};
+ghost use Rattle.edit_list.specs.Undo.{undo_of};
+
+use crate::patch::Patch;
+use std::alloc::{AllocError, Global};
+
+/// Whether each of the patches has a byte, and none past byte 511 of the block.
+pub fn are_patches(patches: &[Patch]) -> bool
+    ensures { result ≡ list_all is_patch patches.now }
+{
+    patches.iter().all(|patch| patch.is_patch())
+}
+
+/// How many bytes the patches have together.
+pub fn total_length(patches: &[Patch]) -> usize
+    requires few { length patches.now ≤ 8 }
+    requires are_patches { IsTrue (list_all is_patch patches.now) }
+    ensures { result ≡ sum_by (λ p. length p.bytes) patches.now }
+{
+    let mut total = 0;
+    for patch in patches {
+        total += patch.bytes.len();
+    }
+    total
+}
+
+/// Writes the patches into a block, in their order.
+pub fn apply(patches: &[Patch], bytes: &mut [u8; 512])
+    requires { IsTrue (list_all is_patch patches.now) }
+    ensures { bytes.new ≡ patched bytes.old patches.now }
+{
+    for patch in patches {
+        patch.apply(bytes);
+    }
+}
+
+/// For each of the patches, in their order, the one at the same place that writes what a block has there now.
+pub fn undo_of(
+    alloc: Global,
+    patches: &[Patch],
+    bytes: &[u8; 512],
+) -> Result<Vec<Patch>, AllocError>
+    requires { IsTrue (list_all is_patch patches.now) }
+    ensures { IfOk result (λ undo. undo.items ≡ undo_of bytes.now patches.now) }
+{
+    let mut undo = Vec::with_capacity(alloc, patches.len())?;
+    for patch in patches {
+        undo.push_reserved(patch.undo(alloc, bytes)?);
+    }
+    Ok(undo)
+}

@@ -1,0 +1,49 @@
+-- The text of a script.
+use Rattle.std.specs.Prelude.{◌≡◌, ◌<◌, ◌⊎◌, ⊤, ℕ, ◌+◌, ◌==◌, Bool, true, false, not, List, [], ◌∷◌, length, filter}
+use Rattle.std.specs.List.{AllZip, slice_split, slice_index_or}
+use Rattle.script.specs.declared.command.Command.{Command}
+use Rattle.script.specs.declared.script.ScriptFault.{ScriptFault}
+use Rattle.script.specs.declared.script.ScriptFault.TheVariants.{Unreadable, NoMemory}
+use Rattle.script.specs.Commands.{Spells, IsNoCommand}
+
+-- the lines of a text, which is split at each newline
+abbrev pub lines_of : List ℕ → List (List ℕ)
+lines_of text = slice_split (λ byte. byte == 10) text
+
+-- the words of a line, which is split at each space
+abbrev pub words_of : List ℕ → List (List ℕ)
+words_of line = slice_split (λ byte. byte == 32) line
+
+-- an empty line, or one that begins with `#`
+abbrev pub is_passed_over : List ℕ → Bool
+is_passed_over [] = true
+is_passed_over (byte ∷ line) = byte == 35
+
+abbrev pub LineSpells : List ℕ → Command → Type 0
+LineSpells line command = Spells (words_of line) command
+
+-- the lines that aren't passed over spell these commands, one a line, in order
+abbrev pub IsScript : List ℕ → List Command → Type 0
+IsScript text commands = AllZip LineSpells (filter (λ line. not (is_passed_over line)) (lines_of text)) commands
+
+-- a line that is passed over or spells a command
+abbrev pub IsReadable : List ℕ → Type 0
+IsReadable line = (is_passed_over line ≡ true) ⊎ ((command : Command) × LineSpells line command)
+
+-- a line that is neither
+pub record IsUnreadable (line : List ℕ) : Type 0 where
+  pub read : is_passed_over line ≡ false
+  pub no_command : IsNoCommand (words_of line)
+
+-- the first line that is neither has this number, from 1
+pub record IsFirstUnreadable (text : List ℕ) (number : ℕ) : Type 0 where
+  pub place : ℕ
+  pub counted : number ≡ place + 1
+  pub within : place < length (lines_of text)
+  pub unreadable : IsUnreadable (slice_index_or (lines_of text) place [])
+  pub before : (k : ℕ) → k < place → IsReadable (slice_index_or (lines_of text) k [])
+
+-- why the text is no script, or want of memory
+abbrev pub IsScriptFault : List ℕ → ScriptFault → Type 0
+IsScriptFault text (Unreadable line) = IsFirstUnreadable text line
+IsScriptFault text NoMemory = ⊤

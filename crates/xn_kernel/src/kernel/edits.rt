@@ -1,0 +1,39 @@
+// Edits through a kernel.
+
+ghost use Rattle.std.specs.Prelude.{◌≡◌};
+ghost use Rattle.xn_model.specs.Results.{Gives};
+ghost use Rattle.xn_model.specs.Calls.{drop_root_of, propose_of};
+ghost use Rattle.xn_state.specs.States.{StateValue, types_in};
+ghost use Rattle.xn_kernel.specs.Kernels.{KernelValue};
+
+use crate::kernel::Kernel;
+use disk::Lane;
+use xn_state::{Edit, EditId, Fs, Refusal};
+
+impl<L: Lane> Kernel<L> {
+    /// Edits a block of the file system: its patches are written into the newest bytes, and the blocks that it points to
+    /// change exactly as the edit claims. Refused are, in this order, a block past the end of the disk (`NoSuchBlock`), a
+    /// free or dropped one (`NotInUse`), one of another file system or of nobody (`NotYours`); too many pending entries
+    /// (`TooManyPending`); no number left (`Exhausted`); an edit past the limits (`BadPatch`); an entry to come after that
+    /// was never given (`BadAfter`); adds on a block that no owner names (`Unattached`); an added block that is not fresh,
+    /// of that type and file system, or is named twice (`NotFresh`); a dropped block that this one does not own, or that is
+    /// named twice (`NotOwned`), or that points to others (`NotEmpty`); a change of what the block points to that is not
+    /// as claimed, or points somewhere twice (`ClaimWrong`); a byte past the size that is not zero (`SizeWrong`); last
+    /// `NoMemory`. A refusal changes nothing and uses no number.
+    pub fn propose(&mut self, fs: Fs, block: u32, edit: &Edit) -> Result<EditId, Refusal>
+        ensures state { Gives (propose_of (types_in self.old.state) self.old.state.store fs.number block edit.now) self.old.state.store self.new.state.store result }
+        ensures rest { self.new ≡ record self.old { state = record self.old.state { store = self.new.state.store } } }
+    {
+        self.state.propose(fs, block, edit)
+    }
+
+    /// Empties the file system's root slot, in block 0: the block that stood there is dropped. Refused are, in this order, an
+    /// empty slot (`NotOwned`), a block that points to others (`NotEmpty`), too many pending entries (`TooManyPending`), no
+    /// number left (`Exhausted`), last `NoMemory`. A refusal changes nothing.
+    pub fn drop_root(&mut self, fs: Fs) -> Result<EditId, Refusal>
+        ensures state { Gives (drop_root_of (types_in self.old.state) self.old.state.store fs.number) self.old.state.store self.new.state.store result }
+        ensures rest { self.new ≡ record self.old { state = record self.old.state { store = self.new.state.store } } }
+    {
+        self.state.drop_root(fs)
+    }
+}

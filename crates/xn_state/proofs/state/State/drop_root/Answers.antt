@@ -1,0 +1,22 @@
+use Rattle.std.proofs.Common.{Err, refl, sym, subst}
+use Rattle.std.proofs.lemmas.Result.{err_from_is_err_and}
+use Rattle.xn_model.specs.Results.{Gives}
+use Rattle.xn_state.specs.States.{types_in}
+use Rattle.xn_state.proofs.Keeping.{drop_refused, root_dropped, dropped_consistent}
+use Rattle.xn_state.proofs.state.State.drop_root.Goals as goal
+
+pub returns-in_err-bytes-clause-state : goal.returns-in_err-bytes-clause-state
+returns-in_err-bytes-clause-state c =
+    let store = c.args.self.now.store in
+    let refused = drop_refused (types_in c.args.self.now) c.args.self.now.store c.args.fs.number c.in_err-bytes.field-0.0 (sym c.in_err-bytes.ensures.plan) in
+    let p = err_from_is_err_and c.from_residual.result c.from_residual.ensures.1 in
+    rw (p.1, p.2) (subst (λ r. Gives r store store (Err c.in_err-bytes.field-0.0)) (sym refused) (refl, refl))
+
+pub accept-requires-clause-rules : goal.accept-requires-clause-rules
+accept-requires-clause-rules c = dropped_consistent (types_in c.args.self.now) c.args.self.now.store c.args.fs.number (c.in_ok-bytes.bytes, c.in_ok-bytes.block) c.drop_root_plan.ensures.rules c.args.fs.few (sym c.in_ok-bytes.ensures.plan)
+
+pub returns-clause-state : goal.returns-clause-state
+returns-clause-state c =
+    let store = c.args.self.now.store in
+    let made = root_dropped (types_in c.args.self.now) c.args.self.now.store c.args.fs.number (c.in_ok-bytes.bytes, c.in_ok-bytes.block) (sym c.in_ok-bytes.ensures.plan) in
+    subst (λ r. Gives r store c.accept.new.self.store c.accept.result) (sym made) c.accept.ensures.state

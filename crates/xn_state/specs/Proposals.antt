@@ -1,0 +1,59 @@
+-- What an edit and the end of a root slot decide before they change anything.
+use Rattle.std.specs.Prelude.{ℕ, Bool, not, ◌&&◌, nat_lt, List, [], ◌∷◌, length, Option, Some, Result, Ok}
+use Rattle.std.specs.List.{list_all}
+use Rattle.xn_model.specs.Lists.{blocks_of, distinct}
+use Rattle.xn_model.specs.Types.{Types, claims, named_once, within_size}
+use Rattle.xn_model.specs.Root.{with_slot}
+use Rattle.xn_model.specs.Lives.{BlockState, Life, StoreState, current, is_fresh}
+use Rattle.xn_model.specs.declared.refusal.Refusal.{Refusal}
+use Rattle.xn_model.specs.declared.refusal.Refusal.TheVariants.{BadPatch, BadAfter, NotFresh, NotOwned, NotEmpty, ClaimWrong, SizeWrong, Unattached, TooManyPending, Exhausted}
+use Rattle.xn_model.specs.Results.{first_refusal, unless, result_and_then}
+use Rattle.xn_model.specs.Calls.{Edit, own_life, too_many, exhausted, within_limits, was_given, may_add, may_drop, is_empty, patched, propose_refusal, drop_root_refusal, root_now, slot_now}
+
+-- the tests of an edit in three parts: of its form and the limits, of the blocks that it names, and of what it makes of the bytes
+abbrev pub form_tests : StoreState → ℕ → Edit → Life → List (Bool × Refusal)
+form_tests state fs e l =
+    (too_many state fs (length l.pending), TooManyPending)
+    ∷ (exhausted state, Exhausted)
+    ∷ (not (within_limits e), BadPatch)
+    ∷ (not (was_given state e.after), BadAfter)
+    ∷ (is_fresh l.status && nat_lt 0 (length e.adds), Unattached)
+    ∷ []
+
+abbrev pub target_tests : Types → StoreState → ℕ → ℕ → Edit → List (Bool × Refusal)
+target_tests T state fs b e =
+    (not (list_all (may_add state fs) e.adds && distinct (blocks_of e.adds)), NotFresh)
+    ∷ (not (list_all (may_drop state b) e.drops && distinct e.drops), NotOwned)
+    ∷ (not (list_all (is_empty T state) e.drops), NotEmpty)
+    ∷ []
+
+abbrev pub bytes_tests : Types → ℕ → List ℕ → List ℕ → Edit → List (Bool × Refusal)
+bytes_tests T t old new e =
+    (not (claims T t old new e.adds e.drops && named_once T t new), ClaimWrong)
+    ∷ (not (within_size T t new), SizeWrong)
+    ∷ []
+
+-- the first refusal of each part
+abbrev pub form_refusal : StoreState → ℕ → Edit → Life → Option Refusal
+form_refusal state fs e l = first_refusal (form_tests state fs e l)
+
+abbrev pub target_refusal : Types → StoreState → ℕ → ℕ → Edit → Option Refusal
+target_refusal T state fs b e = first_refusal (target_tests T state fs b e)
+
+abbrev pub bytes_refusal : Types → ℕ → List ℕ → List ℕ → Edit → Option Refusal
+bytes_refusal T t old new e = first_refusal (bytes_tests T t old new e)
+
+-- the block's bytes after an edit
+abbrev pub proposed_at : Types → StoreState → ℕ → ℕ → Edit → Life → Result (List ℕ) Refusal
+proposed_at T state fs b e l = unless (propose_refusal T state fs b e l) (Ok (patched (current l) e.patches))
+
+abbrev pub proposed_of : Types → StoreState → ℕ → ℕ → Edit → Result (List ℕ) Refusal
+proposed_of T state fs b e = result_and_then (proposed_at T state fs b e) (own_life state fs b)
+
+-- block 0's bytes with the slot empty, and the block that stood there
+abbrev pub drop_root_plan : Types → StoreState → ℕ → Result (List ℕ × ℕ) Refusal
+drop_root_plan T state fs = unless (drop_root_refusal T state fs) (Ok (with_slot (root_now state) fs (0, 0), (slot_now state fs).0))
+
+-- the entry that a block accepts
+abbrev pub entry_of : StoreState → ℕ → List ℕ → List (ℕ × ℕ) → List ℕ → Option ℕ → BlockState
+entry_of state fs bytes adds drops after = record { bytes = bytes; entry = state.next; adds = adds; drops = drops; after = after; fs = Some fs }

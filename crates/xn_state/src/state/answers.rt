@@ -1,0 +1,51 @@
+// The answers of a store that change nothing.
+
+ghost use Rattle.std.specs.Prelude.{◌≡◌};
+ghost use Rattle.xn_model.specs.Results.{Lends};
+ghost use Rattle.xn_model.specs.Calls.{read_of, kind_of, root_of, pending_of};
+
+use crate::fs::Fs;
+use crate::state::State;
+use templates::root_slot;
+use xn_model::Refusal;
+
+impl State {
+    /// The current bytes of a block of the file system: those of its newest pending entry, or where none is pending the durable
+    /// ones. Refused are, in this order, a block past the end of the disk (`NoSuchBlock`), a free or dropped one (`NotInUse`), and
+    /// one of another file system or of nobody (`NotYours`).
+    pub fn read(&self, fs: Fs, block: u32) -> Result<&[u8; 512], Refusal>
+        ensures { Lends (read_of self.now.store fs.number block) result }
+    {
+        let life = self.lives.own_life(fs, block)?;
+        Ok(life.current())
+    }
+
+    /// The type of a block of the file system, with the refusals of `read`.
+    pub fn kind(&self, fs: Fs, block: u32) -> Result<u32, Refusal>
+        ensures { result ≡ kind_of self.now.store fs.number block }
+    {
+        Ok(self.lives.own_life(fs, block)?.ty())
+    }
+
+    /// The block in the file system's root slot, as block 0's newest state has it; `None` where the slot is empty.
+    pub fn root(&self, fs: Fs) -> Option<u32>
+        ensures { result ≡ root_of self.now.store fs.number }
+    {
+        let Some(root) = self.lives.life(0) else {
+            unreachable!()
+        };
+        let slot = root_slot(root.current(), fs.index());
+        if slot.block == 0 {
+            None
+        } else {
+            Some(slot.block)
+        }
+    }
+
+    /// How many pending entries of all blocks count for the file system.
+    pub fn pending(&self, fs: Fs) -> u32
+        ensures { result ≡ pending_of self.now.store fs.number }
+    {
+        self.lives.pending_for(fs)
+    }
+}

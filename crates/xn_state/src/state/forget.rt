@@ -1,0 +1,58 @@
+// A client ends the life of a block that nobody owns.
+
+ghost use Rattle.std.specs.Prelude.{◌≡◌, ◌<◌, length, OnOk};
+ghost use Rattle.xn_model.specs.Lives.{StoreState};
+ghost use Rattle.xn_model.specs.Results.{GivesExactly};
+ghost use Rattle.xn_model.specs.Calls.{forget_of, is_untouched};
+ghost use Rattle.xn_state.specs.Forgets.{forget_plan};
+ghost use Rattle.xn_state.specs.States.{StateValue, types_in};
+
+use crate::fs::Fs;
+use crate::life::Life;
+use crate::state::{State, owns_nothing};
+use xn_model::Refusal;
+
+impl State {
+    /// Whether a block of the file system may be forgotten, or the first refusal of `forget` that applies.
+    fn forgettable(&self, fs: Fs, block: u32) -> Result<(), Refusal>
+        ensures plan { result ≡ forget_plan (types_in self.now) self.now.store fs.number block }
+        ensures within { OnOk result (block < length self.now.store.lives) }
+    {
+        let life = self.lives.own_life(fs, block)?;
+        if !life.is_fresh() {
+            return Err(Refusal::NotFresh);
+        }
+        if !owns_nothing(&self.table, life.ty(), life.current()) {
+            return Err(Refusal::NotEmpty);
+        }
+        if !is_untouched(life) {
+            return Err(Refusal::TooManyPending);
+        }
+        if life.is_in_flight() {
+            return Err(Refusal::InFlight);
+        }
+        Ok(())
+    }
+
+    /// Ends the life of a block that no owner has ever named: the block is free, and its init, where that is still pending, counts
+    /// no longer. It takes no memory, and a refusal changes nothing. Refused are, in this order, a block past the end of the disk
+    /// (`NoSuchBlock`), a free or dropped one (`NotInUse`), one of another file system or of nobody (`NotYours`), one that has had an
+    /// owner (`NotFresh`), one that points to another (`NotEmpty`), one with another entry pending than its init (`TooManyPending`),
+    /// and one whose write is under way (`InFlight`).
+    pub fn forget(&mut self, fs: Fs, block: u32) -> Result<(), Refusal>
+        ensures state { GivesExactly (forget_of (types_in self.old) self.old.store fs.number block) self.old.store self.new.store result }
+        ensures table { self.new.table ≡ self.old.table }
+    {
+        self.forgettable(fs, block)?;
+        self.lives.forget(block);
+        Ok(())
+    }
+}
+
+/// Whether nothing is pending for a block but, where none of its states is known to be on the disk, its first entry.
+fn is_untouched(life: &Life) -> bool
+    ensures { result ≡ is_untouched life.now }
+{
+    let pending = life.pending();
+    pending.is_empty() || (!life.is_durable() && pending.len() == 1)
+}

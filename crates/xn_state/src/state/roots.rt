@@ -1,0 +1,101 @@
+// The root slots of file systems.
+
+ghost use Rattle.std.specs.Prelude.{◌≡◌, ◌<◌, ◌^◌, ◌-◌, is_some, IsTrue, IfOk};
+ghost use Rattle.xn_model.specs.Lives.{life_at};
+ghost use Rattle.xn_model.specs.Results.{Gives};
+ghost use Rattle.xn_model.specs.Calls.{drop_root_of, life_pending, make_root_of, pending_of};
+ghost use Rattle.xn_model.specs.Rules.{IsConsistent};
+ghost use Rattle.xn_state.specs.Plans.{make_root_plan};
+ghost use Rattle.xn_state.specs.Proposals.{drop_root_plan};
+ghost use Rattle.xn_state.specs.States.{types_in};
+
+use crate::fs::Fs;
+use crate::root::with_slot;
+use crate::state::State;
+use edit_list::EditId;
+use templates::root_slot;
+use udf_run::Pair;
+use xn_model::Refusal;
+
+impl State {
+    /// Block 0's bytes with the root slot set to a fresh block of the file system, and that block's type.
+    fn make_root_plan(&self, fs: Fs, block: u32) -> Result<([u8; 512], u32), Refusal>
+        ensures plan { result ≡ make_root_plan self.now.store fs.number block }
+        ensures rules { IsConsistent (types_in self.now) self.now.store }
+        ensures alive { IfOk result (λ plan. IsTrue (is_some (life_at self.now.store.lives 0))) }
+        ensures room { IfOk result (λ plan. life_pending (life_at self.now.store.lives 0) < 64) }
+        ensures few { IfOk result (λ plan. pending_of self.now.store fs.number < 4096) }
+        ensures numbers { IfOk result (λ plan. self.now.store.next < 2 ^ 64 - 1) }
+    {
+        let life = self.lives.own_life(fs, block)?;
+        let Some(root) = self.lives.life(0) else {
+            unreachable!()
+        };
+        if root_slot(root.current(), fs.index()).block != 0 {
+            return Err(Refusal::RootTaken);
+        }
+        if !life.is_fresh() {
+            return Err(Refusal::NotFresh);
+        }
+        if self.is_too_many(fs, root.pending().len()) {
+            return Err(Refusal::TooManyPending);
+        }
+        if self.next == u64::MAX {
+            return Err(Refusal::Exhausted);
+        }
+        let ty = life.ty();
+        Ok((with_slot(root.current(), fs, Pair { block, ty }), ty))
+    }
+
+    /// Sets the file system's root slot, in block 0, to a fresh block. Refused are, in this order, a block past the end of the
+    /// disk (`NoSuchBlock`), a free or dropped one (`NotInUse`), one of another file system or of nobody (`NotYours`); a slot
+    /// that is not empty (`RootTaken`), a block that has had an owner (`NotFresh`), too many pending entries
+    /// (`TooManyPending`), no number left (`Exhausted`), last `NoMemory`. A refusal changes nothing.
+    pub fn make_root(&mut self, fs: Fs, block: u32) -> Result<EditId, Refusal>
+        ensures state { Gives (make_root_of self.old.store fs.number block) self.old.store self.new.store result }
+        ensures table { self.new.table ≡ self.old.table }
+    {
+        let (bytes, ty) = self.make_root_plan(fs, block)?;
+        self.accept(fs, 0, bytes, &[(block, ty)], &[], None)
+    }
+
+    /// Block 0's bytes with the file system's root slot empty, and the block that stands there.
+    fn drop_root_plan(&self, fs: Fs) -> Result<([u8; 512], u32), Refusal>
+        ensures plan { result ≡ drop_root_plan (types_in self.now) self.now.store fs.number }
+        ensures rules { IsConsistent (types_in self.now) self.now.store }
+        ensures alive { IfOk result (λ plan. IsTrue (is_some (life_at self.now.store.lives 0))) }
+        ensures room { IfOk result (λ plan. life_pending (life_at self.now.store.lives 0) < 64) }
+        ensures few { IfOk result (λ plan. pending_of self.now.store fs.number < 4096) }
+        ensures numbers { IfOk result (λ plan. self.now.store.next < 2 ^ 64 - 1) }
+    {
+        let Some(root) = self.lives.life(0) else {
+            unreachable!()
+        };
+        let slot = root_slot(root.current(), fs.index());
+        if slot.block == 0 {
+            return Err(Refusal::NotOwned);
+        }
+        if !self.is_empty(slot.block) {
+            return Err(Refusal::NotEmpty);
+        }
+        if self.is_too_many(fs, root.pending().len()) {
+            return Err(Refusal::TooManyPending);
+        }
+        if self.next == u64::MAX {
+            return Err(Refusal::Exhausted);
+        }
+        let none = Pair { block: 0, ty: 0 };
+        Ok((with_slot(root.current(), fs, none), slot.block))
+    }
+
+    /// Empties the file system's root slot, in block 0: the block that stood there is dropped. Refused are, in this order, an
+    /// empty slot (`NotOwned`), a block that points to others (`NotEmpty`), too many pending entries (`TooManyPending`), no
+    /// number left (`Exhausted`), last `NoMemory`. A refusal changes nothing.
+    pub fn drop_root(&mut self, fs: Fs) -> Result<EditId, Refusal>
+        ensures state { Gives (drop_root_of (types_in self.old) self.old.store fs.number) self.old.store self.new.store result }
+        ensures table { self.new.table ≡ self.old.table }
+    {
+        let (bytes, block) = self.drop_root_plan(fs)?;
+        self.accept(fs, 0, bytes, &[], &[block], None)
+    }
+}

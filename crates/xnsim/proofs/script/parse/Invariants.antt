@@ -1,6 +1,0 @@
-use Rattle.std.proofs.Common.{map}
-use Rattle.xnsim.proofs.ScriptLines.{IsReadTo}
-use Rattle.xnsim.proofs.script.parse.Given as goal
-
-abbrev pub invariant-loop-place : goal.invariant-loop-place
-invariant-loop-place l = IsReadTo (map (λ line. line.now) l.line-items) l.place l.commands.items
