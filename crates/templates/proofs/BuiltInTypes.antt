@@ -36,11 +36,14 @@ unfolding types_of template_of
 tables_have_built_ins table is = record {
   root = refl;
   template = refl;
+  data_type = refl;
   few = few_types table is;
   root_owns = catalogue_owns;
   root_size = root_size;
   template_owns = leaf_owns;
+  template_size = leaf_size;
   data_owns = leaf_owns;
+  data_size = leaf_size;
 }
 
 -- a template's block may use all its bytes

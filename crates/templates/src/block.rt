@@ -10,9 +10,9 @@ ghost use Rattle.templates.specs.Reading.{head_of, owns_end, size_end, template_
 use crate::code::read_programs;
 use crate::fault::TemplateFault;
 use crate::template::Template;
-use crate::words::{WORD_LEN, write_words};
+use crate::words::write_words;
 use std::alloc::Global;
-use udf_code::MAX_WORDS;
+use udf_code::{MAX_WORDS, WORD_LEN};
 
 /// The first bytes of a template's block.
 const MARK: [u8; 2] = [0x58, 0x54];

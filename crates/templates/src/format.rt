@@ -7,7 +7,7 @@ ghost use Rattle.xn_model.specs.Images.{joined};
 
 use crate::block::write_block;
 use crate::fault::FormatFault;
-use crate::root::MARK;
+use crate::root::{CATALOGUE_PLACES, MARK, MAX_BLOCKS, MIN_BLOCKS};
 use crate::template::Template;
 use std::alloc::{AllocError, Global};
 
@@ -30,10 +30,10 @@ pub fn format_image(
         × (image.items ≡ joined (formatted blocks templates.now)))
         (IsFormatFault blocks (length templates.now)) }
 {
-    if blocks < 32 || blocks > 32768 {
+    if blocks < MIN_BLOCKS || blocks > MAX_BLOCKS {
         return Err(FormatFault::BadCount);
     }
-    if templates.len() > 16 {
+    if templates.len() > CATALOGUE_PLACES {
         return Err(FormatFault::TooManyTemplates);
     }
     Ok(fresh_image(alloc, blocks, templates)?)

@@ -18,6 +18,9 @@ pub use block::{read_block, write_block};
 pub use built_ins::builtin;
 pub use fault::{FormatFault, TemplateFault};
 pub use format::format_image;
-pub use root::{count_of, mark_is_right, pointer, root_bytes, root_slot};
+pub use root::{
+    CATALOGUE_PLACES, MAX_BLOCKS, MIN_BLOCKS, ROOT_SLOTS, count_of, mark_is_right, pointer,
+    root_bytes, root_slot, with_root_slot,
+};
 pub use table::Table;
 pub use template::Template;

@@ -2,11 +2,22 @@
 // byte first.
 
 ghost use Rattle.std.specs.Prelude.{◌≡◌, ◌+◌, ◌<◌, ◌≤◌, ◌&&◌, ◌==◌, ℕ};
-ghost use Rattle.xn_model.specs.Root.{word_at, marked, pointer, slot};
+ghost use Rattle.xn_model.specs.Root.{word_at, marked, pointer, slot, with_slot};
 ghost use Rattle.templates.specs.Meaning.{pair_of};
 ghost use Rattle.templates.specs.RootFields.{has_mark, slot_bytes};
 
 use udf_run::Pair;
+
+/// The least and the greatest number of blocks that a disk has.
+pub const MIN_BLOCKS: u32 = 32;
+
+pub const MAX_BLOCKS: u32 = 32_768;
+
+/// How many templates a catalogue has room for.
+pub const CATALOGUE_PLACES: usize = 16;
+
+/// How many root slots block 0 has, one for each file system.
+pub const ROOT_SLOTS: usize = 32;
 
 /// The first bytes of block 0.
 pub(crate) const MARK: [u8; 4] = [0x58, 0x4e, 0x39, 0x37];
@@ -64,6 +75,17 @@ pub fn root_slot(block: &[u8; 512], i: usize) -> Pair
         block: word_at(block, at),
         ty: word_at(block, at + 4),
     }
+}
+
+/// The block with the root of file system `i`, from 0 to 31, set.
+pub fn with_root_slot(block: &[u8; 512], i: usize, root: Pair) -> [u8; 512]
+    requires { i < 32 }
+    ensures { result ≡ with_slot block.now i (pair_of root) }
+{
+    let mut bytes = *block;
+    let at = SLOTS_START + 8 * i;
+    bytes[at..at + 8].copy_from_slice(&root_bytes(root));
+    bytes
 }
 
 /// A root slot as its eight bytes.

@@ -6,15 +6,13 @@ ghost use Rattle.templates.specs.Meaning.{pair_of};
 ghost use Rattle.templates.specs.Tables.{IsTable, no_templates, template_of, types_of};
 
 use crate::built_ins::builtin;
+use crate::root::CATALOGUE_PLACES;
 use crate::template::Template;
 use arrayvec::ArrayVec;
 use std::alloc::{AllocError, Global};
 use std::marker::Model;
 use udf_run::{Pair, owns, size};
 use udf_verify::Role;
-
-/// How many places the catalogue has.
-const PLACES: usize = 16;
 
 /// The type of the catalogue's first place.
 const FIRST_PLACE: u32 = 3;
@@ -46,8 +44,8 @@ impl Table {
     {
         let root = builtin(alloc, 0)?;
         let leaf = builtin(alloc, 2)?;
-        let mut places = Vec::with_capacity(alloc, PLACES)?;
-        for _place in 0..PLACES {
+        let mut places = Vec::with_capacity(alloc, CATALOGUE_PLACES)?;
+        for _place in 0..CATALOGUE_PLACES {
             places.push_reserved(None);
         }
         Ok(Table { root, leaf, places })

@@ -17,18 +17,17 @@ use crate::word::Word;
 use arrayvec::ArrayVec;
 use std::alloc::{AllocError, Global};
 
-/// A word takes four bytes: its code, its operands, then zeros.
-const WORD_BYTES: usize = 4;
+/// A word takes four bytes.
+pub const WORD_LEN: usize = 4;
 
 /// The bytes of words, four a word: the code, the operands, then zeros. A register or shift is one byte, a number two,
 /// the low one first. All memory is taken at the start.
 pub fn encode(alloc: Global, words: &[Word]) -> Result<Vec<u8>, AllocError>
     ensures { IfOk result (λ bytes. bytes.items ≡ encoded words.now) }
 {
-    let mut bytes = Vec::with_capacity(alloc, words.len().saturating_mul(WORD_BYTES))?;
+    let mut bytes = Vec::with_capacity(alloc, words.len().saturating_mul(WORD_LEN))?;
     for word in words {
-        bytes.push(word.op().code())?;
-        bytes.extend_from_slice(&operands::write(*word))?;
+        bytes.extend_from_slice(&word.bytes())?;
     }
     Ok(bytes)
 }
@@ -45,11 +44,11 @@ pub fn decode(alloc: Global, bytes: &[u8]) -> Result<Vec<Word>, CodeFault>
     ensures exact { MatchResult result (λ words. decoded bytes.now ≡ Ok words.items) (λ fault. fault ≡ NoMemory ⊎ decoded bytes.now ≡ Err fault) }
     ensures length_first { IfErr result (λ fault. fault ≡ NoMemory → (length bytes.now % 4 ≡ 0) × (length bytes.now ≤ 508)) }
 {
-    let rest = bytes.len() % WORD_BYTES;
+    let rest = bytes.len() % WORD_LEN;
     if rest != 0 {
         return Err(CodeFault::OddLength(bytes.len() - rest));
     }
-    let count = bytes.len() / WORD_BYTES;
+    let count = bytes.len() / WORD_LEN;
     if count > MAX_WORDS {
         return Err(CodeFault::TooLong);
     }
@@ -69,12 +68,12 @@ fn read_words(bytes: &[u8], words: &mut Vec<Word>) -> Result<(), CodeFault>
         (λ _. decoded_from 0 bytes.now (place [] false) ≡ Ok words.new.items)
         (λ fault. decoded_from 0 bytes.now (place [] false) ≡ Err fault) }
 {
-    let count = bytes.len() / WORD_BYTES;
+    let count = bytes.len() / WORD_LEN;
     let mut blocks = ArrayVec::<Opening, 8>::new();
     let mut may_claim = false;
     for at in 0..count {
-        let start = at * WORD_BYTES;
-        let word = read_word(at, &bytes[start..start + WORD_BYTES])?;
+        let start = at * WORD_LEN;
+        let word = read_word(at, &bytes[start..start + WORD_LEN])?;
         may_claim = after(at, &word, &mut blocks, may_claim)?;
         words.push(word).unwrap();
     }

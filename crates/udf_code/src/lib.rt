@@ -12,7 +12,7 @@ pub mod structure;
 mod tests;
 pub mod word;
 
-pub use crate::bytes::{decode, encode};
+pub use crate::bytes::{WORD_LEN, decode, encode};
 pub use crate::fault::CodeFault;
 pub use crate::op::Op;
 pub use crate::structure::{MAX_WORDS, well_formed};

@@ -87,8 +87,23 @@ fn register_and_turns(first: u8, second: u8, third: u8) -> Option<(Register, Tur
     Some((a, n))
 }
 
+impl Word {
+    ghost use Rattle.std.specs.Prelude.{◌≡◌};
+    ghost use Rattle.udf_code.specs.Bytes.{word_bytes};
+
+    /// The four bytes of the word: its code, its operands, then zeros. A register or shift is one byte, a number two, the low
+    /// one first.
+    pub fn bytes(&self) -> [u8; 4]
+        ensures { result ≡ word_bytes self.now }
+    {
+        let mut bytes = [self.op().code(), 0, 0, 0];
+        bytes[1..].copy_from_slice(&operand_bytes(*self));
+        bytes
+    }
+}
+
 /// The three bytes after a word's code.
-pub(crate) fn write(word: Word) -> [u8; 3]
+fn operand_bytes(word: Word) -> [u8; 3]
     ensures { result ≡ operand_bytes word }
 {
     match word {

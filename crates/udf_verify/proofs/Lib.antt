@@ -14,3 +14,4 @@ pub mod SurveyWords
 pub mod Surveying
 pub mod Whole
 pub mod Judged
+pub mod Accepted

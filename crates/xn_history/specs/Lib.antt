@@ -1,0 +1,4 @@
+pub mod Histories
+pub mod Moments
+pub mod Promises
+pub mod Rows
