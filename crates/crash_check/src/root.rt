@@ -1,0 +1,87 @@
+// What block 0 names.
+
+ghost use Rattle.std.specs.Prelude.{◌≡◌, ◌≤◌, ◌<◌, length};
+ghost use Rattle.std.specs.Option.{option_to_list};
+ghost use Rattle.xn_model.specs.Images.{block_of};
+ghost use Rattle.image_model.specs.Walk.{add_all, some_named, names_from, template_name, slot_name, visit_root};
+ghost use Rattle.templates.specs.Tables.{types_of};
+ghost use Rattle.crash_check.specs.Answers.{Answers};
+
+use crate::blocks::{block, is_blank_from};
+use crate::names::add;
+use image_model::{ImageFault, Place};
+use indexmap::IndexMap;
+use std::alloc::Global;
+use templates::{CATALOGUE_PLACES, ROOT_SLOTS, Table, pointer, root_slot};
+
+/// The blocks that block 0 names, in order, each with its place.
+pub fn visit_root(
+    alloc: Global,
+    table: &Table,
+    blocks: &[[u8; 512]],
+) -> Result<IndexMap<u32, Place>, ImageFault>
+    requires { 0 < length blocks.now }
+    ensures { Answers result (λ named. named.entries) (visit_root (types_of table.now) (length blocks.now) (block_of blocks.now)) }
+{
+    let root = block(blocks, 0);
+    if !is_blank_from(root, table.size(0, root) as usize) {
+        return Err(ImageFault::SizeWrong(0));
+    }
+    let count = blocks.len();
+    let mut named = IndexMap::new(alloc);
+    add_templates(&mut named, table, count, root, CATALOGUE_PLACES)?;
+    add_roots(&mut named, table, count, root, ROOT_SLOTS)?;
+    Ok(named)
+}
+
+/// Adds the blocks of the first `places` catalogue entries.
+fn add_templates(
+    named: &mut IndexMap<u32, Place>,
+    table: &Table,
+    count: usize,
+    root: &[u8; 512],
+    places: usize,
+) -> Result<(), ImageFault>
+    requires { places ≤ 16 }
+    ensures { Answers result (λ _. named.new.entries) (add_all (types_of table.now) count 0 named.old.entries (names_from (template_name root.now) 0 places)) }
+{
+    for place in 0..places {
+        add_some(named, table, count, pointer(root, place), 1, None)?;
+    }
+    Ok(())
+}
+
+/// Adds the blocks of the first `slots` root slots.
+fn add_roots(
+    named: &mut IndexMap<u32, Place>,
+    table: &Table,
+    count: usize,
+    root: &[u8; 512],
+    slots: usize,
+) -> Result<(), ImageFault>
+    requires { slots ≤ 32 }
+    ensures { Answers result (λ _. named.new.entries) (add_all (types_of table.now) count 0 named.old.entries (names_from (slot_name root.now) 0 slots)) }
+{
+    for slot in 0..slots {
+        let pair = root_slot(root, slot);
+        add_some(named, table, count, pair.block, pair.ty, Some(slot as u8))?;
+    }
+    Ok(())
+}
+
+/// Adds a block that block 0 names, where it isn't 0.
+fn add_some(
+    named: &mut IndexMap<u32, Place>,
+    table: &Table,
+    count: usize,
+    block: u32,
+    ty: u32,
+    fs: Option<u8>,
+) -> Result<(), ImageFault>
+    ensures { Answers result (λ _. named.new.entries) (add_all (types_of table.now) count 0 named.old.entries (option_to_list (some_named fs (block, ty)))) }
+{
+    if block == 0 {
+        return Ok(());
+    }
+    add(named, table, count, block, Place { ty, owner: 0, fs })
+}
