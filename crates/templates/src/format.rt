@@ -7,7 +7,7 @@ ghost use Rattle.xn_model.specs.Images.{joined};
 
 use crate::block::write_block;
 use crate::fault::FormatFault;
-use crate::root::{CATALOGUE_PLACES, MARK, MAX_BLOCKS, MIN_BLOCKS};
+use crate::root::{CATALOGUE_PLACES, MARK, MAX_BLOCKS, MIN_BLOCKS, number_bytes};
 use crate::template::Template;
 use std::alloc::{AllocError, Global};
 
@@ -64,10 +64,9 @@ fn write_root(image: &mut Vec<u8>, blocks: u32, count: usize) -> Result<(), Allo
     ensures len { OnOk result (vec_len image.new ≡ 512) }
 {
     image.extend_from_slice(&MARK)?;
-    image.extend_from_slice(&blocks.to_le_bytes())?;
+    image.extend_from_slice(&number_bytes(blocks))?;
     for i in 0..count {
-        let block = FIRST_TEMPLATE + i as u32;
-        image.extend_from_slice(&block.to_le_bytes())?;
+        image.extend_from_slice(&number_bytes(FIRST_TEMPLATE + i as u32))?;
     }
     image.resize(BLOCK_LEN, 0)?;
     Ok(())

@@ -1,11 +1,13 @@
 // Block 0: a mark, the count of blocks, 16 pointers to templates and 32 root slots. Numbers are four bytes, the lowest
 // byte first.
 
-ghost use Rattle.std.specs.Prelude.{◌≡◌, ◌+◌, ◌<◌, ◌≤◌, ◌&&◌, ◌==◌, ℕ};
+ghost use Rattle.std.specs.Prelude.{◌≡◌, ◌+◌, ◌*◌, ◌<◌, ◌≤◌, ◌&&◌, ◌==◌, ℕ};
+ghost use Rattle.std.specs.Int.{w32, to_le_bytes};
 ghost use Rattle.xn_model.specs.Root.{word_at, marked, pointer, slot, with_slot};
 ghost use Rattle.templates.specs.Meaning.{pair_of};
 ghost use Rattle.templates.specs.RootFields.{has_mark, slot_bytes};
 
+use byteorder::{ByteOrder, LittleEndian};
 use udf_run::Pair;
 
 /// The least and the greatest number of blocks that a disk has.
@@ -36,9 +38,7 @@ fn word_at(block: &[u8; 512], at: usize) -> u32
     requires { at + 4 ≤ 512 }
     ensures { result ≡ word_at block.now at }
 {
-    let mut bytes = [0u8; 4];
-    bytes.copy_from_slice(&block[at..at + 4]);
-    u32::from_le_bytes(bytes)
+    LittleEndian::read_u32(&block[at..at + 4])
 }
 
 /// Whether the block begins with block 0's mark.
@@ -65,12 +65,20 @@ pub fn pointer(block: &[u8; 512], i: usize) -> u32
     word_at(block, POINTERS_START + 4 * i)
 }
 
+/// The byte at which the root slot of file system `i`, from 0 to 31, stands.
+pub fn slot_start(i: usize) -> usize
+    requires { i < 32 }
+    ensures { result ≡ 72 + 8 * i }
+{
+    SLOTS_START + 8 * i
+}
+
 /// The root of file system `i`, from 0 to 31, with its type; the slot is empty where the block is 0.
 pub fn root_slot(block: &[u8; 512], i: usize) -> Pair
     requires { i < 32 }
     ensures { pair_of result ≡ slot block.now i }
 {
-    let at = SLOTS_START + 8 * i;
+    let at = slot_start(i);
     Pair {
         block: word_at(block, at),
         ty: word_at(block, at + 4),
@@ -83,7 +91,7 @@ pub fn with_root_slot(block: &[u8; 512], i: usize, root: Pair) -> [u8; 512]
     ensures { result ≡ with_slot block.now i (pair_of root) }
 {
     let mut bytes = *block;
-    let at = SLOTS_START + 8 * i;
+    let at = slot_start(i);
     bytes[at..at + 8].copy_from_slice(&root_bytes(root));
     bytes
 }
@@ -92,7 +100,17 @@ pub fn with_root_slot(block: &[u8; 512], i: usize, root: Pair) -> [u8; 512]
 pub fn root_bytes(root: Pair) -> [u8; 8]
     ensures { result ≡ slot_bytes (pair_of root) }
 {
-    let [a, b, c, d] = root.block.to_le_bytes();
-    let [e, f, g, h] = root.ty.to_le_bytes();
-    [a, b, c, d, e, f, g, h]
+    let mut bytes = [0u8; 8];
+    LittleEndian::write_u32(&mut bytes, root.block);
+    LittleEndian::write_u32(&mut bytes[4..], root.ty);
+    bytes
+}
+
+/// A number as its four bytes.
+pub(crate) fn number_bytes(number: u32) -> [u8; 4]
+    ensures { result ≡ to_le_bytes w32 number }
+{
+    let mut bytes = [0u8; 4];
+    LittleEndian::write_u32(&mut bytes, number);
+    bytes
 }

@@ -5,7 +5,7 @@ use Rattle.templates.proofs.format.write_root.Goals as goal
 pub loop-i-preserved : goal.loop-i-preserved
 loop-i-preserved c =
     c.in_ok-extend_from_slice-3.ensures.items
-    ∙ ((λ j. c.loop-i.invariant j ++ c.to_le_bytes-in-loop-i.ensures j) ∙ sym (root_front-more c.args.blocks c.loop-i.i))
+    ∙ ((λ j. c.loop-i.invariant j ++ c.number_bytes-in-loop-i.ensures j) ∙ sym (root_front-more c.args.blocks c.loop-i.i))
 
 pub returns-clause-items : goal.returns-clause-items
 returns-clause-items c =

@@ -5,5 +5,7 @@ use Rattle.templates.proofs.root.root_slot.Goals as goal
 pub returns : goal.returns
 unfolding slot
 returns c =
-    let at : 72 + 8 * c.args.i + 4 ≡ 76 + 8 * c.args.i = omega arith in
-    λ i. (c.word_at.ensures i, (c.word_at-2.ensures ∙ ap (word_at c.args.block.now) at) i)
+    let m = c.args.block.now in
+    let block = c.slot_start-at.ensures in
+    let ty : c.slot_start-at.result + 4 ≡ 76 + 8 * c.args.i = omega (arith, block) in
+    λ i. ((c.word_at.ensures ∙ ap (word_at m) block) i, (c.word_at-2.ensures ∙ ap (word_at m) ty) i)
