@@ -1,2 +1,4 @@
 pub mod Puts
 pub mod Undoing
+pub mod PieceLists
+pub mod Totals

@@ -1,5 +1,5 @@
 -- What stands in a block after patches, and after the patches that undo them.
-use Rattle.std.proofs.Common.{◌≡◌, ℕ, ◌+◌, ◌-◌, ◌<◌, ◌≤◌, true, ltb, leb, ◌&&◌, List, [], ◌∷◌, length, drop, get_or, refl, sym, ◌∙◌, ap, arith, ◌⊎◌, inl, inr, ⊎_elim, length-drop}
+use Rattle.std.proofs.Common.{◌≡◌, ℕ, zero, suc, ◌+◌, ◌-◌, ◌<◌, ◌≤◌, true, ltb, leb, ◌&&◌, List, [], ◌∷◌, length, drop, get_or, refl, sym, ◌∙◌, ap, arith, ◌⊎◌, inl, inr, ⊎_elim, length-drop}
 use Rattle.std.specs.Prelude.{sum_by}
 use Rattle.std.specs.List.{list_all}
 use Rattle.std.proofs.lemmas.Bool.{and_parts, and_from, leb-true}
@@ -54,7 +54,7 @@ kept_or_covered x (p ∷ ps) k long all =
     (covers_or_misses p k)
 
 -- a patch that undoes another is as long, and so lies within the block too
-length-there : (m : List ℕ) (p : Patch) → length m ≡ 512 → is_patch p ≡ true → length (undo_at m p).bytes ≡ length p.bytes
+pub length-there : (m : List ℕ) (p : Patch) → length m ≡ 512 → is_patch p ≡ true → length (undo_at m p).bytes ≡ length p.bytes
 length-there m p long is =
     let fits = patch_fits p is in
     let rest = length-drop p.offset m in
@@ -122,7 +122,7 @@ patches_of_edit edit within =
     let bytes = and_parts (list_all is_patch edit.patches && leb (sum_by (λ p. length p.bytes) edit.patches) 512) _ behind.1 in
     (and_parts (list_all is_patch edit.patches) _ bytes.0).0
 
-same_total : (m : List ℕ) (ps : List Patch) → length m ≡ 512 → list_all is_patch ps ≡ true →
+pub same_total : (m : List ℕ) (ps : List Patch) → length m ≡ 512 → list_all is_patch ps ≡ true →
     sum_by (λ p. length p.bytes) (undo_of m ps) ≡ sum_by (λ p. length p.bytes) ps
 same_total m [] long all = refl
 same_total m (p ∷ ps) long all =
@@ -139,3 +139,9 @@ undo_within_limits m edit long within =
     let bytes = same_total m edit.patches long all in
     (λ i. (ltb 0 (count i) && leb (count i) 8) && ((are i && leb (bytes i) 512) && (leb (length edit.adds) 16 && leb (length edit.drops) 128)))
     ∙ within
+
+-- one of some patches is one
+pub patch_at : (ps : List Patch) (i : ℕ) (p : Patch) → i < length ps → p ≡ get_or ps i p → list_all is_patch ps ≡ true → is_patch p ≡ true
+patch_at [] i p within is all = absurd (omega arith)
+patch_at (q ∷ ps) zero p within is all = ap is_patch is ∙ (and_parts (is_patch q) (list_all is_patch ps) all).0
+patch_at (q ∷ ps) (suc i) p within is all = patch_at ps i p (omega arith) is (and_parts (is_patch q) (list_all is_patch ps) all).1

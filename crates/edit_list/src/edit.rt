@@ -7,6 +7,7 @@ ghost use Rattle.edit_list.specs.Undo.{undo_of};
 use crate::edit_id::EditId;
 use crate::patch::Patch;
 use crate::patches;
+use crate::undo::Undo;
 use std::alloc::{AllocError, Global};
 use std::marker::Model;
 
@@ -74,12 +75,12 @@ impl Edit {
         patches::apply(&self.patches, bytes);
     }
 
-    /// The patches that undo the edit of a block which has these bytes before it: for each of its patches, in their
-    /// order, one at the same place, with the bytes that the block has there.
-    pub fn undo_of(&self, alloc: Global, bytes: &[u8; 512]) -> Result<Vec<Patch>, AllocError>
+    /// What undoes the edit of a block that has these bytes before it: for each of its patches, in their order, a piece at the
+    /// same place, with the bytes that the block has there.
+    pub fn undo_of(&self, alloc: Global, bytes: &[u8; 512]) -> Result<Undo, AllocError>
         requires { IsTrue (within_limits self.now) }
-        ensures pieces { IfOk result (λ undo. undo.items ≡ undo_of bytes.now self.now.patches) }
-        ensures undone { IfOk result (λ undo. patched (patched bytes.now self.now.patches) undo.items ≡ bytes.now) }
+        ensures pieces { IfOk result (λ undo. undo ≡ undo_of bytes.now self.now.patches) }
+        ensures undone { IfOk result (λ undo. patched (patched bytes.now self.now.patches) undo ≡ bytes.now) }
     {
         patches::undo_of(alloc, &self.patches, bytes)
     }

@@ -1,11 +1,10 @@
 // A patch of a block's bytes.
 
-ghost use Rattle.std.specs.Prelude.{◌≡◌, IfOk, IsTrue};
+ghost use Rattle.std.specs.Prelude.{◌≡◌, IsTrue};
 ghost use Rattle.xn_model.specs.Lists.{put};
 ghost use Rattle.xn_model.specs.Calls.{is_patch};
 ghost use Rattle.edit_list.specs.Undo.{undo_at};
 
-use std::alloc::{AllocError, Global};
 use std::marker::Model;
 
 /// Bytes that a block is to have from an offset on.
@@ -41,16 +40,12 @@ impl Patch {
         bytes[start..start + self.bytes.len()].copy_from_slice(&self.bytes);
     }
 
-    /// The patch at the same place that writes what a block has there now.
-    pub(crate) fn undo(&self, alloc: Global, bytes: &[u8; 512]) -> Result<Patch, AllocError>
+    /// The bytes of a block that it writes over.
+    pub(crate) fn overwritten<'a>(&self, bytes: &'a [u8; 512]) -> &'a [u8]
         requires { IsTrue (is_patch self.now) }
-        ensures { IfOk result (λ undo. undo ≡ undo_at bytes.now self.now) }
+        ensures { result.now ≡ (undo_at bytes.now self.now).bytes }
     {
         let start = usize::from(self.offset);
-        let there = &bytes[start..start + self.bytes.len()];
-        Ok(Patch {
-            offset: self.offset,
-            bytes: there.to_vec(alloc)?,
-        })
+        &bytes[start..start + self.bytes.len()]
     }
 }

@@ -6,6 +6,7 @@ ghost use Rattle.xn_model.specs.Calls.{is_patch, patched};
 ghost use Rattle.edit_list.specs.Undo.{undo_of};
 
 use crate::patch::Patch;
+use crate::undo::Undo;
 use std::alloc::{AllocError, Global};
 
 /// Whether each of the patches has a byte, and none past byte 511 of the block.
@@ -38,18 +39,16 @@ pub fn apply(patches: &[Patch], bytes: &mut [u8; 512])
     }
 }
 
-/// For each of the patches, in their order, the one at the same place that writes what a block has there now.
-pub fn undo_of(
-    alloc: Global,
-    patches: &[Patch],
-    bytes: &[u8; 512],
-) -> Result<Vec<Patch>, AllocError>
-    requires { IsTrue (list_all is_patch patches.now) }
-    ensures { IfOk result (λ undo. undo.items ≡ undo_of bytes.now patches.now) }
+/// What undoes the patches of a block with these bytes: for each of them, in their order, what the block has at its place.
+pub fn undo_of(alloc: Global, patches: &[Patch], bytes: &[u8; 512]) -> Result<Undo, AllocError>
+    requires few { length patches.now ≤ 8 }
+    requires are_patches { IsTrue (list_all is_patch patches.now) }
+    requires short { sum_by (λ p. length p.bytes) patches.now ≤ 512 }
+    ensures { IfOk result (λ undo. undo ≡ undo_of bytes.now patches.now) }
 {
-    let mut undo = Vec::with_capacity(alloc, patches.len())?;
+    let mut undo = Undo::with_capacity(alloc, total_length(patches))?;
     for patch in patches {
-        undo.push_reserved(patch.undo(alloc, bytes)?);
+        undo.push(patch.offset, patch.overwritten(bytes))?;
     }
     Ok(undo)
 }

@@ -76,12 +76,19 @@ fn edited(edit: &Edit, bytes: &[u8; 512]) -> Result<[u8; 512], Fail> {
     Ok(after)
 }
 
-/// The edit that undoes another.
-fn undo_edit(alloc: Global, edit: &Edit, bytes: &[u8; 512]) -> Result<Edit, Fail> {
+/// The block with an edit undone that was made on another.
+fn undone(
+    alloc: Global,
+    edit: &Edit,
+    before: &[u8; 512],
+    after: &[u8; 512],
+) -> Result<[u8; 512], Fail> {
     if !edit.is_within_limits() {
         return Err(Fail::from("not within the limits"));
     }
-    Ok(edit_of(alloc, edit.undo_of(alloc, bytes)?))
+    let mut bytes = *after;
+    edit.undo_of(alloc, before)?.put_back(&mut bytes);
+    Ok(bytes)
 }
 
 /// A block of 7s, with 5 and 6 in its first bytes and 8 in its last.
@@ -164,12 +171,14 @@ fn patches_apply_in_order(rt: HostRuntime) -> Result<(), Fail> {
 
 #[test]
 fn an_undo_has_the_bytes_before_the_edit(rt: HostRuntime) -> Result<(), Fail> {
-    let undo = undo_edit(rt.alloc(), &overlapping(rt.alloc())?, &block())?;
-    assert_eq!(rt; undo.patches.len(), 4);
-    assert!(rt; undo.patches[0].offset == 0);
-    assert!(rt; undo.patches[0].bytes.as_slice() == [5, 6, 7, 7].as_slice());
-    assert!(rt; undo.patches[2].bytes.as_slice() == [6].as_slice());
-    assert!(rt; undo.patches[3].offset == 511);
+    let edit = overlapping(rt.alloc())?;
+    let mut want = [0u8; 512];
+    want[0] = 5;
+    want[1] = 6;
+    want[2] = 7;
+    want[3] = 7;
+    want[511] = 8;
+    assert!(rt; undone(rt.alloc(), &edit, &block(), &[0u8; 512])? == want);
     Ok(())
 }
 
@@ -178,7 +187,6 @@ fn overlapping_patches_are_undone(rt: HostRuntime) -> Result<(), Fail> {
     let edit = overlapping(rt.alloc())?;
     let after = edited(&edit, &block())?;
     assert!(rt; after != block());
-    let undo = undo_edit(rt.alloc(), &edit, &block())?;
-    assert!(rt; edited(&undo, &after)? == block());
+    assert!(rt; undone(rt.alloc(), &edit, &block(), &after)? == block());
     Ok(())
 }

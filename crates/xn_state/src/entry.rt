@@ -3,8 +3,7 @@
 ghost use Rattle.std.specs.Prelude.{◌≡◌, Some, Option, IfOk};
 ghost use Rattle.xn_model.specs.Calls.{first_state};
 
-use crate::fs::Fs;
-use edit_list::EditId;
+use edit_list::{EditId, Fs};
 use std::alloc::{AllocError, Global};
 use std::marker::Model;
 

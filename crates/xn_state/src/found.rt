@@ -1,6 +1,6 @@
 // What a mount finds in an image.
 
-use crate::fs::Fs;
+use edit_list::Fs;
 
 /// A block that is reached from block 0, with its type. `owner` is the block that names it, and `fs` the file system
 /// whose root slot reaches it. Block 0 has no owner, and it and the templates' blocks belong to nobody.

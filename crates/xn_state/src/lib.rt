@@ -4,7 +4,6 @@
 mod claims;
 mod entry;
 mod found;
-mod fs;
 pub mod law;
 mod life;
 mod lives;
@@ -15,8 +14,7 @@ mod state;
 #[cfg(test)]
 mod tests;
 
-pub use edit_list::{Edit, EditId, Patch};
+pub use edit_list::{Edit, EditId, Fs, Patch};
 pub use found::Found;
-pub use fs::Fs;
 pub use state::State;
 pub use xn_model::{Refusal, Status};

@@ -9,7 +9,7 @@ ghost use Rattle.xn_state.specs.Mounts.{found_of};
 
 use crate::entry::Entry;
 use crate::found::Found;
-use crate::fs::Fs;
+use edit_list::Fs;
 use std::alloc::{AllocError, Global};
 use std::marker::Model;
 use xn_model::{Refusal, Status};

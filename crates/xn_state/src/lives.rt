@@ -12,10 +12,10 @@ ghost use Rattle.xn_state.specs.Mounts.{lives_in};
 
 use crate::entry::Entry;
 use crate::found::Found;
-use crate::fs::Fs;
 use crate::life::Life;
 use crate::places;
 use crate::safety::begun_place;
+use edit_list::Fs;
 use std::alloc::{AllocError, Global};
 use std::marker::Model;
 use xn_model::Refusal;

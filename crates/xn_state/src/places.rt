@@ -8,8 +8,8 @@ ghost use Rattle.xn_model.specs.Calls.{pending_in, own_place, settled_place, lif
 ghost use Rattle.xn_state.specs.Kept.{HasFewDrops};
 
 use crate::entry::Entry;
-use crate::fs::Fs;
 use crate::life::Life;
+use edit_list::Fs;
 use std::alloc::AllocError;
 use xn_model::{Refusal, Status};
 

@@ -3,7 +3,7 @@
 ghost use Rattle.std.specs.Prelude.{◌≡◌};
 ghost use Rattle.xn_model.specs.Root.{with_slot};
 
-use crate::fs::Fs;
+use edit_list::Fs;
 use templates::root_bytes;
 use udf_run::Pair;
 

@@ -13,11 +13,10 @@ ghost use Rattle.xn_state.specs.Mounts.{lives_in, AreFound};
 ghost use Rattle.xn_state.specs.States.{StateValue, types_in};
 
 use crate::found::Found;
-use crate::fs::Fs;
 use crate::life::Life;
 use crate::lives::Lives;
 use arrayvec::ArrayVec;
-use edit_list::EditId;
+use edit_list::{EditId, Fs};
 use std::alloc::{AllocError, Global};
 use std::marker::Model;
 use templates::Table;

@@ -9,9 +9,8 @@ ghost use Rattle.xn_state.specs.Proposals.{entry_of};
 ghost use Rattle.xn_state.specs.States.{types_in};
 
 use crate::entry::{Claims, Entry};
-use crate::fs::Fs;
 use crate::state::State;
-use edit_list::EditId;
+use edit_list::{EditId, Fs};
 use xn_model::Refusal;
 
 impl State {

@@ -4,8 +4,8 @@ ghost use Rattle.std.specs.Prelude.{◌≡◌};
 ghost use Rattle.xn_model.specs.Results.{Lends};
 ghost use Rattle.xn_model.specs.Calls.{read_of, kind_of, root_of, pending_of};
 
-use crate::fs::Fs;
 use crate::state::State;
+use edit_list::Fs;
 use templates::root_slot;
 use xn_model::Refusal;
 

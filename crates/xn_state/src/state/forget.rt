@@ -7,9 +7,9 @@ ghost use Rattle.xn_model.specs.Calls.{forget_of, is_untouched};
 ghost use Rattle.xn_state.specs.Forgets.{forget_plan};
 ghost use Rattle.xn_state.specs.States.{StateValue, types_in};
 
-use crate::fs::Fs;
 use crate::life::Life;
 use crate::state::{State, owns_nothing};
+use edit_list::Fs;
 use xn_model::Refusal;
 
 impl State {

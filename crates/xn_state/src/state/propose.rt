@@ -11,10 +11,9 @@ ghost use Rattle.xn_state.specs.Proposals.{bytes_refusal, form_refusal, proposed
 ghost use Rattle.xn_state.specs.States.{types_in};
 
 use crate::claims::{are_as_claimed, are_blocks_distinct, are_distinct};
-use crate::fs::Fs;
 use crate::life::Life;
 use crate::state::{State, is_within_size, owns_nothing};
-use edit_list::{Edit, EditId};
+use edit_list::{Edit, EditId, Fs};
 use templates::Table;
 use xn_model::Refusal;
 

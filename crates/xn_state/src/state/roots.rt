@@ -9,10 +9,9 @@ ghost use Rattle.xn_state.specs.Plans.{make_root_plan};
 ghost use Rattle.xn_state.specs.Proposals.{drop_root_plan};
 ghost use Rattle.xn_state.specs.States.{types_in};
 
-use crate::fs::Fs;
 use crate::root::with_slot;
 use crate::state::State;
-use edit_list::EditId;
+use edit_list::{EditId, Fs};
 use templates::root_slot;
 use udf_run::Pair;
 use xn_model::Refusal;

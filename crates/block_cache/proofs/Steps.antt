@@ -1,0 +1,160 @@
+-- What each call leaves of the places and the slab.
+use Rattle.std.proofs.Common.{◌≡◌, ℕ, zero, suc, ◌^◌, ◌<◌, ◌≤◌, List, [], ◌∷◌, length, take, replicate, Option, Some, None, refl, sym, ◌∙◌, ap, arith, subst, slice_get}
+use Rattle.std.proofs.lemmas.Option.{none-some, same_Some}
+use Rattle.std.proofs.lemmas.List.{length-replicate}
+use Rattle.std.specs.Prelude.{IsTrue, IfSome, is_some, option_map}
+use Rattle.slab.specs.Slab.{Slab, get, Updates}
+use Rattle.xn_model.specs.declared.status.Status.{Status}
+use Rattle.xn_model.specs.Lives as model
+use Rattle.xn_model.specs.Lives.{Life, Lives, life_at, change_at, with_state, settle, settled_at, begun_at, current}
+use Rattle.xn_model.specs.Calls.{life_pending, life_bytes, patched}
+use Rattle.block_cache.specs.declared.entry.Entry.{Entry}
+use Rattle.block_cache.specs.Claims.{state_of}
+use Rattle.block_cache.specs.Cached.{CachedLife}
+use Rattle.block_cache.specs.Undone.{life_of, lives_of}
+use Rattle.block_cache.specs.Kept.{IsApart, AreOf, IsKept, AreKept, place_at, change_place, appended, settled, with_status, with_begun, first_keys}
+use Rattle.block_cache.proofs.Keys.{AreSame, same_keys, take_keys}
+use Rattle.block_cache.proofs.WrittenPlaces.{KeepsOthers, life-life_at}
+use Rattle.block_cache.proofs.Changes.{length-pending, current_of_life, inserted_keeps, removed_keeps, appended_life, appended_kept, settled_life, settled_kept, given_up_life, lives_of-change, kept-change, place_kept, same_slab_keeps}
+
+pub lives_of_free : (slab : Slab Entry) (n : ℕ) → lives_of slab (replicate n None) ≡ replicate n None
+lives_of_free slab zero = refl
+lives_of_free slab (suc n) = ap (λ ls. None ∷ ls) (lives_of_free slab n)
+
+no_life : (n b : ℕ) (l : CachedLife) → slice_get (replicate {A = Option CachedLife} n None) b ≡ Some (Some l) → ⊥
+no_life zero b l e = none-some (Some l) e
+no_life (suc n) zero l e = none-some l (same_Some None (Some l) e)
+no_life (suc n) (suc b) l e = no_life n b l e
+
+pub free_kept : (slab : Slab Entry) (n : ℕ) → n < 2 ^ 32 → AreKept slab (replicate n None)
+free_kept slab n few = record { each = λ b l e. absurd (no_life n b l e); few = omega (arith, few, length-replicate {A = Option CachedLife} n None) }
+
+-- The life at a place
+
+pub life_there : (slab : Slab Entry) (places : List (Option CachedLife)) (lives : Lives) (b : ℕ) (l : CachedLife) → lives_of slab places ≡ lives → Some l ≡ place_at places b →
+    life_at lives b ≡ Some (life_of slab l)
+life_there slab places lives b l view at =
+    ap (λ (ls : Lives). life_at ls b) (sym view) ∙ (life-life_at slab places b ∙ ap (option_map (life_of slab)) (sym at))
+
+pub no_life_there : (slab : Slab Entry) (places : List (Option CachedLife)) (lives : Lives) (b : ℕ) → lives_of slab places ≡ lives → None ≡ place_at places b → life_at lives b ≡ None
+no_life_there slab places lives b view at =
+    ap (λ (ls : Lives). life_at ls b) (sym view) ∙ (life-life_at slab places b ∙ ap (option_map (life_of slab)) (sym at))
+
+some-map : (slab : Slab Entry) (o : Option CachedLife) → is_some (option_map (life_of slab) o) ≡ is_some o
+some-map slab None = refl
+some-map slab (Some l) = refl
+
+pub alive_there : (slab : Slab Entry) (places : List (Option CachedLife)) (lives : Lives) (b : ℕ) → lives_of slab places ≡ lives → IsTrue (is_some (life_at lives b)) →
+    IsTrue (is_some (place_at places b))
+alive_there slab places lives b view alive =
+    sym (some-map slab (place_at places b)) ∙ (ap is_some (sym (life-life_at slab places b) ∙ ap (λ (ls : Lives). life_at ls b) view) ∙ alive)
+
+pub pending_there : (slab : Slab Entry) (places : List (Option CachedLife)) (lives : Lives) (b : ℕ) (l : CachedLife) → AreKept slab places → lives_of slab places ≡ lives →
+    Some l ≡ place_at places b → life_pending (life_at lives b) ≡ length l.keys
+pending_there slab places lives b l kept view at =
+    ap life_pending (life_there slab places lives b l view at) ∙ length-pending slab b l (place_kept slab places b l kept (sym at))
+
+if_some : (o : Option CachedLife) (P : CachedLife → Type 0) → ((l : CachedLife) → Some l ≡ o → P l) → IfSome o P
+if_some None P h = tt
+if_some (Some l) P h = h l refl
+
+pub few_keys : (slab : Slab Entry) (places : List (Option CachedLife)) (lives : Lives) (b k : ℕ) → AreKept slab places → lives_of slab places ≡ lives →
+    k ≤ life_pending (life_at lives b) → IfSome (place_at places b) (λ l. k ≤ length l.keys)
+few_keys slab places lives b k kept view within =
+    let P : CachedLife → Type 0 = λ l. k ≤ length l.keys in
+    if_some (place_at places b) P (λ l at. omega (arith, within, pending_there slab places lives b l kept view at))
+
+-- A slab with more room
+
+pub same_gets : (old mid : Slab Entry) (n : ℕ) → mid ≡ record old { capacity = n } → (k : ℕ) → get mid k ≡ get old k
+same_gets old mid n e k = ap (λ (s : Slab Entry). get s k) e
+
+gets_same : (old mid : Slab Entry) → ((k : ℕ) → get mid k ≡ get old k) → (ks : List ℕ) → AreSame old mid ks
+gets_same old mid same [] = tt
+gets_same old mid same (k ∷ ks) = (same k, gets_same old mid same ks)
+
+pub grown_kept : (old mid : Slab Entry) (places : List (Option CachedLife)) → ((k : ℕ) → get mid k ≡ get old k) → AreKept old places → AreKept mid places
+grown_kept old mid places same kept = record {
+  each = λ b l at. let k = kept.each b l at in record { keys = same_keys old mid b l.keys (gets_same old mid same l.keys) k.keys; few = k.few; begun = k.begun; has_state = k.has_state };
+  few = kept.few;
+}
+
+-- Appending
+
+module _ (old new : Slab Entry) (places : List (Option CachedLife)) (lives : Lives) (b k : ℕ) (e : Entry) (bytes : List ℕ)
+    (kept : AreKept old places) (view : lives_of old places ≡ lives) (vacant : get old k ≡ None) (updates : Updates old new k (Some e)) where
+  keeps : KeepsOthers old new b places
+  keeps = inserted_keeps old new places b k (Some e) kept vacant updates
+
+  pub append_kept : e.block ≡ b → life_pending (life_at lives b) < 64 → AreKept new (change_place places b (appended k bytes))
+  append_kept own room =
+      kept-change old new places b (appended k bytes) kept keeps
+      (λ l at. appended_kept old new b l k e bytes (place_kept old places b l kept at) vacant updates own (omega (arith, room, pending_there old places lives b l kept view (sym at))))
+
+  pub append_view : patched bytes e.undo ≡ life_bytes (life_at lives b) → lives_of new (change_place places b (appended k bytes)) ≡ change_at lives b (with_state (state_of e.claim bytes))
+  append_view back =
+      lives_of-change old new places b (appended k bytes) (with_state (state_of e.claim bytes)) keeps
+      (λ l at.
+      let here = place_kept old places b l kept at in
+      let now = ap life_bytes (life_there old places lives b l view (sym at)) ∙ current_of_life old b l here in
+      appended_life old new b l k e bytes here vacant updates (back ∙ now))
+      ∙ ap (λ (ls : Lives). change_at ls b (with_state (state_of e.claim bytes))) view
+
+-- Status and begun writes
+
+module _ (slab : Slab Entry) (places : List (Option CachedLife)) (lives : Lives) (b : ℕ) (kept : AreKept slab places) (view : lives_of slab places ≡ lives) where
+  pub status_kept : (st : Status) → AreKept slab (change_place places b (with_status st))
+  status_kept st =
+      kept-change slab slab places b (with_status st) kept (same_slab_keeps slab places b)
+      (λ l at. let k = place_kept slab places b l kept at in record { keys = k.keys; few = k.few; begun = k.begun; has_state = k.has_state })
+
+  pub status_view : (st : Status) → lives_of slab (change_place places b (with_status st)) ≡ change_at lives b (model.with_status st)
+  status_view st =
+      lives_of-change slab slab places b (with_status st) (model.with_status st) (same_slab_keeps slab places b) (λ l at. refl)
+      ∙ ap (λ (ls : Lives). change_at ls b (model.with_status st)) view
+
+  pub begun_kept : (k : ℕ) → 1 ≤ k → k ≤ life_pending (life_at lives b) → AreKept slab (change_place places b (with_begun (Some k)))
+  begun_kept k some within =
+      kept-change slab slab places b (with_begun (Some k)) kept (same_slab_keeps slab places b)
+      (λ l at.
+      let here = place_kept slab places b l kept at in
+      record { keys = here.keys; few = here.few; begun = (some, omega (arith, within, pending_there slab places lives b l kept view (sym at))); has_state = here.has_state })
+
+  pub begun_view : (k : ℕ) → lives_of slab (change_place places b (with_begun (Some k))) ≡ begun_at lives b k
+  begun_view k =
+      lives_of-change slab slab places b (with_begun (Some k)) (λ l. record l { begun = Some k }) (same_slab_keeps slab places b) (λ l at. refl)
+      ∙ ap (λ (ls : Lives). begun_at ls b k) view
+
+  pub given_up_kept : AreKept slab (change_place places b (with_begun None))
+  given_up_kept =
+      kept-change slab slab places b (with_begun None) kept (same_slab_keeps slab places b)
+      (λ l at. let k = place_kept slab places b l kept at in record { keys = k.keys; few = k.few; begun = tt; has_state = k.has_state })
+
+  pub given_up_view : lives_of slab (change_place places b (with_begun None)) ≡ settled_at lives b 0
+  given_up_view =
+      lives_of-change slab slab places b (with_begun None) (settle 0) (same_slab_keeps slab places b) (λ l at. given_up_life slab l)
+      ∙ ap (λ (ls : Lives). settled_at ls b 0) view
+
+-- Settling
+
+first_own : (slab : Slab Entry) (b k : ℕ) (o : Option CachedLife) → ((l : CachedLife) → o ≡ Some l → IsKept slab b l) → AreOf slab b (first_keys k o)
+first_own slab b k None kept = tt
+first_own slab b k (Some l) kept = take_keys slab b k l.keys (kept l refl).keys
+
+module _ (old new : Slab Entry) (places : List (Option CachedLife)) (lives : Lives) (b k : ℕ)
+    (kept : AreKept old places) (view : lives_of old places ≡ lives)
+    (others : (q : ℕ) → IsApart q (first_keys k (place_at places b)) → get new q ≡ get old q) where
+  rest : KeepsOthers old new b places
+  rest = removed_keeps old new places b (first_keys k (place_at places b)) kept (first_own old b k (place_at places b) (λ l at. place_kept old places b l kept at)) others
+
+  own : (l : CachedLife) → place_at places b ≡ Some l → (q : ℕ) → IsApart q (take k l.keys) → get new q ≡ get old q
+  own l at q apart = others q (let P : Option CachedLife → Type 0 = λ o. IsApart q (first_keys k o) in subst P (sym at) apart)
+
+  pub settle_kept : AreKept new (change_place places b (settled k))
+  settle_kept = kept-change old new places b (settled k) kept rest (λ l at. settled_kept old new b l k (place_kept old places b l kept at) (own l at))
+
+  pub settle_view : 1 ≤ k → k ≤ life_pending (life_at lives b) → lives_of new (change_place places b (settled k)) ≡ settled_at lives b k
+  settle_view some within =
+      lives_of-change old new places b (settled k) (settle k) rest
+      (λ l at. settled_life old new b l k (place_kept old places b l kept at) some (omega (arith, within, pending_there old places lives b l kept view (sym at))) (own l at))
+      ∙ ap (λ (ls : Lives). settled_at ls b k) view

@@ -1,0 +1,74 @@
+-- What is kept beside the bytes and the entries.
+use Rattle.std.specs.Prelude.{◌≡◌, ◌≢◌, ℕ, ◌^◌, ◌<◌, ◌≤◌, List, [], ◌∷◌, ◌++◌, length, take, drop, true, false, Option, Some, None, slice_get, slice_set, unwrap_or, option_map, IsTrue, ◌||◌, nat_lt}
+use Rattle.slab.specs.Slab.{Slab, get}
+use Rattle.xn_model.specs.declared.status.Status.{Status}
+use Rattle.xn_model.specs.declared.status.Status.TheVariants.{Fresh}
+use Rattle.xn_model.specs.Rules.{IsCount}
+use Rattle.block_cache.specs.declared.entry.Entry.{Entry}
+use Rattle.block_cache.specs.Cached.{CachedLife}
+
+-- the key has an entry of this block
+pub record IsOf (slab : Slab Entry) (block key : ℕ) : Type 0 where
+  pub entry : Entry
+  pub there : get slab key ≡ Some entry
+  pub own : entry.block ≡ block
+
+-- the key is none of these
+abbrev pub IsApart : ℕ → List ℕ → Type 0
+IsApart k [] = Unit {0}
+IsApart k (q ∷ qs) = (q ≢ k) × IsApart k qs
+
+-- each key has an entry of this block, and stands once
+abbrev pub AreOf : Slab Entry → ℕ → List ℕ → Type 0
+AreOf slab b [] = Unit {0}
+AreOf slab b (k ∷ ks) = IsOf slab b k × IsApart k ks × AreOf slab b ks
+
+-- a life has a state, and few pending ones
+pub record IsKept (slab : Slab Entry) (block : ℕ) (life : CachedLife) : Type 0 where
+  pub keys : AreOf slab block life.keys
+  pub few : length life.keys ≤ 64
+  pub begun : IsCount life.begun (length life.keys)
+  pub has_state : IsTrue (life.is_durable || nat_lt 0 (length life.keys))
+
+-- so it is at each place, and a block has a number
+pub record AreKept (slab : Slab Entry) (places : List (Option CachedLife)) : Type 0 where
+  pub each : (b : ℕ) (l : CachedLife) → slice_get places b ≡ Some (Some l) → IsKept slab b l
+  pub few : length places < 2 ^ 32
+
+-- the life at a place, and the places with it changed
+abbrev pub place_at : List (Option CachedLife) → ℕ → Option CachedLife
+place_at places b = unwrap_or (slice_get places b) None
+
+abbrev pub change_place : List (Option CachedLife) → ℕ → (CachedLife → CachedLife) → List (Option CachedLife)
+change_place places b f = slice_set places b (option_map f (place_at places b))
+
+-- What a start leaves
+
+abbrev pub started : ℕ → ℕ → ℕ → List ℕ → CachedLife
+started k fs ty bytes = record { fs = Some fs; ty = ty; status = Fresh; current = bytes; is_durable = false; keys = k ∷ []; begun = None }
+
+abbrev pub resting : Option ℕ → ℕ → Status → List ℕ → CachedLife
+resting fs ty status bytes = record { fs = fs; ty = ty; status = status; current = bytes; is_durable = true; keys = []; begun = None }
+
+-- What a change leaves
+
+abbrev pub appended : ℕ → List ℕ → CachedLife → CachedLife
+appended k bytes l = record l { current = bytes; keys = l.keys ++ k ∷ [] }
+
+abbrev pub settled : ℕ → CachedLife → CachedLife
+settled k l = record l { is_durable = true; keys = drop k l.keys; begun = None }
+
+abbrev pub with_status : Status → CachedLife → CachedLife
+with_status status l = record l { status = status }
+
+abbrev pub with_begun : Option ℕ → CachedLife → CachedLife
+with_begun begun l = record l { begun = begun }
+
+-- the keys of the first entries of a life, if there is one
+abbrev pub first_keys : ℕ → Option CachedLife → List ℕ
+first_keys k None = []
+first_keys k (Some l) = take k l.keys
+
+abbrev pub keys_of : Option CachedLife → List ℕ
+keys_of None = []
+keys_of (Some l) = l.keys

@@ -1,0 +1,282 @@
+// What each block has been since it was last free.
+
+ghost use Rattle.std.specs.Prelude.{◌≡◌, ℕ, ◌+◌, ◌<◌, ◌≤◌, [], ◌∷◌, length, replicate, Option, Some, None, IsTrue, IfOk, IfSome, OnOk, OnErr, is_some, option_map, slice_get, slice_set};
+ghost use Rattle.std.specs.Option.{option_copied, option_and_then};
+ghost use Rattle.slab.specs.Slab.{get};
+ghost use Rattle.xn_model.specs.Lives.{life_at, change_at, with_state, with_status, settled_at, begun_at, current, alive_and, is_for};
+ghost use Rattle.xn_model.specs.Calls.{new_life, life_bytes, life_pending, patched};
+ghost use Rattle.xn_model.specs.Rules.{IsCount};
+ghost use Rattle.block_cache.specs.Claims.{state_of, claim_of};
+ghost use Rattle.block_cache.specs.Kept.{IsApart, first_keys, keys_of};
+ghost use Rattle.block_cache.specs.Views.{image_at, HasImage, facts_of, pending_at, life_at_rest};
+
+use crate::claim::Claim;
+use crate::entry::Entry;
+use crate::life::{Facts, Life};
+use crate::places::Places;
+use crate::rollback;
+use edit_list::{EditId, Fs, Undo};
+use slab::Slab;
+use std::alloc::{AllocError, Global};
+use std::marker::Model;
+use xn_model::Status;
+
+/// What each block has been since it was last free, by block number: of each life the newest bytes, and of each pending
+/// entry the bytes that it overwrote.
+#[derive(Drop)]
+pub struct Cache {
+    places: Places,
+    entries: Slab<Entry>,
+}
+
+impl Model for Cache {
+    ghost use Rattle.xn_model.specs.Lives.{Lives};
+    ghost use Rattle.block_cache.specs.Undone.{lives_of};
+    ghost use Rattle.block_cache.specs.Kept.{AreKept};
+
+    ghost Value = { Lives };
+
+    ghost view = { λ a. lives_of a.entries a.places };
+
+    ghost invariant = { λ a. AreKept a.entries a.places };
+}
+
+impl Cache {
+    /// So many free blocks.
+    pub fn new(alloc: Global, blocks: u32) -> Result<Cache, AllocError>
+        ensures { IfOk result (λ cache. cache ≡ replicate blocks None) }
+    {
+        Ok(Cache {
+            places: Places::new(alloc, blocks as usize)?,
+            entries: Slab::new(alloc),
+        })
+    }
+
+    /// A block that is found in an image, whose one state is on the disk.
+    pub fn found(
+        &mut self,
+        alloc: Global,
+        block: u32,
+        fs: Option<Fs>,
+        ty: u32,
+        status: Status,
+        bytes: &[u8; 512],
+    )
+        ensures { self.new ≡ slice_set self.old block (Some (life_at_rest (option_map (λ f. f.number) fs) ty status bytes.now)) }
+    {
+        self.places
+            .set(block, Some(Life::found(alloc, fs, ty, status, bytes)));
+    }
+
+    /// Starts a life on a free block.
+    pub fn start(
+        &mut self,
+        alloc: Global,
+        block: u32,
+        number: EditId,
+        fs: Fs,
+        ty: u32,
+        bytes: &[u8; 512],
+    ) -> Result<(), AllocError>
+        requires { slice_get self.old block ≡ Some None }
+        ensures ok { OnOk result (self.new ≡ slice_set self.old block (Some (new_life number fs.number ty bytes.now))) }
+        ensures err { OnErr result (self.new ≡ self.old) }
+    {
+        self.entries.reserve(1)?;
+        let key = self.entries.vacant_key();
+        let life = Life::start(alloc, key, fs, ty, bytes)?;
+        self.entries.insert_reserved(Entry {
+            block,
+            claim: Claim::first(alloc, number, fs),
+            undo: Undo::none(alloc),
+        });
+        self.places.set(block, Some(life));
+        Ok(())
+    }
+
+    /// Ends the life of a block, which is free from then on.
+    pub fn end(&mut self, block: u32)
+        ensures { self.new ≡ slice_set self.old block None }
+    {
+        let life = self.places.life(block);
+        forget_all(&mut self.entries, life);
+        self.places.set(block, None);
+    }
+
+    /// How many blocks there are.
+    pub fn blocks(&self) -> u32
+        ensures { result ≡ length self.now }
+    {
+        self.places.count() as u32
+    }
+
+    /// Whether there is a block of this number.
+    fn has_block(&self, block: u32) -> bool
+        ensures { result ≡ is_some (slice_get self.now block) }
+    {
+        block < self.blocks()
+    }
+
+    /// What is known of a block in use beside its bytes. At most 64 entries are pending.
+    pub fn facts(&self, block: u32) -> Option<Facts>
+        ensures facts { result ≡ option_map facts_of (life_at self.now block) }
+        ensures few { IfSome result (λ facts. facts.pending ≤ 64) }
+        ensures begun { IfSome result (λ facts. IsCount facts.begun facts.pending) }
+    {
+        let life = self.places.life(block)?;
+        Some(life.facts())
+    }
+
+    /// What is known of a block, which may be free: `None` where there is no block of this number.
+    pub fn place(&self, block: u32) -> Option<Option<Facts>>
+        ensures { result ≡ option_map (option_map facts_of) (slice_get self.now block) }
+    {
+        if !self.has_block(block) {
+            return None;
+        }
+        Some(self.facts(block))
+    }
+
+    /// How many entries of a block are pending, at most 64.
+    pub fn pending(&self, block: u32) -> usize
+        ensures count { result ≡ life_pending (life_at self.now block) }
+        ensures few { result ≤ 64 }
+    {
+        match self.facts(block) {
+            Some(facts) => facts.pending,
+            None => 0,
+        }
+    }
+
+    /// Whether a block is in use and belongs to a file system.
+    pub fn is_for(&self, block: u32, fs: Fs) -> bool
+        ensures { result ≡ alive_and (λ l. is_for fs.number l.fs) (life_at self.now block) }
+    {
+        match self.places.life(block) {
+            Some(life) => life.is_for(fs),
+            None => false,
+        }
+    }
+
+    /// What the pending entry at a place says, the oldest at 0.
+    pub fn claim(&self, block: u32, place: usize) -> Option<&Claim>
+        ensures { option_copied result ≡ option_map claim_of (slice_get (pending_at (life_at self.now block)) place) }
+    {
+        let life = self.places.life(block)?;
+        let entry = entry_at(&self.entries, life.keys(), place)?;
+        Some(&entry.claim)
+    }
+
+    /// The newest bytes of a block in use.
+    pub fn current(&self, block: u32) -> Option<&[u8; 512]>
+        ensures { option_copied result ≡ option_map current (life_at self.now block) }
+    {
+        let life = self.places.life(block)?;
+        Some(life.current())
+    }
+
+    /// The bytes of a block in use with only its first pending entries done.
+    pub fn image_of(&self, block: u32, count: u32) -> Option<[u8; 512]>
+        requires { IfSome (life_at self.now block) (HasImage count) }
+        ensures { result ≡ option_map (image_at count) (life_at self.now block) }
+    {
+        let life = self.places.life(block)?;
+        Some(rollback::image_of(&self.entries, life, count as usize))
+    }
+
+    /// One more edit of a block in use, which leaves these bytes, and the bytes that it overwrites.
+    pub fn append(
+        &mut self,
+        block: u32,
+        claim: Claim,
+        bytes: &[u8; 512],
+        undo: Undo,
+    ) -> Result<(), AllocError>
+        requires alive { IsTrue (is_some (life_at self.old block)) }
+        requires room { life_pending (life_at self.old block) < 64 }
+        requires undoes { patched bytes.now undo ≡ life_bytes (life_at self.old block) }
+        ensures ok { OnOk result (self.new ≡ change_at self.old block (with_state (state_of claim bytes.now))) }
+        ensures err { OnErr result (self.new ≡ self.old) }
+    {
+        self.entries.reserve(1)?;
+        let key = self.entries.vacant_key();
+        self.places.append(block, key, bytes)?;
+        self.entries.insert_reserved(Entry { block, claim, undo });
+        Ok(())
+    }
+
+    /// Sets the status of a block in use.
+    pub fn set_status(&mut self, block: u32, status: Status)
+        ensures { self.new ≡ change_at self.old block (with_status status) }
+    {
+        self.places.set_status(block, status);
+    }
+
+    /// Begins a write of a block that carries its first entries.
+    pub fn begin(&mut self, block: u32, count: u32)
+        requires some { 1 ≤ count }
+        requires within { count ≤ life_pending (life_at self.old block) }
+        ensures { self.new ≡ begun_at self.old block count }
+    {
+        self.places.set_begun(block, Some(count));
+    }
+
+    /// Ends a write of a block that made its first entries durable: those are forgotten, and the newest bytes stay. With
+    /// none the write is given up.
+    pub fn settle(&mut self, block: u32, count: u32)
+        requires { count ≤ life_pending (life_at self.old block) }
+        ensures { self.new ≡ settled_at self.old block count }
+    {
+        if count == 0 {
+            self.places.set_begun(block, None);
+        } else {
+            self.make_durable(block, count);
+        }
+    }
+
+    fn make_durable(&mut self, block: u32, count: u32)
+        requires some { 1 ≤ count }
+        requires within { count ≤ life_pending (life_at self.old block) }
+        ensures { self.new ≡ settled_at self.old block count }
+    {
+        let life = self.places.life(block);
+        forget_first(&mut self.entries, life, count as usize);
+        self.places.settle(block, count);
+    }
+}
+
+/// The entry under the key at a place.
+fn entry_at<'a>(entries: &'a Slab<Entry>, keys: &[usize], place: usize) -> Option<&'a Entry>
+    ensures { option_copied result ≡ option_and_then (get entries.now) (slice_get keys.now place) }
+{
+    let key = keys.get(place)?;
+    entries.get(*key)
+}
+
+/// Forgets the first entries of a life.
+fn forget_first(entries: &mut Slab<Entry>, life: Option<&Life>, count: usize)
+    requires { IfSome (option_copied life) (λ life. count ≤ length life.keys) }
+    ensures { (k : ℕ) → IsApart k (first_keys count (option_copied life.entry)) → get entries.new k ≡ get entries.old k }
+{
+    if let Some(life) = life {
+        forget(entries, &life.keys()[..count]);
+    }
+}
+
+/// Forgets the entries of a life.
+fn forget_all(entries: &mut Slab<Entry>, life: Option<&Life>)
+    ensures { (k : ℕ) → IsApart k (keys_of (option_copied life.entry)) → get entries.new k ≡ get entries.old k }
+{
+    if let Some(life) = life {
+        forget(entries, life.keys());
+    }
+}
+
+/// Forgets the entries under these keys.
+fn forget(entries: &mut Slab<Entry>, keys: &[usize])
+    ensures { (k : ℕ) → IsApart k keys.now → get entries.new k ≡ get entries.old k }
+{
+    for key in keys {
+        drop(entries.try_remove(*key));
+    }
+}

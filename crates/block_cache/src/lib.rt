@@ -1,0 +1,16 @@
+//! What each block has been since it was last free, kept as its newest bytes and what undoes its pending entries.
+#![tactic(auto)]
+
+mod cache;
+mod claim;
+mod entry;
+mod freeing;
+mod life;
+mod places;
+mod rollback;
+
+pub use cache::Cache;
+pub use claim::Claim;
+pub use edit_list::{EditId, Fs, Undo};
+pub use life::Facts;
+pub use xn_model::Status;

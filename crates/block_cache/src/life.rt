@@ -1,0 +1,215 @@
+// What a block in use holds.
+
+ghost use Rattle.std.specs.Prelude.{◌≡◌, ◌≤◌, ◌&&◌, ◌==◌, true, false, is_some, [], ◌∷◌, ◌++◌, length, drop, option_map, Some, None, IfOk, OnOk, OnErr};
+ghost use Rattle.xn_model.specs.Lives.{is_dropped, is_for, is_fresh, is_owned_by};
+ghost use Rattle.block_cache.specs.Kept.{started, resting};
+
+use edit_list::Fs;
+use std::alloc::{AllocError, Global};
+use std::marker::Model;
+use xn_model::Status;
+
+/// What a block in use holds: its newest bytes, whether a state of it is on the disk, and the keys of its pending entries,
+/// the oldest first.
+#[derive(Drop)]
+pub struct Life {
+    fs: Option<Fs>,
+    ty: u32,
+    status: Status,
+    current: [u8; 512],
+    is_durable: bool,
+    keys: Vec<usize>,
+    begun: Option<u32>,
+}
+
+impl Model for Life {
+    ghost use Rattle.std.specs.Prelude.{option_map};
+    ghost use Rattle.block_cache.specs.Cached.{CachedLife};
+
+    ghost Value = { CachedLife };
+
+    ghost view = { λ a. record {
+      fs = option_map (λ f. f.number) a.fs;
+      ty = a.ty;
+      status = a.status;
+      current = a.current;
+      is_durable = a.is_durable;
+      keys = a.keys.items;
+      begun = a.begun;
+    } };
+}
+
+/// What is known of a block in use beside its bytes: its type and status, whether a state of it is on the disk, how many
+/// entries are pending, and how many of those a begun write carries.
+#[derive(Clone, Copy, Debug, PartialEq, Eq)]
+pub struct Facts {
+    pub ty: u32,
+    pub status: Status,
+    pub is_durable: bool,
+    pub pending: usize,
+    pub begun: Option<u32>,
+}
+
+impl Facts {
+    /// Whether no owner has ever named the block.
+    pub fn is_fresh(&self) -> bool
+        ensures { result ≡ is_fresh self.now.status }
+    {
+        match self.status {
+            Status::Fresh => true,
+            Status::Owned(_) => false,
+            Status::Dropped(_) => false,
+        }
+    }
+
+    /// Whether its owner has dropped the block, and the drop isn't durable yet.
+    pub fn is_dropped(&self) -> bool
+        ensures { result ≡ is_dropped self.now.status }
+    {
+        match self.status {
+            Status::Fresh => false,
+            Status::Owned(_) => false,
+            Status::Dropped(_) => true,
+        }
+    }
+
+    /// Whether this block owns the block, by its newest state.
+    pub fn is_owned_by(&self, owner: u32) -> bool
+        ensures { result ≡ is_owned_by owner self.now.status }
+    {
+        match self.status {
+            Status::Fresh => false,
+            Status::Owned(by) => by == owner,
+            Status::Dropped(_) => false,
+        }
+    }
+
+    /// Whether a write of the block is under way.
+    pub fn is_in_flight(&self) -> bool
+        ensures { result ≡ is_some self.now.begun }
+    {
+        self.begun.is_some()
+    }
+
+    /// Whether the newest state of the block is known to be on the disk.
+    pub fn is_all_durable(&self) -> bool
+        ensures { result ≡ (self.now.is_durable && self.now.pending == 0) }
+    {
+        self.is_durable && self.pending == 0
+    }
+}
+
+impl Life {
+    /// A life that no owner names, with its first entry.
+    pub fn start(
+        alloc: Global,
+        key: usize,
+        fs: Fs,
+        ty: u32,
+        bytes: &[u8; 512],
+    ) -> Result<Life, AllocError>
+        ensures { IfOk result (λ life. life ≡ started key fs.number ty bytes.now) }
+    {
+        let mut keys = Vec::with_capacity(alloc, 1)?;
+        keys.push_reserved(key);
+        Ok(Life {
+            fs: Some(fs),
+            ty,
+            status: Status::Fresh,
+            current: *bytes,
+            is_durable: false,
+            keys,
+            begun: None,
+        })
+    }
+
+    /// The life of a block whose one state is on the disk.
+    pub fn found(alloc: Global, fs: Option<Fs>, ty: u32, status: Status, bytes: &[u8; 512]) -> Life
+        ensures { result ≡ resting (option_map (λ f. f.number) fs) ty status bytes.now }
+    {
+        Life {
+            fs,
+            ty,
+            status,
+            current: *bytes,
+            is_durable: true,
+            keys: Vec::new(alloc),
+            begun: None,
+        }
+    }
+
+    /// Whether the block belongs to a file system.
+    pub fn is_for(&self, fs: Fs) -> bool
+        ensures { result ≡ is_for fs.number self.now.fs }
+    {
+        match self.fs {
+            Some(owner) => owner.number() == fs.number(),
+            None => false,
+        }
+    }
+
+    pub fn facts(&self) -> Facts
+        ensures { result ≡ record {
+          ty = self.now.ty;
+          status = self.now.status;
+          is_durable = self.now.is_durable;
+          pending = length self.now.keys;
+          begun = self.now.begun;
+        } }
+    {
+        Facts {
+            ty: self.ty,
+            status: self.status,
+            is_durable: self.is_durable,
+            pending: self.keys.len(),
+            begun: self.begun,
+        }
+    }
+
+    /// The keys of the pending entries, the oldest first.
+    pub fn keys(&self) -> &[usize]
+        ensures { result.now ≡ self.now.keys }
+    {
+        self.keys.as_slice()
+    }
+
+    /// The newest bytes.
+    pub fn current(&self) -> &[u8; 512]
+        ensures { result.now ≡ self.now.current }
+    {
+        &self.current
+    }
+
+    /// Puts one more entry behind the others, which left these bytes.
+    pub fn append(&mut self, key: usize, bytes: &[u8; 512]) -> Result<(), AllocError>
+        ensures ok { OnOk result (self.new ≡ record self.old { current = bytes.now; keys = self.old.keys ++ key ∷ [] }) }
+        ensures err { OnErr result (self.new ≡ self.old) }
+    {
+        self.keys.push(key)?;
+        self.current = *bytes;
+        Ok(())
+    }
+
+    /// Makes the first entries durable.
+    pub fn settle(&mut self, count: usize)
+        requires { count ≤ length self.old.keys }
+        ensures { self.new ≡ record self.old { is_durable = true; keys = drop count self.old.keys; begun = None } }
+    {
+        drop(self.keys.drain(..count));
+        self.is_durable = true;
+        self.begun = None;
+    }
+
+    pub fn set_status(&mut self, status: Status)
+        ensures { self.new ≡ record self.old { status = status } }
+    {
+        self.status = status;
+    }
+
+    /// Says how many entries a begun write carries, or that none is under way.
+    pub fn set_begun(&mut self, begun: Option<u32>)
+        ensures { self.new ≡ record self.old { begun = begun } }
+    {
+        self.begun = begun;
+    }
+}
