@@ -9,3 +9,4 @@ pub mod Forgetting
 pub mod Finding
 pub mod FreshDisks
 pub mod Answering
+pub mod Pending
