@@ -37,7 +37,7 @@ sum_lt (x ∷ xs) (y ∷ ys) zero e lt h s = let rest = sum_le xs ys (omega arit
 sum_lt (x ∷ xs) (y ∷ ys) (suc b) e lt h s = let here = h 0 in let rest = sum_lt xs ys b (omega arith) (omega arith) (λ c. h (suc c)) s in omega arith
 
 -- one of several has something pending
-sum_some : (xs : Lives) → 1 ≤ all_pending xs → (b : ℕ) × (l : Life) × (life_at xs b ≡ Some l) × (1 ≤ length l.pending)
+pub sum_some : (xs : Lives) → 1 ≤ all_pending xs → (b : ℕ) × (l : Life) × (life_at xs b ≡ Some l) × (1 ≤ length l.pending)
 sum_some [] h = absurd (omega arith)
 sum_some (None ∷ xs) h = let r = sum_some xs (omega arith) in (suc r.0, r.1, r.2, r.3)
 sum_some (Some l ∷ xs) h = elim (cases_lt 0 (length l.pending)) [
@@ -53,7 +53,7 @@ ready_life lives (Some l) e =
     let parts = and_parts (is_none l.begun) (nat_lt 0 (prefix_of lives (Some l))) e in
     (l, refl, none_from l.begun (not-true (is_some l.begun) parts.0), let lt = ltb-true 0 (prefix_of lives (Some l)) parts.1 in omega arith)
 
-picked_life : (state : StoreState) (b : ℕ) → pick_of state ≡ Some b → (l : Life) × (life_at state.lives b ≡ Some l) × (l.begun ≡ None) × (1 ≤ prefix_of state.lives (Some l))
+pub picked_life : (state : StoreState) (b : ℕ) → pick_of state ≡ Some b → (l : Life) × (life_at state.lives b ≡ Some l) × (l.begun ≡ None) × (1 ≤ prefix_of state.lives (Some l))
 picked_life state b e =
     let r = position-Some (is_ready state.lives) state.lives b None e in
     ready_life state.lives (life_at state.lives b) (ap (is_ready state.lives) (unwrap_or-slice_get state.lives b None) ∙ r.1)
@@ -184,12 +184,12 @@ module _ (w : World) (h : Holds w) (idle : IsIdle w.state.lives) (b : ℕ) (l : 
       (length_revised (λ c o. option_map (bared b c) o) (free ended mid) ∙ (length_revised (λ c o. cond (has_number ended c) None o) mid ∙ (length_revised (λ c o. option_map (settled b k c) o) began.state.lives ∙ length_revised (λ c o. option_map (with_begun b (Some k) c) o) w.state.lives)))
       (in_range w.types w.state h.state b l alive) (λ c. let e = bared_pending c in let le = less c in omega arith) (let e = bared_pending b in let lt = less_here in omega arith)
 
-  round_ends : IsIdle (write_out w b).state.lives × (all_pending (write_out w b).state.lives < all_pending w.state.lives)
+  pub round_ends : IsIdle (write_out w b).state.lives × (all_pending (write_out w b).state.lives < all_pending w.state.lives)
   round_ends = subst (λ (x : World). IsIdle x.state.lives × (all_pending x.state.lives < all_pending w.state.lives)) (sym round) (bared_idle, fewer)
 
 -- All rounds
 
-first : (xs : List BlockState) → 1 ≤ length xs → (s : BlockState) × Contains xs s
+pub first : (xs : List BlockState) → 1 ≤ length xs → (s : BlockState) × Contains xs s
 first [] le = absurd (omega arith)
 first (x ∷ xs) le = (x, Contains-head x xs)
 

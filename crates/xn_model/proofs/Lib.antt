@@ -26,6 +26,7 @@ pub mod LaneCalls
 pub mod Runs
 pub mod Least
 pub mod Drains
+pub mod Rounds
 pub mod FoundBlocks
 pub mod Walk
 pub mod Acts

@@ -12,3 +12,4 @@ pub mod Lanes
 pub mod Flights
 pub mod BareDisks
 pub mod Rows
+pub mod Refusals

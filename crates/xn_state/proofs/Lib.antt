@@ -8,3 +8,5 @@ pub mod Proposing
 pub mod Forgetting
 pub mod Finding
 pub mod FreshDisks
+pub mod Answering
+pub mod Pending

@@ -4,3 +4,4 @@ pub mod Forgets
 pub mod States
 pub mod Mounts
 pub mod Proposals
+pub mod Answers

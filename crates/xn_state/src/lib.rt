@@ -1,6 +1,8 @@
 // The state of a store without its disk: what each block has been since it was last free.
 #![tactic(auto)]
 
+mod answer;
+mod call;
 mod claims;
 mod entry;
 mod found;
@@ -11,10 +13,14 @@ mod places;
 mod root;
 mod safety;
 mod state;
+mod store;
 #[cfg(test)]
 mod tests;
 
+pub use answer::{Answer, Landed, Stopped};
+pub use call::Call;
 pub use edit_list::{Edit, EditId, Fs, Patch};
 pub use found::Found;
 pub use state::State;
+pub use store::Store;
 pub use xn_model::{Refusal, Status};

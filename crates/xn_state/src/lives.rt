@@ -21,6 +21,7 @@ use std::marker::Model;
 use xn_model::Refusal;
 
 mod forget;
+mod ready;
 
 /// The lives of all blocks, by block number. How many pending entries count for a file system, and where
 /// the search for a free block starts, is kept beside them, so that no call walks all lives for it.

@@ -86,7 +86,7 @@ fn is_safe(lives: &[Option<Life>], earlier: &[Entry], entry: &Entry) -> bool
 }
 
 /// How many pending entries of a block, from the first on, are safe.
-fn safe_count(lives: &[Option<Life>], life: &Life) -> u32
+pub fn safe_count(lives: &[Option<Life>], life: &Life) -> u32
     ensures count { result ≡ safe_count lives.now [] life.now.pending }
     ensures within { result ≤ length life.now.pending }
 {

@@ -26,7 +26,9 @@ use xn_model::Refusal;
 mod accept;
 mod answers;
 mod forget;
+mod idle;
 mod propose;
+mod ready;
 mod roots;
 
 /// What a store knows of its blocks, beside the disk.
