@@ -11,6 +11,7 @@ use crate::merge::merge_into;
 use crate::rows::check_word;
 use crate::split::{split_equal, split_less};
 use crate::written::{forget, written_by};
+use std::ops::Range;
 use udf_code::word::{Register, Turns, Word};
 
 /// Checks the words of a block.
@@ -64,7 +65,7 @@ fn check_part(
             Ok(other) => check_branches(words, targets, at, to, role, counters, intervals, other),
             Err(kind) => Err(VerifyFault { at, kind }),
         },
-        Word::For(a, n) => check_turns(words, targets, at, to, a, n, role, counters, intervals),
+        Word::For(a, n) => check_turns(words, targets, at..to, a, n, role, counters, intervals),
         _ => {
             check_word(at, word, role, counters, intervals)?;
             Ok(at + 1)
@@ -108,28 +109,28 @@ fn check_branches(
     }
 }
 
-/// Checks a FOR and its body, and says where to go on.
+/// Checks a FOR, with which a part of a block begins, and its body, and says where to go on.
 #[cycle(check)]
 fn check_turns(
     words: &[Word],
     targets: &[u8],
-    at: usize,
-    to: usize,
+    part: Range<usize>,
     a: Register,
     n: Turns,
     role: Role,
     counters: &[bool; 16],
     intervals: &mut [Interval; 16],
 ) -> Result<usize, VerifyFault>
-    requires stands { slice_get words.now at ≡ Some (For a n) }
-    requires more { at < to }
-    requires checks { (answer : Answer) × Checks words.now targets.now at to role counters.now intervals.old answer }
-    ensures onward { IfOk result (λ next. at < next) }
-    ensures same { (answer : Answer) → Checks words.now targets.now at to role counters.now intervals.old answer
+    requires stands { slice_get words.now part.start ≡ Some (For a n) }
+    requires more { part.start < part.end }
+    requires checks { (answer : Answer) × Checks words.now targets.now part.start part.end role counters.now intervals.old answer }
+    ensures onward { IfOk result (λ next. part.start < next) }
+    ensures same { (answer : Answer) → Checks words.now targets.now part.start part.end role counters.now intervals.old answer
         → MatchResult result
-        (λ next. Checks words.now targets.now next to role counters.now intervals.new answer)
+        (λ next. Checks words.now targets.now next part.end role counters.now intervals.new answer)
         (λ fault. answer ≡ Err fault) }
 {
+    let at = part.start;
     let counter = a.index();
     if counters[counter] {
         return Err(VerifyFault {

@@ -160,7 +160,7 @@ pub check_turns-slice_bounds-inside-count : goal.check_turns-slice_bounds-inside
 check_turns-slice_bounds-inside-count t c =
     let l = at_for _ _ _ _ _ _ _ _ c.requires.more _ _ c.requires.stands c.requires.checks.1 in
     let s = is_short _ _ _ _ _ _ _ _ c.requires.more c.requires.checks.1 in
-    let h : get_or c.args.targets.now c.args.at 0 < length c.args.words.now = within_list _ _ _ l.ending in
+    let h : get_or c.args.targets.now c.args.part.start 0 < length c.args.words.now = within_list _ _ _ l.ending in
     let k = l.closes in
     omega (arith, l.before)
 
@@ -168,7 +168,7 @@ pub check_turns-slice_bounds-inside-start : goal.check_turns-slice_bounds-inside
 check_turns-slice_bounds-inside-start t c =
     let l = at_for _ _ _ _ _ _ _ _ c.requires.more _ _ c.requires.stands c.requires.checks.1 in
     let s = is_short _ _ _ _ _ _ _ _ c.requires.more c.requires.checks.1 in
-    let h : get_or c.args.targets.now c.args.at 0 < length c.args.words.now = within_list _ _ _ l.ending in
+    let h : get_or c.args.targets.now c.args.part.start 0 < length c.args.words.now = within_list _ _ _ l.ending in
     let k = l.closes in
     omega (arith, l.before)
 
@@ -176,7 +176,7 @@ pub check_turns-slice_bounds-inside-end : goal.check_turns-slice_bounds-inside-e
 check_turns-slice_bounds-inside-end t c =
     let l = at_for _ _ _ _ _ _ _ _ c.requires.more _ _ c.requires.stands c.requires.checks.1 in
     let s = is_short _ _ _ _ _ _ _ _ c.requires.more c.requires.checks.1 in
-    let h : get_or c.args.targets.now c.args.at 0 < length c.args.words.now = within_list _ _ _ l.ending in
+    let h : get_or c.args.targets.now c.args.part.start 0 < length c.args.words.now = within_list _ _ _ l.ending in
     let k = l.closes in
     omega (arith, l.before)
 
@@ -184,7 +184,7 @@ pub check_turns-check_claims-requires : goal.check_turns-check_claims-requires
 check_turns-check_claims-requires t c =
     let l = at_for _ _ _ _ _ _ _ _ c.requires.more _ _ c.requires.stands c.requires.checks.1 in
     let s = is_short _ _ _ _ _ _ _ _ c.requires.more c.requires.checks.1 in
-    let h : get_or c.args.targets.now c.args.at 0 < length c.args.words.now = within_list _ _ _ l.ending in
+    let h : get_or c.args.targets.now c.args.part.start 0 < length c.args.words.now = within_list _ _ _ l.ending in
     let k = l.closes in
     let p = parted _ _ _ _ l.claims l.body l.inside (c.count_claims.ensures.exact l.claims l.body l.plain l.inside) c.split_at.ensures.front c.split_at.ensures.back in
     omega (arith, l.before, p.count)
@@ -202,7 +202,7 @@ check_turns-check_block-requires t c =
     let p = parted _ _ _ _ l.claims l.body l.inside (c.count_claims.ensures.exact l.claims l.body l.plain l.inside) c.split_at.ensures.front c.split_at.ensures.back in
     let turn = in_loop_is c.written_by.result l.claims l.body c.args.intervals.now c.forget.new.intervals c.claim.new.intervals c.args.a c.new.result (between 0 (c.args.n - 1)) c.told-intervals (λ r h. c.written_by.ensures r h ∙ ap (list_any (word_writes r)) p.body) c.forget.ensures (c.claim.ensures l.claims p.claims) (c.new.ensures ∙ ap (λ x. between 0 (x - 1)) c.count.ensures.value) in
     let same = ap (λ r. slice_set c.claim.new.intervals r c.new.result) c.index-counter.ensures.value ∙ turn in
-    let inner = checks_same _ _ _ (c.args.at + 1 + length l.claims) _ _ (slice_set c.args.counters.now c.index-counter.result true) _ _ _ l.turned (ap (λ k. c.args.at + 1 + k) p.count) (ap (λ r. slice_set c.args.counters.now r true) c.index-counter.ensures.value) same l.inner in
+    let inner = checks_same _ _ _ (c.args.part.start + 1 + length l.claims) _ _ (slice_set c.args.counters.now c.index-counter.result true) _ _ _ l.turned (ap (λ k. c.args.part.start + 1 + k) p.count) (ap (λ r. slice_set c.args.counters.now r true) c.index-counter.ensures.value) same l.inner in
     let k = l.closes in
     (omega (arith, l.before, p.count), (l.turned, inner))
 
@@ -213,7 +213,7 @@ check_turns-returns-in_err-check_block-clause-same t c = let e = err_from_is_err
     let free = rw c.index-counter.ensures.value at c.if-counters-counter.false in
     let turn = in_loop_is c.written_by.result l.claims l.body c.args.intervals.now c.forget.new.intervals c.claim.new.intervals c.args.a c.new.result (between 0 (c.args.n - 1)) c.told-intervals (λ r h. c.written_by.ensures r h ∙ ap (list_any (word_writes r)) p.body) c.forget.ensures (c.claim.ensures l.claims p.claims) (c.new.ensures ∙ ap (λ x. between 0 (x - 1)) c.count.ensures.value) in
     let same = ap (λ r. slice_set c.claim.new.intervals r c.new.result) c.index-counter.ensures.value ∙ turn in
-    let inner = checks_same _ _ _ (c.args.at + 1 + length l.claims) _ _ (slice_set c.args.counters.now c.index-counter.result true) _ _ _ l.turned (ap (λ k. c.args.at + 1 + k) p.count) (ap (λ r. slice_set c.args.counters.now r true) c.index-counter.ensures.value) same l.inner in
+    let inner = checks_same _ _ _ (c.args.part.start + 1 + length l.claims) _ _ (slice_set c.args.counters.now c.index-counter.result true) _ _ _ l.turned (ap (λ k. c.args.part.start + 1 + k) p.count) (ap (λ r. slice_set c.args.counters.now r true) c.index-counter.ensures.value) same l.inner in
     l.err free (c.in_ok-check_claims.ensures l.claims p.claims) _ (c.in_err-check_block.ensures l.turned inner)
 
 pub check_turns-returns-then-not-claims_hold-clause-same : goal.check_turns-returns-then-not-claims_hold-clause-same
@@ -223,7 +223,7 @@ check_turns-returns-then-not-claims_hold-clause-same t c = λ answer r.
     let free = rw c.index-counter.ensures.value at c.if-counters-counter.false in
     let turn = in_loop_is c.written_by.result l.claims l.body c.args.intervals.now c.forget.new.intervals c.claim.new.intervals c.args.a c.new.result (between 0 (c.args.n - 1)) c.told-intervals (λ r h. c.written_by.ensures r h ∙ ap (list_any (word_writes r)) p.body) c.forget.ensures (c.claim.ensures l.claims p.claims) (c.new.ensures ∙ ap (λ x. between 0 (x - 1)) c.count.ensures.value) in
     let same = ap (λ r. slice_set c.claim.new.intervals r c.new.result) c.index-counter.ensures.value ∙ turn in
-    let inner = checks_same _ _ _ (c.args.at + 1 + length l.claims) _ _ (slice_set c.args.counters.now c.index-counter.result true) _ _ _ l.turned (ap (λ k. c.args.at + 1 + k) p.count) (ap (λ r. slice_set c.args.counters.now r true) c.index-counter.ensures.value) same l.inner in
+    let inner = checks_same _ _ _ (c.args.part.start + 1 + length l.claims) _ _ (slice_set c.args.counters.now c.index-counter.result true) _ _ _ l.turned (ap (λ k. c.args.part.start + 1 + k) p.count) (ap (λ r. slice_set c.args.counters.now r true) c.index-counter.ensures.value) same l.inner in
     l.unkept free (c.in_ok-check_claims.ensures l.claims p.claims) _ (c.in_ok-check_block.ensures l.turned inner) (sym (c.if-not-claims_hold.ensures l.claims p.claims))
 
 pub check_turns-returns-clause-onward : goal.check_turns-returns-clause-onward
@@ -238,6 +238,6 @@ check_turns-returns-clause-same t c = λ answer r.
     let free = rw c.index-counter.ensures.value at c.if-counters-counter.false in
     let turn = in_loop_is c.written_by.result l.claims l.body c.args.intervals.now c.forget.new.intervals c.claim.new.intervals c.args.a c.new.result (between 0 (c.args.n - 1)) c.told-intervals (λ r h. c.written_by.ensures r h ∙ ap (list_any (word_writes r)) p.body) c.forget.ensures (c.claim.ensures l.claims p.claims) (c.new.ensures ∙ ap (λ x. between 0 (x - 1)) c.count.ensures.value) in
     let same = ap (λ r. slice_set c.claim.new.intervals r c.new.result) c.index-counter.ensures.value ∙ turn in
-    let inner = checks_same _ _ _ (c.args.at + 1 + length l.claims) _ _ (slice_set c.args.counters.now c.index-counter.result true) _ _ _ l.turned (ap (λ k. c.args.at + 1 + k) p.count) (ap (λ r. slice_set c.args.counters.now r true) c.index-counter.ensures.value) same l.inner in
+    let inner = checks_same _ _ _ (c.args.part.start + 1 + length l.claims) _ _ (slice_set c.args.counters.now c.index-counter.result true) _ _ _ l.turned (ap (λ k. c.args.part.start + 1 + k) p.count) (ap (λ r. slice_set c.args.counters.now r true) c.index-counter.ensures.value) same l.inner in
     let last = in_loop_is c.written_by.result l.claims l.body c.args.intervals.now c.forget.new.intervals c.claim.new.intervals c.args.a c.new-2.result (between (c.args.n - 1) (c.args.n - 1)) c.told-intervals (λ r h. c.written_by.ensures r h ∙ ap (list_any (word_writes r)) p.body) c.forget.ensures (c.claim.ensures l.claims p.claims) (c.new-2.ensures ∙ ap (λ x. between (x - 1) (x - 1)) c.count.ensures.value) in
     at_same _ _ _ _ _ _ _ _ _ (ap (λ r. slice_set c.claim.new.intervals r c.new-2.result) c.index-counter.ensures.value ∙ last) (l.ok free (c.in_ok-check_claims.ensures l.claims p.claims) _ (c.in_ok-check_block.ensures l.turned inner) (sym (c.if-not-claims_hold.ensures l.claims p.claims)))

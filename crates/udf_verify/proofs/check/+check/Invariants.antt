@@ -12,7 +12,7 @@ abbrev pub decreases-check_part : goal.decreases-check_part
 decreases-check_part l = 4 * (l.to - l.at) + 2
 
 abbrev pub decreases-check_turns : goal.decreases-check_turns
-decreases-check_turns l = 4 * (l.to - l.at) + 1
+decreases-check_turns l = 4 * (l.part.end - l.part.start) + 1
 
 -- what the whole check answers, the check from here on answers
 abbrev pub invariant-check_block-loop-at : goal.invariant-check_block-loop-at
