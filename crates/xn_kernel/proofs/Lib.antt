@@ -1,3 +1,4 @@
 pub mod Homes
 pub mod Keeping
 pub mod Forgetting
+pub mod Draining

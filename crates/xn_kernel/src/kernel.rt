@@ -10,25 +10,22 @@ ghost use Rattle.xn_model.specs.Lanes.{HoldImage};
 ghost use Rattle.templates.specs.Tables.{types_of};
 ghost use Rattle.xn_state.specs.Mounts.{lives_in, AreFound};
 ghost use Rattle.xn_state.specs.States.{StateValue, types_in};
-ghost use Rattle.xn_kernel.specs.Kernels.{KernelValue, TicketValue, is_in_flight, is_mine, result_map_err};
+ghost use Rattle.xn_kernel.specs.Kernels.{KernelValue, TicketValue, IsKernel, is_in_flight, is_mine, result_map_err};
 
 use crate::ticket::Ticket;
 use disk::{Lane, Lanes};
 use std::alloc::Global;
 use std::marker::Model;
 use templates::Table;
-use xn_state::{EditId, Found, Fs, Refusal, State};
+use xn_state::{EditId, Found, Fs, Landed, Refusal, State};
 
 mod answers;
+mod call;
+mod drain;
 mod edits;
 mod forget;
 
-/// What a finished write did: how many of its entries are durable, and how many blocks are free.
-#[derive(Clone, Copy, Debug, PartialEq, Eq)]
-pub struct Landed {
-    pub durable: u32,
-    pub freed: u32,
-}
+pub use drain::DrainStop;
 
 /// A store over the lanes of a disk.
 #[derive(Drop)]
@@ -79,6 +76,13 @@ impl<L: Lane> Kernel<L> {
         }
     }
 
+    /// Its rules.
+    pub(crate) fn rules(&self)
+        ensures { IsKernel L.bytes_of self.now.lanes self.now.state }
+    {
+        let _id = self.id;
+    }
+
     /// Starts a life with these bytes on the lowest free block.
     pub fn init(&mut self, fs: Fs, ty: u32, bytes: &[u8; 512]) -> Result<(u32, EditId), Refusal>
         ensures state { Gives (init_of (types_in self.old.state) self.old.state.store fs.number ty bytes.now) self.old.state.store self.new.state.store result }
@@ -112,6 +116,13 @@ impl<L: Lane> Kernel<L> {
         } else {
             None
         }
+    }
+
+    /// Its lanes, those that are at home.
+    pub fn into_lanes(self) -> Lanes<L>
+        ensures { result ≡ self.lanes }
+    {
+        self.lanes
     }
 
     /// Begins a write of a block: the ticket has its lane, and the bytes that its safe entries leave.

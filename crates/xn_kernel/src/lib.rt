@@ -4,6 +4,6 @@
 mod kernel;
 mod ticket;
 
-pub use kernel::{Kernel, Landed};
+pub use kernel::{DrainStop, Kernel};
 pub use ticket::Ticket;
-pub use xn_state::{Edit, EditId, Found, Fs, Patch, Refusal};
+pub use xn_state::{Answer, Call, Edit, EditId, Found, Fs, Landed, Patch, Refusal, Stopped, Store};

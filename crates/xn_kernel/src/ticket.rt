@@ -4,7 +4,7 @@ ghost use Rattle.std.specs.Prelude.{◌≡◌, ◌⊎◌, ℕ, List, OnOk, OnErr
 ghost use Rattle.disk.specs.Lanes.{CountsOne};
 ghost use Rattle.xn_kernel.specs.Kernels.{TicketValue};
 
-use disk::{DeviceFault, Lane};
+use disk::{DeviceFault, Lane, MemLane};
 use std::marker::Model;
 
 /// A write that was begun: the block's lane, and the bytes that the block's safe entries leave.
@@ -80,5 +80,24 @@ impl<L: Lane> Ticket<L> {
         ensures gives { L.write_gives self.old.lane self.old.bytes result self.new.lane }
     {
         self.lane.write(&self.bytes)
+    }
+}
+
+impl Ticket<MemLane> {
+    ghost use Rattle.std.specs.Prelude.{Some, true};
+
+    /// Lets the next write of the block fail, and that one alone. The block then holds the new bytes or keeps the old ones, as
+    /// asked here.
+    pub fn fail_next_write(&mut self, new_bytes_stay: bool)
+        ensures { self.new ≡ record self.old { lane = record self.old.lane { write_fault = Some new_bytes_stay } } }
+    {
+        self.lane.fail_write(new_bytes_stay);
+    }
+
+    /// Lets the next read of the block fail, and that one alone.
+    pub fn fail_next_read(&mut self)
+        ensures { self.new ≡ record self.old { lane = record self.old.lane { read_fault = true } } }
+    {
+        self.lane.fail_read();
     }
 }

@@ -2,7 +2,7 @@
 
 ghost use Rattle.std.specs.Prelude.{◌≡◌};
 ghost use Rattle.xn_model.specs.Results.{Lends};
-ghost use Rattle.xn_model.specs.Calls.{read_of, kind_of, root_of, pending_of};
+ghost use Rattle.xn_model.specs.Calls.{read_of, kind_of, root_of, pending_of, tainted_of, free_of, pick_of};
 
 use crate::kernel::Kernel;
 use disk::Lane;
@@ -37,5 +37,26 @@ impl<L: Lane> Kernel<L> {
         ensures { result ≡ pending_of self.now.state.store fs.number }
     {
         self.state.pending(fs)
+    }
+
+    /// Whether a block has a pending entry that isn't safe; not so where it is free, or past the end of the disk.
+    pub fn tainted(&self, block: u32) -> bool
+        ensures { result ≡ tainted_of self.now.state.store block }
+    {
+        self.state.tainted(block)
+    }
+
+    /// How many blocks are free.
+    pub fn free(&self) -> u32
+        ensures { result ≡ free_of self.now.state.store }
+    {
+        self.state.free()
+    }
+
+    /// The least block that may be written: no write of it is under way, and some entry of it is safe.
+    pub fn pick(&self) -> Option<u32>
+        ensures { result ≡ pick_of self.now.state.store }
+    {
+        self.state.pick()
     }
 }

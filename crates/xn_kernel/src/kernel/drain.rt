@@ -1,0 +1,99 @@
+// All that is pending is written.
+
+ghost use Rattle.std.specs.Prelude.{◌≡◌, ◌≤◌, ◌<◌, ◌+◌, Some, None, is_some, IfOk, IfErr, OnOk};
+ghost use Rattle.std.specs.List.{list_any};
+ghost use Rattle.xn_model.specs.Lives.{alive_and};
+ghost use Rattle.xn_model.specs.Calls.{pick_of};
+ghost use Rattle.xn_model.specs.Rules.{IsIdle};
+ghost use Rattle.xn_model.specs.Worlds.{all_pending};
+ghost use Rattle.xn_state.specs.States.{StateValue};
+ghost use Rattle.xn_kernel.specs.Kernels.{KernelValue};
+ghost use Rattle.xn_kernel.specs.Drains.{Round, Rounds, Stops, Refuses};
+
+use crate::kernel::Kernel;
+use crate::ticket::Ticket;
+use disk::Lane;
+use xn_state::Refusal;
+
+/// A drain that stopped: how many writes it finished, why it stopped, and the ticket of a block that could not be read back.
+pub struct DrainStop<L: Lane> {
+    pub writes: u32,
+    pub ticket: Option<Ticket<L>>,
+    pub refusal: Refusal,
+}
+
+impl<L: Lane> Kernel<L> {
+    /// Whether a write of some block is under way.
+    fn is_busy(&self) -> bool
+        ensures { result ≡ list_any (alive_and (λ l. is_some l.begun)) self.now.state.store.lives }
+    {
+        self.state.is_any_in_flight()
+    }
+
+    /// How many entries are pending, of all blocks and file systems.
+    fn all_pending(&self) -> u32
+        ensures { result ≡ all_pending self.now.state.store.lives }
+    {
+        self.state.all_pending()
+    }
+
+    /// Writes the block that is picked and reads it back. `Err` has the ticket where it could not be read back; with none the
+    /// write failed, and the block holds the old bytes.
+    fn round(&mut self, block: u32) -> Result<(), Option<Ticket<L>>>
+        requires picked { pick_of self.old.state.store ≡ Some block }
+        ensures ok { OnOk result (Round L.bytes_of L.faults_of L.write_gives L.read_gives self.old self.new) }
+        ensures err { IfErr result (λ ticket. Stops L.bytes_of L.faults_of L.write_gives L.read_gives self.old ticket Refusal.Device self.new) }
+    {
+        self.rules();
+        let Ok(mut ticket) = self.begin(block) else {
+            unreachable!()
+        };
+        let _landed = ticket.land();
+        match self.finish(ticket) {
+            Err((ticket, _)) => Err(Some(ticket)),
+            Ok(landed) => {
+                if landed.durable > 0 {
+                    Ok(())
+                } else {
+                    Err(None)
+                }
+            }
+        }
+    }
+
+    /// Writes the block that is picked and reads it back, again and again, until nothing is pending: answers how many writes
+    /// that took, at most as many as entries were pending. It takes no memory. With a write under way it is refused
+    /// (`InFlight`) and does nothing. A lane that fails stops it (`Device`): where a write fails and the block holds the old
+    /// bytes its entries stay pending; where a block can't be read back it stays in flight, and the ticket is given out. A
+    /// write that fails and leaves the new bytes is a good one. What was finished before stands.
+    pub fn drain(&mut self) -> Result<u32, DrainStop<L>>
+        ensures rounds { IfOk result (λ writes. Rounds L.bytes_of L.faults_of L.write_gives L.read_gives writes self.old self.new) }
+        ensures idle { OnOk result (IsIdle self.old.state.store.lives) }
+        ensures done { OnOk result (all_pending self.new.state.store.lives ≡ 0) }
+        ensures few { IfOk result (λ writes. writes ≤ all_pending self.old.state.store.lives) }
+        ensures err { IfErr result (λ stop. Refuses L.bytes_of L.faults_of L.write_gives L.read_gives self.old stop.writes stop.ticket stop.refusal self.new) }
+    {
+        if self.is_busy() {
+            return Err(DrainStop {
+                writes: 0,
+                ticket: None,
+                refusal: Refusal::InFlight,
+            });
+        }
+        let most = self.all_pending();
+        for writes in 0..most {
+            self.rules();
+            let Some(block) = self.pick() else {
+                return Ok(writes);
+            };
+            if let Err(ticket) = self.round(block) {
+                return Err(DrainStop {
+                    writes,
+                    ticket,
+                    refusal: Refusal::Device,
+                });
+            }
+        }
+        Ok(most)
+    }
+}
