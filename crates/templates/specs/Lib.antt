@@ -5,3 +5,4 @@ pub mod Meaning
 pub mod Tables
 pub mod RootFields
 pub mod Formats
+pub mod Faults

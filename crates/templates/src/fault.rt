@@ -1,27 +1,55 @@
 // Why a block is no template, and why no image is made.
 
 use std::alloc::AllocError;
+use std::{error, fmt};
 use thiserror::Error;
 
 /// Why a block is no template. The faults are found in the order `BadMark`, `BadCode`, `NotVerified`, `BytesAfter`.
-#[derive(Clone, Copy, Debug, Drop, PartialEq, Eq, Error)]
+#[derive(Clone, Copy, Debug, Drop, PartialEq, Eq)]
 pub enum TemplateFault {
     /// No memory for the programs.
-    #[error("NoMemory")]
     NoMemory = 1,
     /// The block doesn't begin with the two bytes 58 54.
-    #[error("BadMark")]
     BadMark = 2,
     /// More than 127 words together, or bytes that are no program.
-    #[error("BadCode")]
     BadCode = 3,
     /// The verifier refuses one of the two programs.
-    #[error("NotVerified")]
     NotVerified = 4,
     /// A byte behind the words isn't zero.
-    #[error("BytesAfter")]
     BytesAfter = 5,
 }
+
+impl TemplateFault {
+    ghost use Rattle.std.specs.Prelude.{◌≡◌};
+    ghost use Rattle.templates.specs.Faults.{fault_name};
+
+    /// Its name.
+    pub fn name(self) -> &'static str
+        ensures { result.now ≡ fault_name self }
+    {
+        match self {
+            TemplateFault::NoMemory => "NoMemory",
+            TemplateFault::BadMark => "BadMark",
+            TemplateFault::BadCode => "BadCode",
+            TemplateFault::NotVerified => "NotVerified",
+            TemplateFault::BytesAfter => "BytesAfter",
+        }
+    }
+}
+
+/// Its name.
+impl fmt::Display for TemplateFault {
+    ghost use Rattle.std.specs.Prelude.{Some};
+    ghost use Rattle.templates.specs.Faults.{fault_name};
+
+    ghost output = { λ fault. Some (fault_name fault) };
+
+    fn fmt<W: fmt::Write>(&self, f: &mut fmt::Formatter<W>) -> fmt::Result {
+        f.write_str(self.name())
+    }
+}
+
+impl error::Error for TemplateFault {}
 
 /// Why no image is made. The faults are found in the order `BadCount`, `TooManyTemplates`, `NoMemory`.
 #[derive(Clone, Copy, Debug, Drop, PartialEq, Eq, Error)]

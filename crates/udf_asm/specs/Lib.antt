@@ -3,3 +3,4 @@ pub mod Numbers
 pub mod Operands
 pub mod Assembly
 pub mod Printing
+pub mod Faults

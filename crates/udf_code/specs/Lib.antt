@@ -5,3 +5,4 @@ pub mod Reading
 pub mod Structure
 pub mod Bytes
 pub mod Decoding
+pub mod Faults

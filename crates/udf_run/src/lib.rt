@@ -6,8 +6,6 @@
 mod blocks;
 pub mod law;
 pub mod pair;
-#[cfg(test)]
-mod random_tests;
 pub mod run;
 mod step;
 #[cfg(test)]

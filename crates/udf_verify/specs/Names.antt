@@ -1,5 +1,7 @@
--- The names of the rules that a program can break.
-use Rattle.std.specs.Prelude.{ℕ, List, codes}
+-- What is printed of a fault: the name of the rule that a program breaks, and the word.
+use Rattle.std.specs.Prelude.{ℕ, List, ◌++◌, codes}
+use Rattle.std.specs.Fmt.{decimal}
+use Rattle.udf_verify.specs.declared.fault.VerifyFault.{VerifyFault}
 use Rattle.udf_verify.specs.declared.fault.FaultKind.{FaultKind}
 use Rattle.udf_verify.specs.declared.fault.FaultKind.TheVariants.{NoMemory, Load, Sum, Difference, Product, Divisor, Counter, SameRegister, DeadBranch, Keep, Emits, Cost, SizeAnswer}
 
@@ -17,3 +19,7 @@ name_of Keep = codes "Keep"
 name_of Emits = codes "Emits"
 name_of Cost = codes "Cost"
 name_of SizeAnswer = codes "SizeAnswer"
+
+-- the rule, and the word that breaks it
+abbrev pub fault_text : VerifyFault → List ℕ
+fault_text fault = name_of fault.kind ++ codes " at " ++ decimal fault.at

@@ -1,7 +1,7 @@
 // What a program is for, and why it is refused.
 
+use std::error::Error;
 use std::fmt;
-use thiserror::Error;
 
 /// What a program is for.
 #[derive(Clone, Copy, Debug, PartialEq, Eq)]
@@ -82,9 +82,22 @@ impl fmt::Display for FaultKind {
 }
 
 /// The first word that breaks a rule, and the rule. The number of words stands for the end.
-#[derive(Clone, Copy, Debug, Drop, PartialEq, Eq, Error)]
-#[error("{kind} at {at}")]
+#[derive(Clone, Copy, Debug, Drop, PartialEq, Eq)]
 pub struct VerifyFault {
     pub at: usize,
     pub kind: FaultKind,
 }
+
+/// The rule, and the word that breaks it.
+impl fmt::Display for VerifyFault {
+    ghost use Rattle.std.specs.Prelude.{Some};
+    ghost use Rattle.udf_verify.specs.Names.{fault_text};
+
+    ghost output = { λ fault. Some (fault_text fault) };
+
+    fn fmt<W: fmt::Write>(&self, f: &mut fmt::Formatter<W>) -> fmt::Result {
+        write!(f, "{} at {}", self.kind, self.at)
+    }
+}
+
+impl Error for VerifyFault {}

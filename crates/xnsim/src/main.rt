@@ -2,36 +2,37 @@
 // programs.
 #![tactic(auto)]
 
-mod assembling;
-mod bytes;
-mod fault;
-mod files;
-mod formatting;
-mod image;
-mod library;
-mod line;
-mod program;
-mod replay;
-#[cfg(test)]
-mod tests;
-mod words;
+mod system_files;
 
-use files::SystemFiles;
-use line::line;
+use std::io::BufWriter;
 use std::process::ExitCode;
 use std::{env, io};
+use system_files::SystemFiles;
+use xnsim_line::line;
 
-fn main(rt: HostRuntime) -> io::Result<ExitCode> {
+/// Does what the command line asks for, and answers the program's status. The standard streams are buffered.
+fn run(rt: &HostRuntime) -> io::Result<u8> {
     let alloc = rt.alloc();
-    let words: Vec<String> = env::args(&rt)?.skip(1).collect(alloc)?;
-    let mut files = SystemFiles { rt: &rt };
-    let status = line(
+    let words: Vec<String> = env::args(rt)?.skip(1).collect(alloc)?;
+    let mut out = BufWriter::new(alloc, rt.stdout())?;
+    let mut err = BufWriter::new(alloc, rt.stderr())?;
+    let mut files = SystemFiles { rt };
+    Ok(line(
         alloc,
         words.as_slice(),
         &mut files,
         &mut rt.stdin(),
-        &mut rt.stdout(),
-        &mut rt.stderr(),
-    );
-    Ok(ExitCode::from(status))
+        &mut out,
+        &mut err,
+    ))
+}
+
+fn main(rt: HostRuntime) -> ExitCode {
+    match run(&rt) {
+        Ok(status) => ExitCode::from(status),
+        Err(_) => {
+            let _ = eprintln!(rt; "no memory");
+            ExitCode::from(1)
+        }
+    }
 }

@@ -1,9 +1,0 @@
-pub mod FreshImages
-pub mod ScriptRuns
-pub mod CommandLines
-pub mod KnownTemplates
-pub mod TemplateWords
-pub mod TemplatesRead
-pub mod MountFaults
-pub mod HeldFiles
-pub mod PrintedBytes

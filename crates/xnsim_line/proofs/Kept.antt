@@ -1,0 +1,116 @@
+-- What was printed stands where it is then flushed.
+use Rattle.std.proofs.Common.{◌≡◌, ℕ, List, Option, Some, None, ◌∙◌}
+use Rattle.std.specs.Io.KnownBytes.{Appends, Keeps}
+use Rattle.xnsim_line.specs.declared.invocation.Invocation.{Invocation}
+use Rattle.xnsim_line.specs.declared.invocation.Invocation.TheVariants.{Bare, Format, Run, Asm, Verify}
+use Rattle.xnsim_line.specs.declared.fault.Fault.{Fault}
+use Rattle.xnsim_line.specs.declared.fault.Fault.TheVariants.{Usage, CannotRead, Unreadable, NotMounted, CannotWrite, NoMemory, Program, Owns, Size, Template, TooManyTemplates, TooManyWords, Stream}
+use Rattle.xnsim_line.specs.Assembling.{PrintsTemplate}
+use Rattle.xnsim_line.specs.Done.{IsDone, IsLineDone, PrintsReplies, PrintsMounted, PrintsAssembled, PrintsVerified}
+use Rattle.xnsim_line.specs.Faults.{IsTold}
+use Rattle.xnsim_line.specs.Files.{Held}
+use Rattle.xnsim_line.specs.Formatting.{PrintsMade}
+use Rattle.xnsim_line.specs.Programs.{PrintsAccepted}
+use Rattle.xnsim_line.specs.Runs.{IsMountedRun, IsPrintedRun}
+use Rattle.script.specs.declared.command.Command.{Command}
+use Rattle.templates.specs.Templates.{TemplateValue}
+use Rattle.udf_verify.specs.declared.fault.Role.{Role}
+
+keeps_kept : (old mid new : Option (List ℕ)) → Keeps old mid → Keeps mid new → Keeps old new
+keeps_kept None mid new kept flushed = tt
+keeps_kept (Some xs) None new kept flushed = absurd kept
+keeps_kept (Some xs) (Some ys) None kept flushed = absurd flushed
+keeps_kept (Some xs) (Some ys) (Some zs) kept flushed = flushed ∙ kept
+
+appends_kept : (old mid new : Option (List ℕ)) (bytes : List ℕ) → Appends old mid bytes → Keeps mid new → Appends old new bytes
+appends_kept None mid new bytes printed flushed = tt
+appends_kept (Some xs) None new bytes printed flushed = absurd printed
+appends_kept (Some xs) (Some ys) None bytes printed flushed = absurd flushed
+appends_kept (Some xs) (Some ys) (Some zs) bytes printed flushed = flushed ∙ printed
+
+module _ (old mid new : Option (List ℕ)) (flushed : Keeps mid new) where
+  run_kept : (blocks : ℕ) (templates : List TemplateValue) (commands : List Command) (image : List ℕ) →
+      IsPrintedRun blocks templates commands old mid image → IsPrintedRun blocks templates commands old new image
+  run_kept blocks templates commands image run =
+      record { replies = run.replies; after = run.after; run = run.run; printed = appends_kept old mid new _ run.printed flushed; left = run.left }
+
+  mounted_kept : (image : List ℕ) (commands : List Command) (after : List ℕ) → IsMountedRun image commands old mid after → IsMountedRun image commands old new after
+  mounted_kept image commands after run =
+      record { blocks = run.blocks; templates = run.templates; fresh = run.fresh; run = run_kept run.blocks run.templates commands after run.run }
+
+  template_kept : (held held_after : Held) (block_name owns_text size_text : List ℕ) →
+      PrintsTemplate held held_after block_name owns_text size_text old mid → PrintsTemplate held held_after block_name owns_text size_text old new
+  template_kept held held_after block_name owns_text size_text done = record {
+    template = done.template;
+    block = done.block;
+    read = done.read;
+    made = done.made;
+    written = done.written;
+    printed = appends_kept old mid new _ done.printed flushed;
+  }
+
+  accepted_kept : (text : List ℕ) (role : Role) → PrintsAccepted text role old mid → PrintsAccepted text role old new
+  accepted_kept text role done =
+      record { words = done.words; written = done.written; accepted = done.accepted; printed = appends_kept old mid new _ done.printed flushed }
+
+  done_kept : (input : Option (List ℕ)) (held held_after : Held) (asked : Invocation) → IsDone input held held_after asked old mid → IsDone input held held_after asked old new
+  done_kept input held held_after Bare done = (
+    record {
+      text = done.0.text;
+      commands = done.0.commands;
+      image = done.0.image;
+      read = done.0.read;
+      script = done.0.script;
+      run = run_kept _ _ done.0.commands done.0.image done.0.run;
+    },
+    done.1,
+  )
+  done_kept input held held_after (Format image blocks file_system templates) done = record {
+    files = done.files;
+    own = done.own;
+    image = done.image;
+    files_held = done.files_held;
+    read = done.read;
+    few = done.few;
+    made = done.made;
+    written = done.written;
+    printed = appends_kept old mid new _ done.printed flushed;
+  }
+  done_kept input held held_after (Run image script) done = record {
+    image = done.image;
+    text = done.text;
+    commands = done.commands;
+    after = done.after;
+    image_held = done.image_held;
+    script_held = done.script_held;
+    script = done.script;
+    run = mounted_kept done.image done.commands done.after done.run;
+    written = done.written;
+  }
+  done_kept input held held_after (Asm owns size block) done = record {
+    owns_text = done.owns_text;
+    size_text = done.size_text;
+    owns_held = done.owns_held;
+    size_held = done.size_held;
+    template = template_kept held held_after _ done.owns_text done.size_text done.template;
+  }
+  done_kept input held held_after (Verify name role) done =
+      record { text = done.text; text_held = done.text_held; accepted = accepted_kept done.text role done.accepted; kept = done.kept }
+
+  pub line_kept : (input : Option (List ℕ)) (held held_after : Held) (words : List (List ℕ)) → IsLineDone input held held_after words old mid → IsLineDone input held held_after words old new
+  line_kept input held held_after words done = (done.0, done.1, done_kept input held held_after done.0 done.2)
+
+  pub told_kept : (fault : Fault) → IsTold fault old mid → IsTold fault old new
+  told_kept Usage told = keeps_kept old mid new told flushed
+  told_kept (CannotRead name) told = keeps_kept old mid new told flushed
+  told_kept (Unreadable line) told = keeps_kept old mid new told flushed
+  told_kept NotMounted told = keeps_kept old mid new told flushed
+  told_kept (CannotWrite name) told = keeps_kept old mid new told flushed
+  told_kept NoMemory told = keeps_kept old mid new told flushed
+  told_kept (Program found) told = appends_kept old mid new _ told flushed
+  told_kept (Owns found) told = appends_kept old mid new _ told flushed
+  told_kept (Size found) told = appends_kept old mid new _ told flushed
+  told_kept (Template place found) told = appends_kept old mid new _ told flushed
+  told_kept TooManyTemplates told = appends_kept old mid new _ told flushed
+  told_kept TooManyWords told = appends_kept old mid new _ told flushed
+  told_kept Stream told = keeps_kept old mid new told flushed

@@ -1,0 +1,10 @@
+pub mod FreshImages
+pub mod ScriptRuns
+pub mod CommandLines
+pub mod KnownTemplates
+pub mod TemplateWords
+pub mod TemplatesRead
+pub mod MountFaults
+pub mod PrintedBytes
+pub mod Kept
+pub mod StartsRead

@@ -1,0 +1,62 @@
+-- Runs of the first commands of a script.
+use Rattle.std.proofs.Common.{◌≡◌, ◌<◌, ◌+◌, ℕ, Option, None, Some, List, [], ◌∷◌, ◌++◌, length, take, map, get_or, refl, sym, ◌∙◌, ap, subst}
+use Rattle.std.specs.List.{flat_map}
+use Rattle.std.specs.Io.KnownBytes.{Appends}
+use Rattle.std.proofs.lemmas.List.{take_more, map-append, append-nil, append_assoc}
+use Rattle.std.proofs.lemmas.Grind.{flat_map-append}
+use Rattle.xn_model.specs.Worlds as model
+use Rattle.xn_model.specs.Worlds.{Run, Step}
+use Rattle.templates.specs.Templates.{TemplateValue}
+use Rattle.world.specs.declared.reply.Reply.{Reply}
+use Rattle.world.specs.Events.{reply_of}
+use Rattle.script.specs.declared.command.Command.{Command}
+use Rattle.xnsim_line.specs.Events.{event_of_command}
+use Rattle.xnsim_line.specs.Replies.{reply_line}
+use Rattle.xnsim_line.specs.Runs.{fresh_world, IsRun}
+
+-- these commands were run, their replies printed, and the world is this
+pub record IsRunTo (blocks : ℕ) (templates : List TemplateValue) (commands : List Command) (old new : Option (List ℕ)) (after : model.World) : Type 0 where
+  pub replies : List Reply
+  pub run : IsRun blocks templates commands replies after
+  pub printed : Appends old new (flat_map reply_line replies)
+
+run_more : (w : model.World) (es : List model.Event) (rs : List model.Reply) (mid : model.World) (e : model.Event) (r : model.Reply) (after : model.World) →
+    Run w es rs mid → Step mid e r after → Run w (es ++ e ∷ []) (rs ++ r ∷ []) after
+run_more w [] [] mid e r after run step = (after, subst (λ v. Step v e r after) run step, refl)
+run_more w [] (y ∷ rs) mid e r after run step = absurd run
+run_more w (x ∷ es) [] mid e r after run step = absurd run
+run_more w (x ∷ es) (y ∷ rs) mid e r after run step = (run.0, run.1, run_more run.0 es rs mid e r after run.2 step)
+
+-- what was printed, and one line more
+printed_more : (old mid new : Option (List ℕ)) (bytes line : List ℕ) → Appends old mid bytes → Appends mid new line → Appends old new (bytes ++ line)
+printed_more None mid new bytes line first second = tt
+printed_more (Some xs) None new bytes line first second = absurd first
+printed_more (Some xs) (Some ys) None bytes line first second = absurd second
+printed_more (Some xs) (Some ys) (Some zs) bytes line first second = second ∙ (ap (λ start. start ++ line) first ∙ append_assoc xs bytes line)
+
+nothing_printed : (old : Option (List ℕ)) → Appends old old []
+nothing_printed None = tt
+nothing_printed (Some xs) = sym (append-nil xs)
+
+-- before the first command
+pub none_run : (blocks : ℕ) (templates : List TemplateValue) (old : Option (List ℕ)) (after : model.World) → after ≡ fresh_world blocks templates →
+    IsRunTo blocks templates [] old old after
+none_run blocks templates old after fresh = record { replies = []; run = fresh; printed = nothing_printed old }
+
+-- one command more
+pub run_one_more : (blocks : ℕ) (templates : List TemplateValue) (commands : List Command) (command : Command) (old mid new : Option (List ℕ)) (before after : model.World) (event : model.Event) (reply : Reply) →
+    event ≡ event_of_command command → Step before event (reply_of reply) after → Appends mid new (reply_line reply) →
+    IsRunTo blocks templates commands old mid before → IsRunTo blocks templates (commands ++ command ∷ []) old new after
+run_one_more blocks templates commands command old mid new before after event reply asked step printed so_far =
+    let rs = so_far.replies in
+    let sent : map event_of_command (commands ++ command ∷ []) ≡ map event_of_command commands ++ event ∷ [] =
+    map-append event_of_command commands (command ∷ []) ∙ ap (λ (e : model.Event). map event_of_command commands ++ e ∷ []) (sym asked) in
+    let told = map-append reply_of rs (reply ∷ []) in
+    let ran = run_more (fresh_world blocks templates) (map event_of_command commands) (map reply_of rs) before event (reply_of reply) after so_far.run step in
+    let lines : flat_map reply_line (rs ++ reply ∷ []) ≡ flat_map reply_line rs ++ reply_line reply =
+    flat_map-append reply_line rs (reply ∷ []) ∙ ap (λ last. flat_map reply_line rs ++ last) (append-nil (reply_line reply)) in
+    record {
+      replies = rs ++ reply ∷ [];
+      run = rw (sent, told) ran;
+      printed = rw lines (printed_more old mid new (flat_map reply_line rs) (reply_line reply) so_far.printed printed);
+    }

@@ -1,0 +1,36 @@
+use Rattle.std.proofs.Common.{rules, ◌≡◌, ◌<◌, ◌*◌, length, sym, subst, arith}
+use Rattle.std.proofs.lemmas.Result.{err_from_is_err_and}
+use Rattle.xnsim_line.specs.Files.{IsHeld, IsStartHeld}
+use Rattle.xnsim_line.proofs.FreshImages.{length_fresh}
+use Rattle.xnsim_line.proofs.MountFaults.{mount_fault}
+use Rattle.xnsim_line.proofs.StartsRead.{whole_held}
+use Rattle.xnsim_line.proofs.commands.run_files.Goals as goal
+
+pub returns-clause-done : goal.returns-clause-done
+returns-clause-done g c =
+    let held = g.F.Files.held c.args.files.now in
+    let before = c.in_ok-before.before.items in
+    let image = c.as_slice-2.result.now in
+    let start : IsStartHeld held c.args.image.now 16777217 before = search rules in
+    let same : image ≡ before = c.as_slice-2.ensures.value in
+    let run = c.in_ok-after.ensures.run in
+    let long : length image ≡ 512 * run.blocks = length_fresh image run.blocks run.templates run.fresh in
+    let most = run.fresh.greatest in
+    let few : length image < 16777217 = omega (arith, long, most) in
+    record {
+      image = image;
+      text = c.in_ok-text_of.field-0.now;
+      commands = c.in_ok-commands.commands.items;
+      after = c.in_ok-after.after.items;
+      image_held = whole_held held c.args.image.now image 16777217 (subst (IsStartHeld held c.args.image.now 16777217) (sym same) start) few;
+      script_held = search rules;
+      script = search rules;
+      run = run;
+      written = search rules;
+    }
+
+pub returns-in_err-after-clause-fault : goal.returns-in_err-after-clause-fault
+returns-in_err-after-clause-fault g c =
+    let call = c.from_residual-in_err-after in
+    let p = err_from_is_err_and call.result call.ensures.1 in
+    rw (p.1, p.2) (mount_fault c.args.image c.args.script _ _ c.in_err-after.ensures.fault)

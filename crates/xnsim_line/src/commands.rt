@@ -1,0 +1,178 @@
+// What each line asks for is done.
+
+ghost use Rattle.std.specs.Prelude.{◌≡◌, ◌≤◌, ℕ, List, [], None, IfErr, IfOk, OnOk, length, map, string_bytes};
+ghost use Rattle.std.specs.Str.{IsUtf8};
+ghost use Rattle.std.specs.Io.KnownBytes.{Appends};
+ghost use Rattle.xnsim_line.specs.Done.{IsFaultOf, IsLineDone, IsLineFault, PrintsAssembled, PrintsMounted, PrintsReplies, PrintsVerified};
+ghost use Rattle.xnsim_line.specs.Formatting.{made_line, PrintsMade};
+ghost use Rattle.xnsim_line.specs.Lines.{IsNoLine};
+
+use crate::assembling::{make_template, print_template};
+use crate::fault::Fault;
+use crate::files::Files;
+use crate::formatting::{all_templates, made_image, read_files};
+use crate::image::{GREATEST_IMAGE_LEN, LEAST_BLOCKS};
+use crate::invocation::{Invocation, read};
+use crate::program::verify_text;
+use crate::replay::{run_on_image, run_script};
+use script::parse;
+use std::alloc::Global;
+use std::io::{ErrorKind, Read, Write};
+use std::{io, str};
+use templates::write_block;
+use udf_verify::Role;
+
+/// The name of standard input in what is told.
+const STANDARD_INPUT: &str = "-";
+
+/// Says what was formatted.
+fn print_made<W: Write>(out: &mut W, blocks: u32, templates: usize) -> io::Result<()>
+    ensures { OnOk result (Appends (W.contents out.old) (W.contents out.new) (made_line blocks templates)) }
+{
+    writeln!(out, "blocks {blocks} templates {templates}")
+}
+
+/// The text of bytes that were read under this name.
+fn text_of<'a, 'b>(bytes: &'b [u8], name: &'a str) -> Result<&'b str, Fault<'a>>
+    ensures text { IfOk result (λ text. text.now ≡ bytes.now) }
+    ensures fault { IfErr result (λ fault. (fault ≡ Fault.CannotRead name.entry) × ¬ (IsUtf8 bytes.now)) }
+{
+    str::from_utf8(bytes).map_err(|_| Fault::CannotRead(name))
+}
+
+/// Writes a fresh image with the templates of these files, behind those of the library's file system where it is asked for,
+/// and then says so.
+fn format<'a, F: Files, W: Write>(
+    alloc: Global,
+    files: &mut F,
+    out: &mut W,
+    image: &'a str,
+    blocks: u32,
+    file_system: bool,
+    names: &'a [String],
+) -> Result<(), Fault<'a>>
+    requires least { 32 ≤ blocks }
+    requires greatest { blocks ≤ 32768 }
+    ensures done { OnOk result (PrintsMade (F.held files.old) (F.held files.new) image.entry.now blocks file_system (map string_bytes names.entry.now) (W.contents out.old) (W.contents out.new)) }
+    ensures fault { IfErr result (IsFaultOf None (Invocation.Format image.entry blocks file_system names.entry)) }
+{
+    let read = read_files(alloc, files, names)?;
+    let templates = all_templates(alloc, file_system, read.as_slice())?;
+    let bytes = made_image(alloc, blocks, templates.as_slice())?;
+    if !files.write(image, bytes.as_slice()) {
+        return Err(Fault::CannotWrite(image));
+    }
+    print_made(out, blocks, templates.len())?;
+    Ok(())
+}
+
+/// Writes the block of the template whose programs have the texts of two files, and then says so.
+fn assemble_files<'a, F: Files, W: Write>(
+    alloc: Global,
+    files: &mut F,
+    out: &mut W,
+    owns: &'a str,
+    size: &'a str,
+    block: &'a str,
+) -> Result<(), Fault<'a>>
+    ensures done { OnOk result (PrintsAssembled (F.held files.old) (F.held files.new) owns.entry.now size.entry.now block.entry.now (W.contents out.old) (W.contents out.new)) }
+    ensures fault { IfErr result (IsFaultOf None (Invocation.Asm owns.entry size.entry block.entry)) }
+{
+    let owns_bytes = files.read(alloc, owns).ok_or(Fault::CannotRead(owns))?;
+    let owns_text = text_of(owns_bytes.as_slice(), owns)?;
+    let size_bytes = files.read(alloc, size).ok_or(Fault::CannotRead(size))?;
+    let size_text = text_of(size_bytes.as_slice(), size)?;
+    let template = make_template(alloc, owns_text, size_text)?;
+    if !files.write(block, &write_block(&template)) {
+        return Err(Fault::CannotWrite(block));
+    }
+    print_template(out, &template)?;
+    Ok(())
+}
+
+/// Runs the script of a file on the image of a file, and writes the image back.
+fn run_files<'a, F: Files, W: Write>(
+    alloc: Global,
+    files: &mut F,
+    out: &mut W,
+    image: &'a str,
+    script: &'a str,
+) -> Result<(), Fault<'a>>
+    ensures done { OnOk result (PrintsMounted (F.held files.old) (F.held files.new) image.entry.now script.entry.now (W.contents out.old) (W.contents out.new)) }
+    ensures fault { IfErr result (IsFaultOf None (Invocation.Run image.entry script.entry)) }
+{
+    let before = files
+        .read_start(alloc, image, GREATEST_IMAGE_LEN + 1)
+        .ok_or(Fault::CannotRead(image))?;
+    let text = files.read(alloc, script).ok_or(Fault::CannotRead(script))?;
+    let commands = parse(alloc, text_of(text.as_slice(), script)?)?;
+    let after = run_on_image(alloc, before.as_slice(), commands, out)?;
+    if !files.write(image, after.as_slice()) {
+        return Err(Fault::CannotWrite(image));
+    }
+    Ok(())
+}
+
+/// Runs the script on standard input on a fresh disk, of which nothing is kept.
+fn run_input<'a, R: Read, W: Write>(
+    alloc: Global,
+    input: &mut R,
+    out: &mut W,
+) -> Result<(), Fault<'a>>
+    ensures told { OnOk result (PrintsReplies (R.remaining input.old) 32 [] (W.contents out.old) (W.contents out.new)) }
+    ensures fault { IfErr result (IsFaultOf (R.remaining input.old) Invocation.Bare) }
+{
+    let mut text = Vec::new(alloc);
+    if let Err(error) = input.read_to_end(&mut text) {
+        return Err(match error.kind() {
+            ErrorKind::OutOfMemory => Fault::NoMemory,
+            _ => Fault::CannotRead(STANDARD_INPUT),
+        });
+    }
+    let commands = parse(alloc, text_of(text.as_slice(), STANDARD_INPUT)?)?;
+    run_script(alloc, LEAST_BLOCKS, &[], commands, out)?;
+    Ok(())
+}
+
+/// Verifies the program of a text file, and says what it comes to.
+fn verify_file<'a, F: Files, W: Write>(
+    alloc: Global,
+    files: &mut F,
+    out: &mut W,
+    text: &'a str,
+    role: Role,
+) -> Result<(), Fault<'a>>
+    ensures done { OnOk result (PrintsVerified (F.held files.old) (F.held files.new) text.entry.now role (W.contents out.old) (W.contents out.new)) }
+    ensures fault { IfErr result (IsFaultOf None (Invocation.Verify text.entry role)) }
+{
+    let bytes = files.read(alloc, text).ok_or(Fault::CannotRead(text))?;
+    verify_text(alloc, text_of(bytes.as_slice(), text)?, role, out)
+}
+
+/// Does what the words ask for.
+pub fn run<'a, F: Files, R: Read, W: Write>(
+    alloc: Global,
+    words: &'a [String],
+    files: &mut F,
+    input: &mut R,
+    out: &mut W,
+) -> Result<(), Fault<'a>>
+    ensures done { OnOk result (IsLineDone (R.remaining input.old) (F.held files.old) (F.held files.new) (map string_bytes words.entry.now) (W.contents out.old) (W.contents out.new)) }
+    ensures fault { IfErr result (IsLineFault (R.remaining input.old) (map string_bytes words.entry.now)) }
+    ensures usage { IfErr result (λ fault. fault ≡ Fault.Usage → IsNoLine (map string_bytes words.entry.now)) }
+{
+    match read(alloc, words)? {
+        Invocation::Format {
+            image,
+            blocks,
+            file_system,
+            templates,
+        } => format(alloc, files, out, image, blocks, file_system, templates),
+        Invocation::Run { image, script } => run_files(alloc, files, out, image, script),
+        Invocation::Asm { owns, size, block } => {
+            assemble_files(alloc, files, out, owns, size, block)
+        }
+        Invocation::Verify { text, role } => verify_file(alloc, files, out, text, role),
+        Invocation::Bare => run_input(alloc, input, out),
+    }
+}
