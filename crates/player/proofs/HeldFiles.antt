@@ -67,6 +67,19 @@ module _ {A : Type 0} (name_of bytes_of : A → List ℕ) where
           let fails = apart_bytes other name apart in
           ap (option_map bytes_of) (none_set (λ f. bytes_eq (name_of f) other) files p y d at.0 (ap (λ n. bytes_eq n other) here ∙ fails) (ap (λ n. bytes_eq n other) (bytes_same (name_of (get_or files p d)) name at.1) ∙ fails))
 
+  -- one more file, before the others
+  pub put_held : (files : List A) (y : A) (name bytes : List ℕ) → name_of y ≡ name → bytes_of y ≡ bytes →
+      (other : List ℕ) → held_in name_of bytes_of (y ∷ files) other ≡ (if bytes_eq other name then Some bytes else held_in name_of bytes_of files other)
+  put_held files y name bytes named holds other = go (bytes_eq other name) refl
+    where
+      go : (t : Bool) → bytes_eq other name ≡ t → held_in name_of bytes_of (y ∷ files) other ≡ (if t then Some bytes else held_in name_of bytes_of files other)
+      go true same =
+          let found : bytes_eq (name_of y) other ≡ true = ap (λ n. bytes_eq n other) named ∙ (ap (bytes_eq name) (bytes_same other name same) ∙ same_bytes name) in
+          ap (option_map bytes_of) (cond-true (bytes_eq (name_of y) other) (Some y) (find (λ f. bytes_eq (name_of f) other) files) found) ∙ ap Some holds
+      go false apart =
+          let fails : bytes_eq (name_of y) other ≡ false = ap (λ n. bytes_eq n other) named ∙ apart_bytes other name apart in
+          ap (option_map bytes_of) (cond-false (bytes_eq (name_of y) other) (Some y) (find (λ f. bytes_eq (name_of f) other) files) fails)
+
 -- what is read, where there is memory for it
 pub read_back : {V E : Type 0} (items : V → List ℕ) (r : Result V E) (o : Option V) (files : List ℕ → Option (List ℕ)) (name bytes : List ℕ) → o ≡ result_ok r → IfOk r (λ v. items v ≡ bytes) →
     files name ≡ Some bytes → IfSome o (λ v. IsHeld (Some files) name (items v))
