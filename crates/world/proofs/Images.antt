@@ -35,6 +35,24 @@ image_of-landed (lane ∷ lanes) [] b ticket long at = absurd (omega arith)
 image_of-landed (lane ∷ lanes) (t ∷ tickets) zero ticket long at = ap (λ l. bytes_in l (Some ticket) ∷ image_of lanes tickets) (same_Some lane None at)
 image_of-landed (lane ∷ lanes) (t ∷ tickets) (suc b) ticket long at = ap (λ bs. bytes_in lane t ∷ bs) (image_of-landed lanes tickets b ticket (omega arith) at)
 
+-- a lane with its ticket keeps its bytes
+pub image_of-kept : (lanes : Lanes) (tickets : Tickets) (b : ℕ) (ticket next : TicketValue MemoryLane) → length tickets ≡ length lanes → slice_get lanes b ≡ Some None →
+    ticket_at tickets b ≡ Some ticket → next.lane.bytes ≡ ticket.lane.bytes → image_of lanes (slice_set tickets b (Some next)) ≡ image_of lanes tickets
+image_of-kept [] tickets b ticket next long at has same = absurd (none-some _ at)
+image_of-kept (l ∷ lanes) [] b ticket next long at has same = absurd (omega arith)
+image_of-kept (l ∷ lanes) (t ∷ tickets) zero ticket next long at has same =
+    ap (λ bytes. bytes ∷ image_of lanes tickets) (ap (λ o. bytes_in o (Some next)) (same_Some l None at) ∙ (same ∙ sym ((λ i. bytes_in (same_Some l None at i) (has i)))))
+image_of-kept (l ∷ lanes) (t ∷ tickets) (suc b) ticket next long at has same = ap (λ bs. bytes_in l t ∷ bs) (image_of-kept lanes tickets b ticket next (omega arith) at has same)
+
+-- a lane at home changes
+pub image_of-home : (lanes : Lanes) (tickets : Tickets) (b : ℕ) (old new : MemoryLane) → slice_get lanes b ≡ Some (Some old) →
+    image_of (slice_set lanes b (Some new)) tickets ≡ slice_set (image_of lanes tickets) b new.bytes
+image_of-home [] tickets b old new at = absurd (none-some _ at)
+image_of-home (l ∷ lanes) [] zero old new at = refl
+image_of-home (l ∷ lanes) [] (suc b) old new at = ap (λ bs. bytes_in l None ∷ bs) (image_of-home lanes [] b old new at)
+image_of-home (l ∷ lanes) (t ∷ tickets) zero old new at = refl
+image_of-home (l ∷ lanes) (t ∷ tickets) (suc b) old new at = ap (λ bs. bytes_in l t ∷ bs) (image_of-home lanes tickets b old new at)
+
 -- a lane comes home with its bytes
 pub image_of-finished : (lanes : Lanes) (tickets : Tickets) (b : ℕ) (lane : MemoryLane) (ticket : TicketValue MemoryLane) → length tickets ≡ length lanes → slice_get lanes b ≡ Some None →
     ticket_at tickets b ≡ Some ticket → lane.bytes ≡ ticket.lane.bytes → image_of (slice_set lanes b (Some lane)) (slice_set tickets b None) ≡ image_of lanes tickets

@@ -6,3 +6,5 @@ pub mod Sizes
 pub mod Formats
 pub mod Runs
 pub mod FreshTables
+pub mod Draining
+pub mod Views

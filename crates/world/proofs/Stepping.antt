@@ -1,19 +1,24 @@
 -- What each event leaves is a world, and one step of the model.
-use Rattle.std.proofs.Common.{◌≡◌, ℕ, ◌<◌, ⊎_elim, List, true, false, length, Some, None, Result, Ok, Err, refl, sym, ◌∙◌, ap, inl, inr, subst, slice_get, slice_set, arith}
-use Rattle.std.specs.Prelude.{IsTrue, ◌&&◌}
+use Rattle.std.proofs.Common.{◌≡◌, ℕ, ◌<◌, List, Bool, true, false, length, Some, None, Result, Ok, Err, refl, sym, ◌∙◌, ap, inl, inr, subst, slice_get, slice_set, arith}
+use Rattle.std.specs.Prelude.{◌&&◌}
 use Rattle.std.proofs.lemmas.Bool.{cases_eq, eq-eqb}
 use Rattle.std.proofs.lemmas.Option.{same_Some, none-some, slice_get_within}
 use Rattle.std.proofs.lemmas.List.{length-set}
-use Rattle.disk.specs.Mem.{MemoryLane}
+use Rattle.disk.specs.Mem.{MemoryLane, write_failed, bytes_after_fault}
 use Rattle.xn_model.specs.declared.refusal.Refusal.{Refusal}
 use Rattle.xn_model.specs.Images.{block_of}
 use Rattle.xn_model.specs.Lives.{StoreState, life_at}
-use Rattle.xn_model.specs.Results.{Gives, GivesExactly, result_map}
-use Rattle.xn_model.specs.Calls.{Edit, init_of, propose_of, make_root_of, drop_root_of, forget_of, begun_of, settled_of, settled_place, settled_after}
-use Rattle.xn_model.specs.Worlds.{World, Event, Client, Begin, Land, Finish, Init, Propose, MakeRoot, DropRoot, Forget, Reply, Started, Edited, Forgotten, Begun, Landed, Finished, NoTicket, Refused, act, reply_and_world, write, with_ticket, begun_count, is_refusal, asks_memory, AfterCall, Step}
+use Rattle.xn_model.specs.Results.{GivesExactly, result_map}
+use Rattle.xn_model.specs.Calls.{init_of, propose_of, make_root_of, drop_root_of, forget_of, begun_of, settled_of, settled_place, settled_after}
+use Rattle.xn_model.specs.Worlds.{World, Event, Client, Begin, Land, Fail, Finish, Reply, Begun, Landed, Fault, Finished, NoTicket, act, reply_and_world, write, with_ticket, begun_count, AfterCall, Step}
 use Rattle.xn_model.specs.Lanes.{FitLives}
 use Rattle.xn_model.specs.Flights.{flight_of, HaveSameFlights}
 use Rattle.xn_state.specs.States.{types_in}
+use Rattle.xn_state.specs.declared.call.Call.{Call}
+use Rattle.xn_state.specs.declared.call.Call.TheVariants.{Init, Propose, MakeRoot, DropRoot, Forget, Read, Root, Kind, Tainted, Pending, Floor, Free, Pick, Drain}
+use Rattle.xn_state.specs.declared.answer.Answer.{Answer}
+use Rattle.xn_state.specs.Answers.{Answers, call_of, reply_of_answer}
+use Rattle.xn_state.proofs.Answering.{answers_step}
 use Rattle.xn_model.specs.Rules.{Holds}
 use Rattle.xn_model.proofs.Given.{gives_keeps, gives_exactly_keeps, gives_exactly-ok}
 use Rattle.xn_model.proofs.Runs.{step_keeps}
@@ -22,34 +27,10 @@ use Rattle.xn_model.proofs.Flights as flight
 use Rattle.xn_kernel.specs.Kernels.{KernelValue, TicketValue, is_mine, is_in_flight}
 use Rattle.world.specs.Disks.{image_of, IsCalm, ticket_at}
 use Rattle.world.specs.Worlds.{Tickets, world_of, ticket_flight, IsTicketOf, IsWorld}
-use Rattle.world.proofs.Images.{image_of-begun, image_of-landed, image_of-finished, block_of-away}
+use Rattle.world.proofs.Images.{image_of-begun, image_of-landed, image_of-kept, image_of-finished, block_of-away}
 use Rattle.world.proofs.Places.{place_at, place_at-same, place_at-other, full_place, full_get}
 use Rattle.world.proofs.Flights.{IsFlying, flying, flying_count, flying_bytes, flying_test, not_flying, settled_well}
 use Rattle.xn_kernel.proofs.Homes.{away_in_flight}
-
-abbrev pub told : {A : Type 0} → (A → Reply) → Result A Refusal → Reply
-told reply (Ok x) = reply x
-told reply (Err refusal) = Refused refusal
-
--- A call that may want memory
-
-gives_step : {A : Type 0} (w : World) (e : Event) (reply : A → Reply) (r : Result (A × StoreState) Refusal) (new : StoreState) (result : Result A Refusal) →
-    w.down ≡ false → act w e ≡ reply_and_world reply w r → IsTrue (asks_memory e) → ((a : A) → is_refusal (reply a) ≡ false) → Gives r w.state new result →
-    AfterCall w e (told reply result) (record w { state = new })
-gives_step w e reply (Ok (answer, after)) new result up acts asks answers h = ⊎_elim
-    (λ p. inl (ap (told reply) p.0 ∙ sym (ap (λ (x : Reply × World). x.0) acts), ap (λ s. record w { state = s }) p.1 ∙ sym (ap (λ (x : Reply × World). x.1) acts)))
-    (λ p. inr (asks, (ap (λ (x : Reply × World). is_refusal x.0) acts ∙ answers answer, (up, (ap (told reply) p.0, ap (λ s. record w { state = s }) p.1)))))
-    h
-gives_step w e reply (Err refusal) new result up acts asks answers h =
-    inl (ap (told reply) h.0 ∙ sym (ap (λ (x : Reply × World). x.0) acts), ap (λ s. record w { state = s }) h.1 ∙ sym (ap (λ (x : Reply × World). x.1) acts))
-
--- a call that doesn't
-exactly_step : {A : Type 0} (w : World) (e : Event) (reply : A → Reply) (r : Result (A × StoreState) Refusal) (new : StoreState) (result : Result A Refusal) →
-    act w e ≡ reply_and_world reply w r → GivesExactly r w.state new result → AfterCall w e (told reply result) (record w { state = new })
-exactly_step w e reply (Ok (answer, after)) new result acts h =
-    inl (ap (told reply) h.0 ∙ sym (ap (λ (x : Reply × World). x.0) acts), ap (λ s. record w { state = s }) h.1 ∙ sym (ap (λ (x : Reply × World). x.1) acts))
-exactly_step w e reply (Err refusal) new result acts h =
-    inl (ap (told reply) h.0 ∙ sym (ap (λ (x : Reply × World). x.0) acts), ap (λ s. record w { state = s }) h.1 ∙ sym (ap (λ (x : Reply × World). x.1) acts))
 
 module _ (kernel : KernelValue MemoryLane) (tickets : Tickets) (is : IsWorld kernel tickets) where
   now : World
@@ -60,60 +41,51 @@ module _ (kernel : KernelValue MemoryLane) (tickets : Tickets) (is : IsWorld ker
       IsWorld (record kernel { state = record kernel.state { store = new } }) tickets
   new_state new holds fit flights = record { holds = holds; fit = fit; calm = is.calm; count = is.count; flights = λ b. is.flights b ∙ sym (flights b); mine = λ b t e. let m = is.mine b t e in record { kernel_is = m.kernel_is; block_is = m.block_is; calm = m.calm } }
 
-  pub init_step : (fs ty : ℕ) (bytes : List ℕ) (new : StoreState) (result : Result (ℕ × ℕ) Refusal) → Gives (init_of (types_in kernel.state) kernel.state.store fs ty bytes) kernel.state.store new result →
-      Step (world_of kernel tickets) (Client fs (Init ty bytes)) (told (λ made. Started made.0 made.1) result) (world_of (record kernel { state = record kernel.state { store = new } }) tickets)
-  init_step fs ty bytes new result h = gives_step (world_of kernel tickets) (Client fs (Init ty bytes)) (λ made. Started made.0 made.1) (init_of (types_in kernel.state) kernel.state.store fs ty bytes) new result refl refl refl (λ a. refl) h
+  -- A call of a client
 
-  pub init_world : (fs ty : ℕ) (bytes : List ℕ) (new : StoreState) (result : Result (ℕ × ℕ) Refusal) → fs < 32 → Gives (init_of (types_in kernel.state) kernel.state.store fs ty bytes) kernel.state.store new result →
-      IsWorld (record kernel { state = record kernel.state { store = new } }) tickets
-  init_world fs ty bytes new result few h = new_state new
-      (step_keeps (world_of kernel tickets) (Client fs (Init ty bytes)) (told (λ made. Started made.0 made.1) result) (world_of (record kernel { state = record kernel.state { store = new } }) tickets) few is.holds (init_step fs ty bytes new result h))
-      (gives_keeps (λ s. FitLives (λ (l : MemoryLane). l.bytes) kernel.lanes s.lives) (init_of (types_in kernel.state) kernel.state.store fs ty bytes) kernel.state.store new result h is.fit (λ made e. lane.lanes_init (λ (l : MemoryLane). l.bytes) kernel.lanes (types_in kernel.state) kernel.state.store new fs ty bytes made e is.fit))
-      (gives_keeps (λ s. HaveSameFlights kernel.state.store.lives s.lives) (init_of (types_in kernel.state) kernel.state.store fs ty bytes) kernel.state.store new result h (λ b. refl) (λ made e. flight.flights_init (types_in kernel.state) kernel.state.store new fs ty bytes made e))
+  module _ (fs : ℕ) (call : Call) (answer : Answer) (new : StoreState) (answers : Answers (types_in kernel.state) kernel.state.store fs call new answer) where
+    pub call_step : Step (world_of kernel tickets) (Client fs (call_of call)) (reply_of_answer answer) (world_of (record kernel { state = record kernel.state { store = new } }) tickets)
+    call_step = answers_step (types_in kernel.state) (image_of kernel.lanes tickets) kernel.state.store new fs call answer answers
 
-  pub root_step : (fs b : ℕ) (new : StoreState) (result : Result ℕ Refusal) → Gives (make_root_of kernel.state.store fs b) kernel.state.store new result →
-      Step (world_of kernel tickets) (Client fs (MakeRoot b)) (told Edited result) (world_of (record kernel { state = record kernel.state { store = new } }) tickets)
-  root_step fs b new result h = gives_step (world_of kernel tickets) (Client fs (MakeRoot b)) Edited (make_root_of kernel.state.store fs b) new result refl refl refl (λ a. refl) h
+    fits : (call : Call) → Answers (types_in kernel.state) kernel.state.store fs call new answer → FitLives (λ (l : MemoryLane). l.bytes) kernel.lanes new.lives
+    fits (Init ty bytes) h = gives_keeps (λ s. FitLives (λ (l : MemoryLane). l.bytes) kernel.lanes s.lives) (init_of (types_in kernel.state) kernel.state.store fs ty bytes) kernel.state.store new h.0 h.2 is.fit (λ made e. lane.lanes_init (λ (l : MemoryLane). l.bytes) kernel.lanes (types_in kernel.state) kernel.state.store new fs ty bytes made e is.fit)
+    fits (Propose b edit) h = gives_keeps (λ s. FitLives (λ (l : MemoryLane). l.bytes) kernel.lanes s.lives) (propose_of (types_in kernel.state) kernel.state.store fs b edit) kernel.state.store new h.0 h.2 is.fit (λ entry e. lane.lanes_propose (λ (l : MemoryLane). l.bytes) kernel.lanes (types_in kernel.state) kernel.state.store new fs b edit entry e is.fit)
+    fits (MakeRoot b) h = gives_keeps (λ s. FitLives (λ (l : MemoryLane). l.bytes) kernel.lanes s.lives) (make_root_of kernel.state.store fs b) kernel.state.store new h.0 h.2 is.fit (λ entry e. lane.lanes_make_root (λ (l : MemoryLane). l.bytes) kernel.lanes kernel.state.store new fs b entry e is.fit)
+    fits DropRoot h = gives_keeps (λ s. FitLives (λ (l : MemoryLane). l.bytes) kernel.lanes s.lives) (drop_root_of (types_in kernel.state) kernel.state.store fs) kernel.state.store new h.0 h.2 is.fit (λ entry e. lane.lanes_drop_root (λ (l : MemoryLane). l.bytes) kernel.lanes (types_in kernel.state) kernel.state.store new fs entry e is.fit)
+    fits (Forget b) h = gives_exactly_keeps (λ s. FitLives (λ (l : MemoryLane). l.bytes) kernel.lanes s.lives) (forget_of (types_in kernel.state) kernel.state.store fs b) kernel.state.store new h.0 h.2 is.fit (λ done e. lane.lanes_forget (λ (l : MemoryLane). l.bytes) kernel.lanes (types_in kernel.state) kernel.state.store new fs b done e is.fit)
+    fits (Read b) h = subst (λ (s : StoreState). FitLives (λ (l : MemoryLane). l.bytes) kernel.lanes s.lives) (sym h.1) is.fit
+    fits Root h = subst (λ (s : StoreState). FitLives (λ (l : MemoryLane). l.bytes) kernel.lanes s.lives) (sym h.1) is.fit
+    fits (Kind b) h = subst (λ (s : StoreState). FitLives (λ (l : MemoryLane). l.bytes) kernel.lanes s.lives) (sym h.1) is.fit
+    fits (Tainted b) h = subst (λ (s : StoreState). FitLives (λ (l : MemoryLane). l.bytes) kernel.lanes s.lives) (sym h.1) is.fit
+    fits Pending h = subst (λ (s : StoreState). FitLives (λ (l : MemoryLane). l.bytes) kernel.lanes s.lives) (sym h.1) is.fit
+    fits Floor h = subst (λ (s : StoreState). FitLives (λ (l : MemoryLane). l.bytes) kernel.lanes s.lives) (sym h.1) is.fit
+    fits Free h = subst (λ (s : StoreState). FitLives (λ (l : MemoryLane). l.bytes) kernel.lanes s.lives) (sym h.1) is.fit
+    fits Pick h = subst (λ (s : StoreState). FitLives (λ (l : MemoryLane). l.bytes) kernel.lanes s.lives) (sym h.1) is.fit
+    fits Drain h = absurd h
 
-  pub root_world : (fs b : ℕ) (new : StoreState) (result : Result ℕ Refusal) → fs < 32 → Gives (make_root_of kernel.state.store fs b) kernel.state.store new result →
-      IsWorld (record kernel { state = record kernel.state { store = new } }) tickets
-  root_world fs b new result few h = new_state new
-      (step_keeps (world_of kernel tickets) (Client fs (MakeRoot b)) (told Edited result) (world_of (record kernel { state = record kernel.state { store = new } }) tickets) few is.holds (root_step fs b new result h))
-      (gives_keeps (λ s. FitLives (λ (l : MemoryLane). l.bytes) kernel.lanes s.lives) (make_root_of kernel.state.store fs b) kernel.state.store new result h is.fit (λ entry e. lane.lanes_make_root (λ (l : MemoryLane). l.bytes) kernel.lanes kernel.state.store new fs b entry e is.fit))
-      (gives_keeps (λ s. HaveSameFlights kernel.state.store.lives s.lives) (make_root_of kernel.state.store fs b) kernel.state.store new result h (λ b. refl) (λ entry e. flight.flights_make_root (types_in kernel.state) kernel.state.store new is.holds.state fs b entry e))
+    still : new ≡ kernel.state.store → HaveSameFlights kernel.state.store.lives new.lives
+    still same = subst (λ (s : StoreState). HaveSameFlights kernel.state.store.lives s.lives) (sym same) (λ b. refl)
 
-  pub edit_step : (fs b : ℕ) (edit : Edit) (new : StoreState) (result : Result ℕ Refusal) → Gives (propose_of (types_in kernel.state) kernel.state.store fs b edit) kernel.state.store new result →
-      Step (world_of kernel tickets) (Client fs (Propose b edit)) (told Edited result) (world_of (record kernel { state = record kernel.state { store = new } }) tickets)
-  edit_step fs b edit new result h = gives_step (world_of kernel tickets) (Client fs (Propose b edit)) Edited (propose_of (types_in kernel.state) kernel.state.store fs b edit) new result refl refl refl (λ a. refl) h
+    flies_on : (call : Call) → Answers (types_in kernel.state) kernel.state.store fs call new answer → HaveSameFlights kernel.state.store.lives new.lives
+    flies_on (Init ty bytes) h = gives_keeps (λ s. HaveSameFlights kernel.state.store.lives s.lives) (init_of (types_in kernel.state) kernel.state.store fs ty bytes) kernel.state.store new h.0 h.2 (λ b. refl) (λ made e. flight.flights_init (types_in kernel.state) kernel.state.store new fs ty bytes made e)
+    flies_on (Propose b edit) h = gives_keeps (λ s. HaveSameFlights kernel.state.store.lives s.lives) (propose_of (types_in kernel.state) kernel.state.store fs b edit) kernel.state.store new h.0 h.2 (λ b. refl) (λ entry e. flight.flights_propose (types_in kernel.state) kernel.state.store new is.holds.state fs b edit entry e)
+    flies_on (MakeRoot b) h = gives_keeps (λ s. HaveSameFlights kernel.state.store.lives s.lives) (make_root_of kernel.state.store fs b) kernel.state.store new h.0 h.2 (λ b. refl) (λ entry e. flight.flights_make_root (types_in kernel.state) kernel.state.store new is.holds.state fs b entry e)
+    flies_on DropRoot h = gives_keeps (λ s. HaveSameFlights kernel.state.store.lives s.lives) (drop_root_of (types_in kernel.state) kernel.state.store fs) kernel.state.store new h.0 h.2 (λ b. refl) (λ entry e. flight.flights_drop_root (types_in kernel.state) kernel.state.store new is.holds.state fs entry e)
+    flies_on (Forget b) h = gives_exactly_keeps (λ s. HaveSameFlights kernel.state.store.lives s.lives) (forget_of (types_in kernel.state) kernel.state.store fs b) kernel.state.store new h.0 h.2 (λ b. refl) (λ done e. flight.flights_forget (types_in kernel.state) kernel.state.store new fs b done e)
+    flies_on (Read b) h = still h.1
+    flies_on Root h = still h.1
+    flies_on (Kind b) h = still h.1
+    flies_on (Tainted b) h = still h.1
+    flies_on Pending h = still h.1
+    flies_on Floor h = still h.1
+    flies_on Free h = still h.1
+    flies_on Pick h = still h.1
+    flies_on Drain h = absurd h
 
-  pub edit_world : (fs b : ℕ) (edit : Edit) (new : StoreState) (result : Result ℕ Refusal) → fs < 32 → Gives (propose_of (types_in kernel.state) kernel.state.store fs b edit) kernel.state.store new result →
-      IsWorld (record kernel { state = record kernel.state { store = new } }) tickets
-  edit_world fs b edit new result few h = new_state new
-      (step_keeps (world_of kernel tickets) (Client fs (Propose b edit)) (told Edited result) (world_of (record kernel { state = record kernel.state { store = new } }) tickets) few is.holds (edit_step fs b edit new result h))
-      (gives_keeps (λ s. FitLives (λ (l : MemoryLane). l.bytes) kernel.lanes s.lives) (propose_of (types_in kernel.state) kernel.state.store fs b edit) kernel.state.store new result h is.fit (λ entry e. lane.lanes_propose (λ (l : MemoryLane). l.bytes) kernel.lanes (types_in kernel.state) kernel.state.store new fs b edit entry e is.fit))
-      (gives_keeps (λ s. HaveSameFlights kernel.state.store.lives s.lives) (propose_of (types_in kernel.state) kernel.state.store fs b edit) kernel.state.store new result h (λ b. refl) (λ entry e. flight.flights_propose (types_in kernel.state) kernel.state.store new is.holds.state fs b edit entry e))
-
-  pub drop_step : (fs : ℕ) (new : StoreState) (result : Result ℕ Refusal) → Gives (drop_root_of (types_in kernel.state) kernel.state.store fs) kernel.state.store new result →
-      Step (world_of kernel tickets) (Client fs DropRoot) (told Edited result) (world_of (record kernel { state = record kernel.state { store = new } }) tickets)
-  drop_step fs new result h = gives_step (world_of kernel tickets) (Client fs DropRoot) Edited (drop_root_of (types_in kernel.state) kernel.state.store fs) new result refl refl refl (λ a. refl) h
-
-  pub drop_world : (fs : ℕ) (new : StoreState) (result : Result ℕ Refusal) → fs < 32 → Gives (drop_root_of (types_in kernel.state) kernel.state.store fs) kernel.state.store new result →
-      IsWorld (record kernel { state = record kernel.state { store = new } }) tickets
-  drop_world fs new result few h = new_state new
-      (step_keeps (world_of kernel tickets) (Client fs DropRoot) (told Edited result) (world_of (record kernel { state = record kernel.state { store = new } }) tickets) few is.holds (drop_step fs new result h))
-      (gives_keeps (λ s. FitLives (λ (l : MemoryLane). l.bytes) kernel.lanes s.lives) (drop_root_of (types_in kernel.state) kernel.state.store fs) kernel.state.store new result h is.fit (λ entry e. lane.lanes_drop_root (λ (l : MemoryLane). l.bytes) kernel.lanes (types_in kernel.state) kernel.state.store new fs entry e is.fit))
-      (gives_keeps (λ s. HaveSameFlights kernel.state.store.lives s.lives) (drop_root_of (types_in kernel.state) kernel.state.store fs) kernel.state.store new result h (λ b. refl) (λ entry e. flight.flights_drop_root (types_in kernel.state) kernel.state.store new is.holds.state fs entry e))
-
-  pub forget_step : (fs b : ℕ) (new : StoreState) (result : Result (Unit {0}) Refusal) → GivesExactly (forget_of (types_in kernel.state) kernel.state.store fs b) kernel.state.store new result →
-      Step (world_of kernel tickets) (Client fs (Forget b)) (told (λ done. Forgotten) result) (world_of (record kernel { state = record kernel.state { store = new } }) tickets)
-  forget_step fs b new result h = exactly_step (world_of kernel tickets) (Client fs (Forget b)) (λ done. Forgotten) (forget_of (types_in kernel.state) kernel.state.store fs b) new result refl h
-
-  pub forget_world : (fs b : ℕ) (new : StoreState) (result : Result (Unit {0}) Refusal) → fs < 32 → GivesExactly (forget_of (types_in kernel.state) kernel.state.store fs b) kernel.state.store new result →
-      IsWorld (record kernel { state = record kernel.state { store = new } }) tickets
-  forget_world fs b new result few h = new_state new
-      (step_keeps (world_of kernel tickets) (Client fs (Forget b)) (told (λ done. Forgotten) result) (world_of (record kernel { state = record kernel.state { store = new } }) tickets) few is.holds (forget_step fs b new result h))
-      (gives_exactly_keeps (λ s. FitLives (λ (l : MemoryLane). l.bytes) kernel.lanes s.lives) (forget_of (types_in kernel.state) kernel.state.store fs b) kernel.state.store new result h is.fit (λ done e. lane.lanes_forget (λ (l : MemoryLane). l.bytes) kernel.lanes (types_in kernel.state) kernel.state.store new fs b done e is.fit))
-      (gives_exactly_keeps (λ s. HaveSameFlights kernel.state.store.lives s.lives) (forget_of (types_in kernel.state) kernel.state.store fs b) kernel.state.store new result h (λ b. refl) (λ done e. flight.flights_forget (types_in kernel.state) kernel.state.store new fs b done e))
+    pub call_world : fs < 32 → IsWorld (record kernel { state = record kernel.state { store = new } }) tickets
+    call_world few = new_state new
+        (step_keeps (world_of kernel tickets) (Client fs (call_of call)) (reply_of_answer answer) (world_of (record kernel { state = record kernel.state { store = new } }) tickets) few is.holds call_step)
+        (fits call answers) (flies_on call answers)
 
   -- A write begins
 
@@ -173,6 +145,9 @@ module _ (kernel : KernelValue MemoryLane) (tickets : Tickets) (is : IsWorld ker
   pub land_without : (b : ℕ) → ticket_at tickets b ≡ None → Step (world_of kernel tickets) (Land b) NoTicket (world_of kernel tickets)
   land_without b none = told_no_ticket (Land b) (no_ticket b (λ k. (Landed, write (world_of kernel tickets) b k true)) none)
 
+  pub fail_without : (b : ℕ) (stays : Bool) → ticket_at tickets b ≡ None → Step (world_of kernel tickets) (Fail b stays) NoTicket (world_of kernel tickets)
+  fail_without b stays none = told_no_ticket (Fail b stays) (no_ticket b (λ k. (Fault, write (world_of kernel tickets) b k stays)) none)
+
   pub finish_without : (b : ℕ) → ticket_at tickets b ≡ None → Step (world_of kernel tickets) (Finish b) NoTicket (world_of kernel tickets)
   finish_without b none = told_no_ticket (Finish b) (no_ticket b (λ k. reply_and_world (λ (done : ℕ × ℕ). Finished done.0 done.1) (world_of kernel tickets) (settled_of kernel.state.store b (block_of (image_of kernel.lanes tickets) b))) none)
 
@@ -190,6 +165,31 @@ module _ (kernel : KernelValue MemoryLane) (tickets : Tickets) (is : IsWorld ker
 
     held : (go : ℕ → Reply × World) → with_ticket (world_of kernel tickets) (begun_count (life_at kernel.state.store.lives b)) go ≡ go ticket.count
     held go = ap (λ o. with_ticket (world_of kernel tickets) o go) (flying_count (life_at kernel.state.store.lives b) ticket.count ticket.bytes flies)
+
+    -- the ticket's lane, with other bytes
+
+    lane_world : (lane' : MemoryLane) → IsCalm lane' → Holds (world_of kernel (slice_set tickets b (Some (record ticket { lane = lane' })))) → IsWorld kernel (slice_set tickets b (Some (record ticket { lane = lane' })))
+    lane_world lane' calm holds =
+        let next : TicketValue MemoryLane = record ticket { lane = lane' } in
+        let next_tickets : Tickets = slice_set tickets b (Some next) in
+        record {
+          holds = holds;
+          fit = is.fit;
+          calm = is.calm;
+          count = length-set tickets b (Some next) ∙ is.count;
+          flights = λ c. elim (cases_eq c b) [
+            | inl same ↦ ap (λ n. ticket_flight (ticket_at next_tickets n)) same ∙ (ap ticket_flight (place_at-same tickets b (Some next) within_tickets)
+                ∙ (sym (ap ticket_flight has) ∙ (is.flights b ∙ sym (ap (λ n. flight_of (life_at kernel.state.store.lives n)) same))))
+            | inr other ↦ ap ticket_flight (place_at-other tickets b c (Some next) other) ∙ is.flights c
+          ];
+          mine = λ c t at. elim (cases_eq c b) [
+            | inl same ↦
+                let it : next ≡ t = same_Some next t (sym (place_at-same tickets b (Some next) within_tickets) ∙ (ap (ticket_at next_tickets) (sym same) ∙ at)) in
+                let m = is.mine b ticket has in
+                subst (λ x. IsTicketOf kernel c x) it (record { kernel_is = m.kernel_is; block_is = m.block_is ∙ sym same; calm = calm })
+            | inr other ↦ is.mine c t (sym (place_at-other tickets b c (Some next) other) ∙ at)
+          ];
+        }
 
     -- The write is carried out
 
@@ -212,25 +212,36 @@ module _ (kernel : KernelValue MemoryLane) (tickets : Tickets) (is : IsWorld ker
           inl (sym (ap (λ (x : Reply × World). x.0) acts), landed_same ∙ sym (ap (λ (x : Reply × World). x.1) acts))
 
       pub land_world : IsWorld kernel landed_tickets
-      land_world = record {
-        holds = step_keeps (world_of kernel tickets) (Land b) Landed (world_of kernel landed_tickets) tt is.holds land_step;
-        fit = is.fit;
-        calm = is.calm;
-        count = length-set tickets b (Some landed_ticket) ∙ is.count;
-        flights = λ c. elim (cases_eq c b) [
-          | inl same ↦ ap (λ n. ticket_flight (ticket_at landed_tickets n)) same ∙ (ap ticket_flight (place_at-same tickets b (Some landed_ticket) within_tickets)
-              ∙ (sym (ap ticket_flight has) ∙ (is.flights b ∙ sym (ap (λ n. flight_of (life_at kernel.state.store.lives n)) same))))
-          | inr other ↦ ap ticket_flight (place_at-other tickets b c (Some landed_ticket) other) ∙ is.flights c
-        ];
-        mine = λ c t at. elim (cases_eq c b) [
-          | inl same ↦
-              let it : landed_ticket ≡ t = same_Some landed_ticket t (sym (place_at-same tickets b (Some landed_ticket) within_tickets) ∙ (ap (ticket_at landed_tickets) (sym same) ∙ at)) in
-              let m = is.mine b ticket has in
-              let calm : IsCalm lane' = (ap (λ (l : MemoryLane). l.write_fault) written ∙ m.calm.0, ap (λ (l : MemoryLane). l.read_fault) written ∙ m.calm.1) in
-              subst (λ x. IsTicketOf kernel c x) it (record { kernel_is = m.kernel_is; block_is = m.block_is ∙ sym same; calm = calm })
-          | inr other ↦ is.mine c t (sym (place_at-other tickets b c (Some landed_ticket) other) ∙ at)
-        ];
-      }
+      land_world =
+          let m = is.mine b ticket has in
+          lane_world lane' (ap (λ (l : MemoryLane). l.write_fault) written ∙ m.calm.0, ap (λ (l : MemoryLane). l.read_fault) written ∙ m.calm.1)
+          (step_keeps (world_of kernel tickets) (Land b) Landed (world_of kernel landed_tickets) tt is.holds land_step)
+
+    -- The write fails
+
+    module _ (lane' : MemoryLane) (stays : Bool) (failed : lane' ≡ write_failed (record ticket.lane { write_fault = Some stays }) ticket.bytes) where
+      abbrev failed_tickets : Tickets
+      failed_tickets = slice_set tickets b (Some (record ticket { lane = lane' }))
+
+      failed_image : (stays : Bool) → lane'.bytes ≡ bytes_after_fault (Some stays) ticket.lane.bytes ticket.bytes →
+          world_of kernel failed_tickets ≡ write (world_of kernel tickets) b ticket.count stays
+      failed_image true e =
+          ap (λ image. record (world_of kernel tickets) { image = image }) (image_of-landed kernel.lanes tickets b (record ticket { lane = lane' }) is.count away
+          ∙ ap (slice_set (image_of kernel.lanes tickets) b) (e ∙ sym (flying_bytes (life_at kernel.state.store.lives b) ticket.count ticket.bytes flies)))
+      failed_image false e =
+          ap (λ image. record (world_of kernel tickets) { image = image }) (image_of-kept kernel.lanes tickets b ticket (record ticket { lane = lane' }) is.count away has e)
+
+      failed_same : world_of kernel failed_tickets ≡ write (world_of kernel tickets) b ticket.count stays
+      failed_same = failed_image stays (ap (λ (l : MemoryLane). l.bytes) failed)
+
+      pub fail_step : Step (world_of kernel tickets) (Fail b stays) Fault (world_of kernel failed_tickets)
+      fail_step =
+          let acts : act (world_of kernel tickets) (Fail b stays) ≡ (Fault, write (world_of kernel tickets) b ticket.count stays) = held (λ k. (Fault, write (world_of kernel tickets) b k stays)) in
+          inl (sym (ap (λ (x : Reply × World). x.0) acts), failed_same ∙ sym (ap (λ (x : Reply × World). x.1) acts))
+
+      pub fail_world : IsWorld kernel failed_tickets
+      fail_world = lane_world lane' (ap (λ (l : MemoryLane). l.write_fault) failed, ap (λ (l : MemoryLane). l.read_fault) failed ∙ (is.mine b ticket has).calm.1)
+          (step_keeps (world_of kernel tickets) (Fail b stays) Fault (world_of kernel failed_tickets) tt is.holds fail_step)
 
     -- The block is read back
 

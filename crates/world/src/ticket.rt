@@ -1,17 +1,17 @@
 // A ticket that may be dropped.
 
-ghost use Rattle.std.specs.Prelude.{◌≡◌};
+ghost use Rattle.std.specs.Prelude.{◌≡◌, Some};
 
 use disk::{DeviceFault, MemLane};
 use std::marker::Model;
 use xn_kernel::Ticket;
 
 /// The ticket of a write that is under way. Where it is dropped, the write is given up.
-pub struct Held {
+pub struct DroppableTicket {
     ticket: Ticket<MemLane>,
 }
 
-impl Model for Held {
+impl Model for DroppableTicket {
     ghost use Rattle.disk.specs.Mem.{MemoryLane};
     ghost use Rattle.xn_kernel.specs.Kernels.{TicketValue};
 
@@ -20,26 +20,26 @@ impl Model for Held {
     ghost view = { λ a. a.ticket };
 }
 
-impl Drop for Held {
+impl Drop for DroppableTicket {
     fn drop(self) {
-        let Held { ticket } = self;
+        let DroppableTicket { ticket } = self;
         let _lane = ticket.into_lane();
     }
 }
 
-impl Held {
+impl DroppableTicket {
     ghost use Rattle.disk.specs.Mem.{memory_write};
 
-    pub fn new(ticket: Ticket<MemLane>) -> Held
+    pub fn new(ticket: Ticket<MemLane>) -> DroppableTicket
         ensures { result ≡ ticket }
     {
-        Held { ticket }
+        DroppableTicket { ticket }
     }
 
     pub fn into_ticket(self) -> Ticket<MemLane>
         ensures { result ≡ self }
     {
-        let Held { ticket } = self;
+        let DroppableTicket { ticket } = self;
         ticket
     }
 
@@ -55,6 +55,15 @@ impl Held {
         ensures ticket { self.new ≡ record self.old { lane = self.new.lane } }
         ensures gives { memory_write self.old.lane self.old.bytes result self.new.lane }
     {
+        self.ticket.land()
+    }
+
+    /// Lets the write fail, and the block hold the new bytes or the old ones.
+    pub fn fail(&mut self, new_bytes_stay: bool) -> Result<(), DeviceFault>
+        ensures ticket { self.new ≡ record self.old { lane = self.new.lane } }
+        ensures gives { memory_write (record self.old.lane { write_fault = Some new_bytes_stay }) self.old.bytes result self.new.lane }
+    {
+        self.ticket.fail_next_write(new_bytes_stay);
         self.ticket.land()
     }
 }

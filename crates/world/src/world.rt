@@ -7,21 +7,23 @@ ghost use Rattle.xn_model.specs.Worlds as model;
 ghost use Rattle.xn_model.specs.Rules.{Holds, Agrees};
 ghost use Rattle.templates.specs.Tables.{types_of};
 ghost use Rattle.templates.specs.Formats.{formatted, format_fault, table_of, IsFormatFault};
-ghost use Rattle.world.specs.Disks.{image_of};
 ghost use Rattle.world.specs.Events.{event_of, reply_of};
-ghost use Rattle.world.specs.Worlds.{world_with, IsWorld};
+ghost use Rattle.world.specs.Worlds.{world_with};
 
 use crate::event::Event;
 use crate::format::fresh_kernel;
 use crate::reply::Reply;
-use crate::ticket::Held;
-use crate::{calls, steps};
+use crate::ticket::DroppableTicket;
 use disk::{BLOCK_LEN, MemLane};
 use std::alloc::{AllocError, Global};
 use std::marker::Model;
 use templates::{FormatFault, Template};
 use xn_kernel::Kernel;
+use xn_model::Refusal;
+use xn_state::{Answer, EditId, Landed, Stopped};
 
+mod calls;
+mod steps;
 #[cfg(test)]
 mod tests;
 
@@ -30,7 +32,7 @@ mod tests;
 pub struct World {
     alloc: Global,
     kernel: Kernel<MemLane>,
-    tickets: Vec<Option<Held>>,
+    tickets: Vec<Option<DroppableTicket>>,
 }
 
 impl Model for World {
@@ -69,12 +71,15 @@ impl World {
         ensures rules { Holds (world_with self.new) }
         ensures agrees { Agrees (types_of self.new.table) (length self.new.state.lives) (block_of self.new.image) self.new.state.lives }
     {
-        match event {
-            Event::Call(fs, call) => calls::call(&mut self.kernel, &self.tickets, *fs, call),
-            Event::Begin(block) => steps::begin(&mut self.kernel, &mut self.tickets, *block),
-            Event::Land(block) => steps::land(&self.kernel, &mut self.tickets, *block),
-            Event::Finish(block) => steps::finish(&mut self.kernel, &mut self.tickets, *block),
-        }
+        let reply = match event {
+            Event::Call(fs, call) => self.call(*fs, call),
+            Event::Begin(block) => self.begin(*block),
+            Event::Land(block) => self.land(*block),
+            Event::Fail(block, new_bytes_stay) => self.fail(*block, *new_bytes_stay),
+            Event::Finish(block) => self.finish(*block),
+        };
+        self.rules();
+        reply
     }
 
     /// Events in their order, and their replies. After all of them the rules hold, the image is sound, and
@@ -87,7 +92,10 @@ impl World {
         ensures agrees { Agrees (types_of self.new.table) (length self.new.state.lives) (block_of self.new.image) self.new.state.lives }
         ensures sound { IsSound (types_of self.new.table) (length self.new.image) (block_of self.new.image) }
     {
-        let mut replies = Vec::with_capacity(self.alloc, events.len())?;
+        self.rules();
+        // The prover looks for the types within a reply among those that this function names.
+        let _types: Option<(Answer, EditId, Landed, Refusal, Stopped)> = None;
+        let mut replies = Vec::with_capacity(self.alloc(), events.len())?;
         for at in 0..events.len() {
             let reply = self.step(&events[at]);
             replies.push_reserved(reply);
@@ -99,47 +107,50 @@ impl World {
     pub fn image(&self) -> Result<Vec<u8>, AllocError>
         ensures { IfOk result (λ image. image.items ≡ joined self.now.image) }
     {
-        all_bytes(self.alloc, &self.kernel, &self.tickets)
+        let blocks = self.blocks();
+        let mut image = Vec::with_capacity(self.alloc(), BLOCK_LEN.saturating_mul(blocks))?;
+        for block in 0..blocks {
+            image.extend_from_slice(self.block_bytes(block))?;
+        }
+        Ok(image)
     }
-}
 
-/// The bytes of all blocks, one block after another.
-fn all_bytes(
-    alloc: Global,
-    kernel: &Kernel<MemLane>,
-    tickets: &Vec<Option<Held>>,
-) -> Result<Vec<u8>, AllocError>
-    requires { IsWorld kernel.now tickets.now.items }
-    ensures { IfOk result (λ image. image.items ≡ joined (image_of kernel.now.lanes tickets.now.items)) }
-{
-    let mut image = Vec::with_capacity(alloc, BLOCK_LEN.saturating_mul(tickets.len()))?;
-    for block in 0..tickets.len() {
-        image.extend_from_slice(block_bytes(kernel, tickets, block))?;
+    /// Its rules.
+    fn rules(&self)
+        ensures { Holds (world_with self.now) }
+    {
+        let _kernel = &self.kernel;
     }
-    Ok(image)
-}
 
-/// The bytes of one block, whose lane is at home or with a ticket.
-fn block_bytes<'a>(
-    kernel: &'a Kernel<MemLane>,
-    tickets: &'a Vec<Option<Held>>,
-    block: usize,
-) -> &'a [u8; 512]
-    requires world { IsWorld kernel.now tickets.now.items }
-    requires within { block < length tickets.now.items }
-    ensures { result.now ≡ block_of (image_of kernel.now.lanes tickets.now.items) block }
-{
-    match kernel.lane(block as u32) {
-        Some(lane) => lane.bytes(),
-        None => match &tickets[block] {
-            Some(held) => held.lane().bytes(),
-            None => unreachable!(),
-        },
+    /// What its calls take their memory from.
+    fn alloc(&self) -> Global {
+        self.alloc
+    }
+
+    /// How many blocks the disk has.
+    fn blocks(&self) -> usize
+        ensures { result ≡ length self.now.image }
+    {
+        self.tickets.len()
+    }
+
+    /// The bytes of one block, whose lane is at home or with a ticket.
+    fn block_bytes(&self, block: usize) -> &[u8; 512]
+        requires { block < length self.now.image }
+        ensures { result.now ≡ block_of self.now.image block }
+    {
+        match self.kernel.lane(block as u32) {
+            Some(lane) => lane.bytes(),
+            None => match &self.tickets[block] {
+                Some(ticket) => ticket.lane().bytes(),
+                None => unreachable!(),
+            },
+        }
     }
 }
 
 /// An empty place for the ticket of each block.
-fn no_tickets(alloc: Global, blocks: u32) -> Result<Vec<Option<Held>>, AllocError>
+fn no_tickets(alloc: Global, blocks: u32) -> Result<Vec<Option<DroppableTicket>>, AllocError>
     ensures { IfOk result (λ tickets. tickets.items ≡ replicate blocks None) }
 {
     let mut tickets = Vec::with_capacity(alloc, blocks as usize)?;

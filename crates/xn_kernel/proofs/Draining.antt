@@ -137,7 +137,7 @@ fits_at {L} bytes (a ∷ lanes) (x ∷ xs) zero lane l z at e =
     let here : FitsLife bytes (Some lane) (Some l) = subst (λ o. FitsLife bytes o (Some l)) (same_Some a (Some lane) at) (subst (λ o. FitsLife bytes a o) e z.0) in
     here.1
 
-set_twice : {A : Type 0} (xs : List A) (b : ℕ) (x y : A) → slice_set (slice_set xs b x) b y ≡ slice_set xs b y
+pub set_twice : {A : Type 0} (xs : List A) (b : ℕ) (x y : A) → slice_set (slice_set xs b x) b y ≡ slice_set xs b y
 set_twice [] b x y = refl
 set_twice (z ∷ zs) zero x y = refl
 set_twice (z ∷ zs) (suc b) x y = ap (λ ys. z ∷ ys) (set_twice zs b x y)

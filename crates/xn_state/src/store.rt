@@ -7,7 +7,6 @@ ghost use Rattle.xn_model.specs.Results.{Gives, GivesExactly, Lends};
 ghost use Rattle.xn_model.specs.Calls.{init_of, propose_of, make_root_of, forget_of, read_of, root_of, kind_of};
 ghost use Rattle.xn_model.specs.Rules.{IsConsistent};
 
-
 use edit_list::{Edit, EditId, Fs};
 use xn_model::Refusal;
 

@@ -2,7 +2,7 @@
 
 use super::World;
 use crate::format::fresh_kernel;
-use crate::{Call, Event, Reply};
+use crate::{Answer, Call, Event, Reply};
 use disk::{BLOCK_LEN, MemLane};
 use std::alloc::{AllocError, Global};
 use std::test::Fail;
@@ -162,17 +162,17 @@ fn events_of_a_list_are_run_in_their_order(rt: HostRuntime) -> Result<(), Fail> 
     ];
     let replies = world.run(&events)?;
     let want = [
-        Reply::Started { block: 1, entry: 1 },
-        Reply::Edited { entry: 2 },
+        Reply::Answered(Answer::Init(Ok((1, EditId(1))))),
+        Reply::Answered(Answer::MakeRoot(Ok(EditId(2)))),
         Reply::Refused(Refusal::NothingSafe),
         Reply::Begun { entries: 1 },
         Reply::Landed,
-        Reply::Finished {
+        Reply::Finished(Landed {
             durable: 1,
             freed: 0,
-        },
+        }),
         Reply::NoTicket,
-        Reply::Floor { floor: 2 },
+        Reply::Answered(Answer::Floor(2)),
     ];
     assert!(rt; replies.as_slice() == want.as_slice());
     let image = world.image()?;

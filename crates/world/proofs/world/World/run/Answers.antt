@@ -4,19 +4,22 @@ use Rattle.std.proofs.lemmas.List.{take_all}
 use Rattle.xn_model.specs.Worlds.{Run, Step}
 use Rattle.xn_model.specs.Rules.{Holds}
 use Rattle.world.specs.Events.{event_of, reply_of}
-use Rattle.world.specs.Worlds.{WorldValue, world_with}
+use Rattle.world.specs.Worlds.{world_with}
 use Rattle.world.proofs.Runs.{ran_more, rules_agree, rules_sound}
 use Rattle.world.proofs.world.World.run.Goals as goal
 
+pub returns-in_err-replies-clause-rules : goal.returns-in_err-replies-clause-rules
+returns-in_err-replies-clause-rules c = c.rules.ensures
+
 pub returns-in_err-replies-clause-agrees : goal.returns-in_err-replies-clause-agrees
-returns-in_err-replies-clause-agrees c = rules_agree c.args.self.now (subst (λ (v : WorldValue). Holds (world_with v)) c.self.view_is c.self.invariant.holds)
+returns-in_err-replies-clause-agrees c = rules_agree c.args.self.now c.rules.ensures
 
 pub returns-in_err-replies-clause-sound : goal.returns-in_err-replies-clause-sound
-returns-in_err-replies-clause-sound c = rules_sound c.args.self.now (subst (λ (v : WorldValue). Holds (world_with v)) c.self.view_is c.self.invariant.holds)
+returns-in_err-replies-clause-sound c = rules_sound c.args.self.now c.rules.ensures
 
 pub loop-at-init : goal.loop-at-init
 loop-at-init c =
-    let holds : Holds (world_with c.args.self.now) = subst (λ (v : WorldValue). Holds (world_with v)) c.self.view_is c.self.invariant.holds in
+    let holds : Holds (world_with c.args.self.now) = c.rules.ensures in
     (rw c.in_ok-replies.ensures.items refl, holds, c.in_ok-replies.ensures.len, search rules)
 
 pub push_reserved-requires : goal.push_reserved-requires
