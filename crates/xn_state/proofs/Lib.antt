@@ -1,6 +1,5 @@
 pub mod Lasts
-pub mod Floors
-pub mod SafePrefix
+pub mod FirstEntries
 pub mod Keeping
 pub mod Counting
 pub mod Freeing
@@ -8,3 +7,5 @@ pub mod Proposing
 pub mod Forgetting
 pub mod Finding
 pub mod FreshDisks
+pub mod Writing
+pub mod Slots

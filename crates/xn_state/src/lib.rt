@@ -2,14 +2,12 @@
 #![tactic(auto)]
 
 mod claims;
-mod entry;
+mod counts;
+mod floors;
 mod found;
 pub mod law;
-mod life;
 mod lives;
-mod places;
 mod root;
-mod safety;
 mod state;
 #[cfg(test)]
 mod tests;

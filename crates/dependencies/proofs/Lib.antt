@@ -1,0 +1,3 @@
+pub mod Numbered
+pub mod Prefixes
+pub mod Places
