@@ -1,19 +1,21 @@
 -- What is counted of lives, where one of them changes.
-use Rattle.std.proofs.Common.{◌≡◌, ℕ, zero, suc, ◌+◌, ◌-◌, ◌<◌, ◌≤◌, Bool, true, false, cond, not, List, [], ◌∷◌, length, take, drop, get_or, Option, Some, None, refl, sym, ◌∙◌, ap, arith, subst, inl, inr}
-use Rattle.std.specs.Prelude.{sum_by, count_by, slice_set, slice_index, slice_index_or, is_some, is_none, IsTrue, option_map, ◌==◌, nat_lt}
-use Rattle.std.specs.List.{sum, prefix_len, position_or_len}
+use Rattle.std.proofs.Common.{◌≡◌, ℕ, zero, suc, ◌+◌, ◌-◌, ◌<◌, ◌≤◌, Bool, true, false, cond, not, List, [], ◌∷◌, length, map, take, get_or, Option, Some, None, refl, sym, ◌∙◌, ap, arith, inl, inr, slice_get}
+use Rattle.std.specs.Prelude.{sum_by, count_by, position, unwrap_or, slice_set, slice_index, slice_index_or, is_none, is_some, IsTrue, nat_lt, option_map, ◌==◌}
+use Rattle.std.specs.List.{sum, position_or_len}
 use Rattle.std.proofs.Math.Seq.{map-set_same}
 use Rattle.std.proofs.lemmas.Bool.{cases_eq, eq-eqb, ne_eqb, false≢true}
-use Rattle.std.proofs.lemmas.Option.{unwrap_or-slice_get, slice_get_within}
-use Rattle.std.proofs.lemmas.List.{get_or-set_same, get_or-set_other, length-set, length-drop, take_all}
-use Rattle.std.proofs.lemmas.List.Sums.{sum-map, sum_by-set, sum_by_push, sum_by-take-drop}
+use Rattle.std.proofs.lemmas.Option.{unwrap_or-slice_get, slice_get-get_or, slice_get_within}
+use Rattle.std.proofs.lemmas.List.{get_or-set_same, get_or-set_other, length-map}
+use Rattle.std.proofs.lemmas.List.Sums.{sum-map, sum_by-cons, sum_by-set, sum_by_push, sum_by-take-drop}
 use Rattle.std.proofs.lemmas.List.Quantifiers.{position-Some}
 use Rattle.xn_model.specs.declared.status.Status.{Status}
 use Rattle.xn_model.specs.declared.status.Status.TheVariants.{Owned, Dropped}
-use Rattle.xn_model.specs.Lives.{BlockState, Life, Lives, life_at, change_at, with_state, with_status, settle, begun_at, settled_at, owned_after, dropped_after, accepted_at, is_for, lowest_free}
-use Rattle.xn_model.specs.Calls.{pending_in, new_life}
-use Rattle.xn_model.proofs.Lives.{place_from, length_change, change_same, set_other, set_same}
+use Rattle.xn_model.specs.Lives.{BlockState, Life, Lives, life_at, change_at, with_state, with_status, settle, begun_at, settled_at, owned_after, dropped_after, accepted_at, freed, is_for, lowest_free}
+use Rattle.xn_model.specs.Calls.{first_pending, pending_in, new_life}
+use Rattle.xn_model.proofs.Lives.{place_from}
+use Rattle.block_set.specs.Members.{is_member}
 use Rattle.xn_state.specs.Kept.{IsCounted}
+use Rattle.xn_state.specs.Counts.{given}
 
 -- whether an entry counts for a file system
 abbrev pub counts_for : ℕ → BlockState → Bool
@@ -22,6 +24,64 @@ counts_for fs s = is_for fs s.fs
 -- how many pending entries count for a file system
 abbrev pub counted : ℕ → Lives → ℕ
 counted fs lives = sum_by (pending_in fs) lives
+
+-- Which blocks are free
+
+-- a mark for each block
+abbrev pub marks : Lives → List Bool
+marks lives = map is_none lives
+
+pub marks-set : (lives : Lives) (b : ℕ) (x : Option Life) → marks (slice_set lives b x) ≡ slice_set (marks lives) b (is_none x)
+marks-set [] b x = refl
+marks-set (o ∷ os) zero x = refl
+marks-set (o ∷ os) (suc b) x = ap (λ ts. is_none o ∷ ts) (marks-set os b x)
+
+still_there : (o : Option Life) (g : Life → Life) → is_none (option_map g o) ≡ is_none o
+still_there None g = refl
+still_there (Some l) g = refl
+
+pub marks-change : (lives : Lives) (b : ℕ) (g : Life → Life) → marks (change_at lives b g) ≡ marks lives
+marks-change [] b g = refl
+marks-change (o ∷ os) zero g = ap (λ t. t ∷ marks os) (still_there o g)
+marks-change (o ∷ os) (suc b) g = ap (λ ts. is_none o ∷ ts) (marks-change os b g)
+
+marks-dropped : (b : ℕ) (lives : Lives) (drops : List ℕ) → marks (dropped_after b lives drops) ≡ marks lives
+marks-dropped b lives [] = refl
+marks-dropped b lives (c ∷ cs) = marks-dropped b (change_at lives c (with_status (Dropped b))) cs ∙ marks-change lives c (with_status (Dropped b))
+
+marks-owned : (b : ℕ) (lives : Lives) (adds : List (ℕ × ℕ)) → marks (owned_after b lives adds) ≡ marks lives
+marks-owned b lives [] = refl
+marks-owned b lives (p ∷ ps) = marks-owned b (change_at lives p.0 (with_status (Owned b))) ps ∙ marks-change lives p.0 (with_status (Owned b))
+
+marks-accepted : (lives : Lives) (b : ℕ) (s : BlockState) → marks (accepted_at lives b s) ≡ marks lives
+marks-accepted lives b s =
+    let pushed = change_at lives b (with_state s) in
+    marks-owned b (dropped_after b pushed s.drops) s.adds ∙ (marks-dropped b pushed s.drops ∙ marks-change lives b (with_state s))
+
+pub marks-freed : (lives : Lives) (blocks : List ℕ) → given (marks lives) blocks ≡ marks (freed lives blocks)
+marks-freed lives [] = refl
+marks-freed lives (c ∷ cs) = ap (λ ts. given ts cs) (sym (marks-set lives c None)) ∙ marks-freed (slice_set lives c None) cs
+
+-- the least that is marked, and how many
+lowest_mark : (lives : Lives) → position_or_len is_member (marks lives) ≡ position_or_len is_none lives
+lowest_mark [] = refl
+lowest_mark (o ∷ os) = ap (λ n. cond (not (is_none o)) (1 + n) 0) (lowest_mark os)
+
+pub lowest_marked : (lives : Lives) → position is_member (marks lives) ≡ lowest_free lives
+lowest_marked lives =
+    let long = length-map lives is_none in
+    let place = lowest_mark lives in
+    λ i. cond (nat_lt (place i) (long i)) (Some (place i)) None
+
+pub count_marked : (lives : Lives) → count_by is_member (marks lives) ≡ count_by is_none lives
+count_marked [] = refl
+count_marked (o ∷ os) =
+    let first = sum_by-cons (λ t. cond (is_member t) 1 0) (is_none o) (marks os) in
+    let second = sum_by-cons (λ (x : Option Life). cond (is_none x) 1 0) o os in
+    let rest = count_marked os in
+    omega (arith, first, second, rest)
+
+-- What is counted where a life changes
 
 pub sum_same : {X : Type 0} (f : X → ℕ) (xs : List X) (i : ℕ) (y d : X) → f y ≡ f (get_or xs i d) → sum_by f (slice_set xs i y) ≡ sum_by f xs
 sum_same f xs i y d e = sym (sum-map f (slice_set xs i y)) ∙ (ap sum (map-set_same f xs i y d e) ∙ sum-map f xs)
@@ -40,58 +100,35 @@ changed_counted fs lives b g same = sum_same (pending_in fs) lives b (option_map
     at None = refl
     at (Some l) = same l
 
--- a block stays in use where a life changes
-still_in_use : (lives : Lives) (b c : ℕ) (g : Life → Life) → IsTrue (is_some (life_at lives c)) → IsTrue (is_some (life_at (change_at lives b g) c))
-still_in_use lives b c g alive = elim (cases_eq c b) [
-  | inl same ↦ subst (λ o. IsTrue (is_some o)) (sym (ap (life_at (change_at lives b g)) same ∙ change_same lives b g)) (mapped (life_at lives b) (subst (λ x. IsTrue (is_some (life_at lives x))) same alive))
-  | inr other ↦ subst (λ o. IsTrue (is_some o)) (sym (set_other lives b c (option_map g (life_at lives b)) other)) alive
-]
-  where
-    mapped : (o : Option Life) → IsTrue (is_some o) → IsTrue (is_some (option_map g o))
-    mapped None h = h
-    mapped (Some l) h = h
-
 -- A write begins
 
-pub begun_counted : (lives : Lives) (pending : List ℕ) (used b k : ℕ) → IsCounted lives pending used → IsCounted (begun_at lives b k) pending used
-begun_counted lives pending used b k h = record {
+pub begun_counted : (lives : Lives) (free : List Bool) (pending : List ℕ) (b k : ℕ) → IsCounted lives free pending → IsCounted (begun_at lives b k) free pending
+begun_counted lives free pending b k h = record {
+  marked = h.marked ∙ sym (marks-change lives b (λ l. record l { begun = Some k }));
   counts = λ fs few. h.counts fs few ∙ sym (changed_counted fs lives b (λ l. record l { begun = Some k }) (λ l. refl));
-  in_use = λ c below. still_in_use lives b c (λ l. record l { begun = Some k }) (h.in_use c below);
-  within = subst (λ n. used ≤ n) (sym (length_change lives b (λ l. record l { begun = Some k }))) h.within;
 }
 
 -- A write ends
 
 -- the entries of a life that are durable now
-settled_less : (fs : ℕ) (lives : Lives) (b k : ℕ) (l : Life) → life_at lives b ≡ Some l → b < length lives → counted fs (settled_at lives b k) + count_by (counts_for fs) (take k l.pending) ≡ counted fs lives
-settled_less fs lives b k l here within =
+settled_some : (fs : ℕ) (lives : Lives) (b k : ℕ) (l : Life) → life_at lives b ≡ Some l → b < length lives → counted fs (settled_at lives b k) + count_by (counts_for fs) (take k l.pending) ≡ counted fs lives
+settled_some fs lives b k l here within =
     let now = ap (λ o. counted fs (slice_set lives b (option_map (settle k) o))) here in
     let moved = sum_by-set (pending_in fs) lives b (Some (settle k l)) None within in
     let before = ap (pending_in fs) (sym here ∙ place_is lives b) in
     let parts = sum_by-take-drop (λ s. cond (counts_for fs s) 1 0) l.pending k in
     omega (arith, now, moved, before, parts)
 
--- they were counted
-pub few_settled : (fs : ℕ) (lives : Lives) (b k : ℕ) (l : Life) → life_at lives b ≡ Some l → b < length lives → count_by (counts_for fs) (take k l.pending) ≤ counted fs lives
-few_settled fs lives b k l here within = omega (arith, settled_less fs lives b k l here within)
+settled_none : (fs : ℕ) (lives : Lives) (b k : ℕ) → life_at lives b ≡ None → counted fs (settled_at lives b k) ≡ counted fs lives
+settled_none fs lives b k free =
+    sum_same (pending_in fs) lives b (option_map (settle k) (life_at lives b)) None (ap (λ o. pending_in fs (option_map (settle k) o)) free ∙ ap (pending_in fs) (sym free ∙ place_is lives b))
 
-settled_frame : (lives : Lives) (pending pending' : List ℕ) (used b k : ℕ) → IsCounted lives pending used → ((fs : ℕ) → fs < 32 → slice_index pending' fs ≡ counted fs (settled_at lives b k)) → IsCounted (settled_at lives b k) pending' used
-settled_frame lives pending pending' used b k h counts = record {
-  counts = counts;
-  in_use = λ c below. still_in_use lives b c (settle k) (h.in_use c below);
-  within = subst (λ n. used ≤ n) (sym (length_change lives b (settle k))) h.within;
-}
-
-pub settled_counted : (lives : Lives) (pending pending' : List ℕ) (used b k : ℕ) (l : Life) → IsCounted lives pending used → life_at lives b ≡ Some l → b < length lives →
-    ((fs : ℕ) → fs < 32 → slice_index pending' fs + count_by (counts_for fs) (take k l.pending) ≡ slice_index pending fs) → IsCounted (settled_at lives b k) pending' used
-settled_counted lives pending pending' used b k l h here within less =
-    settled_frame lives pending pending' used b k h (λ fs few. omega (arith, less fs few, h.counts fs few, settled_less fs lives b k l here within))
-
--- nothing ends on a free block
-pub nothing_settled : (lives : Lives) (pending : List ℕ) (used b k : ℕ) → IsCounted lives pending used → life_at lives b ≡ None → IsCounted (settled_at lives b k) pending used
-nothing_settled lives pending used b k h free =
-    settled_frame lives pending pending used b k h (λ fs few. h.counts fs few
-    ∙ sym (sum_same (pending_in fs) lives b (option_map (settle k) (life_at lives b)) None (ap (λ o. pending_in fs (option_map (settle k) o)) free ∙ ap (pending_in fs) (sym free ∙ place_is lives b))))
+pub settled_less : (fs : ℕ) (lives : Lives) (b k : ℕ) → counted fs (settled_at lives b k) + count_by (counts_for fs) (first_pending k (life_at lives b)) ≡ counted fs lives
+settled_less fs lives b k = by (life_at lives b) refl
+  where
+    by : (o : Option Life) → life_at lives b ≡ o → counted fs (settled_at lives b k) + count_by (counts_for fs) (first_pending k o) ≡ counted fs lives
+    by None e = let same = settled_none fs lives b k e in omega (arith, same)
+    by (Some l) e = settled_some fs lives b k l e (alive_within lives b l e)
 
 -- One more entry
 
@@ -116,28 +153,24 @@ started_more fs lives b n f ty bytes within free =
     omega (arith, moved, before)
 
 -- a life starts on the least free block
-pub started_counted : (lives : Lives) (pending : List ℕ) (used b n f ty : ℕ) (bytes : List ℕ) (life : Life) → IsCounted lives pending used → f < length pending → lowest_free lives ≡ Some b →
-    life ≡ new_life n f ty bytes → IsCounted (slice_set lives b (Some life)) (slice_set pending f (slice_index_or pending f 0 + 1)) (b + 1)
-started_counted lives pending used b n f ty bytes life h few lowest started =
+pub least_is_free : (lives : Lives) (b : ℕ) → lowest_free lives ≡ Some b → slice_get lives b ≡ Some None
+least_is_free lives b lowest =
     let least = position-Some is_none lives b None lowest in
-    let free = place_is lives b ∙ none_of (get_or lives b None) least.1 in
-    let now = ap (λ l. slice_set lives b (Some l)) started in
-    record {
-      counts = λ fs low. one_more pending f fs few ∙ (ap (λ n. n + cond (f == fs) 1 0) (h.counts fs low) ∙ sym (ap (counted fs) now ∙ started_more fs lives b n f ty bytes least.0 free));
-      in_use = λ c below. elim (cases_eq c b) [
-        | inl same ↦ subst (λ o. IsTrue (is_some o)) (sym (ap (life_at (slice_set lives b (Some life))) same ∙ set_same lives b (Some life) least.0)) refl
-        | inr other ↦ subst (λ o. IsTrue (is_some o)) (sym (set_other lives b c (Some life) other ∙ place_is lives c)) (some_of (get_or lives c None) (least.2 c (omega (arith, other))))
-      ];
-      within = subst (λ n. b + 1 ≤ n) (sym (length-set lives b (Some life))) (omega (arith, least.0));
-    }
+    slice_get-get_or lives b None least.0 ∙ ap (λ o. Some o) (none_of (get_or lives b None) least.1)
   where
     none_of : (o : Option Life) → is_none o ≡ true → o ≡ None
     none_of None f = refl
     none_of (Some l) f = absurd (false≢true f)
 
-    some_of : (o : Option Life) → is_none o ≡ false → IsTrue (is_some o)
-    some_of None f = absurd (false≢true (sym f))
-    some_of (Some l) f = refl
+pub started_counted : (lives : Lives) (free : List Bool) (pending : List ℕ) (b n f ty : ℕ) (bytes : List ℕ) → IsCounted lives free pending → f < length pending → slice_get lives b ≡ Some None →
+    IsCounted (slice_set lives b (Some (new_life n f ty bytes))) (slice_set free b false) (slice_set pending f (slice_index_or pending f 0 + 1))
+started_counted lives free pending b n f ty bytes h few none =
+    let within = slice_get_within lives b None none in
+    let empty = ap (λ o. unwrap_or o None) none in
+    record {
+      marked = ap (λ ts. slice_set ts b false) h.marked ∙ sym (marks-set lives b (Some (new_life n f ty bytes)));
+      counts = λ fs low. one_more pending f fs few ∙ (ap (λ n. n + cond (f == fs) 1 0) (h.counts fs low) ∙ sym (started_more fs lives b n f ty bytes within empty));
+    }
 
 appended_more : (fs : ℕ) (lives : Lives) (b : ℕ) (s : BlockState) (l : Life) → life_at lives b ≡ Some l → b < length lives → counted fs (change_at lives b (with_state s)) ≡ counted fs lives + cond (counts_for fs s) 1 0
 appended_more fs lives b s l here within =
@@ -147,79 +180,32 @@ appended_more fs lives b s l here within =
     let pushed = sum_by_push (λ t. cond (counts_for fs t) 1 0) l.pending s in
     omega (arith, now, moved, before, pushed)
 
--- a block in use has one more entry
-appended_over : (lives : Lives) (pending : List ℕ) (used b f : ℕ) (s : BlockState) (l : Life) → IsCounted lives pending used → f < length pending → life_at lives b ≡ Some l → b < length lives →
-    s.fs ≡ Some f → IsCounted (change_at lives b (with_state s)) (slice_set pending f (slice_index_or pending f 0 + 1)) used
-appended_over lives pending used b f s l h few here within for = record {
-  counts = λ fs low. one_more pending f fs few ∙ (ap (λ n. n + cond (f == fs) 1 0) (h.counts fs low)
-      ∙ (ap (λ o. counted fs lives + cond (is_for fs o) 1 0) (sym for) ∙ sym (appended_more fs lives b s l here within)));
-  in_use = λ c below. still_in_use lives b c (with_state s) (h.in_use c below);
-  within = subst (λ n. used ≤ n) (sym (length_change lives b (with_state s))) h.within;
-}
-
-appended_counted : (lives : Lives) (pending : List ℕ) (used b f : ℕ) (s : BlockState) → IsCounted lives pending used → f < length pending → IsTrue (is_some (life_at lives b)) →
-    s.fs ≡ Some f → IsCounted (change_at lives b (with_state s)) (slice_set pending f (slice_index_or pending f 0 + 1)) used
-appended_counted lives pending used b f s h few alive for = by (life_at lives b) refl alive
-  where
-    by : (o : Option Life) → life_at lives b ≡ o → IsTrue (is_some o) → IsCounted (change_at lives b (with_state s)) (slice_set pending f (slice_index_or pending f 0 + 1)) used
-    by None e t = absurd (false≢true t)
-    by (Some l) e t = appended_over lives pending used b f s l h few e (alive_within lives b l e) for
-
 -- a status changes nothing that is counted
-status_counted : (st : Status) (lives : Lives) (pending : List ℕ) (used c : ℕ) → IsCounted lives pending used → IsCounted (change_at lives c (with_status st)) pending used
-status_counted st lives pending used c h = record {
-  counts = λ fs few. h.counts fs few ∙ sym (changed_counted fs lives c (with_status st) (λ l. refl));
-  in_use = λ d below. still_in_use lives c d (with_status st) (h.in_use d below);
-  within = subst (λ n. used ≤ n) (sym (length_change lives c (with_status st))) h.within;
-}
+status_counted : (fs : ℕ) (st : Status) (lives : Lives) (c : ℕ) → counted fs (change_at lives c (with_status st)) ≡ counted fs lives
+status_counted fs st lives c = changed_counted fs lives c (with_status st) (λ l. refl)
 
-dropped_counted : (b : ℕ) (lives : Lives) (pending : List ℕ) (used : ℕ) (drops : List ℕ) → IsCounted lives pending used → IsCounted (dropped_after b lives drops) pending used
-dropped_counted b lives pending used [] h = h
-dropped_counted b lives pending used (c ∷ cs) h = dropped_counted b (change_at lives c (with_status (Dropped b))) pending used cs (status_counted (Dropped b) lives pending used c h)
+dropped_counted : (fs b : ℕ) (lives : Lives) (drops : List ℕ) → counted fs (dropped_after b lives drops) ≡ counted fs lives
+dropped_counted fs b lives [] = refl
+dropped_counted fs b lives (c ∷ cs) = dropped_counted fs b (change_at lives c (with_status (Dropped b))) cs ∙ status_counted fs (Dropped b) lives c
 
-owned_counted : (b : ℕ) (lives : Lives) (pending : List ℕ) (used : ℕ) (adds : List (ℕ × ℕ)) → IsCounted lives pending used → IsCounted (owned_after b lives adds) pending used
-owned_counted b lives pending used [] h = h
-owned_counted b lives pending used (p ∷ ps) h = owned_counted b (change_at lives p.0 (with_status (Owned b))) pending used ps (status_counted (Owned b) lives pending used p.0 h)
+owned_counted : (fs b : ℕ) (lives : Lives) (adds : List (ℕ × ℕ)) → counted fs (owned_after b lives adds) ≡ counted fs lives
+owned_counted fs b lives [] = refl
+owned_counted fs b lives (p ∷ ps) = owned_counted fs b (change_at lives p.0 (with_status (Owned b))) ps ∙ status_counted fs (Owned b) lives p.0
+
+accepted_more : (fs f : ℕ) (lives : Lives) (b : ℕ) (s : BlockState) → IsTrue (is_some (life_at lives b)) → s.fs ≡ Some f → counted fs (accepted_at lives b s) ≡ counted fs lives + cond (f == fs) 1 0
+accepted_more fs f lives b s alive for =
+    let pushed = change_at lives b (with_state s) in
+    owned_counted fs b (dropped_after b pushed s.drops) s.adds
+    ∙ (dropped_counted fs b pushed s.drops ∙ (by (life_at lives b) refl alive ∙ ap (λ o. counted fs lives + cond (is_for fs o) 1 0) for))
+  where
+    by : (o : Option Life) → life_at lives b ≡ o → IsTrue (is_some o) → counted fs (change_at lives b (with_state s)) ≡ counted fs lives + cond (counts_for fs s) 1 0
+    by None e t = absurd (false≢true t)
+    by (Some l) e t = appended_more fs lives b s l e (alive_within lives b l e)
 
 -- a block accepts one more state
-pub accepted_counted : (lives : Lives) (pending : List ℕ) (used b f : ℕ) (s : BlockState) → IsCounted lives pending used → f < length pending → IsTrue (is_some (life_at lives b)) →
-    s.fs ≡ Some f → IsCounted (accepted_at lives b s) (slice_set pending f (slice_index_or pending f 0 + 1)) used
-accepted_counted lives pending used b f s h few alive for =
-    let more = slice_set pending f (slice_index_or pending f 0 + 1) in
-    let pushed = change_at lives b (with_state s) in
-    owned_counted b (dropped_after b pushed s.drops) more used s.adds (dropped_counted b pushed more used s.drops (appended_counted lives pending used b f s h few alive for))
-
--- The search for a free block
-
-pub prefix_behind : {X : Type 0} (p : X → Bool) (xs : List X) (n : ℕ) (d : X) → n ≤ length xs → ((k : ℕ) → k < n → p (get_or xs k d) ≡ true) → prefix_len p xs ≡ n + prefix_len p (drop n xs)
-prefix_behind p xs zero d within all = omega arith
-prefix_behind p [] (suc n) d within all = absurd (omega (arith, within))
-prefix_behind p (x ∷ xs) (suc n) d within all =
-    let rest = prefix_behind p xs n d (omega (arith, within)) (λ k lt. all (suc k) (omega (arith, lt))) in
-    ap (λ t. cond t (1 + prefix_len p xs) 0) (all 0 (omega arith)) ∙ omega (arith, rest)
-
--- behind blocks that are in use
-pub free_behind : (lives : Lives) (used : ℕ) → used ≤ length lives → ((c : ℕ) → c < used → IsTrue (is_some (life_at lives c))) → lowest_free lives ≡ option_map (λ k. used + k) (lowest_free (drop used lives))
-free_behind lives used within in_use =
-    let behind = prefix_behind (λ o. not (is_none o)) lives used None within (λ c below. passes (get_or lives c None) (subst (λ o. IsTrue (is_some o)) (place_is lives c) (in_use c below))) in
-    shifted (position_or_len is_none lives) (position_or_len is_none (drop used lives)) (length lives) (length (drop used lives)) used behind (length-drop used lives) within
-  where
-    shifted : (p q l m used : ℕ) → p ≡ used + q → m ≡ l - used → used ≤ l → cond (nat_lt p l) (Some p) None ≡ option_map (λ k. used + k) (cond (nat_lt q m) (Some q) None)
-    shifted p q l m used e f within = grind arith
-
-    passes : (o : Option Life) → IsTrue (is_some o) → not (is_none o) ≡ true
-    passes None h = absurd (false≢true h)
-    passes (Some l) h = refl
-
--- what a slice from a place on holds
-pub all_behind : {X : Type 0} (xs : List X) (n : ℕ) → take (length xs - n) (drop n xs) ≡ drop n xs
-all_behind xs n = take_all (length xs - n) (drop n xs) (omega (arith, length-drop n xs))
-
--- a place that is read
-pub place_read : (lives : Lives) (b : ℕ) (o : Option Life) → b < length lives → o ≡ get_or lives b o → life_at lives b ≡ o
-place_read lives b o within e = place_is lives b ∙ (same lives b within ∙ sym e)
-  where
-    same : (xs : Lives) (b : ℕ) → b < length xs → get_or xs b None ≡ get_or xs b o
-    same [] b lt = absurd (omega (arith, lt))
-    same (x ∷ xs) zero lt = refl
-    same (x ∷ xs) (suc b) lt = same xs b (omega (arith, lt))
+pub accepted_counted : (lives : Lives) (free : List Bool) (pending : List ℕ) (b f : ℕ) (s : BlockState) → IsCounted lives free pending → f < length pending → IsTrue (is_some (life_at lives b)) →
+    s.fs ≡ Some f → IsCounted (accepted_at lives b s) free (slice_set pending f (slice_index_or pending f 0 + 1))
+accepted_counted lives free pending b f s h few alive for = record {
+  marked = h.marked ∙ sym (marks-accepted lives b s);
+  counts = λ fs low. one_more pending f fs few ∙ (ap (λ n. n + cond (f == fs) 1 0) (h.counts fs low) ∙ sym (accepted_more fs f lives b s alive for));
+}

@@ -1,13 +1,13 @@
 -- The lives of blocks that are found, put into their places one after another.
-use Rattle.std.proofs.Common.{◌≡◌, ℕ, Bool, zero, suc, ◌/◌, ◌<◌, true, false, not, List, [], ◌∷◌, length, map, drop, replicate, slice_set, Option, Some, None, refl, sym, ◌∙◌, ap, arith, subst, inl, inr}
+use Rattle.std.proofs.Common.{◌≡◌, ℕ, Bool, zero, suc, ◌+◌, ◌/◌, ◌<◌, true, false, not, List, [], ◌∷◌, ◌++◌, length, map, take, get_or, drop, replicate, slice_set, Option, Some, None, refl, sym, ◌∙◌, ap, arith, subst, inl, inr}
 use Rattle.std.specs.Prelude.{IsTrue, find, ◌==◌, ◌||◌, slice_index}
 use Rattle.std.specs.List.{fold, range_with_len}
 use Rattle.std.specs.Simd.{first_chunks}
 use Rattle.std.proofs.lemmas.Bool.{cases_eq, eq-eqb, ne_eqb, cond-true, cond-false, and_parts, false≢true}
 use Rattle.std.proofs.lemmas.Option.{unwrap_or-slice_get}
-use Rattle.std.proofs.lemmas.List.{get_or-replicate, length-set, length-replicate}
+use Rattle.std.proofs.lemmas.List.{get_or-replicate, length-set, length-replicate, take_more}
 use Rattle.std.proofs.lemmas.List.FromFn.{fill_by_all}
-use Rattle.std.proofs.lemmas.List.Sums.{sum_by-cons}
+use Rattle.std.proofs.lemmas.List.Sums.{fold-append, sum_by-cons}
 use Rattle.xn_model.specs.Lists.{has_number, distinct}
 use Rattle.xn_model.specs.Images.{block_of, blocks_in}
 use Rattle.xn_model.specs.Lives.{Life, Lives, life_at}
@@ -18,7 +18,7 @@ use Rattle.xn_model.proofs.Lives.{set_other, set_same}
 use Rattle.xn_state.specs.declared.found.Found.{Found}
 use Rattle.xn_state.specs.Kept.{IsCounted}
 use Rattle.xn_state.specs.Mounts.{found_of, lives_in}
-use Rattle.xn_state.proofs.Counting.{counted}
+use Rattle.xn_state.proofs.Counting.{counted, marks, marks-set}
 
 pub length-blocks : (image : List ℕ) → length (blocks_in image) ≡ length image / 512
 length-blocks image = go (length image / 512) image
@@ -117,9 +117,22 @@ none_pending image found fs (b ∷ bs) =
     let rest = none_pending image found fs bs in
     omega (arith, first, here, rest)
 
-pub found_counted : (image : List (List ℕ)) (found : List model.Found) (lives : Lives) (pending : List ℕ) → lives ≡ lives_found image found → pending ≡ replicate 32 0 → IsCounted lives pending 0
-found_counted image found lives pending e zeros = record {
+pub found_counted : (image : List (List ℕ)) (found : List model.Found) (lives : Lives) (free : List Bool) (pending : List ℕ) → lives ≡ lives_found image found → free ≡ marks lives →
+    pending ≡ replicate 32 0 → IsCounted lives free pending
+found_counted image found lives free pending e marked zeros = record {
+  marked = marked;
   counts = λ fs few. ap (λ ps. slice_index ps fs) zeros ∙ (get_or-replicate 32 fs 0 0 few ∙ sym (ap (counted fs) e ∙ none_pending image found fs (range_with_len 0 (length image))));
-  in_use = λ b below. absurd (omega (arith, below));
-  within = omega arith;
 }
+
+-- one more is found
+pub found_more : (image : List (List ℕ)) (lives : Lives) (found : List Found) (i : ℕ) (f : Found) → i < length found → f ≡ get_or found i f →
+    put_found image (all_put image lives (take i found)) f ≡ all_put image lives (take (i + 1) found)
+found_more image lives found i f within is =
+    sym (ap (all_put image lives) (take_more found i f within ∙ ap (λ x. take i found ++ x ∷ []) (sym is)) ∙ fold-append (put_found image) lives (take i found) (f ∷ []))
+
+pub marks_more : (free : List Bool) (lives : Lives) (b : ℕ) (l : Life) → free ≡ marks lives → slice_set free b false ≡ marks (slice_set lives b (Some l))
+marks_more free lives b l e = ap (λ ts. slice_set ts b false) e ∙ sym (marks-set lives b (Some l))
+
+pub no_marks : (n : ℕ) → replicate n true ≡ marks (replicate n None)
+no_marks zero = refl
+no_marks (suc n) = ap (λ ts. true ∷ ts) (no_marks n)

@@ -1,22 +1,24 @@
 -- What a forget leaves.
-use Rattle.std.proofs.Common.{◌≡◌, ℕ, ◌+◌, ◌<◌, ◌≤◌, List, length, Option, Some, None, Result, Ok, Err, refl, sym, ◌∙◌, ap, arith, slice_set, subst}
-use Rattle.std.specs.Prelude.{slice_index, is_some, IsTrue}
-use Rattle.std.specs.Borrow.{Bor}
-use Rattle.std.proofs.lemmas.Option.{unwrap_or-slice_get, slice_get_within}
-use Rattle.std.proofs.lemmas.List.{length-set}
+use Rattle.std.proofs.Common.{◌≡◌, ℕ, ◌+◌, ◌<◌, ◌≤◌, Bool, true, List, length, Option, Some, None, Result, Ok, Err, refl, sym, ◌∙◌, ap, arith, slice_set, subst, inl, inr}
+use Rattle.std.specs.Prelude.{count_by, option_map, slice_index, IsTrue}
+use Rattle.std.proofs.lemmas.Bool.{cases_lt}
+use Rattle.std.proofs.lemmas.Option.{none-some, same_Some, unwrap_or-slice_get, slice_get_within}
+use Rattle.std.proofs.lemmas.List.{get_or_past, set_past, take_all}
 use Rattle.std.proofs.lemmas.List.Sums.{sum_by-set}
 use Rattle.xn_model.specs.declared.refusal.Refusal.{Refusal}
 use Rattle.xn_model.specs.Types.{Types}
 use Rattle.xn_model.specs.Lives.{StoreState, Life, Lives, life_at}
-use Rattle.xn_model.specs.Results.{Lends, unless, result_and_then}
-use Rattle.xn_model.specs.Calls.{pending_in, own_life, forget_refusal, forget_at, forget_of}
+use Rattle.xn_model.specs.Results.{unless, result_map, result_and_then}
+use Rattle.xn_model.specs.Calls.{first_pending, life_pending, pending_in, own_life, forget_refusal, forget_at, forget_of}
 use Rattle.xn_model.specs.Rules.{IsConsistent}
-use Rattle.xn_model.proofs.Lives.{place_from, set_other}
-use Rattle.xn_model.proofs.Tests.{IsOwn, same_ok, never_ok, own_then}
+use Rattle.xn_model.proofs.Lives.{place_from}
+use Rattle.xn_model.proofs.Tests.{IsOwn, map_ok, same_ok, never_ok, own_then}
 use Rattle.xn_model.proofs.Ends.{forget_keeps}
 use Rattle.xn_state.specs.Kept.{IsCounted}
 use Rattle.xn_state.specs.Forgets.{forget_plan, forget_plan_at}
-use Rattle.xn_state.proofs.Counting.{counted}
+use Rattle.block_cache.specs.declared.life.Facts.{Facts}
+use Rattle.block_cache.specs.Views.{facts_of}
+use Rattle.xn_state.proofs.Counting.{counted, counts_for, marks-set, settled_less}
 use Rattle.xn_state.proofs.Keeping.{state_of}
 
 -- What is counted of lives, where one of them ends
@@ -27,21 +29,42 @@ freed_less fs lives b o within here =
     let before = ap (pending_in fs) (sym here ∙ unwrap_or-slice_get lives b None) in
     omega (arith, moved, before)
 
-pub forgotten_counted : (lives : Lives) (pending pending' : List ℕ) (used used' b : ℕ) (o : Option Life) → IsCounted lives pending used → b < length lives → life_at lives b ≡ o →
-    ((fs : ℕ) → fs < 32 → slice_index pending' fs + pending_in fs o ≡ slice_index pending fs) → used' ≤ used → used' ≤ b → IsCounted (slice_set lives b None) pending' used'
-forgotten_counted lives pending pending' used used' b o h within here less most free = record {
-  counts = λ fs few. omega (arith, less fs few, h.counts fs few, freed_less fs lives b o within here);
-  in_use = λ c below. subst (λ o. IsTrue (is_some o)) (sym (set_other lives b c None (λ same. omega (arith, same)))) (h.in_use c (omega arith));
-  within = subst (λ n. used' ≤ n) (sym (length-set lives b None)) (omega (arith, h.within));
+all_pending : (fs k : ℕ) (o : Option Life) → k ≡ life_pending o → count_by (counts_for fs) (first_pending k o) ≡ pending_in fs o
+all_pending fs k None all = refl
+all_pending fs k (Some l) all = ap (count_by (counts_for fs)) (take_all k l.pending (omega (arith, all)))
+
+past_end : (fs : ℕ) (lives : Lives) (b : ℕ) → length lives ≤ b → counted fs (slice_set lives b None) + pending_in fs (life_at lives b) ≡ counted fs lives
+past_end fs lives b past =
+    let same = ap (counted fs) (set_past lives b None past) in
+    let none = ap (pending_in fs) (unwrap_or-slice_get lives b None ∙ get_or_past lives b None past) in
+    omega (arith, same, none)
+
+-- all entries of a block are taken out of the counts
+pub forgotten_counted : (lives : Lives) (free : List Bool) (pending pending' : List ℕ) (b k : ℕ) → IsCounted lives free pending → k ≡ life_pending (life_at lives b) →
+    ((fs : ℕ) → fs < 32 → slice_index pending' fs + count_by (counts_for fs) (first_pending k (life_at lives b)) ≡ slice_index pending fs) →
+    IsCounted (slice_set lives b None) (slice_set free b true) pending'
+forgotten_counted lives free pending pending' b k h all less = record {
+  marked = ap (λ ts. slice_set ts b true) h.marked ∙ sym (marks-set lives b None);
+  counts = λ fs few. omega (arith, less fs few, h.counts fs few, all_pending fs k (life_at lives b) all, gone fs);
 }
+  where
+    gone : (fs : ℕ) → counted fs (slice_set lives b None) + pending_in fs (life_at lives b) ≡ counted fs lives
+    gone fs = elim (cases_lt b (length lives)) [
+      | inl within ↦ freed_less fs lives b (life_at lives b) within refl
+      | inr past ↦ past_end fs lives b past
+    ]
+
+-- they were counted
+pub few_forgotten : (fs : ℕ) (lives : Lives) (b k : ℕ) → k ≡ life_pending (life_at lives b) → count_by (counts_for fs) (first_pending k (life_at lives b)) ≤ counted fs lives
+few_forgotten fs lives b k all = omega (arith, settled_less fs lives b k)
 
 -- A file system's own block
 
-pub lends_ok : {A : Type 0} (r : Result A Refusal) (lent : Bor A) → Lends r (Ok lent) → r ≡ Ok lent.now
-lends_ok (Ok x) lent h = ap (λ y. Ok y) (sym h)
-lends_ok (Err refusal) lent h = absurd h
+-- what is known of it
+pub own_facts : (r : Result Life Refusal) (facts : Facts) → Ok facts ≡ result_map facts_of r → (l : Life) × (r ≡ Ok l) × (facts_of l ≡ facts)
+own_facts r facts e = map_ok facts_of r facts (sym e)
 
-own_is : (state : StoreState) (fs b : ℕ) (l : Life) → own_life state fs b ≡ Ok l → IsOwn state.lives fs b l
+pub own_is : (state : StoreState) (fs b : ℕ) (l : Life) → own_life state fs b ≡ Ok l → IsOwn state.lives fs b l
 own_is state fs b l e =
     let own = own_then state fs b (λ m. Ok m) l (ap (result_and_then (λ m. Ok m)) e) in
     subst (IsOwn state.lives fs b) (same_ok own.0 l own.2) own.1
@@ -82,3 +105,15 @@ pub forgotten_consistent : (T : Types) (lives : Lives) (next fs b : ℕ) (done :
 forgotten_consistent T lives next fs b done h e =
     let state = state_of lives next in
     (forget_keeps T state h fs b tt (state_of (slice_set lives b None) next) (planned T state b (own_life state fs b) done e)).consistent
+
+pub facts_installed : (T : Types) (state : StoreState) (b : ℕ) (facts : Facts) → IsConsistent T state → Some facts ≡ option_map facts_of (life_at state.lives b) → IsTrue (T.installed facts.ty)
+facts_installed T state b facts h e = by (life_at state.lives b) refl e
+  where
+    by : (o : Option Life) → life_at state.lives b ≡ o → Some facts ≡ option_map facts_of o → IsTrue (T.installed facts.ty)
+    by None alive e = absurd (none-some facts (sym e))
+    by (Some l) alive e = subst (λ t. IsTrue (T.installed t)) (sym (ap (λ (f : Facts). f.ty) (same_Some facts (facts_of l) e))) (h.linked b l alive).installed
+
+pub own_facts_installed : (T : Types) (state : StoreState) (fs b : ℕ) (facts : Facts) → IsConsistent T state → Ok facts ≡ result_map facts_of (own_life state fs b) → IsTrue (T.installed facts.ty)
+own_facts_installed T state fs b facts h e =
+    let own = own_facts (own_life state fs b) facts e in
+    subst (λ t. IsTrue (T.installed t)) (ap (λ (f : Facts). f.ty) own.2) (own_installed T state fs b own.0 h own.1)

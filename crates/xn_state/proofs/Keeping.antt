@@ -1,7 +1,5 @@
 -- What the calls of a state leave keeps the model's rules.
 use Rattle.std.proofs.Common.{◌≡◌, ℕ, ◌+◌, ◌<◌, List, [], ◌∷◌, length, false, Option, Some, None, Result, Ok, Err, sym, ◌∙◌, ap, arith, slice_get, slice_set, subst, take, drop, ◌++◌}
-use Rattle.std.proofs.lemmas.List.{append-nil, take_all}
-use Rattle.std.proofs.Math.ListN.{drop_of_length-le}
 use Rattle.xn_model.specs.declared.refusal.Refusal.{Refusal}
 use Rattle.xn_model.specs.Root.{with_slot}
 use Rattle.xn_model.specs.Lives.{StoreState, Life, Lives, life_at, lowest_free, begun_at, settled_at, freed, drops_of}
@@ -15,7 +13,7 @@ use Rattle.xn_model.specs.Worlds.{World}
 use Rattle.xn_model.proofs.Mount.{mount_holds}
 use Rattle.templates.specs.Tables.{TableValue, IsTable, types_of}
 use Rattle.templates.proofs.BuiltInTypes.{tables_have_built_ins}
-use Rattle.xn_model.proofs.Tests.{same_ok, never_ok}
+use Rattle.xn_model.proofs.Tests.{given_ok, same_ok, never_ok, then_ok}
 use Rattle.xn_model.proofs.Init.{init_keeps}
 use Rattle.xn_model.proofs.Roots.{make_root_keeps, drop_root_keeps}
 use Rattle.xn_model.proofs.Begin.{begun_keeps}
@@ -34,14 +32,14 @@ mounted_consistent table image lives is sound recovered =
     let world : World = record { types = types_of table; image = image; state = state_of [] 1; down = false } in
     (mount_holds world (tables_have_built_ins table is) sound lives recovered).state
 
-pub started_consistent : (T : Types) (lives : Lives) (next fs ty : ℕ) (bytes : List ℕ) (block : ℕ) (life : Life) → IsConsistent T (state_of lives next) →
-    init_refusal T (state_of lives next) fs ty bytes ≡ None → lowest_free lives ≡ Some block → life ≡ new_life next fs ty bytes →
-    IsConsistent T (state_of (slice_set lives block (Some life)) (next + 1))
-started_consistent T lives next fs ty bytes block life h allowed free started =
+pub started_consistent : (T : Types) (lives : Lives) (next fs ty : ℕ) (bytes : List ℕ) (block : ℕ) → IsConsistent T (state_of lives next) →
+    init_refusal T (state_of lives next) fs ty bytes ≡ None → lowest_free lives ≡ Some block →
+    IsConsistent T (state_of (slice_set lives block (Some (new_life next fs ty bytes))) (next + 1))
+started_consistent T lives next fs ty bytes block h allowed free =
     let after = state_of (slice_set lives block (Some (new_life next fs ty bytes))) (next + 1) in
     let state = state_of lives next in
     let given = ap (λ r. unless r (init_at state fs ty bytes (lowest_free lives))) allowed ∙ ap (init_at state fs ty bytes) free in
-    subst (λ l. IsConsistent T (state_of (slice_set lives block (Some l)) (next + 1))) (sym started) (init_keeps T state h fs ty bytes (block, next) after given).consistent
+    (init_keeps T state h fs ty bytes (block, next) after given).consistent
 
 pub begun_consistent : (T : Types) (lives : Lives) (next b : ℕ) (given : List ℕ × ℕ) → IsConsistent T (state_of lives next) → begun_place lives (slice_get lives b) ≡ Ok given →
     IsConsistent T (state_of (begun_at lives b given.1) next)
@@ -95,12 +93,6 @@ pub rooted_consistent : (T : Types) (state : StoreState) (fs b : ℕ) (plan : Li
 rooted_consistent T state fs b plan h few e =
     (make_root_keeps T state h fs few b state.next (accepts state 0 (entry_of state fs plan.0 ((b, plan.1) ∷ []) [] None)).1 (root_made state fs b plan e)).consistent
 
--- a vector whose slice was lent and came back
-pub lent_back : {A : Type 0} (len : ℕ) (old new : List A) → len ≡ length old → length new ≡ length old → take len (new ++ drop (length new) old) ≡ new
-lent_back len old new e f =
-    let none : drop (length new) old ≡ [] = drop_of_length-le old (omega arith) in
-    ap (λ xs. take len (new ++ xs)) none ∙ (ap (take len) (append-nil new) ∙ take_all len new (omega arith))
-
 -- drop_root, from its plan
 
 dropped_by : (refusal : Option Refusal) (state : StoreState) (fs : ℕ) (plan : List ℕ × ℕ) → unless refusal (Ok (with_slot (root_now state) fs (0, 0), (slot_now state fs).0)) ≡ Ok plan →
@@ -125,3 +117,16 @@ pub dropped_consistent : (T : Types) (state : StoreState) (fs : ℕ) (plan : Lis
     IsConsistent T (accepts state 0 (entry_of state fs plan.0 [] (plan.1 ∷ []) None)).1
 dropped_consistent T state fs plan h few e =
     (drop_root_keeps T state h fs few state.next (accepts state 0 (entry_of state fs plan.0 [] (plan.1 ∷ []) None)).1 (root_dropped T state fs plan e)).consistent
+
+-- the bytes of block 0 in the plans
+pub root_bytes : (state : StoreState) (fs b : ℕ) (plan : List ℕ × ℕ) → make_root_plan state fs b ≡ Ok plan → plan.0 ≡ with_slot (root_now state) fs (b, plan.1)
+root_bytes state fs b plan e =
+    let own = then_ok (make_root_plan_at state fs b) (own_life state fs b) plan e in
+    let l = own.0 in
+    let same = same_ok (with_slot (root_now state) fs (b, l.ty), l.ty) plan (given_ok (make_root_refusal state fs l) (Ok (with_slot (root_now state) fs (b, l.ty), l.ty)) plan own.2) in
+    ap (λ (p : List ℕ × ℕ). p.0) (sym same) ∙ ap (λ t. with_slot (root_now state) fs (b, t)) (ap (λ (p : List ℕ × ℕ). p.1) same)
+
+pub empty_slot_bytes : (T : Types) (state : StoreState) (fs : ℕ) (plan : List ℕ × ℕ) → drop_root_plan T state fs ≡ Ok plan → plan.0 ≡ with_slot (root_now state) fs (0, 0)
+empty_slot_bytes T state fs plan e =
+    let bytes = with_slot (root_now state) fs (0, 0) in
+    ap (λ (p : List ℕ × ℕ). p.0) (sym (same_ok (bytes, (slot_now state fs).0) plan (given_ok (drop_root_refusal T state fs) (Ok (bytes, (slot_now state fs).0)) plan e)))

@@ -1,6 +1,5 @@
 pub mod Lasts
-pub mod Floors
-pub mod SafePrefix
+pub mod FirstEntries
 pub mod Keeping
 pub mod Counting
 pub mod Freeing
@@ -9,4 +8,5 @@ pub mod Forgetting
 pub mod Finding
 pub mod FreshDisks
 pub mod Answering
-pub mod Pending
+pub mod Writing
+pub mod Slots

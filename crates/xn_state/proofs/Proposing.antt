@@ -1,50 +1,14 @@
 -- What edits and dropped roots decide, and what they leave.
-use Rattle.std.proofs.Common.{◌≡◌, ℕ, Bool, true, false, List, [], ◌∷◌, ◌++◌, Option, Some, None, Result, Ok, Err, refl, ◌∙◌, ap}
-use Rattle.std.specs.Option.{option_or}
+use Rattle.std.proofs.Common.{◌≡◌, ℕ, Bool, true, false, List, [], ◌∷◌, ◌++◌, Option, Some, None, Result, Ok, Err, refl, sym, ◌∙◌, ap}
 use Rattle.xn_model.specs.declared.refusal.Refusal.{Refusal}
 use Rattle.xn_model.specs.Types.{Types}
-use Rattle.xn_model.specs.Lives.{Life, StoreState, current}
+use Rattle.xn_model.specs.Lives.{Life, StoreState, current, life_at}
 use Rattle.xn_model.specs.Results.{first_refusal, unless, result_and_then}
-use Rattle.xn_model.specs.Calls.{Edit, own_life, accepts, edited, patched, propose_refusal, propose_at, propose_of}
+use Rattle.xn_model.specs.Calls.{Edit, own_life, accepts, edited, life_bytes, patched, propose_refusal, propose_at, propose_of}
 use Rattle.xn_model.specs.Rules.{IsConsistent}
-use Rattle.xn_model.proofs.Tests.{same_ok, never_ok}
+use Rattle.xn_model.proofs.Tests.{given_ok, own_then, same_ok, never_ok}
 use Rattle.xn_model.proofs.Edits.{propose_keeps}
-use Rattle.xn_state.specs.Proposals.{form_tests, target_tests, bytes_tests, form_refusal, target_refusal, bytes_refusal, proposed_at, proposed_of, entry_of}
-
--- The parts of a refusal
-
-first-append : (xs ys : List (Bool × Refusal)) → first_refusal (xs ++ ys) ≡ option_or (first_refusal xs) (first_refusal ys)
-first-append [] ys = refl
-first-append (x ∷ xs) ys = by x.0 (first-append xs ys)
-  where
-    by : (t : Bool) → first_refusal (xs ++ ys) ≡ option_or (first_refusal xs) (first_refusal ys) → first_refusal ((t, x.1) ∷ (xs ++ ys)) ≡ option_or (first_refusal ((t, x.1) ∷ xs)) (first_refusal ys)
-    by true e = refl
-    by false e = e
-
--- the refusal of an edit, from its three parts
-parts : (T : Types) (state : StoreState) (fs b : ℕ) (e : Edit) (l : Life) → propose_refusal T state fs b e l
-    ≡ option_or (form_refusal state fs e l) (option_or (target_refusal T state fs b e) (bytes_refusal T l.ty (current l) (patched (current l) e.patches) e))
-parts T state fs b e l =
-    first-append (form_tests state fs e l) (target_tests T state fs b e ++ bytes_tests T l.ty (current l) (patched (current l) e.patches) e)
-    ∙ ap (option_or (form_refusal state fs e l)) (first-append (target_tests T state fs b e) (bytes_tests T l.ty (current l) (patched (current l) e.patches) e))
-
-module _ (T : Types) (state : StoreState) (fs b : ℕ) (e : Edit) (l : Life) (own : own_life state fs b ≡ Ok l) where
-  planned_by : (o : Option Refusal) → propose_refusal T state fs b e l ≡ o → proposed_of T state fs b e ≡ unless o (Ok (patched (current l) e.patches))
-  planned_by o is = ap (result_and_then (proposed_at T state fs b e)) own ∙ ap (λ r. unless r (Ok (patched (current l) e.patches))) is
-
-  pub form_refused : (r : Refusal) → form_refusal state fs e l ≡ Some r → proposed_of T state fs b e ≡ Err r
-  form_refused r form =
-      planned_by (Some r) (parts T state fs b e l ∙ ap (λ o. option_or o (option_or (target_refusal T state fs b e) (bytes_refusal T l.ty (current l) (patched (current l) e.patches) e))) form)
-
-  pub target_refused : (r : Refusal) → form_refusal state fs e l ≡ None → target_refusal T state fs b e ≡ Some r → proposed_of T state fs b e ≡ Err r
-  target_refused r form target =
-      planned_by (Some r) (parts T state fs b e l
-      ∙ (λ i. option_or (form i) (option_or (target i) (bytes_refusal T l.ty (current l) (patched (current l) e.patches) e))))
-
-  pub bytes_refused : (o : Option Refusal) → form_refusal state fs e l ≡ None → target_refusal T state fs b e ≡ None → bytes_refusal T l.ty (current l) (patched (current l) e.patches) e ≡ o →
-      proposed_of T state fs b e ≡ unless o (Ok (patched (current l) e.patches))
-  bytes_refused o form target bytes =
-      planned_by o (parts T state fs b e l ∙ (λ i. option_or (form i) (option_or (target i) (bytes i))))
+use Rattle.xn_state.specs.Proposals.{proposed_at, proposed_of, entry_of}
 
 -- The entry of an edit
 
@@ -78,3 +42,10 @@ pub edit_consistent : (T : Types) (state : StoreState) (fs b : ℕ) (e : Edit) (
     IsConsistent T (accepts state b (entry_of state fs bytes e.adds e.drops e.after)).1
 edit_consistent T state fs b e bytes h made =
     (propose_keeps T state h fs b e state.next (accepts state b (entry_of state fs bytes e.adds e.drops e.after)).1 (edit_made T state fs b e bytes made)).consistent
+
+-- the bytes that it leaves
+pub bytes_made : (T : Types) (state : StoreState) (fs b : ℕ) (e : Edit) (bytes : List ℕ) → proposed_of T state fs b e ≡ Ok bytes → bytes ≡ patched (life_bytes (life_at state.lives b)) e.patches
+bytes_made T state fs b e bytes made =
+    let own = own_then state fs b (proposed_at T state fs b e) bytes made in
+    let same = given_ok (propose_refusal T state fs b e own.0) (Ok (patched (current own.0) e.patches)) bytes own.2 in
+    sym (same_ok (patched (current own.0) e.patches) bytes same) ∙ ap (λ o. patched (life_bytes o) e.patches) (sym own.1.alive)

@@ -1,4 +1,5 @@
 pub mod Kept
+pub mod Counts
 pub mod Plans
 pub mod Forgets
 pub mod States

@@ -8,40 +8,26 @@ use Rattle.xn_model.specs.Lives.{BlockState, Life, StoreState, current, is_fresh
 use Rattle.xn_model.specs.declared.refusal.Refusal.{Refusal}
 use Rattle.xn_model.specs.declared.refusal.Refusal.TheVariants.{BadPatch, BadAfter, NotFresh, NotOwned, NotEmpty, ClaimWrong, SizeWrong, Unattached, TooManyPending, Exhausted}
 use Rattle.xn_model.specs.Results.{first_refusal, unless, result_and_then}
+use Rattle.block_cache.specs.declared.life.Facts.{Facts}
 use Rattle.xn_model.specs.Calls.{Edit, own_life, too_many, exhausted, within_limits, was_given, may_add, may_drop, is_empty, patched, propose_refusal, drop_root_refusal, root_now, slot_now}
 
--- the tests of an edit in three parts: of its form and the limits, of the blocks that it names, and of what it makes of the bytes
-abbrev pub form_tests : StoreState → ℕ → Edit → Life → List (Bool × Refusal)
-form_tests state fs e l =
-    (too_many state fs (length l.pending), TooManyPending)
+-- the tests of an edit, by what is known of the block and its newest bytes: row by row those of the model
+abbrev pub propose_tests : Types → StoreState → ℕ → ℕ → Edit → Facts → List ℕ → List (Bool × Refusal)
+propose_tests T state fs b e facts old =
+    (too_many state fs facts.pending, TooManyPending)
     ∷ (exhausted state, Exhausted)
     ∷ (not (within_limits e), BadPatch)
     ∷ (not (was_given state e.after), BadAfter)
-    ∷ (is_fresh l.status && nat_lt 0 (length e.adds), Unattached)
-    ∷ []
-
-abbrev pub target_tests : Types → StoreState → ℕ → ℕ → Edit → List (Bool × Refusal)
-target_tests T state fs b e =
-    (not (list_all (may_add state fs) e.adds && distinct (blocks_of e.adds)), NotFresh)
+    ∷ (is_fresh facts.status && nat_lt 0 (length e.adds), Unattached)
+    ∷ (not (list_all (may_add state fs) e.adds && distinct (blocks_of e.adds)), NotFresh)
     ∷ (not (list_all (may_drop state b) e.drops && distinct e.drops), NotOwned)
     ∷ (not (list_all (is_empty T state) e.drops), NotEmpty)
+    ∷ (not (claims T facts.ty old (patched old e.patches) e.adds e.drops && named_once T facts.ty (patched old e.patches)), ClaimWrong)
+    ∷ (not (within_size T facts.ty (patched old e.patches)), SizeWrong)
     ∷ []
 
-abbrev pub bytes_tests : Types → ℕ → List ℕ → List ℕ → Edit → List (Bool × Refusal)
-bytes_tests T t old new e =
-    (not (claims T t old new e.adds e.drops && named_once T t new), ClaimWrong)
-    ∷ (not (within_size T t new), SizeWrong)
-    ∷ []
-
--- the first refusal of each part
-abbrev pub form_refusal : StoreState → ℕ → Edit → Life → Option Refusal
-form_refusal state fs e l = first_refusal (form_tests state fs e l)
-
-abbrev pub target_refusal : Types → StoreState → ℕ → ℕ → Edit → Option Refusal
-target_refusal T state fs b e = first_refusal (target_tests T state fs b e)
-
-abbrev pub bytes_refusal : Types → ℕ → List ℕ → List ℕ → Edit → Option Refusal
-bytes_refusal T t old new e = first_refusal (bytes_tests T t old new e)
+abbrev pub edited_with : Types → StoreState → ℕ → ℕ → Edit → Facts → List ℕ → Result (List ℕ) Refusal
+edited_with T state fs b e facts old = unless (first_refusal (propose_tests T state fs b e facts old)) (Ok (patched old e.patches))
 
 -- the block's bytes after an edit
 abbrev pub proposed_at : Types → StoreState → ℕ → ℕ → Edit → Life → Result (List ℕ) Refusal

@@ -4,9 +4,11 @@ ghost use Rattle.std.specs.Prelude.{◌≡◌, ◌≤◌, ◌&&◌, ◌++◌, �
 ghost use Rattle.std.specs.List.{list_any, list_all};
 ghost use Rattle.xn_model.specs.Lists.{blocks_of, distinct, has_number, has_pair, same_pair};
 ghost use Rattle.xn_model.specs.Types.{claims, inside, named_once, without};
+ghost use Rattle.xn_model.specs.Calls.{within_limits};
 ghost use Rattle.templates.specs.Tables.{types_of};
 
 use arrayvec::ArrayVec;
+use edit_list::Edit;
 use templates::Table;
 use udf_run::Pair;
 
@@ -103,21 +105,14 @@ fn claimed_pairs(
 
 /// Whether the blocks that a block of an installed type owns change exactly as claimed from the old bytes to the new, and
 /// the new bytes name no block twice.
-pub fn are_as_claimed(
-    table: &Table,
-    ty: u32,
-    old: &[u8; 512],
-    new: &[u8; 512],
-    adds: &[(u32, u32)],
-    drops: &[u32],
-) -> bool
+pub fn are_as_claimed(table: &Table, ty: u32, old: &[u8; 512], new: &[u8; 512], edit: &Edit) -> bool
     requires installed { IsTrue ((types_of table.now).installed ty) }
-    requires few { length adds.now ≤ 16 }
-    ensures { result ≡ claims (types_of table.now) ty old.now new.now adds.now drops.now && named_once (types_of table.now) ty new.now }
+    requires limits { IsTrue (within_limits edit.now) }
+    ensures { result ≡ (claims (types_of table.now) ty old.now new.now edit.now.adds edit.now.drops && named_once (types_of table.now) ty new.now) }
 {
     let before = owned_pairs(table, ty, old);
     let after = owned_pairs(table, ty, new);
-    let claimed = claimed_pairs(before.as_slice(), adds, drops);
+    let claimed = claimed_pairs(before.as_slice(), edit.adds(), edit.drops());
     is_inside(after.as_slice(), claimed.as_slice())
         && is_inside(claimed.as_slice(), after.as_slice())
         && are_blocks_distinct(after.as_slice())

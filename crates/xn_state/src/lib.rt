@@ -4,14 +4,12 @@
 mod answer;
 mod call;
 mod claims;
-mod entry;
+mod counts;
+mod floors;
 mod found;
 pub mod law;
-mod life;
 mod lives;
-mod places;
 mod root;
-mod safety;
 mod state;
 mod store;
 #[cfg(test)]

@@ -1,36 +1,37 @@
 // The lives of all blocks, with what is counted of them.
 
-ghost use Rattle.std.specs.Prelude.{◌≡◌, ℕ, List, ◌+◌, ◌*◌, ◌<◌, ◌≤◌, [], ◌∷◌, All, length, map, replicate, Option, Some, None, IfOk, IsTrue, OnOk, OnErr, is_some, slice_get, slice_index, slice_set, count_by, sum_by, is_none, position};
+ghost use Rattle.std.specs.Prelude.{◌≡◌, ℕ, ◌^◌, ◌<◌, ◌≤◌, All, length, map, Option, Some, None, IfOk, IsTrue, OnOk, OnErr, is_some, is_none, count_by, option_map, position, slice_get, slice_set, sum_by};
 ghost use Rattle.std.specs.Option.{option_copied};
-ghost use Rattle.xn_model.specs.Results.{Lends};
-ghost use Rattle.xn_model.specs.Lives.{life_at, is_for, begun_at, settled_at, accepted_at, freed, lowest_free, least_to, entries_of, drops_of};
-ghost use Rattle.xn_model.specs.Calls.{pending_in, own_place, begun_place, settled_place, first_pending, life_pending, new_life};
-ghost use Rattle.xn_model.specs.Images.{blocks_in};
 ghost use Rattle.xn_model.specs.Lists.{distinct};
-ghost use Rattle.xn_state.specs.Kept.{HasFewDrops, MayFree};
+ghost use Rattle.xn_model.specs.Lives.{accepted_at, alive_and, current, dropped_after, entries_of, is_for, least_to, life_at, lowest_free, owned_after};
+ghost use Rattle.xn_model.specs.Results.{result_map};
+ghost use Rattle.xn_model.specs.Calls.{is_ready, is_tainted, life_bytes, life_pending, new_life, own_place, patched, pending_in};
+ghost use Rattle.xn_model.specs.Images.{blocks_in};
+ghost use Rattle.block_cache.specs.Claims.{state_of};
+ghost use Rattle.block_cache.specs.Views.{facts_of};
+ghost use Rattle.xn_model.specs.Mounts.{found_status};
 ghost use Rattle.xn_state.specs.Mounts.{lives_in};
 
-use crate::entry::Entry;
+use crate::floors;
 use crate::found::Found;
-use crate::life::Life;
-use crate::places;
-use crate::safety::begun_place;
-use edit_list::Fs;
+use block_cache::{Cache, Claim, Facts};
+use edit_list::{EditId, Fs, Undo};
+use free_map::FreeMap;
 use std::alloc::{AllocError, Global};
 use std::marker::Model;
-use xn_model::Refusal;
+use xn_model::{Refusal, Status};
 
 mod forget;
-mod ready;
+mod idle;
+mod writes;
 
-/// The lives of all blocks, by block number. How many pending entries count for a file system, and where
-/// the search for a free block starts, is kept beside them, so that no call walks all lives for it.
+/// The lives of all blocks, by block number. Which blocks are free, and how many pending entries count for a file system, is
+/// kept beside them, so that no call walks all lives for it.
 #[derive(Drop)]
 pub struct Lives {
-    places: Vec<Option<Life>>,
+    cache: Cache,
+    free: FreeMap,
     pending: [u32; 32],
-    // Each block below this one is in use.
-    used: usize,
 }
 
 impl Model for Lives {
@@ -40,44 +41,82 @@ impl Model for Lives {
 
     ghost Value = { List (Option LifeValue) };
 
-    ghost view = { λ a. a.places.items };
+    ghost view = { λ a. a.cache };
 
-    ghost invariant = { λ a. IsCounted a.places.items a.pending a.used };
+    ghost invariant = { λ a. IsCounted a.cache a.free a.pending };
 }
 
 impl Lives {
     /// The lives of the blocks that are found in an image; all others are free.
     pub fn found(alloc: Global, image: &[u8], found: &[Found]) -> Result<Lives, AllocError>
+        requires few { length (blocks_in image.now) < 2 ^ 32 }
         requires within { All (λ f. f.block < length (blocks_in image.now)) found.now }
         requires once { IsTrue (distinct (map (λ f. f.block) found.now)) }
         ensures { IfOk result (λ lives. lives ≡ lives_in image.now found.now) }
     {
         let (blocks, _) = image.as_chunks::<512>();
-        let mut places = free_places(alloc, blocks.len())?;
+        let count = blocks.len() as u32;
+        let mut cache = Cache::new(alloc, count)?;
+        let mut free = FreeMap::new(alloc, count)?;
         for block in found {
-            let at = block.block as usize;
-            places[at] = Some(Life::found(alloc, block, &blocks[at]));
+            let bytes = &blocks[block.block as usize];
+            let status = found_status(block.owner);
+            cache.found(alloc, block.block, block.fs, block.ty, status, bytes);
+            free.take(block.block);
         }
         Ok(Lives {
-            places,
+            cache,
+            free,
             pending: [0; 32],
-            used: 0,
         })
     }
 
-    /// The life of a block, unless it is free or past the end.
-    pub fn life(&self, block: usize) -> Option<&Life>
-        ensures { option_copied result ≡ life_at self.now block }
+    /// What is known of a block in use beside its bytes.
+    pub fn facts(&self, block: u32) -> Option<Facts>
+        ensures { result ≡ option_map facts_of (life_at self.now block) }
     {
-        places::life_at(&self.places, block)
+        self.cache.facts(block)
     }
 
-    /// The life of a block that a file system may use: refused are a block past the end, a free or
-    /// dropped one, and one of another file system or of nobody.
-    pub fn own_life(&self, fs: Fs, block: u32) -> Result<&Life, Refusal>
-        ensures { Lends (own_place fs.number (slice_get self.now block)) result }
+    /// What is known of a block that a file system may use: refused are a block past the end, a free or dropped one, and one of
+    /// another file system or of nobody.
+    pub fn own(&self, fs: Fs, block: u32) -> Result<Facts, Refusal>
+        ensures { result ≡ result_map facts_of (own_place fs.number (slice_get self.now block)) }
     {
-        places::own_life(&self.places, fs, block)
+        match self.cache.place(block) {
+            None => Err(Refusal::NoSuchBlock),
+            Some(None) => Err(Refusal::NotInUse),
+            Some(Some(facts)) => {
+                if facts.is_dropped() {
+                    Err(Refusal::NotInUse)
+                } else if !self.cache.is_for(block, fs) {
+                    Err(Refusal::NotYours)
+                } else {
+                    Ok(facts)
+                }
+            }
+        }
+    }
+
+    /// The newest bytes of a block in use.
+    pub fn current(&self, block: u32) -> Option<&[u8; 512]>
+        ensures { option_copied result ≡ option_map current (life_at self.now block) }
+    {
+        self.cache.current(block)
+    }
+
+    /// How many entries of a block are pending.
+    pub fn pending(&self, block: u32) -> usize
+        ensures { result ≡ life_pending (life_at self.now block) }
+    {
+        self.cache.pending(block)
+    }
+
+    /// Whether a block is in use and belongs to a file system.
+    pub fn is_for(&self, block: u32, fs: Fs) -> bool
+        ensures { result ≡ alive_and (λ l. is_for fs.number l.fs) (life_at self.now block) }
+    {
+        self.cache.is_for(block, fs)
     }
 
     /// How many pending entries count for a file system.
@@ -91,116 +130,112 @@ impl Lives {
     pub fn least_for(&self, fs: Fs, most: u64) -> u64
         ensures { result ≡ least_to most (entries_of fs.number self.now) }
     {
-        places::least_for(&self.places, fs, most, self.pending_for(fs))
+        floors::least_for(&self.cache, fs, most, self.pending[fs.index()])
     }
 
     /// The least free block.
-    pub fn lowest_free(&self) -> Option<usize>
+    pub fn lowest_free(&self) -> Option<u32>
         ensures { result ≡ lowest_free self.now }
     {
-        places::free_from(&self.places, self.used)
+        self.free.lowest()
     }
 
-    /// The bytes that a write of a block is to carry, and how many entries are in them.
-    pub fn begun(&self, block: u32) -> Result<([u8; 512], u32), Refusal>
-        ensures plan { result ≡ begun_place self.now (slice_get self.now block) }
-        ensures within { IfOk result (λ plan. (1 ≤ plan.1) × (plan.1 ≤ life_pending (life_at self.now block)) × (block < length self.now)) }
+    /// How many blocks are free.
+    pub fn free(&self) -> u32
+        ensures { result ≡ count_by is_none self.now }
     {
-        begun_place(&self.places, block)
+        self.free.count()
     }
 
-    /// How many entries the bytes that are read back make durable.
-    pub fn settled(&self, block: u32, bytes: &[u8; 512]) -> Result<u32, Refusal>
-        ensures count { result ≡ settled_place bytes.now (slice_get self.now block) }
-        ensures within { IfOk result (λ count. (count ≤ life_pending (life_at self.now block)) × (block < length self.now)) }
+    /// Whether some pending entry of a block may not be written yet.
+    pub fn is_tainted(&self, block: u32) -> bool
+        ensures { result ≡ is_tainted self.now (life_at self.now block) }
     {
-        places::settled_place(&self.places, block, bytes)
+        dependencies::is_tainted(&self.cache, block)
     }
 
-    /// Puts a life that has just started on the least free block.
-    pub fn start(&mut self, block: usize, fs: Fs, life: Life)
+    /// The least block of which a write may begin.
+    pub fn pick(&self) -> Option<u32>
+        ensures { result ≡ position (is_ready self.now) self.now }
+    {
+        dependencies::pick(&self.cache)
+    }
+
+    /// Starts a life on the least free block.
+    pub fn start(
+        &mut self,
+        alloc: Global,
+        block: u32,
+        number: EditId,
+        fs: Fs,
+        ty: u32,
+        bytes: &[u8; 512],
+    ) -> Result<(), AllocError>
         requires free { lowest_free self.old ≡ Some block }
         requires room { sum_by (pending_in fs.number) self.old < 4096 }
-        requires first { (number ty : ℕ) × (bytes : List ℕ) × (life ≡ new_life number fs.number ty bytes) }
-        ensures { self.new ≡ slice_set self.old block (Some life) }
+        ensures ok { OnOk result (self.new ≡ slice_set self.old block (Some (new_life number fs.number ty bytes.now))) }
+        ensures err { OnErr result (self.new ≡ self.old) }
     {
-        self.places[block] = Some(life);
+        self.cache.start(alloc, block, number, fs, ty, bytes)?;
+        self.free.take(block);
         self.pending[fs.index()] += 1;
-        self.used = block + 1;
+        Ok(())
     }
 
-    /// Makes one more edit of a block in use, which owns what the edit adds and no longer what it drops.
+    /// Makes one more edit of a block in use, which leaves these bytes: the block owns what the edit adds and no longer what
+    /// it drops.
     pub fn accept(
         &mut self,
+        fs: Fs,
         block: u32,
-        entry: Entry,
+        claim: Claim,
+        bytes: &[u8; 512],
+        undo: Undo,
         adds: &[(u32, u32)],
         drops: &[u32],
     ) -> Result<(), AllocError>
         requires alive { IsTrue (is_some (life_at self.old block)) }
         requires room { life_pending (life_at self.old block) < 64 }
-        requires few { (fs : ℕ) → entry.fs ≡ Some fs → sum_by (pending_in fs) self.old < 4096 }
-        requires small { HasFewDrops entry }
-        requires adds { entry.adds ≡ adds.now }
-        requires drops { entry.drops ≡ drops.now }
-        ensures ok { OnOk result (self.new ≡ accepted_at self.old block entry) }
+        requires few { sum_by (pending_in fs.number) self.old < 4096 }
+        requires undoes { patched bytes.now undo ≡ life_bytes (life_at self.old block) }
+        requires fs { claim.fs ≡ Some fs.number }
+        requires adds { claim.adds ≡ adds.now }
+        requires drops { claim.drops ≡ drops.now }
+        ensures ok { OnOk result (self.new ≡ accepted_at self.old block (state_of claim bytes.now)) }
         ensures err { OnErr result (self.new ≡ self.old) }
     {
-        let fs = entry.fs();
-        places::accept(&mut self.places, block, entry, adds, drops)?;
+        self.cache.append(block, claim, bytes, undo)?;
+        set_dropped(&mut self.cache, block, drops);
+        set_owned(&mut self.cache, block, adds);
         self.pending[fs.index()] += 1;
         Ok(())
     }
+}
 
-    /// Begins a write of a block that carries its first entries.
-    pub fn begin(&mut self, block: u32, count: u32)
-        requires in_range { block < length self.old }
-        requires some { 1 ≤ count }
-        requires within { count ≤ life_pending (life_at self.old block) }
-        ensures { self.new ≡ begun_at self.old block count }
-    {
-        places::begin_at(&mut self.places, block, count);
-    }
-
-    /// Ends a write of a block that made its first entries durable: the blocks that they drop are free. Answers how many
-    /// these are.
-    pub fn settle(&mut self, block: u32, count: u32) -> u32
-        requires in_range { block < length self.old }
-        requires within { count ≤ life_pending (life_at self.old block) }
-        requires drops { MayFree self.old block (drops_of (first_pending count (life_at self.old block))) }
-        ensures lives { self.new ≡ freed (settled_at self.old block count) (drops_of (first_pending count (life_at self.old block))) }
-        ensures count { result ≡ length (drops_of (first_pending count (life_at self.old block))) }
-    {
-        let Some(mut life) = self.places[block as usize].take() else {
-            return 0;
-        };
-        let durable = &life.pending()[..count as usize];
-        discount(&mut self.pending, durable);
-        let freed = places::free_drops(&mut self.places, durable);
-        self.used = places::least_drop(self.used, durable);
-        life.settle(count);
-        self.places[block as usize] = Some(life);
-        freed
+/// A block owns these blocks from now on.
+fn set_owned(cache: &mut Cache, owner: u32, adds: &[(u32, u32)])
+    ensures { cache.new ≡ owned_after owner cache.old adds.now }
+{
+    for add in adds {
+        cache.set_status(add.0, Status::Owned(owner));
     }
 }
 
-/// Takes entries that are pending no longer out of the counts.
-fn discount(pending: &mut [u32; 32], entries: &[Entry])
-    requires { (fs : ℕ) → fs < 32 → count_by (λ s. is_for fs s.fs) entries.now ≤ slice_index pending.old fs }
-    ensures { (fs : ℕ) → fs < 32 → slice_index pending.new fs + count_by (λ s. is_for fs s.fs) entries.now ≡ slice_index pending.old fs }
+/// A block has dropped these blocks.
+fn set_dropped(cache: &mut Cache, owner: u32, drops: &[u32])
+    ensures { cache.new ≡ dropped_after owner cache.old drops.now }
 {
-    for entry in entries {
-        pending[entry.fs().index()] -= 1;
+    for block in drops {
+        cache.set_status(*block, Status::Dropped(owner));
     }
 }
 
-/// So many free places.
-fn free_places(alloc: Global, blocks: usize) -> Result<Vec<Option<Life>>, AllocError>
-    ensures { IfOk result (λ places. places.items ≡ replicate blocks None) }
+/// The status of a block with this owner.
+fn found_status(owner: Option<u32>) -> Status
+    ensures { result ≡ found_status owner }
 {
-    let mut places = Vec::with_capacity(alloc, blocks)?;
-    for _block in 0..blocks {
-        places.push_reserved(None);
+    match owner {
+        Some(owner) => Status::Owned(owner),
+        None => Status::Fresh,
     }
-    Ok(places)
 }

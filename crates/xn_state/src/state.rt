@@ -13,7 +13,6 @@ ghost use Rattle.xn_state.specs.Mounts.{lives_in, AreFound};
 ghost use Rattle.xn_state.specs.States.{StateValue, types_in};
 
 use crate::found::Found;
-use crate::life::Life;
 use crate::lives::Lives;
 use arrayvec::ArrayVec;
 use edit_list::{EditId, Fs};
@@ -115,13 +114,12 @@ impl State {
         let Some(block) = self.lives.lowest_free() else {
             return Err(Refusal::NoSpace);
         };
-        let number = self.next;
-        let Ok(life) = Life::start(self.alloc, number, fs, ty, bytes) else {
+        let number = EditId(self.next);
+        let Ok(()) = self.lives.start(self.alloc, block, number, fs, ty, bytes) else {
             return Err(Refusal::NoMemory);
         };
-        self.lives.start(block, fs, life);
         self.next += 1;
-        Ok((block as u32, EditId(number)))
+        Ok((block, number))
     }
 
     /// Begins a write of a block: the bytes that its safe entries leave, and how many those are.
@@ -149,8 +147,8 @@ impl State {
     pub fn is_in_flight(&self, block: u32) -> bool
         ensures { result ≡ alive_and (λ l. is_some l.begun) (life_at self.now.store.lives block) }
     {
-        match self.lives.life(block as usize) {
-            Some(life) => life.is_in_flight(),
+        match self.lives.facts(block) {
+            Some(facts) => facts.is_in_flight(),
             None => false,
         }
     }

@@ -1,20 +1,18 @@
 // The end of one life.
 
-ghost use Rattle.std.specs.Prelude.{◌≡◌, ◌<◌, length, None, slice_set};
+ghost use Rattle.std.specs.Prelude.{◌≡◌, None, slice_set};
 
-use crate::lives::{Lives, discount};
+use crate::counts::discount;
+use crate::lives::Lives;
 
 impl Lives {
     /// Ends the life of a block, and with it what is pending there: the block is free. One that is free stays so.
     pub fn forget(&mut self, block: u32)
-        requires { block < length self.old }
         ensures { self.new ≡ slice_set self.old block None }
     {
-        let at = block as usize;
-        if let Some(life) = &self.places[at] {
-            discount(&mut self.pending, life.pending());
-        }
-        self.places[at] = None;
-        self.used = self.used.min(at);
+        let count = self.cache.pending(block);
+        discount(&mut self.pending, &self.cache, block, count);
+        self.cache.end(block);
+        self.free.give(block);
     }
 }

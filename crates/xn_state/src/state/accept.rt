@@ -3,23 +3,25 @@
 ghost use Rattle.std.specs.Prelude.{◌≡◌, ◌<◌, ◌≤◌, ◌^◌, ◌-◌, length, is_some, IsTrue, Ok};
 ghost use Rattle.xn_model.specs.Lives.{life_at};
 ghost use Rattle.xn_model.specs.Results.{Gives};
-ghost use Rattle.xn_model.specs.Calls.{accepts, life_pending, pending_of};
+ghost use Rattle.xn_model.specs.Calls.{accepts, life_bytes, life_pending, patched, pending_of};
 ghost use Rattle.xn_model.specs.Rules.{IsConsistent};
 ghost use Rattle.xn_state.specs.Proposals.{entry_of};
 ghost use Rattle.xn_state.specs.States.{types_in};
 
-use crate::entry::{Claims, Entry};
 use crate::state::State;
-use edit_list::{EditId, Fs};
+use block_cache::Claim;
+use edit_list::{EditId, Fs, Undo};
 use xn_model::Refusal;
 
 impl State {
-    /// A block in use accepts an entry with these bytes and claims, after which the rules hold. `NoMemory` changes nothing.
+    /// A block in use accepts an entry with these bytes and claims, after which the rules hold. What undoes it gives the newest
+    /// bytes again. `NoMemory` changes nothing.
     pub(crate) fn accept(
         &mut self,
         fs: Fs,
         block: u32,
-        bytes: [u8; 512],
+        bytes: &[u8; 512],
+        undo: Undo,
         adds: &[(u32, u32)],
         drops: &[u32],
         after: Option<EditId>,
@@ -29,19 +31,22 @@ impl State {
         requires few { pending_of self.old.store fs.number < 4096 }
         requires numbers { self.old.store.next < 2 ^ 64 - 1 }
         requires small { length drops.now ≤ 128 }
-        requires rules { IsConsistent (types_in self.old) (accepts self.old.store block (entry_of self.old.store fs.number bytes adds.now drops.now after)).1 }
-        ensures state { Gives (Ok (accepts self.old.store block (entry_of self.old.store fs.number bytes adds.now drops.now after))) self.old.store self.new.store result }
+        requires undoes { patched bytes.now undo ≡ life_bytes (life_at self.old.store.lives block) }
+        requires rules { IsConsistent (types_in self.old) (accepts self.old.store block (entry_of self.old.store fs.number bytes.now adds.now drops.now after)).1 }
+        ensures state { Gives (Ok (accepts self.old.store block (entry_of self.old.store fs.number bytes.now adds.now drops.now after))) self.old.store self.new.store result }
         ensures table { self.new.table ≡ self.old.table }
     {
-        let number = self.next;
-        let Ok(claims) = Claims::copied(self.alloc, adds, drops, after) else {
+        let number = EditId(self.next);
+        let Ok(claim) = Claim::copied(self.alloc, number, adds, drops, after, fs) else {
             return Err(Refusal::NoMemory);
         };
-        let entry = Entry::new(number, bytes, claims, fs);
-        let Ok(()) = self.lives.accept(block, entry, adds, drops) else {
+        let Ok(()) = self
+            .lives
+            .accept(fs, block, claim, bytes, undo, adds, drops)
+        else {
             return Err(Refusal::NoMemory);
         };
         self.next += 1;
-        Ok(EditId(number))
+        Ok(number)
     }
 }

@@ -1,34 +1,33 @@
 // A client ends the life of a block that nobody owns.
 
-ghost use Rattle.std.specs.Prelude.{◌≡◌, ◌<◌, length, OnOk};
+ghost use Rattle.std.specs.Prelude.{◌≡◌};
 ghost use Rattle.xn_model.specs.Lives.{StoreState};
 ghost use Rattle.xn_model.specs.Results.{GivesExactly};
-ghost use Rattle.xn_model.specs.Calls.{forget_of, is_untouched};
-ghost use Rattle.xn_state.specs.Forgets.{forget_plan};
+ghost use Rattle.xn_model.specs.Calls.{forget_of};
+ghost use Rattle.xn_state.specs.Forgets.{forget_plan, is_untouched};
 ghost use Rattle.xn_state.specs.States.{StateValue, types_in};
 
-use crate::life::Life;
-use crate::state::{State, owns_nothing};
+use crate::state::State;
+use block_cache::Facts;
 use edit_list::Fs;
 use xn_model::Refusal;
 
 impl State {
     /// Whether a block of the file system may be forgotten, or the first refusal of `forget` that applies.
     fn forgettable(&self, fs: Fs, block: u32) -> Result<(), Refusal>
-        ensures plan { result ≡ forget_plan (types_in self.now) self.now.store fs.number block }
-        ensures within { OnOk result (block < length self.now.store.lives) }
+        ensures { result ≡ forget_plan (types_in self.now) self.now.store fs.number block }
     {
-        let life = self.lives.own_life(fs, block)?;
-        if !life.is_fresh() {
+        let facts = self.lives.own(fs, block)?;
+        if !facts.is_fresh() {
             return Err(Refusal::NotFresh);
         }
-        if !owns_nothing(&self.table, life.ty(), life.current()) {
+        if !self.is_empty(block) {
             return Err(Refusal::NotEmpty);
         }
-        if !is_untouched(life) {
+        if !is_untouched(facts) {
             return Err(Refusal::TooManyPending);
         }
-        if life.is_in_flight() {
+        if facts.is_in_flight() {
             return Err(Refusal::InFlight);
         }
         Ok(())
@@ -50,9 +49,8 @@ impl State {
 }
 
 /// Whether nothing is pending for a block but, where none of its states is known to be on the disk, its first entry.
-fn is_untouched(life: &Life) -> bool
-    ensures { result ≡ is_untouched life.now }
+fn is_untouched(facts: Facts) -> bool
+    ensures { result ≡ is_untouched facts }
 {
-    let pending = life.pending();
-    pending.is_empty() || (!life.is_durable() && pending.len() == 1)
+    facts.pending == 0 || (!facts.is_durable && facts.pending == 1)
 }

@@ -1,20 +1,19 @@
 // A file system edits one of its blocks.
 
-ghost use Rattle.std.specs.Prelude.{◌≡◌, ◌<◌, ◌≤◌, ◌^◌, ◌-◌, length, is_some, IsTrue, IfOk};
+ghost use Rattle.std.specs.Prelude.{◌≡◌, ◌<◌, ◌≤◌, ◌&&◌, ◌^◌, ◌-◌, length, is_some, IsTrue, IfErr, IfOk, OnOk};
 ghost use Rattle.std.specs.List.{list_all};
-ghost use Rattle.xn_model.specs.Lives.{current, life_at};
+ghost use Rattle.xn_model.specs.Lists.{blocks_of, distinct};
+ghost use Rattle.xn_model.specs.Lives.{life_at};
 ghost use Rattle.xn_model.specs.Results.{Gives};
-ghost use Rattle.xn_model.specs.Calls.{is_empty, life_pending, may_add, may_drop, pending_of, propose_of, was_given, within_limits};
+ghost use Rattle.xn_model.specs.Calls.{is_empty, life_bytes, life_pending, may_add, may_drop, patched, pending_of, propose_of, was_given, within_limits};
 ghost use Rattle.xn_model.specs.Rules.{IsConsistent};
-ghost use Rattle.templates.specs.Tables.{types_of};
-ghost use Rattle.xn_state.specs.Proposals.{bytes_refusal, form_refusal, proposed_of, target_refusal};
+ghost use Rattle.xn_state.specs.Proposals.{edited_with, proposed_of};
 ghost use Rattle.xn_state.specs.States.{types_in};
 
 use crate::claims::{are_as_claimed, are_blocks_distinct, are_distinct};
-use crate::life::Life;
 use crate::state::{State, is_within_size, owns_nothing};
-use edit_list::{Edit, EditId, Fs};
-use templates::Table;
+use block_cache::Facts;
+use edit_list::{Edit, EditId, Fs, Undo};
 use xn_model::Refusal;
 
 impl State {
@@ -28,34 +27,12 @@ impl State {
         }
     }
 
-    /// The first refusal that the form of an edit or a limit gives.
-    fn form_refusal(&self, fs: Fs, edit: &Edit, life: &Life) -> Option<Refusal>
-        ensures { result ≡ form_refusal self.now.store fs.number edit.now life.now }
-    {
-        if self.is_too_many(fs, life.pending().len()) {
-            return Some(Refusal::TooManyPending);
-        }
-        if self.next == u64::MAX {
-            return Some(Refusal::Exhausted);
-        }
-        if !edit.is_within_limits() {
-            return Some(Refusal::BadPatch);
-        }
-        if !self.was_given(edit.after()) {
-            return Some(Refusal::BadAfter);
-        }
-        if life.is_fresh() && !edit.adds().is_empty() {
-            return Some(Refusal::Unattached);
-        }
-        None
-    }
-
     /// Whether a block is fresh, and of this type and file system.
     fn may_add(&self, fs: Fs, add: (u32, u32)) -> bool
         ensures { result ≡ may_add self.now.store fs.number add }
     {
-        match self.lives.life(add.0 as usize) {
-            Some(life) => life.is_fresh() && life.ty() == add.1 && life.is_for(fs),
+        match self.lives.facts(add.0) {
+            Some(facts) => { facts.is_fresh() && facts.ty == add.1 && self.lives.is_for(add.0, fs) }
             None => false,
         }
     }
@@ -64,8 +41,8 @@ impl State {
     fn may_drop(&self, owner: u32, block: u32) -> bool
         ensures { result ≡ may_drop self.now.store owner block }
     {
-        match self.lives.life(block as usize) {
-            Some(life) => life.is_owned_by(owner),
+        match self.lives.facts(block) {
+            Some(facts) => facts.is_owned_by(owner),
             None => false,
         }
     }
@@ -74,10 +51,13 @@ impl State {
     pub(crate) fn is_empty(&self, block: u32) -> bool
         ensures { result ≡ is_empty (types_in self.now) self.now.store block }
     {
-        match self.lives.life(block as usize) {
-            Some(life) => owns_nothing(&self.table, life.ty(), life.current()),
-            None => false,
-        }
+        let Some(facts) = self.lives.facts(block) else {
+            return false;
+        };
+        let Some(bytes) = self.lives.current(block) else {
+            return false;
+        };
+        owns_nothing(&self.table, facts.ty, bytes)
     }
 
     /// Whether each of these blocks may be added.
@@ -87,11 +67,26 @@ impl State {
         adds.iter().all(|add| self.may_add(fs, *add))
     }
 
+    /// Whether each of these blocks may be added, and none stands twice.
+    fn may_add_all(&self, fs: Fs, adds: &[(u32, u32)]) -> bool
+        requires { length adds.now ≤ 128 }
+        ensures { result ≡ (list_all (may_add self.now.store fs.number) adds.now && distinct (blocks_of adds.now)) }
+    {
+        self.may_add_each(fs, adds) && are_blocks_distinct(adds)
+    }
+
     /// Whether each of these blocks may be dropped.
     fn may_drop_each(&self, owner: u32, drops: &[u32]) -> bool
         ensures { result ≡ list_all (may_drop self.now.store owner) drops.now }
     {
         drops.iter().all(|block| self.may_drop(owner, *block))
+    }
+
+    /// Whether each of these blocks may be dropped, and none stands twice.
+    fn may_drop_all(&self, owner: u32, drops: &[u32]) -> bool
+        ensures { result ≡ (list_all (may_drop self.now.store owner) drops.now && distinct drops.now) }
+    {
+        self.may_drop_each(owner, drops) && are_distinct(drops)
     }
 
     /// Whether each of these blocks is in use and points to no other.
@@ -101,46 +96,87 @@ impl State {
         blocks.iter().all(|block| self.is_empty(*block))
     }
 
-    /// The first refusal that the blocks give which an edit adds and drops.
-    fn target_refusal(&self, fs: Fs, block: u32, edit: &Edit) -> Option<Refusal>
-        requires { IsTrue (within_limits edit.now) }
-        ensures { result ≡ target_refusal (types_in self.now) self.now.store fs.number block edit.now }
+    /// The bytes that an edit leaves of a block with these, or the first refusal that applies.
+    fn edited(
+        &self,
+        fs: Fs,
+        block: u32,
+        facts: Facts,
+        old: &[u8; 512],
+        edit: &Edit,
+    ) -> Result<[u8; 512], Refusal>
+        requires { IsTrue ((types_in self.now).installed facts.ty) }
+        ensures plan { result ≡ edited_with (types_in self.now) self.now.store fs.number block edit.now facts old.now }
+        ensures room { OnOk result (facts.pending < 64) }
+        ensures few { OnOk result (pending_of self.now.store fs.number < 4096) }
+        ensures numbers { OnOk result (self.now.store.next < 2 ^ 64 - 1) }
+        ensures limits { OnOk result (IsTrue (within_limits edit.now)) }
     {
-        if !(self.may_add_each(fs, edit.adds()) && are_blocks_distinct(edit.adds())) {
-            return Some(Refusal::NotFresh);
+        if self.is_too_many(fs, facts.pending) {
+            return Err(Refusal::TooManyPending);
         }
-        if !(self.may_drop_each(block, edit.drops()) && are_distinct(edit.drops())) {
-            return Some(Refusal::NotOwned);
+        if self.next == u64::MAX {
+            return Err(Refusal::Exhausted);
+        }
+        if !edit.is_within_limits() {
+            return Err(Refusal::BadPatch);
+        }
+        if !self.was_given(edit.after()) {
+            return Err(Refusal::BadAfter);
+        }
+        if facts.is_fresh() && !edit.adds().is_empty() {
+            return Err(Refusal::Unattached);
+        }
+        if !self.may_add_all(fs, edit.adds()) {
+            return Err(Refusal::NotFresh);
+        }
+        if !self.may_drop_all(block, edit.drops()) {
+            return Err(Refusal::NotOwned);
         }
         if !self.are_empty(edit.drops()) {
-            return Some(Refusal::NotEmpty);
+            return Err(Refusal::NotEmpty);
         }
-        None
+        let new = edited_bytes(old, edit);
+        if !are_as_claimed(&self.table, facts.ty, old, &new, edit) {
+            return Err(Refusal::ClaimWrong);
+        }
+        if !is_within_size(&self.table, facts.ty, &new) {
+            return Err(Refusal::SizeWrong);
+        }
+        Ok(new)
     }
 
     /// The bytes that an edit leaves, or the first refusal that applies.
     fn proposed(&self, fs: Fs, block: u32, edit: &Edit) -> Result<[u8; 512], Refusal>
         ensures plan { result ≡ proposed_of (types_in self.now) self.now.store fs.number block edit.now }
         ensures rules { IsConsistent (types_in self.now) self.now.store }
-        ensures alive { IfOk result (λ bytes. IsTrue (is_some (life_at self.now.store.lives block))) }
-        ensures room { IfOk result (λ bytes. life_pending (life_at self.now.store.lives block) < 64) }
-        ensures few { IfOk result (λ bytes. pending_of self.now.store fs.number < 4096) }
-        ensures numbers { IfOk result (λ bytes. self.now.store.next < 2 ^ 64 - 1) }
-        ensures small { IfOk result (λ bytes. length edit.now.drops ≤ 128) }
+        ensures alive { OnOk result (IsTrue (is_some (life_at self.now.store.lives block))) }
+        ensures room { OnOk result (life_pending (life_at self.now.store.lives block) < 64) }
+        ensures few { OnOk result (pending_of self.now.store fs.number < 4096) }
+        ensures numbers { OnOk result (self.now.store.next < 2 ^ 64 - 1) }
+        ensures limits { OnOk result (IsTrue (within_limits edit.now)) }
     {
-        let life = self.lives.own_life(fs, block)?;
-        if let Some(refusal) = self.form_refusal(fs, edit, life) {
-            return Err(refusal);
+        let facts = self.lives.own(fs, block)?;
+        let Some(old) = self.lives.current(block) else {
+            unreachable!()
+        };
+        self.edited(fs, block, facts, old, edit)
+    }
+
+    /// What undoes an edit of a block in use.
+    fn undo_of(&self, block: u32, edit: &Edit) -> Result<Undo, Refusal>
+        requires alive { IsTrue (is_some (life_at self.now.store.lives block)) }
+        requires limits { IsTrue (within_limits edit.now) }
+        ensures ok { IfOk result (λ undo. patched (patched (life_bytes (life_at self.now.store.lives block)) edit.now.patches) undo ≡ life_bytes (life_at self.now.store.lives block)) }
+        ensures err { IfErr result (λ refusal. refusal ≡ Refusal.NoMemory) }
+    {
+        let Some(old) = self.lives.current(block) else {
+            unreachable!()
+        };
+        match edit.undo_of(self.alloc, old) {
+            Ok(undo) => Ok(undo),
+            Err(_) => Err(Refusal::NoMemory),
         }
-        if let Some(refusal) = self.target_refusal(fs, block, edit) {
-            return Err(refusal);
-        }
-        let mut bytes = *life.current();
-        edit.apply(&mut bytes);
-        if let Some(refusal) = bytes_refusal(&self.table, life, &bytes, edit) {
-            return Err(refusal);
-        }
-        Ok(bytes)
     }
 
     /// Edits a block of the file system: its patches are written into the newest bytes, and the blocks that it points to
@@ -157,28 +193,25 @@ impl State {
         ensures table { self.new.table ≡ self.old.table }
     {
         let bytes = self.proposed(fs, block, edit)?;
-        self.accept(fs, block, bytes, edit.adds(), edit.drops(), edit.after())
+        let undo = self.undo_of(block, edit)?;
+        self.accept(
+            fs,
+            block,
+            &bytes,
+            undo,
+            edit.adds(),
+            edit.drops(),
+            edit.after(),
+        )
     }
 }
 
-/// The first refusal that the bytes give which an edit leaves.
-fn bytes_refusal(table: &Table, life: &Life, bytes: &[u8; 512], edit: &Edit) -> Option<Refusal>
-    requires installed { IsTrue ((types_of table.now).installed life.now.ty) }
-    requires limits { IsTrue (within_limits edit.now) }
-    ensures { result ≡ bytes_refusal (types_of table.now) life.now.ty (current life.now) bytes.now edit.now }
+/// The bytes of a block once an edit is made.
+fn edited_bytes(old: &[u8; 512], edit: &Edit) -> [u8; 512]
+    requires { IsTrue (within_limits edit.now) }
+    ensures { result ≡ patched old.now edit.now.patches }
 {
-    if !are_as_claimed(
-        table,
-        life.ty(),
-        life.current(),
-        bytes,
-        edit.adds(),
-        edit.drops(),
-    ) {
-        return Some(Refusal::ClaimWrong);
-    }
-    if !is_within_size(table, life.ty(), bytes) {
-        return Some(Refusal::SizeWrong);
-    }
-    None
+    let mut bytes = *old;
+    edit.apply(&mut bytes);
+    bytes
 }

@@ -1,12 +1,12 @@
-// Which blocks of a store may be written, and how many are free.
+// Which blocks may be written, and how many are free.
 
 ghost use Rattle.std.specs.Prelude.{◌≡◌};
-ghost use Rattle.xn_model.specs.Calls.{tainted_of, free_of, pick_of};
+ghost use Rattle.xn_model.specs.Calls.{free_of, pick_of, tainted_of};
 
 use crate::state::State;
 
 impl State {
-    /// Whether a block has a pending entry that isn't safe; not so where it is free, or past the end of the disk.
+    /// Whether some pending entry of a block may not be written yet, as it waits for another block.
     pub fn tainted(&self, block: u32) -> bool
         ensures { result ≡ tainted_of self.now.store block }
     {
@@ -17,10 +17,10 @@ impl State {
     pub fn free(&self) -> u32
         ensures { result ≡ free_of self.now.store }
     {
-        self.lives.count_free()
+        self.lives.free()
     }
 
-    /// The least block that may be written: no write of it is under way, and some entry of it is safe.
+    /// The least block of which no write is under way, and some pending entry may be written.
     pub fn pick(&self) -> Option<u32>
         ensures { result ≡ pick_of self.now.store }
     {

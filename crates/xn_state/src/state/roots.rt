@@ -1,17 +1,18 @@
 // The root slots of file systems.
 
-ghost use Rattle.std.specs.Prelude.{◌≡◌, ◌<◌, ◌^◌, ◌-◌, is_some, IsTrue, IfOk};
+ghost use Rattle.std.specs.Prelude.{◌≡◌, ℕ, ◌<◌, ◌^◌, ◌-◌, is_some, IsTrue, IfErr, IfOk};
 ghost use Rattle.xn_model.specs.Lives.{life_at};
 ghost use Rattle.xn_model.specs.Results.{Gives};
-ghost use Rattle.xn_model.specs.Calls.{drop_root_of, life_pending, make_root_of, pending_of};
+ghost use Rattle.xn_model.specs.Root.{with_slot};
+ghost use Rattle.xn_model.specs.Calls.{drop_root_of, life_pending, make_root_of, patched, pending_of, root_now};
 ghost use Rattle.xn_model.specs.Rules.{IsConsistent};
 ghost use Rattle.xn_state.specs.Plans.{make_root_plan};
 ghost use Rattle.xn_state.specs.Proposals.{drop_root_plan};
 ghost use Rattle.xn_state.specs.States.{types_in};
 
-use crate::root::with_slot;
+use crate::root::{slot_undo, with_slot};
 use crate::state::State;
-use edit_list::{EditId, Fs};
+use edit_list::{EditId, Fs, Undo};
 use templates::root_slot;
 use udf_run::Pair;
 use xn_model::Refusal;
@@ -26,24 +27,24 @@ impl State {
         ensures few { IfOk result (λ plan. pending_of self.now.store fs.number < 4096) }
         ensures numbers { IfOk result (λ plan. self.now.store.next < 2 ^ 64 - 1) }
     {
-        let life = self.lives.own_life(fs, block)?;
-        let Some(root) = self.lives.life(0) else {
+        let facts = self.lives.own(fs, block)?;
+        let Some(root) = self.lives.current(0) else {
             unreachable!()
         };
-        if root_slot(root.current(), fs.index()).block != 0 {
+        if root_slot(root, fs.index()).block != 0 {
             return Err(Refusal::RootTaken);
         }
-        if !life.is_fresh() {
+        if !facts.is_fresh() {
             return Err(Refusal::NotFresh);
         }
-        if self.is_too_many(fs, root.pending().len()) {
+        if self.is_too_many(fs, self.lives.pending(0)) {
             return Err(Refusal::TooManyPending);
         }
         if self.next == u64::MAX {
             return Err(Refusal::Exhausted);
         }
-        let ty = life.ty();
-        Ok((with_slot(root.current(), fs, Pair { block, ty }), ty))
+        let ty = facts.ty;
+        Ok((with_slot(root, fs, Pair { block, ty }), ty))
     }
 
     /// Sets the file system's root slot, in block 0, to a fresh block. Refused are, in this order, a block past the end of the
@@ -55,7 +56,8 @@ impl State {
         ensures table { self.new.table ≡ self.old.table }
     {
         let (bytes, ty) = self.make_root_plan(fs, block)?;
-        self.accept(fs, 0, bytes, &[(block, ty)], &[], None)
+        let undo = self.slot_undo(fs)?;
+        self.accept(fs, 0, &bytes, undo, &[(block, ty)], &[], None)
     }
 
     /// Block 0's bytes with the file system's root slot empty, and the block that stands there.
@@ -67,24 +69,24 @@ impl State {
         ensures few { IfOk result (λ plan. pending_of self.now.store fs.number < 4096) }
         ensures numbers { IfOk result (λ plan. self.now.store.next < 2 ^ 64 - 1) }
     {
-        let Some(root) = self.lives.life(0) else {
+        let Some(root) = self.lives.current(0) else {
             unreachable!()
         };
-        let slot = root_slot(root.current(), fs.index());
+        let slot = root_slot(root, fs.index());
         if slot.block == 0 {
             return Err(Refusal::NotOwned);
         }
         if !self.is_empty(slot.block) {
             return Err(Refusal::NotEmpty);
         }
-        if self.is_too_many(fs, root.pending().len()) {
+        if self.is_too_many(fs, self.lives.pending(0)) {
             return Err(Refusal::TooManyPending);
         }
         if self.next == u64::MAX {
             return Err(Refusal::Exhausted);
         }
         let none = Pair { block: 0, ty: 0 };
-        Ok((with_slot(root.current(), fs, none), slot.block))
+        Ok((with_slot(root, fs, none), slot.block))
     }
 
     /// Empties the file system's root slot, in block 0: the block that stood there is dropped. Refused are, in this order, an
@@ -95,6 +97,21 @@ impl State {
         ensures table { self.new.table ≡ self.old.table }
     {
         let (bytes, block) = self.drop_root_plan(fs)?;
-        self.accept(fs, 0, bytes, &[], &[block], None)
+        let undo = self.slot_undo(fs)?;
+        self.accept(fs, 0, &bytes, undo, &[], &[block], None)
+    }
+
+    /// What undoes a change of the file system's root slot, in block 0.
+    fn slot_undo(&self, fs: Fs) -> Result<Undo, Refusal>
+        ensures ok { IfOk result (λ undo. (root : ℕ × ℕ) → patched (with_slot (root_now self.now.store) fs.number root) undo ≡ root_now self.now.store) }
+        ensures err { IfErr result (λ refusal. refusal ≡ Refusal.NoMemory) }
+    {
+        let Some(root) = self.lives.current(0) else {
+            unreachable!()
+        };
+        match slot_undo(self.alloc, root, fs) {
+            Ok(undo) => Ok(undo),
+            Err(_) => Err(Refusal::NoMemory),
+        }
     }
 }

@@ -1,14 +1,16 @@
-use Rattle.std.proofs.Common.{◌∙◌, ap, sym, subst, rules, arith}
+use Rattle.std.proofs.Common.{◌∙◌, sym, subst, arith}
 use Rattle.std.specs.Prelude.{is_some, IsTrue}
-use Rattle.xn_model.specs.Lives.{Lives, life_at, accepted_at}
-use Rattle.xn_state.proofs.Keeping.{lent_back}
+use Rattle.xn_model.specs.Lives.{Lives, dropped_after, life_at, owned_after}
+use Rattle.block_cache.specs.Claims.{state_of}
 use Rattle.xn_state.proofs.Counting.{accepted_counted}
 use Rattle.xn_state.proofs.lives.Lives.accept.Goals as goal
 
 pub invariant_of-self-2 : goal.invariant_of-self-2
 invariant_of-self-2 c =
-    let lent = lent_back c.self.inside.places.len c.self.inside.places.items c.accept.new.lives (search rules) (omega arith) in
-    let lives = lent ∙ (c.in_ok-accept.ensures.ok ∙ ap (λ (xs : Lives). accepted_at xs c.args.block c.args.entry) c.deref_mut.ensures.value) in
-    let alive = subst (λ (xs : Lives). IsTrue (is_some (life_at xs c.args.block))) (sym c.self.view_is) c.requires.alive in
-    let counted = accepted_counted c.self.inside.places.items c.self.inside.pending c.self.inside.used c.args.block c.fs-fs.result.number c.args.entry c.self.invariant (omega arith) alive c.fs-fs.ensures in
-    rw (lives, c.index.ensures.value) counted
+    let block = c.args.block in
+    let lives = c.set_owned.ensures
+    ∙ ((λ i. owned_after block (c.set_dropped.ensures i) (sym c.requires.adds i))
+    ∙ (λ i. owned_after block (dropped_after block (c.in_ok-append.ensures.ok i) (sym c.requires.drops i)) c.args.claim.adds)) in
+    let alive = subst (λ (xs : Lives). IsTrue (is_some (life_at xs block))) (sym c.self.view_is) c.requires.alive in
+    rw (lives, c.index.ensures.value)
+    (accepted_counted c.self.inside.cache c.self.inside.free c.self.inside.pending block c.args.fs.number (state_of c.args.claim c.args.bytes.now) c.self.invariant (omega arith) alive c.requires.fs)

@@ -1,8 +1,10 @@
-use Rattle.std.proofs.Common.{Err, refl, sym, subst}
+use Rattle.std.proofs.Common.{◌∙◌, ℕ, List, Err, refl, sym, ap, subst, inr}
 use Rattle.std.proofs.lemmas.Result.{err_from_is_err_and}
+use Rattle.xn_model.specs.declared.refusal.Refusal.TheVariants.{NoMemory}
 use Rattle.xn_model.specs.Results.{Gives}
+use Rattle.xn_model.specs.Calls.{patched}
 use Rattle.xn_state.specs.States.{types_in}
-use Rattle.xn_state.proofs.Keeping.{drop_refused, root_dropped, dropped_consistent}
+use Rattle.xn_state.proofs.Keeping.{drop_refused, empty_slot_bytes, root_dropped, dropped_consistent}
 use Rattle.xn_state.proofs.state.State.drop_root.Goals as goal
 
 pub returns-in_err-bytes-clause-state : goal.returns-in_err-bytes-clause-state
@@ -20,3 +22,15 @@ returns-clause-state c =
     let store = c.args.self.now.store in
     let made = root_dropped (types_in c.args.self.now) c.args.self.now.store c.args.fs.number (c.in_ok-bytes.bytes, c.in_ok-bytes.block) (sym c.in_ok-bytes.ensures.plan) in
     subst (λ r. Gives r store c.accept.new.self.store c.accept.result) (sym made) c.accept.ensures.state
+
+pub returns-in_err-undo-clause-state : goal.returns-in_err-undo-clause-state
+returns-in_err-undo-clause-state c =
+    let store = c.args.self.now.store in
+    let made = root_dropped (types_in c.args.self.now) store c.args.fs.number (c.in_ok-bytes.bytes, c.in_ok-bytes.block) (sym c.in_ok-bytes.ensures.plan) in
+    let p = err_from_is_err_and c.from_residual-in_err-undo.result c.from_residual-in_err-undo.ensures.1 in
+    rw (p.1, p.2, c.in_err-undo.ensures.err) (subst (λ r. Gives r store store (Err NoMemory)) (sym made) (inr (refl, refl)))
+
+pub accept-requires-clause-undoes : goal.accept-requires-clause-undoes
+accept-requires-clause-undoes c =
+    let is = empty_slot_bytes (types_in c.args.self.now) c.args.self.now.store c.args.fs.number (c.in_ok-bytes.bytes, c.in_ok-bytes.block) (sym c.in_ok-bytes.ensures.plan) in
+    ap (λ (m : List ℕ). patched m c.in_ok-undo.undo) is ∙ c.in_ok-undo.ensures.ok (0, 0)

@@ -12,12 +12,12 @@ use Rattle.xn_state.proofs.state.State.forget.Goals as goal
 pub returns-in_err-forgettable-clause-state : goal.returns-in_err-forgettable-clause-state
 returns-in_err-forgettable-clause-state c =
     let store = c.args.self.now.store in
-    let refused = forget_refused (types_in c.args.self.now) store c.args.fs.number c.args.block c.in_err-forgettable.field-0.0 (sym c.in_err-forgettable.ensures.plan) in
+    let refused = forget_refused (types_in c.args.self.now) store c.args.fs.number c.args.block c.in_err-forgettable.field-0.0 (sym c.in_err-forgettable.ensures) in
     let p = err_from_is_err_and c.from_residual.result c.from_residual.ensures.1 in
     rw (p.1, p.2) (subst (λ r. GivesExactly r store store (Err c.in_err-forgettable.field-0.0)) (sym refused) (refl, refl))
 
 pub invariant_of-self : goal.invariant_of-self
 invariant_of-self c =
-    let plan = ap (λ (s : StateValue). forget_plan (types_in s) s.store c.args.fs.number c.args.block) c.self.view_is ∙ sym c.in_ok-forgettable.ensures.plan in
+    let plan = ap (λ (s : StateValue). forget_plan (types_in s) s.store c.args.fs.number c.args.block) c.self.view_is ∙ sym c.in_ok-forgettable.ensures in
     let consistent = forgotten_consistent (types_of c.self.inside.table) c.self.inside.lives c.self.inside.next c.args.fs.number c.args.block c.in_ok-forgettable.field-0 c.self.invariant plan in
     subst (λ xs. IsConsistent (types_of c.self.inside.table) (state_of xs c.self.inside.next)) (sym c.forget.ensures) consistent

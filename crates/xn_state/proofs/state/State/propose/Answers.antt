@@ -1,10 +1,11 @@
-use Rattle.std.proofs.Common.{◌≡◌, ◌∙◌, Ok, Err, refl, sym, subst}
+use Rattle.std.proofs.Common.{◌≡◌, ◌∙◌, ℕ, List, Ok, Err, refl, sym, ap, subst, inr}
 use Rattle.std.proofs.lemmas.Result.{err_from_is_err_and}
+use Rattle.xn_model.specs.declared.refusal.Refusal.TheVariants.{NoMemory}
 use Rattle.xn_model.specs.Results.{Gives}
-use Rattle.xn_model.specs.Calls.{accepts}
+use Rattle.xn_model.specs.Calls.{accepts, patched}
 use Rattle.xn_state.specs.States.{types_in}
 use Rattle.xn_state.specs.Proposals.{entry_of}
-use Rattle.xn_state.proofs.Proposing.{edit_made, edit_refused, edit_consistent}
+use Rattle.xn_state.proofs.Proposing.{bytes_made, edit_made, edit_refused, edit_consistent}
 use Rattle.xn_state.proofs.state.State.propose.Goals as goal
 
 pub returns-in_err-bytes-clause-state : goal.returns-in_err-bytes-clause-state
@@ -28,3 +29,16 @@ returns-clause-state c =
     let same : Ok (accepts state.store c.args.block (entry_of state.store c.args.fs.number c.in_ok-bytes.bytes c.adds.result.now c.drops.result.now c.after.result))
     ≡ Ok (accepts state.store c.args.block (entry_of state.store c.args.fs.number c.in_ok-bytes.bytes edit.adds edit.drops edit.after)) = λ i. Ok (accepts state.store c.args.block (entry_of state.store c.args.fs.number c.in_ok-bytes.bytes (c.adds.ensures i) (c.drops.ensures i) (c.after.ensures i))) in
     subst (λ r. Gives r state.store c.accept.new.self.store c.accept.result) (same ∙ sym made) c.accept.ensures.state
+
+pub returns-in_err-undo-clause-state : goal.returns-in_err-undo-clause-state
+returns-in_err-undo-clause-state c =
+    let state = c.args.self.now in
+    let made = edit_made (types_in state) state.store c.args.fs.number c.args.block c.args.edit.now c.in_ok-bytes.bytes (sym c.in_ok-bytes.ensures.plan) in
+    let p = err_from_is_err_and c.from_residual-in_err-undo.result c.from_residual-in_err-undo.ensures.1 in
+    rw (p.1, p.2, c.in_err-undo.ensures.err) (subst (λ r. Gives r state.store state.store (Err NoMemory)) (sym made) (inr (refl, refl)))
+
+pub accept-requires-clause-undoes : goal.accept-requires-clause-undoes
+accept-requires-clause-undoes c =
+    let state = c.args.self.now in
+    let is = bytes_made (types_in state) state.store c.args.fs.number c.args.block c.args.edit.now c.in_ok-bytes.bytes (sym c.in_ok-bytes.ensures.plan) in
+    ap (λ (m : List ℕ). patched m c.in_ok-undo.undo) is ∙ c.in_ok-undo.ensures.ok

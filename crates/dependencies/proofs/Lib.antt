@@ -1,0 +1,4 @@
+pub mod Numbered
+pub mod Prefixes
+pub mod Places
+pub mod Fronts

@@ -1,0 +1,2 @@
+pub mod Safety
+pub mod Numbers

@@ -1,0 +1,64 @@
+// Whether the entry is there that another one comes after.
+
+ghost use Rattle.std.specs.Prelude.{◌≡◌, option_map, slice_get};
+ghost use Rattle.xn_model.specs.Lives.{alive_and, has_entry, is_after_met, is_pending, life_at};
+ghost use Rattle.xn_model.specs.Calls.{first_pending};
+ghost use Rattle.block_cache.specs.Claims.{claim_of};
+ghost use Rattle.block_cache.specs.Views.{pending_at};
+ghost use Rattle.dependencies.specs.Numbers.{is_number};
+
+use block_cache::{Cache, EditId};
+
+/// Whether the pending entry at a place of a block has this number.
+fn is_number_at(cache: &Cache, block: u32, place: usize, number: u64) -> bool
+    ensures { result ≡ is_number number (option_map claim_of (slice_get (pending_at (life_at cache.now block)) place)) }
+{
+    match cache.claim(block, place) {
+        Some(claim) => claim.entry().number() == number,
+        None => false,
+    }
+}
+
+/// Whether one of the first pending entries of a block has this number.
+fn has_number(cache: &Cache, block: u32, count: usize, number: u64) -> bool
+    ensures { result ≡ has_entry (first_pending count (life_at cache.now block)) number }
+{
+    for place in 0..count {
+        if is_number_at(cache, block, place, number) {
+            return true;
+        }
+    }
+    false
+}
+
+/// Whether the entry of this number is pending in a block.
+fn is_pending_in(cache: &Cache, block: u32, number: u64) -> bool
+    ensures { result ≡ alive_and (λ l. has_entry l.pending number) (life_at cache.now block) }
+{
+    has_number(cache, block, cache.pending(block), number)
+}
+
+/// Whether the entry of this number is pending in some block.
+fn is_pending(cache: &Cache, number: u64) -> bool
+    ensures { result ≡ is_pending cache.now number }
+{
+    for block in 0..cache.blocks() {
+        if is_pending_in(cache, block, number) {
+            return true;
+        }
+    }
+    false
+}
+
+/// Whether an entry that comes after another one may be written, behind the first ones of its block: the other stands among
+/// these, or is pending nowhere.
+pub fn is_after_met(cache: &Cache, block: u32, earlier: usize, after: Option<EditId>) -> bool
+    ensures { result ≡ is_after_met cache.now (first_pending earlier (life_at cache.now block)) after }
+{
+    match after {
+        None => true,
+        Some(other) => {
+            has_number(cache, block, earlier, other.number()) || !is_pending(cache, other.number())
+        }
+    }
+}

@@ -1,0 +1,66 @@
+// Whether an entry may go to the disk.
+
+ghost use Rattle.std.specs.Prelude.{◌≡◌, option_map, slice_get};
+ghost use Rattle.std.specs.List.{list_all};
+ghost use Rattle.xn_model.specs.Lives.{has_durable, is_all_durable, life_at};
+ghost use Rattle.xn_model.specs.Calls.{first_pending};
+ghost use Rattle.dependencies.specs.Safety.{is_claim_safe, is_safe_at};
+
+use crate::after::is_after_met;
+use block_cache::{Cache, Claim};
+
+/// Whether some state of a block is known to be on the disk.
+fn has_durable(cache: &Cache, block: u32) -> bool
+    ensures { result ≡ has_durable cache.now block }
+{
+    match cache.facts(block) {
+        Some(facts) => facts.is_durable,
+        None => false,
+    }
+}
+
+/// Whether the newest state of a block is known to be on the disk.
+fn is_all_durable(cache: &Cache, block: u32) -> bool
+    ensures { result ≡ is_all_durable cache.now block }
+{
+    match cache.facts(block) {
+        Some(facts) => facts.is_all_durable(),
+        None => false,
+    }
+}
+
+/// Whether each of these blocks has some state on the disk.
+fn are_durable(cache: &Cache, adds: &[(u32, u32)]) -> bool
+    ensures { result ≡ list_all (λ add. has_durable cache.now add.0) adds.now }
+{
+    adds.iter().all(|add| has_durable(cache, add.0))
+}
+
+/// Whether each of these blocks has its newest state on the disk.
+fn are_all_durable(cache: &Cache, drops: &[u32]) -> bool
+    ensures { result ≡ list_all (is_all_durable cache.now) drops.now }
+{
+    drops.iter().all(|block| is_all_durable(cache, *block))
+}
+
+/// Whether an entry of a block may be written, behind the first ones of that block. Each block that it adds has to have some
+/// state on the disk (never point to a structure before it has been initialised), each block that it drops its newest one
+/// (never reuse a resource before all pointers to it are gone), and the entry that it comes after has to be there or to go
+/// with it. These are the rules of soft updates, kept for each entry.
+fn is_claim_safe(cache: &Cache, block: u32, earlier: usize, claim: &Claim) -> bool
+    ensures { result ≡ is_claim_safe cache.now (first_pending earlier (life_at cache.now block)) claim.now }
+{
+    are_durable(cache, claim.adds())
+        && are_all_durable(cache, claim.drops())
+        && is_after_met(cache, block, earlier, claim.after())
+}
+
+/// Whether the pending entry at a place of a block may be written, once those before it are.
+pub fn is_safe_at(cache: &Cache, block: u32, place: usize) -> bool
+    ensures { result ≡ is_safe_at cache.now (life_at cache.now block) place }
+{
+    match cache.claim(block, place) {
+        Some(claim) => is_claim_safe(cache, block, place, claim),
+        None => false,
+    }
+}

@@ -1,0 +1,64 @@
+-- What the facts and the bytes of a block say of its writes.
+use Rattle.std.proofs.Common.{◌≡◌, ℕ, zero, suc, ◌≤◌, Bool, true, false, List, [], ◌∷◌, length, Option, Some, None, Ok, Err, refl, sym, ◌∙◌, ap, arith, subst}
+use Rattle.std.specs.Prelude.{bytes_eq, if◌then◌else◌, is_some, option_map, unwrap_or, ◌==◌}
+use Rattle.std.proofs.lemmas.Bool.{false≢true, ne_eqb}
+use Rattle.std.proofs.lemmas.Option.{none-some, same_Some}
+use Rattle.xn_model.specs.Lives.{BlockState, Life, Lives, alive_and, bytes_of, prefix_of}
+use Rattle.xn_model.specs.declared.refusal.Refusal.TheVariants.{NothingSafe, InFlight, NotMine}
+use Rattle.xn_model.specs.Calls.{begun_place, bytes_at, is_durable, life_pending, settled_count, settled_place}
+use Rattle.xn_model.specs.Rules.{IsCount}
+use Rattle.xn_model.proofs.Tests.{unless_passed}
+use Rattle.block_cache.specs.declared.life.Facts.{Facts}
+use Rattle.block_cache.specs.Views.{facts_of, image_at}
+use Rattle.xn_state.proofs.Lasts.{image_of_some}
+
+pub begun_is : (lives : Lives) (p : Option (Option Life)) (facts : Facts) (count : ℕ) (bytes : List ℕ) → Some (Some facts) ≡ option_map (option_map facts_of) p → is_some facts.begun ≡ false →
+    (count ≡ 0 → ⊥) → count ≡ prefix_of lives (unwrap_or p None) → count ≤ life_pending (unwrap_or p None) → Some bytes ≡ option_map (image_at count) (unwrap_or p None) →
+    Ok (bytes, count) ≡ begun_place lives p
+begun_is lives None facts count bytes e idle some is within image = absurd (none-some (Some facts) (sym e))
+begun_is lives (Some None) facts count bytes e idle some is within image = absurd (none-some facts (sym (same_Some (Some facts) None e)))
+begun_is lives (Some (Some l)) facts count bytes e idle some is within image =
+    let same = same_Some facts (facts_of l) (same_Some (Some facts) (Some (facts_of l)) e) in
+    let k = prefix_of lives (Some l) in
+    let first : is_some l.begun ≡ false = sym (ap (λ (f : Facts). is_some f.begun) same) ∙ idle in
+    let second : (k == 0) ≡ false = ne_eqb k 0 (λ none. some (is ∙ none)) in
+    let there = same_Some bytes (image_at count l) image ∙ image_of_some l count (some_count count some) within in
+    (λ i. Ok (there i, count))
+    ∙ (ap (λ n. Ok (bytes_at n l, n)) is
+    ∙ sym (unless_passed ((is_some l.begun, InFlight) ∷ (k == 0, NothingSafe) ∷ []) (Ok (bytes_at k l, k)) (first, (second, tt))))
+  where
+    some_count : (n : ℕ) → (n ≡ 0 → ⊥) → 1 ≤ n
+    some_count zero h = absurd (h refl)
+    some_count (suc n) h = omega arith
+
+-- how many entries are durable once bytes are read back
+pub settled_is : (bytes : List ℕ) (p : Option (Option Life)) (facts : Facts) (count : ℕ) (here durable : Bool) → Some facts ≡ option_map facts_of (unwrap_or p None) →
+    IsCount facts.begun facts.pending → facts.begun ≡ Some count → here ≡ alive_and (λ l. bytes_eq bytes (image_at count l)) (unwrap_or p None) →
+    durable ≡ alive_and (λ l. is_durable bytes l.durable) (unwrap_or p None) → settled_place bytes p ≡ (if here then Ok count else if durable then Ok 0 else Err NotMine)
+settled_is bytes None facts count here durable e some begun h d = absurd (none-some facts (sym e))
+settled_is bytes (Some None) facts count here durable e some begun h d = absurd (none-some facts (sym e))
+settled_is bytes (Some (Some l)) facts count here durable e some begun h d =
+    let same = same_Some facts (facts_of l) e in
+    let carries : l.begun ≡ Some count = sym (ap (λ (f : Facts). f.begun) same) ∙ begun in
+    let pending : facts.pending ≡ length l.pending = ap (λ (f : Facts). f.pending) same in
+    let counted = let P : Option ℕ → Type 0 = λ o. IsCount o facts.pending in subst P begun some in
+    let landed = h ∙ ap (bytes_eq bytes) (image_of_some l count counted.0 (omega (arith, counted.1, pending))) in
+    ap (settled_count l bytes) carries ∙ (λ i. if sym landed i then Ok count else if sym d i then Ok 0 else Err NotMine)
+
+-- bytes that may be the durable ones
+pub durable_image : (bytes : List ℕ) (o : Option Life) (facts : Facts) → Some facts ≡ option_map facts_of o → facts.is_durable ≡ true →
+    alive_and (λ l. bytes_eq bytes (image_at 0 l)) o ≡ alive_and (λ l. is_durable bytes l.durable) o
+durable_image bytes None facts e some = refl
+durable_image bytes (Some l) facts e some = by l.durable (sym (ap (λ (f : Facts). f.is_durable) (same_Some facts (facts_of l) e)) ∙ some)
+  where
+    by : (o : Option BlockState) → is_some o ≡ true → bytes_eq bytes (bytes_of o) ≡ is_durable bytes o
+    by None h = absurd (false≢true h)
+    by (Some s) h = refl
+
+pub any_bytes : (bytes : List ℕ) (o : Option Life) (facts : Facts) → Some facts ≡ option_map facts_of o → facts.is_durable ≡ false → true ≡ alive_and (λ l. is_durable bytes l.durable) o
+any_bytes bytes None facts e none = absurd (none-some facts (sym e))
+any_bytes bytes (Some l) facts e none = by l.durable (sym (ap (λ (f : Facts). f.is_durable) (same_Some facts (facts_of l) e)) ∙ none)
+  where
+    by : (o : Option BlockState) → is_some o ≡ false → true ≡ is_durable bytes o
+    by None h = refl
+    by (Some s) h = absurd (false≢true (sym h))

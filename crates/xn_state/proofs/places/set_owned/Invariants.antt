@@ -1,6 +1,0 @@
-use Rattle.std.proofs.Common.{◌≡◌, take}
-use Rattle.xn_model.specs.Lives.{owned_after}
-use Rattle.xn_state.proofs.places.set_owned.Given as goal
-
-abbrev pub invariant-loop-add : goal.invariant-loop-add
-invariant-loop-add l = l.lives ≡ owned_after l.owner l.initial.lives (take l.add-index l.adds)

@@ -1,0 +1,59 @@
+// What is counted of the entries that a block has pending no longer.
+
+ghost use Rattle.std.specs.Prelude.{◌≡◌, ℕ, ◌+◌, ◌<◌, ◌≤◌, IfSome, Some, count_by, slice_index};
+ghost use Rattle.std.specs.Option.{option_copied};
+ghost use Rattle.xn_model.specs.Lives.{drops_of, is_for, life_at};
+ghost use Rattle.xn_model.specs.Calls.{first_pending, life_pending};
+ghost use Rattle.xn_state.specs.Counts.{claim_count, claim_drops, given};
+
+use block_cache::{Cache, Claim};
+use free_map::FreeMap;
+
+/// Takes the first entries of a block out of the counts.
+pub fn discount(pending: &mut [u32; 32], cache: &Cache, block: u32, count: usize)
+    requires within { count ≤ life_pending (life_at cache.now block) }
+    requires counted { (fs : ℕ) → fs < 32 → count_by (λ s. is_for fs s.fs) (first_pending count (life_at cache.now block)) ≤ slice_index pending.old fs }
+    ensures { (fs : ℕ) → fs < 32 → slice_index pending.new fs + count_by (λ s. is_for fs s.fs) (first_pending count (life_at cache.now block)) ≡ slice_index pending.old fs }
+{
+    for place in 0..count {
+        discount_one(pending, cache.claim(block, place));
+    }
+}
+
+/// Takes an entry out of the counts.
+fn discount_one(pending: &mut [u32; 32], claim: Option<&Claim>)
+    requires { (fs : ℕ) → fs < 32 → claim_count fs (option_copied claim) ≤ slice_index pending.old fs }
+    ensures { (fs : ℕ) → fs < 32 → slice_index pending.new fs + claim_count fs (option_copied claim.entry) ≡ slice_index pending.old fs }
+{
+    if let Some(claim) = claim {
+        pending[claim.fs().index()] -= 1;
+    }
+}
+
+/// Frees the blocks that the first entries of a block drop.
+pub fn give_drops(free: &mut FreeMap, cache: &Cache, block: u32, count: usize)
+    requires { count ≤ life_pending (life_at cache.now block) }
+    ensures { free.new ≡ given free.old (drops_of (first_pending count (life_at cache.now block))) }
+{
+    for place in 0..count {
+        give_each(free, cache.claim(block, place));
+    }
+}
+
+/// Frees the blocks that an entry drops.
+fn give_each(free: &mut FreeMap, claim: Option<&Claim>)
+    ensures { free.new ≡ given free.old (claim_drops (option_copied claim.entry)) }
+{
+    if let Some(claim) = claim {
+        give_blocks(free, claim.drops());
+    }
+}
+
+/// Frees some blocks.
+fn give_blocks(free: &mut FreeMap, blocks: &[u32])
+    ensures { free.new ≡ given free.old blocks.now }
+{
+    for block in blocks {
+        free.give(*block);
+    }
+}

@@ -1,0 +1,77 @@
+// The least pending entry of a file system.
+
+ghost use Rattle.std.specs.Prelude.{◌≡◌, ◌≤◌, option_map, slice_get, sum_by};
+ghost use Rattle.std.specs.Option.{option_copied};
+ghost use Rattle.xn_model.specs.Lives.{entries_at, entries_of, least_to, life_at};
+ghost use Rattle.xn_model.specs.Calls.{pending_in};
+ghost use Rattle.xn_state.specs.Counts.{claim_count, claim_entries};
+
+use block_cache::{Cache, Claim};
+use edit_list::Fs;
+
+/// The least of a number and the pending entries that count for a file system. As there are `count` of these, the
+/// walk ends with the last of them.
+pub fn least_for(cache: &Cache, fs: Fs, most: u64, count: u32) -> u64
+    requires { count ≡ sum_by (pending_in fs.number) cache.now }
+    ensures { result ≡ least_to most (entries_of fs.number cache.now) }
+{
+    let mut least = most;
+    let mut left = count;
+    for block in 0..cache.blocks() {
+        if left == 0 {
+            break;
+        }
+        least = least_in(cache, block, fs, least);
+        left -= count_in(cache, block, fs);
+    }
+    least
+}
+
+/// The least of a number and the pending entries of a block that count for a file system.
+fn least_in(cache: &Cache, block: u32, fs: Fs, most: u64) -> u64
+    ensures { result ≡ least_to most (entries_at fs.number (life_at cache.now block)) }
+{
+    let mut least = most;
+    for place in 0..cache.pending(block) {
+        least = least_with(cache.claim(block, place), fs, least);
+    }
+    least
+}
+
+/// The least of a number and an entry, if that counts for a file system.
+fn least_with(claim: Option<&Claim>, fs: Fs, most: u64) -> u64
+    ensures { result ≡ least_to most (claim_entries fs.number (option_copied claim.entry)) }
+{
+    match claim {
+        Some(claim) => {
+            if claim.fs().number() == fs.number() {
+                claim.entry().number().min(most)
+            } else {
+                most
+            }
+        }
+        None => most,
+    }
+}
+
+/// How many pending entries of a block count for a file system.
+fn count_in(cache: &Cache, block: u32, fs: Fs) -> u32
+    ensures { result ≡ pending_in fs.number (life_at cache.now block) }
+{
+    let mut count = 0;
+    for place in 0..cache.pending(block) {
+        count += count_one(cache.claim(block, place), fs);
+    }
+    count
+}
+
+/// 1 for an entry that counts for a file system.
+fn count_one(claim: Option<&Claim>, fs: Fs) -> u32
+    ensures count { result ≡ claim_count fs.number (option_copied claim.entry) }
+    ensures few { result ≤ 1 }
+{
+    match claim {
+        Some(claim) => u32::from(claim.fs().number() == fs.number()),
+        None => 0,
+    }
+}

@@ -1,0 +1,25 @@
+// What a drain asks of all lives.
+
+ghost use Rattle.std.specs.Prelude.{◌≡◌, ◌≤◌, is_some, length};
+ghost use Rattle.std.specs.List.{list_any};
+ghost use Rattle.xn_model.specs.Lives.{alive_and};
+ghost use Rattle.xn_model.specs.Worlds.{all_pending};
+
+use crate::lives::Lives;
+
+impl Lives {
+    /// Whether a write of some block is under way.
+    pub fn is_any_in_flight(&self) -> bool
+        ensures { result ≡ list_any (alive_and (λ l. is_some l.begun)) self.now }
+    {
+        dependencies::is_any_in_flight(&self.cache)
+    }
+
+    /// How many entries are pending, of all blocks and file systems.
+    pub fn count_pending(&self) -> u32
+        requires { length self.now ≤ 32768 }
+        ensures { result ≡ all_pending self.now }
+    {
+        dependencies::all_pending(&self.cache)
+    }
+}

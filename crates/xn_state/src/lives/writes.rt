@@ -1,0 +1,106 @@
+// The writes of blocks.
+
+ghost use Rattle.std.specs.Prelude.{◌≡◌, ◌<◌, ◌≤◌, IfOk, IfSome, bytes_eq, length, slice_get};
+ghost use Rattle.xn_model.specs.Lives.{alive_and, begun_at, drops_of, freed, life_at, settled_at};
+ghost use Rattle.xn_model.specs.Calls.{begun_place, first_pending, is_durable, life_pending, settled_place};
+ghost use Rattle.block_cache.specs.Views.{HasImage, image_at};
+ghost use Rattle.xn_state.specs.Kept.{MayFree};
+
+use crate::counts::{discount, give_drops};
+use crate::lives::Lives;
+use dependencies::safe_prefix;
+use xn_model::Refusal;
+
+impl Lives {
+    /// The bytes that a write of a block is to carry, and how many entries are in them.
+    pub fn begun(&self, block: u32) -> Result<([u8; 512], u32), Refusal>
+        ensures plan { result ≡ begun_place self.now (slice_get self.now block) }
+        ensures within { IfOk result (λ plan. (1 ≤ plan.1) × (plan.1 ≤ life_pending (life_at self.now block))) }
+    {
+        let Some(place) = self.cache.place(block) else {
+            return Err(Refusal::NoSuchBlock);
+        };
+        let Some(facts) = place else {
+            return Err(Refusal::NotInUse);
+        };
+        if facts.is_in_flight() {
+            return Err(Refusal::InFlight);
+        }
+        let count = safe_prefix(&self.cache, block);
+        if count == 0 {
+            return Err(Refusal::NothingSafe);
+        }
+        let Some(bytes) = self.cache.image_of(block, count) else {
+            unreachable!()
+        };
+        Ok((bytes, count))
+    }
+
+    /// Whether a block in use has these bytes once only its first pending entries are done.
+    fn has_image(&self, block: u32, count: u32, bytes: &[u8; 512]) -> bool
+        requires { IfSome (life_at self.now block) (HasImage count) }
+        ensures { result ≡ alive_and (λ l. bytes_eq bytes.now (image_at count l)) (life_at self.now block) }
+    {
+        match self.cache.image_of(block, count) {
+            Some(image) => *bytes == image,
+            None => false,
+        }
+    }
+
+    /// Whether these bytes may be the durable ones of a block in use: where no state of it is known to be on the disk, any may.
+    fn may_be_durable(&self, block: u32, bytes: &[u8; 512]) -> bool
+        ensures { result ≡ alive_and (λ l. is_durable bytes.now l.durable) (life_at self.now block) }
+    {
+        let Some(facts) = self.cache.facts(block) else {
+            return false;
+        };
+        if !facts.is_durable {
+            return true;
+        }
+        self.has_image(block, 0, bytes)
+    }
+
+    /// How many entries the bytes that are read back make durable.
+    pub fn settled(&self, block: u32, bytes: &[u8; 512]) -> Result<u32, Refusal>
+        ensures count { result ≡ settled_place bytes.now (slice_get self.now block) }
+        ensures within { IfOk result (λ count. count ≤ life_pending (life_at self.now block)) }
+        ensures few { IfOk result (λ count. count ≤ 64) }
+    {
+        let Some(facts) = self.cache.facts(block) else {
+            return Err(Refusal::NotMine);
+        };
+        let Some(count) = facts.begun else {
+            return Err(Refusal::NotMine);
+        };
+        if self.has_image(block, count, bytes) {
+            return Ok(count);
+        }
+        if self.may_be_durable(block, bytes) {
+            return Ok(0);
+        }
+        Err(Refusal::NotMine)
+    }
+
+    /// Begins a write of a block that carries its first entries.
+    pub fn begin(&mut self, block: u32, count: u32)
+        requires some { 1 ≤ count }
+        requires within { count ≤ life_pending (life_at self.old block) }
+        ensures { self.new ≡ begun_at self.old block count }
+    {
+        self.cache.begin(block, count);
+    }
+
+    /// Ends a write of a block that made its first entries durable: the blocks that they drop are free. Answers how many
+    /// these are.
+    pub fn settle(&mut self, block: u32, count: u32) -> u32
+        requires within { count ≤ life_pending (life_at self.old block) }
+        requires few { count ≤ 64 }
+        requires drops { MayFree self.old block (drops_of (first_pending count (life_at self.old block))) }
+        ensures lives { self.new ≡ freed (settled_at self.old block count) (drops_of (first_pending count (life_at self.old block))) }
+        ensures count { result ≡ length (drops_of (first_pending count (life_at self.old block))) }
+    {
+        discount(&mut self.pending, &self.cache, block, count as usize);
+        give_drops(&mut self.free, &self.cache, block, count as usize);
+        self.cache.settle_and_free(block, count)
+    }
+}
