@@ -1,19 +1,36 @@
-// Takes pseudo-random bytes, texts and blocks through the libraries of metadata programs, and prints how they were answered.
+// Takes pseudo-random bytes, texts and blocks through the libraries of metadata programs, and prints how they were answered. The
+// same are taken in each run. The first line is what `bench/reference.py` prints, which is another implementation; of each other
+// line the last two numbers have to be the same.
 #![tactic(auto)]
 
 mod answers;
 mod language;
 mod numbers;
 mod programs;
+mod spellings;
 
 use language::answer_all;
+use spellings::{Spellings, try_blocks, try_bytes, try_texts};
 use std::io;
 
+/// Prints how many were read, and how many of them are written as they were.
+fn print_spellings(rt: &impl Print, name: &str, spellings: &Spellings) -> io::Result<()> {
+    let (read, same) = (spellings.read, spellings.same);
+    println!(rt; "{name}: read {read}, written again {same}")
+}
+
 fn main(rt: HostRuntime) -> io::Result<()> {
-    let answers = answer_all(rt.alloc())?;
+    let alloc = rt.alloc();
+    let answers = answer_all(alloc)?;
     let (programs, accepted) = (answers.programs, answers.accepted);
     let (pairs, hash) = (answers.pairs, answers.hash);
     println!(rt; "programs {programs} accepted {accepted} pairs {pairs} hash {hash:#x}")?;
-    let respelled = answers.respelled;
-    println!(rt; "respelled {respelled}")
+    let read = answers.programs;
+    let same = read.saturating_sub(answers.respelled);
+    print_spellings(&rt, "programs", &Spellings { read, same })?;
+    print_spellings(&rt, "bytes", &try_bytes(alloc)?)?;
+    print_spellings(&rt, "texts", &try_texts(alloc)?)?;
+    let (spellings, pairs) = try_blocks(alloc)?;
+    print_spellings(&rt, "template blocks", &spellings)?;
+    println!(rt; "pairs {pairs}")
 }
