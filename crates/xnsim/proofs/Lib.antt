@@ -6,4 +6,3 @@ pub mod TemplateWords
 pub mod TemplatesRead
 pub mod MountFaults
 pub mod HeldFiles
-pub mod PrintedBytes

@@ -3,7 +3,6 @@
 #![tactic(auto)]
 
 mod assembling;
-mod bytes;
 mod fault;
 mod files;
 mod formatting;

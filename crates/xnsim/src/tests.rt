@@ -8,12 +8,10 @@ mod programs;
 
 use crate::files::Files;
 use crate::line::line;
-use crate::replay::refusal_text;
 use std::alloc::{AllocError, Global};
 use std::io;
 use std::io::{Read, Write};
 use std::test::Fail;
-use xn_model::Refusal;
 
 /// A file in memory.
 #[derive(Drop)]
@@ -370,39 +368,6 @@ fn prints_refusals(rt: HostRuntime) -> Result<(), Fail> {
         let outcome = run_words(alloc, &mut files, "", script)?;
         assert_eq!(rt; outcome.status, 0);
         assert_eq!(rt; outcome.out.as_slice(), replies);
-    }
-    Ok(())
-}
-
-/// The library's own names of refusals are those that are printed.
-#[test]
-fn names_refusals(rt: HostRuntime) -> Result<(), Fail> {
-    let refusals = [
-        Refusal::NoMemory,
-        Refusal::NoSuchBlock,
-        Refusal::NotInUse,
-        Refusal::NotYours,
-        Refusal::BadPatch,
-        Refusal::BadAfter,
-        Refusal::NotFresh,
-        Refusal::NotOwned,
-        Refusal::NotEmpty,
-        Refusal::ClaimWrong,
-        Refusal::SizeWrong,
-        Refusal::Unattached,
-        Refusal::TooManyPending,
-        Refusal::NoSpace,
-        Refusal::BadType,
-        Refusal::InFlight,
-        Refusal::NotMine,
-        Refusal::Device,
-        Refusal::RootTaken,
-        Refusal::NothingSafe,
-        Refusal::Exhausted,
-    ];
-    for refusal in refusals {
-        let name = format!(in rt.alloc(); "{refusal}")?;
-        assert_eq!(rt; refusal_text(refusal), name.as_str());
     }
     Ok(())
 }

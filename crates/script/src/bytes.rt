@@ -3,7 +3,7 @@
 ghost use Rattle.std.specs.Prelude.{◌≡◌, ◌<◌, ◌≤◌, length, take, OnOk};
 ghost use Rattle.std.specs.List.{flat_map};
 ghost use Rattle.std.specs.Io.KnownBytes.{Appends};
-ghost use Rattle.xnsim.specs.Bytes.{bytes_text, hex_digit, hex_pair, used_length};
+ghost use Rattle.script.specs.Bytes.{bytes_text, hex_digit, hex_pair, used_length};
 
 use arrayvec::ArrayVec;
 use std::io;
