@@ -8,7 +8,7 @@ use Rattle.std.proofs.lemmas.List.{length-map}
 use Rattle.std.proofs.lemmas.List.Elements.{All-nil, All-cons, All-head, All-tail, All-append}
 use Rattle.std.proofs.lemmas.Slice.Zip.{AllZip-long}
 use Rattle.xn_model.specs.Calls as model
-use Rattle.script.specs.Commands.{SpellsAfter, SpellsPatch, SpellsAdd, SpellsDrop, SpellsEdit}
+use Rattle.script.specs.Events.{SpellsAfter, SpellsPatch, SpellsAdd, SpellsDrop, SpellsEdit}
 use Rattle.script.specs.Cuts.{begins_with, first_begins_with, CutsAfter, NoneOrBegins, CutsBefore}
 use Rattle.script.proofs.EditWords.{IsDigit, decimal_digits}
 

@@ -8,7 +8,7 @@ use Rattle.std.proofs.lemmas.List.Elements.{All-nil, All-push}
 use Rattle.std.proofs.lemmas.Fmt.{decimal_by_steps}
 use Rattle.std.proofs.lemmas.Str.Pattern.{IsSplitOnceResult, split_after}
 use Rattle.xn_model.specs.Calls as model
-use Rattle.script.specs.Commands.{SpellsPatch, SpellsAdd}
+use Rattle.script.specs.Events.{SpellsPatch, SpellsAdd}
 
 pub record IsDigit (byte : ℕ) : Type 0 where
   pub least : 48 ≤ byte

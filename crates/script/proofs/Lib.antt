@@ -4,4 +4,5 @@ pub mod ScriptLines
 pub mod EditWords
 pub mod WordLists
 pub mod EditCuts
-pub mod CommandWords
+pub mod EventWords
+pub mod PrintedBytes

@@ -4,8 +4,8 @@ use Rattle.std.specs.List.{AllZip, filter}
 use Rattle.std.specs.Borrow.{Bor}
 use Rattle.std.proofs.lemmas.List.{take_more, take_all, append-nil, get_or-map}
 use Rattle.std.proofs.lemmas.List.Elements.{filter-append}
-use Rattle.script.specs.declared.command.Command.{Command}
-use Rattle.script.specs.Commands.{IsNoCommand}
+use Rattle.world.specs.declared.event.Event.{Event}
+use Rattle.script.specs.Events.{SpellNothing}
 use Rattle.script.proofs.WordLists.{zip_push}
 use Rattle.script.specs.Scripts.{is_passed_over, words_of, lines_of, LineSpells, IsScript, IsReadable, IsUnreadable, IsFirstUnreadable}
 
@@ -13,9 +13,9 @@ use Rattle.script.specs.Scripts.{is_passed_over, words_of, lines_of, LineSpells,
 pub line_at : (lines : List (Bor (List ℕ))) (place : ℕ) (default : Bor (List ℕ)) → place < length lines → get_or (map (λ line. line.now) lines) place [] ≡ (get_or lines place default).now
 line_at lines place default within = get_or-map (λ line. line.now) lines place default [] within
 
--- the lines before this place spell these commands, and none of them is unreadable
-pub record IsReadTo (lines : List (List ℕ)) (place : ℕ) (commands : List Command) : Type 0 where
-  pub spelled : AllZip LineSpells (filter (λ line. not (is_passed_over line)) (take place lines)) commands
+-- the lines before this place spell these events, and none of them is unreadable
+pub record IsReadTo (lines : List (List ℕ)) (place : ℕ) (events : List Event) : Type 0 where
+  pub spelled : AllZip LineSpells (filter (λ line. not (is_passed_over line)) (take place lines)) events
   pub before : (k : ℕ) → k < place → IsReadable (get_or lines k [])
 
 filtered_more : (lines : List (List ℕ)) (place : ℕ) → place < length lines →
@@ -25,9 +25,9 @@ filtered_more lines place within =
     ap (filter (λ line. not (is_passed_over line))) (take_more lines place [] within) ∙ filter-append (λ line. not (is_passed_over line)) (take place lines) (get_or lines place [] ∷ [])
 
 -- one more line, which is passed over
-pub passed_over : (lines : List (List ℕ)) (place : ℕ) (commands : List Command) → place < length lines → is_passed_over (get_or lines place []) ≡ true →
-    IsReadTo lines place commands → IsReadTo lines (place + 1) commands
-passed_over lines place commands within passed so_far =
+pub passed_over : (lines : List (List ℕ)) (place : ℕ) (events : List Event) → place < length lines → is_passed_over (get_or lines place []) ≡ true →
+    IsReadTo lines place events → IsReadTo lines (place + 1) events
+passed_over lines place events within passed so_far =
     let none : filter (λ line. not (is_passed_over line)) (get_or lines place [] ∷ []) ≡ [] = rw passed refl in
     let same : filter (λ line. not (is_passed_over line)) (take (place + 1) lines) ≡ filter (λ line. not (is_passed_over line)) (take place lines) =
     filtered_more lines place within ∙ (ap (λ more. filter (λ line. not (is_passed_over line)) (take place lines) ++ more) none ∙ append-nil (filter (λ line. not (is_passed_over line)) (take place lines))) in
@@ -36,30 +36,30 @@ passed_over lines place commands within passed so_far =
       before = below_more (λ k. IsReadable (get_or lines k [])) place so_far.before (inl passed);
     }
 
--- one more line, which spells a command
-pub spelled_more : (lines : List (List ℕ)) (place : ℕ) (commands more : List Command) (command : Command) → place < length lines → is_passed_over (get_or lines place []) ≡ false →
-    LineSpells (get_or lines place []) command → more ≡ commands ++ command ∷ [] → IsReadTo lines place commands → IsReadTo lines (place + 1) more
-spelled_more lines place commands more command within read spells pushed so_far =
+-- one more line, which spells a event
+pub spelled_more : (lines : List (List ℕ)) (place : ℕ) (events more : List Event) (event : Event) → place < length lines → is_passed_over (get_or lines place []) ≡ false →
+    LineSpells (get_or lines place []) event → more ≡ events ++ event ∷ [] → IsReadTo lines place events → IsReadTo lines (place + 1) more
+spelled_more lines place events more event within read spells pushed so_far =
     let one : filter (λ line. not (is_passed_over line)) (get_or lines place [] ∷ []) ≡ get_or lines place [] ∷ [] = rw read refl in
     let same : filter (λ line. not (is_passed_over line)) (take (place + 1) lines) ≡ filter (λ line. not (is_passed_over line)) (take place lines) ++ get_or lines place [] ∷ [] =
     filtered_more lines place within ∙ ap (λ next. filter (λ line. not (is_passed_over line)) (take place lines) ++ next) one in
     record {
-      spelled = rw (same, pushed) (zip_push LineSpells (filter (λ line. not (is_passed_over line)) (take place lines)) commands (get_or lines place []) command so_far.spelled spells);
-      before = below_more (λ k. IsReadable (get_or lines k [])) place so_far.before (inr (command, spells));
+      spelled = rw (same, pushed) (zip_push LineSpells (filter (λ line. not (is_passed_over line)) (take place lines)) events (get_or lines place []) event so_far.spelled spells);
+      before = below_more (λ k. IsReadable (get_or lines k [])) place so_far.before (inr (event, spells));
     }
 
 -- after the last line
-pub all_read : (text : List ℕ) (lines : List (List ℕ)) (place : ℕ) (commands : List Command) → lines ≡ lines_of text → length lines ≤ place →
-    IsReadTo lines place commands → IsScript text commands
-all_read text lines place commands split past so_far =
+pub all_read : (text : List ℕ) (lines : List (List ℕ)) (place : ℕ) (events : List Event) → lines ≡ lines_of text → length lines ≤ place →
+    IsReadTo lines place events → IsScript text events
+all_read text lines place events split past so_far =
     let all : take place lines ≡ lines_of text = take_all place lines past ∙ split in
     rw all at so_far.spelled
 
 -- at the first line that is unreadable
-pub first_unreadable : (text : List ℕ) (lines : List (List ℕ)) (place number : ℕ) (commands : List Command) → lines ≡ lines_of text → place < length lines → number ≡ place + 1 →
-    is_passed_over (get_or lines place []) ≡ false → IsNoCommand (words_of (get_or lines place [])) → IsReadTo lines place commands → IsFirstUnreadable text number
-first_unreadable text lines place number commands split within counted read none so_far =
-    let unreadable : IsUnreadable (get_or lines place []) = record { read = read; no_command = none } in
+pub first_unreadable : (text : List ℕ) (lines : List (List ℕ)) (place number : ℕ) (events : List Event) → lines ≡ lines_of text → place < length lines → number ≡ place + 1 →
+    is_passed_over (get_or lines place []) ≡ false → SpellNothing (words_of (get_or lines place [])) → IsReadTo lines place events → IsFirstUnreadable text number
+first_unreadable text lines place number events split within counted read none so_far =
+    let unreadable : IsUnreadable (get_or lines place []) = record { read = read; no_event = none } in
     record {
       place = place;
       counted = counted;

@@ -1,5 +1,7 @@
 pub mod Hex
 pub mod Numbers
-pub mod Commands
+pub mod Events
 pub mod Cuts
 pub mod Scripts
+pub mod Bytes
+pub mod Replies

@@ -1,10 +1,10 @@
 -- The text of a script.
 use Rattle.std.specs.Prelude.{◌≡◌, ◌<◌, ◌⊎◌, ⊤, ℕ, ◌+◌, ◌==◌, Bool, true, false, not, List, [], ◌∷◌, length, filter}
 use Rattle.std.specs.List.{AllZip, slice_split, slice_index_or}
-use Rattle.script.specs.declared.command.Command.{Command}
+use Rattle.world.specs.declared.event.Event.{Event}
 use Rattle.script.specs.declared.script.ScriptFault.{ScriptFault}
 use Rattle.script.specs.declared.script.ScriptFault.TheVariants.{Unreadable, NoMemory}
-use Rattle.script.specs.Commands.{Spells, IsNoCommand}
+use Rattle.script.specs.Events.{Spells, SpellNothing}
 
 -- the lines of a text, which is split at each newline
 abbrev pub lines_of : List ℕ → List (List ℕ)
@@ -19,21 +19,21 @@ abbrev pub is_passed_over : List ℕ → Bool
 is_passed_over [] = true
 is_passed_over (byte ∷ line) = byte == 35
 
-abbrev pub LineSpells : List ℕ → Command → Type 0
-LineSpells line command = Spells (words_of line) command
+abbrev pub LineSpells : List ℕ → Event → Type 0
+LineSpells line event = Spells (words_of line) event
 
--- the lines that aren't passed over spell these commands, one a line, in order
-abbrev pub IsScript : List ℕ → List Command → Type 0
-IsScript text commands = AllZip LineSpells (filter (λ line. not (is_passed_over line)) (lines_of text)) commands
+-- the lines that aren't passed over spell these events, one a line, in order
+abbrev pub IsScript : List ℕ → List Event → Type 0
+IsScript text events = AllZip LineSpells (filter (λ line. not (is_passed_over line)) (lines_of text)) events
 
--- a line that is passed over or spells a command
+-- a line that is passed over or spells an event
 abbrev pub IsReadable : List ℕ → Type 0
-IsReadable line = (is_passed_over line ≡ true) ⊎ ((command : Command) × LineSpells line command)
+IsReadable line = (is_passed_over line ≡ true) ⊎ ((event : Event) × LineSpells line event)
 
 -- a line that is neither
 pub record IsUnreadable (line : List ℕ) : Type 0 where
   pub read : is_passed_over line ≡ false
-  pub no_command : IsNoCommand (words_of line)
+  pub no_event : SpellNothing (words_of line)
 
 -- the first line that is neither has this number, from 1
 pub record IsFirstUnreadable (text : List ℕ) (number : ℕ) : Type 0 where

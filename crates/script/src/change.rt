@@ -1,6 +1,6 @@
 ghost use Rattle.std.specs.Prelude.{◌≡◌, ℕ, IfOk, IfSome, IfNone};
 ghost use Rattle.xn_model.specs.Calls as model;
-ghost use Rattle.script.specs.Commands.{SpellsPatch, SpellsAdd, SpellsDrop};
+ghost use Rattle.script.specs.Events.{SpellsPatch, SpellsAdd, SpellsDrop};
 
 use crate::hex::parse_bytes;
 use crate::number::{parse_number, parse_u32};

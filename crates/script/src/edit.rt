@@ -1,7 +1,7 @@
 ghost use Rattle.std.specs.Prelude.{◌≡◌, ℕ, List, Option, map, position, IfOk, IfSome, IfNone};
 ghost use Rattle.std.specs.List.{AllZip};
 ghost use Rattle.xn_model.specs.Calls as model;
-ghost use Rattle.script.specs.Commands.{SpellsPatch, SpellsAdd, SpellsDrop, SpellsEdit};
+ghost use Rattle.script.specs.Events.{SpellsPatch, SpellsAdd, SpellsDrop, SpellsEdit};
 ghost use Rattle.script.specs.Cuts.{CutsAfter, CutsBefore, begins_with};
 
 use crate::change::{parse_add, parse_drop, parse_patch};

@@ -1,16 +1,18 @@
-//! Scripts of commands for a block store: each command is a line of words, and a script is read whole before any of it runs.
+//! Scripts for a block store: each event is a line of words, a script is read whole before any of it runs, and each reply is
+//! printed as a line.
 #![tactic(auto)]
 
+mod bytes;
 mod change;
-mod command;
 mod edit;
 mod hex;
 mod number;
+mod print;
 mod script;
 #[cfg(test)]
 mod tests;
 
-pub use command::Command;
 pub use hex::parse_block;
 pub use number::parse_number;
+pub use print::print_reply;
 pub use script::{ScriptFault, parse};

@@ -1,21 +1,21 @@
 ghost use Rattle.std.specs.Prelude.{◌≡◌, ◌≢◌, ◌<◌, ◌==◌, ℕ, IfOk, IfErr, IfSome, IfNone, IsSome, [], ◌∷◌, codes, map};
 ghost use Rattle.std.specs.Fmt.{decimal};
 ghost use Rattle.std.specs.List.{slice_split};
-ghost use Rattle.script.specs.declared.command.Command.{Command};
-ghost use Rattle.script.specs.Commands.{Spells, IsNoCommand};
+ghost use Rattle.world.specs.declared.event.Event.{Event};
+ghost use Rattle.script.specs.Events.{Spells, SpellNothing};
 ghost use Rattle.script.specs.Scripts.{is_passed_over, words_of, IsScript, IsScriptFault, LineSpells};
 
-use crate::command::Command;
 use crate::edit::parse_edit;
 use crate::hex::parse_block;
 use crate::number::{parse_number, parse_u32};
 use std::alloc::{AllocError, AllocFailed, Global};
-use xn_state::Fs;
+use world::Event;
+use xn_state::{Call, Fs};
 
 /// Why a script isn't one.
 #[derive(Clone, Copy, Debug, PartialEq, Eq)]
 pub enum ScriptFault {
-    /// The first line that is no command. Lines count from 1, also those that are passed over.
+    /// The first line that is no event. Lines count from 1, also those that are passed over.
     Unreadable { line: u64 },
     NoMemory,
 }
@@ -51,35 +51,29 @@ fn parse_fs(word: &str) -> Option<Fs>
     Fs::new(number as u8)
 }
 
-/// The command of the words `init`, these two and the words behind them.
-fn parse_init(
-    alloc: Global,
-    fs: &str,
-    ty: &str,
-    words: &[&str],
-) -> Result<Option<Command>, AllocError>
-    ensures some { IfOk result (λ read. IfSome read (Spells (codes "init" ∷ fs.now ∷ ty.now ∷ map (λ word. word.now) words.now))) }
-    ensures none { IfOk result (λ read. IfNone read (IsNoCommand (codes "init" ∷ fs.now ∷ ty.now ∷ map (λ word. word.now) words.now))) }
+/// The event of the words `init`, these two and the words behind them.
+fn parse_init(fs: &str, ty: &str, words: &[&str]) -> Option<Event>
+    ensures some { IfSome result (Spells (codes "init" ∷ fs.now ∷ ty.now ∷ map (λ word. word.now) words.now)) }
+    ensures none { IfNone result (SpellNothing (codes "init" ∷ fs.now ∷ ty.now ∷ map (λ word. word.now) words.now)) }
 {
     let [bytes] = words else {
-        return Ok(None);
+        return None;
     };
-    let (Some(fs), Some(ty), Some(block)) = (parse_fs(fs), parse_u32(ty), parse_block(bytes)) else {
-        return Ok(None);
+    let (Some(fs), Some(ty), Some(bytes)) = (parse_fs(fs), parse_u32(ty), parse_block(bytes)) else {
+        return None;
     };
-    let bytes = Box::new(alloc, block)?;
-    Ok(Some(Command::Init { fs, ty, bytes }))
+    Some(Event::Call(fs, Call::Init { ty, bytes }))
 }
 
-/// The command of the words `edit`, these two and the words behind them.
-fn parse_edit_command(
+/// The event of the words `edit`, these two and the words behind them.
+fn parse_edit_event(
     alloc: Global,
     fs: &str,
     block: &str,
     words: &[&str],
-) -> Result<Option<Command>, AllocError>
+) -> Result<Option<Event>, AllocError>
     ensures some { IfOk result (λ read. IfSome read (Spells (codes "edit" ∷ fs.now ∷ block.now ∷ map (λ word. word.now) words.now))) }
-    ensures none { IfOk result (λ read. IfNone read (IsNoCommand (codes "edit" ∷ fs.now ∷ block.now ∷ map (λ word. word.now) words.now))) }
+    ensures none { IfOk result (λ read. IfNone read (SpellNothing (codes "edit" ∷ fs.now ∷ block.now ∷ map (λ word. word.now) words.now))) }
 {
     let (Some(fs), Some(block)) = (parse_fs(fs), parse_u32(block)) else {
         return Ok(None);
@@ -87,77 +81,115 @@ fn parse_edit_command(
     let Some(edit) = parse_edit(alloc, words)? else {
         return Ok(None);
     };
-    Ok(Some(Command::Edit { fs, block, edit }))
+    Ok(Some(Event::Call(fs, Call::Propose { block, edit })))
 }
 
-/// The command of a name and two words behind it, a file system and a block.
-fn parse_place(name: &str, fs: &str, block: &str) -> Option<Command>
+/// The event of a name and two words behind it, a file system and a block.
+fn parse_place(name: &str, fs: &str, block: &str) -> Option<Event>
     ensures some { IfSome result (Spells (name.now ∷ fs.now ∷ block.now ∷ [])) }
-    ensures none { IfNone result (name.now ≢ codes "edit" → IsNoCommand (name.now ∷ fs.now ∷ block.now ∷ [])) }
+    ensures none { IfNone result (name.now ≢ codes "edit" → name.now ≢ codes "fail" → SpellNothing (name.now ∷ fs.now ∷ block.now ∷ [])) }
 {
     let fs = parse_fs(fs)?;
     let block = parse_u32(block)?;
     match name {
-        "root" => Some(Command::Root { fs, block }),
-        "forget" => Some(Command::Forget { fs, block }),
-        "read" => Some(Command::Read { fs, block }),
+        "root" => Some(Event::Call(fs, Call::MakeRoot { block })),
+        "forget" => Some(Event::Call(fs, Call::Forget { block })),
+        "read" => Some(Event::Call(fs, Call::Read { block })),
         _ => None,
     }
 }
 
-/// The command of a name and one word behind it.
-fn parse_short(name: &str, word: &str) -> Option<Command>
+/// The event of the word `fail` and two words behind it, a block and which bytes stay.
+fn parse_fail(block: &str, bytes: &str) -> Option<Event>
+    ensures some { IfSome result (Spells (codes "fail" ∷ block.now ∷ bytes.now ∷ [])) }
+    ensures none { IfNone result (SpellNothing (codes "fail" ∷ block.now ∷ bytes.now ∷ [])) }
+{
+    let block = parse_u32(block)?;
+    match bytes {
+        "old" => Some(Event::Fail(block, false)),
+        "new" => Some(Event::Fail(block, true)),
+        _ => None,
+    }
+}
+
+/// The event of a name and two words behind it.
+fn parse_triple(name: &str, first: &str, second: &str) -> Option<Event>
+    ensures some { IfSome result (Spells (name.now ∷ first.now ∷ second.now ∷ [])) }
+    ensures none { IfNone result (name.now ≢ codes "edit" → SpellNothing (name.now ∷ first.now ∷ second.now ∷ [])) }
+{
+    if name == "fail" {
+        parse_fail(first, second)
+    } else {
+        parse_place(name, first, second)
+    }
+}
+
+/// The event of a name and one word behind it, a file system.
+fn parse_system(name: &str, word: &str) -> Option<Event>
     ensures some { IfSome result (Spells (name.now ∷ word.now ∷ [])) }
-    ensures none { IfNone result (IsNoCommand (name.now ∷ word.now ∷ [])) }
+    ensures none { IfNone result (name.now ≢ codes "begin" → name.now ≢ codes "land" → name.now ≢ codes "finish" → SpellNothing (name.now ∷ word.now ∷ [])) }
+{
+    let fs = parse_fs(word)?;
+    match name {
+        "unroot" => Some(Event::Call(fs, Call::DropRoot)),
+        "floor" => Some(Event::Call(fs, Call::Floor)),
+        "pending" => Some(Event::Call(fs, Call::Pending)),
+        _ => None,
+    }
+}
+
+/// The event of a name and one word behind it.
+fn parse_short(name: &str, word: &str) -> Option<Event>
+    ensures some { IfSome result (Spells (name.now ∷ word.now ∷ [])) }
+    ensures none { IfNone result (SpellNothing (name.now ∷ word.now ∷ [])) }
 {
     match name {
-        "unroot" => Some(Command::Unroot {
-            fs: parse_fs(word)?,
-        }),
-        "begin" => Some(Command::Begin {
-            block: parse_u32(word)?,
-        }),
-        "land" => Some(Command::Land {
-            block: parse_u32(word)?,
-        }),
-        "finish" => Some(Command::Finish {
-            block: parse_u32(word)?,
-        }),
-        "floor" => Some(Command::Floor {
-            fs: parse_fs(word)?,
-        }),
-        "pending" => Some(Command::Pending {
-            fs: parse_fs(word)?,
-        }),
+        "begin" => Some(Event::Begin(parse_u32(word)?)),
+        "land" => Some(Event::Land(parse_u32(word)?)),
+        "finish" => Some(Event::Finish(parse_u32(word)?)),
+        _ => parse_system(name, word),
+    }
+}
+
+/// The event of a name alone, a call of file system 0.
+fn parse_name(name: &str) -> Option<Event>
+    ensures some { IfSome result (Spells (name.now ∷ [])) }
+    ensures none { IfNone result (SpellNothing (name.now ∷ [])) }
+{
+    let Some(fs) = Fs::new(0) else { unreachable!() };
+    match name {
+        "pick" => Some(Event::Call(fs, Call::Pick)),
+        "drain" => Some(Event::Call(fs, Call::Drain)),
         _ => None,
     }
 }
 
-/// The command of a name, two words behind it and the words behind those.
+/// The event of a name, two words behind it and the words behind those.
 fn parse_long(
     alloc: Global,
     name: &str,
     first: &str,
     second: &str,
     rest: &[&str],
-) -> Result<Option<Command>, AllocError>
+) -> Result<Option<Event>, AllocError>
     ensures some { IfOk result (λ read. IfSome read (Spells (name.now ∷ first.now ∷ second.now ∷ map (λ word. word.now) rest.now))) }
-    ensures none { IfOk result (λ read. IfNone read (IsNoCommand (name.now ∷ first.now ∷ second.now ∷ map (λ word. word.now) rest.now))) }
+    ensures none { IfOk result (λ read. IfNone read (SpellNothing (name.now ∷ first.now ∷ second.now ∷ map (λ word. word.now) rest.now))) }
 {
     match name {
-        "init" => parse_init(alloc, first, second, rest),
-        "edit" => parse_edit_command(alloc, first, second, rest),
-        _ if rest.is_empty() => Ok(parse_place(name, first, second)),
+        "init" => Ok(parse_init(first, second, rest)),
+        "edit" => parse_edit_event(alloc, first, second, rest),
+        _ if rest.is_empty() => Ok(parse_triple(name, first, second)),
         _ => Ok(None),
     }
 }
 
-/// The command of a line that is cut at each space, or `None` where it is none.
-fn parse_words(alloc: Global, words: &[&str]) -> Result<Option<Command>, AllocError>
+/// The event of a line that is cut at each space, or `None` where it is none.
+fn parse_words(alloc: Global, words: &[&str]) -> Result<Option<Event>, AllocError>
     ensures some { IfOk result (λ read. IfSome read (Spells (map (λ word. word.now) words.now))) }
-    ensures none { IfOk result (λ read. IfNone read (IsNoCommand (map (λ word. word.now) words.now))) }
+    ensures none { IfOk result (λ read. IfNone read (SpellNothing (map (λ word. word.now) words.now))) }
 {
     match words {
+        [name] => Ok(parse_name(name)),
         [name, word] => Ok(parse_short(name, word)),
         [name, first, second, rest @ ..] => parse_long(alloc, name, first, second, rest),
         _ => Ok(None),
@@ -182,33 +214,33 @@ fn is_passed_over(line: &str) -> bool
     }
 }
 
-/// The command of a line, or `None` where it is none.
-fn parse_line(alloc: Global, line: &str) -> Result<Option<Command>, AllocError>
+/// The event of a line, or `None` where it is none.
+fn parse_line(alloc: Global, line: &str) -> Result<Option<Event>, AllocError>
     ensures some { IfOk result (λ read. IfSome read (LineSpells line.now)) }
-    ensures none { IfOk result (λ read. IfNone read (IsNoCommand (words_of line.now))) }
+    ensures none { IfOk result (λ read. IfNone read (SpellNothing (words_of line.now))) }
 {
     let words = cut(alloc, line, ' ')?;
     parse_words(alloc, words.as_slice())
 }
 
-/// The commands of a script, in order, one a line. Empty lines and lines that begin with `#` are passed over.
-pub fn parse(alloc: Global, script: &str) -> Result<Vec<Command>, ScriptFault>
-    ensures script { IfOk result (λ commands. IsScript script.now commands.items) }
+/// The events of a script, in order, one a line. Empty lines and lines that begin with `#` are passed over.
+pub fn parse(alloc: Global, script: &str) -> Result<Vec<Event>, ScriptFault>
+    ensures script { IfOk result (λ events. IsScript script.now events.items) }
     ensures fault { IfErr result (IsScriptFault script.now) }
 {
     let lines = cut(alloc, script, '\n')?;
-    let mut commands = Vec::new(alloc);
+    let mut events = Vec::new(alloc);
     for (place, line) in lines.iter().enumerate() {
         if is_passed_over(line) {
             continue;
         }
         match parse_line(alloc, line)? {
-            Some(command) => commands.push(command)?,
+            Some(event) => events.push(event)?,
             None => {
                 let line = place as u64 + 1;
                 return Err(ScriptFault::Unreadable { line });
             }
         }
     }
-    Ok(commands)
+    Ok(events)
 }

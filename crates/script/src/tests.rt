@@ -1,28 +1,46 @@
-use crate::{Command, ScriptFault, parse};
+use crate::{ScriptFault, parse, print_reply};
 use std::alloc::{AllocError, Global};
 use std::test::Fail;
+use world::{Answer, Call, Event, Landed, Reply};
+use xn_model::Refusal;
+use xn_state::EditId;
 
-/// The name of a command, its file system, and its block or type; 0 where it has none.
-fn parts_of(command: &Command) -> (&str, u8, u32) {
-    match command {
-        Command::Init { fs, ty, .. } => ("init", fs.number(), *ty),
-        Command::Root { fs, block } => ("root", fs.number(), *block),
-        Command::Unroot { fs } => ("unroot", fs.number(), 0),
-        Command::Edit { fs, block, .. } => ("edit", fs.number(), *block),
-        Command::Forget { fs, block } => ("forget", fs.number(), *block),
-        Command::Read { fs, block } => ("read", fs.number(), *block),
-        Command::Begin { block } => ("begin", 0, *block),
-        Command::Land { block } => ("land", 0, *block),
-        Command::Finish { block } => ("finish", 0, *block),
-        Command::Floor { fs } => ("floor", fs.number(), 0),
-        Command::Pending { fs } => ("pending", fs.number(), 0),
+/// The name of a call, and its block or type; 0 where it has none.
+fn call_parts(call: &Call) -> (&str, u32) {
+    match call {
+        Call::Init { ty, .. } => ("init", *ty),
+        Call::MakeRoot { block } => ("root", *block),
+        Call::DropRoot => ("unroot", 0),
+        Call::Propose { block, .. } => ("edit", *block),
+        Call::Forget { block } => ("forget", *block),
+        Call::Read { block } => ("read", *block),
+        Call::Pending => ("pending", 0),
+        Call::Floor => ("floor", 0),
+        Call::Pick => ("pick", 0),
+        Call::Drain => ("drain", 0),
+        _ => ("other", 0),
+    }
+}
+
+/// The name of an event, its file system, and its block or type; 0 where it has none.
+fn parts_of(event: &Event) -> (&str, u8, u32) {
+    match event {
+        Event::Call(fs, call) => {
+            let (name, number) = call_parts(call);
+            (name, fs.number(), number)
+        }
+        Event::Begin(block) => ("begin", 0, *block),
+        Event::Land(block) => ("land", 0, *block),
+        Event::Fail(block, false) => ("fail old", 0, *block),
+        Event::Fail(block, true) => ("fail new", 0, *block),
+        Event::Finish(block) => ("finish", 0, *block),
     }
 }
 
 #[test]
-fn reads_each_command(rt: HostRuntime) -> Result<(), Fail> {
+fn reads_each_event(rt: HostRuntime) -> Result<(), Fail> {
     let script =
-        "# all\ninit 31 4294967295 -\n\nroot 0 1\nunroot 2\nedit 9 8 0=00\nforget 3 4\nread 5 6\nbegin 10\nland 11\nfinish 12\nfloor 7\npending 8";
+        "# all\ninit 31 4294967295 -\n\nroot 0 1\nunroot 2\nedit 9 8 0=00\nforget 3 4\nread 5 6\nbegin 10\nland 11\nfinish 12\nfloor 7\npending 8\nfail 13 old\nfail 14 new\npick\ndrain";
     let wanted = [
         ("init", 31, 4294967295),
         ("root", 0, 1),
@@ -35,20 +53,24 @@ fn reads_each_command(rt: HostRuntime) -> Result<(), Fail> {
         ("finish", 0, 12),
         ("floor", 7, 0),
         ("pending", 8, 0),
+        ("fail old", 0, 13),
+        ("fail new", 0, 14),
+        ("pick", 0, 0),
+        ("drain", 0, 0),
     ];
-    let commands = parse(rt.alloc(), script).map_err(|_| "unreadable")?;
-    assert_eq!(rt; commands.len(), wanted.len());
-    for (command, parts) in commands.iter().zip(wanted) {
-        assert_eq!(rt; parts_of(command), parts);
+    let events = parse(rt.alloc(), script).map_err(|_| "unreadable")?;
+    assert_eq!(rt; events.len(), wanted.len());
+    for (event, parts) in events.iter().zip(wanted) {
+        assert_eq!(rt; parts_of(event), parts);
     }
     Ok(())
 }
 
 #[test]
 fn reads_the_bytes_of_a_block(rt: HostRuntime) -> Result<(), Fail> {
-    let commands = parse(rt.alloc(), "init 0 2 0af9").map_err(|_| "unreadable")?;
-    let [Command::Init { bytes, .. }] = commands.as_slice() else {
-        return Err("another command".into());
+    let events = parse(rt.alloc(), "init 0 2 0af9").map_err(|_| "unreadable")?;
+    let [Event::Call(_, Call::Init { bytes, .. })] = events.as_slice() else {
+        return Err("another event".into());
     };
     let mut wanted = [0; 512];
     wanted[0] = 10;
@@ -60,9 +82,9 @@ fn reads_the_bytes_of_a_block(rt: HostRuntime) -> Result<(), Fail> {
 #[test]
 fn reads_an_edit_with_each_part(rt: HostRuntime) -> Result<(), Fail> {
     let line = "edit 31 4294967295 @9 0=5a 65535=00ff7b +8:2 +4294967295:0 -10 -8 -4294967295";
-    let commands = parse(rt.alloc(), line).map_err(|_| "unreadable")?;
-    let [Command::Edit { fs, block, edit }] = commands.as_slice() else {
-        return Err("another command".into());
+    let events = parse(rt.alloc(), line).map_err(|_| "unreadable")?;
+    let [Event::Call(fs, Call::Propose { block, edit })] = events.as_slice() else {
+        return Err("another event".into());
     };
     assert_eq!(rt; (fs.number(), *block), (31, 4294967295));
     let [first, second] = edit.patches.as_slice() else {
@@ -98,9 +120,9 @@ fn reads_the_least_edits(rt: HostRuntime) -> Result<(), Fail> {
         ("edit 0 0 0=00 +0:0", 1, 1, 0, None),
     ];
     for (line, patches, adds, drops, after) in lines {
-        let commands = parse(rt.alloc(), line).map_err(|_| "unreadable")?;
-        let [Command::Edit { edit, .. }] = commands.as_slice() else {
-            return Err("another command".into());
+        let events = parse(rt.alloc(), line).map_err(|_| "unreadable")?;
+        let [Event::Call(_, Call::Propose { edit, .. })] = events.as_slice() else {
+            return Err("another event".into());
         };
         assert_eq!(rt; edit.patches.len(), patches, "{line}");
         assert_eq!(rt; edit.adds.len(), adds, "{line}");
@@ -123,9 +145,9 @@ fn edit_of_pairs(alloc: Global, pairs: usize) -> Result<String, AllocError> {
 fn reads_512_pairs_and_no_more(rt: HostRuntime) -> Result<(), Fail> {
     let alloc = rt.alloc();
     let most = edit_of_pairs(alloc, 512)?;
-    let commands = parse(alloc, most.as_str()).map_err(|_| "unreadable")?;
-    let [Command::Edit { edit, .. }] = commands.as_slice() else {
-        return Err("another command".into());
+    let events = parse(alloc, most.as_str()).map_err(|_| "unreadable")?;
+    let [Event::Call(_, Call::Propose { edit, .. })] = events.as_slice() else {
+        return Err("another event".into());
     };
     let [patch] = edit.patches.as_slice() else {
         return Err("other patches".into());
@@ -177,8 +199,8 @@ fn reads_no_other_line(rt: HostRuntime) -> Result<(), Fail> {
         "init 0 2 - -",
         "init 0 2 4g",
         " # not a comment",
-        "pick",
-        "drain",
+        "pick 0",
+        "drain 0",
         "crash",
         "unroot",
         "unroot 32",
@@ -192,7 +214,9 @@ fn reads_no_other_line(rt: HostRuntime) -> Result<(), Fail> {
         "pending",
         "pending 32",
         "pending 0 0",
-        "fail 1 old",
+        "fail 1",
+        "fail 1 none",
+        "fail 1 old new",
     ];
     let alloc = rt.alloc();
     for line in lines {
@@ -296,5 +320,31 @@ fn reads_no_other_edit(rt: HostRuntime) -> Result<(), Fail> {
     for line in lines {
         assert!(rt; is_refused(rt.alloc(), line), "{line}");
     }
+    Ok(())
+}
+
+#[test]
+fn prints_a_line_a_reply(rt: HostRuntime) -> Result<(), Fail> {
+    let mut bytes = [0; 512];
+    bytes[1] = 0x5a;
+    let replies = [
+        Reply::Answered(Answer::Init(Ok((3, EditId(7))))),
+        Reply::Answered(Answer::Read(Ok(bytes))),
+        Reply::Answered(Answer::Forget(Err(Refusal::NotFresh))),
+        Reply::Answered(Answer::Pick(None)),
+        Reply::Answered(Answer::Drain(Ok(2))),
+        Reply::Fault,
+        Reply::Finished(Landed {
+            durable: 4,
+            freed: 1,
+        }),
+    ];
+    let mut out: Vec<u8> = Vec::new(rt.alloc());
+    for reply in &replies {
+        print_reply(&mut out, reply)?;
+    }
+    let wanted =
+        "block 3 edit 7\n005a\nrefused 7 NotFresh\npick none\nwrites 2\nfault\ndurable 4 freed 1\n";
+    assert_eq!(rt; out.as_slice(), wanted.as_bytes());
     Ok(())
 }

@@ -5,6 +5,5 @@ pub mod KnownTemplates
 pub mod TemplateWords
 pub mod TemplatesRead
 pub mod MountFaults
-pub mod PrintedBytes
 pub mod Kept
 pub mod StartsRead

@@ -1,7 +1,7 @@
 -- What a line of the program prints, and the faults that may come of it.
 use Rattle.std.specs.Prelude.{◌≡◌, ◌⊎◌, ⊤, ℕ, List, [], length, map, Option, IfSome, codes, string_bytes, Contains}
 use Rattle.templates.specs.Templates.{TemplateValue}
-use Rattle.script.specs.declared.command.Command.{Command}
+use Rattle.world.specs.declared.event.Event.{Event}
 use Rattle.xnsim_line.specs.declared.invocation.Invocation.{Invocation}
 use Rattle.xnsim_line.specs.declared.invocation.Invocation.TheVariants.{Bare, Format, Run, Asm, Verify}
 use Rattle.xnsim_line.specs.declared.fault.Fault.{Fault}
@@ -20,23 +20,23 @@ use Rattle.script.specs.Scripts.{IsFirstUnreadable, IsScript}
 -- bytes were to be read, they are the script's text
 pub record PrintsReplies (known : Option (List ℕ)) (blocks : ℕ) (templates : List TemplateValue) (old new : Option (List ℕ)) : Type 0 where
   pub text : List ℕ
-  pub commands : List Command
+  pub events : List Event
   pub image : List ℕ
   pub read : IfSome known (λ bytes. text ≡ bytes)
-  pub script : IsScript text commands
-  pub run : IsPrintedRun blocks templates commands old new image
+  pub script : IsScript text events
+  pub run : IsPrintedRun blocks templates events old new image
 
 -- the script of a file was run on the disk of a file's image that is as formatting leaves it, its replies printed, and what is then on
 -- the disk written back
 pub record PrintsMounted (held held_after : Held) (image_name script_name : List ℕ) (old new : Option (List ℕ)) : Type 0 where
   pub image : List ℕ
   pub text : List ℕ
-  pub commands : List Command
+  pub events : List Event
   pub after : List ℕ
   pub image_held : IsHeld held image_name image
   pub script_held : IsHeld held script_name text
-  pub script : IsScript text commands
-  pub run : IsMountedRun image commands old new after
+  pub script : IsScript text events
+  pub run : IsMountedRun image events old new after
   pub written : held_after ≡ with_file held image_name after
 
 -- the template of the texts of two files was made, its block written, and its line printed

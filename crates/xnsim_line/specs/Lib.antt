@@ -1,8 +1,6 @@
 pub mod Images
 pub mod Lines
 pub mod CommandLine
-pub mod Events
-pub mod Replies
 pub mod Runs
 pub mod ProgramFaults
 pub mod Programs
@@ -12,4 +10,3 @@ pub mod Formatting
 pub mod Assembling
 pub mod Done
 pub mod Faults
-pub mod Bytes

@@ -105,8 +105,8 @@ fn run_files<'a, F: Files, W: Write>(
         .read_start(alloc, image, GREATEST_IMAGE_LEN + 1)
         .ok_or(Fault::CannotRead(image))?;
     let text = files.read(alloc, script).ok_or(Fault::CannotRead(script))?;
-    let commands = parse(alloc, text_of(text.as_slice(), script)?)?;
-    let after = run_on_image(alloc, before.as_slice(), commands, out)?;
+    let events = parse(alloc, text_of(text.as_slice(), script)?)?;
+    let after = run_on_image(alloc, before.as_slice(), events, out)?;
     if !files.write(image, after.as_slice()) {
         return Err(Fault::CannotWrite(image));
     }
@@ -129,8 +129,8 @@ fn run_input<'a, R: Read, W: Write>(
             _ => Fault::CannotRead(STANDARD_INPUT),
         });
     }
-    let commands = parse(alloc, text_of(text.as_slice(), STANDARD_INPUT)?)?;
-    run_script(alloc, LEAST_BLOCKS, &[], commands, out)?;
+    let events = parse(alloc, text_of(text.as_slice(), STANDARD_INPUT)?)?;
+    run_script(alloc, LEAST_BLOCKS, &[], events, out)?;
     Ok(())
 }
 

@@ -7,7 +7,6 @@ ghost use Rattle.xnsim_line.specs.Done.{IsLineDone};
 ghost use Rattle.xnsim_line.specs.Lines.{IsNoLine};
 
 mod assembling;
-mod bytes;
 mod commands;
 mod fault;
 mod files;

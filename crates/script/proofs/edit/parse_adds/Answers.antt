@@ -1,4 +1,4 @@
-use Rattle.script.specs.Commands.{SpellsAdd}
+use Rattle.script.specs.Events.{SpellsAdd}
 use Rattle.script.proofs.WordLists.{zip_more, zip_all, no_zip}
 use Rattle.script.proofs.edit.parse_adds.Goals as goal
 

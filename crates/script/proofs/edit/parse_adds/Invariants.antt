@@ -1,6 +1,6 @@
 use Rattle.std.proofs.Common.{take, map}
 use Rattle.std.specs.List.{AllZip}
-use Rattle.script.specs.Commands.{SpellsAdd}
+use Rattle.script.specs.Events.{SpellsAdd}
 use Rattle.script.proofs.edit.parse_adds.Given as goal
 
 abbrev pub invariant-loop-word : goal.invariant-loop-word

@@ -1,4 +1,4 @@
-use Rattle.script.specs.Commands.{SpellsDrop}
+use Rattle.script.specs.Events.{SpellsDrop}
 use Rattle.script.proofs.WordLists.{zip_more, zip_all, no_zip}
 use Rattle.script.proofs.edit.parse_drops.Goals as goal
 

@@ -1,6 +1,6 @@
 use Rattle.std.proofs.Common.{take, map}
 use Rattle.std.specs.List.{AllZip}
-use Rattle.script.specs.Commands.{SpellsDrop}
+use Rattle.script.specs.Events.{SpellsDrop}
 use Rattle.script.proofs.edit.parse_drops.Given as goal
 
 abbrev pub invariant-loop-word : goal.invariant-loop-word

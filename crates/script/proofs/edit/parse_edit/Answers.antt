@@ -1,6 +1,6 @@
 use Rattle.std.proofs.Common.{◌++◌, length, arith, refl, sym, ◌∙◌}
 use Rattle.std.proofs.lemmas.Bool.{eqb-true, eqb-false}
-use Rattle.script.specs.Commands.{SpellsPatch}
+use Rattle.script.specs.Events.{SpellsPatch}
 use Rattle.script.proofs.EditCuts.{edit_cut, parts_of, edit_of, as_many}
 use Rattle.script.proofs.edit.parse_edit.Goals as goal
 

@@ -1,4 +1,4 @@
-use Rattle.script.specs.Commands.{SpellsPatch}
+use Rattle.script.specs.Events.{SpellsPatch}
 use Rattle.script.proofs.WordLists.{zip_more, zip_all, no_zip}
 use Rattle.script.proofs.edit.parse_patches.Goals as goal
 

@@ -1,6 +1,6 @@
 use Rattle.std.proofs.Common.{take, map}
 use Rattle.std.specs.List.{AllZip}
-use Rattle.script.specs.Commands.{SpellsPatch}
+use Rattle.script.specs.Events.{SpellsPatch}
 use Rattle.script.proofs.edit.parse_patches.Given as goal
 
 abbrev pub invariant-loop-word : goal.invariant-loop-word

@@ -1,0 +1,90 @@
+use Rattle.std.specs.Prelude.{◌≡◌, ℕ, Bool, true, false, ◌^◌, ◌<◌, List, [], ◌∷◌, ◌++◌, Option, Some, None, length, codes}
+use Rattle.std.specs.Fmt.{decimal}
+use Rattle.std.specs.List.{AllZip}
+use Rattle.xn_model.specs.Calls as model
+use Rattle.xn_state.specs.declared.call.Call.{Call}
+use Rattle.xn_state.specs.declared.call.Call.TheVariants.{Init, Propose, MakeRoot, DropRoot, Forget, Read, Root, Kind, Tainted, Pending, Floor, Free, Pick, Drain}
+use Rattle.world.specs.declared.event.Event.{Event}
+use Rattle.world.specs.declared.event.Event.TheVariants as event
+use Rattle.script.specs.Hex.{IsHex, IsBlockText, SpellsBlock, SpellsBytes}
+
+-- a word that spells a number of 32 bits
+pub record SpellsNumber (word : List ℕ) (n : ℕ) : Type 0 where
+  pub spelled : word ≡ decimal n
+  pub small : n < 2 ^ 32
+
+-- the entry that an edit waits for: `@` and its number, or no word
+abbrev pub SpellsAfter : List (List ℕ) → Option ℕ → Type 0
+SpellsAfter words None = words ≡ []
+SpellsAfter words (Some n) = (words ≡ (codes "@" ++ decimal n) ∷ []) × (n < 2 ^ 64)
+
+-- a word that spells a patch: an offset, `=`, and pairs of digits for its bytes
+pub record SpellsPatch (word : List ℕ) (patch : model.Patch) : Type 0 where
+  pub hex : List ℕ
+  pub spelled : word ≡ decimal patch.offset ++ (codes "=" ++ hex)
+  pub small : patch.offset < 2 ^ 16
+  pub pairs : IsHex hex
+  pub bytes : SpellsBytes hex patch.bytes
+
+-- a word that spells a block to add and its type
+pub record SpellsAdd (word : List ℕ) (add : ℕ × ℕ) : Type 0 where
+  pub spelled : word ≡ codes "+" ++ (decimal add.0 ++ (codes ":" ++ decimal add.1))
+  pub small_block : add.0 < 2 ^ 32
+  pub small_type : add.1 < 2 ^ 32
+
+-- a word that spells a block to drop
+pub record SpellsDrop (word : List ℕ) (block : ℕ) : Type 0 where
+  pub spelled : word ≡ codes "-" ++ decimal block
+  pub small : block < 2 ^ 32
+
+-- the words of an edit, behind those of its file system and its block
+pub record SpellsEdit (words : List (List ℕ)) (edit : model.Edit) : Type 0 where
+  pub after : List (List ℕ)
+  pub patches : List (List ℕ)
+  pub adds : List (List ℕ)
+  pub drops : List (List ℕ)
+  pub spelled : words ≡ after ++ (patches ++ (adds ++ drops))
+  pub spells_after : SpellsAfter after edit.after
+  pub spells_patches : AllZip SpellsPatch patches edit.patches
+  pub some_patch : 0 < length edit.patches
+  pub spells_adds : AllZip SpellsAdd adds edit.adds
+  pub spells_drops : AllZip SpellsDrop drops edit.drops
+
+-- the words of a client's call
+abbrev pub SpellsCall : List (List ℕ) → ℕ → Call → Type 0
+SpellsCall words fs (Init ty bytes) =
+    (type : List ℕ) × (block : List ℕ) × (words ≡ codes "init" ∷ decimal fs ∷ type ∷ block ∷ [])
+    × SpellsNumber type ty × IsBlockText block × SpellsBlock block bytes
+SpellsCall words fs (Propose block edit) =
+    (number : List ℕ) × (rest : List (List ℕ)) × (words ≡ codes "edit" ∷ decimal fs ∷ number ∷ rest)
+    × SpellsNumber number block × SpellsEdit rest edit
+SpellsCall words fs (MakeRoot block) = (number : List ℕ) × (words ≡ codes "root" ∷ decimal fs ∷ number ∷ []) × SpellsNumber number block
+SpellsCall words fs DropRoot = words ≡ codes "unroot" ∷ decimal fs ∷ []
+SpellsCall words fs (Forget block) = (number : List ℕ) × (words ≡ codes "forget" ∷ decimal fs ∷ number ∷ []) × SpellsNumber number block
+SpellsCall words fs (Read block) = (number : List ℕ) × (words ≡ codes "read" ∷ decimal fs ∷ number ∷ []) × SpellsNumber number block
+SpellsCall words fs Pending = words ≡ codes "pending" ∷ decimal fs ∷ []
+SpellsCall words fs Floor = words ≡ codes "floor" ∷ decimal fs ∷ []
+SpellsCall words fs Pick = (words ≡ codes "pick" ∷ []) × (fs ≡ 0)
+SpellsCall words fs Drain = (words ≡ codes "drain" ∷ []) × (fs ≡ 0)
+-- no words ask for these
+SpellsCall words fs Root = ⊥
+SpellsCall words fs (Kind block) = ⊥
+SpellsCall words fs (Tainted block) = ⊥
+SpellsCall words fs Free = ⊥
+
+-- which bytes stay after a failed write
+abbrev pub stays_word : Bool → List ℕ
+stays_word true = codes "new"
+stays_word false = codes "old"
+
+-- the words of an event
+abbrev pub Spells : List (List ℕ) → Event → Type 0
+Spells words (event.Call fs call) = SpellsCall words fs.number call
+Spells words (event.Begin block) = (number : List ℕ) × (words ≡ codes "begin" ∷ number ∷ []) × SpellsNumber number block
+Spells words (event.Land block) = (number : List ℕ) × (words ≡ codes "land" ∷ number ∷ []) × SpellsNumber number block
+Spells words (event.Fail block stays) = (number : List ℕ) × (words ≡ codes "fail" ∷ number ∷ stays_word stays ∷ []) × SpellsNumber number block
+Spells words (event.Finish block) = (number : List ℕ) × (words ≡ codes "finish" ∷ number ∷ []) × SpellsNumber number block
+
+-- words that spell no event
+abbrev pub SpellNothing : List (List ℕ) → Type 0
+SpellNothing words = (e : Event) → ¬ Spells words e
