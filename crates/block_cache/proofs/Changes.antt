@@ -15,7 +15,7 @@ use Rattle.block_cache.specs.declared.entry.Entry.{Entry}
 use Rattle.block_cache.specs.Claims.{state_of}
 use Rattle.block_cache.specs.Cached.{CachedLife}
 use Rattle.block_cache.specs.Undone.{before, states_from, entries_of, durable_in, life_with, life_of, lives_of}
-use Rattle.block_cache.specs.Kept.{IsApart, AreOf, IsKept, AreKept, place_at, change_place, appended, settled}
+use Rattle.block_cache.specs.Kept.{IsApart, AreOf, IsKept, AreKept, AreUsed, place_at, change_place, appended, settled}
 use Rattle.block_cache.specs.Views.{image_at, HasImage}
 use Rattle.block_cache.proofs.Undoing.{before-append, states_from-append, length-states_from, drop-states_from, image_from, last_image}
 use Rattle.block_cache.proofs.Keys.{AreSame, same_entries, same_keys, length-entries_of, drop-entries_of, entries_of-append, vacant_apart, updated_same, keys_push, front_apart, apart_same, drop_keys, others_apart}
@@ -193,10 +193,10 @@ changed_some None f x P keeps e = absurd (none-some x e)
 changed_some (Some l) f x P keeps e = subst P (same_Some (f l) x e) (keeps l refl)
 
 pub kept-change : (old new : Slab Entry) (places : List (Option CachedLife)) (b : ℕ) (f : CachedLife → CachedLife) → AreKept old places → KeepsOthers old new b places →
-    ((l : CachedLife) → place_at places b ≡ Some l → IsKept new b (f l)) → AreKept new (change_place places b f)
-kept-change old new places b f kept keeps here =
+    ((l : CachedLife) → place_at places b ≡ Some l → IsKept new b (f l)) → AreUsed new (change_place places b f) → AreKept new (change_place places b f)
+kept-change old new places b f kept keeps here used =
     kept-set old new places b (option_map f (place_at places b)) kept keeps
-    (λ l e. let P : CachedLife → Type 0 = λ x. IsKept new b x in changed_some (place_at places b) f l P here e)
+    (λ l e. let P : CachedLife → Type 0 = λ x. IsKept new b x in changed_some (place_at places b) f l P here e) used
 
 -- Places and lives
 

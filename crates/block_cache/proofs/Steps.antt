@@ -2,7 +2,7 @@
 use Rattle.std.proofs.Common.{◌≡◌, ℕ, zero, suc, ◌^◌, ◌<◌, ◌≤◌, List, [], ◌∷◌, length, take, replicate, Option, Some, None, refl, sym, ◌∙◌, ap, arith, subst, slice_get}
 use Rattle.std.proofs.lemmas.Option.{none-some, same_Some}
 use Rattle.std.proofs.lemmas.List.{length-replicate}
-use Rattle.std.specs.Prelude.{IsTrue, IfSome, is_some, option_map}
+use Rattle.std.specs.Prelude.{IsTrue, IfSome, is_some, option_map, slice_index_or}
 use Rattle.slab.specs.Slab.{Slab, get, Updates}
 use Rattle.xn_model.specs.declared.status.Status.{Status}
 use Rattle.xn_model.specs.Lives as model
@@ -12,8 +12,9 @@ use Rattle.block_cache.specs.declared.entry.Entry.{Entry}
 use Rattle.block_cache.specs.Claims.{state_of}
 use Rattle.block_cache.specs.Cached.{CachedLife}
 use Rattle.block_cache.specs.Undone.{life_of, lives_of}
-use Rattle.block_cache.specs.Kept.{IsApart, AreOf, IsKept, AreKept, place_at, change_place, appended, settled, with_status, with_begun, first_keys}
+use Rattle.block_cache.specs.Kept.{IsApart, IsAmong, AreOf, IsKept, AreKept, place_at, change_place, appended, settled, with_status, with_begun, first_keys}
 use Rattle.block_cache.proofs.Keys.{AreSame, same_keys, take_keys}
+use Rattle.block_cache.proofs.Used.{used_append, used_kept, used_settle}
 use Rattle.block_cache.proofs.WrittenPlaces.{KeepsOthers, life-life_at}
 use Rattle.block_cache.proofs.Changes.{length-pending, current_of_life, inserted_keeps, removed_keeps, appended_life, appended_kept, settled_life, settled_kept, given_up_life, lives_of-change, kept-change, place_kept, same_slab_keeps}
 
@@ -26,8 +27,8 @@ no_life zero b l e = none-some (Some l) e
 no_life (suc n) zero l e = none-some l (same_Some None (Some l) e)
 no_life (suc n) (suc b) l e = no_life n b l e
 
-pub free_kept : (slab : Slab Entry) (n : ℕ) → n < 2 ^ 32 → AreKept slab (replicate n None)
-free_kept slab n few = record { each = λ b l e. absurd (no_life n b l e); few = omega (arith, few, length-replicate {A = Option CachedLife} n None) }
+pub free_kept : (slab : Slab Entry) (n : ℕ) → n < 2 ^ 32 → slab.slots ≡ [] → AreKept slab (replicate n None)
+free_kept slab n few empty = record { each = λ b l e. absurd (no_life n b l e); used = λ k e at. absurd (none-some e (sym (ap (λ (ss : List (Option Entry)). slice_index_or ss k None) empty) ∙ at)); few = omega (arith, few, length-replicate {A = Option CachedLife} n None) }
 
 -- The life at a place
 
@@ -76,6 +77,7 @@ gets_same old mid same (k ∷ ks) = (same k, gets_same old mid same ks)
 pub grown_kept : (old mid : Slab Entry) (places : List (Option CachedLife)) → ((k : ℕ) → get mid k ≡ get old k) → AreKept old places → AreKept mid places
 grown_kept old mid places same kept = record {
   each = λ b l at. let k = kept.each b l at in record { keys = same_keys old mid b l.keys (gets_same old mid same l.keys) k.keys; few = k.few; begun = k.begun; has_state = k.has_state };
+  used = λ k e at. kept.used k e (sym (same k) ∙ at);
   few = kept.few;
 }
 
@@ -86,10 +88,11 @@ module _ (old new : Slab Entry) (places : List (Option CachedLife)) (lives : Liv
   keeps : KeepsOthers old new b places
   keeps = inserted_keeps old new places b k (Some e) kept vacant updates
 
-  pub append_kept : e.block ≡ b → life_pending (life_at lives b) < 64 → AreKept new (change_place places b (appended k bytes))
-  append_kept own room =
+  pub append_kept : e.block ≡ b → IsTrue (is_some (life_at lives b)) → life_pending (life_at lives b) < 64 → AreKept new (change_place places b (appended k bytes))
+  append_kept own alive room =
       kept-change old new places b (appended k bytes) kept keeps
       (λ l at. appended_kept old new b l k e bytes (place_kept old places b l kept at) vacant updates own (omega (arith, room, pending_there old places lives b l kept view (sym at))))
+      (used_append old new places b k e bytes kept.used updates own (alive_there old places lives b view alive))
 
   pub append_view : patched bytes e.undo ≡ life_bytes (life_at lives b) → lives_of new (change_place places b (appended k bytes)) ≡ change_at lives b (with_state (state_of e.claim bytes))
   append_view back =
@@ -107,6 +110,7 @@ module _ (slab : Slab Entry) (places : List (Option CachedLife)) (lives : Lives)
   status_kept st =
       kept-change slab slab places b (with_status st) kept (same_slab_keeps slab places b)
       (λ l at. let k = place_kept slab places b l kept at in record { keys = k.keys; few = k.few; begun = k.begun; has_state = k.has_state })
+      (used_kept slab places b (with_status st) (λ l. refl) kept.used)
 
   pub status_view : (st : Status) → lives_of slab (change_place places b (with_status st)) ≡ change_at lives b (model.with_status st)
   status_view st =
@@ -119,6 +123,7 @@ module _ (slab : Slab Entry) (places : List (Option CachedLife)) (lives : Lives)
       (λ l at.
       let here = place_kept slab places b l kept at in
       record { keys = here.keys; few = here.few; begun = (some, omega (arith, within, pending_there slab places lives b l kept view (sym at))); has_state = here.has_state })
+      (used_kept slab places b (with_begun (Some k)) (λ l. refl) kept.used)
 
   pub begun_view : (k : ℕ) → lives_of slab (change_place places b (with_begun (Some k))) ≡ begun_at lives b k
   begun_view k =
@@ -129,6 +134,7 @@ module _ (slab : Slab Entry) (places : List (Option CachedLife)) (lives : Lives)
   given_up_kept =
       kept-change slab slab places b (with_begun None) kept (same_slab_keeps slab places b)
       (λ l at. let k = place_kept slab places b l kept at in record { keys = k.keys; few = k.few; begun = tt; has_state = k.has_state })
+      (used_kept slab places b (with_begun None) (λ l. refl) kept.used)
 
   pub given_up_view : lives_of slab (change_place places b (with_begun None)) ≡ settled_at lives b 0
   given_up_view =
@@ -150,8 +156,10 @@ module _ (old new : Slab Entry) (places : List (Option CachedLife)) (lives : Liv
   own : (l : CachedLife) → place_at places b ≡ Some l → (q : ℕ) → IsApart q (take k l.keys) → get new q ≡ get old q
   own l at q apart = others q (let P : Option CachedLife → Type 0 = λ o. IsApart q (first_keys k o) in subst P (sym at) apart)
 
-  pub settle_kept : AreKept new (change_place places b (settled k))
-  settle_kept = kept-change old new places b (settled k) kept rest (λ l at. settled_kept old new b l k (place_kept old places b l kept at) (own l at))
+  pub settle_kept : ((q : ℕ) → IsAmong q (first_keys k (place_at places b)) → get new q ≡ None) → AreKept new (change_place places b (settled k))
+  settle_kept gone =
+      kept-change old new places b (settled k) kept rest (λ l at. settled_kept old new b l k (place_kept old places b l kept at) (own l at))
+      (used_settle old new places b k kept.used others gone)
 
   pub settle_view : 1 ≤ k → k ≤ life_pending (life_at lives b) → lives_of new (change_place places b (settled k)) ≡ settled_at lives b k
   settle_view some within =

@@ -9,7 +9,7 @@ use Rattle.xn_model.specs.Lives.{life_at}
 use Rattle.block_cache.specs.declared.entry.Entry.{Entry}
 use Rattle.block_cache.specs.Cached.{CachedLife}
 use Rattle.block_cache.specs.Undone.{life_with, life_of, lives_of}
-use Rattle.block_cache.specs.Kept.{IsKept, AreKept, place_at}
+use Rattle.block_cache.specs.Kept.{IsKept, AreKept, AreUsed, place_at}
 use Rattle.block_cache.proofs.Keys.{AreSame, same_entries, same_keys}
 
 -- every block but this has the entries that it had
@@ -75,5 +75,5 @@ each_kept old new places b x kept keeps here c l e =
     ]
 
 pub kept-set : (old new : Slab Entry) (places : List (Option CachedLife)) (b : ℕ) (x : Option CachedLife) → AreKept old places → KeepsOthers old new b places →
-    ((l : CachedLife) → x ≡ Some l → IsKept new b l) → AreKept new (slice_set places b x)
-kept-set old new places b x kept keeps here = record { each = each_kept old new places b x kept keeps here; few = omega (arith, kept.few, length-set places b x) }
+    ((l : CachedLife) → x ≡ Some l → IsKept new b l) → AreUsed new (slice_set places b x) → AreKept new (slice_set places b x)
+kept-set old new places b x kept keeps here used = record { each = each_kept old new places b x kept keeps here; used = used; few = omega (arith, kept.few, length-set places b x) }

@@ -1,5 +1,5 @@
 -- What is kept beside the bytes and the entries.
-use Rattle.std.specs.Prelude.{◌≡◌, ◌≢◌, ℕ, ◌^◌, ◌<◌, ◌≤◌, List, [], ◌∷◌, ◌++◌, length, take, drop, true, false, Option, Some, None, slice_get, slice_set, unwrap_or, option_map, IsTrue, ◌||◌, nat_lt}
+use Rattle.std.specs.Prelude.{◌≡◌, ◌≢◌, ◌⊎◌, ℕ, ◌^◌, ◌<◌, ◌≤◌, List, [], ◌∷◌, ◌++◌, length, take, drop, true, false, Option, Some, None, slice_get, slice_set, unwrap_or, option_map, IsTrue, ◌||◌, nat_lt}
 use Rattle.slab.specs.Slab.{Slab, get}
 use Rattle.xn_model.specs.declared.status.Status.{Status}
 use Rattle.xn_model.specs.declared.status.Status.TheVariants.{Fresh}
@@ -18,6 +18,11 @@ abbrev pub IsApart : ℕ → List ℕ → Type 0
 IsApart k [] = Unit {0}
 IsApart k (q ∷ qs) = (q ≢ k) × IsApart k qs
 
+-- the key is one of these
+abbrev pub IsAmong : ℕ → List ℕ → Type 0
+IsAmong k [] = ⊥
+IsAmong k (q ∷ qs) = (q ≡ k) ⊎ IsAmong k qs
+
 -- each key has an entry of this block, and stands once
 abbrev pub AreOf : Slab Entry → ℕ → List ℕ → Type 0
 AreOf slab b [] = Unit {0}
@@ -30,9 +35,20 @@ pub record IsKept (slab : Slab Entry) (block : ℕ) (life : CachedLife) : Type 0
   pub begun : IsCount life.begun (length life.keys)
   pub has_state : IsTrue (life.is_durable || nat_lt 0 (length life.keys))
 
+-- the key is one of its block's life
+pub record IsUsed (places : List (Option CachedLife)) (block key : ℕ) : Type 0 where
+  pub life : CachedLife
+  pub there : slice_get places block ≡ Some (Some life)
+  pub among : IsAmong key life.keys
+
+-- so is each that has an entry: none is left without a life
+abbrev pub AreUsed : Slab Entry → List (Option CachedLife) → Type 0
+AreUsed slab places = (k : ℕ) (e : Entry) → get slab k ≡ Some e → IsUsed places e.block k
+
 -- so it is at each place, and a block has a number
 pub record AreKept (slab : Slab Entry) (places : List (Option CachedLife)) : Type 0 where
   pub each : (b : ℕ) (l : CachedLife) → slice_get places b ≡ Some (Some l) → IsKept slab b l
+  pub used : AreUsed slab places
   pub few : length places < 2 ^ 32
 
 -- the life at a place, and the places with it changed

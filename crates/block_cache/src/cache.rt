@@ -7,7 +7,7 @@ ghost use Rattle.xn_model.specs.Lives.{life_at, change_at, with_state, with_stat
 ghost use Rattle.xn_model.specs.Calls.{new_life, life_bytes, life_pending, patched};
 ghost use Rattle.xn_model.specs.Rules.{IsCount};
 ghost use Rattle.block_cache.specs.Claims.{state_of, claim_of};
-ghost use Rattle.block_cache.specs.Kept.{IsApart, first_keys, keys_of};
+ghost use Rattle.block_cache.specs.Kept.{IsAmong, IsApart, first_keys, keys_of};
 ghost use Rattle.block_cache.specs.Views.{image_at, HasImage, facts_of, pending_at, life_at_rest};
 
 use crate::claim::Claim;
@@ -52,7 +52,7 @@ impl Cache {
         })
     }
 
-    /// A block that is found in an image, whose one state is on the disk.
+    /// A block that is found in an image, whose one state is on the disk. A life that it had ends.
     pub fn found(
         &mut self,
         alloc: Global,
@@ -64,8 +64,9 @@ impl Cache {
     )
         ensures { self.new ≡ slice_set self.old block (Some (life_at_rest (option_map (λ f. f.number) fs) ty status bytes.now)) }
     {
-        self.places
-            .set(block, Some(Life::found(alloc, fs, ty, status, bytes)));
+        self.end(block);
+        let life = Life::found(alloc, fs, ty, status, bytes);
+        self.places.set(block, Some(life));
     }
 
     /// Starts a life on a free block.
@@ -256,7 +257,8 @@ fn entry_at<'a>(entries: &'a Slab<Entry>, keys: &[usize], place: usize) -> Optio
 /// Forgets the first entries of a life.
 fn forget_first(entries: &mut Slab<Entry>, life: Option<&Life>, count: usize)
     requires { IfSome (option_copied life) (λ life. count ≤ length life.keys) }
-    ensures { (k : ℕ) → IsApart k (first_keys count (option_copied life.entry)) → get entries.new k ≡ get entries.old k }
+    ensures rest { (k : ℕ) → IsApart k (first_keys count (option_copied life.entry)) → get entries.new k ≡ get entries.old k }
+    ensures gone { (k : ℕ) → IsAmong k (first_keys count (option_copied life.entry)) → get entries.new k ≡ None }
 {
     if let Some(life) = life {
         forget(entries, &life.keys()[..count]);
@@ -265,7 +267,8 @@ fn forget_first(entries: &mut Slab<Entry>, life: Option<&Life>, count: usize)
 
 /// Forgets the entries of a life.
 fn forget_all(entries: &mut Slab<Entry>, life: Option<&Life>)
-    ensures { (k : ℕ) → IsApart k (keys_of (option_copied life.entry)) → get entries.new k ≡ get entries.old k }
+    ensures rest { (k : ℕ) → IsApart k (keys_of (option_copied life.entry)) → get entries.new k ≡ get entries.old k }
+    ensures gone { (k : ℕ) → IsAmong k (keys_of (option_copied life.entry)) → get entries.new k ≡ None }
 {
     if let Some(life) = life {
         forget(entries, life.keys());
@@ -274,7 +277,8 @@ fn forget_all(entries: &mut Slab<Entry>, life: Option<&Life>)
 
 /// Forgets the entries under these keys.
 fn forget(entries: &mut Slab<Entry>, keys: &[usize])
-    ensures { (k : ℕ) → IsApart k keys.now → get entries.new k ≡ get entries.old k }
+    ensures rest { (k : ℕ) → IsApart k keys.now → get entries.new k ≡ get entries.old k }
+    ensures gone { (k : ℕ) → IsAmong k keys.now → get entries.new k ≡ None }
 {
     for key in keys {
         drop(entries.try_remove(*key));
