@@ -54,18 +54,6 @@ fn two_are_within(alloc: Global, first: usize, second: usize) -> Result<bool, Fa
     Ok(edit_of(alloc, patches).is_within_limits())
 }
 
-/// Whether an edit that adds so many blocks and drops so many is within the limits.
-fn blocks_are_within(alloc: Global, adds: u32, drops: u32) -> Result<bool, Fail> {
-    let mut edit = edit_in_a_row(alloc, 1, 1)?;
-    for block in 0..adds {
-        edit.adds.push((block, 2))?;
-    }
-    for block in 0..drops {
-        edit.drops.push(block)?;
-    }
-    Ok(edit.is_within_limits())
-}
-
 /// The block with an edit made.
 fn edited(edit: &Edit, bytes: &[u8; 512]) -> Result<[u8; 512], Fail> {
     if !edit.is_within_limits() {
@@ -125,47 +113,6 @@ fn a_patch_has_a_byte(rt: HostRuntime) -> Result<(), Fail> {
     assert!(rt; !patch_is_within(rt.alloc(), 512, 0)?);
     assert!(rt; patch_is_within(rt.alloc(), 0, 1)?);
     assert!(rt; !two_are_within(rt.alloc(), 1, 0)?);
-    Ok(())
-}
-
-#[test]
-fn a_patch_ends_within_the_block(rt: HostRuntime) -> Result<(), Fail> {
-    assert!(rt; patch_is_within(rt.alloc(), 0, 512)?);
-    assert!(rt; !patch_is_within(rt.alloc(), 0, 513)?);
-    assert!(rt; patch_is_within(rt.alloc(), 508, 4)?);
-    assert!(rt; !patch_is_within(rt.alloc(), 508, 5)?);
-    assert!(rt; !patch_is_within(rt.alloc(), 512, 1)?);
-    assert!(rt; !patch_is_within(rt.alloc(), 65535, 1)?);
-    Ok(())
-}
-
-#[test]
-fn patches_have_512_bytes_together(rt: HostRuntime) -> Result<(), Fail> {
-    assert!(rt; two_are_within(rt.alloc(), 256, 256)?);
-    assert!(rt; !two_are_within(rt.alloc(), 256, 257)?);
-    assert!(rt; two_are_within(rt.alloc(), 511, 1)?);
-    assert!(rt; !two_are_within(rt.alloc(), 512, 1)?);
-    assert!(rt; row_is_within(rt.alloc(), 8, 64)?);
-    Ok(())
-}
-
-#[test]
-fn an_edit_adds_16_blocks_and_drops_128(rt: HostRuntime) -> Result<(), Fail> {
-    assert!(rt; blocks_are_within(rt.alloc(), 16, 128)?);
-    assert!(rt; !blocks_are_within(rt.alloc(), 17, 0)?);
-    assert!(rt; !blocks_are_within(rt.alloc(), 0, 129)?);
-    Ok(())
-}
-
-#[test]
-fn patches_apply_in_order(rt: HostRuntime) -> Result<(), Fail> {
-    let mut want = block();
-    want[0] = 1;
-    want[1] = 3;
-    want[2] = 2;
-    want[3] = 2;
-    want[511] = 4;
-    assert!(rt; edited(&overlapping(rt.alloc())?, &block())? == want);
     Ok(())
 }
 

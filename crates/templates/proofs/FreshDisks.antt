@@ -13,11 +13,9 @@ use Rattle.xn_model.specs.Types.{Types, fits}
 use Rattle.xn_model.specs.Root.{marked, pointer, slot, unless_empty, templates_of, owned_by_root, HasBuiltIns}
 use Rattle.xn_model.specs.Mounts.{IsRecovered, recovered, found, found_by, found_in, found_in_slot, walk}
 use Rattle.xn_model.specs.Images.{Reach, root, step, HasOneOwner, IsSound, IsDiskSize, block_of}
-use Rattle.xn_model.proofs.Lists.{Contains-none}
+use Rattle.xn_model.proofs.ForCallers.{Contains-none, mount_holds, recovered_is}
 use Rattle.xn_model.specs.BareDisks.{zeros, bare_root, bare_disk, mounted_disk}
 use Rattle.xn_model.specs.Rules.{Holds}
-use Rattle.xn_model.proofs.Mount.{mount_holds}
-use Rattle.xn_model.proofs.Walk.{recovered_is}
 use Rattle.templates.specs.Templates.{TemplateValue, IsTemplate, template_bytes}
 use Rattle.templates.specs.BuiltIns.{root_template}
 use Rattle.templates.specs.Reading.{template_of_bytes}

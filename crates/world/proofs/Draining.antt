@@ -16,12 +16,9 @@ use Rattle.xn_model.specs.Calls.{pick_of, settled_of, bytes_at}
 use Rattle.xn_model.specs.Worlds as model
 use Rattle.xn_model.specs.Worlds.{World, Reply, Client, Drained, Refused, write_out, drain_for, all_pending, Step}
 use Rattle.xn_model.specs.Rules.{Holds, IsIdle}
-use Rattle.xn_model.proofs.Drains.{picked_life}
-use Rattle.xn_model.proofs.Rounds.{wrote_out, none_picked}
-use Rattle.xn_model.proofs.Begin.{begun_keeps}
-use Rattle.xn_model.proofs.Runs.{write_out_keeps}
-use Rattle.xn_model.proofs.LaneCalls as lane
-use Rattle.xn_model.proofs.Flights as flight
+use Rattle.xn_model.proofs.ForCallers.{picked_life, wrote_out, none_picked, begun_keeps, write_out_keeps}
+use Rattle.xn_model.proofs.ForCallers as lane
+use Rattle.xn_model.proofs.ForCallers as flight
 use Rattle.xn_state.specs.States.{types_in}
 use Rattle.xn_kernel.specs.Kernels.{KernelValue, TicketValue}
 use Rattle.xn_kernel.specs.Drains.{with_home, Round, Rounds, Unwritten, Unread, Refuses}

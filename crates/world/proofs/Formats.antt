@@ -16,8 +16,7 @@ use Rattle.xn_model.specs.BareDisks.{mounted_disk}
 use Rattle.xn_model.specs.Worlds.{mounted_state}
 use Rattle.xn_model.specs.Rules.{Holds}
 use Rattle.xn_model.specs.Types.{Types}
-use Rattle.xn_model.proofs.Bytes.{length-joined, blocks_read}
-use Rattle.xn_model.proofs.LaneCalls.{lanes_mounted}
+use Rattle.xn_model.proofs.ForCallers.{length-joined, blocks_read, lanes_mounted}
 use Rattle.templates.specs.Templates.{TemplateValue, IsTemplate}
 use Rattle.templates.specs.Tables.{TableValue, types_of}
 use Rattle.templates.specs.Formats.{formatted, fresh_found, table_of}

@@ -8,3 +8,4 @@ pub mod Runs
 pub mod FreshTables
 pub mod Draining
 pub mod Views
+pub mod Tellings

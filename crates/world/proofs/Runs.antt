@@ -6,8 +6,7 @@ use Rattle.xn_model.specs.Worlds as model
 use Rattle.xn_model.specs.Worlds.{Run, Step}
 use Rattle.templates.specs.Tables.{types_of}
 use Rattle.xn_model.specs.Rules.{Holds, Agrees}
-use Rattle.xn_model.proofs.Reached.{agreement}
-use Rattle.xn_model.proofs.Runs.{world_sound}
+use Rattle.xn_model.proofs.ForCallers.{agreement, world_sound}
 use Rattle.world.specs.declared.event.Event.{Event}
 use Rattle.world.specs.declared.reply.Reply.{Reply}
 use Rattle.world.specs.Events.{event_of, reply_of}

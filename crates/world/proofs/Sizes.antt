@@ -10,7 +10,7 @@ use Rattle.xn_model.specs.Lanes.{FitsLife, FitLives}
 use Rattle.xn_model.specs.Images.{block_of}
 use Rattle.xn_state.specs.States.{types_in}
 use Rattle.xn_model.specs.Rules.{Agrees}
-use Rattle.xn_model.proofs.Reached.{agreement}
+use Rattle.xn_model.proofs.ForCallers.{agreement}
 use Rattle.xn_kernel.specs.Kernels.{KernelValue}
 use Rattle.world.specs.Disks.{image_of, ticket_at}
 use Rattle.world.specs.Worlds.{Tickets, ticket_flight, IsWorld}

@@ -20,10 +20,9 @@ use Rattle.xn_state.specs.declared.answer.Answer.{Answer}
 use Rattle.xn_state.specs.Answers.{Answers, call_of, reply_of_answer}
 use Rattle.xn_state.proofs.Answering.{answers_step}
 use Rattle.xn_model.specs.Rules.{Holds}
-use Rattle.xn_model.proofs.Given.{gives_keeps, gives_exactly_keeps, gives_exactly-ok}
-use Rattle.xn_model.proofs.Runs.{step_keeps}
-use Rattle.xn_model.proofs.LaneCalls as lane
-use Rattle.xn_model.proofs.Flights as flight
+use Rattle.xn_model.proofs.ForCallers.{gives_keeps, gives_exactly_keeps, gives_exactly-ok, step_keeps}
+use Rattle.xn_model.proofs.ForCallers as lane
+use Rattle.xn_model.proofs.ForCallers as flight
 use Rattle.xn_kernel.specs.Kernels.{KernelValue, TicketValue, is_mine, is_in_flight}
 use Rattle.world.specs.Disks.{image_of, IsCalm, ticket_at}
 use Rattle.world.specs.Worlds.{Tickets, world_of, ticket_flight, IsTicketOf, IsWorld}

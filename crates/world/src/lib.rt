@@ -3,6 +3,7 @@
 
 mod event;
 mod format;
+pub mod law;
 mod reply;
 mod ticket;
 mod world;

@@ -5,6 +5,9 @@ ghost use Rattle.xn_model.specs.Images.{block_of, joined, IsSound};
 ghost use Rattle.xn_model.specs.BareDisks.{mounted_disk};
 ghost use Rattle.xn_model.specs.Worlds as model;
 ghost use Rattle.xn_model.specs.Rules.{Holds, Agrees};
+ghost use Rattle.xn_history.specs.Histories.{Histories};
+ghost use Rattle.xn_history.specs.Moments.{RunWhere, Anything, IsMoment};
+ghost use Rattle.xn_history.specs.Promises.{ImageHolds};
 ghost use Rattle.templates.specs.Tables.{types_of};
 ghost use Rattle.templates.specs.Formats.{formatted, format_fault, table_of, IsFormatFault};
 ghost use Rattle.world.specs.Events.{event_of, reply_of};
@@ -84,13 +87,15 @@ impl World {
 
     /// Events in their order, and their replies. After all of them the rules hold, the image is sound, and
     /// each block that the root reaches in it holds a state of its life, from the durable to the begun
-    /// one, and has one owner. `Err` comes before the first event.
+    /// one, and has one owner. No block misses what the replies told durable of its present life. `Err` comes before the first event.
     pub fn run(&mut self, events: &[Event]) -> Result<Vec<Reply>, AllocError>
         ensures run { IfOk result (λ replies. model.Run (world_with self.old) (map event_of events.now) (map reply_of replies.items) (world_with self.new)) }
         ensures kept { IfErr result (λ error. self.new ≡ self.old) }
         ensures rules { Holds (world_with self.new) }
         ensures agrees { Agrees (types_of self.new.table) (length self.new.state.lives) (block_of self.new.image) self.new.state.lives }
         ensures sound { IsSound (types_of self.new.table) (length self.new.image) (block_of self.new.image) }
+        ensures told { IfOk result (λ replies. (hs : Histories) → IsMoment (world_with self.old) hs → (hs' : Histories) × IsMoment (world_with self.new) hs' ×
+            RunWhere Anything (world_with self.old) hs (map event_of events.now) (map reply_of replies.items) (world_with self.new) hs' × ImageHolds (world_with self.new) hs') }
     {
         self.rules();
         // The prover looks for the types within a reply among those that this function names.

@@ -12,17 +12,8 @@ use Rattle.xn_model.specs.declared.refusal.Refusal.{Refusal}
 use Rattle.xn_model.specs.declared.refusal.Refusal.TheVariants.{NoSpace, TooManyPending, Exhausted, BadPatch, BadAfter, Unattached, NotFresh, NotOwned, NotEmpty, ClaimWrong, SizeWrong, RootTaken}
 use Rattle.xn_model.specs.Calls.{Edit, patched, first_state, new_life, init_at, init_refusal, init_of, accepts, edited, propose_of, propose_at, too_many, exhausted, within_limits, was_given, may_add, may_drop, is_empty, root_now, slot_now, life_bytes, root_state, life_pending, make_root_of, make_root_at, drop_root_of, forget_of, forget_at, forget_refusal}
 use Rattle.xn_model.specs.Rules.{IsConsistent}
-use Rattle.xn_model.proofs.Changes.{accepted}
-use Rattle.xn_model.proofs.Lists.{Contains-none, Contains-head, Contains-cons, last_of}
-use Rattle.xn_model.proofs.Lives.{accepted_is, each_back, set_same, set_other, freed_is, free_back}
-use Rattle.xn_model.proofs.Tests.{given_ok, own_then, same_ok, never_ok, unless_ok}
-use Rattle.xn_model.proofs.Init.{lowest_is}
-use Rattle.xn_model.proofs.Edits.{claim_stays, in_newest}
-use Rattle.xn_model.proofs.States.{fresh_owned}
-use Rattle.xn_model.proofs.RootBytes.{slot_stays}
-use Rattle.xn_model.proofs.Reached.{in_range}
+use Rattle.xn_model.proofs.ForCallers.{accepted, Contains-none, Contains-head, Contains-cons, last_of, accepted_is, each_back, set_same, set_other, freed_is, free_back, given_ok, own_then, same_ok, never_ok, unless_ok, lowest_is, claim_stays, in_newest, fresh_owned, slot_stays, in_range, forgets}
 use Rattle.xn_model.specs.Root.{owned_by_root}
-use Rattle.xn_model.proofs.LaneCalls.{forgets}
 use Rattle.xn_history.specs.Histories.{History, Histories, bytes_in, type_in, accepting, change_in, start_in, edit_state, slot_state, rooted}
 use Rattle.xn_history.specs.Moments.{IsHistoryOf, AreHistoriesOf}
 use Rattle.xn_history.proofs.Turns as turn

@@ -8,10 +8,7 @@ use Rattle.xn_model.specs.Images.{block_of, Reach, root, step}
 use Rattle.xn_model.specs.Lives.{BlockState, Life, life_at, bytes_of, newest, current, durable_after}
 use Rattle.xn_model.specs.Worlds.{World, Event, Client, Begin, Land, Fail, Finish, Crash, Reply, Step, IsEvent}
 use Rattle.xn_model.specs.Rules.{Holds, IsOwnedBy, NamedIn}
-use Rattle.xn_model.proofs.Lists.{Contains-head, Contains-tail, last_of}
-use Rattle.xn_model.proofs.Reached.{in_range}
-use Rattle.xn_model.proofs.Edits.{in_newest}
-use Rattle.xn_model.proofs.Runs.{step_keeps}
+use Rattle.xn_model.proofs.ForCallers.{Contains-head, Contains-tail, last_of, in_range, in_newest, step_keeps}
 use Rattle.xn_history.specs.Histories.{History, Histories, last_told, since, newest_bytes, type_in, edited_block, dropped_blocks, histories_after}
 use Rattle.xn_history.specs.Moments.{IsHistoryOf, AreHistoriesOf}
 use Rattle.xn_history.specs.Promises.{StaysTold, Names, IsChain, Spares}

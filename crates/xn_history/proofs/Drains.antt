@@ -10,10 +10,7 @@ use Rattle.xn_model.specs.declared.refusal.Refusal.TheVariants.{InFlight}
 use Rattle.xn_model.specs.Calls.{begun_of, settled_of, pick_of}
 use Rattle.xn_model.specs.Worlds.{World, Drain, Client, Reply, Begun, Landed, Finished, Drained, Refused, reply_and_world, begin, begun_count, write, land, finish, write_out, drain_for, drain, all_pending}
 use Rattle.xn_model.specs.Rules.{Holds, IsIdle}
-use Rattle.xn_model.proofs.Lands.{begin_keeps, land_keeps}
-use Rattle.xn_model.proofs.Runs.{write_out_keeps}
-use Rattle.xn_model.proofs.Drains.{drain_ends}
-use Rattle.xn_model.proofs.Tests.{none_from}
+use Rattle.xn_model.proofs.ForCallers.{begin_keeps, land_keeps, write_out_keeps, drain_ends, none_from}
 use Rattle.xn_history.specs.Histories.{Histories, last_told, telling_all}
 use Rattle.xn_history.specs.Moments.{AreHistoriesOf}
 use Rattle.xn_history.proofs.Turns as turn

@@ -7,8 +7,7 @@ use Rattle.xn_model.specs.Images.{block_of, Reach}
 use Rattle.xn_model.specs.Lives.{BlockState}
 use Rattle.xn_model.specs.Worlds.{World, Event, Reply, Step, IsEvent}
 use Rattle.xn_model.specs.Rules.{Holds}
-use Rattle.xn_model.proofs.Lists.{Contains-none, Contains-cons}
-use Rattle.xn_model.proofs.Runs.{step_keeps}
+use Rattle.xn_model.proofs.ForCallers.{Contains-none, Contains-cons, step_keeps}
 use Rattle.xn_history.specs.Histories.{History, Histories, last_told, since, type_in, histories_after}
 use Rattle.xn_history.specs.Moments.{RunWhere, AreHistoriesOf}
 use Rattle.xn_history.specs.Promises.{IsReached, HoldsAccepted, StaysTold, LivesOn, IsChain, Spares, LeavesAlone, IsTold}

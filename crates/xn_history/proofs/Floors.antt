@@ -8,10 +8,7 @@ use Rattle.xn_model.specs.Lives.{BlockState, Life, Lives, StoreState, life_at, i
 use Rattle.xn_model.specs.Calls.{floor_of}
 use Rattle.xn_model.specs.Worlds.{World, Event, Client, Floor, Crash, Reply, FloorIs, Down, call, Step, IsEvent}
 use Rattle.xn_model.specs.Rules.{Holds}
-use Rattle.xn_model.proofs.Lists.{Contains-none, Contains-head, Contains-tail, Contains-cons}
-use Rattle.xn_model.proofs.Tests.{fs_from}
-use Rattle.xn_model.proofs.Floors.{floor_low, floor_met}
-use Rattle.xn_model.proofs.Runs.{step_keeps}
+use Rattle.xn_model.proofs.ForCallers.{Contains-none, Contains-head, Contains-tail, Contains-cons, fs_from, floor_low, floor_met, step_keeps}
 use Rattle.xn_history.specs.Histories.{Histories, histories_after}
 use Rattle.xn_history.specs.Moments.{RunWhere, AreHistoriesOf}
 use Rattle.xn_history.specs.Promises.{GoesOn, AreToldBelow}

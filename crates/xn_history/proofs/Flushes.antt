@@ -10,13 +10,7 @@ use Rattle.xn_model.specs.Lives.{BlockState, Life, Lives, StoreState, life_at, n
 use Rattle.xn_model.specs.declared.status.Status.TheVariants.{Owned}
 use Rattle.xn_model.specs.Calls.{begun_of, begun_place, settled_of, settled_place, settled_after, settled_with, first_pending}
 use Rattle.xn_model.specs.Rules.{IsConsistent}
-use Rattle.xn_model.proofs.Changes.{with_begun, settled, bared, each, free}
-use Rattle.xn_model.proofs.Lists.{has_number_at, Contains-take, Contains-drop}
-use Rattle.xn_model.proofs.Lives.{begun_is, free_at, each_back, each_forth, free_back, free_forth, settled_is}
-use Rattle.xn_model.proofs.Tests.{map_ok}
-use Rattle.xn_model.proofs.Carry.{settled_last}
-use Rattle.xn_model.proofs.States.{owned_dropped}
-use Rattle.xn_model.proofs.Ends.{settles_place, drops_at}
+use Rattle.xn_model.proofs.ForCallers.{with_begun, settled, bared, each, free, has_number_at, Contains-take, Contains-drop, begun_is, free_at, each_back, each_forth, free_back, free_forth, settled_is, map_ok, settled_last, owned_dropped, settles_place, drops_at}
 use Rattle.xn_history.specs.Histories.{History, Histories, telling, change_in}
 use Rattle.xn_history.specs.Moments.{IsHistoryOf, AreHistoriesOf}
 use Rattle.xn_history.proofs.Turns as turn

@@ -7,8 +7,7 @@ use Rattle.xn_model.specs.Worlds.{World, Event, Client, Begin, Land, Fail, Finis
 use Rattle.xn_model.specs.declared.refusal.Refusal.{Refusal}
 use Rattle.xn_model.specs.declared.refusal.Refusal.TheVariants.{NoSpace}
 use Rattle.xn_model.specs.Calls.{init_of, init_at, init_refusal, new_life}
-use Rattle.xn_model.proofs.Tests.{given_ok, same_ok, never_ok}
-use Rattle.xn_model.proofs.Init.{lowest_is}
+use Rattle.xn_model.proofs.ForCallers.{given_ok, same_ok, never_ok, lowest_is}
 use Rattle.std.proofs.lemmas.Bool.{cond_both}
 use Rattle.xn_model.specs.Rules.{Holds}
 use Rattle.xn_history.specs.Histories.{History, Histories, last_told, histories_after}

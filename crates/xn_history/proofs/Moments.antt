@@ -7,8 +7,7 @@ use Rattle.xn_model.specs.Lives.{Life, Lives, life_at, durable_after}
 use Rattle.xn_model.specs.Mounts.{IsRecovered}
 use Rattle.xn_model.specs.Worlds.{World, Event, Client, Begin, Land, Fail, Finish, Crash, Reply, mounted, Step, AfterCrash, Run, IsEvent}
 use Rattle.xn_model.specs.Rules.{Holds}
-use Rattle.xn_model.proofs.Mount.{mount_holds}
-use Rattle.xn_model.proofs.Runs.{step_keeps}
+use Rattle.xn_model.proofs.ForCallers.{mount_holds, step_keeps}
 use Rattle.xn_history.specs.Histories.{Histories, heard, while_alive, found_with, first_histories, histories_after, edited_block, dropped_blocks}
 use Rattle.xn_history.specs.Moments.{RunWhere, Anything, IsMoment, IsHistoryAt, AreHistoriesOf}
 use Rattle.xn_history.proofs.Turns.{Turn}

@@ -11,8 +11,7 @@ use Rattle.xn_model.specs.Lives.{BlockState, Life, Lives, life_at, carried, byte
 use Rattle.xn_model.specs.Mounts.{IsRecovered}
 use Rattle.xn_model.specs.Worlds.{World}
 use Rattle.xn_model.specs.Rules.{Holds, HoldsState}
-use Rattle.xn_model.proofs.Lists.{Contains-none, Contains-head, Contains-cons, Contains-tail}
-use Rattle.xn_model.proofs.Reached.{agreement, carried_pending}
+use Rattle.xn_model.proofs.ForCallers.{Contains-none, Contains-head, Contains-cons, Contains-tail, agreement, carried_pending}
 use Rattle.xn_history.specs.Histories.{History, Histories, last_told, since, up_to, has_bytes, told_by, found_with}
 use Rattle.xn_history.specs.Moments.{IsHistoryOf, AreHistoriesOf}
 use Rattle.xn_history.proofs.Turns.{Turn, matched, living, last_append, append_nil}

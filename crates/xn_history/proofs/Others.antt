@@ -7,9 +7,7 @@ use Rattle.std.proofs.lemmas.Option.{none-some, same_Some}
 use Rattle.xn_model.specs.Lives.{Life, life_at}
 use Rattle.xn_model.specs.Worlds.{World, Call, Init, Propose, MakeRoot, DropRoot, Forget, Read, Root, Kind, Tainted, Pending, Floor, FreeCount, Pick, Drain, Event, Client, Begin, Land, Fail, Finish, Crash, Reply, Edited, Step, Run, IsEvent}
 use Rattle.xn_model.specs.Rules.{Holds, IsInFileSystem, NamedIn}
-use Rattle.xn_model.proofs.Lists.{Contains-none, Contains-cons, last_of}
-use Rattle.xn_model.proofs.Runs.{step_keeps}
-use Rattle.xn_model.proofs.States.{fresh_owned}
+use Rattle.xn_model.proofs.ForCallers.{Contains-none, Contains-cons, last_of, step_keeps, fresh_owned}
 use Rattle.xn_history.specs.Histories.{History, Histories, type_in, edited_block, dropped_blocks, histories_after}
 use Rattle.xn_history.specs.Moments.{RunWhere, AreHistoriesOf}
 use Rattle.xn_history.specs.Promises.{Names, IsChain, LeavesAlone, IsNoEditBy}

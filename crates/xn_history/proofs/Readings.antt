@@ -10,8 +10,7 @@ use Rattle.xn_model.specs.Results.{result_and_then, result_map}
 use Rattle.xn_model.specs.Calls.{own_life}
 use Rattle.xn_model.specs.Worlds.{World, Event, Client, Read, Drain, Reply, Bytes, Drained, Down, call, reply_alone, Step, Run, IsEvent}
 use Rattle.xn_model.specs.Rules.{Holds}
-use Rattle.xn_model.proofs.Runs.{step_keeps}
-use Rattle.xn_model.proofs.Tests.{IsOwn, own_then, same_ok}
+use Rattle.xn_model.proofs.ForCallers.{step_keeps, IsOwn, own_then, same_ok}
 use Rattle.xn_history.specs.Histories.{History, Histories, last_told, histories_after}
 use Rattle.xn_history.specs.Moments.{AreHistoriesOf}
 use Rattle.xn_history.specs.Promises.{IsNoEditBy}

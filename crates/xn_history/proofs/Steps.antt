@@ -8,7 +8,7 @@ use Rattle.xn_model.specs.Calls.{begun_of, settled_of}
 use Rattle.xn_model.specs.Worlds.{World, Call, Forget, Pick, Event, Client, Begin, Land, Fail, Finish, Reply, Forgotten, Begun, Landed, Fault, Finished, NoTicket, Down, Refused, reply_and_world, begin, begun_count, write, with_ticket, land, fail, finish}
 use Rattle.xn_model.specs.Rules.{Holds}
 use Rattle.xn_history.specs.Histories.{Histories, heard, heard_call, edited_block, dropped_blocks}
-use Rattle.xn_model.proofs.Lists.{Contains-take}
+use Rattle.xn_model.proofs.ForCallers.{Contains-take}
 use Rattle.xn_history.specs.Promises.{IsToldBy}
 use Rattle.xn_history.specs.Moments.{AreHistoriesOf}
 use Rattle.xn_history.proofs.Calls.{Turns, none_change}

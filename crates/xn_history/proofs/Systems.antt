@@ -13,9 +13,7 @@ use Rattle.xn_model.specs.declared.refusal.Refusal.TheVariants.{NoMemory, TooMan
 use Rattle.xn_model.specs.Calls.{Edit, patched, accepts, edited, propose_of, propose_at, too_many, exhausted, within_limits, was_given, may_add, may_drop, is_empty, root_now, slot_now, life_bytes, init_of, make_root_of, life_pending, root_state, drop_root_of}
 use Rattle.xn_model.specs.Worlds.{World, Call, Init, Propose, MakeRoot, DropRoot, Forget, Read, Root, Kind, Tainted, Pending, Floor, FreeCount, Pick, Drain, Client, Reply, Started, Edited, Down, Refused, call, AfterCall}
 use Rattle.xn_model.specs.Rules.{Holds, IsInFileSystem, IsOwnedBy, NamedIn}
-use Rattle.xn_model.proofs.Lists.{Contains-none, Contains-cons, all_at, last_of}
-use Rattle.xn_model.proofs.Tests.{own_then, unless_ok}
-use Rattle.xn_model.proofs.Edits.{droppable, not_root}
+use Rattle.xn_model.proofs.ForCallers.{Contains-none, Contains-cons, all_at, last_of, own_then, unless_ok, droppable, not_root}
 use Rattle.xn_history.specs.Histories.{Histories, rooted, edited_block, dropped_blocks}
 use Rattle.xn_history.specs.Moments.{AreHistoriesOf}
 use Rattle.xn_history.proofs.Calls.{root_bytes}

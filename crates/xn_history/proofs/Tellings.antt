@@ -8,8 +8,7 @@ use Rattle.xn_model.specs.Images.{block_of, Reach, root, step}
 use Rattle.xn_model.specs.Lives.{BlockState, Life, life_at, bytes_of}
 use Rattle.xn_model.specs.Worlds.{World, Event, Client, Drain, Finish, Reply, Drained, Finished, Step, Run, IsEvent}
 use Rattle.xn_model.specs.Rules.{Holds, IsInFileSystem}
-use Rattle.xn_model.proofs.Lists.{Contains-none, Contains-cons}
-use Rattle.xn_model.proofs.Runs.{step_keeps}
+use Rattle.xn_model.proofs.ForCallers.{Contains-none, Contains-cons, step_keeps}
 use Rattle.xn_history.specs.Histories.{History, Histories, last_told, since, newest_bytes, type_in, telling, telling_all, while_alive, heard, histories_after}
 use Rattle.xn_history.specs.Moments.{RunWhere, AreHistoriesOf}
 use Rattle.xn_history.specs.Promises.{Names, IsChain, LeavesAlone, IsTold, IsNoEditBy}

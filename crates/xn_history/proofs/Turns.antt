@@ -6,8 +6,7 @@ use Rattle.std.proofs.lemmas.Option.{same_Some, none-some}
 use Rattle.std.proofs.lemmas.List.Elements.{Contains-append_cases, Contains-append_left, Contains-append_right}
 use Rattle.xn_model.specs.Types.{Types}
 use Rattle.xn_model.specs.Lives.{BlockState, Life, bytes_of, current, durable_after}
-use Rattle.xn_model.proofs.Lists.{Contains-none, Contains-cons, Contains-drop, last_of}
-use Rattle.xn_model.proofs.Carry.{settled_fewer}
+use Rattle.xn_model.proofs.ForCallers.{Contains-none, Contains-cons, Contains-drop, last_of, settled_fewer}
 use Rattle.xn_history.specs.Histories.{History, last_told, since, newest_bytes, accepting, telling, telling_all}
 use Rattle.xn_history.specs.Moments.{IsHistoryOf, IsHistoryAt}
 

@@ -15,11 +15,7 @@ use Rattle.xn_model.specs.Results.{GivesExactly, result_map}
 use Rattle.xn_model.specs.Calls.{begun_place, begun_of, bytes_at, first_pending, is_durable, pick_of, settled_place, settled_after, settled_of}
 use Rattle.xn_model.specs.Rules.{IsIdle}
 use Rattle.xn_model.specs.Worlds.{all_pending}
-use Rattle.xn_model.proofs.Tests.{unless_ok, never_ok, none_from, same_ok, map_ok}
-use Rattle.xn_model.proofs.Given.{gives_exactly-ok}
-use Rattle.xn_model.proofs.Lives.{life_from, place_from, change_same}
-use Rattle.xn_model.proofs.Reached.{positive}
-use Rattle.xn_model.proofs.Rounds.{round_leaves}
+use Rattle.xn_model.proofs.ForCallers.{unless_ok, never_ok, none_from, same_ok, map_ok, gives_exactly-ok, life_from, place_from, change_same, positive, round_leaves}
 use Rattle.xn_state.specs.States.{types_in}
 use Rattle.xn_kernel.specs.Kernels.{KernelValue, TicketValue, IsKernel, is_in_flight, is_mine}
 use Rattle.xn_kernel.specs.Drains.{Reads, WritesTo, Writes, with_home, Round, Rounds, Unwritten, Unread}

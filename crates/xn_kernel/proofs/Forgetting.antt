@@ -5,9 +5,7 @@ use Rattle.xn_model.specs.Lives.{StoreState}
 use Rattle.xn_model.specs.Results.{GivesExactly}
 use Rattle.xn_model.specs.Calls.{forget_of}
 use Rattle.xn_state.specs.States.{StateValue, types_in}
-use Rattle.xn_model.proofs.Given.{gives_exactly_keeps}
-use Rattle.xn_model.proofs.Ends.{forget_keeps}
-use Rattle.xn_model.proofs.LaneCalls.{lanes_forget}
+use Rattle.xn_model.proofs.ForCallers.{gives_exactly_keeps, forget_keeps, lanes_forget}
 use Rattle.xn_kernel.specs.Kernels.{IsKernel}
 
 pub forget_leaves : {L : Type 0} (read : L → List ℕ) (lanes : List (Option L)) (old new : StateValue) → new.table ≡ old.table → IsKernel read lanes old → (fs b : ℕ) (result : Result (Unit {0}) Refusal) →

@@ -7,8 +7,7 @@ use Rattle.xn_model.specs.Lives.{Life, Lives, StoreState, life_at, prefix_of}
 use Rattle.xn_model.specs.Lanes.{FitsLife, FitLives}
 use Rattle.xn_model.specs.Calls.{begun_place, bytes_at}
 use Rattle.xn_model.specs.declared.refusal.Refusal.TheVariants.{NoSuchBlock, NotInUse, InFlight, NothingSafe}
-use Rattle.xn_model.proofs.Tests.{unless_ok, never_ok, none_from}
-use Rattle.xn_model.proofs.Lives.{life_from}
+use Rattle.xn_model.proofs.ForCallers.{unless_ok, never_ok, none_from, life_from}
 use Rattle.xn_kernel.specs.Kernels.{is_in_flight}
 
 module _ {L : Type 0} (read : L → List ℕ) where

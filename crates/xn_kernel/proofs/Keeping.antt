@@ -6,14 +6,8 @@ use Rattle.xn_model.specs.Lives.{StoreState, begun_at}
 use Rattle.xn_model.specs.Results.{Gives, GivesExactly}
 use Rattle.xn_model.specs.Calls.{Edit, init_of, propose_of, make_root_of, drop_root_of, begun_of, begun_place, settled_of}
 use Rattle.xn_state.specs.States.{StateValue, types_in}
-use Rattle.xn_model.proofs.Given.{gives_keeps, gives_exactly-ok, gives_exactly-err}
-use Rattle.xn_model.proofs.Tests.{map_ok}
-use Rattle.xn_model.proofs.Init.{init_keeps}
-use Rattle.xn_model.proofs.Edits.{propose_keeps}
-use Rattle.xn_model.proofs.Roots.{make_root_keeps, drop_root_keeps}
-use Rattle.xn_model.proofs.Begin.{begun_keeps}
-use Rattle.xn_model.proofs.Ends.{settled_keeps}
-use Rattle.xn_model.proofs.LaneCalls as lane
+use Rattle.xn_model.proofs.ForCallers.{gives_keeps, gives_exactly-ok, gives_exactly-err, map_ok, init_keeps, propose_keeps, make_root_keeps, drop_root_keeps, begun_keeps, settled_keeps}
+use Rattle.xn_model.proofs.ForCallers as lane
 use Rattle.xn_kernel.specs.Kernels.{IsKernel}
 use Rattle.xn_kernel.proofs.Homes.{home, begun_idle}
 

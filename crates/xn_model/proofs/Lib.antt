@@ -1,36 +1,52 @@
+-- lists, bytes and tests
 pub mod Lists
 pub mod Bytes
-pub mod Reached
-pub mod Changes
-pub mod Lives
-pub mod Carry
 pub mod Tests
-pub mod Queue
-pub mod Statuses
-pub mod Orders
-pub mod Begin
-pub mod Bare
-pub mod Writes
-pub mod Ends
-pub mod States
-pub mod AcceptedLives
-pub mod Accept
-pub mod Edits
-pub mod Init
+pub mod Least
+
+-- block 0
 pub mod RootBytes
+
+-- lives and their changes
+pub mod Lives
+pub mod Statuses
+pub mod States
+pub mod Changes
+pub mod Accept
+pub mod AcceptedLives
+pub mod Carry
+pub mod Orders
+
+-- calls
+pub mod Given
+pub mod Init
+pub mod Edits
 pub mod Roots
-pub mod Mount
-pub mod Lands
+pub mod Begin
+pub mod Ends
+pub mod Floors
+
+-- writes, lanes and drains
+pub mod Writes
+pub mod Flights
 pub mod Lanes
 pub mod LaneCalls
-pub mod Runs
-pub mod Least
+pub mod Lands
 pub mod Drains
 pub mod Rounds
-pub mod FoundBlocks
+
+-- images and mounts
+pub mod Reached
+pub mod Bare
+pub mod Queue
 pub mod Walk
+pub mod FoundBlocks
+pub mod Mount
+
+-- runs
 pub mod Acts
-pub mod Floors
-pub mod Flights
-pub mod Given
+pub mod Runs
 pub mod Examples
+
+-- what crates above cite
+pub mod ForCallers

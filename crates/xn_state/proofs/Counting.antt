@@ -12,7 +12,7 @@ use Rattle.xn_model.specs.declared.status.Status.{Status}
 use Rattle.xn_model.specs.declared.status.Status.TheVariants.{Owned, Dropped}
 use Rattle.xn_model.specs.Lives.{BlockState, Life, Lives, life_at, change_at, with_state, with_status, settle, begun_at, settled_at, owned_after, dropped_after, accepted_at, freed, is_for, lowest_free}
 use Rattle.xn_model.specs.Calls.{first_pending, pending_in, new_life}
-use Rattle.xn_model.proofs.Lives.{place_from}
+use Rattle.xn_model.proofs.ForCallers.{place_from}
 use Rattle.block_set.specs.Members.{is_member}
 use Rattle.xn_state.specs.Kept.{IsCounted}
 use Rattle.xn_state.specs.Counts.{given}

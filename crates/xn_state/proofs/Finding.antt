@@ -14,7 +14,7 @@ use Rattle.xn_model.specs.Lives.{Life, Lives, life_at}
 use Rattle.xn_model.specs.Mounts as model
 use Rattle.xn_model.specs.Mounts.{found_life, life_found, lives_found, life_at_rest}
 use Rattle.xn_model.specs.Calls.{pending_in}
-use Rattle.xn_model.proofs.Lives.{set_other, set_same}
+use Rattle.xn_model.proofs.ForCallers.{set_other, set_same}
 use Rattle.xn_state.specs.declared.found.Found.{Found}
 use Rattle.xn_state.specs.Kept.{IsCounted}
 use Rattle.xn_state.specs.Mounts.{found_of, lives_in}

@@ -5,7 +5,7 @@ use Rattle.std.proofs.lemmas.List.{take_all, take_more, append-nil, take-append-
 use Rattle.std.proofs.lemmas.List.Sums.{fold-append, sum_by-cons, sum_by-take-drop, sum_by_more}
 use Rattle.std.proofs.lemmas.Option.{slice_get-get_or}
 use Rattle.xn_model.specs.Calls.{first_pending, life_pending, pending_in}
-use Rattle.xn_model.proofs.Floors.{entries_counted}
+use Rattle.xn_model.proofs.ForCallers.{entries_counted}
 use Rattle.std.proofs.lemmas.Bool.{eq-eqb, ne_eqb}
 use Rattle.block_cache.specs.Claims.{claim_of}
 use Rattle.block_cache.specs.Views.{drops_in, pending_at}

@@ -11,9 +11,7 @@ use Rattle.xn_model.specs.Lives.{StoreState, Life, Lives, life_at}
 use Rattle.xn_model.specs.Results.{unless, result_map, result_and_then}
 use Rattle.xn_model.specs.Calls.{first_pending, life_pending, pending_in, own_life, forget_refusal, forget_at, forget_of}
 use Rattle.xn_model.specs.Rules.{IsConsistent}
-use Rattle.xn_model.proofs.Lives.{place_from}
-use Rattle.xn_model.proofs.Tests.{IsOwn, map_ok, same_ok, never_ok, own_then}
-use Rattle.xn_model.proofs.Ends.{forget_keeps}
+use Rattle.xn_model.proofs.ForCallers.{place_from, IsOwn, map_ok, same_ok, never_ok, own_then, forget_keeps}
 use Rattle.xn_state.specs.Kept.{IsCounted}
 use Rattle.xn_state.specs.Forgets.{forget_plan, forget_plan_at}
 use Rattle.block_cache.specs.declared.life.Facts.{Facts}

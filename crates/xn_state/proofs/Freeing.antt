@@ -6,9 +6,7 @@ use Rattle.xn_model.specs.Types.{Types}
 use Rattle.xn_model.specs.Lives.{BlockState, Life, Lives, StoreState, life_at, carried, first_states, settle, settled_at, freed, drops_of}
 use Rattle.xn_model.specs.Calls.{life_pending, pending_in, settled_place, first_pending}
 use Rattle.xn_model.specs.Rules.{IsConsistent, IsBy}
-use Rattle.xn_model.proofs.Lists.{Contains-cons, Contains-head, Contains-tail, Contains-none, Contains-take}
-use Rattle.xn_model.proofs.Lives.{set_other}
-use Rattle.xn_model.proofs.Ends.{settles_place, drops_at}
+use Rattle.xn_model.proofs.ForCallers.{Contains-cons, Contains-head, Contains-tail, Contains-none, Contains-take, set_other, settles_place, drops_at}
 use Rattle.xn_state.specs.Kept.{IsCounted, MayFree}
 use Rattle.xn_state.specs.Counts.{given}
 use Rattle.xn_state.proofs.Counting.{counts_for, counted, marks-change, marks-freed, place_is, settled_less, sum_same}

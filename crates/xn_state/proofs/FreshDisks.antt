@@ -10,7 +10,7 @@ use Rattle.xn_model.specs.Types.{Types}
 use Rattle.xn_model.specs.Images.{IsDiskSize, IsSound, block_of, blocks_in, joined}
 use Rattle.xn_model.specs.Mounts as model
 use Rattle.xn_model.specs.Mounts.{IsRecovered, lives_found}
-use Rattle.xn_model.proofs.Bytes.{blocks_read}
+use Rattle.xn_model.proofs.ForCallers.{blocks_read}
 use Rattle.templates.specs.Templates.{TemplateValue, IsTemplate}
 use Rattle.templates.specs.Tables.{types_of}
 use Rattle.templates.specs.Formats.{formatted, template_found, fresh_found, table_of}

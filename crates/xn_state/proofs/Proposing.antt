@@ -6,8 +6,7 @@ use Rattle.xn_model.specs.Lives.{Life, StoreState, current, life_at}
 use Rattle.xn_model.specs.Results.{first_refusal, unless, result_and_then}
 use Rattle.xn_model.specs.Calls.{Edit, own_life, accepts, edited, life_bytes, patched, propose_refusal, propose_at, propose_of}
 use Rattle.xn_model.specs.Rules.{IsConsistent}
-use Rattle.xn_model.proofs.Tests.{given_ok, own_then, same_ok, never_ok}
-use Rattle.xn_model.proofs.Edits.{propose_keeps}
+use Rattle.xn_model.proofs.ForCallers.{given_ok, own_then, same_ok, never_ok, propose_keeps}
 use Rattle.xn_state.specs.Proposals.{proposed_at, proposed_of, entry_of}
 
 -- The entry of an edit

@@ -7,7 +7,7 @@ use Rattle.xn_model.specs.Lives.{BlockState, Life, Lives, alive_and, bytes_of, p
 use Rattle.xn_model.specs.declared.refusal.Refusal.TheVariants.{NothingSafe, InFlight, NotMine}
 use Rattle.xn_model.specs.Calls.{begun_place, bytes_at, is_durable, life_pending, settled_count, settled_place}
 use Rattle.xn_model.specs.Rules.{IsCount}
-use Rattle.xn_model.proofs.Tests.{unless_passed}
+use Rattle.xn_model.proofs.ForCallers.{unless_passed}
 use Rattle.block_cache.specs.declared.life.Facts.{Facts}
 use Rattle.block_cache.specs.Views.{facts_of, image_at}
 use Rattle.xn_state.proofs.Lasts.{image_of_some}

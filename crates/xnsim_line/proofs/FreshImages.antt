@@ -9,7 +9,7 @@ use Rattle.disk.specs.Images.{block_at}
 use Rattle.disk.proofs.BlockAt.{block_at-append_front, block_at-append_last}
 use Rattle.xn_model.specs.Images.{block_of, joined}
 use Rattle.xn_model.specs.Root.{pointer}
-use Rattle.xn_model.proofs.Bytes.{length-joined}
+use Rattle.xn_model.proofs.ForCallers.{length-joined}
 use Rattle.xn_model.specs.BareDisks.{zeros}
 use Rattle.templates.specs.declared.fault.TemplateFault.{TemplateFault}
 use Rattle.templates.specs.BuiltIns.{leaf_template}

@@ -1,6 +1,6 @@
 use Rattle.std.proofs.Common.{refl}
 use Rattle.xn_model.specs.Calls.{begun_of}
-use Rattle.xn_model.proofs.Given.{gives_exactly-ok}
+use Rattle.xn_model.proofs.ForCallers.{gives_exactly-ok}
 use Rattle.xn_model.specs.Worlds as model
 use Rattle.world.specs.Worlds.{value_of}
 use Rattle.world.proofs.Views.{seen}

@@ -5,6 +5,7 @@ use Rattle.xn_model.specs.Worlds.{Run, Step}
 use Rattle.xn_model.specs.Rules.{Holds}
 use Rattle.world.specs.Events.{event_of, reply_of}
 use Rattle.world.specs.Worlds.{world_with}
+use Rattle.world.proofs.Tellings.{are_events, ran_told}
 use Rattle.world.proofs.Runs.{ran_more, rules_agree, rules_sound}
 use Rattle.world.proofs.world.World.run.Goals as goal
 
@@ -43,6 +44,12 @@ pub returns-clause-run : goal.returns-clause-run
 returns-clause-run c =
     let past : length c.args.events.now ≤ c.loop-at.at = omega (arith, c.loop-at-test.false) in
     subst (λ es. Run (world_with c.args.self.now) (map event_of es) (map reply_of c.loop-at.replies.items) (world_with c.loop-at.self)) (take_all c.loop-at.at c.args.events.now past) c.loop-at.invariant.0
+
+pub returns-clause-told : goal.returns-clause-told
+returns-clause-told c =
+    let past : length c.args.events.now ≤ c.loop-at.at = omega (arith, c.loop-at-test.false) in
+    let run = subst (λ es. Run (world_with c.args.self.now) (map event_of es) (map reply_of c.loop-at.replies.items) (world_with c.loop-at.self)) (take_all c.loop-at.at c.args.events.now past) c.loop-at.invariant.0 in
+    λ hs m. ran_told (world_with c.args.self.now) (world_with c.loop-at.self) hs m (map event_of c.args.events.now) (map reply_of c.loop-at.replies.items) (are_events c.args.events.now) run
 
 pub returns-clause-rules : goal.returns-clause-rules
 returns-clause-rules c = c.loop-at.invariant.1

@@ -1,5 +1,5 @@
 use Rattle.std.proofs.Common.{◌∙◌, refl, sym, arith}
-use Rattle.xn_model.proofs.Rounds.{none_pending}
+use Rattle.xn_model.proofs.ForCallers.{none_pending}
 use Rattle.xn_state.specs.States.{types_in}
 use Rattle.xn_kernel.proofs.Draining.{idle_from, rounds_more, round_ends}
 use Rattle.xn_kernel.proofs.kernel.Kernel.drain.Goals as goal

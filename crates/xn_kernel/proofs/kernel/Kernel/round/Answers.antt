@@ -1,7 +1,6 @@
 use Rattle.std.proofs.Common.{◌∙◌, ap, sym, refl, arith, Some, slice_get}
 use Rattle.xn_model.specs.Calls.{begun_of}
-use Rattle.xn_model.proofs.Given.{gives_exactly-ok}
-use Rattle.xn_model.proofs.Rounds.{picked_begins}
+use Rattle.xn_model.proofs.ForCallers.{gives_exactly-ok, picked_begins}
 use Rattle.xn_kernel.proofs.Draining.{never_err, landed_or_kept, finish_refused, finish_done}
 use Rattle.xn_kernel.proofs.kernel.Kernel.round.Goals as goal
 

@@ -1,7 +1,7 @@
 use Rattle.std.proofs.Common.{sym, subst}
 use Rattle.xn_model.specs.Images.{blocks_in}
 use Rattle.xn_model.specs.Lanes.{FitLives}
-use Rattle.xn_model.proofs.LaneCalls.{lanes_mounted}
+use Rattle.xn_model.proofs.ForCallers.{lanes_mounted}
 use Rattle.templates.specs.Tables.{types_of}
 use Rattle.xn_state.specs.States.{StateValue}
 use Rattle.xn_state.specs.Mounts.{lives_in}
