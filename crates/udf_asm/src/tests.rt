@@ -1,5 +1,3 @@
-ghost use Rattle.std.specs.Prelude.{◌<◌};
-
 use super::*;
 use std::alloc::{AllocError, Global};
 use std::test::Fail;
@@ -34,49 +32,6 @@ fn a_program_and_its_text(rt: HostRuntime) -> Result<(), Fail> {
     Ok(())
 }
 
-#[test]
-fn faults_of_texts(rt: HostRuntime) -> Result<(), Fail> {
-    let table = [
-        ("SET 1 0508\n", 1, AsmKind::BadNumber),
-        ("SET 1 508", 1, AsmKind::BadLine),
-        ("SET 1 508\n\nSET\n", 2, AsmKind::BadLine),
-        ("\n", 1, AsmKind::BadLine),
-        ("SET 1 5\nset 1 5\n", 2, AsmKind::BadName),
-        (" SET 1 5\n", 1, AsmKind::BadName),
-        ("SET 1\nSET", 1, AsmKind::BadCount),
-        ("SET 16 x 2\n", 1, AsmKind::BadCount),
-        ("END \n", 1, AsmKind::BadCount),
-        ("SET 1  5\n", 1, AsmKind::BadCount),
-        ("SET 1 \n", 1, AsmKind::BadNumber),
-        ("SET 16 5\n", 1, AsmKind::BadNumber),
-        ("SET 1 65536\n", 1, AsmKind::BadNumber),
-        ("SET 1 99999999999999999999999\n", 1, AsmKind::BadNumber),
-        ("SHR 1 2 32\n", 1, AsmKind::BadNumber),
-        ("FOR 1 0\n", 1, AsmKind::BadNumber),
-        ("FOR 1 513\n", 1, AsmKind::BadNumber),
-        ("END\nSET 1 01\n", 2, AsmKind::BadNumber),
-        ("END\n", 1, AsmKind::Code(CodeFault::Unmatched(0))),
-        ("FOR 1 2\n", 2, AsmKind::Code(CodeFault::Unmatched(1))),
-        ("KEEP 1 2\n", 1, AsmKind::Code(CodeFault::MisplacedKeep(0))),
-    ];
-    for (text, line, kind) in table {
-        assert_eq!(rt;
-            assemble(rt.alloc(), text).err(),
-            Some(AsmFault { line, kind }),
-            "{text:?}"
-        );
-    }
-    let shown = format!(in rt.alloc();
-        "{}",
-        AsmFault {
-            line: 1,
-            kind: AsmKind::BadNumber
-        }
-    )?;
-    assert_eq!(rt; shown.as_str(), "line 1: BadNumber");
-    Ok(())
-}
-
 // `count` times the same text.
 fn repeated(alloc: Global, text: &str, count: usize) -> Result<String, AllocError> {
     let mut all = String::new(alloc);
@@ -108,57 +63,5 @@ fn many_lines(rt: HostRuntime) -> Result<(), Fail> {
         kind: AsmKind::BadCount,
     };
     assert_eq!(rt; assemble(rt.alloc(), &long).err(), Some(fault));
-    Ok(())
-}
-
-// The next number of a fixed pseudo-random sequence, below `bound`.
-fn next(state: &mut u64, bound: u64) -> usize
-    requires { 0 < bound }
-{
-    *state = state
-        .wrapping_mul(6364136223846793005)
-        .wrapping_add(1442695040888963407);
-    ((*state >> 33) % bound) as usize
-}
-
-// Up to four lines, of which most are words.
-fn random_text(alloc: Global, state: &mut u64) -> Result<String, AllocError> {
-    let lines = [
-        "SET 1 2\n",
-        "ADD 0 1 2\n",
-        "FOR 3 4\n",
-        "END\n",
-        "KEEP 1 9\n",
-        "IFLT 1 2\n",
-        "ELSE\n",
-        "LD1 1",
-        " 2\n",
-        "\n",
-    ];
-    let mut text = String::new(alloc);
-    for _ in 0..next(state, 5) {
-        let at = next(state, 10);
-        if at < lines.len() {
-            text.push_str(lines[at])?;
-        }
-    }
-    Ok(text)
-}
-
-#[test]
-fn random_texts_are_answered(rt: HostRuntime) -> Result<(), Fail> {
-    let mut state = 1;
-    let mut accepted: usize = 0;
-    for _ in 0..2000 {
-        let text = random_text(rt.alloc(), &mut state)?;
-        if let Ok(words) = assemble(rt.alloc(), &text) {
-            assert_eq!(rt; print(rt.alloc(), &words)?.as_str(), text.as_str());
-            accepted = accepted.wrapping_add(1);
-        }
-    }
-    assert!(rt;
-        100 < accepted && accepted < 1900,
-        "{accepted} of 2000 accepted"
-    );
     Ok(())
 }

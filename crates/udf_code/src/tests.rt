@@ -1,5 +1,3 @@
-ghost use Rattle.std.specs.Prelude.{◌<◌, ◌≤◌};
-
 use super::*;
 use std::alloc::{AllocError, Global};
 use std::test::Fail;
@@ -98,52 +96,5 @@ fn words_at_the_limits(rt: HostRuntime) -> Result<(), Fail> {
     let words = nested.as_slice();
     let eight = &words[1..17];
     assert_eq!(rt; well_formed(eight), Ok(()));
-    Ok(())
-}
-
-// The next number of a fixed pseudo-random sequence, below `bound`.
-fn next(state: &mut u64, bound: u64) -> u8
-    requires low { 0 < bound }
-    requires high { bound ≤ 256 }
-{
-    *state = state
-        .wrapping_mul(6364136223846793005)
-        .wrapping_add(1442695040888963407);
-    ((*state >> 33) % bound) as u8
-}
-
-// Up to seven words whose codes and operands are mostly in range, and sometimes a few bytes more.
-fn random_bytes(alloc: Global, state: &mut u64) -> Result<Vec<u8>, AllocError> {
-    let mut bytes = Vec::new(alloc);
-    for _ in 0..next(state, 8) {
-        bytes.push(next(state, 21))?;
-        bytes.push(next(state, 17))?;
-        bytes.push(next(state, 17))?;
-        let third = next(state, 32);
-        bytes.push(if third < 17 { 0 } else { third - 17 })?;
-    }
-    for _ in 0..next(state, 16).saturating_sub(13) {
-        bytes.push(next(state, 256))?;
-    }
-    Ok(bytes)
-}
-
-#[test]
-fn random_bytes_are_answered(rt: HostRuntime) -> Result<(), Fail> {
-    let mut state = 1;
-    let mut accepted: usize = 0;
-    for _ in 0..2000 {
-        let bytes = random_bytes(rt.alloc(), &mut state)?;
-        if let Ok(words) = decode(rt.alloc(), &bytes) {
-            let again = encode(rt.alloc(), &words)?;
-            assert_eq!(rt; again.as_slice(), bytes.as_slice());
-            assert!(rt; words.len() <= 7, "a word too many");
-            accepted = accepted.wrapping_add(1);
-        }
-    }
-    assert!(rt;
-        100 < accepted && accepted < 1900,
-        "{accepted} of 2000 accepted"
-    );
     Ok(())
 }

@@ -1,11 +1,10 @@
 // The files of the system.
 
 use std::alloc::Global;
-use std::fs;
 use std::fs::{File, OpenFile, OpenOptions, Permissions};
-use std::io;
 use std::io::{ErrorKind, Read, Write};
 use std::rt::Files as System;
+use std::{fs, io};
 use xnsim_line::Files;
 
 /// How many names are tried for a file that is written beside another one.
@@ -99,7 +98,9 @@ fn write<R: System + AllocGlobal>(rt: &R, name: &str, bytes: &[u8]) -> io::Resul
 /// The first bytes of the file of a name, at most `limit` of them.
 fn read_start<R: System + AllocGlobal>(rt: &R, name: &str, limit: usize) -> io::Result<Vec<u8>> {
     let mut bytes = Vec::new(rt.alloc());
-    fs::open(rt, name)?.take(limit as u64).read_to_end(&mut bytes)?;
+    fs::open(rt, name)?
+        .take(limit as u64)
+        .read_to_end(&mut bytes)?;
     Ok(bytes)
 }
 
