@@ -329,6 +329,165 @@ edit 6
 }
 
 #[test]
+fn a_block_is_written_without_edits_that_wait(rt: HostRuntime) -> Result<(), PlayFault> {
+    plays(
+        &rt,
+        "$ xnsim format disk 32 --ffs
+blocks 32 templates 3
+$ cat > script <<EOF
+init 0 3 -
+root 0 4
+drain
+init 0 4 -
+init 0 4 -
+begin 5
+land 5
+finish 5
+edit 0 4 0=05000000 +5:4
+edit 0 4 4=06000000 +6:4
+begin 4
+read 0 4
+land 4
+finish 4
+EOF
+$ xnsim run disk script
+block 4 edit 1
+edit 2
+writes 2
+block 5 edit 3
+block 6 edit 4
+begun 1
+landed
+durable 1 freed 0
+edit 5
+edit 6
+begun 1
+0500000006
+landed
+durable 1 freed 0
+",
+    )
+}
+
+#[test]
+fn a_dropped_block_is_free_once_its_drop_is_durable(rt: HostRuntime) -> Result<(), PlayFault> {
+    plays(
+        &rt,
+        "$ xnsim <<EOF
+init 0 2 414243
+root 0 1
+begin 0
+begin 1
+land 1
+begin 0
+finish 1
+begin 0
+land 0
+finish 0
+floor 0
+unroot 0
+begin 0
+land 0
+init 0 2 -
+finish 0
+init 0 2 -
+EOF
+block 1 edit 1
+edit 2
+refused 20 NothingSafe
+begun 1
+landed
+refused 20 NothingSafe
+durable 1 freed 0
+begun 1
+landed
+durable 1 freed 0
+floor 3
+edit 3
+begun 1
+landed
+block 2 edit 4
+durable 1 freed 1
+block 1 edit 5
+",
+    )
+}
+
+#[test]
+fn a_failed_write_leaves_the_new_bytes_or_the_old(rt: HostRuntime) -> Result<(), PlayFault> {
+    plays(
+        &rt,
+        "$ xnsim <<EOF
+init 0 2 414243
+root 0 1
+begin 0
+begin 1
+land 1
+begin 0
+finish 1
+begin 0
+land 0
+finish 0
+floor 0
+edit 0 1 0=5a
+begin 1
+fail 1 new
+finish 1
+EOF
+block 1 edit 1
+edit 2
+refused 20 NothingSafe
+begun 1
+landed
+refused 20 NothingSafe
+durable 1 freed 0
+begun 1
+landed
+durable 1 freed 0
+floor 3
+edit 3
+begun 1
+fault
+durable 1 freed 0
+$ xnsim <<EOF
+init 0 2 414243
+root 0 1
+begin 0
+begin 1
+land 1
+begin 0
+finish 1
+begin 0
+land 0
+finish 0
+floor 0
+edit 0 1 0=5a
+begin 1
+fail 1 old
+finish 1
+begin 1
+EOF
+block 1 edit 1
+edit 2
+refused 20 NothingSafe
+begun 1
+landed
+refused 20 NothingSafe
+durable 1 freed 0
+begun 1
+landed
+durable 1 freed 0
+floor 3
+edit 3
+begun 1
+fault
+durable 0 freed 0
+begun 1
+",
+    )
+}
+
+#[test]
 fn a_block_has_at_most_64_pending_entries(rt: HostRuntime) -> Result<(), PlayFault> {
     plays(
         &rt,
