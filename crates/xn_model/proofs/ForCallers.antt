@@ -1,7 +1,7 @@
 -- What crates above cite in their proofs, by subject. They import no other module of these proofs.
 
 -- lists, bytes and tests
-pub use Rattle.xn_model.proofs.Lists.{Contains-cons, Contains-drop, Contains-head, Contains-none, Contains-tail, Contains-take, all_at, blocks_of_at, blocks_of_has, has_number_at, has_number_from, last_of}
+pub use Rattle.xn_model.proofs.Lists.{Contains-cons, Contains-drop, Contains-head, Contains-none, Contains-tail, Contains-take, all_at, any_at, any_from, blocks_of_at, blocks_of_has, filter_at, filter_from, has_number_at, has_number_from, has_pair_at, has_pair_from, last_of}
 pub use Rattle.xn_model.proofs.Bytes.{blocks_read, length-joined}
 pub use Rattle.xn_model.proofs.Tests.{IsOwn, fresh_from, fs_from, given_ok, map_ok, never_ok, no_states_from, none_from, own_then, same_ok, then_ok, unless_ok, unless_passed}
 
