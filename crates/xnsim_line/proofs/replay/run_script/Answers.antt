@@ -7,6 +7,26 @@ pub loop-event-init : goal.loop-event-init
 loop-event-init g c =
     (none_run c.args.blocks c.args.templates.now (g.W.Write.contents c.args.out.now) (world_with c.in_ok-world.world) c.in_ok-world.ensures, c.into_iter-event-iterator.ensures.into_iter_gives.0)
 
+pub loop-event-preserved-in_ok-print_reply : goal.loop-event-preserved-in_ok-print_reply
+loop-event-preserved-in_ok-print_reply g c =
+    let next : c.loop-event.event-iterator.rest.items ≡ c.in-Some.event ∷ c.next.new.self.rest.items = search rules in (
+      run_one_more c.args.blocks c.args.templates.now c.loop-event.yielded c.in-Some.event
+          (g.W.Write.contents c.args.out.now) (g.W.Write.contents c.loop-event.out) (g.W.Write.contents c.print_reply.new.out)
+          (world_with c.loop-event.world) (world_with c.step-reply.new.self) c.step-reply.result
+          c.step-reply.ensures.step c.in_ok-print_reply.ensures c.loop-event.invariant.0,
+      append_assoc c.loop-event.yielded (c.in-Some.event ∷ []) c.next.new.self.rest.items ∙ (ap (λ rest. c.loop-event.yielded ++ rest) (sym next) ∙ c.loop-event.invariant.1),
+    )
+
+pub loop-event-preserved-in_ok-print_reply-2 : goal.loop-event-preserved-in_ok-print_reply-2
+loop-event-preserved-in_ok-print_reply-2 g c =
+    let next : c.loop-event.event-iterator.rest.items ≡ c.in-Some.event ∷ c.next.new.self.rest.items = search rules in (
+      run_one_more c.args.blocks c.args.templates.now c.loop-event.yielded c.in-Some.event
+          (g.W.Write.contents c.args.out.now) (g.W.Write.contents c.loop-event.out) (g.W.Write.contents c.print_reply.new.out)
+          (world_with c.loop-event.world) (world_with c.step-reply.new.self) c.step-reply.result
+          c.step-reply.ensures.step c.in_ok-print_reply.ensures c.loop-event.invariant.0,
+      append_assoc c.loop-event.yielded (c.in-Some.event ∷ []) c.next.new.self.rest.items ∙ (ap (λ rest. c.loop-event.yielded ++ rest) (sym next) ∙ c.loop-event.invariant.1),
+    )
+
 pub loop-event-preserved : goal.loop-event-preserved
 loop-event-preserved g c =
     let next : c.loop-event.event-iterator.rest.items ≡ c.in-Some.event ∷ c.next.new.self.rest.items = search rules in (
