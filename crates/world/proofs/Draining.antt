@@ -17,8 +17,7 @@ use Rattle.xn_model.specs.Worlds as model
 use Rattle.xn_model.specs.Worlds.{World, Reply, Client, Drained, Refused, write_out, drain_for, all_pending, Step}
 use Rattle.xn_model.specs.Rules.{Holds, IsIdle}
 use Rattle.xn_model.proofs.ForCallers.{picked_life, wrote_out, none_picked, begun_keeps, write_out_keeps}
-use Rattle.xn_model.proofs.ForCallers as lane
-use Rattle.xn_model.proofs.ForCallers as flight
+use Rattle.xn_model.proofs.ForCallers as lemmas
 use Rattle.xn_state.specs.States.{types_in}
 use Rattle.xn_kernel.specs.Kernels.{KernelValue, TicketValue}
 use Rattle.xn_kernel.specs.Drains.{with_home, Round, Rounds, Unwritten, Unread, Refuses}
@@ -79,10 +78,10 @@ module _ (kernel : KernelValue MemoryLane) (tickets : Tickets) (is : IsWorld ker
       let store = kernel.state.store in
       let picked = picked_life store b r.written.picked in
       let begins = begun_keeps T store is.holds.state b (r.ticket.bytes, r.ticket.count) r.begun r.written.begins in
-      let started = flight.flights_begun store r.begun b (r.ticket.bytes, r.ticket.count) r.written.begins in
-      let ended = flight.flights_settled T r.begun r.store b r.ticket.bytes (r.ticket.count, r.freed) begins.consistent r.settles in
-      let away = lane.lanes_begun bytes kernel.lanes store r.begun b (r.ticket.bytes, r.ticket.count) r.written.begins is.fit in
-      let back = lane.lanes_settled T bytes (slice_set kernel.lanes b None) r.begun r.store b r.lane (r.ticket.count, r.freed) begins.consistent (ap (settled_of r.begun b) r.kept ∙ r.settles) away in
+      let started = lemmas.flights_begun store r.begun b (r.ticket.bytes, r.ticket.count) r.written.begins in
+      let ended = lemmas.flights_settled T r.begun r.store b r.ticket.bytes (r.ticket.count, r.freed) begins.consistent r.settles in
+      let away = lemmas.lanes_begun bytes kernel.lanes store r.begun b (r.ticket.bytes, r.ticket.count) r.written.begins is.fit in
+      let back = lemmas.lanes_settled T bytes (slice_set kernel.lanes b None) r.begun r.store b r.lane (r.ticket.count, r.freed) begins.consistent (ap (settled_of r.begun b) r.kept ∙ r.settles) away in
       let idle : flight_of (life_at store.lives b) ≡ None = ap flight_of picked.1 ∙ ap (option_map {U = ℕ × List ℕ} (λ k. (k, bytes_at k picked.0))) picked.2 in
       record {
         holds = subst Holds (sym finished_world) (write_out_keeps (world_of kernel tickets) is.holds b);

@@ -21,8 +21,7 @@ use Rattle.xn_state.specs.Answers.{Answers, call_of, reply_of_answer}
 use Rattle.xn_state.proofs.Answering.{answers_step}
 use Rattle.xn_model.specs.Rules.{Holds}
 use Rattle.xn_model.proofs.ForCallers.{gives_keeps, gives_exactly_keeps, gives_exactly-ok, step_keeps}
-use Rattle.xn_model.proofs.ForCallers as lane
-use Rattle.xn_model.proofs.ForCallers as flight
+use Rattle.xn_model.proofs.ForCallers as lemmas
 use Rattle.xn_kernel.specs.Kernels.{KernelValue, TicketValue, is_mine, is_in_flight}
 use Rattle.world.specs.Disks.{image_of, IsCalm, ticket_at}
 use Rattle.world.specs.Worlds.{Tickets, world_of, ticket_flight, IsTicketOf, IsWorld}
@@ -47,11 +46,11 @@ module _ (kernel : KernelValue MemoryLane) (tickets : Tickets) (is : IsWorld ker
     call_step = answers_step (types_in kernel.state) (image_of kernel.lanes tickets) kernel.state.store new fs call answer answers
 
     fits : (call : Call) → Answers (types_in kernel.state) kernel.state.store fs call new answer → FitLives (λ (l : MemoryLane). l.bytes) kernel.lanes new.lives
-    fits (Init ty bytes) h = gives_keeps (λ s. FitLives (λ (l : MemoryLane). l.bytes) kernel.lanes s.lives) (init_of (types_in kernel.state) kernel.state.store fs ty bytes) kernel.state.store new h.0 h.2 is.fit (λ made e. lane.lanes_init (λ (l : MemoryLane). l.bytes) kernel.lanes (types_in kernel.state) kernel.state.store new fs ty bytes made e is.fit)
-    fits (Propose b edit) h = gives_keeps (λ s. FitLives (λ (l : MemoryLane). l.bytes) kernel.lanes s.lives) (propose_of (types_in kernel.state) kernel.state.store fs b edit) kernel.state.store new h.0 h.2 is.fit (λ entry e. lane.lanes_propose (λ (l : MemoryLane). l.bytes) kernel.lanes (types_in kernel.state) kernel.state.store new fs b edit entry e is.fit)
-    fits (MakeRoot b) h = gives_keeps (λ s. FitLives (λ (l : MemoryLane). l.bytes) kernel.lanes s.lives) (make_root_of kernel.state.store fs b) kernel.state.store new h.0 h.2 is.fit (λ entry e. lane.lanes_make_root (λ (l : MemoryLane). l.bytes) kernel.lanes kernel.state.store new fs b entry e is.fit)
-    fits DropRoot h = gives_keeps (λ s. FitLives (λ (l : MemoryLane). l.bytes) kernel.lanes s.lives) (drop_root_of (types_in kernel.state) kernel.state.store fs) kernel.state.store new h.0 h.2 is.fit (λ entry e. lane.lanes_drop_root (λ (l : MemoryLane). l.bytes) kernel.lanes (types_in kernel.state) kernel.state.store new fs entry e is.fit)
-    fits (Forget b) h = gives_exactly_keeps (λ s. FitLives (λ (l : MemoryLane). l.bytes) kernel.lanes s.lives) (forget_of (types_in kernel.state) kernel.state.store fs b) kernel.state.store new h.0 h.2 is.fit (λ done e. lane.lanes_forget (λ (l : MemoryLane). l.bytes) kernel.lanes (types_in kernel.state) kernel.state.store new fs b done e is.fit)
+    fits (Init ty bytes) h = gives_keeps (λ s. FitLives (λ (l : MemoryLane). l.bytes) kernel.lanes s.lives) (init_of (types_in kernel.state) kernel.state.store fs ty bytes) kernel.state.store new h.0 h.2 is.fit (λ made e. lemmas.lanes_init (λ (l : MemoryLane). l.bytes) kernel.lanes (types_in kernel.state) kernel.state.store new fs ty bytes made e is.fit)
+    fits (Propose b edit) h = gives_keeps (λ s. FitLives (λ (l : MemoryLane). l.bytes) kernel.lanes s.lives) (propose_of (types_in kernel.state) kernel.state.store fs b edit) kernel.state.store new h.0 h.2 is.fit (λ entry e. lemmas.lanes_propose (λ (l : MemoryLane). l.bytes) kernel.lanes (types_in kernel.state) kernel.state.store new fs b edit entry e is.fit)
+    fits (MakeRoot b) h = gives_keeps (λ s. FitLives (λ (l : MemoryLane). l.bytes) kernel.lanes s.lives) (make_root_of kernel.state.store fs b) kernel.state.store new h.0 h.2 is.fit (λ entry e. lemmas.lanes_make_root (λ (l : MemoryLane). l.bytes) kernel.lanes kernel.state.store new fs b entry e is.fit)
+    fits DropRoot h = gives_keeps (λ s. FitLives (λ (l : MemoryLane). l.bytes) kernel.lanes s.lives) (drop_root_of (types_in kernel.state) kernel.state.store fs) kernel.state.store new h.0 h.2 is.fit (λ entry e. lemmas.lanes_drop_root (λ (l : MemoryLane). l.bytes) kernel.lanes (types_in kernel.state) kernel.state.store new fs entry e is.fit)
+    fits (Forget b) h = gives_exactly_keeps (λ s. FitLives (λ (l : MemoryLane). l.bytes) kernel.lanes s.lives) (forget_of (types_in kernel.state) kernel.state.store fs b) kernel.state.store new h.0 h.2 is.fit (λ done e. lemmas.lanes_forget (λ (l : MemoryLane). l.bytes) kernel.lanes (types_in kernel.state) kernel.state.store new fs b done e is.fit)
     fits (Read b) h = subst (λ (s : StoreState). FitLives (λ (l : MemoryLane). l.bytes) kernel.lanes s.lives) (sym h.1) is.fit
     fits Root h = subst (λ (s : StoreState). FitLives (λ (l : MemoryLane). l.bytes) kernel.lanes s.lives) (sym h.1) is.fit
     fits (Kind b) h = subst (λ (s : StoreState). FitLives (λ (l : MemoryLane). l.bytes) kernel.lanes s.lives) (sym h.1) is.fit
@@ -66,11 +65,11 @@ module _ (kernel : KernelValue MemoryLane) (tickets : Tickets) (is : IsWorld ker
     still same = subst (λ (s : StoreState). HaveSameFlights kernel.state.store.lives s.lives) (sym same) (λ b. refl)
 
     flies_on : (call : Call) → Answers (types_in kernel.state) kernel.state.store fs call new answer → HaveSameFlights kernel.state.store.lives new.lives
-    flies_on (Init ty bytes) h = gives_keeps (λ s. HaveSameFlights kernel.state.store.lives s.lives) (init_of (types_in kernel.state) kernel.state.store fs ty bytes) kernel.state.store new h.0 h.2 (λ b. refl) (λ made e. flight.flights_init (types_in kernel.state) kernel.state.store new fs ty bytes made e)
-    flies_on (Propose b edit) h = gives_keeps (λ s. HaveSameFlights kernel.state.store.lives s.lives) (propose_of (types_in kernel.state) kernel.state.store fs b edit) kernel.state.store new h.0 h.2 (λ b. refl) (λ entry e. flight.flights_propose (types_in kernel.state) kernel.state.store new is.holds.state fs b edit entry e)
-    flies_on (MakeRoot b) h = gives_keeps (λ s. HaveSameFlights kernel.state.store.lives s.lives) (make_root_of kernel.state.store fs b) kernel.state.store new h.0 h.2 (λ b. refl) (λ entry e. flight.flights_make_root (types_in kernel.state) kernel.state.store new is.holds.state fs b entry e)
-    flies_on DropRoot h = gives_keeps (λ s. HaveSameFlights kernel.state.store.lives s.lives) (drop_root_of (types_in kernel.state) kernel.state.store fs) kernel.state.store new h.0 h.2 (λ b. refl) (λ entry e. flight.flights_drop_root (types_in kernel.state) kernel.state.store new is.holds.state fs entry e)
-    flies_on (Forget b) h = gives_exactly_keeps (λ s. HaveSameFlights kernel.state.store.lives s.lives) (forget_of (types_in kernel.state) kernel.state.store fs b) kernel.state.store new h.0 h.2 (λ b. refl) (λ done e. flight.flights_forget (types_in kernel.state) kernel.state.store new fs b done e)
+    flies_on (Init ty bytes) h = gives_keeps (λ s. HaveSameFlights kernel.state.store.lives s.lives) (init_of (types_in kernel.state) kernel.state.store fs ty bytes) kernel.state.store new h.0 h.2 (λ b. refl) (λ made e. lemmas.flights_init (types_in kernel.state) kernel.state.store new fs ty bytes made e)
+    flies_on (Propose b edit) h = gives_keeps (λ s. HaveSameFlights kernel.state.store.lives s.lives) (propose_of (types_in kernel.state) kernel.state.store fs b edit) kernel.state.store new h.0 h.2 (λ b. refl) (λ entry e. lemmas.flights_propose (types_in kernel.state) kernel.state.store new is.holds.state fs b edit entry e)
+    flies_on (MakeRoot b) h = gives_keeps (λ s. HaveSameFlights kernel.state.store.lives s.lives) (make_root_of kernel.state.store fs b) kernel.state.store new h.0 h.2 (λ b. refl) (λ entry e. lemmas.flights_make_root (types_in kernel.state) kernel.state.store new is.holds.state fs b entry e)
+    flies_on DropRoot h = gives_keeps (λ s. HaveSameFlights kernel.state.store.lives s.lives) (drop_root_of (types_in kernel.state) kernel.state.store fs) kernel.state.store new h.0 h.2 (λ b. refl) (λ entry e. lemmas.flights_drop_root (types_in kernel.state) kernel.state.store new is.holds.state fs entry e)
+    flies_on (Forget b) h = gives_exactly_keeps (λ s. HaveSameFlights kernel.state.store.lives s.lives) (forget_of (types_in kernel.state) kernel.state.store fs b) kernel.state.store new h.0 h.2 (λ b. refl) (λ done e. lemmas.flights_forget (types_in kernel.state) kernel.state.store new fs b done e)
     flies_on (Read b) h = still h.1
     flies_on Root h = still h.1
     flies_on (Kind b) h = still h.1
@@ -109,10 +108,10 @@ module _ (kernel : KernelValue MemoryLane) (tickets : Tickets) (is : IsWorld ker
 
     pub begin_world : IsWorld begun_kernel begun_tickets
     begin_world =
-        let flights = flight.flights_begun kernel.state.store new b given begun in
+        let flights = lemmas.flights_begun kernel.state.store new b given begun in
         record {
           holds = step_keeps (world_of kernel tickets) (Begin b) (Begun ticket.count) (world_of begun_kernel begun_tickets) tt is.holds begin_step;
-          fit = lane.lanes_begun (λ (l : MemoryLane). l.bytes) kernel.lanes kernel.state.store new b given begun is.fit;
+          fit = lemmas.lanes_begun (λ (l : MemoryLane). l.bytes) kernel.lanes kernel.state.store new b given begun is.fit;
           calm = λ c l at. elim (cases_eq c b) [
             | inl same ↦ absurd (none-some l (sym (place_at-same kernel.lanes b None (slice_get_within kernel.lanes b (Some ticket.lane) home)) ∙ (ap (place_at (slice_set kernel.lanes b None)) (sym same) ∙ full_place (slice_set kernel.lanes b None) c l at)))
             | inr other ↦ is.calm c l (full_get kernel.lanes c l (sym (place_at-other kernel.lanes b c None other) ∙ full_place (slice_set kernel.lanes b None) c l at))
@@ -270,11 +269,11 @@ module _ (kernel : KernelValue MemoryLane) (tickets : Tickets) (is : IsWorld ker
 
       pub finish_world : IsWorld finished_kernel finished_tickets
       finish_world =
-          let flights = flight.flights_settled (types_in kernel.state) kernel.state.store new b ticket.lane.bytes done is.holds.state settled in
+          let flights = lemmas.flights_settled (types_in kernel.state) kernel.state.store new b ticket.lane.bytes done is.holds.state settled in
           let same_bytes : lane'.bytes ≡ ticket.lane.bytes = ap (λ (l : MemoryLane). l.bytes) read in
           record {
             holds = step_keeps (world_of kernel tickets) (Finish b) (Finished done.0 done.1) (world_of finished_kernel finished_tickets) tt is.holds finish_step;
-            fit = lane.lanes_settled (types_in kernel.state) (λ (l : MemoryLane). l.bytes) kernel.lanes kernel.state.store new b lane' done is.holds.state (ap (settled_of kernel.state.store b) same_bytes ∙ settled) is.fit;
+            fit = lemmas.lanes_settled (types_in kernel.state) (λ (l : MemoryLane). l.bytes) kernel.lanes kernel.state.store new b lane' done is.holds.state (ap (settled_of kernel.state.store b) same_bytes ∙ settled) is.fit;
             calm = λ c l at. elim (cases_eq c b) [
               | inl same ↦
                   let it : lane' ≡ l = same_Some lane' l (sym (place_at-same kernel.lanes b (Some lane') (slice_get_within kernel.lanes b None away)) ∙ (ap (place_at (slice_set kernel.lanes b (Some lane'))) (sym same) ∙ full_place (slice_set kernel.lanes b (Some lane')) c l at)) in

@@ -7,7 +7,7 @@ use Rattle.xn_model.specs.Results.{Gives, GivesExactly}
 use Rattle.xn_model.specs.Calls.{Edit, init_of, propose_of, make_root_of, drop_root_of, begun_of, begun_place, settled_of}
 use Rattle.xn_state.specs.States.{StateValue, types_in}
 use Rattle.xn_model.proofs.ForCallers.{gives_keeps, gives_exactly-ok, gives_exactly-err, map_ok, init_keeps, propose_keeps, make_root_keeps, drop_root_keeps, begun_keeps, settled_keeps}
-use Rattle.xn_model.proofs.ForCallers as lane
+use Rattle.xn_model.proofs.ForCallers as lemmas
 use Rattle.xn_kernel.specs.Kernels.{IsKernel}
 use Rattle.xn_kernel.proofs.Homes.{home, begun_idle}
 
@@ -21,31 +21,31 @@ module _ {L : Type 0} (read : L → List ℕ) (lanes : List (Option L)) (old new
 
   pub init_leaves : (fs ty : ℕ) (bytes : List ℕ) (result : Result (ℕ × ℕ) Refusal) → Gives (init_of (types_in old) old.store fs ty bytes) old.store new.store result → IsKernel read lanes new
   init_leaves fs ty bytes result h = with_table lanes (gives_keeps (Leaves lanes) (init_of (types_in old) old.store fs ty bytes) old.store new.store result h is
-      (λ made e. record { rules = (init_keeps (types_in old) old.store is.rules fs ty bytes made new.store e).consistent; fit = lane.lanes_init read lanes (types_in old) old.store new.store fs ty bytes made e is.fit }))
+      (λ made e. record { rules = (init_keeps (types_in old) old.store is.rules fs ty bytes made new.store e).consistent; fit = lemmas.lanes_init read lanes (types_in old) old.store new.store fs ty bytes made e is.fit }))
 
   pub make_root_leaves : (fs b : ℕ) (result : Result ℕ Refusal) → fs < 32 → Gives (make_root_of old.store fs b) old.store new.store result → IsKernel read lanes new
   make_root_leaves fs b result few h = with_table lanes (gives_keeps (Leaves lanes) (make_root_of old.store fs b) old.store new.store result h is
-      (λ entry e. record { rules = (make_root_keeps (types_in old) old.store is.rules fs few b entry new.store e).consistent; fit = lane.lanes_make_root read lanes old.store new.store fs b entry e is.fit }))
+      (λ entry e. record { rules = (make_root_keeps (types_in old) old.store is.rules fs few b entry new.store e).consistent; fit = lemmas.lanes_make_root read lanes old.store new.store fs b entry e is.fit }))
 
   pub propose_leaves : (fs b : ℕ) (edit : Edit) (result : Result ℕ Refusal) → Gives (propose_of (types_in old) old.store fs b edit) old.store new.store result → IsKernel read lanes new
   propose_leaves fs b edit result h = with_table lanes (gives_keeps (Leaves lanes) (propose_of (types_in old) old.store fs b edit) old.store new.store result h is
-      (λ entry e. record { rules = (propose_keeps (types_in old) old.store is.rules fs b edit entry new.store e).consistent; fit = lane.lanes_propose read lanes (types_in old) old.store new.store fs b edit entry e is.fit }))
+      (λ entry e. record { rules = (propose_keeps (types_in old) old.store is.rules fs b edit entry new.store e).consistent; fit = lemmas.lanes_propose read lanes (types_in old) old.store new.store fs b edit entry e is.fit }))
 
   pub drop_root_leaves : (fs : ℕ) (result : Result ℕ Refusal) → fs < 32 → Gives (drop_root_of (types_in old) old.store fs) old.store new.store result → IsKernel read lanes new
   drop_root_leaves fs result few h = with_table lanes (gives_keeps (Leaves lanes) (drop_root_of (types_in old) old.store fs) old.store new.store result h is
-      (λ entry e. record { rules = (drop_root_keeps (types_in old) old.store is.rules fs few entry new.store e).consistent; fit = lane.lanes_drop_root read lanes (types_in old) old.store new.store fs entry e is.fit }))
+      (λ entry e. record { rules = (drop_root_keeps (types_in old) old.store is.rules fs few entry new.store e).consistent; fit = lemmas.lanes_drop_root read lanes (types_in old) old.store new.store fs entry e is.fit }))
 
   pub begun_leaves : (b : ℕ) (given : List ℕ × ℕ) → GivesExactly (begun_of old.store b) old.store new.store (Ok given) → IsKernel read (slice_set lanes b None) new
   begun_leaves b given h =
       let e = gives_exactly-ok (begun_of old.store b) old.store new.store given h in
-      with_table (slice_set lanes b None) (record { rules = (begun_keeps (types_in old) old.store is.rules b given new.store e).consistent; fit = lane.lanes_begun read lanes old.store new.store b given e is.fit })
+      with_table (slice_set lanes b None) (record { rules = (begun_keeps (types_in old) old.store is.rules b given new.store e).consistent; fit = lemmas.lanes_begun read lanes old.store new.store b given e is.fit })
 
   pub settled_leaves : (b : ℕ) (here : L) (bytes : List ℕ) (done : ℕ × ℕ) → bytes ≡ read here → GivesExactly (settled_of old.store b bytes) old.store new.store (Ok done) → IsKernel read (slice_set lanes b (Some here)) new
   settled_leaves b here bytes done read_is h =
       let e = gives_exactly-ok (settled_of old.store b bytes) old.store new.store done h in
       let there = subst (λ m. settled_of old.store b m ≡ Ok (done, new.store)) read_is e in
       with_table (slice_set lanes b (Some here))
-      (record { rules = (settled_keeps (types_in old) old.store is.rules b bytes done new.store e).0; fit = lane.lanes_settled (types_in old) read lanes old.store new.store b here done is.rules there is.fit })
+      (record { rules = (settled_keeps (types_in old) old.store is.rules b bytes done new.store e).0; fit = lemmas.lanes_settled (types_in old) read lanes old.store new.store b here done is.rules there is.fit })
 
   pub refused_leaves : {A : Type 0} (r : Result (A × StoreState) Refusal) (refusal : Refusal) → GivesExactly r old.store new.store (Err refusal) → IsKernel read lanes new
   refused_leaves r refusal h = with_table lanes (subst (Leaves lanes) (sym (gives_exactly-err r old.store new.store refusal h)) is)
