@@ -46,6 +46,8 @@ mod fault;
 mod memory;
 mod shell;
 mod step;
+#[cfg(test)]
+mod tests;
 mod transcript;
 mod words;
 
