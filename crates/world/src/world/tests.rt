@@ -7,7 +7,7 @@ use disk::{BLOCK_LEN, MemLane};
 use std::alloc::{AllocError, Global};
 use std::test::Fail;
 use templates::{FormatFault, Template, read_block};
-use xn_kernel::{EditId, Fs, Kernel, Landed, Refusal, Ticket};
+use xn_kernel::{DrainStop, EditId, Fs, Kernel, Landed, Refusal, Ticket};
 
 /// A block that begins with `ABC`.
 fn letters() -> [u8; 512] {
@@ -126,6 +126,77 @@ fn a_write_that_was_not_landed_makes_nothing_durable(rt: HostRuntime) -> Result<
 }
 
 #[test]
+fn a_block_that_cannot_be_read_back_stays_in_flight(rt: HostRuntime) -> Result<(), Fail> {
+    let owner = fs(0)?;
+    let mut kernel = fresh_kernel(rt.alloc(), 32, &[])?;
+    assert!(rt; init(&mut kernel, owner, 2) == Ok((1, EditId(1))));
+    let Ok(mut ticket) = kernel.begin(1) else {
+        return Err("the write of block 1 is refused".into());
+    };
+    ticket.fail_next_read();
+    let written = ticket.land().is_ok();
+    let Err((ticket, first)) = kernel.finish(ticket) else {
+        return Err("block 1 is read back".into());
+    };
+    let second = landed_of(kernel.finish(ticket));
+    assert!(rt; written && first == Refusal::Device);
+    assert!(rt;
+        second
+            == Some(Landed {
+                durable: 1,
+                freed: 0
+            })
+    );
+    Ok(())
+}
+
+/// How many writes a drain finished, why it stopped, and whether it gave a ticket out, which is given up; `None` where it ended
+/// well.
+fn stop_of(drained: Result<u32, DrainStop<MemLane>>) -> Option<(u32, Refusal, bool)> {
+    match drained {
+        Ok(_) => None,
+        Err(
+            DrainStop {
+                writes,
+                ticket,
+                refusal,
+            },
+        ) => match ticket {
+            None => Some((writes, refusal, false)),
+            Some(ticket) => {
+                let _lane = ticket.into_lane();
+                Some((writes, refusal, true))
+            }
+        },
+    }
+}
+
+/// Lets the next write of block 1 fail, which then holds the new bytes or the old ones. Whether that was done.
+fn fail_block_1(kernel: &mut Kernel<MemLane>, new_bytes_stay: bool) -> bool {
+    let Ok(mut ticket) = kernel.begin(1) else {
+        return false;
+    };
+    ticket.fail_next_write(new_bytes_stay);
+    landed_of(kernel.finish(ticket)).is_some()
+}
+
+#[test]
+fn a_drain_stops_where_a_write_fails(rt: HostRuntime) -> Result<(), Fail> {
+    let owner = fs(0)?;
+    let mut kernel = fresh_kernel(rt.alloc(), 32, &[])?;
+    assert!(rt; init(&mut kernel, owner, 2) == Ok((1, EditId(1))));
+    assert!(rt; fail_block_1(&mut kernel, false));
+    assert!(rt; stop_of(kernel.drain()) == Some((0, Refusal::Device, false)));
+    assert!(rt; fail_block_1(&mut kernel, true));
+    assert!(rt; stop_of(kernel.drain()).is_none());
+    assert_eq!(rt; kernel.pending(owner), 0);
+    assert!(rt; make_root(&mut kernel, owner, 1) == Ok(EditId(2)));
+    assert!(rt; refusal(&mut kernel, 0).is_none());
+    assert!(rt; stop_of(kernel.drain()) == Some((0, Refusal::InFlight, false)));
+    Ok(())
+}
+
+#[test]
 fn refusals_of_clients_come_in_their_order(rt: HostRuntime) -> Result<(), Fail> {
     let owner = fs(0)?;
     let other = fs(1)?;
@@ -159,6 +230,10 @@ fn events_of_a_list_are_run_in_their_order(rt: HostRuntime) -> Result<(), Fail> 
         Event::Finish(1),
         Event::Finish(1),
         Event::Call(owner, Call::Floor),
+        Event::Begin(0),
+        Event::Fail(0, false),
+        Event::Finish(0),
+        Event::Call(owner, Call::Drain),
     ];
     let replies = world.run(&events)?;
     let want = [
@@ -173,6 +248,13 @@ fn events_of_a_list_are_run_in_their_order(rt: HostRuntime) -> Result<(), Fail> 
         }),
         Reply::NoTicket,
         Reply::Answered(Answer::Floor(2)),
+        Reply::Begun { entries: 1 },
+        Reply::Fault,
+        Reply::Finished(Landed {
+            durable: 0,
+            freed: 0,
+        }),
+        Reply::Answered(Answer::Drain(Ok(1))),
     ];
     assert!(rt; replies.as_slice() == want.as_slice());
     let image = world.image()?;
