@@ -1,12 +1,11 @@
-// The first script, step by step: by a kernel over lanes in memory, and by a world.
+// Lanes that fail, lists of events, and disks that are not made.
 
 use super::World;
 use crate::format::fresh_kernel;
 use crate::{Answer, Call, Event, Reply};
 use disk::{BLOCK_LEN, MemLane};
-use std::alloc::{AllocError, Global};
 use std::test::Fail;
-use templates::{FormatFault, Template, read_block};
+use templates::FormatFault;
 use xn_kernel::{DrainStop, EditId, Fs, Kernel, Landed, Refusal, Ticket};
 
 /// A block that begins with `ABC`.
@@ -62,67 +61,6 @@ fn landed_of(finished: Result<Landed, (Ticket<MemLane>, Refusal)>) -> Option<Lan
             None
         }
     }
-}
-
-#[test]
-fn a_kernel_writes_a_block_before_the_root_that_names_it(rt: HostRuntime) -> Result<(), Fail> {
-    let owner = fs(0)?;
-    let other = fs(1)?;
-    let mut kernel = fresh_kernel(rt.alloc(), 32, &[])?;
-    assert!(rt; init(&mut kernel, owner, 2) == Ok((1, EditId(1))));
-    assert!(rt; make_root(&mut kernel, owner, 1) == Ok(EditId(2)));
-    assert_eq!(rt; floor(&kernel, owner), 1);
-    assert_eq!(rt; floor(&kernel, other), 3);
-    assert!(rt; refusal(&mut kernel, 0) == Some(Refusal::NothingSafe));
-    assert!(rt; kernel.lane(1).is_some());
-    let Ok(mut ticket) = kernel.begin(1) else {
-        return Err("the write of block 1 is refused".into());
-    };
-    let (block, count) = (ticket.block(), ticket.count());
-    let before = *ticket.lane().bytes();
-    let away = kernel.lane(1).is_none();
-    let written = ticket.land().is_ok();
-    let after = *ticket.lane().bytes();
-    let landed = landed_of(kernel.finish(ticket));
-    assert_eq!(rt; (block, count), (1, 1));
-    assert!(rt; before == [0; BLOCK_LEN] && away && written && after == letters());
-    assert!(rt;
-        landed
-            == Some(Landed {
-                durable: 1,
-                freed: 0
-            })
-    );
-    assert_eq!(rt; floor(&kernel, owner), 2);
-    assert!(rt; refusal(&mut kernel, 32) == Some(Refusal::NoSuchBlock));
-    assert!(rt; refusal(&mut kernel, 9) == Some(Refusal::NotInUse));
-    assert!(rt; refusal(&mut kernel, 1) == Some(Refusal::NothingSafe));
-    assert!(rt; refusal(&mut kernel, 0).is_none());
-    // That ticket was given up, so block 0 is in flight for ever.
-    assert!(rt; refusal(&mut kernel, 0) == Some(Refusal::InFlight));
-    Ok(())
-}
-
-#[test]
-fn a_write_that_was_not_landed_makes_nothing_durable(rt: HostRuntime) -> Result<(), Fail> {
-    let owner = fs(3)?;
-    let mut kernel = fresh_kernel(rt.alloc(), 32, &[])?;
-    assert!(rt; init(&mut kernel, owner, 2) == Ok((1, EditId(1))));
-    let Ok(ticket) = kernel.begin(1) else {
-        return Err("the write of block 1 is refused".into());
-    };
-    // Nothing was landed: no entry is durable, and the block can be begun again.
-    let landed = landed_of(kernel.finish(ticket));
-    assert!(rt;
-        landed
-            == Some(Landed {
-                durable: 0,
-                freed: 0
-            })
-    );
-    assert_eq!(rt; floor(&kernel, owner), 1);
-    assert!(rt; refusal(&mut kernel, 1).is_none());
-    Ok(())
 }
 
 #[test]
@@ -197,26 +135,6 @@ fn a_drain_stops_where_a_write_fails(rt: HostRuntime) -> Result<(), Fail> {
 }
 
 #[test]
-fn refusals_of_clients_come_in_their_order(rt: HostRuntime) -> Result<(), Fail> {
-    let owner = fs(0)?;
-    let other = fs(1)?;
-    let mut kernel = fresh_kernel(rt.alloc(), 32, &[])?;
-    assert!(rt; init(&mut kernel, owner, 1) == Err(Refusal::BadType));
-    assert!(rt; init(&mut kernel, owner, 3) == Err(Refusal::BadType));
-    assert!(rt; make_root(&mut kernel, owner, 32) == Err(Refusal::NoSuchBlock));
-    assert!(rt; make_root(&mut kernel, owner, 1) == Err(Refusal::NotInUse));
-    assert!(rt; make_root(&mut kernel, owner, 0) == Err(Refusal::NotYours));
-    for block in 1..32u32 {
-        assert!(rt; init(&mut kernel, owner, 2) == Ok((block, EditId(u64::from(block)))));
-    }
-    assert!(rt; init(&mut kernel, owner, 2) == Err(Refusal::NoSpace));
-    assert!(rt; make_root(&mut kernel, other, 5) == Err(Refusal::NotYours));
-    assert!(rt; make_root(&mut kernel, owner, 5) == Ok(EditId(32)));
-    assert!(rt; make_root(&mut kernel, owner, 5) == Err(Refusal::RootTaken));
-    Ok(())
-}
-
-#[test]
 fn events_of_a_list_are_run_in_their_order(rt: HostRuntime) -> Result<(), Fail> {
     let owner = fs(0)?;
     let mut world = World::format(rt.alloc(), 32, &[])?;
@@ -261,41 +179,6 @@ fn events_of_a_list_are_run_in_their_order(rt: HostRuntime) -> Result<(), Fail> 
     assert_eq!(rt; image.len(), 16384);
     assert!(rt; image.as_slice()[512..1024] == bytes[..]);
     assert!(rt; image.as_slice()[..8] == [0x58, 0x4e, 0x39, 0x37, 32, 0, 0, 0][..]);
-    Ok(())
-}
-
-/// Templates with one of a list: a block may point to one more, of type 3, and is zero from byte 4 on.
-fn list_templates(alloc: Global) -> Result<Vec<Template>, AllocError> {
-    let code = [
-        0x58, 0x54, 0x05, 0x01, 0x0c, 0x01, 0x00, 0x00, 0x0e, 0x00, 0x01, 0x00, 0x01, 0x02, 0x03,
-        0x00, 0x0d, 0x01, 0x02, 0x00, 0x11, 0x00, 0x00, 0x00, 0x01, 0x00, 0x04, 0x00,
-    ];
-    let mut block = [0; BLOCK_LEN];
-    block[..28].copy_from_slice(&code);
-    let Ok(template) = read_block(alloc, &block) else {
-        return Err(AllocError);
-    };
-    let mut templates = Vec::new(alloc);
-    templates.push(template)?;
-    Ok(templates)
-}
-
-/// The kernel of a fresh disk of 32 blocks with that template.
-fn list_kernel(alloc: Global) -> Result<Kernel<MemLane>, FormatFault> {
-    let templates = list_templates(alloc)?;
-    fresh_kernel(alloc, 32, &templates)
-}
-
-#[test]
-fn a_template_is_a_type_and_its_block_is_nobodys(rt: HostRuntime) -> Result<(), Fail> {
-    let owner = fs(0)?;
-    let mut kernel = list_kernel(rt.alloc())?;
-    assert!(rt; make_root(&mut kernel, owner, 1) == Err(Refusal::NotYours));
-    assert!(rt; init(&mut kernel, owner, 4) == Err(Refusal::BadType));
-    assert!(rt; init(&mut kernel, owner, 3) == Err(Refusal::ClaimWrong));
-    assert!(rt; kernel.init(owner, 3, &[0; BLOCK_LEN]) == Ok((2, EditId(1))));
-    assert!(rt; init(&mut kernel, owner, 2) == Ok((3, EditId(2))));
-    assert!(rt; refusal(&mut kernel, 1) == Some(Refusal::NothingSafe));
     Ok(())
 }
 
