@@ -2,11 +2,7 @@
 use Rattle.std.proofs.Common.{◌≡◌, ℕ, ◌+◌, ◌<◌, Bool, true, false, List, [], ◌∷◌, ◌++◌, length, take, get_or, refl, sym, ◌∙◌, ap, arith}
 use Rattle.std.specs.Prelude.{◌==◌, if◌then◌else◌}
 use Rattle.std.proofs.lemmas.List.{take_more}
-<<<<<<<< HEAD:crates/xnsim_line/proofs/PrintedBytes.antt
-use Rattle.xnsim_line.specs.Bytes.{used_length}
-========
 use Rattle.script.specs.Bytes.{used_length}
->>>>>>>> calls:crates/script/proofs/PrintedBytes.antt
 
 -- one more byte, at the end
 used_push : (xs : List ℕ) (x : ℕ) → used_length (xs ++ x ∷ []) ≡ (if x == 0 then used_length xs else length xs + 1)

@@ -3,11 +3,7 @@
 ghost use Rattle.std.specs.Prelude.{◌≡◌, ◌<◌, ◌≤◌, length, take, OnOk};
 ghost use Rattle.std.specs.List.{flat_map};
 ghost use Rattle.std.specs.Io.KnownBytes.{Appends};
-<<<<<<<< HEAD:crates/xnsim_line/src/bytes.rt
-ghost use Rattle.xnsim_line.specs.Bytes.{bytes_text, hex_digit, hex_pair, used_length};
-========
 ghost use Rattle.script.specs.Bytes.{bytes_text, hex_digit, hex_pair, used_length};
->>>>>>>> calls:crates/script/src/bytes.rt
 
 use arrayvec::ArrayVec;
 use std::io;

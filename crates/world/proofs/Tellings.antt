@@ -1,6 +1,6 @@
 -- What a world's runs tell.
-use Rattle.std.proofs.Common.{◌≡◌, ℕ, ◌≤◌, List, [], ◌∷◌, map, length, replicate, refl, sym, subst}
-use Rattle.std.specs.Prelude.{All, None}
+use Rattle.std.proofs.Common.{◌≡◌, ℕ, ◌≤◌, List, [], ◌∷◌, map, length, refl, sym, subst}
+use Rattle.std.specs.Prelude.{All}
 use Rattle.std.specs.List.{AllByRecursion}
 use Rattle.xn_model.specs.Images.{IsDiskSize}
 use Rattle.xn_model.specs.Mounts.{recovered}

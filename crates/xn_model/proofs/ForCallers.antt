@@ -4,17 +4,14 @@
 pub use Rattle.xn_model.proofs.Lists.{Contains-cons, Contains-drop, Contains-head, Contains-none, Contains-tail, Contains-take, all_at, any_at, any_from, blocks_of_at, blocks_of_has, filter_at, filter_from, has_number_at, has_number_from, has_pair_at, has_pair_from, last_of}
 pub use Rattle.xn_model.proofs.Bytes.{blocks_read, length-joined}
 pub use Rattle.xn_model.proofs.Tests.{IsOwn, fresh_from, fs_from, given_ok, map_ok, never_ok, no_states_from, none_from, own_then, same_ok, then_ok, unless_ok, unless_passed}
-
 -- block 0
 pub use Rattle.xn_model.proofs.RootBytes.{different_apart, not_empty, range_at, roots_from, slot_other, slot_same, slot_stays}
-
 -- lives and their changes
 pub use Rattle.xn_model.proofs.Lives.{accepted_is, begun_is, change_same, each_at, each_back, each_forth, free_at, free_back, free_forth, freed_is, life_from, place_from, set_other, set_same, settled_is, settled_none}
 pub use Rattle.xn_model.proofs.States.{accepted_other, accepted_same, fresh_owned, owned_dropped, status_cases}
 pub use Rattle.xn_model.proofs.Changes.{accept, accepted, bared, each, free, settled, with_begun}
 pub use Rattle.xn_model.proofs.Carry.{settled_fewer, settled_last}
 pub use Rattle.xn_model.proofs.Orders.{below_next}
-
 -- calls
 pub use Rattle.xn_model.proofs.Given.{gives_exactly-err, gives_exactly-ok, gives_exactly_keeps, gives_keeps}
 pub use Rattle.xn_model.proofs.Init.{init_keeps, lowest_is}
@@ -23,18 +20,15 @@ pub use Rattle.xn_model.proofs.Roots.{drop_root_keeps, make_root_keeps}
 pub use Rattle.xn_model.proofs.Begin.{begun_keeps}
 pub use Rattle.xn_model.proofs.Ends.{Settles, drops_at, forget_keeps, settled_keeps, settles_place}
 pub use Rattle.xn_model.proofs.Floors.{entries_counted, floor_low, floor_met}
-
 -- writes, lanes and drains
 pub use Rattle.xn_model.proofs.Flights.{flights_begun, flights_drop_root, flights_forget, flights_init, flights_make_root, flights_propose, flights_settled}
 pub use Rattle.xn_model.proofs.LaneCalls.{forgets, lanes_begun, lanes_drop_root, lanes_forget, lanes_init, lanes_make_root, lanes_mounted, lanes_propose, lanes_settled}
 pub use Rattle.xn_model.proofs.Lands.{begin_keeps, land_keeps, told_keeps}
 pub use Rattle.xn_model.proofs.Drains.{drain_ends, picked_life}
 pub use Rattle.xn_model.proofs.Rounds.{none_pending, none_picked, picked_begins, round_leaves, wrote_out}
-
 -- images and mounts
 pub use Rattle.xn_model.proofs.Reached.{agreement, among_states, carried_pending, durable_in, in_range, positive}
 pub use Rattle.xn_model.proofs.Walk.{recovered_is}
 pub use Rattle.xn_model.proofs.Mount.{mount_holds}
-
 -- runs
 pub use Rattle.xn_model.proofs.Runs.{step_keeps, world_sound, write_out_keeps}

@@ -3,10 +3,8 @@ pub mod Lists
 pub mod Bytes
 pub mod Tests
 pub mod Least
-
 -- block 0
 pub mod RootBytes
-
 -- lives and their changes
 pub mod Lives
 pub mod Statuses
@@ -16,7 +14,6 @@ pub mod Accept
 pub mod AcceptedLives
 pub mod Carry
 pub mod Orders
-
 -- calls
 pub mod Given
 pub mod Init
@@ -25,7 +22,6 @@ pub mod Roots
 pub mod Begin
 pub mod Ends
 pub mod Floors
-
 -- writes, lanes and drains
 pub mod Writes
 pub mod Flights
@@ -34,7 +30,6 @@ pub mod LaneCalls
 pub mod Lands
 pub mod Drains
 pub mod Rounds
-
 -- images and mounts
 pub mod Reached
 pub mod Bare
@@ -42,11 +37,9 @@ pub mod Queue
 pub mod Walk
 pub mod FoundBlocks
 pub mod Mount
-
 -- runs
 pub mod Acts
 pub mod Runs
 pub mod Examples
-
 -- what crates above cite
 pub mod ForCallers

@@ -1,15 +1,9 @@
 use Rattle.std.proofs.Common.{◌≡◌, ◌∙◌, ◌<◌, sym, arith, get_or, length, true, false, length-take}
 use Rattle.std.proofs.lemmas.Bool.{eq-eqb, ne_eqb}
 use Rattle.std.proofs.lemmas.List.{get_or_default}
-<<<<<<<< HEAD:crates/xnsim_line/proofs/bytes/used_length/Answers.antt
-use Rattle.xnsim_line.proofs.PrintedBytes.{used_more}
-use Rattle.xnsim_line.proofs.bytes.used_length.Goals as goal
-use Rattle.xnsim_line.proofs.bytes.used_length.Goals.{then-bytes-place-ne0, else-bytes-place-ne0}
-========
 use Rattle.script.proofs.PrintedBytes.{used_more}
 use Rattle.script.proofs.bytes.used_length.Goals as goal
 use Rattle.script.proofs.bytes.used_length.Goals.{then-bytes-place-ne0, else-bytes-place-ne0}
->>>>>>>> calls:crates/script/proofs/bytes/used_length/Answers.antt
 
 pub loop-place-preserved : goal.loop-place-preserved
 loop-place-preserved c =
