@@ -20,7 +20,7 @@ pub use fault::{FormatFault, TemplateFault};
 pub use format::format_image;
 pub use root::{
     CATALOGUE_PLACES, MAX_BLOCKS, MIN_BLOCKS, ROOT_SLOTS, count_of, mark_is_right, pointer,
-    root_bytes, root_slot, with_root_slot,
+    root_bytes, root_slot, slot_start, with_root_slot,
 };
 pub use table::Table;
 pub use template::Template;

@@ -11,7 +11,7 @@ use crate::assembling::{make_template, print_template};
 use crate::fault::Fault;
 use crate::files::Files;
 use crate::formatting::{all_templates, made_image, read_files};
-use crate::image::{GREATEST_IMAGE_LEN, LEAST_BLOCKS};
+use crate::image::GREATEST_IMAGE_LEN;
 use crate::invocation::{Invocation, read};
 use crate::program::verify_text;
 use crate::replay::{run_on_image, run_script};
@@ -19,7 +19,7 @@ use script::parse;
 use std::alloc::Global;
 use std::io::{ErrorKind, Read, Write};
 use std::{io, str};
-use templates::write_block;
+use templates::{MIN_BLOCKS, write_block};
 use udf_verify::Role;
 
 /// The name of standard input in what is told.
@@ -130,7 +130,7 @@ fn run_input<'a, R: Read, W: Write>(
         });
     }
     let events = parse(alloc, text_of(text.as_slice(), STANDARD_INPUT)?)?;
-    run_script(alloc, LEAST_BLOCKS, &[], events, out)?;
+    run_script(alloc, MIN_BLOCKS, &[], events, out)?;
     Ok(())
 }
 

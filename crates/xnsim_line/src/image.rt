@@ -10,18 +10,13 @@ ghost use Rattle.xnsim_line.specs.Images.{IsFresh};
 
 use disk::BLOCK_LEN;
 use std::alloc::{AllocError, Global};
-use templates::{FormatFault, Template, TemplateFault, format_image, pointer, read_block};
-
-/// The least and the greatest number of blocks of a disk.
-pub const LEAST_BLOCKS: u32 = 32;
-
-pub const GREATEST_BLOCKS: u32 = 32768;
+use templates::{
+    CATALOGUE_PLACES, FormatFault, MAX_BLOCKS, MIN_BLOCKS, Template, TemplateFault, format_image,
+    pointer, read_block,
+};
 
 /// How many bytes the image of the largest disk has.
-pub const GREATEST_IMAGE_LEN: usize = BLOCK_LEN * GREATEST_BLOCKS as usize;
-
-/// The greatest number of templates of a disk.
-const GREATEST_TEMPLATES: usize = 16;
+pub const GREATEST_IMAGE_LEN: usize = BLOCK_LEN * MAX_BLOCKS as usize;
 
 /// What a fresh disk was formatted with.
 #[derive(Drop)]
@@ -65,7 +60,7 @@ fn named_templates(alloc: Global, image: &[u8]) -> Result<Option<Vec<Template>>,
 {
     let root = block_at(image, 0);
     let mut templates = Vec::new(alloc);
-    for place in 0..GREATEST_TEMPLATES {
+    for place in 0..CATALOGUE_PLACES {
         if pointer(&root, place) == 0 {
             return Ok(Some(templates));
         }
@@ -97,7 +92,7 @@ pub fn fresh_disk(alloc: Global, image: &[u8]) -> Result<Option<FreshDisk>, Allo
         (λ disk. IsFresh image.now disk.blocks disk.templates.items)) }
 {
     let blocks = image.len() / BLOCK_LEN;
-    if blocks < LEAST_BLOCKS as usize || blocks > GREATEST_BLOCKS as usize {
+    if blocks < MIN_BLOCKS as usize || blocks > MAX_BLOCKS as usize {
         return Ok(None);
     }
     let Some(templates) = named_templates(alloc, image)? else {

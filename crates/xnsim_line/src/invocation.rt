@@ -7,11 +7,11 @@ ghost use Rattle.xnsim_line.specs.CommandLine.{no_commands, program, two_words, 
 ghost use Rattle.xnsim_line.specs.Lines.{CutsFileSystem, IsName, IsLine, IsNoLine, IsTemplateWords, IsThreeWords};
 ghost use Rattle.xnsim_line.specs.Programs.{role_name};
 
-use crate::image::{GREATEST_BLOCKS, LEAST_BLOCKS};
 use clap::error::ErrorKind;
 use clap::{Arg, ArgMatches, Command, Error};
 use script::parse_number;
 use std::alloc::{AllocError, Global};
+use templates::{MAX_BLOCKS, MIN_BLOCKS};
 use udf_verify::Role;
 
 /// What a command line asks for.
@@ -157,8 +157,8 @@ fn parse_blocks(word: &str) -> Option<u32>
     ensures spelled { IfSome result (λ blocks. (word.now ≡ decimal blocks) × (32 ≤ blocks) × (blocks ≤ 32768)) }
     ensures readable { (blocks : ℕ) → 32 ≤ blocks → blocks ≤ 32768 → word.now ≡ decimal blocks → result ≡ Some blocks }
 {
-    let blocks = parse_number(word, u64::from(GREATEST_BLOCKS))? as u32;
-    if blocks < LEAST_BLOCKS {
+    let blocks = parse_number(word, u64::from(MAX_BLOCKS))? as u32;
+    if blocks < MIN_BLOCKS {
         return None;
     }
     Some(blocks)

@@ -10,10 +10,10 @@ ghost use Rattle.xn_state.specs.Plans.{make_root_plan};
 ghost use Rattle.xn_state.specs.Proposals.{drop_root_plan};
 ghost use Rattle.xn_state.specs.States.{types_in};
 
-use crate::root::{slot_undo, with_slot};
+use crate::root::slot_undo;
 use crate::state::State;
 use edit_list::{EditId, Fs, Undo};
-use templates::root_slot;
+use templates::{root_slot, with_root_slot};
 use udf_run::Pair;
 use xn_model::Refusal;
 
@@ -44,7 +44,7 @@ impl State {
             return Err(Refusal::Exhausted);
         }
         let ty = facts.ty;
-        Ok((with_slot(root, fs, Pair { block, ty }), ty))
+        Ok((with_root_slot(root, fs.index(), Pair { block, ty }), ty))
     }
 
     /// Sets the file system's root slot, in block 0, to a fresh block. Refused are, in this order, a block past the end of the
@@ -86,7 +86,7 @@ impl State {
             return Err(Refusal::Exhausted);
         }
         let none = Pair { block: 0, ty: 0 };
-        Ok((with_slot(root, fs, none), slot.block))
+        Ok((with_root_slot(root, fs.index(), none), slot.block))
     }
 
     /// Empties the file system's root slot, in block 0: the block that stood there is dropped. Refused are, in this order, an

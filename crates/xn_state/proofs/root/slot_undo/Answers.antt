@@ -9,5 +9,5 @@ returns c =
     let m = c.args.block.now in
     let fs = c.args.fs.number in
     let undo = c.in_ok-push.ensures
-    ∙ (λ i. c.none-undo.ensures i ++ record { offset = 72 + 8 * c.index.ensures.value i; bytes = c.slot_bytes.ensures i } ∷ []) in
+    ∙ (λ i. c.none-undo.ensures i ++ record { offset = (c.slot_start-at.ensures ∙ ap (λ x. 72 + 8 * x) c.index.ensures.value) i; bytes = c.slot_bytes.ensures i } ∷ []) in
     λ root. ap (patched (with_slot m fs root)) undo ∙ slot_undone m fs root c.told-block c.args.fs.few

@@ -1,8 +1,0 @@
-use Rattle.std.proofs.Common.{arith}
-use Rattle.std.proofs.lemmas.Grind.{common_steps}
-use Rattle.xn_model.specs.Root.{with_slot}
-use Rattle.xn_state.proofs.root.with_slot.Goals as goal
-
-pub returns : goal.returns
-unfolding with_slot
-returns c = grind (arith, common_steps)
