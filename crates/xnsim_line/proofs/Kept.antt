@@ -12,9 +12,9 @@ use Rattle.xnsim_line.specs.Files.{Held}
 use Rattle.xnsim_line.specs.Formatting.{PrintsMade}
 use Rattle.xnsim_line.specs.Programs.{PrintsAccepted}
 use Rattle.xnsim_line.specs.Runs.{IsMountedRun, IsPrintedRun}
-use Rattle.script.specs.declared.command.Command.{Command}
 use Rattle.templates.specs.Templates.{TemplateValue}
 use Rattle.udf_verify.specs.declared.fault.Role.{Role}
+use Rattle.world.specs.declared.event.Event.{Event}
 
 keeps_kept : (old mid new : Option (List ℕ)) → Keeps old mid → Keeps mid new → Keeps old new
 keeps_kept None mid new kept flushed = tt
@@ -29,14 +29,14 @@ appends_kept (Some xs) (Some ys) None bytes printed flushed = absurd flushed
 appends_kept (Some xs) (Some ys) (Some zs) bytes printed flushed = flushed ∙ printed
 
 module _ (old mid new : Option (List ℕ)) (flushed : Keeps mid new) where
-  run_kept : (blocks : ℕ) (templates : List TemplateValue) (commands : List Command) (image : List ℕ) →
-      IsPrintedRun blocks templates commands old mid image → IsPrintedRun blocks templates commands old new image
-  run_kept blocks templates commands image run =
+  run_kept : (blocks : ℕ) (templates : List TemplateValue) (events : List Event) (image : List ℕ) →
+      IsPrintedRun blocks templates events old mid image → IsPrintedRun blocks templates events old new image
+  run_kept blocks templates events image run =
       record { replies = run.replies; after = run.after; run = run.run; printed = appends_kept old mid new _ run.printed flushed; left = run.left }
 
-  mounted_kept : (image : List ℕ) (commands : List Command) (after : List ℕ) → IsMountedRun image commands old mid after → IsMountedRun image commands old new after
-  mounted_kept image commands after run =
-      record { blocks = run.blocks; templates = run.templates; fresh = run.fresh; run = run_kept run.blocks run.templates commands after run.run }
+  mounted_kept : (image : List ℕ) (events : List Event) (after : List ℕ) → IsMountedRun image events old mid after → IsMountedRun image events old new after
+  mounted_kept image events after run =
+      record { blocks = run.blocks; templates = run.templates; fresh = run.fresh; run = run_kept run.blocks run.templates events after run.run }
 
   template_kept : (held held_after : Held) (block_name owns_text size_text : List ℕ) →
       PrintsTemplate held held_after block_name owns_text size_text old mid → PrintsTemplate held held_after block_name owns_text size_text old new
@@ -57,11 +57,11 @@ module _ (old mid new : Option (List ℕ)) (flushed : Keeps mid new) where
   done_kept input held held_after Bare done = (
     record {
       text = done.0.text;
-      commands = done.0.commands;
+      events = done.0.events;
       image = done.0.image;
       read = done.0.read;
       script = done.0.script;
-      run = run_kept _ _ done.0.commands done.0.image done.0.run;
+      run = run_kept _ _ done.0.events done.0.image done.0.run;
     },
     done.1,
   )
@@ -79,12 +79,12 @@ module _ (old mid new : Option (List ℕ)) (flushed : Keeps mid new) where
   done_kept input held held_after (Run image script) done = record {
     image = done.image;
     text = done.text;
-    commands = done.commands;
+    events = done.events;
     after = done.after;
     image_held = done.image_held;
     script_held = done.script_held;
     script = done.script;
-    run = mounted_kept done.image done.commands done.after done.run;
+    run = mounted_kept done.image done.events done.after done.run;
     written = done.written;
   }
   done_kept input held held_after (Asm owns size block) done = record {

@@ -20,7 +20,7 @@ returns-clause-done g c =
     record {
       image = image;
       text = c.in_ok-text_of.field-0.now;
-      commands = c.in_ok-commands.commands.items;
+      events = c.in_ok-events.events.items;
       after = c.in_ok-after.after.items;
       image_held = whole_held held c.args.image.now image 16777217 (subst (IsStartHeld held c.args.image.now 16777217) (sym same) start) few;
       script_held = search rules;
