@@ -1,7 +1,7 @@
 // A set of block numbers.
 
-ghost use Rattle.std.specs.Prelude.{◌≡◌, ℕ, ◌<◌, ◌≤◌, ◌^◌, Bool, true, false, length, replicate, count_by, position, unwrap_or, slice_get, slice_set, IfOk};
-ghost use Rattle.block_set.specs.Members.{is_member};
+ghost use Rattle.std.specs.Prelude.{◌≡◌, ℕ, ◌<◌, ◌≤◌, ◌^◌, Bool, true, false, length, replicate, count_by, position, unwrap_or, slice_get, slice_set, IfOk, IfSome, IfNone};
+ghost use Rattle.block_set.specs.Members.{is_member, IsLeastFrom, HasNoneFrom};
 
 use crate::words::Words;
 use std::alloc::{AllocError, Global};
@@ -68,6 +68,19 @@ impl BlockSet {
         ensures { result ≡ position is_member self.now }
     {
         let word = self.filled.lowest()?;
+        Some(self.words.lowest_in(word) as u32)
+    }
+
+    /// The least member that is not below a number.
+    pub fn least_from(&self, from: u32) -> Option<u32>
+        ensures some { IfSome result (IsLeastFrom self.now from) }
+        ensures none { IfNone result (HasNoneFrom self.now from) }
+    {
+        let at = from as usize;
+        if let Some(block) = self.words.lowest_in_from(at) {
+            return Some(block as u32);
+        }
+        let word = self.filled.lowest_from(at / 64 + 1)?;
         Some(self.words.lowest_in(word) as u32)
     }
 

@@ -1,10 +1,9 @@
 -- Entries found by their numbers.
-use Rattle.std.proofs.Common.{◌≡◌, ℕ, zero, suc, ◌+◌, ◌<◌, ◌≤◌, Bool, true, false, List, [], ◌∷◌, length, take, get_or, Option, Some, None, refl, sym, ◌∙◌, ap, arith, slice_get}
+use Rattle.std.proofs.Common.{◌≡◌, ℕ, zero, suc, ◌+◌, ◌<◌, Bool, true, false, List, [], ◌∷◌, length, take, get_or, Option, Some, None, refl, sym, ◌∙◌, ap, arith, slice_get}
 use Rattle.std.specs.Prelude.{◌||◌, ◌==◌, option_map}
 use Rattle.std.specs.List.{list_any}
 use Rattle.std.proofs.lemmas.Bool.{false≢true}
 use Rattle.std.proofs.lemmas.List.{take_all}
-use Rattle.std.proofs.lemmas.List.Folds.{list_any_more}
 use Rattle.std.proofs.lemmas.Option.{unwrap_or-slice_get}
 use Rattle.xn_model.specs.Lives.{BlockState, Life, Lives, life_at, alive_and, has_entry, is_pending}
 use Rattle.xn_model.specs.Calls.{first_pending, life_pending}
@@ -57,15 +56,6 @@ pub all_numbers : (o : Option Life) (m n : ℕ) → m ≡ life_pending o → has
 all_numbers None m n all = refl
 all_numbers (Some l) m n all = ap (λ xs. has_entry xs n) (take_all m l.pending (omega (arith, all)))
 
--- the entry is pending in one of the first blocks
-abbrev pub is_in_front : Lives → ℕ → ℕ → Bool
-is_in_front lives n k = list_any (alive_and (λ l. has_entry l.pending n)) (take k lives)
-
-pub front_more : (lives : Lives) (n k : ℕ) → k < length lives → is_in_front lives n k ≡ false → alive_and (λ l. has_entry l.pending n) (life_at lives k) ≡ false → is_in_front lives n (k + 1) ≡ false
-front_more lives n k within before here =
-    list_any_more (alive_and (λ l. has_entry l.pending n)) lives k None within
-    ∙ (λ i. before i || (ap (alive_and (λ l. has_entry l.pending n)) (sym (unwrap_or-slice_get lives k None)) ∙ here) i)
-
 pub any_at : {X : Type 0} (p : X → Bool) (xs : List X) (k : ℕ) (d : X) → k < length xs → p (get_or xs k d) ≡ true → list_any p xs ≡ true
 any_at p [] k d within here = absurd (omega arith)
 any_at p (x ∷ xs) zero d within here = ap (λ t. t || list_any p xs) here
@@ -74,6 +64,3 @@ any_at p (x ∷ xs) (suc k) d within here = ap (λ t. p x || t) (any_at p xs k d
 pub pending_found : (lives : Lives) (n k : ℕ) → k < length lives → alive_and (λ l. has_entry l.pending n) (life_at lives k) ≡ true → is_pending lives n ≡ true
 pending_found lives n k within here =
     any_at (alive_and (λ l. has_entry l.pending n)) lives k None within (ap (alive_and (λ l. has_entry l.pending n)) (sym (unwrap_or-slice_get lives k None)) ∙ here)
-
-pub pending_nowhere : (lives : Lives) (n k : ℕ) → length lives ≤ k → is_in_front lives n k ≡ false → is_pending lives n ≡ false
-pending_nowhere lives n k all none = sym (ap (list_any (alive_and (λ l. has_entry l.pending n))) (take_all k lives all)) ∙ none

@@ -1,2 +1,3 @@
 pub mod Safety
 pub mod Numbers
+pub mod Pending

@@ -1,13 +1,15 @@
 // Whether the entry is there that another one comes after.
 
-ghost use Rattle.std.specs.Prelude.{◌≡◌, option_map, slice_get};
+ghost use Rattle.std.specs.Prelude.{◌≡◌, map, option_map, slice_get};
 ghost use Rattle.xn_model.specs.Lives.{alive_and, has_entry, is_after_met, is_pending, life_at};
 ghost use Rattle.xn_model.specs.Calls.{first_pending};
 ghost use Rattle.block_cache.specs.Claims.{claim_of};
 ghost use Rattle.block_cache.specs.Views.{pending_at};
 ghost use Rattle.dependencies.specs.Numbers.{is_number};
+ghost use Rattle.dependencies.specs.Pending.{is_dirty};
 
 use block_cache::{Cache, EditId};
+use block_set::BlockSet;
 
 /// Whether the pending entry at a place of a block has this number.
 fn is_number_at(cache: &Cache, block: u32, place: usize, number: u64) -> bool
@@ -38,27 +40,42 @@ fn is_pending_in(cache: &Cache, block: u32, number: u64) -> bool
     has_number(cache, block, cache.pending(block), number)
 }
 
-/// Whether the entry of this number is pending in some block.
-fn is_pending(cache: &Cache, number: u64) -> bool
+/// Whether the entry of this number is pending in some block. The walk is over the blocks for which something is pending.
+fn is_pending(cache: &Cache, dirty: &BlockSet, number: u64) -> bool
+    requires { dirty.now ≡ map is_dirty cache.now }
     ensures { result ≡ is_pending cache.now number }
 {
-    for block in 0..cache.blocks() {
+    let blocks = cache.blocks();
+    let mut from = 0;
+    while from < blocks {
+        let Some(block) = dirty.least_from(from) else {
+            return false;
+        };
         if is_pending_in(cache, block, number) {
             return true;
         }
+        from = block + 1;
     }
     false
 }
 
 /// Whether an entry that comes after another one may be written, behind the first ones of its block: the other stands among
 /// these, or is pending nowhere.
-pub fn is_after_met(cache: &Cache, block: u32, earlier: usize, after: Option<EditId>) -> bool
+pub fn is_after_met(
+    cache: &Cache,
+    dirty: &BlockSet,
+    block: u32,
+    earlier: usize,
+    after: Option<EditId>,
+) -> bool
+    requires { dirty.now ≡ map is_dirty cache.now }
     ensures { result ≡ is_after_met cache.now (first_pending earlier (life_at cache.now block)) after }
 {
     match after {
         None => true,
         Some(other) => {
-            has_number(cache, block, earlier, other.number()) || !is_pending(cache, other.number())
+            has_number(cache, block, earlier, other.number())
+                || !is_pending(cache, dirty, other.number())
         }
     }
 }

@@ -4,7 +4,7 @@ use Rattle.std.proofs.lemmas.Bool.{cases_eq}
 use Rattle.std.proofs.lemmas.List.{length-set}
 use Rattle.std.proofs.lemmas.Option.{same_Some, none-some, get_or_from_slice_get, slice_get_within}
 use Rattle.disk.specs.Images.{HoldsBytes, block_at, with_block}
-use Rattle.disk.specs.Mem.{MemoryLane, HoldsImage, fresh_lane}
+use Rattle.disk.specs.Mem.{MemoryLane, AreFreshLanes, fresh_lane}
 use Rattle.disk.proofs.SliceGet.{slice_get-set_same, slice_get-set_other}
 use Rattle.disk.proofs.BlockAt.{block_at-same, length-with_block, block_at-with_block_same, block_at-with_block_other}
 
@@ -17,7 +17,7 @@ HoldsBytes-same bytes_of places a b x y = block_at-same a b (length places) x.wh
     sym p.2 ∙ (ap bytes_of (same_Some p.0 q.0 (same_Some (Some p.0) (Some q.0) (sym p.1 ∙ q.1))) ∙ q.2))
 
 -- fresh lanes over the blocks of an image hold it
-pub HoldsBytes-fresh : (image : List ℕ) (places : List (Option MemoryLane)) → HoldsImage image places → HoldsBytes (λ lane. lane.bytes) places image
+pub HoldsBytes-fresh : (image : List ℕ) (places : List (Option MemoryLane)) → AreFreshLanes image places → HoldsBytes (λ lane. lane.bytes) places image
 HoldsBytes-fresh image places x = record {
   whole = x.whole;
   each = λ k h. (fresh_lane k (block_at image k), x.each k h, refl);

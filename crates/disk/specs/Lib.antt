@@ -1,3 +1,4 @@
 pub mod Images
 pub mod Lanes
 pub mod Mem
+pub mod Plans

@@ -32,7 +32,7 @@ abbrev pub write_failed : MemoryLane → List ℕ → MemoryLane
 write_failed lane new = record lane { bytes = bytes_after_fault lane.write_fault lane.bytes new; faults = next_count lane.faults; write_fault = None }
 
 -- every place has a lane, fresh, over its block of the image
-pub record HoldsImage (image : List ℕ) (places : List (Option MemoryLane)) : Type 0 where
+pub record AreFreshLanes (image : List ℕ) (places : List (Option MemoryLane)) : Type 0 where
   pub whole : length image ≡ 512 * length places
   pub each : (k : ℕ) → k < length places → slice_get places k ≡ Some (Some (fresh_lane k (block_at image k)))
 

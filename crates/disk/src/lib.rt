@@ -4,10 +4,9 @@
 mod lane;
 mod lanes;
 mod mem;
+mod plan;
 
 pub use lane::{BLOCK_LEN, DeviceFault, Lane};
 pub use lanes::Lanes;
 pub use mem::{MemDisk, MemLane};
-
-#[cfg(test)]
-mod tests;
+pub use plan::PlanLane;

@@ -1,7 +1,7 @@
 ghost use Rattle.std.specs.Prelude.{◌≡◌, ◌≢◌, IsErr, Contains, ◌⊎◌, ℕ, ◌+◌, ◌*◌, ◌/◌, ◌%◌, ◌^◌, ◌<◌, ◌≤◌, List, length, Option, Some, None, IfOk, OnOk, OnErr, IfErr, IsOk, IsNone, IsSome, IfSome, ◌↔◌, slice_get, slice_range, IsTrue, true, false};
 ghost use Rattle.disk.specs.Lanes.{CountsOne};
 ghost use Rattle.disk.specs.Images.{HoldsBytes, block_at};
-ghost use Rattle.disk.specs.Mem.{MemoryLane, HoldsImage, fresh_lane, read_failed, write_failed, memory_read, memory_write};
+ghost use Rattle.disk.specs.Mem.{MemoryLane, AreFreshLanes, fresh_lane, read_failed, write_failed, memory_read, memory_write};
 
 use crate::lane::{BLOCK_LEN, DeviceFault, Lane};
 use crate::lanes::Lanes;
@@ -166,7 +166,7 @@ impl MemDisk {
 
     /// A fresh lane for each block, all at home. `Err` gives the disk back and comes only for want of memory.
     pub fn split(self, alloc: Global) -> Result<Lanes<MemLane>, MemDisk>
-        ensures ok { IfOk result (λ lanes. HoldsImage self lanes) }
+        ensures ok { IfOk result (λ lanes. AreFreshLanes self lanes) }
         ensures holds { IfOk result (λ lanes. HoldsBytes (λ lane. lane.bytes) lanes self) }
         ensures err { IfErr result (λ disk. disk ≡ self) }
     {

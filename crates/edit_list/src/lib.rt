@@ -7,8 +7,6 @@ mod fs;
 pub mod law;
 mod patch;
 mod patches;
-#[cfg(test)]
-mod tests;
 mod undo;
 
 pub use edit::Edit;

@@ -46,8 +46,6 @@ mod fault;
 mod memory;
 mod shell;
 mod step;
-#[cfg(test)]
-mod tests;
 mod transcript;
 mod words;
 

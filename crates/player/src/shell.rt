@@ -6,6 +6,7 @@ use crate::memory::MemoryFiles;
 use crate::step::Step;
 use crate::words::words_of;
 use std::alloc::{AllocError, Global};
+use std::thread::Threads;
 use xnsim_line::{Files, line};
 
 /// What a command did.
@@ -49,6 +50,7 @@ fn bytes_of_lines(alloc: Global, lines: &[&str]) -> Result<Vec<u8>, AllocError> 
 
 /// Does what the simulator does with these words, and these bytes on its standard input.
 fn simulate(
+    rt: &(impl Threads + Sync),
     alloc: Global,
     files: &mut MemoryFiles,
     words: &[&str],
@@ -60,6 +62,7 @@ fn simulate(
     }
     let (mut out, mut err) = (Vec::new(alloc), Vec::new(alloc));
     let status = line(
+        rt,
         alloc,
         owned.as_slice(),
         files,
@@ -72,6 +75,7 @@ fn simulate(
 
 /// Does what the simulator does with the bytes of a file on its standard input.
 fn simulate_from(
+    rt: &(impl Threads + Sync),
     alloc: Global,
     files: &mut MemoryFiles,
     words: &[&str],
@@ -80,7 +84,7 @@ fn simulate_from(
     let Some(input) = files.read(alloc, name) else {
         return Ok(None);
     };
-    Ok(Some(simulate(alloc, files, words, input.as_slice())?))
+    Ok(Some(simulate(rt, alloc, files, words, input.as_slice())?))
 }
 
 /// Writes the bytes that a text spells to a file.
@@ -262,16 +266,17 @@ fn run_on_files(
 
 /// Does what these words ask for.
 fn run_words(
+    rt: &(impl Threads + Sync),
     alloc: Global,
     files: &mut MemoryFiles,
     words: &[&str],
     given: &[&str],
 ) -> Result<Option<Outcome>, AllocError> {
     match words {
-        ["xnsim", words @ .., "<", name] => simulate_from(alloc, files, words, name),
+        ["xnsim", words @ .., "<", name] => simulate_from(rt, alloc, files, words, name),
         ["xnsim", words @ ..] => {
             let input = bytes_of_lines(alloc, given)?;
-            Ok(Some(simulate(alloc, files, words, input.as_slice())?))
+            Ok(Some(simulate(rt, alloc, files, words, input.as_slice())?))
         }
         _ => run_on_files(alloc, files, words, given),
     }
@@ -279,6 +284,7 @@ fn run_words(
 
 /// Does what a command of a transcript asks for.
 pub fn run_step(
+    rt: &(impl Threads + Sync),
     alloc: Global,
     files: &mut MemoryFiles,
     step: &Step<'_>,
@@ -287,5 +293,5 @@ pub fn run_step(
     let Some(words) = words_of(alloc, step.command)? else {
         return Err(fault);
     };
-    run_words(alloc, files, words.as_slice(), step.given)?.ok_or(fault)
+    run_words(rt, alloc, files, words.as_slice(), step.given)?.ok_or(fault)
 }

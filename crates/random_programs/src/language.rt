@@ -3,8 +3,8 @@
 // written from the rules of the language alone.
 
 use crate::answers::Answers;
-use crate::numbers::Numbers;
 use crate::programs::{changed, random_bytes, random_program};
+use pseudo_random::Numbers;
 use std::alloc::{AllocError, Global};
 use std::str;
 use udf_asm::assemble;

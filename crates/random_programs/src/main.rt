@@ -5,7 +5,6 @@
 
 mod answers;
 mod language;
-mod numbers;
 mod programs;
 mod spellings;
 

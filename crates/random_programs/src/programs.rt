@@ -2,7 +2,7 @@
 
 ghost use Rattle.std.specs.Prelude.{◌<◌, length};
 
-use crate::numbers::Numbers;
+use pseudo_random::Numbers;
 use std::alloc::{AllocError, Global};
 use udf_code::Op;
 

@@ -2,8 +2,8 @@
 
 ghost use Rattle.std.specs.Prelude.{◌+◌, ◌≤◌, length};
 
-use crate::numbers::Numbers;
 use arrayvec::ArrayVec;
+use pseudo_random::Numbers;
 use std::alloc::{AllocError, Global};
 use templates::{Template, read_block, write_block};
 use udf_asm::{assemble, print};

@@ -35,3 +35,4 @@ no_edit fs block words none (event.Begin b) spells = absurd (omega (arith, ap fi
 no_edit fs block words none (event.Land b) spells = absurd (omega (arith, ap first_byte spells.1))
 no_edit fs block words none (event.Fail b stays) spells = absurd (omega (arith, ap first_byte spells.1))
 no_edit fs block words none (event.Finish b) spells = absurd (omega (arith, ap first_byte spells.1))
+no_edit fs block words none event.Crash spells = absurd (omega (arith, ap first_byte spells))

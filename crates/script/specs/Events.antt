@@ -84,6 +84,7 @@ Spells words (event.Begin block) = (number : List ℕ) × (words ≡ codes "begi
 Spells words (event.Land block) = (number : List ℕ) × (words ≡ codes "land" ∷ number ∷ []) × SpellsNumber number block
 Spells words (event.Fail block stays) = (number : List ℕ) × (words ≡ codes "fail" ∷ number ∷ stays_word stays ∷ []) × SpellsNumber number block
 Spells words (event.Finish block) = (number : List ℕ) × (words ≡ codes "finish" ∷ number ∷ []) × SpellsNumber number block
+Spells words event.Crash = words ≡ codes "crash" ∷ []
 
 -- words that spell no event
 abbrev pub SpellNothing : List (List ℕ) → Type 0

@@ -49,7 +49,9 @@ reply_text (reply.Begun entries) = codes "begun " ++ decimal entries
 reply_text reply.Landed = codes "landed"
 reply_text reply.Fault = codes "fault"
 reply_text (reply.Finished landed) = codes "durable " ++ decimal landed.durable ++ codes " freed " ++ decimal landed.freed
+reply_text (reply.Mounted reached free) = codes "mounted " ++ decimal reached ++ codes " " ++ decimal free
 reply_text reply.NoTicket = codes "no ticket"
+reply_text reply.Down = codes "down"
 reply_text (reply.Refused refusal) = codes "refused " ++ refusal_text refusal
 
 -- the line of a reply

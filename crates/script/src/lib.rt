@@ -9,8 +9,6 @@ mod hex;
 mod number;
 mod print;
 mod script;
-#[cfg(test)]
-mod tests;
 
 pub use hex::parse_block;
 pub use number::parse_number;

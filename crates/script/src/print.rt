@@ -32,7 +32,9 @@ fn print_text<W: Write>(out: &mut W, reply: &Reply) -> io::Result<()>
         Reply::Finished(landed) => {
             write!(out, "durable {} freed {}", landed.durable, landed.freed)
         }
+        Reply::Mounted { reached, free } => write!(out, "mounted {reached} {free}"),
         Reply::NoTicket => write!(out, "no ticket"),
+        Reply::Down => write!(out, "down"),
         Reply::Refused(refusal) => print_refusal(out, *refusal),
     }
 }

@@ -151,7 +151,7 @@ fn parse_short(name: &str, word: &str) -> Option<Event>
     }
 }
 
-/// The event of a name alone, a call of file system 0.
+/// The event of a name alone: a crash, or a call of file system 0.
 fn parse_name(name: &str) -> Option<Event>
     ensures some { IfSome result (Spells (name.now ∷ [])) }
     ensures none { IfNone result (SpellNothing (name.now ∷ [])) }
@@ -160,6 +160,7 @@ fn parse_name(name: &str) -> Option<Event>
     match name {
         "pick" => Some(Event::Call(fs, Call::Pick)),
         "drain" => Some(Event::Call(fs, Call::Drain)),
+        "crash" => Some(Event::Crash),
         _ => None,
     }
 }

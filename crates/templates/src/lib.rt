@@ -10,8 +10,6 @@ pub mod law;
 pub mod root;
 pub mod table;
 pub mod template;
-#[cfg(test)]
-mod tests;
 mod words;
 
 pub use block::{read_block, write_block};

@@ -11,7 +11,7 @@ fn main(rt: HostRuntime) -> io::Result<ExitCode> {
     let mut lines: usize = 0;
     for name in names.iter() {
         let transcript = fs::read_to_string(&rt, name.as_str())?;
-        match play(alloc, transcript.as_str()) {
+        match play(&rt, alloc, transcript.as_str()) {
             Ok(played) => lines = lines.saturating_add(played),
             Err(fault) => {
                 println!(rt; "{name}: {fault}")?;

@@ -9,8 +9,6 @@ mod name;
 mod number;
 mod operands;
 mod printer;
-#[cfg(test)]
-mod tests;
 
 pub use crate::assembler::assemble;
 pub use crate::fault::{AsmFault, AsmKind};

@@ -8,8 +8,6 @@ pub mod op;
 pub mod opening;
 mod operands;
 pub mod structure;
-#[cfg(test)]
-mod tests;
 pub mod word;
 
 pub use crate::bytes::{WORD_LEN, decode, encode};

@@ -8,8 +8,6 @@ pub mod law;
 pub mod pair;
 pub mod run;
 mod step;
-#[cfg(test)]
-mod tests;
 
 pub use pair::Pair;
 pub use run::{owns, size};

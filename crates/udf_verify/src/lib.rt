@@ -14,8 +14,6 @@ mod open;
 mod rows;
 mod split;
 mod survey;
-#[cfg(test)]
-mod tests;
 pub mod verifier;
 mod written;
 

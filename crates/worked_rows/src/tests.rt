@@ -1,8 +1,10 @@
 use player::{PlayFault, play};
+use std::alloc::Global;
+use std::thread::Threads;
 
 /// Plays a transcript.
-fn plays(rt: &HostRuntime, transcript: &str) -> Result<(), PlayFault> {
-    play(rt.alloc(), transcript)?;
+fn plays(rt: &(impl Threads + Sync), alloc: Global, transcript: &str) -> Result<(), PlayFault> {
+    play(rt, alloc, transcript)?;
     Ok(())
 }
 
@@ -11,6 +13,7 @@ fn plays(rt: &HostRuntime, transcript: &str) -> Result<(), PlayFault> {
 fn a_program_has_a_greatest_cost(rt: HostRuntime) -> Result<(), PlayFault> {
     plays(
         &rt,
+        rt.alloc(),
         "$ cat > text <<EOF
 EOF
 $ xnsim verify text owns
@@ -46,6 +49,7 @@ status 1
 fn the_program_of_block_0_is_accepted(rt: HostRuntime) -> Result<(), PlayFault> {
     plays(
         &rt,
+        rt.alloc(),
         "$ cat > text <<EOF
 SET 1 4
 SET 2 8
@@ -84,6 +88,7 @@ accepted cost 391 emits 48
 fn a_load_stays_in_the_block(rt: HostRuntime) -> Result<(), PlayFault> {
     plays(
         &rt,
+        rt.alloc(),
         "$ cat > text <<EOF
 SET 1 508
 LD4 2 1
@@ -105,6 +110,7 @@ status 1
 fn a_sum_fits_32_bits(rt: HostRuntime) -> Result<(), PlayFault> {
     plays(
         &rt,
+        rt.alloc(),
         "$ cat > text <<EOF
 LD4 1 0
 ADD 2 1 1
@@ -120,6 +126,7 @@ status 1
 fn a_program_emits_at_most_128_pairs(rt: HostRuntime) -> Result<(), PlayFault> {
     plays(
         &rt,
+        rt.alloc(),
         "$ cat > text <<EOF
 FOR 1 129
 EMIT 1 0
@@ -143,6 +150,7 @@ accepted cost 257 emits 128
 fn a_branch_knows_that_a_divisor_is_not_0(rt: HostRuntime) -> Result<(), PlayFault> {
     plays(
         &rt,
+        rt.alloc(),
         "$ cat > text <<EOF
 LD1 1 0
 IFEQ 1 0
@@ -160,6 +168,7 @@ accepted cost 3 emits 0
 fn a_kept_register_stays_below_its_bound(rt: HostRuntime) -> Result<(), PlayFault> {
     plays(
         &rt,
+        rt.alloc(),
         "$ cat > text <<EOF
 SET 1 4
 FOR 2 10
@@ -205,6 +214,7 @@ status 1
 fn other_rules_of_programs(rt: HostRuntime) -> Result<(), PlayFault> {
     plays(
         &rt,
+        rt.alloc(),
         "$ cat > text <<EOF
 IFLT 0 1
 END
@@ -253,14 +263,21 @@ status 1
 fn disks_have_32_to_32768_blocks(rt: HostRuntime) -> Result<(), PlayFault> {
     plays(
         &rt,
+        rt.alloc(),
         "$ xnsim format disk 32
 blocks 32 templates 0
+$ xnsim check disk
+reached 1 free 31
 $ xnsim format disk 32768
 blocks 32768 templates 0
 $ wc -c disk
 16777216 disk
+$ xnsim check disk
+reached 1 free 32767
 $ xnsim format disk 32 --ffs
 blocks 32 templates 3
+$ xnsim check disk
+reached 4 free 28
 ",
     )
 }
@@ -269,7 +286,10 @@ blocks 32 templates 3
 fn a_root_is_written_behind_its_block(rt: HostRuntime) -> Result<(), PlayFault> {
     plays(
         &rt,
-        "$ xnsim <<EOF
+        rt.alloc(),
+        "$ xnsim format disk 32
+blocks 32 templates 0
+$ cat > script <<EOF
 init 0 2 414243
 root 0 1
 begin 0
@@ -282,6 +302,7 @@ land 0
 finish 0
 floor 0
 EOF
+$ xnsim run disk script
 block 1 edit 1
 edit 2
 refused 20 NothingSafe
@@ -293,6 +314,8 @@ begun 1
 landed
 durable 1 freed 0
 floor 3
+$ xnsim check disk
+reached 2 free 30
 ",
     )
 }
@@ -301,6 +324,7 @@ floor 3
 fn an_edit_does_what_it_claims(rt: HostRuntime) -> Result<(), PlayFault> {
     plays(
         &rt,
+        rt.alloc(),
         "$ xnsim format disk 32 --ffs
 blocks 32 templates 3
 $ cat > script <<EOF
@@ -332,6 +356,7 @@ edit 6
 fn a_block_is_written_without_edits_that_wait(rt: HostRuntime) -> Result<(), PlayFault> {
     plays(
         &rt,
+        rt.alloc(),
         "$ xnsim format disk 32 --ffs
 blocks 32 templates 3
 $ cat > script <<EOF
@@ -349,6 +374,8 @@ begin 4
 read 0 4
 land 4
 finish 4
+crash
+read 0 4
 EOF
 $ xnsim run disk script
 block 4 edit 1
@@ -365,6 +392,8 @@ begun 1
 0500000006
 landed
 durable 1 freed 0
+mounted 6 26
+05
 ",
     )
 }
@@ -373,6 +402,7 @@ durable 1 freed 0
 fn a_dropped_block_is_free_once_its_drop_is_durable(rt: HostRuntime) -> Result<(), PlayFault> {
     plays(
         &rt,
+        rt.alloc(),
         "$ xnsim <<EOF
 init 0 2 414243
 root 0 1
@@ -414,9 +444,115 @@ block 1 edit 5
 }
 
 #[test]
+fn a_landed_write_outlives_a_crash(rt: HostRuntime) -> Result<(), PlayFault> {
+    plays(
+        &rt,
+        rt.alloc(),
+        "$ xnsim <<EOF
+init 0 2 414243
+root 0 1
+begin 0
+begin 1
+land 1
+begin 0
+finish 1
+begin 0
+land 0
+finish 0
+floor 0
+edit 0 1 0=5a
+begin 1
+land 1
+crash
+read 0 1
+EOF
+block 1 edit 1
+edit 2
+refused 20 NothingSafe
+begun 1
+landed
+refused 20 NothingSafe
+durable 1 freed 0
+begun 1
+landed
+durable 1 freed 0
+floor 3
+edit 3
+begun 1
+landed
+mounted 2 30
+5a4243
+$ xnsim <<EOF
+init 0 2 414243
+root 0 1
+begin 0
+begin 1
+land 1
+begin 0
+finish 1
+begin 0
+land 0
+finish 0
+floor 0
+edit 0 1 0=5a
+begin 1
+crash
+read 0 1
+EOF
+block 1 edit 1
+edit 2
+refused 20 NothingSafe
+begun 1
+landed
+refused 20 NothingSafe
+durable 1 freed 0
+begun 1
+landed
+durable 1 freed 0
+floor 3
+edit 3
+begun 1
+mounted 2 30
+414243
+",
+    )
+}
+
+#[test]
+fn faults_of_images_are_found(rt: HostRuntime) -> Result<(), PlayFault> {
+    plays(
+        &rt,
+        rt.alloc(),
+        "$ xnsim format bare 32
+blocks 32 templates 0
+$ cp bare disk
+$ xxd -r - disk <<EOF
+48: 05000000020000000500000002
+EOF
+$ xnsim check disk
+fault 8 TwoOwners(5)
+status 1
+$ cp bare disk
+$ xxd -r - disk <<EOF
+48: 2000000002
+EOF
+$ xnsim check disk
+fault 7 OutOfRange(0, 32)
+status 1
+$ cp bare disk
+$ truncate -s 16383 disk
+$ xnsim check disk
+fault 2 BadLength
+status 1
+",
+    )
+}
+
+#[test]
 fn a_failed_write_leaves_the_new_bytes_or_the_old(rt: HostRuntime) -> Result<(), PlayFault> {
     plays(
         &rt,
+        rt.alloc(),
         "$ xnsim <<EOF
 init 0 2 414243
 root 0 1
@@ -491,6 +627,7 @@ begun 1
 fn a_block_has_at_most_64_pending_entries(rt: HostRuntime) -> Result<(), PlayFault> {
     plays(
         &rt,
+        rt.alloc(),
         "$ xnsim <<EOF
 init 0 2 -
 edit 0 1 0=41
@@ -633,6 +770,7 @@ begun 64
 fn calls_are_refused(rt: HostRuntime) -> Result<(), PlayFault> {
     plays(
         &rt,
+        rt.alloc(),
         "$ xnsim <<EOF
 init 0 2 414243
 root 0 1
@@ -687,6 +825,7 @@ floor 4
 fn an_edit_waits_for_another(rt: HostRuntime) -> Result<(), PlayFault> {
     plays(
         &rt,
+        rt.alloc(),
         "$ xnsim <<EOF
 init 0 2 -
 init 0 2 -
@@ -723,6 +862,7 @@ no ticket
 fn words_have_one_spelling(rt: HostRuntime) -> Result<(), PlayFault> {
     plays(
         &rt,
+        rt.alloc(),
         "$ cat > owns <<EOF
 SET 1 508
 LD4 2 1
@@ -749,6 +889,7 @@ status 1
 fn a_template_is_assembled(rt: HostRuntime) -> Result<(), PlayFault> {
     plays(
         &rt,
+        rt.alloc(),
         "$ cat > owns <<EOF
 LD4 1 0
 IFLT 0 1

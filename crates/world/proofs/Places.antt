@@ -25,8 +25,11 @@ set_still (x ∷ xs) zero o e = ap (λ y. y ∷ xs) (sym e)
 set_still (x ∷ xs) (suc b) o e = ap (λ ys. x ∷ ys) (set_still xs b o e)
 
 -- a place that is read by index
+pub place_of : {A : Type 0} (xs : List (Option A)) (b : ℕ) (d o : Option A) → b < length xs → o ≡ get_or xs b d → place_at xs b ≡ o
+place_of xs b d o within e = ap (λ y. unwrap_or y None) (slice_get-get_or xs b d within) ∙ sym e
+
 pub place_is : {A : Type 0} (xs : List (Option A)) (b : ℕ) (o : Option A) → b < length xs → o ≡ get_or xs b o → place_at xs b ≡ o
-place_is xs b o within e = ap (λ y. unwrap_or y None) (slice_get-get_or xs b o within) ∙ sym e
+place_is xs b o within e = place_of xs b o o within e
 
 pub full_place : {A : Type 0} (xs : List (Option A)) (b : ℕ) (x : A) → slice_get xs b ≡ Some (Some x) → place_at xs b ≡ Some x
 full_place xs b x e = ap (λ o. unwrap_or o None) e

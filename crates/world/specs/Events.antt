@@ -12,6 +12,7 @@ event_of (event.Begin block) = model.Begin block
 event_of (event.Land block) = model.Land block
 event_of (event.Fail block stays) = model.Fail block stays
 event_of (event.Finish block) = model.Finish block
+event_of event.Crash = model.Crash
 
 abbrev pub reply_of : Reply → model.Reply
 reply_of (reply.Answered answer) = reply_of_answer answer
@@ -19,5 +20,7 @@ reply_of (reply.Begun entries) = model.Begun entries
 reply_of reply.Landed = model.Landed
 reply_of reply.Fault = model.Fault
 reply_of (reply.Finished landed) = model.Finished landed.durable landed.freed
+reply_of (reply.Mounted reached free) = model.Mounted reached free
 reply_of reply.NoTicket = model.NoTicket
+reply_of reply.Down = model.Down
 reply_of (reply.Refused refusal) = model.Refused refusal

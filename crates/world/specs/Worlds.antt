@@ -1,15 +1,15 @@
 -- A world, as its kernel and its tickets make it.
-use Rattle.std.specs.Prelude.{◌≡◌, ℕ, List, length, Option, Some, Bool, false, option_map, slice_get, All}
-use Rattle.disk.specs.Mem.{MemoryLane, HoldsImage}
+use Rattle.std.specs.Prelude.{◌≡◌, ℕ, List, [], length, Option, Some, None, Bool, true, false, option_map, slice_get}
+use Rattle.disk.specs.Mem.{MemoryLane}
 use Rattle.xn_model.specs.Lives.{StoreState, life_at}
 use Rattle.xn_model.specs.Lanes.{FitLives}
 use Rattle.xn_model.specs.Flights.{flight_of}
 use Rattle.xn_model.specs.Worlds.{World, mounted_state}
-use Rattle.xn_model.specs.Images.{joined}
+use Rattle.xn_model.specs.Root.{HasBuiltIns}
+use Rattle.xn_model.specs.Images.{block_of, IsSound}
 use Rattle.xn_model.specs.Mounts.{recovered}
-use Rattle.templates.specs.Templates.{TemplateValue, IsTemplate}
-use Rattle.templates.specs.Tables.{TableValue, types_of}
-use Rattle.templates.specs.Formats.{formatted, table_of}
+use Rattle.templates.specs.Tables.{TableValue, table_of_image, types_of}
+use Rattle.crash_check.specs.Answers.{types_in}
 use Rattle.xn_model.specs.Rules.{Holds}
 use Rattle.xn_kernel.specs.Kernels.{KernelValue, TicketValue}
 use Rattle.world.specs.Disks.{image_of, IsCalm, ticket_at}
@@ -54,10 +54,28 @@ pub record IsWorld (kernel : KernelValue MemoryLane) (tickets : Tickets) : Type 
   pub flights : (b : ℕ) → ticket_flight (ticket_at tickets b) ≡ flight_of (life_at kernel.state.store.lives b)
   pub mine : (b : ℕ) (ticket : TicketValue MemoryLane) → ticket_at tickets b ≡ Some ticket → IsTicketOf kernel b ticket
 
--- the kernel of a fresh disk with these templates: each lane is at home, over its block's bytes
-pub record IsFresh (blocks : ℕ) (templates : List TemplateValue) (kernel : KernelValue MemoryLane) : Type 0 where
-  pub first : kernel.id ≡ 1
-  pub lanes : HoldsImage (joined (formatted blocks templates)) kernel.lanes
-  pub table : kernel.state.table ≡ table_of templates
-  pub store : kernel.state.store ≡ mounted_state (recovered (types_of (table_of templates)) (formatted blocks templates))
-  pub checked : All IsTemplate templates
+-- the types are those of the image's own catalogue
+abbrev pub HasOwnTypes : World → Type 0
+HasOwnTypes w = w.types ≡ types_in w.image
+
+-- a disk that was mounted, and one whose mount found no memory
+abbrev pub mounted_value : List (List ℕ) → WorldValue
+mounted_value image = record { image = image; table = table_of_image (block_of image); state = mounted_state (recovered (types_in image) image); down = false }
+
+abbrev pub down_value : List (List ℕ) → WorldValue
+down_value image = record (mounted_value image) { down = true }
+
+abbrev pub world_value : Option WorldValue → Option (List (List ℕ)) → WorldValue
+world_value (Some value) rest = value
+world_value None (Some image) = down_value image
+world_value None None = down_value []
+
+pub record IsSoundDisk (image : List (List ℕ)) : Type 0 where
+  pub built_ins : HasBuiltIns (types_in image)
+  pub sound : IsSound (types_in image) (length image) (block_of image)
+
+-- a world has a mounted disk, or, while it is down, one that is sound
+abbrev pub IsWorldOf : Option WorldValue → Option (List (List ℕ)) → Type 0
+IsWorldOf (Some value) rest = HasOwnTypes (world_with value)
+IsWorldOf None (Some image) = IsSoundDisk image
+IsWorldOf None None = ⊥

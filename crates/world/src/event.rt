@@ -15,4 +15,6 @@ pub enum Event {
     Fail(u32, bool),
     /// The block is read back, and the write ends.
     Finish(u32),
+    /// All that isn't on the disk is lost, and the disk is mounted anew.
+    Crash,
 }

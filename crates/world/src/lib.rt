@@ -2,12 +2,14 @@
 #![tactic(auto)]
 
 mod event;
-mod format;
 pub mod law;
+mod mounted;
 mod reply;
 mod ticket;
+mod unmounted;
 mod world;
 
+pub use crash_check::ImageFault;
 pub use event::Event;
 pub use reply::Reply;
 pub use world::World;

@@ -16,8 +16,12 @@ pub enum Reply {
     Fault,
     /// What the write did.
     Finished(Landed),
+    /// How many blocks the mount after a crash reached, and how many are free.
+    Mounted { reached: u32, free: u32 },
     /// No write of the block is under way.
     NoTicket,
+    /// The last crash's mount found no memory; only another crash is taken.
+    Down,
     /// The begin of the write was refused.
     Refused(Refusal),
 }

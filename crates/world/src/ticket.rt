@@ -43,6 +43,14 @@ impl DroppableTicket {
         ticket
     }
 
+    /// Takes the lane and gives the write up.
+    pub fn into_lane(self) -> MemLane
+        ensures lane { result ≡ self.lane }
+        ensures number { result.number ≡ self.block }
+    {
+        self.into_ticket().into_lane()
+    }
+
     /// The lane, for looking.
     pub fn lane(&self) -> &MemLane
         ensures { result.now ≡ self.now.lane }

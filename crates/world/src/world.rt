@@ -1,85 +1,117 @@
 // A world.
 
-ghost use Rattle.std.specs.Prelude.{◌≡◌, ◌<◌, length, map, replicate, None, IfOk, IfErr, MatchResult};
-ghost use Rattle.xn_model.specs.Images.{block_of, joined, IsSound};
+ghost use Rattle.std.specs.Prelude.{◌≡◌, ◌≢◌, ◌⊎◌, All, length, map, Err, IfOk, IfErr, MatchResult};
+ghost use Rattle.xn_model.specs.Images.{block_of, blocks_in, joined, IsSound};
 ghost use Rattle.xn_model.specs.BareDisks.{mounted_disk};
 ghost use Rattle.xn_model.specs.Worlds as model;
 ghost use Rattle.xn_model.specs.Rules.{Holds, Agrees};
 ghost use Rattle.xn_history.specs.Histories.{Histories};
 ghost use Rattle.xn_history.specs.Moments.{RunWhere, Anything, IsMoment};
 ghost use Rattle.xn_history.specs.Promises.{ImageHolds};
-ghost use Rattle.templates.specs.Tables.{types_of};
+ghost use Rattle.image_model.specs.Walk.{verdict};
+ghost use Rattle.image_model.specs.Report.{IsSoundImage};
+ghost use Rattle.templates.specs.Templates.{IsTemplate};
+ghost use Rattle.templates.specs.Tables.{table_of_image, types_of};
 ghost use Rattle.templates.specs.Formats.{formatted, format_fault, table_of, IsFormatFault};
+ghost use Rattle.crash_check.specs.Answers.{types_in};
 ghost use Rattle.world.specs.Events.{event_of, reply_of};
-ghost use Rattle.world.specs.Worlds.{world_with};
+ghost use Rattle.world.specs.Worlds.{world_with, world_value, HasOwnTypes, IsSoundDisk, IsWorldOf};
 
 use crate::event::Event;
-use crate::format::fresh_kernel;
+use crate::mounted::MountedDisk;
 use crate::reply::Reply;
-use crate::ticket::DroppableTicket;
-use disk::{BLOCK_LEN, MemLane};
+use crate::unmounted::UnmountedDisk;
+use crash_check::ImageFault;
+use disk::BLOCK_LEN;
 use std::alloc::{AllocError, Global};
 use std::marker::Model;
-use templates::{FormatFault, Template};
-use xn_kernel::Kernel;
+use std::thread::Threads;
+use templates::{FormatFault, MAX_BLOCKS, Template, format_image};
 use xn_model::Refusal;
 use xn_state::{Answer, EditId, Landed, Stopped};
 
-mod calls;
-mod steps;
-#[cfg(test)]
-mod tests;
+/// How many bytes the image of the largest disk has.
+const GREATEST_IMAGE_LEN: usize = BLOCK_LEN * MAX_BLOCKS as usize;
 
-/// A disk in memory, its kernel, and the tickets of the writes that are under way.
+/// A disk in memory, its kernel, and the tickets of the writes that are under way. After a crash whose mount found no memory it
+/// is down, and has no kernel.
 #[derive(Drop)]
 pub struct World {
     alloc: Global,
-    kernel: Kernel<MemLane>,
-    tickets: Vec<Option<DroppableTicket>>,
+    /// The number of the last kernel.
+    kernel: u64,
+    mounted: Option<MountedDisk>,
+    /// The disk while the world is down.
+    unmounted: Option<UnmountedDisk>,
 }
 
 impl Model for World {
-    ghost use Rattle.world.specs.Worlds.{WorldValue, value_of, IsWorld};
+    ghost use Rattle.world.specs.Worlds.{WorldValue, world_value, IsWorldOf};
 
     ghost Value = { WorldValue };
 
-    ghost view = { λ a. value_of a.kernel a.tickets.items };
+    ghost view = { λ a. world_value a.mounted a.unmounted };
 
-    ghost invariant = { λ a. IsWorld a.kernel a.tickets.items };
+    ghost invariant = { λ a. IsWorldOf a.mounted a.unmounted };
 }
 
 impl World {
     /// A fresh disk of 32 to 32,768 blocks with at most 16 templates, whose types are 3 and those that follow, and its
     /// first mount. The faults come in the order `BadCount`, `TooManyTemplates`, `NoMemory`.
-    pub fn format(alloc: Global, blocks: u32, templates: &[Template]) -> Result<World, FormatFault>
+    pub fn format(
+        rt: &(impl Threads + Sync),
+        alloc: Global,
+        blocks: u32,
+        templates: &[Template],
+    ) -> Result<World, FormatFault>
         ensures { MatchResult result
             (λ world. (format_fault blocks (length templates.now) ≡ None)
             × (world_with world ≡ mounted_disk (types_of (table_of templates.now)) (formatted blocks templates.now)))
             (IsFormatFault blocks (length templates.now)) }
     {
-        let kernel = fresh_kernel(alloc, blocks, templates)?;
-        let tickets = no_tickets(alloc, blocks)?;
-        Ok(World {
-            alloc,
-            kernel,
-            tickets,
-        })
+        are_templates(templates);
+        let image = format_image(alloc, blocks, templates)?;
+        match World::open(rt, alloc, &image) {
+            Ok(world) => Ok(world),
+            Err(fault) => Err(want_of_memory(fault)),
+        }
+    }
+
+    /// The disk of an image, and its first mount, under the types of the image's own catalogue. `Err` has the image's first
+    /// fault, as a check tells it, or comes for want of memory.
+    pub fn open(
+        rt: &(impl Threads + Sync),
+        alloc: Global,
+        image: &[u8],
+    ) -> Result<World, ImageFault>
+        ensures ok { IfOk result (λ world. IsSoundImage (types_in (blocks_in image.now)) image.now
+            × (world_with world ≡ mounted_disk (types_in (blocks_in image.now)) (blocks_in image.now))) }
+        ensures table { IfOk result (λ world. world.table ≡ table_of_image (block_of (blocks_in image.now))) }
+        ensures err { IfErr result (λ fault. (fault ≡ ImageFault.NoMemory) ⊎ (verdict (types_in (blocks_in image.now)) image.now ≡ Err fault)) }
+    {
+        if image.len() % BLOCK_LEN != 0 || image.len() > GREATEST_IMAGE_LEN {
+            return Err(ImageFault::BadLength);
+        }
+        let Ok(disk) = UnmountedDisk::of_image(alloc, image) else {
+            return Err(ImageFault::NoMemory);
+        };
+        match disk.mount(rt, alloc, 1) {
+            Ok(disk) => Ok(World::mounted(alloc, disk)),
+            Err((fault, _disk)) => Err(fault),
+        }
     }
 
     /// One event. The reply and the world after it are a step of the model; and each block that the
     /// root reaches in the image holds a state of its life, from the durable to the begun one, and has
     /// one owner.
-    pub fn step(&mut self, event: &Event) -> Reply
+    pub fn step(&mut self, rt: &(impl Threads + Sync), event: &Event) -> Reply
         ensures step { model.Step (world_with self.old) (event_of event.now) (reply_of result) (world_with self.new) }
         ensures rules { Holds (world_with self.new) }
         ensures agrees { Agrees (types_of self.new.table) (length self.new.state.lives) (block_of self.new.image) self.new.state.lives }
     {
         let reply = match event {
-            Event::Call(fs, call) => self.call(*fs, call),
-            Event::Begin(block) => self.begin(*block),
-            Event::Land(block) => self.land(*block),
-            Event::Fail(block, new_bytes_stay) => self.fail(*block, *new_bytes_stay),
-            Event::Finish(block) => self.finish(*block),
+            Event::Crash => self.crash(rt),
+            _ => self.go_on(event),
         };
         self.rules();
         reply
@@ -88,7 +120,11 @@ impl World {
     /// Events in their order, and their replies. After all of them the rules hold, the image is sound, and
     /// each block that the root reaches in it holds a state of its life, from the durable to the begun
     /// one, and has one owner. No block misses what the replies told durable of its present life. `Err` comes before the first event.
-    pub fn run(&mut self, events: &[Event]) -> Result<Vec<Reply>, AllocError>
+    pub fn run(
+        &mut self,
+        rt: &(impl Threads + Sync),
+        events: &[Event],
+    ) -> Result<Vec<Reply>, AllocError>
         ensures run { IfOk result (λ replies. model.Run (world_with self.old) (map event_of events.now) (map reply_of replies.items) (world_with self.new)) }
         ensures kept { IfErr result (λ error. self.new ≡ self.old) }
         ensures rules { Holds (world_with self.new) }
@@ -102,65 +138,118 @@ impl World {
         let _types: Option<(Answer, EditId, Landed, Refusal, Stopped)> = None;
         let mut replies = Vec::with_capacity(self.alloc(), events.len())?;
         for at in 0..events.len() {
-            let reply = self.step(&events[at]);
+            let reply = self.step(rt, &events[at]);
             replies.push_reserved(reply);
         }
         Ok(replies)
     }
 
-    /// The bytes that the disk holds now, block after block.
+    /// The bytes that the disk holds now, block after block, also while the world is down.
     pub fn image(&self) -> Result<Vec<u8>, AllocError>
         ensures { IfOk result (λ image. image.items ≡ joined self.now.image) }
     {
-        let blocks = self.blocks();
-        let mut image = Vec::with_capacity(self.alloc(), BLOCK_LEN.saturating_mul(blocks))?;
-        for block in 0..blocks {
-            image.extend_from_slice(self.block_bytes(block))?;
+        match &self.mounted {
+            Some(disk) => disk.image(self.alloc),
+            None => match &self.unmounted {
+                Some(disk) => disk.image(self.alloc),
+                None => unreachable!(),
+            },
         }
-        Ok(image)
+    }
+
+    /// The world of a mounted disk.
+    fn mounted(alloc: Global, disk: MountedDisk) -> World
+        requires { HasOwnTypes (world_with disk) }
+        ensures { result ≡ disk }
+    {
+        World {
+            alloc,
+            kernel: 1,
+            mounted: Some(disk),
+            unmounted: None,
+        }
+    }
+
+    /// One event, any but a crash.
+    fn go_on(&mut self, event: &Event) -> Reply
+        requires { event.now ≢ Event.Crash }
+        ensures { model.Step (world_with self.old) (event_of event.now) (reply_of result) (world_with self.new) }
+    {
+        match &mut self.mounted {
+            None => Reply::Down,
+            Some(disk) => disk.step(event),
+        }
+    }
+
+    /// The kernel is dropped, all lanes are put back, and the disk is mounted anew. Where the mount finds no memory the world
+    /// is down.
+    fn crash(&mut self, rt: &(impl Threads + Sync)) -> Reply
+        ensures { model.AfterCrash (world_with self.old) (reply_of result) (world_with self.new) }
+    {
+        let disk = taken(self.mounted.take(), self.unmounted.take());
+        self.kernel = self.kernel.wrapping_add(1);
+        match disk.mount(rt, self.alloc, self.kernel) {
+            Ok(disk) => {
+                let reply = disk.counts();
+                self.mounted = Some(disk);
+                reply
+            }
+            Err((ImageFault::NoMemory, disk)) => {
+                self.unmounted = Some(disk);
+                Reply::Down
+            }
+            Err(_) => unreachable!(),
+        }
     }
 
     /// Its rules.
     fn rules(&self)
         ensures { Holds (world_with self.now) }
     {
-        let _kernel = &self.kernel;
+        match &self.mounted {
+            Some(disk) => disk.rules(),
+            None => {}
+        }
     }
 
     /// What its calls take their memory from.
     fn alloc(&self) -> Global {
         self.alloc
     }
+}
 
-    /// How many blocks the disk has.
-    fn blocks(&self) -> usize
-        ensures { result ≡ length self.now.image }
-    {
-        self.tickets.len()
-    }
+/// The one fault of an image that is sound.
+fn want_of_memory(_fault: ImageFault) -> FormatFault
+    requires { _fault ≡ ImageFault.NoMemory }
+    ensures { result ≡ FormatFault.NoMemory }
+{
+    FormatFault::NoMemory
+}
 
-    /// The bytes of one block, whose lane is at home or with a ticket.
-    fn block_bytes(&self, block: usize) -> &[u8; 512]
-        requires { block < length self.now.image }
-        ensures { result.now ≡ block_of self.now.image block }
-    {
-        match self.kernel.lane(block as u32) {
-            Some(lane) => lane.bytes(),
-            None => match &self.tickets[block] {
-                Some(ticket) => ticket.lane().bytes(),
-                None => unreachable!(),
-            },
-        }
+/// Each template is one.
+fn are_templates(templates: &[Template])
+    ensures { All IsTemplate templates.now }
+{
+    for at in 0..templates.len() {
+        let _owns = templates[at].owns();
     }
 }
 
-/// An empty place for the ticket of each block.
-fn no_tickets(alloc: Global, blocks: u32) -> Result<Vec<Option<DroppableTicket>>, AllocError>
-    ensures { IfOk result (λ tickets. tickets.items ≡ replicate blocks None) }
+/// The disk of a world, whether it is mounted or not, with all lanes at home.
+fn taken(mounted: Option<MountedDisk>, unmounted: Option<UnmountedDisk>) -> UnmountedDisk
+    requires { IsWorldOf mounted unmounted }
+    ensures image { result ≡ (world_value mounted unmounted).image }
+    ensures types { HasOwnTypes (world_with (world_value mounted unmounted)) }
+    ensures sound { IsSoundDisk result }
 {
-    let mut tickets = Vec::with_capacity(alloc, blocks as usize)?;
-    for _block in 0..blocks {
-        tickets.push_reserved(None);
+    match mounted {
+        Some(disk) => {
+            disk.rules();
+            disk.unmount()
+        }
+        None => match unmounted {
+            Some(disk) => disk,
+            None => unreachable!(),
+        },
     }
-    Ok(tickets)
 }

@@ -24,6 +24,7 @@ mod call;
 mod drain;
 mod edits;
 mod forget;
+mod kept;
 
 pub use drain::DrainStop;
 

@@ -1,5 +1,5 @@
 -- What is counted of lives, where one of them changes.
-use Rattle.std.proofs.Common.{◌≡◌, ℕ, zero, suc, ◌+◌, ◌-◌, ◌<◌, ◌≤◌, Bool, true, false, cond, not, List, [], ◌∷◌, length, map, take, get_or, Option, Some, None, refl, sym, ◌∙◌, ap, arith, inl, inr, slice_get}
+use Rattle.std.proofs.Common.{◌≡◌, ℕ, zero, suc, ◌+◌, ◌<◌, Bool, true, false, cond, not, List, [], ◌∷◌, length, map, take, get_or, Option, Some, None, refl, sym, ◌∙◌, ap, arith, inl, inr, slice_get}
 use Rattle.std.specs.Prelude.{sum_by, count_by, position, unwrap_or, slice_set, slice_index, slice_index_or, is_none, is_some, IsTrue, nat_lt, option_map, ◌==◌}
 use Rattle.std.specs.List.{sum, position_or_len}
 use Rattle.std.proofs.Math.Seq.{map-set_same}

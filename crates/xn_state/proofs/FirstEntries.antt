@@ -62,7 +62,7 @@ least_places n fs i xs x within e =
     ∙ ap (least_to (least_to n (entries_of fs (take i xs)))) (append-nil (entries_at fs x))))
 
 -- where no entry is left behind a place
-nothing_in : (ns : List ℕ) → length ns ≡ 0 → ns ≡ []
+pub nothing_in : (ns : List ℕ) → length ns ≡ 0 → ns ≡ []
 nothing_in [] e = refl
 nothing_in (n ∷ ns) e = absurd (omega arith)
 

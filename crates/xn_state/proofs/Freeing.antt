@@ -3,17 +3,17 @@ use Rattle.std.proofs.Common.{◌≡◌, ◌≢◌, ℕ, zero, suc, ◌+◌, ◌
 use Rattle.std.specs.Prelude.{All, Contains, Ok, slice_get, slice_set, slice_index, count_by, option_map}
 use Rattle.std.proofs.lemmas.Bool.{cases_eq}
 use Rattle.xn_model.specs.Types.{Types}
-use Rattle.xn_model.specs.Lives.{BlockState, Life, Lives, StoreState, life_at, carried, first_states, settle, settled_at, freed, drops_of}
+use Rattle.xn_model.specs.Lives.{BlockState, Life, Lives, StoreState, life_at, alive_and, is_owned_by, carried, first_states, settle, settled_at, freed, drops_of}
 use Rattle.xn_model.specs.Calls.{life_pending, pending_in, settled_place, first_pending}
 use Rattle.xn_model.specs.Rules.{IsConsistent, IsBy}
-use Rattle.xn_model.proofs.ForCallers.{Contains-cons, Contains-head, Contains-tail, Contains-none, Contains-take, set_other, settles_place, drops_at}
+use Rattle.xn_model.proofs.ForCallers.{Contains-head, Contains-tail, Contains-none, Contains-take, set_other, settles_place, drops_at}
 use Rattle.xn_state.specs.Kept.{IsCounted, MayFree}
 use Rattle.xn_state.specs.Counts.{given}
 use Rattle.xn_state.proofs.Counting.{counts_for, counted, marks-change, marks-freed, place_is, settled_less, sum_same}
 
 -- What a write leaves, once what its entries drop is free
 
-none_pending : (fs : ℕ) (o : Option Life) → life_pending o ≡ 0 → pending_in fs o ≡ 0
+pub none_pending : (fs : ℕ) (o : Option Life) → life_pending o ≡ 0 → pending_in fs o ≡ 0
 none_pending fs None e = refl
 none_pending fs (Some l) e = none l.pending e
   where
@@ -21,7 +21,7 @@ none_pending fs (Some l) e = none l.pending e
     none [] e = refl
     none (s ∷ states) e = absurd (omega arith)
 
-still_none : (lives : Lives) (c d : ℕ) → life_pending (life_at lives d) ≡ 0 → life_pending (life_at (slice_set lives c None) d) ≡ 0
+pub still_none : (lives : Lives) (c d : ℕ) → life_pending (life_at lives d) ≡ 0 → life_pending (life_at (slice_set lives c None) d) ≡ 0
 still_none lives c d none = elim (cases_eq d c) [
   | inl same ↦ ap (λ x. life_pending (life_at (slice_set lives c None) x)) same ∙ ap life_pending (set_none lives c)
   | inr other ↦ ap life_pending (set_other lives c d None other) ∙ none
@@ -40,7 +40,7 @@ freed_counted fs (c ∷ cs) lives none =
     ∙ sum_same (pending_in fs) lives c None None (sym (none_pending fs (life_at lives c) (none c (Contains-head c cs))) ∙ ap (pending_in fs) (place_is lives c))
 
 -- what a write drops has nothing pending when the write is settled, too
-settled_none : (lives : Lives) (b k c : ℕ) → (c ≡ b → ⊥) → life_pending (life_at lives c) ≡ 0 → life_pending (life_at (settled_at lives b k) c) ≡ 0
+pub settled_none : (lives : Lives) (b k c : ℕ) → (c ≡ b → ⊥) → life_pending (life_at lives c) ≡ 0 → life_pending (life_at (settled_at lives b k) c) ≡ 0
 settled_none lives b k c other none = ap life_pending (set_other lives b c (option_map (settle k) (life_at lives b)) other) ∙ none
 
 -- a write is settled, and what its entries drop is free
@@ -82,8 +82,12 @@ may_free T state b k bytes h e =
                 let d = among c i in
                 let rest = (h.linked b s.life s.alive).resting d.0 c d.1 d.2 in
                 ap life_pending rest.alive ∙ ap length rest.nothing;
+            unowned = λ c i.
+                let d = drops_at (take k s.life.pending) c i in
+                let dropped = (h.linked b s.life s.alive).dropped d.0 c (Contains-take k s.life.pending d.0 d.1) d.2 in
+                λ a. ap (alive_and (λ l. is_owned_by a l.status)) dropped.alive ∙ ap (is_owned_by a) dropped.status;
           }
       | inr none ↦
           let nothing : (c : ℕ) → Contains (drops_of (take k s.life.pending)) c → ⊥ = λ c i. Contains-none c (subst (λ n. Contains (drops_of (take n s.life.pending)) c) none.0 i) in
-          record { apart = λ i. nothing b i; at_rest = λ c i. absurd (nothing c i) }
+          record { apart = λ i. nothing b i; at_rest = λ c i. absurd (nothing c i); unowned = λ c i. absurd (nothing c i) }
     ])

@@ -1,5 +1,5 @@
 -- What the calls of a state leave keeps the model's rules.
-use Rattle.std.proofs.Common.{◌≡◌, ℕ, ◌+◌, ◌<◌, List, [], ◌∷◌, length, false, Option, Some, None, Result, Ok, Err, sym, ◌∙◌, ap, arith, slice_get, slice_set, subst, take, drop, ◌++◌}
+use Rattle.std.proofs.Common.{◌≡◌, ℕ, ◌+◌, ◌<◌, List, [], ◌∷◌, length, false, Option, Some, None, Result, Ok, Err, sym, ◌∙◌, ap, slice_get, slice_set}
 use Rattle.xn_model.specs.declared.refusal.Refusal.{Refusal}
 use Rattle.xn_model.specs.Root.{with_slot}
 use Rattle.xn_model.specs.Lives.{StoreState, Life, Lives, life_at, lowest_free, begun_at, settled_at, freed, drops_of}

@@ -1,5 +1,5 @@
 -- The bytes that the first entries of a life leave.
-use Rattle.std.proofs.Common.{◌≡◌, ℕ, zero, suc, ◌<◌, ◌≤◌, List, [], ◌∷◌, length, take, Option, Some, None, refl, ap, arith}
+use Rattle.std.proofs.Common.{◌≡◌, ℕ, zero, suc, ◌≤◌, List, [], ◌∷◌, length, take, Option, None, refl, ap, arith}
 use Rattle.std.specs.List.{last_or}
 use Rattle.xn_model.specs.Lives.{BlockState, Life, bytes_of}
 use Rattle.xn_model.specs.Calls.{bytes_at}

@@ -10,3 +10,5 @@ pub mod FreshDisks
 pub mod Answering
 pub mod Writing
 pub mod Slots
+pub mod Claiming
+pub mod Dirty

@@ -1,10 +1,10 @@
 -- A root slot set, and set back.
-use Rattle.std.proofs.Common.{◌≡◌, ℕ, ◌+◌, ◌*◌, ◌<◌, true, List, [], ◌∷◌, ◌++◌, length, take, drop, refl, sym, ◌∙◌, ap, arith, length-append}
+use Rattle.std.proofs.Common.{◌≡◌, ℕ, ◌+◌, ◌*◌, ◌<◌, true, List, [], ◌∷◌, ◌++◌, length, take, drop, refl, sym, ◌∙◌, ap, arith}
 use Rattle.std.specs.Prelude.{◌&&◌, nat_le, nat_lt}
 use Rattle.std.specs.Int.{w32, to_le_bytes}
 use Rattle.std.proofs.lemmas.Bool.{le-leb}
 use Rattle.xn_model.specs.Root.{with_slot}
-use Rattle.xn_model.specs.Calls.{Patch, patched}
+use Rattle.xn_model.specs.Calls.{patched}
 use Rattle.edit_list.proofs.Undoing.{undone}
 
 slot_long : (p : ℕ × ℕ) → length (to_le_bytes w32 p.0 ++ to_le_bytes w32 p.1) ≡ 8

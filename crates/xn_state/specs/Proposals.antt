@@ -2,16 +2,18 @@
 use Rattle.std.specs.Prelude.{ℕ, Bool, not, ◌&&◌, nat_lt, List, [], ◌∷◌, length, Option, Some, Result, Ok}
 use Rattle.std.specs.List.{list_all}
 use Rattle.xn_model.specs.Lists.{blocks_of, distinct}
-use Rattle.xn_model.specs.Types.{Types, claims, named_once, within_size}
+use Rattle.xn_model.specs.Types.{Types, named_once, within_size}
 use Rattle.xn_model.specs.Root.{with_slot}
 use Rattle.xn_model.specs.Lives.{BlockState, Life, StoreState, current, is_fresh}
 use Rattle.xn_model.specs.declared.refusal.Refusal.{Refusal}
 use Rattle.xn_model.specs.declared.refusal.Refusal.TheVariants.{BadPatch, BadAfter, NotFresh, NotOwned, NotEmpty, ClaimWrong, SizeWrong, Unattached, TooManyPending, Exhausted}
 use Rattle.xn_model.specs.Results.{first_refusal, unless, result_and_then}
+use Rattle.owner_records.specs.Owners.{is_claimed, owned_count}
 use Rattle.block_cache.specs.declared.life.Facts.{Facts}
 use Rattle.xn_model.specs.Calls.{Edit, own_life, too_many, exhausted, within_limits, was_given, may_add, may_drop, is_empty, patched, propose_refusal, drop_root_refusal, root_now, slot_now}
 
--- the tests of an edit, by what is known of the block and its newest bytes: row by row those of the model
+-- the tests of an edit, by what is known of the block and its newest bytes: row by row those of the model, but that the claim
+-- is read off the statuses
 abbrev pub propose_tests : Types → StoreState → ℕ → ℕ → Edit → Facts → List ℕ → List (Bool × Refusal)
 propose_tests T state fs b e facts old =
     (too_many state fs facts.pending, TooManyPending)
@@ -22,7 +24,7 @@ propose_tests T state fs b e facts old =
     ∷ (not (list_all (may_add state fs) e.adds && distinct (blocks_of e.adds)), NotFresh)
     ∷ (not (list_all (may_drop state b) e.drops && distinct e.drops), NotOwned)
     ∷ (not (list_all (is_empty T state) e.drops), NotEmpty)
-    ∷ (not (claims T facts.ty old (patched old e.patches) e.adds e.drops && named_once T facts.ty (patched old e.patches)), ClaimWrong)
+    ∷ (not (is_claimed state.lives b (owned_count state.lives b) (T.owned facts.ty (patched old e.patches)) e.adds e.drops && named_once T facts.ty (patched old e.patches)), ClaimWrong)
     ∷ (not (within_size T facts.ty (patched old e.patches)), SizeWrong)
     ∷ []
 

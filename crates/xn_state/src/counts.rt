@@ -1,12 +1,13 @@
-// What is counted of the entries that a block has pending no longer.
+// What is counted of the entries of a block, and whether there are any.
 
-ghost use Rattle.std.specs.Prelude.{◌≡◌, ℕ, ◌+◌, ◌<◌, ◌≤◌, IfSome, Some, count_by, slice_index};
+ghost use Rattle.std.specs.Prelude.{◌≡◌, ℕ, ◌+◌, ◌<◌, ◌≤◌, IfSome, Some, count_by, slice_index, slice_set};
 ghost use Rattle.std.specs.Option.{option_copied};
 ghost use Rattle.xn_model.specs.Lives.{drops_of, is_for, life_at};
 ghost use Rattle.xn_model.specs.Calls.{first_pending, life_pending};
 ghost use Rattle.xn_state.specs.Counts.{claim_count, claim_drops, given};
 
 use block_cache::{Cache, Claim};
+use block_set::BlockSet;
 use free_map::FreeMap;
 
 /// Takes the first entries of a block out of the counts.
@@ -55,5 +56,18 @@ fn give_blocks(free: &mut FreeMap, blocks: &[u32])
 {
     for block in blocks {
         free.give(*block);
+    }
+}
+
+/// Notes whether something is pending for a block. Past the end there is none.
+pub fn mark(dirty: &mut BlockSet, block: u32, is_dirty: bool)
+    ensures { dirty.new ≡ slice_set dirty.old block is_dirty }
+{
+    if block < dirty.bound() {
+        if is_dirty {
+            dirty.insert(block);
+        } else {
+            dirty.remove(block);
+        }
     }
 }

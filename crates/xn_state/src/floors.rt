@@ -1,28 +1,37 @@
 // The least pending entry of a file system.
 
-ghost use Rattle.std.specs.Prelude.{◌≡◌, ◌≤◌, option_map, slice_get, sum_by};
+ghost use Rattle.std.specs.Prelude.{◌≡◌, ◌≤◌, map, option_map, slice_get, sum_by};
 ghost use Rattle.std.specs.Option.{option_copied};
 ghost use Rattle.xn_model.specs.Lives.{entries_at, entries_of, least_to, life_at};
 ghost use Rattle.xn_model.specs.Calls.{pending_in};
 ghost use Rattle.xn_state.specs.Counts.{claim_count, claim_entries};
+ghost use Rattle.xn_state.specs.Kept.{is_dirty};
 
 use block_cache::{Cache, Claim};
+use block_set::BlockSet;
 use edit_list::Fs;
 
-/// The least of a number and the pending entries that count for a file system. As there are `count` of these, the
-/// walk ends with the last of them.
-pub fn least_for(cache: &Cache, fs: Fs, most: u64, count: u32) -> u64
-    requires { count ≡ sum_by (pending_in fs.number) cache.now }
+/// The least of a number and the pending entries that count for a file system. The walk is over the blocks for which something
+/// is pending, and as there are `count` of these entries, it ends with the last of them.
+pub fn least_for(cache: &Cache, dirty: &BlockSet, fs: Fs, most: u64, count: u32) -> u64
+    requires all { count ≡ sum_by (pending_in fs.number) cache.now }
+    requires dirty { dirty.now ≡ map is_dirty cache.now }
     ensures { result ≡ least_to most (entries_of fs.number cache.now) }
 {
+    let blocks = cache.blocks();
     let mut least = most;
     let mut left = count;
-    for block in 0..cache.blocks() {
+    let mut from = 0;
+    while from < blocks {
         if left == 0 {
             break;
         }
+        let Some(block) = dirty.least_from(from) else {
+            break;
+        };
         least = least_in(cache, block, fs, least);
         left -= count_in(cache, block, fs);
+        from = block + 1;
     }
     least
 }

@@ -3,7 +3,6 @@
 
 mod answer;
 mod call;
-mod claims;
 mod counts;
 mod floors;
 mod found;
@@ -12,8 +11,6 @@ mod lives;
 mod root;
 mod state;
 mod store;
-#[cfg(test)]
-mod tests;
 
 pub use answer::{Answer, Landed, Stopped};
 pub use call::Call;

@@ -1,6 +1,6 @@
 // The lives of all blocks, with what is counted of them.
 
-ghost use Rattle.std.specs.Prelude.{◌≡◌, ℕ, ◌^◌, ◌<◌, ◌≤◌, All, length, map, Option, Some, None, IfOk, IsTrue, OnOk, OnErr, is_some, is_none, count_by, option_map, position, slice_get, slice_set, sum_by};
+ghost use Rattle.std.specs.Prelude.{◌≡◌, ℕ, ◌^◌, ◌<◌, ◌≤◌, ◌&&◌, ◌==◌, All, length, map, Option, Some, None, IfOk, IsTrue, OnOk, OnErr, is_some, is_none, count_by, option_map, position, slice_get, slice_set, sum_by};
 ghost use Rattle.std.specs.Option.{option_copied};
 ghost use Rattle.xn_model.specs.Lists.{distinct};
 ghost use Rattle.xn_model.specs.Lives.{accepted_at, alive_and, current, dropped_after, entries_of, is_for, least_to, life_at, lowest_free, owned_after};
@@ -10,11 +10,16 @@ ghost use Rattle.xn_model.specs.Images.{blocks_in};
 ghost use Rattle.block_cache.specs.Claims.{state_of};
 ghost use Rattle.block_cache.specs.Views.{facts_of};
 ghost use Rattle.xn_model.specs.Mounts.{found_status};
+ghost use Rattle.owner_records.specs.Owners.{is_claimed, owned_count};
+ghost use Rattle.claims.specs.Owned.{MayClaim};
 ghost use Rattle.xn_state.specs.Mounts.{lives_in};
 
+use crate::counts::mark;
 use crate::floors;
 use crate::found::Found;
 use block_cache::{Cache, Claim, Facts};
+use block_set::BlockSet;
+use claims::OwnedCounts;
 use edit_list::{EditId, Fs, Undo};
 use free_map::FreeMap;
 use std::alloc::{AllocError, Global};
@@ -25,25 +30,28 @@ mod forget;
 mod idle;
 mod writes;
 
-/// The lives of all blocks, by block number. Which blocks are free, and how many pending entries count for a file system, is
-/// kept beside them, so that no call walks all lives for it.
+/// The lives of all blocks, by block number. Which blocks are free, for which something is pending, how many pending entries
+/// count for a file system, and how many blocks each block owns, is kept beside them, so that no call walks all lives for it.
 #[derive(Drop)]
 pub struct Lives {
     cache: Cache,
     free: FreeMap,
     pending: [u32; 32],
+    owned: OwnedCounts,
+    dirty: BlockSet,
 }
 
 impl Model for Lives {
-    ghost use Rattle.std.specs.Prelude.{List, Option};
+    ghost use Rattle.std.specs.Prelude.{◌≡◌, List, Option, map};
     ghost use Rattle.xn_model.specs.Lives.{Life as LifeValue};
-    ghost use Rattle.xn_state.specs.Kept.{IsCounted};
+    ghost use Rattle.claims.specs.Owned.{AreOwnedCounts};
+    ghost use Rattle.xn_state.specs.Kept.{IsCounted, is_dirty};
 
     ghost Value = { List (Option LifeValue) };
 
     ghost view = { λ a. a.cache };
 
-    ghost invariant = { λ a. IsCounted a.cache a.free a.pending };
+    ghost invariant = { λ a. IsCounted a.cache a.free a.pending × AreOwnedCounts a.owned a.cache × (a.dirty ≡ map is_dirty a.cache) };
 }
 
 impl Lives {
@@ -64,10 +72,14 @@ impl Lives {
             cache.found(alloc, block.block, block.fs, block.ty, status, bytes);
             free.take(block.block);
         }
+        let owned = OwnedCounts::of(alloc, &cache)?;
+        let dirty = BlockSet::new(alloc, count)?;
         Ok(Lives {
             cache,
             free,
             pending: [0; 32],
+            owned,
+            dirty,
         })
     }
 
@@ -130,7 +142,7 @@ impl Lives {
     pub fn least_for(&self, fs: Fs, most: u64) -> u64
         ensures { result ≡ least_to most (entries_of fs.number self.now) }
     {
-        floors::least_for(&self.cache, fs, most, self.pending[fs.index()])
+        floors::least_for(&self.cache, &self.dirty, fs, most, self.pending[fs.index()])
     }
 
     /// The least free block.
@@ -147,18 +159,40 @@ impl Lives {
         self.free.count()
     }
 
+    /// Whether a block is in use and owns no other.
+    pub fn owns_none(&self, block: u32) -> bool
+        ensures { result ≡ (is_some (life_at self.now block) && (owned_count self.now block == 0)) }
+    {
+        self.cache.facts(block).is_some() && self.owned.count(block) == 0
+    }
+
+    /// Whether these pairs are those that a block owns without the drops and with the adds, by the statuses.
+    pub fn is_claimed(
+        &self,
+        block: u32,
+        pairs: &[(u32, u32)],
+        adds: &[(u32, u32)],
+        drops: &[u32],
+    ) -> bool
+        requires { IsTrue (is_some (life_at self.now block)) }
+        ensures { result ≡ is_claimed self.now block (owned_count self.now block) pairs.now adds.now drops.now }
+    {
+        let owns = self.owned.count(block);
+        claims::is_claimed(&self.cache, block, owns, pairs, adds, drops)
+    }
+
     /// Whether some pending entry of a block may not be written yet.
     pub fn is_tainted(&self, block: u32) -> bool
         ensures { result ≡ is_tainted self.now (life_at self.now block) }
     {
-        dependencies::is_tainted(&self.cache, block)
+        dependencies::is_tainted(&self.cache, &self.dirty, block)
     }
 
     /// The least block of which a write may begin.
     pub fn pick(&self) -> Option<u32>
         ensures { result ≡ position (is_ready self.now) self.now }
     {
-        dependencies::pick(&self.cache)
+        dependencies::pick(&self.cache, &self.dirty)
     }
 
     /// Starts a life on the least free block.
@@ -178,6 +212,7 @@ impl Lives {
     {
         self.cache.start(alloc, block, number, fs, ty, bytes)?;
         self.free.take(block);
+        mark(&mut self.dirty, block, true);
         self.pending[fs.index()] += 1;
         Ok(())
     }
@@ -197,6 +232,10 @@ impl Lives {
         requires alive { IsTrue (is_some (life_at self.old block)) }
         requires room { life_pending (life_at self.old block) < 64 }
         requires few { sum_by (pending_in fs.number) self.old < 4096 }
+        requires size { length self.old ≤ 32768 }
+        requires claims { MayClaim self.old block adds.now drops.now }
+        requires few_adds { length adds.now ≤ 128 }
+        requires few_drops { length drops.now ≤ 128 }
         requires undoes { patched bytes.now undo ≡ life_bytes (life_at self.old block) }
         requires fs { claim.fs ≡ Some fs.number }
         requires adds { claim.adds ≡ adds.now }
@@ -207,6 +246,9 @@ impl Lives {
         self.cache.append(block, claim, bytes, undo)?;
         set_dropped(&mut self.cache, block, drops);
         set_owned(&mut self.cache, block, adds);
+        self.owned
+            .change(block, drops.len() as u32, adds.len() as u32);
+        mark(&mut self.dirty, block, true);
         self.pending[fs.index()] += 1;
         Ok(())
     }

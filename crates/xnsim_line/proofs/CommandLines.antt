@@ -21,7 +21,7 @@ use Rattle.udf_verify.specs.declared.fault.Role.TheVariants.{Owns, Size}
 use Rattle.xnsim_line.specs.declared.invocation.LineFault.{LineFault}
 use Rattle.xnsim_line.specs.declared.invocation.LineFault.TheVariants.{NoMemory, Usage}
 use Rattle.xnsim_line.specs.declared.invocation.Invocation.{Invocation}
-use Rattle.xnsim_line.specs.declared.invocation.Invocation.TheVariants.{Bare, Format, Run, Asm, Verify}
+use Rattle.xnsim_line.specs.declared.invocation.Invocation.TheVariants.{Bare, Format, Run, Check, Asm, Verify}
 use Rattle.xnsim_line.specs.CommandLine.{program}
 use Rattle.xnsim_line.specs.Programs.{role_name}
 use Rattle.xnsim_line.specs.Lines.{fault_of_kind, IsLine, IsName, IsNoLine, IsThreeWords}
@@ -166,6 +166,7 @@ line_is_three start rest three (Format image blocks file_system templates) line 
 line_is_three start rest three (Run image script) line =
     let words : start ≡ codes "run" ∷ image.now ∷ script.now ∷ [] = start_alike start rest (codes "run") image.now script.now [] three line.0 in
     record { first = image.now; second = script.now; command = inr (inl words); first_name = line.1; second_name = line.2 }
+line_is_three start rest three (Check image) line = let two : length (start ++ rest) ≡ 2 = ap length line.0 in absurd (omega (arith, length-append start rest))
 line_is_three start rest three (Asm owns size block) line =
     let words : start ≡ codes "asm" ∷ owns.now ∷ size.now ∷ [] = start_alike start rest (codes "asm") owns.now size.now (block.now ∷ []) three line.0 in
     record { first = owns.now; second = size.now; command = inr (inr (inl words)); first_name = line.1; second_name = line.2 }

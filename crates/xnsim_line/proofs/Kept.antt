@@ -2,9 +2,9 @@
 use Rattle.std.proofs.Common.{◌≡◌, ℕ, List, Option, Some, None, ◌∙◌}
 use Rattle.std.specs.Io.KnownBytes.{Appends, Keeps}
 use Rattle.xnsim_line.specs.declared.invocation.Invocation.{Invocation}
-use Rattle.xnsim_line.specs.declared.invocation.Invocation.TheVariants.{Bare, Format, Run, Asm, Verify}
+use Rattle.xnsim_line.specs.declared.invocation.Invocation.TheVariants.{Bare, Format, Run, Check, Asm, Verify}
 use Rattle.xnsim_line.specs.declared.fault.Fault.{Fault}
-use Rattle.xnsim_line.specs.declared.fault.Fault.TheVariants.{Usage, CannotRead, Unreadable, NotMounted, CannotWrite, NoMemory, Program, Owns, Size, Template, TooManyTemplates, TooManyWords, Stream}
+use Rattle.xnsim_line.specs.declared.fault.Fault.TheVariants.{Usage, CannotRead, Unreadable, Image, CannotWrite, NoMemory, Program, Owns, Size, Template, TooManyTemplates, TooManyWords, Stream}
 use Rattle.xnsim_line.specs.Assembling.{PrintsTemplate}
 use Rattle.xnsim_line.specs.Done.{IsDone, IsLineDone, PrintsReplies, PrintsMounted, PrintsAssembled, PrintsVerified}
 use Rattle.xnsim_line.specs.Faults.{IsTold}
@@ -12,7 +12,7 @@ use Rattle.xnsim_line.specs.Files.{Held}
 use Rattle.xnsim_line.specs.Formatting.{PrintsMade}
 use Rattle.xnsim_line.specs.Programs.{PrintsAccepted}
 use Rattle.xnsim_line.specs.Runs.{IsMountedRun, IsPrintedRun}
-use Rattle.templates.specs.Templates.{TemplateValue}
+use Rattle.xn_model.specs.Worlds.{World}
 use Rattle.udf_verify.specs.declared.fault.Role.{Role}
 use Rattle.world.specs.declared.event.Event.{Event}
 
@@ -29,14 +29,13 @@ appends_kept (Some xs) (Some ys) None bytes printed flushed = absurd flushed
 appends_kept (Some xs) (Some ys) (Some zs) bytes printed flushed = flushed ∙ printed
 
 module _ (old mid new : Option (List ℕ)) (flushed : Keeps mid new) where
-  run_kept : (blocks : ℕ) (templates : List TemplateValue) (events : List Event) (image : List ℕ) →
-      IsPrintedRun blocks templates events old mid image → IsPrintedRun blocks templates events old new image
-  run_kept blocks templates events image run =
+  run_kept : (from : World) (events : List Event) (image : List ℕ) → IsPrintedRun from events old mid image → IsPrintedRun from events old new image
+  run_kept from events image run =
       record { replies = run.replies; after = run.after; run = run.run; printed = appends_kept old mid new _ run.printed flushed; left = run.left }
 
   mounted_kept : (image : List ℕ) (events : List Event) (after : List ℕ) → IsMountedRun image events old mid after → IsMountedRun image events old new after
   mounted_kept image events after run =
-      record { blocks = run.blocks; templates = run.templates; fresh = run.fresh; run = run_kept run.blocks run.templates events after run.run }
+      record { sound = run.sound; run = run_kept _ events after run.run }
 
   template_kept : (held held_after : Held) (block_name owns_text size_text : List ℕ) →
       PrintsTemplate held held_after block_name owns_text size_text old mid → PrintsTemplate held held_after block_name owns_text size_text old new
@@ -61,7 +60,7 @@ module _ (old mid new : Option (List ℕ)) (flushed : Keeps mid new) where
       image = done.0.image;
       read = done.0.read;
       script = done.0.script;
-      run = run_kept _ _ done.0.events done.0.image done.0.run;
+      run = run_kept _ done.0.events done.0.image done.0.run;
     },
     done.1,
   )
@@ -87,6 +86,16 @@ module _ (old mid new : Option (List ℕ)) (flushed : Keeps mid new) where
     run = mounted_kept done.image done.events done.after done.run;
     written = done.written;
   }
+  done_kept input held held_after (Check image) done = record {
+    image = done.image;
+    reached = done.reached;
+    free = done.free;
+    image_held = done.image_held;
+    sound = done.sound;
+    report = done.report;
+    printed = appends_kept old mid new _ done.printed flushed;
+    kept = done.kept;
+  }
   done_kept input held held_after (Asm owns size block) done = record {
     owns_text = done.owns_text;
     size_text = done.size_text;
@@ -104,7 +113,7 @@ module _ (old mid new : Option (List ℕ)) (flushed : Keeps mid new) where
   told_kept Usage told = keeps_kept old mid new told flushed
   told_kept (CannotRead name) told = keeps_kept old mid new told flushed
   told_kept (Unreadable line) told = keeps_kept old mid new told flushed
-  told_kept NotMounted told = keeps_kept old mid new told flushed
+  told_kept (Image fault) told = appends_kept old mid new _ told flushed
   told_kept (CannotWrite name) told = keeps_kept old mid new told flushed
   told_kept NoMemory told = keeps_kept old mid new told flushed
   told_kept (Program found) told = appends_kept old mid new _ told flushed

@@ -1,7 +1,5 @@
-pub mod FreshImages
 pub mod ScriptRuns
 pub mod CommandLines
-pub mod KnownTemplates
 pub mod TemplateWords
 pub mod TemplatesRead
 pub mod MountFaults

@@ -6,17 +6,16 @@ use Rattle.std.proofs.lemmas.List.{take_more, map-append, append-nil, append_ass
 use Rattle.std.proofs.lemmas.Grind.{flat_map-append}
 use Rattle.xn_model.specs.Worlds as model
 use Rattle.xn_model.specs.Worlds.{Run, Step}
-use Rattle.templates.specs.Templates.{TemplateValue}
 use Rattle.world.specs.declared.reply.Reply.{Reply}
 use Rattle.world.specs.declared.event.Event.{Event}
 use Rattle.world.specs.Events.{event_of, reply_of}
 use Rattle.script.specs.Replies.{reply_line}
-use Rattle.xnsim_line.specs.Runs.{fresh_world, IsRun}
+use Rattle.xnsim_line.specs.Runs.{IsRun}
 
 -- these events were run, their replies printed, and the world is this
-pub record IsRunTo (blocks : ℕ) (templates : List TemplateValue) (events : List Event) (old new : Option (List ℕ)) (after : model.World) : Type 0 where
+pub record IsRunTo (from : model.World) (events : List Event) (old new : Option (List ℕ)) (after : model.World) : Type 0 where
   pub replies : List Reply
-  pub run : IsRun blocks templates events replies after
+  pub run : IsRun from events replies after
   pub printed : Appends old new (flat_map reply_line replies)
 
 run_more : (w : model.World) (es : List model.Event) (rs : List model.Reply) (mid : model.World) (e : model.Event) (r : model.Reply) (after : model.World) →
@@ -38,19 +37,18 @@ nothing_printed None = tt
 nothing_printed (Some xs) = sym (append-nil xs)
 
 -- before the first event
-pub none_run : (blocks : ℕ) (templates : List TemplateValue) (old : Option (List ℕ)) (after : model.World) → after ≡ fresh_world blocks templates →
-    IsRunTo blocks templates [] old old after
-none_run blocks templates old after fresh = record { replies = []; run = fresh; printed = nothing_printed old }
+pub none_run : (from : model.World) (old : Option (List ℕ)) → IsRunTo from [] old old from
+none_run from old = record { replies = []; run = refl; printed = nothing_printed old }
 
 -- one event more
-pub run_one_more : (blocks : ℕ) (templates : List TemplateValue) (events : List Event) (event : Event) (old mid new : Option (List ℕ)) (before after : model.World) (reply : Reply) →
+pub run_one_more : (from : model.World) (events : List Event) (event : Event) (old mid new : Option (List ℕ)) (before after : model.World) (reply : Reply) →
     Step before (event_of event) (reply_of reply) after → Appends mid new (reply_line reply) →
-    IsRunTo blocks templates events old mid before → IsRunTo blocks templates (events ++ event ∷ []) old new after
-run_one_more blocks templates events event old mid new before after reply step printed so_far =
+    IsRunTo from events old mid before → IsRunTo from (events ++ event ∷ []) old new after
+run_one_more from events event old mid new before after reply step printed so_far =
     let rs = so_far.replies in
     let sent = map-append event_of events (event ∷ []) in
     let told = map-append reply_of rs (reply ∷ []) in
-    let ran = run_more (fresh_world blocks templates) (map event_of events) (map reply_of rs) before (event_of event) (reply_of reply) after so_far.run step in
+    let ran = run_more from (map event_of events) (map reply_of rs) before (event_of event) (reply_of reply) after so_far.run step in
     let lines : flat_map reply_line (rs ++ reply ∷ []) ≡ flat_map reply_line rs ++ reply_line reply =
     flat_map-append reply_line rs (reply ∷ []) ∙ ap (λ last. flat_map reply_line rs ++ last) (append-nil (reply_line reply)) in
     record {

@@ -3,17 +3,17 @@ use Rattle.std.specs.Prelude.{◌≡◌, ◌⊎◌, ⊤, ℕ, List, [], length, 
 use Rattle.templates.specs.Templates.{TemplateValue}
 use Rattle.world.specs.declared.event.Event.{Event}
 use Rattle.xnsim_line.specs.declared.invocation.Invocation.{Invocation}
-use Rattle.xnsim_line.specs.declared.invocation.Invocation.TheVariants.{Bare, Format, Run, Asm, Verify}
+use Rattle.xnsim_line.specs.declared.invocation.Invocation.TheVariants.{Bare, Format, Run, Check, Asm, Verify}
 use Rattle.xnsim_line.specs.declared.fault.Fault.{Fault}
-use Rattle.xnsim_line.specs.declared.fault.Fault.TheVariants.{Usage, CannotRead, Unreadable, NotMounted, CannotWrite, NoMemory, Program, Owns, Size, Template, TooManyTemplates, TooManyWords, Stream}
+use Rattle.xnsim_line.specs.declared.fault.Fault.TheVariants.{Usage, CannotRead, Unreadable, Image, CannotWrite, NoMemory, Program, Owns, Size, Template, TooManyTemplates, TooManyWords, Stream}
 use Rattle.xnsim_line.specs.Assembling.{IsTemplateFault, PrintsTemplate}
 use Rattle.udf_verify.specs.declared.fault.Role.{Role}
 use Rattle.xnsim_line.specs.Files.{Held, IsHeld, with_file}
 use Rattle.xnsim_line.specs.Formatting.{IsSomeFault, IsTooMany, PrintsMade}
-use Rattle.xnsim_line.specs.Images.{IsFresh}
+use Rattle.xnsim_line.specs.Checking.{IsVerdict, PrintsChecked}
 use Rattle.xnsim_line.specs.Lines.{IsLine, IsNoLine}
 use Rattle.xnsim_line.specs.Programs.{IsProgramFault, PrintsAccepted}
-use Rattle.xnsim_line.specs.Runs.{IsMountedRun, IsPrintedRun}
+use Rattle.xnsim_line.specs.Runs.{fresh_world, IsMountedRun, IsPrintedRun}
 use Rattle.script.specs.Scripts.{IsFirstUnreadable, IsScript}
 
 -- a script was run on a fresh disk of so many blocks with these templates, and its replies printed; where it is known which
@@ -24,10 +24,10 @@ pub record PrintsReplies (known : Option (List ℕ)) (blocks : ℕ) (templates :
   pub image : List ℕ
   pub read : IfSome known (λ bytes. text ≡ bytes)
   pub script : IsScript text events
-  pub run : IsPrintedRun blocks templates events old new image
+  pub run : IsPrintedRun (fresh_world blocks templates) events old new image
 
--- the script of a file was run on the disk of a file's image that is as formatting leaves it, its replies printed, and what is then on
--- the disk written back
+-- the script of a file was run on the disk of a file's image, which is sound, its replies printed, and what is then on the
+-- disk written back
 pub record PrintsMounted (held held_after : Held) (image_name script_name : List ℕ) (old new : Option (List ℕ)) : Type 0 where
   pub image : List ℕ
   pub text : List ℕ
@@ -60,6 +60,7 @@ IsDone input held held_after Bare old new = PrintsReplies input 32 [] old new ×
 IsDone input held held_after (Format image blocks file_system templates) old new =
     PrintsMade held held_after image.now blocks file_system (map string_bytes templates.now) old new
 IsDone input held held_after (Run image script) old new = PrintsMounted held held_after image.now script.now old new
+IsDone input held held_after (Check image) old new = PrintsChecked held held_after image.now old new
 IsDone input held held_after (Asm owns size block) old new = PrintsAssembled held held_after owns.now size.now block.now old new
 IsDone input held held_after (Verify name role) old new = PrintsVerified held held_after name.now role old new
 
@@ -75,7 +76,7 @@ IsRunFault fault = ⊥
 
 -- a fault that may come of a run on the disk of an image
 abbrev pub IsMountFault : List ℕ → Fault → Type 0
-IsMountFault image NotMounted = (blocks : ℕ) (templates : List TemplateValue) → ¬ IsFresh image blocks templates
+IsMountFault image (Image fault) = IsVerdict image fault
 IsMountFault image fault = IsRunFault fault
 
 -- a fault that may come of what is asked for
@@ -86,8 +87,10 @@ IsFaultOf input (Format image blocks file_system templates) TooManyTemplates = I
 IsFaultOf input (Format image blocks file_system templates) (CannotWrite name) = name ≡ image
 IsFaultOf input (Run image script) (CannotRead name) = (name ≡ image) ⊎ (name ≡ script)
 IsFaultOf input (Run image script) (Unreadable line) = (text : List ℕ) × IsFirstUnreadable text line
-IsFaultOf input (Run image script) NotMounted = (bytes : List ℕ) × IsMountFault bytes NotMounted
+IsFaultOf input (Run image script) (Image fault) = (bytes : List ℕ) × IsVerdict bytes fault
 IsFaultOf input (Run image script) (CannotWrite name) = name ≡ image
+IsFaultOf input (Check image) (CannotRead name) = name ≡ image
+IsFaultOf input (Check image) (Image fault) = (bytes : List ℕ) × IsVerdict bytes fault
 IsFaultOf input (Asm owns size block) NoMemory = ⊥
 IsFaultOf input (Asm owns size block) (CannotRead name) = (name ≡ owns) ⊎ (name ≡ size)
 IsFaultOf input (Asm owns size block) (Owns found) = (owns_text size_text : List ℕ) × IsTemplateFault owns_text size_text (Owns found)

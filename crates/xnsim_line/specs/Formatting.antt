@@ -11,7 +11,7 @@ use Rattle.templates.specs.Formats.{formatted}
 use Rattle.xnsim_line.specs.declared.fault.Fault.{Fault}
 use Rattle.xnsim_line.specs.declared.fault.Fault.TheVariants as fault
 use Rattle.xnsim_line.specs.Files.{Held, AreHeld, with_file}
-use Rattle.xnsim_line.specs.Library.{file_system_templates}
+use Rattle.ffs_format.specs.Library.{file_system_templates}
 
 -- the line of an image that was made
 abbrev pub made_line : ℕ → ℕ → List ℕ

@@ -1,11 +1,10 @@
-pub mod Images
+pub mod Checking
 pub mod Lines
 pub mod CommandLine
 pub mod Runs
 pub mod ProgramFaults
 pub mod Programs
 pub mod Files
-pub mod Library
 pub mod Formatting
 pub mod Assembling
 pub mod Done

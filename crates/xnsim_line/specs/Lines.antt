@@ -5,7 +5,7 @@ use Rattle.clap.specs.declared.error.kind.ErrorKind.TheVariants.{OutOfMemory}
 use Rattle.xnsim_line.specs.declared.invocation.LineFault.{LineFault}
 use Rattle.xnsim_line.specs.declared.invocation.LineFault.TheVariants.{NoMemory, Usage}
 use Rattle.xnsim_line.specs.declared.invocation.Invocation.{Invocation}
-use Rattle.xnsim_line.specs.declared.invocation.Invocation.TheVariants.{Bare, Format, Run, Asm, Verify}
+use Rattle.xnsim_line.specs.declared.invocation.Invocation.TheVariants.{Bare, Format, Run, Check, Asm, Verify}
 use Rattle.xnsim_line.specs.Programs.{role_name}
 
 -- a word that doesn't begin with `-`
@@ -47,6 +47,7 @@ IsLine words (Format image blocks file_system templates) =
     (rest : List (List ℕ)) × (words ≡ codes "format" ∷ image.now ∷ decimal blocks ∷ rest) × IsName image.now × (32 ≤ blocks) × (blocks ≤ 32768)
     × IsTemplateWords rest file_system (map string_bytes templates.now)
 IsLine words (Run image script) = (words ≡ codes "run" ∷ image.now ∷ script.now ∷ []) × IsName image.now × IsName script.now
+IsLine words (Check image) = (words ≡ codes "check" ∷ image.now ∷ []) × IsName image.now
 IsLine words (Asm owns size block) =
     (words ≡ codes "asm" ∷ owns.now ∷ size.now ∷ block.now ∷ []) × IsName owns.now × IsName size.now × IsName block.now
 IsLine words (Verify text role) = (words ≡ codes "verify" ∷ text.now ∷ role_name role ∷ []) × IsName text.now

@@ -4,23 +4,30 @@ ghost use Rattle.std.specs.Prelude.{◌≡◌, ◌≤◌, ℕ, List, [], None, I
 ghost use Rattle.std.specs.Str.{IsUtf8};
 ghost use Rattle.std.specs.Io.KnownBytes.{Appends};
 ghost use Rattle.xnsim_line.specs.Done.{IsFaultOf, IsLineDone, IsLineFault, PrintsAssembled, PrintsMounted, PrintsReplies, PrintsVerified};
+ghost use Rattle.xnsim_line.specs.Checking.{PrintsChecked};
 ghost use Rattle.xnsim_line.specs.Formatting.{made_line, PrintsMade};
 ghost use Rattle.xnsim_line.specs.Lines.{IsNoLine};
 
 use crate::assembling::{make_template, print_template};
+use crate::checking::print_report;
 use crate::fault::Fault;
 use crate::files::Files;
 use crate::formatting::{all_templates, made_image, read_files};
-use crate::image::GREATEST_IMAGE_LEN;
 use crate::invocation::{Invocation, read};
 use crate::program::verify_text;
 use crate::replay::{run_on_image, run_script};
+use crash_check::check;
+use disk::BLOCK_LEN;
 use script::parse;
 use std::alloc::Global;
 use std::io::{ErrorKind, Read, Write};
+use std::thread::Threads;
 use std::{io, str};
-use templates::{MIN_BLOCKS, write_block};
+use templates::{MAX_BLOCKS, MIN_BLOCKS, write_block};
 use udf_verify::Role;
+
+/// How many bytes the image of the largest disk has.
+const GREATEST_IMAGE_LEN: usize = BLOCK_LEN * MAX_BLOCKS as usize;
 
 /// The name of standard input in what is told.
 const STANDARD_INPUT: &str = "-";
@@ -92,6 +99,7 @@ fn assemble_files<'a, F: Files, W: Write>(
 
 /// Runs the script of a file on the image of a file, and writes the image back.
 fn run_files<'a, F: Files, W: Write>(
+    rt: &(impl Threads + Sync),
     alloc: Global,
     files: &mut F,
     out: &mut W,
@@ -106,15 +114,38 @@ fn run_files<'a, F: Files, W: Write>(
         .ok_or(Fault::CannotRead(image))?;
     let text = files.read(alloc, script).ok_or(Fault::CannotRead(script))?;
     let events = parse(alloc, text_of(text.as_slice(), script)?)?;
-    let after = run_on_image(alloc, before.as_slice(), events, out)?;
+    let after = run_on_image(rt, alloc, before.as_slice(), events, out)?;
     if !files.write(image, after.as_slice()) {
         return Err(Fault::CannotWrite(image));
     }
     Ok(())
 }
 
+/// Checks the image of a file, and says what it holds.
+fn check_file<'a, F: Files, W: Write>(
+    rt: &(impl Threads + Sync),
+    alloc: Global,
+    files: &mut F,
+    out: &mut W,
+    image: &'a str,
+) -> Result<(), Fault<'a>>
+    ensures done { OnOk result (PrintsChecked (F.held files.old) (F.held files.new) image.entry.now (W.contents out.old) (W.contents out.new)) }
+    ensures fault { IfErr result (IsFaultOf None (Invocation.Check image.entry)) }
+{
+    let bytes = files
+        .read_start(alloc, image, GREATEST_IMAGE_LEN + 1)
+        .ok_or(Fault::CannotRead(image))?;
+    let report = match check(rt, alloc, bytes.as_slice()) {
+        Ok(report) => report,
+        Err(fault) => return Err(Fault::Image(fault)),
+    };
+    print_report(out, report.reached.len(), report.free.len())?;
+    Ok(())
+}
+
 /// Runs the script on standard input on a fresh disk, of which nothing is kept.
 fn run_input<'a, R: Read, W: Write>(
+    rt: &(impl Threads + Sync),
     alloc: Global,
     input: &mut R,
     out: &mut W,
@@ -130,7 +161,7 @@ fn run_input<'a, R: Read, W: Write>(
         });
     }
     let events = parse(alloc, text_of(text.as_slice(), STANDARD_INPUT)?)?;
-    run_script(alloc, MIN_BLOCKS, &[], events, out)?;
+    run_script(rt, alloc, MIN_BLOCKS, &[], events, out)?;
     Ok(())
 }
 
@@ -151,6 +182,7 @@ fn verify_file<'a, F: Files, W: Write>(
 
 /// Does what the words ask for.
 pub fn run<'a, F: Files, R: Read, W: Write>(
+    rt: &(impl Threads + Sync),
     alloc: Global,
     words: &'a [String],
     files: &mut F,
@@ -168,11 +200,12 @@ pub fn run<'a, F: Files, R: Read, W: Write>(
             file_system,
             templates,
         } => format(alloc, files, out, image, blocks, file_system, templates),
-        Invocation::Run { image, script } => run_files(alloc, files, out, image, script),
+        Invocation::Run { image, script } => run_files(rt, alloc, files, out, image, script),
+        Invocation::Check { image } => check_file(rt, alloc, files, out, image),
         Invocation::Asm { owns, size, block } => {
             assemble_files(alloc, files, out, owns, size, block)
         }
         Invocation::Verify { text, role } => verify_file(alloc, files, out, text, role),
-        Invocation::Bare => run_input(alloc, input, out),
+        Invocation::Bare => run_input(rt, alloc, input, out),
     }
 }

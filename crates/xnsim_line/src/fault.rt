@@ -2,6 +2,7 @@ ghost use Rattle.std.specs.Prelude.{◌≡◌};
 
 use crate::invocation::LineFault;
 use crate::program::ProgramFault;
+use crash_check::ImageFault;
 use script::ScriptFault;
 use std::alloc::{AllocError, AllocFailed};
 use std::io;
@@ -17,8 +18,8 @@ pub enum Fault<'a> {
     CannotRead(&'a str),
     #[error("script line {line}: unreadable")]
     Unreadable { line: u64 },
-    #[error("not mounted yet")]
-    NotMounted,
+    #[error("fault {0}")]
+    Image(ImageFault),
     #[error("cannot write {0}")]
     CannotWrite(&'a str),
     #[error("no memory")]

@@ -9,8 +9,8 @@ ghost use Rattle.xnsim_line.specs.Formatting.{installed, IsBlockFault, IsFileFau
 
 use crate::fault::Fault;
 use crate::files::Files;
-use crate::library::file_system_templates;
 use disk::BLOCK_LEN;
+use ffs_format::templates as file_system_templates;
 use std::alloc::Global;
 use templates::{FormatFault, Template, TemplateFault, format_image, read_block};
 

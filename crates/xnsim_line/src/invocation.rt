@@ -27,9 +27,14 @@ pub enum Invocation<'a> {
         file_system: bool,
         templates: &'a [String],
     },
+    /// A script is run on the image of a file.
     Run {
         image: &'a str,
         script: &'a str,
+    },
+    /// The image of a file is checked.
+    Check {
+        image: &'a str,
     },
     /// The programs of two text files are made into the template block of a third file.
     Asm {
@@ -247,6 +252,17 @@ fn asked_run<'a>(image: &'a str, script: &'a str, rest: &[String]) -> Option<Inv
     Some(Invocation::Run { image, script })
 }
 
+/// What a command with one word behind it asks for.
+fn asked_check<'a>(name: &str, image: &'a str) -> Option<Invocation<'a>>
+    ensures some { IfSome result (IsLine (name.now ∷ image.entry.now ∷ [])) }
+    ensures none { IfNone result (IsNoLine (name.now ∷ image.entry.now ∷ [])) }
+{
+    if name != "check" || !is_name(image) {
+        return None;
+    }
+    Some(Invocation::Check { image })
+}
+
 /// What `asm` with these words asks for.
 fn asked_asm<'a>(owns: &'a str, size: &'a str, rest: &'a [String]) -> Option<Invocation<'a>>
     ensures some { IfSome result (IsLine (codes "asm" ∷ owns.entry.now ∷ size.entry.now ∷ map string_bytes rest.entry.now)) }
@@ -337,8 +353,8 @@ fn read_words<'a>(
     line_of(start, rest, &matches).ok_or(LineFault::Usage)
 }
 
-/// Reads a command line: `format IMAGE BLOCKS [--ffs] [TEMPLATE]...`, `run IMAGE SCRIPT`, `asm OWNS SIZE OUT`, `verify TEXT
-/// ROLE`, or no words. Every other line is `Usage`, also one that says the same in other words.
+/// Reads a command line: `format IMAGE BLOCKS [--ffs] [TEMPLATE]...`, `run IMAGE SCRIPT`, `check IMAGE`, `asm OWNS SIZE OUT`,
+/// `verify TEXT ROLE`, or no words. Every other line is `Usage`, also one that says the same in other words.
 pub fn read<'a>(alloc: Global, words: &'a [String]) -> Result<Invocation<'a>, LineFault>
     ensures line { IfOk result (IsLine (map string_bytes words.now)) }
     ensures bare { words.now ≡ [] → result ≡ Ok Invocation.Bare }
@@ -346,6 +362,9 @@ pub fn read<'a>(alloc: Global, words: &'a [String]) -> Result<Invocation<'a>, Li
 {
     if words.is_empty() {
         return Ok(Invocation::Bare);
+    }
+    if let [name, image] = words {
+        return asked_check(name.as_str(), image.as_str()).ok_or(LineFault::Usage);
     }
     if words.len() < 3 {
         return Err(LineFault::Usage);

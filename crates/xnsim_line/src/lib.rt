@@ -1,5 +1,5 @@
-//! What the simulator's command line does: it formats images, runs scripts of commands on them, assembles templates, and
-//! verifies programs. Files and standard streams are the caller's.
+//! What the simulator's command line does: it formats and checks images, runs scripts of commands on them, assembles
+//! templates, and verifies programs. Files and standard streams are the caller's.
 #![tactic(auto)]
 
 ghost use Rattle.std.specs.Prelude.{◌≡◌, ◌≤◌, map, string_bytes};
@@ -7,18 +7,15 @@ ghost use Rattle.xnsim_line.specs.Done.{IsLineDone};
 ghost use Rattle.xnsim_line.specs.Lines.{IsNoLine};
 
 mod assembling;
+mod checking;
 mod commands;
 mod fault;
 mod files;
 mod formatting;
-mod image;
 mod invocation;
-mod library;
 mod program;
 mod replay;
 mod telling;
-#[cfg(test)]
-mod tests;
 
 use commands::run;
 pub use fault::Fault;
@@ -27,12 +24,14 @@ pub use invocation::{Invocation, LineFault};
 pub use program::ProgramFault;
 use std::alloc::Global;
 use std::io::{Read, Write};
+use std::thread::Threads;
 use telling::{end, flush_status};
 
 /// Does what the words behind the program's name ask for, and answers the program's status: 0 where all was done, 2 where the
 /// words are no line of the program, and 1 after any other fault, also one of `out` or `err`. All that is printed on `out` is
 /// flushed before anything is printed on `err`, and at the end.
 pub fn line<F: Files, R: Read, W: Write, E: Write>(
+    rt: &(impl Threads + Sync),
     alloc: Global,
     words: &[String],
     files: &mut F,
@@ -44,7 +43,7 @@ pub fn line<F: Files, R: Read, W: Write, E: Write>(
     ensures usage { result ≡ 2 → IsNoLine (map string_bytes words.now) }
     ensures status { result ≤ 2 }
 {
-    match run(alloc, words, files, input, out) {
+    match run(rt, alloc, words, files, input, out) {
         Ok(()) => flush_status(out),
         Err(fault) => end(&fault, out, err),
     }

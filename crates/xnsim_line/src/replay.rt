@@ -7,29 +7,52 @@ ghost use Rattle.xnsim_line.specs.Done.{IsMountFault, IsRunFault};
 ghost use Rattle.xnsim_line.specs.Runs.{fresh_world, IsMountedRun, IsPrintedRun};
 
 use crate::fault::Fault;
-use crate::image::fresh_disk;
 use script::print_reply;
 use std::alloc::{AllocError, Global};
 use std::io::Write;
+use std::thread::Threads;
 use templates::{FormatFault, Template};
 use world::{Event, World};
 
 /// The first mount of a fresh disk.
-fn fresh_world(alloc: Global, blocks: u32, templates: &[Template]) -> Result<World, AllocError>
+fn fresh_world(
+    rt: &(impl Threads + Sync),
+    alloc: Global,
+    blocks: u32,
+    templates: &[Template],
+) -> Result<World, AllocError>
     requires size { IsDiskSize blocks }
     requires few { length templates.now ≤ 16 }
     ensures { IfOk result (λ world. world_with world ≡ fresh_world blocks templates.now) }
 {
-    match World::format(alloc, blocks, templates) {
+    match World::format(rt, alloc, blocks, templates) {
         Ok(world) => Ok(world),
         Err(FormatFault::NoMemory) => Err(AllocError),
         Err(_) => unreachable!(),
     }
 }
 
+/// Runs the events on a world, prints a reply an event, and answers the bytes that are then on the disk.
+fn run_events<'a, W: Write>(
+    rt: &(impl Threads + Sync),
+    mut world: World,
+    events: Vec<Event>,
+    out: &mut W,
+) -> Result<Vec<u8>, Fault<'a>>
+    ensures run { IfOk result (λ image. IsPrintedRun (world_with world) events.items (W.contents out.old) (W.contents out.new) image.items) }
+    ensures fault { IfErr result IsRunFault }
+{
+    for event in events {
+        let reply = world.step(rt, &event);
+        print_reply(out, &reply)?;
+    }
+    Ok(world.image()?)
+}
+
 /// Runs the events on a fresh disk of so many blocks with these templates, prints a reply an event, and answers the bytes
 /// that are then on the disk.
 pub fn run_script<'a, W: Write>(
+    rt: &(impl Threads + Sync),
     alloc: Global,
     blocks: u32,
     templates: &[Template],
@@ -38,20 +61,17 @@ pub fn run_script<'a, W: Write>(
 ) -> Result<Vec<u8>, Fault<'a>>
     requires size { IsDiskSize blocks }
     requires few { length templates.now ≤ 16 }
-    ensures run { IfOk result (λ image. IsPrintedRun blocks templates.now events.items (W.contents out.old) (W.contents out.new) image.items) }
+    ensures run { IfOk result (λ image. IsPrintedRun (fresh_world blocks templates.now) events.items (W.contents out.old) (W.contents out.new) image.items) }
     ensures fault { IfErr result IsRunFault }
 {
-    let mut world = fresh_world(alloc, blocks, templates)?;
-    for event in events {
-        let reply = world.step(&event);
-        print_reply(out, &reply)?;
-    }
-    Ok(world.image()?)
+    let world = fresh_world(rt, alloc, blocks, templates)?;
+    run_events(rt, world, events, out)
 }
 
-/// Runs the events on the disk of an image that is as formatting leaves it, prints a reply an event, and answers the bytes
-/// that are then on the disk. Any other image is `NotMounted`.
+/// Runs the events on the disk of a sound image, prints a reply an event, and answers the bytes that are then on the disk.
+/// Of any other image the fault is told.
 pub fn run_on_image<'a, W: Write>(
+    rt: &(impl Threads + Sync),
     alloc: Global,
     image: &[u8],
     events: Vec<Event>,
@@ -60,8 +80,8 @@ pub fn run_on_image<'a, W: Write>(
     ensures run { IfOk result (λ after. IsMountedRun image.now events.items (W.contents out.old) (W.contents out.new) after.items) }
     ensures fault { IfErr result (IsMountFault image.now) }
 {
-    let Some(disk) = fresh_disk(alloc, image)? else {
-        return Err(Fault::NotMounted);
-    };
-    run_script(alloc, disk.blocks, disk.templates.as_slice(), events, out)
+    match World::open(rt, alloc, image) {
+        Ok(world) => run_events(rt, world, events, out),
+        Err(fault) => Err(Fault::Image(fault)),
+    }
 }

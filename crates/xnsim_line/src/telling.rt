@@ -26,7 +26,7 @@ fn print_beside<W: Write, E: Write>(fault: &Fault, out: &mut W, err: &mut E) -> 
     flushed
 }
 
-/// Prints a fault's line: those of programs and templates on `out`, and every other on `err`. A fault of a standard stream has
+/// Prints a fault's line: those of programs, templates and images on `out`, and every other on `err`. A fault of a standard stream has
 /// no line.
 fn print_fault<W: Write, E: Write>(fault: &Fault, out: &mut W, err: &mut E) -> io::Result<()>
     ensures { OnOk result (IsTold fault.now (W.contents out.old) (W.contents out.new)) }
@@ -36,6 +36,7 @@ fn print_fault<W: Write, E: Write>(fault: &Fault, out: &mut W, err: &mut E) -> i
         Fault::Owns(found) => writeln!(out, "owns {found}"),
         Fault::Size(found) => writeln!(out, "size {found}"),
         Fault::Template { place, fault } => writeln!(out, "template {place}: {fault}"),
+        Fault::Image(found) => writeln!(out, "fault {found}"),
         Fault::TooManyTemplates => writeln!(out, "too many templates"),
         Fault::TooManyWords => writeln!(out, "too many words"),
         Fault::Stream => out.flush(),

@@ -1,18 +1,22 @@
 // The end of one life.
 
 ghost use Rattle.std.specs.Prelude.{◌≡◌, None, slice_set};
+ghost use Rattle.xn_model.specs.Lives.{life_at};
+ghost use Rattle.xn_state.specs.Kept.{IsUnowned};
 
-use crate::counts::discount;
+use crate::counts::{discount, mark};
 use crate::lives::Lives;
 
 impl Lives {
-    /// Ends the life of a block, and with it what is pending there: the block is free. One that is free stays so.
+    /// Ends the life of a block that no other owns, and with it what is pending there: the block is free. One that is free stays so.
     pub fn forget(&mut self, block: u32)
+        requires { IsUnowned (life_at self.old block) }
         ensures { self.new ≡ slice_set self.old block None }
     {
         let count = self.cache.pending(block);
         discount(&mut self.pending, &self.cache, block, count);
         self.cache.end(block);
         self.free.give(block);
+        mark(&mut self.dirty, block, false);
     }
 }

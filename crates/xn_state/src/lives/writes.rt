@@ -6,7 +6,7 @@ ghost use Rattle.xn_model.specs.Calls.{begun_place, first_pending, is_durable, l
 ghost use Rattle.block_cache.specs.Views.{HasImage, image_at};
 ghost use Rattle.xn_state.specs.Kept.{MayFree};
 
-use crate::counts::{discount, give_drops};
+use crate::counts::{discount, give_drops, mark};
 use crate::lives::Lives;
 use dependencies::safe_prefix;
 use xn_model::Refusal;
@@ -26,7 +26,7 @@ impl Lives {
         if facts.is_in_flight() {
             return Err(Refusal::InFlight);
         }
-        let count = safe_prefix(&self.cache, block);
+        let count = safe_prefix(&self.cache, &self.dirty, block);
         if count == 0 {
             return Err(Refusal::NothingSafe);
         }
@@ -101,6 +101,8 @@ impl Lives {
     {
         discount(&mut self.pending, &self.cache, block, count as usize);
         give_drops(&mut self.free, &self.cache, block, count as usize);
+        let left = self.cache.pending(block) - count as usize;
+        mark(&mut self.dirty, block, left > 0);
         self.cache.settle_and_free(block, count)
     }
 }

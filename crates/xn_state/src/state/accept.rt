@@ -5,6 +5,7 @@ ghost use Rattle.xn_model.specs.Lives.{life_at};
 ghost use Rattle.xn_model.specs.Results.{Gives};
 ghost use Rattle.xn_model.specs.Calls.{accepts, life_bytes, life_pending, patched, pending_of};
 ghost use Rattle.xn_model.specs.Rules.{IsConsistent};
+ghost use Rattle.claims.specs.Owned.{MayClaim};
 ghost use Rattle.xn_state.specs.Proposals.{entry_of};
 ghost use Rattle.xn_state.specs.States.{types_in};
 
@@ -30,6 +31,8 @@ impl State {
         requires room { life_pending (life_at self.old.store.lives block) < 64 }
         requires few { pending_of self.old.store fs.number < 4096 }
         requires numbers { self.old.store.next < 2 ^ 64 - 1 }
+        requires claims { MayClaim self.old.store.lives block adds.now drops.now }
+        requires few_adds { length adds.now ≤ 128 }
         requires small { length drops.now ≤ 128 }
         requires undoes { patched bytes.now undo ≡ life_bytes (life_at self.old.store.lives block) }
         requires rules { IsConsistent (types_in self.old) (accepts self.old.store block (entry_of self.old.store fs.number bytes.now adds.now drops.now after)).1 }

@@ -3,16 +3,18 @@
 ghost use Rattle.std.specs.Prelude.{◌≡◌, ◌<◌, ◌≤◌, ◌&&◌, ◌^◌, ◌-◌, length, is_some, IsTrue, IfErr, IfOk, OnOk};
 ghost use Rattle.std.specs.List.{list_all};
 ghost use Rattle.xn_model.specs.Lists.{blocks_of, distinct};
+ghost use Rattle.xn_model.specs.Types.{named_once};
 ghost use Rattle.xn_model.specs.Lives.{life_at};
 ghost use Rattle.xn_model.specs.Results.{Gives};
 ghost use Rattle.xn_model.specs.Calls.{is_empty, life_bytes, life_pending, may_add, may_drop, patched, pending_of, propose_of, was_given, within_limits};
 ghost use Rattle.xn_model.specs.Rules.{IsConsistent};
+ghost use Rattle.owner_records.specs.Owners.{is_claimed, owned_count};
 ghost use Rattle.xn_state.specs.Proposals.{edited_with, proposed_of};
 ghost use Rattle.xn_state.specs.States.{types_in};
 
-use crate::claims::{are_as_claimed, are_blocks_distinct, are_distinct};
-use crate::state::{State, is_within_size, owns_nothing};
+use crate::state::{State, is_within_size};
 use block_cache::Facts;
+use claims::{are_blocks_distinct, are_distinct, owned_pairs};
 use edit_list::{Edit, EditId, Fs, Undo};
 use xn_model::Refusal;
 
@@ -51,13 +53,7 @@ impl State {
     pub(crate) fn is_empty(&self, block: u32) -> bool
         ensures { result ≡ is_empty (types_in self.now) self.now.store block }
     {
-        let Some(facts) = self.lives.facts(block) else {
-            return false;
-        };
-        let Some(bytes) = self.lives.current(block) else {
-            return false;
-        };
-        owns_nothing(&self.table, facts.ty, bytes)
+        self.lives.owns_none(block)
     }
 
     /// Whether each of these blocks may be added.
@@ -96,6 +92,20 @@ impl State {
         blocks.iter().all(|block| self.is_empty(*block))
     }
 
+    /// Whether the blocks that a block owns change exactly as claimed to those that its new bytes name, each once.
+    fn is_as_claimed(&self, block: u32, ty: u32, new: &[u8; 512], edit: &Edit) -> bool
+        requires alive { IsTrue (is_some (life_at self.now.store.lives block)) }
+        requires installed { IsTrue ((types_in self.now).installed ty) }
+        ensures { result ≡ (is_claimed self.now.store.lives block (owned_count self.now.store.lives block) ((types_in self.now).owned ty new.now) edit.now.adds edit.now.drops
+            && named_once (types_in self.now) ty new.now) }
+    {
+        let pairs = owned_pairs(&self.table, ty, new);
+        let pairs = pairs.as_slice();
+        self.lives
+            .is_claimed(block, pairs, edit.adds(), edit.drops())
+            && are_blocks_distinct(pairs)
+    }
+
     /// The bytes that an edit leaves of a block with these, or the first refusal that applies.
     fn edited(
         &self,
@@ -105,7 +115,8 @@ impl State {
         old: &[u8; 512],
         edit: &Edit,
     ) -> Result<[u8; 512], Refusal>
-        requires { IsTrue ((types_in self.now).installed facts.ty) }
+        requires alive { IsTrue (is_some (life_at self.now.store.lives block)) }
+        requires installed { IsTrue ((types_in self.now).installed facts.ty) }
         ensures plan { result ≡ edited_with (types_in self.now) self.now.store fs.number block edit.now facts old.now }
         ensures room { OnOk result (facts.pending < 64) }
         ensures few { OnOk result (pending_of self.now.store fs.number < 4096) }
@@ -137,7 +148,7 @@ impl State {
             return Err(Refusal::NotEmpty);
         }
         let new = edited_bytes(old, edit);
-        if !are_as_claimed(&self.table, facts.ty, old, &new, edit) {
+        if !self.is_as_claimed(block, facts.ty, &new, edit) {
             return Err(Refusal::ClaimWrong);
         }
         if !is_within_size(&self.table, facts.ty, &new) {

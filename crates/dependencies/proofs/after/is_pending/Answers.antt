@@ -1,11 +1,26 @@
-use Rattle.std.proofs.Common.{◌∙◌, sym, arith}
-use Rattle.dependencies.proofs.Numbered.{pending_found, front_more}
+use Rattle.std.proofs.Common.{◌∙◌, length, sym, arith}
+use Rattle.dependencies.proofs.Dirty.{fails_all, fails_more, next_within, none_of, pends, pends_not}
+use Rattle.dependencies.proofs.Numbered.{pending_found}
 use Rattle.dependencies.proofs.after.is_pending.Goals as goal
+
+pub returns-in_default : goal.returns-in_default
+returns-in_default c =
+    let lives = c.args.cache.now in
+    let here = pends c.args.number in
+    let none = fails_all here c.args.dirty.now lives c.loop-from.from (length lives) (pends_not c.args.number) c.requires c.in_default.ensures.none c.loop-from.invariant in
+    sym (none_of here lives (length lives) (omega arith) none)
 
 pub returns-then-is_pending_in : goal.returns-then-is_pending_in
 returns-then-is_pending_in c =
-    sym (pending_found c.args.cache.now c.args.number c.loop-block.block (omega (arith, c.loop-block-test.true, c.blocks-block-end.ensures)) (sym c.is_pending_in.ensures ∙ c.if-is_pending_in.true))
+    let lives = c.args.cache.now in
+    let within = next_within c.args.dirty.now lives c.loop-from.from c.in-Some.block c.requires c.in-Some.ensures.some in
+    sym (pending_found lives c.args.number c.in-Some.block within (sym c.is_pending_in.ensures ∙ c.if-is_pending_in.true))
 
-pub loop-block-preserved : goal.loop-block-preserved
-loop-block-preserved c =
-    front_more c.args.cache.now c.args.number c.loop-block.block (omega (arith, c.loop-block-test.true, c.blocks-block-end.ensures)) c.loop-block.invariant (sym c.is_pending_in.ensures ∙ c.if-is_pending_in.false)
+pub loop-from-preserved : goal.loop-from-preserved
+loop-from-preserved c =
+    fails_more (pends c.args.number) c.args.dirty.now c.args.cache.now c.loop-from.from c.in-Some.block (pends_not c.args.number) c.requires c.in-Some.ensures.some c.loop-from.invariant
+    (sym c.is_pending_in.ensures ∙ c.if-is_pending_in.false)
+
+pub returns : goal.returns
+returns c =
+    sym (none_of (pends c.args.number) c.args.cache.now c.loop-from.from (omega (arith, c.loop-from-test.false, c.blocks-blocks.ensures)) c.loop-from.invariant)

@@ -1,6 +1,10 @@
-use Rattle.std.proofs.Common.{◌≡◌, false}
-use Rattle.dependencies.proofs.Numbered.{is_in_front}
+use Rattle.std.proofs.Common.{◌-◌}
+use Rattle.dependencies.proofs.Dirty.{FailsBelow, pends}
 use Rattle.dependencies.proofs.after.is_pending.Given as goal
 
-abbrev pub invariant-loop-block : goal.invariant-loop-block
-invariant-loop-block l = is_in_front l.cache l.number l.block ≡ false
+-- it is pending in none below
+abbrev pub invariant-loop-from : goal.invariant-loop-from
+invariant-loop-from l = FailsBelow (pends l.number) l.cache l.from
+
+abbrev pub decreases-loop-from : goal.decreases-loop-from
+decreases-loop-from l = l.blocks - l.from

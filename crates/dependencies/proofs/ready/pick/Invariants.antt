@@ -1,6 +1,11 @@
-use Rattle.std.proofs.Common.{◌≡◌, ℕ, ◌<◌, false, None, get_or}
+use Rattle.std.proofs.Common.{◌-◌}
 use Rattle.xn_model.specs.Calls.{is_ready}
+use Rattle.dependencies.proofs.Dirty.{FailsBelow}
 use Rattle.dependencies.proofs.ready.pick.Given as goal
 
-abbrev pub invariant-loop-block : goal.invariant-loop-block
-invariant-loop-block l = (k : ℕ) → k < l.block → is_ready l.cache (get_or l.cache k None) ≡ false
+-- none below is ready
+abbrev pub invariant-loop-from : goal.invariant-loop-from
+invariant-loop-from l = FailsBelow (is_ready l.cache) l.cache l.from
+
+abbrev pub decreases-loop-from : goal.decreases-loop-from
+decreases-loop-from l = l.blocks - l.from

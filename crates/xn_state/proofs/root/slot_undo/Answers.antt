@@ -1,6 +1,6 @@
-use Rattle.std.proofs.Common.{◌∙◌, ap, List, [], ◌∷◌, ◌++◌, ◌+◌, ◌*◌}
+use Rattle.std.proofs.Common.{◌∙◌, ap, [], ◌∷◌, ◌++◌, ◌+◌, ◌*◌}
 use Rattle.xn_model.specs.Root.{with_slot}
-use Rattle.xn_model.specs.Calls.{Patch, patched}
+use Rattle.xn_model.specs.Calls.{patched}
 use Rattle.xn_state.proofs.Slots.{slot_undone}
 use Rattle.xn_state.proofs.root.slot_undo.Goals as goal
 

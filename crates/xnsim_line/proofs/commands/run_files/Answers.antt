@@ -1,7 +1,7 @@
-use Rattle.std.proofs.Common.{rules, ◌≡◌, ◌<◌, ◌*◌, length, sym, subst, arith}
+use Rattle.std.proofs.Common.{rules, ◌≡◌, ◌<◌, ◌≤◌, ◌*◌, length, sym, subst, arith}
 use Rattle.std.proofs.lemmas.Result.{err_from_is_err_and}
+use Rattle.image_model.specs.Walk.{count_of}
 use Rattle.xnsim_line.specs.Files.{IsHeld, IsStartHeld}
-use Rattle.xnsim_line.proofs.FreshImages.{length_fresh}
 use Rattle.xnsim_line.proofs.MountFaults.{mount_fault}
 use Rattle.xnsim_line.proofs.StartsRead.{whole_held}
 use Rattle.xnsim_line.proofs.commands.run_files.Goals as goal
@@ -14,8 +14,8 @@ returns-clause-done g c =
     let start : IsStartHeld held c.args.image.now 16777217 before = search rules in
     let same : image ≡ before = c.as_slice-2.ensures.value in
     let run = c.in_ok-after.ensures.run in
-    let long : length image ≡ 512 * run.blocks = length_fresh image run.blocks run.templates run.fresh in
-    let most = run.fresh.greatest in
+    let long : length image ≡ 512 * count_of image = run.sound.whole in
+    let most : count_of image ≤ 32768 = run.sound.blocks.size.1 in
     let few : length image < 16777217 = omega (arith, long, most) in
     record {
       image = image;

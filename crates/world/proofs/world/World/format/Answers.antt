@@ -1,14 +1,15 @@
-use Rattle.std.proofs.Common.{length}
-use Rattle.world.proofs.FreshTables.{no_fault}
-use Rattle.world.proofs.Formats.{fresh_world, fresh_is_world}
+use Rattle.std.proofs.Common.{◌∙◌, ⊎_elim}
+use Rattle.world.proofs.Formats.{fresh_world, never_faulty}
 use Rattle.world.proofs.world.World.format.Goals as goal
 
-pub invariant_of-result : goal.invariant_of-result
-invariant_of-result c =
-    let size = no_fault c.args.blocks (length c.args.templates.now) c.in_ok-kernel.ensures.0 in
-    fresh_is_world c.args.blocks c.args.templates.now size.0 size.1 c.in_ok-kernel.kernel c.in_ok-kernel.ensures.1 c.in_ok-tickets.tickets.items c.in_ok-tickets.ensures
+pub returns-in-Ok : goal.returns-in-Ok
+returns-in-Ok g c = (
+  c.in_ok-image.ensures.0,
+  fresh_world c.args.blocks c.args.templates.now c.in_ok-image.ensures.0 c.are_templates.ensures c.deref.result.now (c.deref.ensures.value ∙ c.in_ok-image.ensures.1) _ c.in-Ok.ensures.ok.1,
+)
 
-pub returns : goal.returns
-returns c =
-    let size = no_fault c.args.blocks (length c.args.templates.now) c.in_ok-kernel.ensures.0 in
-    (c.in_ok-kernel.ensures.0, fresh_world c.args.blocks c.args.templates.now size.0 size.1 c.in_ok-kernel.kernel c.in_ok-kernel.ensures.1 c.in_ok-tickets.tickets.items c.in_ok-tickets.ensures)
+pub want_of_memory-requires : goal.want_of_memory-requires
+want_of_memory-requires g c = ⊎_elim
+    (λ none. none)
+    (λ e. absurd (never_faulty c.args.blocks c.args.templates.now c.in_ok-image.ensures.0 c.are_templates.ensures c.deref.result.now (c.deref.ensures.value ∙ c.in_ok-image.ensures.1) c.in-Err.fault e))
+    c.in-Err.ensures.err

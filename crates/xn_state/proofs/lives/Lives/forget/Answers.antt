@@ -1,13 +1,21 @@
-use Rattle.std.proofs.Common.{arith}
+use Rattle.std.proofs.Common.{arith, sym, subst}
+use Rattle.xn_model.specs.Lives.{Lives, life_at}
+use Rattle.claims.proofs.Counted.{ended_counts}
+use Rattle.xn_state.specs.Kept.{IsUnowned}
+use Rattle.xn_state.proofs.Dirty.{forgotten_dirty}
 use Rattle.xn_state.proofs.Forgetting.{few_forgotten, forgotten_counted}
 use Rattle.xn_state.proofs.lives.Lives.forget.Goals as goal
 
 pub discount-requires-clause-counted : goal.discount-requires-clause-counted
 discount-requires-clause-counted c =
-    λ fs few. omega (arith, few_forgotten fs c.self.inside.cache c.args.block c.pending-count.result c.pending-count.ensures.count, c.self.invariant.counts fs few)
+    λ fs few. omega (arith, few_forgotten fs c.self.inside.cache c.args.block c.pending-count.result c.pending-count.ensures.count, c.self.invariant.0.counts fs few)
 
 pub invariant_of-self : goal.invariant_of-self
 invariant_of-self c =
-    rw (c.end.ensures, c.give.ensures)
-    (forgotten_counted c.self.inside.cache c.self.inside.free c.self.inside.pending c.discount.new.pending c.args.block c.pending-count.result c.self.invariant
-    c.pending-count.ensures.count c.discount.ensures)
+    let cache = c.self.inside.cache in
+    let unowned = subst (λ (xs : Lives). IsUnowned (life_at xs c.args.block)) (sym c.self.view_is) c.requires in
+    rw (c.end.ensures, c.give.ensures, c.mark.ensures) (
+      forgotten_counted cache c.self.inside.free c.self.inside.pending c.discount.new.pending c.args.block c.pending-count.result c.self.invariant.0 c.pending-count.ensures.count c.discount.ensures,
+      ended_counts c.self.inside.owned cache c.args.block c.self.invariant.1 unowned,
+      forgotten_dirty c.self.inside.dirty cache c.args.block c.self.invariant.2,
+    )

@@ -7,6 +7,7 @@ use Rattle.block_cache.specs.Views.{life_at_rest}
 use Rattle.edit_list.specs.declared.fs.Fs.{Fs}
 use Rattle.xn_state.specs.Mounts.{found_of}
 use Rattle.xn_state.proofs.Counting.{marks}
+use Rattle.xn_state.proofs.Dirty.{found_dirty}
 use Rattle.xn_state.proofs.Finding.{length-blocks, all_put, all_found, found_counted, found_more, marks_more, no_marks, put_found}
 use Rattle.xn_state.proofs.lives.Lives.found.Goals as goal
 
@@ -35,7 +36,7 @@ all_are c =
 
 pub invariant_of-result : goal.invariant_of-result
 invariant_of-result c =
-    found_counted (blocks_in c.args.image.now) (map found_of c.args.found.now) c.loop-block.cache c.loop-block.free _ (all_are c) c.loop-block.invariant.1 refl
+    (found_counted (blocks_in c.args.image.now) (map found_of c.args.found.now) c.loop-block.cache c.loop-block.free _ (all_are c) c.loop-block.invariant.1 refl, c.in_ok-owned.ensures, found_dirty (blocks_in c.args.image.now) (map found_of c.args.found.now) c.loop-block.cache c.in_ok-dirty.dirty (length c.as_chunks.result.0.now) (all_are c) (ap length c.as_chunks.ensures.front) c.in_ok-dirty.ensures)
 
 pub returns : goal.returns
 returns c = all_are c

@@ -6,4 +6,4 @@ use Rattle.xn_state.proofs.Counting.{lowest_marked}
 use Rattle.xn_state.proofs.lives.Lives.lowest_free.Goals as goal
 
 pub returns : goal.returns
-returns c = c.lowest.ensures ∙ (ap (position is_member) c.self.invariant.marked ∙ (lowest_marked c.self.inside.cache ∙ ap lowest_free c.self.view_is))
+returns c = c.lowest.ensures ∙ (ap (position is_member) c.self.invariant.0.marked ∙ (lowest_marked c.self.inside.cache ∙ ap lowest_free c.self.view_is))

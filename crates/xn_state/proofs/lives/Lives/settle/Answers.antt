@@ -1,13 +1,16 @@
-use Rattle.std.proofs.Common.{sym, subst, arith}
+use Rattle.std.proofs.Common.{◌∙◌, ℕ, ◌-◌, ap, sym, subst, arith}
+use Rattle.std.specs.Prelude.{Contains, nat_lt, slice_set}
 use Rattle.xn_model.specs.Lives.{Lives, drops_of, life_at}
 use Rattle.xn_model.specs.Calls.{first_pending}
 use Rattle.xn_state.specs.Kept.{MayFree}
+use Rattle.claims.proofs.Counted.{settled_counts}
 use Rattle.xn_state.proofs.Counting.{settled_less}
-use Rattle.xn_state.proofs.Freeing.{apart_all, ended_counted}
+use Rattle.xn_state.proofs.Dirty.{settled_dirty}
+use Rattle.xn_state.proofs.Freeing.{apart_all, ended_counted, settled_none}
 use Rattle.xn_state.proofs.lives.Lives.settle.Goals as goal
 
 pub discount-requires-clause-counted : goal.discount-requires-clause-counted
-discount-requires-clause-counted c = λ fs few. omega (arith, settled_less fs c.self.inside.cache c.args.block c.args.count, c.self.invariant.counts fs few)
+discount-requires-clause-counted c = λ fs few. omega (arith, settled_less fs c.self.inside.cache c.args.block c.args.count, c.self.invariant.0.counts fs few)
 
 pub settle_and_free-requires-clause-apart : goal.settle_and_free-requires-clause-apart
 settle_and_free-requires-clause-apart c =
@@ -16,6 +19,15 @@ settle_and_free-requires-clause-apart c =
 
 pub invariant_of-self : goal.invariant_of-self
 invariant_of-self c =
-    let may = subst (λ (xs : Lives). MayFree xs c.args.block (drops_of (first_pending c.args.count (life_at xs c.args.block)))) (sym c.self.view_is) c.requires.drops in
-    rw (c.settle_and_free.ensures.lives, c.give_drops.ensures)
-    (ended_counted c.self.inside.cache c.self.inside.free c.self.inside.pending c.discount.new.pending c.args.block c.args.count c.self.invariant c.discount.ensures may)
+    let cache = c.self.inside.cache in
+    let block = c.args.block in
+    let count = c.args.count in
+    let drops = drops_of (first_pending count (life_at cache block)) in
+    let may = subst (λ (xs : Lives). MayFree xs block (drops_of (first_pending count (life_at xs block)))) (sym c.self.view_is) c.requires.drops in
+    let rest = λ (d : ℕ) (i : Contains drops d). settled_none cache block count d (λ e. may.apart (subst (Contains drops) e i)) (may.at_rest d i) in
+    let dirty = c.mark.ensures ∙ ap (λ n. slice_set c.self.inside.dirty block (nat_lt 0 (n - count))) c.pending.ensures.count in
+    rw (c.settle_and_free.ensures.lives, c.give_drops.ensures, dirty) (
+      ended_counted cache c.self.inside.free c.self.inside.pending c.discount.new.pending block count c.self.invariant.0 c.discount.ensures may,
+      settled_counts c.self.inside.owned cache block count drops c.self.invariant.1 may.unowned,
+      settled_dirty c.self.inside.dirty cache block count drops c.self.invariant.2 rest,
+    )

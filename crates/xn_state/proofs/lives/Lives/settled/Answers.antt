@@ -1,5 +1,5 @@
 use Rattle.std.proofs.Common.{◌∙◌, Bool, Ok, Err, ap, sym, refl, slice_get}
-use Rattle.std.specs.Prelude.{bytes_eq, if◌then◌else◌, option_map}
+use Rattle.std.specs.Prelude.{if◌then◌else◌, option_map}
 use Rattle.xn_model.specs.declared.refusal.Refusal.TheVariants.{NotMine}
 use Rattle.xn_model.specs.Lives.{Lives, alive_and, life_at}
 use Rattle.xn_model.specs.Calls.{is_durable}

@@ -5,6 +5,7 @@ use Rattle.xn_model.specs.Results.{Gives}
 use Rattle.xn_model.specs.Calls.{patched}
 use Rattle.xn_state.specs.States.{types_in}
 use Rattle.xn_state.proofs.Keeping.{drop_refused, empty_slot_bytes, root_dropped, dropped_consistent}
+use Rattle.xn_state.proofs.Claiming.{drop_claims}
 use Rattle.xn_state.proofs.state.State.drop_root.Goals as goal
 
 pub returns-in_err-bytes-clause-state : goal.returns-in_err-bytes-clause-state
@@ -34,3 +35,7 @@ pub accept-requires-clause-undoes : goal.accept-requires-clause-undoes
 accept-requires-clause-undoes c =
     let is = empty_slot_bytes (types_in c.args.self.now) c.args.self.now.store c.args.fs.number (c.in_ok-bytes.bytes, c.in_ok-bytes.block) (sym c.in_ok-bytes.ensures.plan) in
     ap (λ (m : List ℕ). patched m c.in_ok-undo.undo) is ∙ c.in_ok-undo.ensures.ok (0, 0)
+
+pub accept-requires-clause-claims : goal.accept-requires-clause-claims
+accept-requires-clause-claims c =
+    drop_claims (types_in c.args.self.now) c.args.self.now.store c.args.fs.number (c.in_ok-bytes.bytes, c.in_ok-bytes.block) c.drop_root_plan.ensures.rules c.args.fs.few (sym c.in_ok-bytes.ensures.plan)

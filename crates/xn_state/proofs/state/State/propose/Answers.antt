@@ -6,6 +6,7 @@ use Rattle.xn_model.specs.Calls.{accepts, patched}
 use Rattle.xn_state.specs.States.{types_in}
 use Rattle.xn_state.specs.Proposals.{entry_of}
 use Rattle.xn_state.proofs.Proposing.{bytes_made, edit_made, edit_refused, edit_consistent}
+use Rattle.xn_state.proofs.Claiming.{edit_claims}
 use Rattle.xn_state.proofs.state.State.propose.Goals as goal
 
 pub returns-in_err-bytes-clause-state : goal.returns-in_err-bytes-clause-state
@@ -42,3 +43,8 @@ accept-requires-clause-undoes c =
     let state = c.args.self.now in
     let is = bytes_made (types_in state) state.store c.args.fs.number c.args.block c.args.edit.now c.in_ok-bytes.bytes (sym c.in_ok-bytes.ensures.plan) in
     ap (λ (m : List ℕ). patched m c.in_ok-undo.undo) is ∙ c.in_ok-undo.ensures.ok
+
+pub accept-requires-clause-claims : goal.accept-requires-clause-claims
+accept-requires-clause-claims c =
+    let state = c.args.self.now in
+    rw (c.adds.ensures, c.drops.ensures) (edit_claims (types_in state) state.store c.args.fs.number c.args.block c.args.edit.now c.in_ok-bytes.bytes (sym c.in_ok-bytes.ensures.plan))

@@ -1,0 +1,3 @@
+pub mod Owners
+pub mod Counted
+pub mod Numbers

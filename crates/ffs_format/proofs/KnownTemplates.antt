@@ -1,0 +1,34 @@
+-- The blocks of the library's file system spell its templates.
+use Rattle.std.proofs.Common.{◌≡◌, ◌-◌, List, [], ◌∷◌, ◌++◌, length, refl, sym, ◌∙◌}
+use Rattle.std.specs.Prelude.{Result, Ok}
+use Rattle.xn_model.specs.BareDisks.{zeros}
+use Rattle.templates.specs.declared.fault.TemplateFault.{TemplateFault}
+use Rattle.templates.specs.Templates.{TemplateValue}
+use Rattle.templates.specs.Reading.{head_of, template_of_bytes, template_of_code}
+use Rattle.ffs_format.specs.declared.library.TheConstants.{ROOT, INODES, POINTERS}
+use Rattle.ffs_format.specs.Library.{file_system_templates, root_template, inode_template, pointer_template}
+
+same_Ok : (s t : TemplateValue) → ◌≡◌ {A = Result TemplateValue TemplateFault} (Ok s) (Ok t) → s ≡ t
+same_Ok s t h = cc
+
+pub root_block : template_of_bytes (ROOT ++ zeros (512 - length ROOT)) ≡ Ok root_template
+unfolding template_of_bytes head_of template_of_code root_template
+root_block = refl
+
+pub inode_block : template_of_bytes (INODES ++ zeros (512 - length INODES)) ≡ Ok inode_template
+unfolding template_of_bytes head_of template_of_code inode_template
+inode_block = refl
+
+pub pointer_block : template_of_bytes (POINTERS ++ zeros (512 - length POINTERS)) ≡ Ok pointer_template
+unfolding template_of_bytes head_of template_of_code pointer_template
+pointer_block = refl
+
+-- three templates that are read from them
+pub three_known : (items : List TemplateValue) (a b c : TemplateValue) → items ≡ a ∷ b ∷ c ∷ [] → template_of_bytes (ROOT ++ zeros (512 - length ROOT)) ≡ Ok a →
+    template_of_bytes (INODES ++ zeros (512 - length INODES)) ≡ Ok b → template_of_bytes (POINTERS ++ zeros (512 - length POINTERS)) ≡ Ok c →
+    items ≡ file_system_templates
+three_known items a b c are root inodes pointers =
+    let first : a ≡ root_template = same_Ok a root_template (sym root ∙ root_block) in
+    let second : b ≡ inode_template = same_Ok b inode_template (sym inodes ∙ inode_block) in
+    let third : c ≡ pointer_template = same_Ok c pointer_template (sym pointers ∙ pointer_block) in
+    cc

@@ -1,0 +1,108 @@
+-- Each call leaves no word above its file system's floor.
+use Rattle.std.proofs.Common.{◌≡◌, ◌⊎◌, ℕ, zero, suc, ◌≤◌, Bool, true, false, List, Option, Some, None, Result, Ok, Err, refl, sym, subst, ap, ⊎_elim, arith}
+use Rattle.std.specs.Prelude.{IsTrue, OnErr, OnOk, IfOk, IfErr, IsErrAnd}
+use Rattle.disk.specs.Lanes.{CountsOne}
+use Rattle.xn_model.specs.Types.{Types}
+use Rattle.xn_model.specs.Lives.{StoreState}
+use Rattle.xn_model.specs.declared.refusal.Refusal.{Refusal}
+use Rattle.xn_model.specs.Results.{Gives, GivesExactly, result_map}
+use Rattle.xn_model.specs.Calls.{Edit, init_of, propose_of, make_root_of, drop_root_of, forget_of, begun_of, settled_of}
+use Rattle.xn_state.specs.declared.call.Call.{Call}
+use Rattle.xn_state.specs.declared.call.Call.TheVariants.{Init, Propose, MakeRoot, DropRoot, Forget, Read, Root, Kind, Tainted, Pending, Floor, Free, Pick, Drain}
+use Rattle.xn_state.specs.declared.answer.Answer.{Answer}
+use Rattle.xn_state.specs.Answers.{Answers}
+use Rattle.xn_kernel.specs.Kernels.{KernelValue, TicketValue, result_map_err}
+use Rattle.xn_kernel.specs.Drains.{Reads, WritesTo, Round, Rounds, Stops, Refuses}
+use Rattle.shared.specs.Floors.{FloorsRise}
+use Rattle.shared.specs.Hubs.{NoWordAbove}
+use Rattle.shared.proofs.Floors.{init_rises, propose_rises, make_root_rises, drop_root_rises, forget_rises, begun_rises, settled_rises, rises_by, rises_on, begun_ok_rises, settled_ok_rises}
+
+pub below : (words : List ℕ) (old new : StoreState) → NoWordAbove words old → FloorsRise old new → NoWordAbove words new
+below words old new h rise fs = omega (arith, h fs, rise fs)
+
+answers_rise : (T : Types) (old new : StoreState) (fs : ℕ) (call : Call) (a : Answer) → Answers T old fs call new a → FloorsRise old new
+answers_rise T old new fs (Init ty bytes) a h = init_rises T old new fs ty bytes h.0 h.2
+answers_rise T old new fs (Propose b edit) a h = propose_rises T old new fs b edit h.0 h.2
+answers_rise T old new fs (MakeRoot b) a h = make_root_rises old new fs b h.0 h.2
+answers_rise T old new fs DropRoot a h = drop_root_rises T old new fs h.0 h.2
+answers_rise T old new fs (Forget b) a h = forget_rises T old new fs b h.0 h.2
+answers_rise T old new fs (Read b) a h = rises_by old new h.1
+answers_rise T old new fs Root a h = rises_by old new h.1
+answers_rise T old new fs (Kind b) a h = rises_by old new h.1
+answers_rise T old new fs (Tainted b) a h = rises_by old new h.1
+answers_rise T old new fs Pending a h = rises_by old new h.1
+answers_rise T old new fs Floor a h = rises_by old new h.1
+answers_rise T old new fs Free a h = rises_by old new h.1
+answers_rise T old new fs Pick a h = rises_by old new h.1
+answers_rise T old new fs Drain a h = absurd h
+
+pub call_below : (words : List ℕ) (T : Types) (old new : StoreState) (fs : ℕ) (call : Call) (a : Answer) → NoWordAbove words old → Answers T old fs call new a → NoWordAbove words new
+call_below words T old new fs call a h answers = below words old new h (answers_rise T old new fs call a answers)
+
+pub init_below : (words : List ℕ) (T : Types) (old new : StoreState) (fs t : ℕ) (bytes : List ℕ) (r : Result (ℕ × ℕ) Refusal) → NoWordAbove words old → Gives (init_of T old fs t bytes) old new r → NoWordAbove words new
+init_below words T old new fs t bytes r h gives = below words old new h (init_rises T old new fs t bytes r gives)
+
+pub propose_below : (words : List ℕ) (T : Types) (old new : StoreState) (fs b : ℕ) (edit : Edit) (r : Result ℕ Refusal) → NoWordAbove words old → Gives (propose_of T old fs b edit) old new r → NoWordAbove words new
+propose_below words T old new fs b edit r h gives = below words old new h (propose_rises T old new fs b edit r gives)
+
+pub make_root_below : (words : List ℕ) (old new : StoreState) (fs b : ℕ) (r : Result ℕ Refusal) → NoWordAbove words old → Gives (make_root_of old fs b) old new r → NoWordAbove words new
+make_root_below words old new fs b r h gives = below words old new h (make_root_rises old new fs b r gives)
+
+pub drop_root_below : (words : List ℕ) (T : Types) (old new : StoreState) (fs : ℕ) (r : Result ℕ Refusal) → NoWordAbove words old → Gives (drop_root_of T old fs) old new r → NoWordAbove words new
+drop_root_below words T old new fs r h gives = below words old new h (drop_root_rises T old new fs r gives)
+
+pub forget_below : (words : List ℕ) (T : Types) (old new : StoreState) (fs b : ℕ) (r : Result (Unit {0}) Refusal) → NoWordAbove words old → GivesExactly (forget_of T old fs b) old new r → NoWordAbove words new
+forget_below words T old new fs b r h gives = below words old new h (forget_rises T old new fs b r gives)
+
+pub begun_below : (words : List ℕ) (old new : StoreState) (b : ℕ) (r : Result (List ℕ × ℕ) Refusal) → NoWordAbove words old → GivesExactly (begun_of old b) old new r → NoWordAbove words new
+begun_below words old new b r h gives = below words old new h (begun_rises old new b r gives)
+
+-- The finish of a write
+
+pub finish_rises : {L A B : Type 0} (old new : KernelValue L) (mine : Bool) (b : ℕ) (bytes : List ℕ) (result : Result A B) (counts : A → ℕ × ℕ) (refusal : B → Refusal) (Foreign Fault : B → Type 0) →
+    (mine ≡ false → IsErrAnd result Foreign) →
+    (IsTrue mine → GivesExactly (settled_of old.state.store b bytes) old.state.store new.state.store (result_map counts (result_map_err refusal result)) ⊎ IsErrAnd result Fault) →
+    OnErr result (new ≡ old) → FloorsRise old.state.store new.state.store
+finish_rises old new mine b bytes (Err back) counts refusal Foreign Fault foreign ours same = rises_by old.state.store new.state.store (ap (λ k. k.state.store) same)
+finish_rises old new true b bytes (Ok landed) counts refusal Foreign Fault foreign ours same =
+    ⊎_elim (λ gives. settled_rises old.state.store new.state.store b bytes (Ok (counts landed)) gives) (λ fault. absurd fault) (ours refl)
+finish_rises old new false b bytes (Ok landed) counts refusal Foreign Fault foreign ours same = absurd (foreign refl)
+
+-- A drain
+
+module _ {L : Type 0} (bytes : L → List ℕ) (faults : L → ℕ) (writes : WritesTo L) (reads : Reads L) where
+  round_rises : (old new : KernelValue L) → Round bytes faults writes reads old new → FloorsRise old.state.store new.state.store
+  round_rises old new r =
+      let one = begun_ok_rises old.state.store r.begun r.ticket.block (r.ticket.bytes, r.ticket.count) r.written.begins in
+      let two = settled_ok_rises r.begun r.store r.ticket.block r.ticket.bytes (r.ticket.count, r.freed) r.settles in
+      let three = rises_by r.store new.state.store (ap (λ k. k.state.store) r.next) in
+      rises_on old.state.store r.begun new.state.store one (rises_on r.begun r.store new.state.store two three)
+
+  rounds_rise : (n : ℕ) (old new : KernelValue L) → Rounds bytes faults writes reads n old new → FloorsRise old.state.store new.state.store
+  rounds_rise zero old new e = rises_by old.state.store new.state.store (ap (λ k. k.state.store) e)
+  rounds_rise (suc n) old new r = rises_on old.state.store r.0.state.store new.state.store (round_rises old r.0 r.1) (rounds_rise n r.0 new r.2)
+
+  stops_rise : (old new : KernelValue L) (ticket : Option (TicketValue L)) (refusal : Refusal) → Stops bytes faults writes reads old ticket refusal new → FloorsRise old.state.store new.state.store
+  stops_rise old new None refusal s =
+      let u = s.1 in
+      let one = begun_ok_rises old.state.store u.begun u.ticket.block (u.ticket.bytes, u.ticket.count) u.written.begins in
+      let two = settled_ok_rises u.begun u.store u.ticket.block (bytes u.ticket.lane) (0, 0) u.settles in
+      let three = rises_by u.store new.state.store (ap (λ k. k.state.store) u.next) in
+      rises_on old.state.store u.begun new.state.store one (rises_on u.begun u.store new.state.store two three)
+  stops_rise old new (Some back) refusal s =
+      let u = s.1 in
+      let one = begun_ok_rises old.state.store u.begun u.ticket.block (u.ticket.bytes, u.ticket.count) u.written.begins in
+      let two = rises_by u.begun new.state.store (ap (λ k. k.state.store) u.next) in
+      rises_on old.state.store u.begun new.state.store one two
+
+  refuses_rise : (old new : KernelValue L) (n : ℕ) (ticket : Option (TicketValue L)) (refusal : Refusal) → Refuses bytes faults writes reads old n ticket refusal new → FloorsRise old.state.store new.state.store
+  refuses_rise old new n ticket refusal h = ⊎_elim
+      (λ busy. rises_by old.state.store new.state.store (ap (λ k. k.state.store) busy.4))
+      (λ s. rises_on old.state.store s.0.state.store new.state.store (rounds_rise n old s.0 s.1) (stops_rise s.0 new ticket refusal s.2))
+      h
+
+  pub drain_rises : {S : Type 0} (old new : KernelValue L) (result : Result ℕ S) (count : S → ℕ) (ticket : S → Option (TicketValue L)) (refusal : S → Refusal) →
+      IfOk result (λ n. Rounds bytes faults writes reads n old new) →
+      IfErr result (λ stop. Refuses bytes faults writes reads old (count stop) (ticket stop) (refusal stop) new) → FloorsRise old.state.store new.state.store
+  drain_rises old new (Ok n) count ticket refusal ok err = rounds_rise n old new ok
+  drain_rises old new (Err stop) count ticket refusal ok err = refuses_rise old new (count stop) (ticket stop) (refusal stop) err

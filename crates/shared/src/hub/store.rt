@@ -1,0 +1,55 @@
+// A hub as a store, in which a library keeps its files.
+
+ghost use Rattle.std.specs.Prelude.{◌≡◌};
+
+use crate::hub::Hub;
+use disk::Lane;
+use durable_floor::Naming;
+use xn_kernel::{Edit, EditId, Fs, Refusal, Store};
+
+impl<L: Lane, K: Naming> Store for Hub<L, K> {
+    ghost use Rattle.xn_state.specs.States.{types_in};
+
+    ghost types_of = { λ hub. types_in hub.kernel.state };
+
+    ghost state_of = { λ hub. hub.kernel.state.store };
+
+    fn init(&mut self, fs: Fs, ty: u32, bytes: &[u8; 512]) -> Result<(u32, EditId), Refusal> {
+        let made = Hub::init(self, fs, ty, bytes);
+        self.kernel.keeps_rules();
+        made
+    }
+
+    fn propose(&mut self, fs: Fs, block: u32, edit: &Edit) -> Result<EditId, Refusal> {
+        let made = Hub::propose(self, fs, block, edit);
+        self.kernel.keeps_rules();
+        made
+    }
+
+    fn make_root(&mut self, fs: Fs, block: u32) -> Result<EditId, Refusal> {
+        let made = Hub::make_root(self, fs, block);
+        self.kernel.keeps_rules();
+        made
+    }
+
+    fn forget(&mut self, fs: Fs, block: u32) -> Result<(), Refusal> {
+        let done = Hub::forget(self, fs, block);
+        self.kernel.keeps_rules();
+        done
+    }
+
+    fn read(&self, fs: Fs, block: u32) -> Result<&[u8; 512], Refusal> {
+        self.kernel.keeps_rules();
+        Hub::read(self, fs, block)
+    }
+
+    fn root(&self, fs: Fs) -> Option<u32> {
+        self.kernel.keeps_rules();
+        Hub::root(self, fs)
+    }
+
+    fn kind(&self, fs: Fs, block: u32) -> Result<u32, Refusal> {
+        self.kernel.keeps_rules();
+        Hub::kind(self, fs, block)
+    }
+}

@@ -1,0 +1,17 @@
+//! Threads that share a kernel, as tests.
+#![tactic(auto)]
+
+#[cfg(test)]
+mod alone;
+#[cfg(test)]
+mod at_once;
+#[cfg(test)]
+mod disks;
+#[cfg(test)]
+mod held;
+#[cfg(test)]
+mod hold;
+#[cfg(test)]
+mod many;
+#[cfg(test)]
+mod sharing;

@@ -1,0 +1,352 @@
+// Eight file systems and four flushers, over lanes that fail now and then.
+
+ghost use Rattle.std.specs.Prelude.{◌≡◌};
+ghost use Rattle.durable_floor.specs.Rules.{zeros};
+
+use crate::disks::{bare_lanes, file_system, mounted};
+use crate::hold::Open;
+use crate::sharing::{end_of, share};
+use crash_check::check;
+use disk::{DeviceFault, Lane, Lanes, MemDisk, MemLane};
+use durable_floor::{Floor, Naming, Publisher, Reader};
+use shared::{Flusher, Gate, Shared};
+use std::alloc::{AllocError, Global};
+use std::marker::Brand;
+use std::process::Abort;
+use std::sync::Wait;
+use std::test::*;
+use std::thread;
+use std::thread::{Threads, join};
+use xn_kernel::{Edit, Fs, Kernel, Patch, Refusal};
+
+/// How many edits each file system proposes.
+const EDITS: u32 = 2500;
+
+/// How many places of four bytes the edits of a block go round.
+const PLACES: u32 = 128;
+
+/// A lane in memory whose every 20th write fails, in turns with the old and the new bytes.
+#[derive(Drop)]
+pub struct FailingLane {
+    lane: MemLane,
+    writes: u32,
+}
+
+impl Lane for FailingLane {
+    ghost use Rattle.std.specs.Prelude.{⊤};
+
+    ghost number_of = { λ failing. failing.lane.number };
+
+    ghost bytes_of = { λ failing. failing.lane.bytes };
+
+    ghost faults_of = { λ failing. failing.lane.faults };
+
+    ghost read_gives = { λ old answer new. ⊤ };
+
+    ghost write_gives = { λ old bytes answer new. ⊤ };
+
+    fn number(&self) -> u32 {
+        self.lane.number()
+    }
+
+    fn faults(&self) -> u64 {
+        self.lane.faults()
+    }
+
+    fn read(&mut self, into: &mut [u8; 512]) -> Result<(), DeviceFault> {
+        self.lane.read(into)
+    }
+
+    fn write(&mut self, from: &[u8; 512]) -> Result<(), DeviceFault> {
+        self.writes = self.writes.wrapping_add(1);
+        if self.writes % 20 == 0 {
+            self.lane.fail_write(self.writes % 40 == 0);
+        }
+        self.lane.write(from)
+    }
+}
+
+/// Lanes that fail now and then.
+fn failing_lanes(
+    alloc: Global,
+    mut lanes: Lanes<MemLane>,
+) -> Result<Lanes<FailingLane>, AllocError> {
+    let mut all = Lanes::new(alloc, 32)?;
+    for block in 0..32 {
+        if lanes.blocks() <= block as usize {
+            return Err(AllocError);
+        }
+        let Some(lane) = lanes.take(block) else {
+            return Err(AllocError);
+        };
+        if let Err(_) = all.give(FailingLane { lane, writes: 0 }) {
+            return Err(AllocError);
+        }
+    }
+    Ok(all)
+}
+
+/// The lanes of a disk whose faults are over.
+fn sound_lanes(alloc: Global, mut lanes: Lanes<FailingLane>) -> Result<Lanes<MemLane>, AllocError> {
+    let mut all = Lanes::new(alloc, 32)?;
+    for block in 0..32 {
+        if lanes.blocks() <= block as usize {
+            return Err(AllocError);
+        }
+        let Some(FailingLane { lane, writes: _ }) = lanes.take(block) else {
+            return Err(AllocError);
+        };
+        if let Err(_) = all.give(lane) {
+            return Err(AllocError);
+        }
+    }
+    Ok(all)
+}
+
+/// The edit of a number: it stands in its place of the block.
+fn numbered(alloc: Global, number: u32) -> Result<Edit, AllocError> {
+    let bytes = Vec::from_slice(alloc, &number.to_le_bytes())?;
+    let offset = (4 * (number % PLACES)) as u16;
+    let patches = Vec::from_array(alloc, [Patch { offset, bytes }])?;
+    Ok(Edit {
+        patches,
+        adds: Vec::new(alloc),
+        drops: Vec::new(alloc),
+        after: None,
+    })
+}
+
+/// Proposes an edit until there is room for it; whether that was so in time.
+fn propose<L: Lane, G: Gate, K: Naming, R: Wait>(
+    rt: &R,
+    shared: &Shared<L, G, K>,
+    fs: Fs,
+    block: u32,
+    edit: &Edit,
+) -> bool {
+    for _ in 0..10_000_000 {
+        match shared.with(rt, |hub| hub.propose(fs, block, edit)) {
+            Ok(_) => return true,
+            Err(Refusal::TooManyPending) => thread::yield_now(),
+            Err(_) => return false,
+        }
+    }
+    false
+}
+
+/// All edits of a file system's block; whether each was accepted.
+fn work<L: Lane, G: Gate, K: Naming, R: Wait>(
+    rt: &R,
+    alloc: Global,
+    shared: &Shared<L, G, K>,
+    number: u8,
+) -> bool {
+    let Some(fs) = Fs::new(number) else {
+        return false;
+    };
+    for count in 0..EDITS {
+        let Ok(edit) = numbered(alloc, count) else {
+            return false;
+        };
+        if !propose(rt, shared, fs, u32::from(number) + 1, &edit) {
+            return false;
+        }
+    }
+    true
+}
+
+/// Flushes on after each device fault; how many there were, and none where a flusher ended otherwise.
+fn flush<L: Lane + Drop, G: Gate, K: Naming, R: Wait + Abort>(
+    rt: &R,
+    shared: &Shared<L, G, K>,
+) -> Option<u32> {
+    for faults in 0..100_000 {
+        match end_of(rt, Flusher::new(shared).run(rt)).1 {
+            None => return Some(faults),
+            Some(Refusal::Device) => {}
+            Some(_) => return None,
+        }
+    }
+    None
+}
+
+/// The place of a block has the last number that was proposed for it.
+fn is_last(bytes: &[u8]) -> bool {
+    let mut good = true;
+    for (place, found) in bytes.chunks(4).enumerate() {
+        let place = u32::try_from(place).unwrap_or(PLACES);
+        let mut last = 0u32;
+        for number in 0..EDITS {
+            if number % PLACES == place {
+                last = number;
+            }
+        }
+        good = good && found == last.to_le_bytes().as_slice();
+    }
+    good
+}
+
+/// A block of each of eight file systems, rooted.
+fn start<L: Lane, G: Gate, K: Naming, R: Wait + Abort>(
+    rt: &R,
+    shared: &Shared<L, G, K>,
+) -> Result<(), Fail> {
+    for number in 0..8 {
+        let fs = file_system(number)?;
+        let block = u32::from(number) + 1;
+        let made = shared.with(rt, |hub| hub.init(fs, 2, &[0; 512]));
+        assert!(rt; made.is_ok());
+        let rooted = shared.with(rt, |hub| hub.make_root(fs, block));
+        assert!(rt; rooted.is_ok());
+    }
+    Ok(())
+}
+
+/// Two workers at once, for these file systems.
+fn two_workers<L: Lane + Send, G: Gate + Sync, K: Naming + Send + Sync, R: Threads + Wait + Sync>(
+    rt: &R,
+    alloc: Global,
+    shared: &Shared<L, G, K>,
+    one: u8,
+    two: u8,
+) -> bool {
+    let (one, two) = join(
+        rt,
+        || work(rt, alloc, shared, one),
+        || work(rt, alloc, shared, two),
+    );
+    one && two
+}
+
+/// Four workers at once, from this file system on.
+fn four_workers<L: Lane + Send, G: Gate + Sync, K: Naming + Send + Sync, R: Threads + Wait + Sync>(
+    rt: &R,
+    alloc: Global,
+    shared: &Shared<L, G, K>,
+    first: u8,
+) -> bool {
+    let (one, two) = join(
+        rt,
+        || two_workers(rt, alloc, shared, first, first.saturating_add(1)),
+        || two_workers(
+            rt,
+            alloc,
+            shared,
+            first.saturating_add(2),
+            first.saturating_add(3),
+        ),
+    );
+    one && two
+}
+
+/// Eight workers at once, after which the flushers may end.
+fn eight_workers<L: Lane + Send, G: Gate + Sync, K: Naming + Send + Sync, R: Threads + Wait + Sync>(
+    rt: &R,
+    alloc: Global,
+    shared: &Shared<L, G, K>,
+) -> bool {
+    let (one, two) = join(
+        rt,
+        || four_workers(rt, alloc, shared, 0),
+        || four_workers(rt, alloc, shared, 4),
+    );
+    shared.stop();
+    one && two
+}
+
+/// Two flushers at once; how many faults they met.
+fn two_flushers<
+    L: Lane + Drop + Send,
+    G: Gate + Sync,
+    K: Naming + Send + Sync,
+    R: Threads + Wait + Abort + Sync,
+>(rt: &R, shared: &Shared<L, G, K>) -> Option<u32> {
+    let (one, two) = join(rt, || flush(rt, shared), || flush(rt, shared));
+    Some(one?.saturating_add(two?))
+}
+
+/// Eight workers and four flushers at once.
+fn run<
+    L: Lane + Drop + Send,
+    G: Gate + Sync,
+    K: Naming + Send + Sync,
+    R: Threads + Wait + Abort + Sync,
+>(rt: &R, alloc: Global, shared: &Shared<L, G, K>) -> Result<(), Fail> {
+    let (worked, (one, two)) = join(
+        rt,
+        || eight_workers(rt, alloc, shared),
+        || join(rt, || two_flushers(rt, shared), || two_flushers(rt, shared)),
+    );
+    assert!(rt; worked);
+    let faults = one
+        .ok_or("a flusher")?
+        .saturating_add(two.ok_or("a flusher")?);
+    assert!(rt; faults > 0, "no lane failed");
+    Ok(())
+}
+
+/// All entries are told durable.
+fn all_told<L: Lane, G: Gate, K: Naming, R: Wait + Abort>(
+    rt: &R,
+    shared: &Shared<L, G, K>,
+    reader: Reader,
+) -> Result<(), Fail>
+    requires { reader.floor ≡ K.floor }
+{
+    let mut reader = reader;
+    for number in 0..8 {
+        let fs = file_system(number)?;
+        assert_eq!(rt; shared.meet(rt, fs, &mut reader), 20_017);
+    }
+    Ok(())
+}
+
+/// The image is sound, with the eight blocks reached, and they have the last edits.
+fn all_on_disk<R: Threads + Abort + Sync>(rt: &R, alloc: Global, image: &[u8]) -> Result<(), Fail> {
+    match check(rt, alloc, image) {
+        Ok(report) => {
+            assert_eq!(rt; report.reached.len(), 9);
+            assert_eq!(rt; report.free.len(), 23);
+        }
+        Err(fault) => return Err(fault.into()),
+    }
+    for (at, block) in image.chunks(512).enumerate() {
+        if 1 <= at && at <= 8 {
+            assert!(rt; is_last(block), "block {at}");
+        }
+    }
+    Ok(())
+}
+
+/// The run, and what it leaves.
+fn many<K: Naming + Send + Sync, R: Threads + Wait + Abort + Sync>(
+    rt: &R,
+    alloc: Global,
+    floor: Floor,
+    publisher: Publisher,
+    reader: Reader,
+    kernel: Kernel<FailingLane>,
+) -> Result<(), Fail>
+    requires floor { floor ≡ K.floor }
+    requires publisher { publisher ≡ record { floor = floor; seen = zeros } }
+    requires reader { reader.floor ≡ floor }
+{
+    let shared: Shared<FailingLane, Open, K> = share(alloc, kernel, floor, publisher, Open)?;
+    start(rt, &shared)?;
+    run(rt, alloc, &shared)?;
+    all_told(rt, &shared, reader)?;
+    let lanes = shared.into_held().into_kernel().into_lanes();
+    match MemDisk::join(alloc, sound_lanes(alloc, lanes)?) {
+        Ok(disk) => all_on_disk(rt, alloc, disk.bytes()),
+        Err(_) => Err("a lane is away".into()),
+    }
+}
+
+#[test]
+fn many_edits_over_failing_lanes(rt: HostRuntime) -> Result<(), Fail> {
+    let lanes = failing_lanes(rt.alloc(), bare_lanes(rt.alloc())?)?;
+    let kernel = mounted(&rt, rt.alloc(), lanes)?;
+    let (floor, publisher, mut readers) = Floor::new(rt.alloc(), 1)?;
+    let reader = readers.pop().ok_or("a reader")?;
+    many::<Brand, _>(&rt, rt.alloc(), floor, publisher, reader, kernel)
+}

@@ -1,0 +1,206 @@
+// A kernel over lanes that fail, and its calls that no script has.
+
+use crash_check::mount;
+use disk::{Lanes, MemDisk, MemLane, PlanLane};
+use std::alloc::Global;
+use std::test::Fail;
+use std::thread::Threads;
+use templates::format_image;
+use xn_kernel::{DrainStop, EditId, Fs, Kernel, Refusal, Ticket};
+
+// These functions have no contracts, so that the proofs of the tests stay short.
+
+/// The lanes of a fresh disk of 32 blocks.
+fn fresh_lanes(alloc: Global) -> Result<Lanes<MemLane>, Fail> {
+    let image = format_image(alloc, 32, &[])?;
+    if image.len() != 16_384 {
+        return Err("another length".into());
+    }
+    match MemDisk::new(alloc, &image)?.split(alloc) {
+        Ok(lanes) => Ok(lanes),
+        Err(_) => Err("no memory".into()),
+    }
+}
+
+/// The same lanes, of which one fails at a read, where the mount's is the first, and at a write, with whether the new
+/// bytes stay.
+fn failing_lanes(
+    alloc: Global,
+    failing: u32,
+    read: Option<u64>,
+    write: Option<(u64, bool)>,
+) -> Result<Lanes<PlanLane>, Fail> {
+    let mut lanes = fresh_lanes(alloc)?;
+    let mut planned = Lanes::new(alloc, 32)?;
+    for block in 0..32 {
+        if lanes.blocks() != 32 {
+            return Err("another count".into());
+        }
+        let lane = lanes.take(block).ok_or("no lane")?;
+        let lane = if block == failing {
+            PlanLane::new(lane, read, write)
+        } else {
+            PlanLane::new(lane, None, None)
+        };
+        if planned.give(lane).is_err() {
+            return Err("no place".into());
+        }
+    }
+    Ok(planned)
+}
+
+/// The kernel over these lanes.
+fn mounted(
+    rt: &(impl Threads + Sync),
+    alloc: Global,
+    lanes: Lanes<PlanLane>,
+) -> Result<Kernel<PlanLane>, Fail> {
+    match mount(rt, alloc, lanes, 1) {
+        Ok(kernel) => Ok(kernel),
+        Err(_) => Err("no mount".into()),
+    }
+}
+
+/// What `Kernel::init` answers.
+fn init(kernel: &mut Kernel<PlanLane>, fs: Fs) -> Result<(u32, EditId), Refusal> {
+    kernel.init(fs, 2, &[0x41; 512])
+}
+
+/// What `Kernel::make_root` answers.
+fn make_root(kernel: &mut Kernel<PlanLane>, fs: Fs) -> Result<EditId, Refusal> {
+    kernel.make_root(fs, 1)
+}
+
+/// The kernel over these lanes, in which file system 0 has started block 1 and made it its root.
+fn rooted(
+    rt: &(impl Threads + Sync),
+    alloc: Global,
+    lanes: Lanes<PlanLane>,
+) -> Result<Kernel<PlanLane>, Fail> {
+    let mut kernel = mounted(rt, alloc, lanes)?;
+    let owner = fs(0)?;
+    if init(&mut kernel, owner) != Ok((1, EditId(1))) {
+        return Err("no first block".into());
+    }
+    if make_root(&mut kernel, owner) != Ok(EditId(2)) {
+        return Err("no root".into());
+    }
+    Ok(kernel)
+}
+
+fn fs(number: u8) -> Result<Fs, Fail> {
+    Ok(Fs::new(number).ok_or("no file system")?)
+}
+
+/// How a drain ended: how many writes it finished, and, where it stopped, why, and the ticket that it gave out.
+type Drained = (u32, Option<Refusal>, Option<Ticket<PlanLane>>);
+
+fn drained(kernel: &mut Kernel<PlanLane>) -> Drained {
+    match kernel.drain() {
+        Ok(writes) => (writes, None, None),
+        Err(
+            DrainStop {
+                writes,
+                ticket,
+                refusal,
+            },
+        ) => (writes, Some(refusal), ticket),
+    }
+}
+
+/// The same, of which a ticket is given up.
+fn drain(kernel: &mut Kernel<PlanLane>) -> (u32, Option<Refusal>, bool) {
+    let (writes, refusal, ticket) = drained(kernel);
+    match ticket {
+        None => (writes, refusal, false),
+        Some(ticket) => {
+            let _lane = ticket.into_lane();
+            (writes, refusal, true)
+        }
+    }
+}
+
+/// What a finished write made durable; a ticket that comes back is given up.
+fn finish(kernel: &mut Kernel<PlanLane>, ticket: Ticket<PlanLane>) -> Option<u32> {
+    match kernel.finish(ticket) {
+        Ok(landed) => Some(landed.durable),
+        Err((ticket, _refusal)) => {
+            let _lane = ticket.into_lane();
+            None
+        }
+    }
+}
+
+/// Why a write doesn't begin, if so; a ticket is given up.
+fn begin(kernel: &mut Kernel<PlanLane>, block: u32) -> Option<Refusal> {
+    match kernel.begin(block) {
+        Ok(ticket) => {
+            let _lane = ticket.into_lane();
+            None
+        }
+        Err(refusal) => Some(refusal),
+    }
+}
+
+/// How two drains end.
+fn two_drains(kernel: Kernel<PlanLane>) -> [(u32, Option<Refusal>, bool); 2] {
+    let mut kernel = kernel;
+    let first = drain(&mut kernel);
+    [first, drain(&mut kernel)]
+}
+
+#[test]
+fn a_drain_stops_where_a_write_fails(rt: HostRuntime) -> Result<(), Fail> {
+    let alloc = rt.alloc();
+    let lanes = failing_lanes(alloc, 1, None, Some((1, false)))?;
+    let ends = two_drains(rooted(&rt, alloc, lanes)?);
+    assert!(rt; ends == [(0, Some(Refusal::Device), false), (2, None, false)]);
+    let lanes = failing_lanes(alloc, 1, None, Some((1, true)))?;
+    let ends = two_drains(rooted(&rt, alloc, lanes)?);
+    assert!(rt; ends == [(2, None, false), (0, None, false)]);
+    Ok(())
+}
+
+/// How many writes a drain finished that could not read a block back, why a write of block 0 doesn't begin then, what the ticket's
+/// finish makes durable, and the floor of a file system after it.
+fn unread(kernel: Kernel<PlanLane>, owner: Fs) -> Option<(u32, Option<Refusal>, Option<u32>, u64)> {
+    let mut kernel = kernel;
+    let (writes, _refusal, ticket) = drained(&mut kernel);
+    let ticket = ticket?;
+    let begun = begin(&mut kernel, 0);
+    let durable = finish(&mut kernel, ticket);
+    Some((writes, begun, durable, kernel.floor(owner)))
+}
+
+#[test]
+fn a_drain_gives_out_the_ticket_of_a_block_that_is_not_read_back(
+    rt: HostRuntime,
+) -> Result<(), Fail> {
+    let alloc = rt.alloc();
+    let lanes = failing_lanes(alloc, 0, Some(2), None)?;
+    let told = unread(rooted(&rt, alloc, lanes)?, fs(0)?);
+    assert!(rt; told == Some((1, Some(Refusal::InFlight), Some(1), 3)));
+    Ok(())
+}
+
+/// The type and the root that a file system is told of block 1, whether block 0 and block 1 are tainted, and how many are free.
+fn told(kernel: &Kernel<PlanLane>, fs: Fs) -> (Option<u32>, Option<u32>, [bool; 2], u32) {
+    let kind = kernel.kind(fs, 1).ok();
+    let tainted = [kernel.tainted(0), kernel.tainted(1)];
+    (kind, kernel.root(fs), tainted, kernel.free())
+}
+
+/// What the owner of block 1 is told, and another file system.
+fn both_told(kernel: Kernel<PlanLane>, owner: Fs, other: Fs) -> bool {
+    told(&kernel, owner) == (Some(2), Some(1), [true, false], 30)
+        && told(&kernel, other) == (None, None, [true, false], 30)
+}
+
+#[test]
+fn a_kernel_tells_what_it_has(rt: HostRuntime) -> Result<(), Fail> {
+    let alloc = rt.alloc();
+    let lanes = failing_lanes(alloc, 0, None, None)?;
+    let kernel = rooted(&rt, alloc, lanes)?;
+    assert!(rt; both_told(kernel, fs(0)?, fs(1)?));
+    Ok(())
+}

@@ -1,0 +1,19 @@
+//! Tests of what no line of the program shows. They stand in a crate of their own, since a crate with tests is proved twice.
+#![tactic(auto)]
+
+#[cfg(test)]
+mod kernel;
+#[cfg(test)]
+mod lanes;
+#[cfg(test)]
+mod mounts;
+#[cfg(test)]
+mod playing;
+#[cfg(test)]
+mod roles;
+#[cfg(test)]
+mod streams;
+#[cfg(test)]
+mod words;
+#[cfg(test)]
+mod worlds;

@@ -1,0 +1,182 @@
+-- A mount of a disk whose lanes are all at home.
+use Rattle.std.proofs.Common.{◌≡◌, ◌⊎◌, ℕ, zero, suc, ◌*◌, false, List, [], ◌∷◌, map, length, replicate, Option, Some, None, Result, Ok, Err, refl, sym, ◌∙◌, ap, inl, inr, ⊎_elim, subst, slice_get}
+use Rattle.std.specs.Prelude.{All, is_none}
+use Rattle.std.specs.List.{AllByRecursion, list_any}
+use Rattle.std.proofs.lemmas.Bool.{false≢true, or_from}
+use Rattle.std.proofs.lemmas.Option.{same_Some, none-some}
+use Rattle.std.proofs.lemmas.List.{length-replicate}
+use Rattle.std.proofs.lemmas.List.Elements.{All-head, All-tail}
+use Rattle.disk.specs.declared.lane.DeviceFault.{DeviceFault}
+use Rattle.disk.specs.Mem.{MemoryLane, memory_read}
+use Rattle.xn_model.specs.Types.{Types}
+use Rattle.xn_model.specs.Root.{HasBuiltIns}
+use Rattle.xn_model.specs.Images.{block_of, blocks_in, joined, IsSound}
+use Rattle.xn_model.specs.Lives.{Life, Lives, life_at}
+use Rattle.xn_model.specs.Lanes.{HoldImage}
+use Rattle.xn_model.specs.Flights.{flight_of}
+use Rattle.xn_model.specs.Mounts.{IsRecovered, recovered}
+use Rattle.xn_model.specs.BareDisks.{mounted_disk}
+use Rattle.xn_model.specs.Rules.{Holds}
+use Rattle.xn_model.proofs.ForCallers.{blocks_read, length-joined, lanes_mounted, mount_holds, recovered_is}
+use Rattle.image_model.specs.Walk.{verdict}
+use Rattle.image_model.specs.declared.fault.ImageFault.{ImageFault}
+use Rattle.image_model.specs.declared.fault.ImageFault.TheVariants.{NoMemory}
+use Rattle.image_model.proofs.Judged.{verdict-unsound}
+use Rattle.xn_kernel.specs.Kernels.{KernelValue, TicketValue}
+use Rattle.crash_check.specs.Answers.{types_in}
+use Rattle.crash_check.specs.Reads.{Turn, IsTurn, IsTurnOf, is_failure, has_failed, is_missing, image_in}
+use Rattle.crash_check.specs.Mounts.{IsFault, IsMounted, IsMountFault, kernel_of}
+use Rattle.world.specs.Disks.{bytes_in, image_of, ticket_at, IsCalm, IsHome, IsUnmounted}
+use Rattle.world.specs.Worlds.{Tickets, value_of, ticket_flight, mounted_value, IsWorld}
+
+abbrev Lanes : Type 0
+Lanes = List (Option MemoryLane)
+
+abbrev number : MemoryLane → ℕ
+number l = l.number
+
+abbrev bytes : MemoryLane → List ℕ
+bytes l = l.bytes
+
+abbrev faults : MemoryLane → ℕ
+faults l = l.faults
+
+-- What lanes at home hold
+
+home_bytes : (o : Option MemoryLane) → IsHome o → bytes_in o None ≡ elim o as (λ _. List ℕ) [ None ↦ [] | Some lane ↦ lane.bytes ]
+home_bytes None home = refl
+home_bytes (Some lane) home = refl
+
+all_held : (lanes : Lanes) → AllByRecursion IsHome lanes → image_in bytes lanes ≡ image_of lanes (replicate (length lanes) None)
+all_held [] home = refl
+all_held (None ∷ lanes) home = absurd home.0
+all_held (Some lane ∷ lanes) home = ap (λ bs. lane.bytes ∷ bs) (all_held lanes home.1)
+
+hold_all : (lanes : Lanes) → AllByRecursion IsHome lanes → HoldImage bytes lanes (image_in bytes lanes)
+hold_all [] home = tt
+hold_all (None ∷ lanes) home = absurd home.0
+hold_all (Some lane ∷ lanes) home = (refl, hold_all lanes home.1)
+
+calm_at : (lanes : Lanes) → AllByRecursion IsHome lanes → (b : ℕ) (lane : MemoryLane) → slice_get lanes b ≡ Some (Some lane) → IsCalm lane
+calm_at [] home b lane at = absurd (none-some _ at)
+calm_at (o ∷ lanes) home zero lane at = subst IsHome (same_Some o (Some lane) at) home.0
+calm_at (o ∷ lanes) home (suc b) lane at = calm_at lanes home.1 b lane at
+
+pub never_away : (lanes : Lanes) → AllByRecursion IsHome lanes → (b : ℕ) → slice_get lanes b ≡ Some None → ⊥
+never_away [] home b at = none-some _ at
+never_away (o ∷ lanes) home zero at = subst IsHome (same_Some o None at) home.0
+never_away (o ∷ lanes) home (suc b) at = never_away lanes home.1 b at
+
+-- Their reads
+
+turn_calm : (before after : Option MemoryLane) (answer : Option (Result (Unit {0}) DeviceFault)) (read : List ℕ) → IsTurnOf number bytes faults memory_read before after answer read → IsHome before →
+    (is_failure answer ≡ false) × (is_none answer ≡ false) × (after ≡ before)
+turn_calm None after answer read is home = absurd home
+turn_calm (Some old) None answer read is home = absurd is
+turn_calm (Some old) (Some new) None read is home = absurd is
+turn_calm (Some old) (Some new) (Some (Ok done)) read is home = (refl, refl, ap (λ l. Some l) is.gives.1)
+turn_calm (Some old) (Some new) (Some (Err fault)) read is home = absurd (false≢true (sym home.1 ∙ is.gives.0))
+
+turns_calm : (turns : List (Turn MemoryLane)) → All (IsTurn number bytes faults memory_read) turns → AllByRecursion IsHome (map (λ t. t.before) turns) →
+    (list_any has_failed turns ≡ false) × (list_any is_missing turns ≡ false) × (map (λ t. t.after) turns ≡ map (λ t. t.before) turns)
+turns_calm [] each home = (refl, refl, refl)
+turns_calm (t ∷ turns) each home =
+    let first = turn_calm t.before t.after t.answer t.bytes (All-head (IsTurn number bytes faults memory_read) t turns each) home.0 in
+    let rest = turns_calm turns (All-tail (IsTurn number bytes faults memory_read) t turns each) home.1 in
+    (or_from (has_failed t) (list_any has_failed turns) first.0 rest.0, or_from (is_missing t) (list_any is_missing turns) first.1 rest.1, λ i. first.2 i ∷ rest.2 i)
+
+-- No write is under way
+
+no_ticket : (n b : ℕ) → ticket_at (replicate n None) b ≡ None
+no_ticket zero b = refl
+no_ticket (suc n) zero = refl
+no_ticket (suc n) (suc b) = no_ticket n b
+
+no_flight : (T : Types) (image : List (List ℕ)) (lives : Lives) → IsRecovered T image lives → (b : ℕ) → flight_of (life_at lives b) ≡ None
+no_flight T image lives is b = go (life_at lives b) refl
+  where
+    go : (o : Option Life) → life_at lives b ≡ o → flight_of o ≡ None
+    go None e = refl
+    go (Some l) e = idle l (is.only b l e).idle
+      where
+        idle : (l : Life) → l.begun ≡ None → flight_of (Some l) ≡ None
+        idle l e = ap (λ k. flight_of (Some (record l { begun = k }))) e
+
+-- a mount of a sound disk begins with the rules
+pub mounted_holds : (image : List (List ℕ)) → HasBuiltIns (types_in image) → IsSound (types_in image) (length image) (block_of image) → Holds (mounted_disk (types_in image) image)
+mounted_holds image built sound = mount_holds (mounted_disk (types_in image) image) built sound (recovered (types_in image) image) (recovered_is (types_in image) built image sound)
+
+module _ (lanes : Lanes) (tickets : Tickets) (is : IsUnmounted lanes tickets) where
+  abbrev image : List (List ℕ)
+  image = image_of lanes tickets
+
+  abbrev T : Types
+  T = types_in image
+
+  image_is : image_in bytes lanes ≡ image
+  image_is = all_held lanes is.home ∙ ap (image_of lanes) (sym is.empty)
+
+  blocks_are : blocks_in (joined image) ≡ image
+  blocks_are = blocks_read image is.long
+
+  module _ (built : HasBuiltIns T) (id : ℕ) where
+    started : IsSound T (length image) (block_of image) → IsWorld (kernel_of id lanes image) tickets
+    started sound =
+        let found = recovered_is T built image sound in
+        record {
+          holds = mounted_holds image built sound;
+          fit = lanes_mounted bytes lanes T image (recovered T image) found (subst (HoldImage bytes lanes) image_is (hold_all lanes is.home));
+          calm = calm_at lanes is.home;
+          count = ap length is.empty ∙ length-replicate {A = Option (TicketValue MemoryLane)} (length lanes) None;
+          flights = λ b. ap (λ (ts : Tickets). ticket_flight (ticket_at ts b)) is.empty ∙ (ap ticket_flight (no_ticket (length lanes) b) ∙ sym (no_flight T image (recovered T image) found b));
+          mine = λ b ticket at. absurd (none-some ticket (sym (no_ticket (length lanes) b) ∙ (ap (λ (ts : Tickets). ticket_at ts b) (sym is.empty) ∙ at)));
+        }
+
+    -- The kernel of a mount
+
+    module _ (kernel : KernelValue MemoryLane) (m : IsMounted number bytes faults memory_read lanes id kernel) where
+      lanes_stay : kernel.lanes ≡ lanes
+      lanes_stay =
+          let calm = turns_calm m.turns m.read.each (subst (AllByRecursion IsHome) m.read.before is.home) in
+          m.read.after ∙ (calm.2 ∙ sym m.read.before)
+
+      kernel_is : kernel ≡ kernel_of id lanes image
+      kernel_is = m.value ∙ (λ i. kernel_of id (lanes_stay i) (image_is i))
+
+      pub mount_sound : IsSound T (length image) (block_of image)
+      mount_sound = subst (λ bs. IsSound T (length bs) (block_of bs)) blocks_are (subst (λ bs. IsSound (types_in bs) (length (blocks_in (joined bs))) (block_of (blocks_in (joined bs)))) image_is m.sound.blocks)
+
+      pub mount_world : IsWorld kernel tickets
+      mount_world = subst (λ k. IsWorld k tickets) (sym kernel_is) (started mount_sound)
+
+      pub mount_value : value_of kernel tickets ≡ mounted_value image
+      mount_value = ap (λ k. value_of k tickets) kernel_is
+
+  -- Its faults
+
+  module _ (fault : ImageFault) (back : Lanes) (f : IsMountFault number bytes faults memory_read lanes fault back) where
+    judged : (back ≡ lanes) × ((fault ≡ NoMemory) ⊎ (verdict T (joined image) ≡ Err fault))
+    judged = elim f [
+      | inl none ↦ (none.1, inl none.0)
+      | inr h ↦
+          let calm = turns_calm h.0 h.1.each (subst (AllByRecursion IsHome) h.1.before is.home) in (
+            h.1.after ∙ (calm.2 ∙ sym h.1.before),
+            subst (λ bs. (fault ≡ NoMemory) ⊎ (verdict (types_in bs) (joined bs) ≡ Err fault)) image_is
+                (subst (λ failed. IsFault failed false (image_in bytes lanes) fault) calm.0 (subst (λ missing. IsFault (list_any has_failed h.0) missing (image_in bytes lanes) fault) calm.1 h.2)),
+          )
+    ]
+
+    pub back_unmounted : IsUnmounted back tickets
+    back_unmounted = subst (λ ls. IsUnmounted ls tickets) (sym judged.0) is
+
+    pub back_image : image_of back tickets ≡ image
+    back_image = ap (λ ls. image_of ls tickets) judged.0
+
+    pub back_fault : (fault ≡ NoMemory) ⊎ (verdict T (joined image) ≡ Err fault)
+    back_fault = judged.1
+
+    pub back_memory : HasBuiltIns T → IsSound T (length image) (block_of image) → fault ≡ NoMemory
+    back_memory built sound = ⊎_elim (λ none. none) (λ e. absurd (verdict-unsound T built (joined image) fault e (record {
+      whole = length-joined image is.long ∙ ap (λ bs. 512 * length bs) (sym blocks_are);
+      blocks = subst (λ bs. IsSound T (length bs) (block_of bs)) (sym blocks_are) sound;
+    }))) judged.1

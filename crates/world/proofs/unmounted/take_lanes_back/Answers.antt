@@ -1,0 +1,33 @@
+use Rattle.std.proofs.Common.{◌≡◌, ◌∙◌, ◌<◌, None, length, arith}
+use Rattle.std.proofs.lemmas.List.{length-set}
+use Rattle.world.specs.Disks.{ticket_at}
+use Rattle.world.proofs.Places.{place_of}
+use Rattle.world.proofs.Returns.{one_back, more_empty, more_back, all_home, all_empty}
+use Rattle.world.proofs.unmounted.take_lanes_back.Goals as goal
+
+pub loop-block-preserved : goal.loop-block-preserved
+loop-block-preserved c =
+    let lanes = c.loop-block.lanes in
+    let tickets = c.loop-block.tickets in
+    let b = c.loop-block.block in
+    let before = c.loop-block.invariant.0 in
+    let count = before.whole.count in
+    let long = c.loop-block.invariant.2 in
+    let more = c.loop-block-test.true in
+    let within : b < length tickets = omega arith in
+    let here : ticket_at tickets b ≡ c.take-ticket.result = place_of tickets b c.index-tickets-block.result c.take-ticket.result within c.take-ticket.ensures.value in
+    let back = one_back lanes tickets before.whole b (omega arith) c.take-ticket.result here in
+    rw (c.give_back.ensures, c.take-ticket.ensures.after) (more_back c.args.lanes.now c.args.tickets.now lanes tickets _ _ before back, more_empty tickets b within c.loop-block.invariant.1, length-set tickets b None ∙ long)
+
+pub returns-clause-home : goal.returns-clause-home
+returns-clause-home c =
+    let done = c.loop-block-test.false in
+    let long = c.loop-block.invariant.2 in
+    all_home c.loop-block.lanes c.loop-block.tickets c.loop-block.invariant.0.whole (λ b lt. c.loop-block.invariant.1 b (omega arith))
+
+pub returns-clause-empty : goal.returns-clause-empty
+returns-clause-empty c =
+    let done = c.loop-block-test.false in
+    let long = c.loop-block.invariant.2 in
+    let count = c.loop-block.invariant.0.whole.count in
+    all_empty c.loop-block.tickets (length c.loop-block.lanes) count (λ b lt. c.loop-block.invariant.1 b (omega arith))

@@ -1,0 +1,146 @@
+// A disk that is mounted.
+
+ghost use Rattle.std.specs.Prelude.{◌≡◌, ◌≢◌, ◌<◌, ◌-◌, All, length, IfOk};
+ghost use Rattle.xn_model.specs.Images.{block_of, joined};
+ghost use Rattle.xn_model.specs.Calls.{free_of};
+ghost use Rattle.xn_model.specs.Worlds as model;
+ghost use Rattle.xn_model.specs.Rules.{Holds};
+ghost use Rattle.world.specs.Events.{event_of, reply_of};
+ghost use Rattle.world.specs.Worlds.{world_with, value_of, IsWorld};
+
+use crate::event::Event;
+use crate::reply::Reply;
+use crate::ticket::DroppableTicket;
+use crate::unmounted::{UnmountedDisk, take_lanes_back};
+use disk::{BLOCK_LEN, MemLane};
+use std::alloc::{AllocError, Global};
+use std::marker::Model;
+use xn_kernel::Kernel;
+
+mod calls;
+mod steps;
+
+/// A disk in memory with its kernel, and the tickets of the writes that are under way.
+#[derive(Drop)]
+pub struct MountedDisk {
+    kernel: Kernel<MemLane>,
+    tickets: Vec<Option<DroppableTicket>>,
+}
+
+impl Model for MountedDisk {
+    ghost use Rattle.world.specs.Worlds.{WorldValue, value_of, IsWorld};
+
+    ghost Value = { WorldValue };
+
+    ghost view = { λ a. value_of a.kernel a.tickets.items };
+
+    ghost invariant = { λ a. IsWorld a.kernel a.tickets.items };
+}
+
+impl MountedDisk {
+    /// The disk of this kernel, with a place for each ticket.
+    pub fn new(kernel: Kernel<MemLane>, tickets: Vec<Option<DroppableTicket>>) -> MountedDisk
+        requires { IsWorld kernel tickets.items }
+        ensures { result ≡ value_of kernel tickets.items }
+    {
+        MountedDisk { kernel, tickets }
+    }
+
+    /// One event, any but a crash.
+    pub fn step(&mut self, event: &Event) -> Reply
+        requires { event.now ≢ Event.Crash }
+        ensures step { model.Step (world_with self.old) (event_of event.now) (reply_of result) (world_with self.new) }
+        ensures rules { Holds (world_with self.old) }
+    {
+        self.rules();
+        match event {
+            Event::Call(fs, call) => self.call(*fs, call),
+            Event::Begin(block) => self.begin(*block),
+            Event::Land(block) => self.land(*block),
+            Event::Fail(block, new_bytes_stay) => self.fail(*block, *new_bytes_stay),
+            Event::Finish(block) => self.finish(*block),
+            Event::Crash => unreachable!(),
+        }
+    }
+
+    /// How many blocks have a life, and how many are free.
+    pub fn counts(&self) -> Reply
+        ensures { reply_of result ≡ model.Mounted (length self.now.state.lives - free_of self.now.state) (free_of self.now.state) }
+    {
+        let free = self.kernel.free();
+        Reply::Mounted {
+            reached: self.blocks() as u32 - free,
+            free,
+        }
+    }
+
+    /// Drops the kernel. Every lane is at home then; the writes that were under way are given up.
+    pub fn unmount(self) -> UnmountedDisk
+        ensures { result ≡ self.image }
+    {
+        self.whole_blocks();
+        let MountedDisk {
+            kernel,
+            mut tickets,
+        } = self;
+        let mut lanes = kernel.into_lanes();
+        take_lanes_back(&mut lanes, tickets.as_mut_slice());
+        UnmountedDisk::new(lanes, tickets)
+    }
+
+    /// The bytes that the disk holds now, block after block.
+    pub fn image(&self, alloc: Global) -> Result<Vec<u8>, AllocError>
+        ensures { IfOk result (λ image. image.items ≡ joined self.now.image) }
+    {
+        let blocks = self.blocks();
+        let mut image = Vec::with_capacity(alloc, BLOCK_LEN.saturating_mul(blocks))?;
+        for block in 0..blocks {
+            image.extend_from_slice(self.block_bytes(block))?;
+        }
+        Ok(image)
+    }
+
+    /// Its rules.
+    pub fn rules(&self)
+        ensures { Holds (world_with self.now) }
+    {
+        let _kernel = &self.kernel;
+    }
+
+    /// Each block has 512 bytes.
+    fn whole_blocks(&self)
+        ensures { All (λ block. length block ≡ 512) self.now.image }
+    {
+        for block in 0..self.blocks() {
+            is_whole(self.block_bytes(block));
+        }
+    }
+
+    /// How many blocks the disk has.
+    fn blocks(&self) -> usize
+        ensures { result ≡ length self.now.image }
+    {
+        self.tickets.len()
+    }
+
+    /// The bytes of one block, whose lane is at home or with a ticket.
+    fn block_bytes(&self, block: usize) -> &[u8; 512]
+        requires { block < length self.now.image }
+        ensures { result.now ≡ block_of self.now.image block }
+    {
+        match self.kernel.lane(block as u32) {
+            Some(lane) => lane.bytes(),
+            None => match &self.tickets[block] {
+                Some(ticket) => ticket.lane().bytes(),
+                None => unreachable!(),
+            },
+        }
+    }
+}
+
+/// A block has 512 bytes.
+fn is_whole(bytes: &[u8; BLOCK_LEN])
+    ensures { length bytes.now ≡ 512 }
+{
+    let _length = bytes.len();
+}

@@ -1,0 +1,42 @@
+// The calls of clients.
+
+ghost use Rattle.xn_model.specs.Worlds as model;
+ghost use Rattle.xn_state.specs.Answers.{call_of};
+ghost use Rattle.world.specs.Events.{reply_of};
+ghost use Rattle.world.specs.Worlds.{world_with};
+
+use crate::mounted::MountedDisk;
+use crate::reply::Reply;
+use xn_kernel::DrainStop;
+use xn_state::{Answer, Call, Fs, Stopped};
+
+impl MountedDisk {
+    /// A client's call.
+    pub(crate) fn call(&mut self, fs: Fs, call: &Call) -> Reply
+        ensures { model.Step (world_with self.old) (model.Client fs.number (call_of call.now)) (reply_of result) (world_with self.new) }
+    {
+        match call {
+            Call::Drain => self.drain(fs),
+            _ => Reply::Answered(self.kernel.call(fs, call)),
+        }
+    }
+
+    /// Writes all that is pending.
+    fn drain(&mut self, fs: Fs) -> Reply
+        ensures { model.Step (world_with self.old) (model.Client fs.number model.Drain) (reply_of result) (world_with self.new) }
+    {
+        match self.kernel.drain() {
+            Ok(writes) => Reply::Answered(Answer::Drain(Ok(writes))),
+            Err(
+                DrainStop {
+                    writes,
+                    ticket,
+                    refusal,
+                },
+            ) => match ticket {
+                None => Reply::Answered(Answer::Drain(Err(Stopped { writes, refusal }))),
+                Some(_ticket) => unreachable!(),
+            },
+        }
+    }
+}

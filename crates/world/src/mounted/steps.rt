@@ -1,0 +1,74 @@
+// The steps of a write.
+
+ghost use Rattle.std.specs.Prelude.{◌<◌, ◌≤◌, length};
+ghost use Rattle.xn_model.specs.Worlds as model;
+ghost use Rattle.world.specs.Events.{reply_of};
+ghost use Rattle.world.specs.Worlds.{world_with};
+
+use crate::mounted::MountedDisk;
+use crate::reply::Reply;
+use crate::ticket::DroppableTicket;
+
+impl MountedDisk {
+    /// A write of a block begins, and its ticket is kept.
+    pub(crate) fn begin(&mut self, block: u32) -> Reply
+        ensures { model.Step (world_with self.old) (model.Begin block) (reply_of result) (world_with self.new) }
+    {
+        match self.kernel.begin(block) {
+            Err(refusal) => Reply::Refused(refusal),
+            Ok(ticket) => {
+                let entries = ticket.count();
+                self.tickets[block as usize] = Some(DroppableTicket::new(ticket));
+                Reply::Begun { entries }
+            }
+        }
+    }
+
+    /// The begun write of a block is carried out.
+    pub(crate) fn land(&mut self, block: u32) -> Reply
+        ensures { model.Step (world_with self.old) (model.Land block) (reply_of result) (world_with self.new) }
+    {
+        if block as usize >= self.tickets.len() {
+            return Reply::NoTicket;
+        }
+        match &mut self.tickets[block as usize] {
+            None => Reply::NoTicket,
+            Some(ticket) => match ticket.land() {
+                Ok(()) => Reply::Landed,
+                Err(_fault) => unreachable!(),
+            },
+        }
+    }
+
+    /// The begun write of a block fails.
+    pub(crate) fn fail(&mut self, block: u32, new_bytes_stay: bool) -> Reply
+        ensures { model.Step (world_with self.old) (model.Fail block new_bytes_stay) (reply_of result) (world_with self.new) }
+    {
+        if block as usize >= self.tickets.len() {
+            return Reply::NoTicket;
+        }
+        match &mut self.tickets[block as usize] {
+            None => Reply::NoTicket,
+            Some(ticket) => match ticket.fail(new_bytes_stay) {
+                Ok(()) => unreachable!(),
+                Err(_fault) => Reply::Fault,
+            },
+        }
+    }
+
+    /// A block is read back, and its write ends.
+    pub(crate) fn finish(&mut self, block: u32) -> Reply
+        ensures { model.Step (world_with self.old) (model.Finish block) (reply_of result) (world_with self.new) }
+    {
+        if block as usize >= self.tickets.len() {
+            return Reply::NoTicket;
+        }
+        let Some(ticket) = self.tickets[block as usize].take() else {
+            return Reply::NoTicket;
+        };
+        match self.kernel.finish(ticket.into_ticket()) {
+            Ok(landed) => Reply::Finished(landed),
+            Err((_ticket, _refusal)) => unreachable!(),
+        }
+    }
+}

@@ -1,0 +1,161 @@
+// A disk that is not mounted.
+
+ghost use Rattle.std.specs.Prelude.{◌≡◌, ◌≢◌, ◌⊎◌, ◌*◌, ◌%◌, ◌^◌, ◌<◌, List, All, length, replicate, Some, None, Err, IfOk, IfErr, IfSome, slice_get};
+ghost use Rattle.std.specs.List.{AllByRecursion};
+ghost use Rattle.disk.specs.Mem.{AreFreshLanes};
+ghost use Rattle.xn_model.specs.Root.{HasBuiltIns};
+ghost use Rattle.xn_model.specs.Images.{block_of, blocks_in, joined, IsSound};
+ghost use Rattle.image_model.specs.Walk.{verdict};
+ghost use Rattle.crash_check.specs.Answers.{types_in};
+ghost use Rattle.world.specs.Disks.{image_of, lanes_with, AreWhole, IsHome, IsUnmounted};
+ghost use Rattle.world.specs.Worlds.{mounted_value};
+
+use crate::mounted::MountedDisk;
+use crate::ticket::DroppableTicket;
+use crash_check::{ImageFault, mount};
+use disk::{BLOCK_LEN, Lanes, MemDisk, MemLane};
+use std::alloc::{AllocError, Global};
+use std::marker::Model;
+use std::thread::Threads;
+
+/// A disk in memory whose lanes are all at home, and the empty places of its tickets.
+#[derive(Drop)]
+pub struct UnmountedDisk {
+    lanes: Lanes<MemLane>,
+    tickets: Vec<Option<DroppableTicket>>,
+}
+
+impl Model for UnmountedDisk {
+    ghost use Rattle.std.specs.Prelude.{List, ℕ};
+    ghost use Rattle.world.specs.Disks.{image_of, IsUnmounted};
+
+    ghost Value = { List (List ℕ) };
+
+    ghost view = { λ a. image_of a.lanes a.tickets.items };
+
+    ghost invariant = { λ a. IsUnmounted a.lanes a.tickets.items };
+}
+
+impl UnmountedDisk {
+    /// The disk of these lanes.
+    pub fn new(lanes: Lanes<MemLane>, tickets: Vec<Option<DroppableTicket>>) -> UnmountedDisk
+        requires { IsUnmounted lanes tickets.items }
+        ensures { result ≡ image_of lanes tickets.items }
+    {
+        UnmountedDisk { lanes, tickets }
+    }
+
+    /// The disk of an image, which is whole blocks, with a place for the ticket of each block.
+    pub fn of_image(alloc: Global, image: &[u8]) -> Result<UnmountedDisk, AllocError>
+        requires whole { length image.now % 512 ≡ 0 }
+        requires small { length image.now < 512 * 2 ^ 32 }
+        ensures { IfOk result (λ disk. disk ≡ blocks_in image.now) }
+    {
+        let lanes = fresh_lanes(alloc, image)?;
+        let tickets = no_tickets(alloc, lanes.blocks())?;
+        Ok(UnmountedDisk::new(lanes, tickets))
+    }
+
+    /// Mounts the disk, by a kernel of this number. `Err` has the first fault and gives the disk back; of a sound disk it
+    /// comes only for want of memory.
+    pub fn mount(
+        self,
+        rt: &(impl Threads + Sync),
+        alloc: Global,
+        id: u64,
+    ) -> Result<MountedDisk, (ImageFault, UnmountedDisk)>
+        requires { HasBuiltIns (types_in self) }
+        ensures ok { IfOk result (λ disk. disk ≡ mounted_value self) }
+        ensures sound { IfOk result (λ disk. IsSound (types_in self) (length self) (block_of self)) }
+        ensures back { IfErr result (λ back. back.1 ≡ self) }
+        ensures fault { IfErr result (λ back. (back.0 ≡ ImageFault.NoMemory) ⊎ (verdict (types_in self) (joined self) ≡ Err back.0)) }
+        ensures memory { IfErr result (λ back. IsSound (types_in self) (length self) (block_of self) → back.0 ≡ ImageFault.NoMemory) }
+    {
+        let UnmountedDisk { lanes, tickets } = self;
+        match mount(rt, alloc, lanes, id) {
+            Ok(kernel) => Ok(MountedDisk::new(kernel, tickets)),
+            Err((fault, lanes)) => Err((fault, UnmountedDisk::new(lanes, tickets))),
+        }
+    }
+
+    /// The bytes that the disk holds now, block after block.
+    pub fn image(&self, alloc: Global) -> Result<Vec<u8>, AllocError>
+        ensures { IfOk result (λ image. image.items ≡ joined self.now) }
+    {
+        let blocks = self.blocks();
+        let mut image = Vec::with_capacity(alloc, BLOCK_LEN.saturating_mul(blocks as usize))?;
+        for block in 0..blocks {
+            image.extend_from_slice(self.block_bytes(block))?;
+        }
+        Ok(image)
+    }
+
+    /// How many blocks the disk has.
+    fn blocks(&self) -> u32
+        ensures { result ≡ length self.now }
+    {
+        self.lanes.blocks() as u32
+    }
+
+    /// The bytes of one block.
+    fn block_bytes(&self, block: u32) -> &[u8; 512]
+        requires { block < length self.now }
+        ensures { result.now ≡ block_of self.now block }
+    {
+        match self.lanes.lane(block) {
+            Some(lane) => lane.bytes(),
+            None => unreachable!(),
+        }
+    }
+}
+
+/// Fresh lanes over the bytes of a disk.
+fn fresh_lanes(alloc: Global, image: &[u8]) -> Result<Lanes<MemLane>, AllocError>
+    requires whole { length image.now % 512 ≡ 0 }
+    requires small { length image.now < 512 * 2 ^ 32 }
+    ensures { IfOk result (λ lanes. AreFreshLanes image.now lanes) }
+{
+    let disk = MemDisk::new(alloc, image)?;
+    match disk.split(alloc) {
+        Ok(lanes) => Ok(lanes),
+        Err(_) => Err(AllocError),
+    }
+}
+
+/// An empty place for the ticket of each block.
+fn no_tickets(alloc: Global, blocks: usize) -> Result<Vec<Option<DroppableTicket>>, AllocError>
+    ensures { IfOk result (λ tickets. tickets.items ≡ replicate blocks None) }
+{
+    let mut tickets = Vec::with_capacity(alloc, blocks)?;
+    for _block in 0..blocks {
+        tickets.push_reserved(None);
+    }
+    Ok(tickets)
+}
+
+/// Puts the lane of each ticket back in its place.
+pub fn take_lanes_back(lanes: &mut Lanes<MemLane>, tickets: &mut [Option<DroppableTicket>])
+    requires { AreWhole lanes.old tickets.old }
+    ensures home { AllByRecursion IsHome lanes.new }
+    ensures empty { tickets.new ≡ replicate (length lanes.new) None }
+    ensures image { image_of lanes.new tickets.new ≡ image_of lanes.old tickets.old }
+{
+    for block in 0..tickets.len() {
+        let ticket = tickets[block].take();
+        give_back(lanes, ticket);
+    }
+}
+
+/// Puts a ticket's lane back in its place.
+fn give_back(lanes: &mut Lanes<MemLane>, ticket: Option<DroppableTicket>)
+    requires { IfSome ticket (λ t. slice_get lanes.old t.block ≡ Some None) }
+    ensures { lanes.new ≡ lanes_with lanes.old ticket }
+{
+    match ticket {
+        None => {}
+        Some(ticket) => match lanes.give(ticket.into_lane()) {
+            Ok(()) => {}
+            Err(_lane) => unreachable!(),
+        },
+    }
+}

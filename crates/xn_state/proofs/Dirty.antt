@@ -1,0 +1,127 @@
+-- The blocks with something pending, where lives change.
+use Rattle.std.proofs.Common.{◌≡◌, ℕ, zero, suc, ◌-◌, ◌<◌, ◌≤◌, Bool, true, false, List, [], ◌∷◌, ◌++◌, length, map, take, replicate, Option, Some, None, refl, sym, ◌∙◌, ap, arith, length-append, length-drop}
+use Rattle.std.specs.Prelude.{Contains, find, is_some, nat_lt, option_map, slice_set, IsTrue, ◌==◌}
+use Rattle.std.specs.List.{range_with_len}
+use Rattle.std.proofs.Math.Seq.{map-set_same}
+use Rattle.std.proofs.lemmas.Bool.{false≢true, le-ltb, lt-ltb}
+use Rattle.std.proofs.lemmas.List.{map-set}
+use Rattle.std.proofs.lemmas.List.FromFn.{length-range_with_len}
+use Rattle.xn_model.specs.declared.status.Status.TheVariants.{Owned, Dropped}
+use Rattle.xn_model.specs.Lives.{BlockState, Life, Lives, entries_at, entries_in, entries_of, life_at, change_at, with_state, with_status, settle, settled_at, begun_at, owned_after, dropped_after, accepted_at, freed}
+use Rattle.xn_model.specs.Calls.{life_pending, new_life}
+use Rattle.xn_model.specs.Mounts as model
+use Rattle.xn_model.specs.Mounts.{found_life, life_found, lives_found}
+use Rattle.xn_model.proofs.ForCallers.{Contains-head, Contains-tail, entries_counted}
+use Rattle.xn_state.specs.Kept.{is_dirty}
+use Rattle.xn_state.proofs.Counting.{counted, place_is}
+use Rattle.xn_state.proofs.Freeing.{still_none}
+
+abbrev pub dirt : Lives → List Bool
+dirt lives = map is_dirty lives
+
+-- One block
+
+dirty_if : (o : Option Life) → life_pending o ≡ 0 → is_dirty o ≡ false
+dirty_if o none = le-ltb 0 (life_pending o) (omega (arith, none))
+
+entries_none : (fs : ℕ) (o : Option Life) → life_pending o ≡ 0 → entries_at fs o ≡ []
+entries_none fs None none = refl
+entries_none fs (Some l) none = by l.pending none
+  where
+    by : (ps : List BlockState) → length ps ≡ 0 → entries_in fs ps ≡ []
+    by [] e = refl
+    by (p ∷ ps) e = absurd (omega arith)
+
+-- A walk passes over blocks with nothing pending
+
+pub entries_pass : (fs n m : ℕ) (lives : Lives) → n ≤ m → ((k : ℕ) → n ≤ k → k < m → life_pending (life_at lives k) ≡ 0) → entries_of fs (take m lives) ≡ entries_of fs (take n lives)
+entries_pass fs zero zero lives le none = refl
+entries_pass fs zero (suc m) [] le none = refl
+entries_pass fs zero (suc m) (o ∷ os) le none =
+    let rest = entries_pass fs zero m os (omega arith) (λ k past below. none (suc k) (omega arith) (omega (arith, below))) in
+    λ i. entries_none fs o (none 0 (omega arith) (omega arith)) i ++ rest i
+entries_pass fs (suc n) zero lives le none = absurd (omega arith)
+entries_pass fs (suc n) (suc m) [] le none = refl
+entries_pass fs (suc n) (suc m) (o ∷ os) le none =
+    ap (λ es. entries_at fs o ++ es) (entries_pass fs n m os (omega (arith, le)) (λ k past below. none (suc k) (omega (arith, past)) (omega (arith, below))))
+
+pub counts_pass : (fs n m : ℕ) (lives : Lives) → n ≤ m → ((k : ℕ) → n ≤ k → k < m → life_pending (life_at lives k) ≡ 0) → counted fs (take m lives) ≡ counted fs (take n lives)
+counts_pass fs n m lives le none =
+    sym (entries_counted fs (record { lives = take m lives; next = 0 }))
+    ∙ (ap (λ es. length es) (entries_pass fs n m lives le none) ∙ entries_counted fs (record { lives = take n lives; next = 0 }))
+
+-- Changes
+
+dirt-change : (lives : Lives) (b : ℕ) (g : Life → Life) → ((l : Life) → (g l).pending ≡ l.pending) → dirt (change_at lives b g) ≡ dirt lives
+dirt-change [] b g same = refl
+dirt-change (o ∷ os) zero g same = ap (λ t. t ∷ dirt os) (still o)
+  where
+    still : (o : Option Life) → is_dirty (option_map g o) ≡ is_dirty o
+    still None = refl
+    still (Some l) = ap (λ (ps : List BlockState). nat_lt 0 (length ps)) (same l)
+dirt-change (o ∷ os) (suc b) g same = ap (λ ts. is_dirty o ∷ ts) (dirt-change os b g same)
+
+dirt-dropped : (b : ℕ) (lives : Lives) (drops : List ℕ) → dirt (dropped_after b lives drops) ≡ dirt lives
+dirt-dropped b lives [] = refl
+dirt-dropped b lives (c ∷ cs) = dirt-dropped b (change_at lives c (with_status (Dropped b))) cs ∙ dirt-change lives c (with_status (Dropped b)) (λ l. refl)
+
+dirt-owned : (b : ℕ) (lives : Lives) (adds : List (ℕ × ℕ)) → dirt (owned_after b lives adds) ≡ dirt lives
+dirt-owned b lives [] = refl
+dirt-owned b lives (p ∷ ps) = dirt-owned b (change_at lives p.0 (with_status (Owned b))) ps ∙ dirt-change lives p.0 (with_status (Owned b)) (λ l. refl)
+
+abbrev begun_with : ℕ → Life → Life
+begun_with k l = record l { begun = Some k }
+
+pub begun_dirty : (dirty : List Bool) (lives : Lives) (b k : ℕ) → dirty ≡ dirt lives → dirty ≡ dirt (begun_at lives b k)
+begun_dirty dirty lives b k e = e ∙ sym (dirt-change lives b (begun_with k) (λ l. refl))
+
+pub started_dirty : (dirty : List Bool) (lives : Lives) (b n f ty : ℕ) (bytes : List ℕ) → dirty ≡ dirt lives → slice_set dirty b true ≡ dirt (slice_set lives b (Some (new_life n f ty bytes)))
+started_dirty dirty lives b n f ty bytes e = ap (λ ts. slice_set ts b true) e ∙ sym (map-set is_dirty lives b (Some (new_life n f ty bytes)))
+
+pub forgotten_dirty : (dirty : List Bool) (lives : Lives) (b : ℕ) → dirty ≡ dirt lives → slice_set dirty b false ≡ dirt (slice_set lives b None)
+forgotten_dirty dirty lives b e = ap (λ ts. slice_set ts b false) e ∙ sym (map-set is_dirty lives b None)
+
+pub accepted_dirty : (dirty : List Bool) (lives : Lives) (b : ℕ) (s : BlockState) → dirty ≡ dirt lives → IsTrue (is_some (life_at lives b)) → slice_set dirty b true ≡ dirt (accepted_at lives b s)
+accepted_dirty dirty lives b s e alive =
+    let pushed = change_at lives b (with_state s) in
+    ap (λ ts. slice_set ts b true) e
+    ∙ (ap (slice_set (dirt lives) b) (sym (more (life_at lives b) alive))
+    ∙ (sym (map-set is_dirty lives b (option_map (with_state s) (life_at lives b)))
+    ∙ sym (dirt-owned b (dropped_after b pushed s.drops) s.adds ∙ dirt-dropped b pushed s.drops)))
+  where
+    more : (o : Option Life) → is_some o ≡ true → is_dirty (option_map (with_state s) o) ≡ true
+    more None h = absurd (false≢true h)
+    more (Some l) h = lt-ltb 0 (length (l.pending ++ s ∷ [])) (omega (arith, length-append l.pending (s ∷ [])))
+
+dirt-freed : (drops : List ℕ) (lives : Lives) → ((c : ℕ) → Contains drops c → life_pending (life_at lives c) ≡ 0) → dirt (freed lives drops) ≡ dirt lives
+dirt-freed [] lives none = refl
+dirt-freed (c ∷ cs) lives none =
+    dirt-freed cs (slice_set lives c None) (λ d i. still_none lives c d (none d (Contains-tail c cs d i)))
+    ∙ map-set_same is_dirty lives c None None (sym (ap is_dirty (sym (place_is lives c)) ∙ dirty_if (life_at lives c) (none c (Contains-head c cs))))
+
+pub settled_dirty : (dirty : List Bool) (lives : Lives) (b k : ℕ) (drops : List ℕ) → dirty ≡ dirt lives → ((c : ℕ) → Contains drops c → life_pending (life_at (settled_at lives b k) c) ≡ 0) →
+    slice_set dirty b (nat_lt 0 (life_pending (life_at lives b) - k)) ≡ dirt (freed (settled_at lives b k) drops)
+settled_dirty dirty lives b k drops e none =
+    ap (λ ts. slice_set ts b (nat_lt 0 (life_pending (life_at lives b) - k))) e
+    ∙ (ap (slice_set (dirt lives) b) (left (life_at lives b))
+    ∙ (sym (map-set is_dirty lives b (option_map (settle k) (life_at lives b)))
+    ∙ sym (dirt-freed drops (settled_at lives b k) none)))
+  where
+    left : (o : Option Life) → nat_lt 0 (life_pending o - k) ≡ is_dirty (option_map (settle k) o)
+    left None = let none : 0 - k ≡ 0 = omega arith in ap (nat_lt 0) none
+    left (Some l) = ap (nat_lt 0) (sym (length-drop k l.pending))
+
+-- Blocks that are found
+
+at_rest : (image : List (List ℕ)) (b : ℕ) (o : Option model.Found) → is_dirty (found_life image b o) ≡ false
+at_rest image b None = refl
+at_rest image b (Some f) = refl
+
+none_dirty : (image : List (List ℕ)) (found : List model.Found) (bs : List ℕ) → dirt (map (life_found image found) bs) ≡ replicate (length bs) false
+none_dirty image found [] = refl
+none_dirty image found (b ∷ bs) = λ i. at_rest image b (find (λ f. f.block == b) found) i ∷ none_dirty image found bs i
+
+pub found_dirty : (image : List (List ℕ)) (found : List model.Found) (lives : Lives) (dirty : List Bool) (n : ℕ) → lives ≡ lives_found image found → n ≡ length image → dirty ≡ replicate n false →
+    dirty ≡ dirt lives
+found_dirty image found lives dirty n e long zeros =
+    zeros ∙ (ap (λ m. replicate m false) (long ∙ sym (length-range_with_len 0 (length image))) ∙ sym (ap dirt e ∙ none_dirty image found (range_with_len 0 (length image))))

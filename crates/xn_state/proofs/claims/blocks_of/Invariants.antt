@@ -1,6 +1,0 @@
-use Rattle.std.proofs.Common.{◌≡◌, take, length}
-use Rattle.xn_model.specs.Lists.{blocks_of}
-use Rattle.xn_state.proofs.claims.blocks_of.Given as goal
-
-abbrev pub invariant-loop-pair : goal.invariant-loop-pair
-invariant-loop-pair l = (l.blocks.items ≡ blocks_of (take l.pair-index l.pairs)) × (length l.blocks.items ≡ l.pair-index)

@@ -1,0 +1,38 @@
+use Rattle.std.proofs.Common.{rules, ◌≡◌, ◌<◌, ◌≤◌, ◌*◌, ◌∙◌, length, map, sym, ap, subst, arith, vec_len}
+use Rattle.std.specs.Io.KnownBytes.{Appends}
+use Rattle.std.proofs.lemmas.List.{length-map}
+use Rattle.xn_model.specs.Images.{blocks_in}
+use Rattle.image_model.specs.Walk.{count_of}
+use Rattle.image_model.specs.Report.{IsSoundImage}
+use Rattle.templates.specs.Meaning.{pair_of}
+use Rattle.crash_check.specs.Answers.{types_in}
+use Rattle.xnsim_line.specs.Checking.{report_line}
+use Rattle.xnsim_line.specs.Files.{IsStartHeld}
+use Rattle.xnsim_line.proofs.StartsRead.{whole_held}
+use Rattle.xnsim_line.proofs.commands.check_file.Goals as goal
+
+pub returns-clause-done : goal.returns-clause-done
+returns-clause-done g c =
+    let held = g.F.Files.held c.args.files.now in
+    let bytes = c.in_ok-bytes.bytes.items in
+    let image = c.as_slice.result.now in
+    let start : IsStartHeld held c.args.image.now 16777217 bytes = search rules in
+    let same : image ≡ bytes = c.as_slice.ensures.value in
+    let sound : IsSoundImage (types_in (blocks_in image)) image = c.in-Ok.ensures.sound in
+    let long : length image ≡ 512 * count_of image = sound.whole in
+    let most : count_of image ≤ 32768 = sound.blocks.size.1 in
+    let few : length image < 16777217 = omega (arith, long, most) in
+    let reached : vec_len c.in-Ok.report.reached ≡ length c.in-Ok.report.reached.items = search rules in
+    let free : vec_len c.in-Ok.report.free ≡ length c.in-Ok.report.free.items = search rules in
+    let pairs = length-map c.in-Ok.report.reached.items pair_of in
+    record {
+      image = image;
+      reached = map pair_of c.in-Ok.report.reached.items;
+      free = c.in-Ok.report.free.items;
+      image_held = whole_held held c.args.image.now image 16777217 (subst (IsStartHeld held c.args.image.now 16777217) (sym same) start) few;
+      sound = sound;
+      report = c.in-Ok.ensures.report;
+      printed = subst (Appends (g.W.Write.contents c.args.out.now) (g.W.Write.contents c.print_report.new.out))
+          (λ i. report_line ((c.len.ensures ∙ (reached ∙ sym pairs)) i) ((c.len-2.ensures ∙ free) i)) c.in_ok-print_report.ensures;
+      kept = search rules;
+    }
