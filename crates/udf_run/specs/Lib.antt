@@ -1,3 +1,4 @@
 pub mod Meaning
 pub mod Safe
 pub mod Remains
+pub mod ReadSets

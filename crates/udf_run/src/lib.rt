@@ -6,8 +6,10 @@
 mod blocks;
 pub mod law;
 pub mod pair;
+pub mod reads;
 pub mod run;
 mod step;
 
 pub use pair::Pair;
-pub use run::{owns, size};
+pub use reads::ReadSet;
+pub use run::{owns, owns_tracked, size};
