@@ -7,6 +7,8 @@ use Rattle.std.proofs.lemmas.List.{get_or-set_same, get_or-set_other, length-set
 use Rattle.udf_verify.specs.Program.{Program, tree}
 use Rattle.udf_run.specs.declared.pair.Pair.{Pair}
 use Rattle.udf_run.specs.Meaning.{Machine, meaning, reset}
+use Rattle.udf_run.specs.ReadSets.{DecidesRun}
+use Rattle.templates.specs.Decided.{DecidesOwned}
 use Rattle.templates.specs.Templates.{TemplateValue, IsTemplate}
 use Rattle.templates.specs.BuiltIns.{root_template, leaf_template, built_in}
 use Rattle.templates.specs.Meaning.{pair_of, pairs_after, answer_after, owned_by, answer_of}
@@ -67,6 +69,12 @@ module _ (table : TableValue) (t : ℕ) where
         by None e h = absurd h
         by (Some end) e h =
             ap (map pair_of) h ∙ (sym (ap pairs_after e) ∙ (ap (λ (p : Program). pairs_after (meaning (tree p) m reset)) is ∙ sym (ap (λ o. owned_under o m) at)))
+
+    pub decided_is : (program : Program) (m : List ℕ) (chunks : ℕ) → program ≡ x.owns → DecidesRun program m chunks → DecidesOwned (types_of table) t m chunks
+    unfolding types_of owned_by
+    decided_is program m chunks is same other bytes agrees =
+        let owned : (n : List ℕ) → owned_under (template_of table t) n ≡ pairs_after (meaning (tree program) n reset) = λ n. ap (λ o. owned_under o n) at ∙ ap (λ (p : Program). pairs_after (meaning (tree p) n reset)) (sym is) in
+        owned other ∙ (ap pairs_after (same other bytes agrees) ∙ sym (owned m))
 
     pub size_is : (program : Program) (m : List ℕ) (n : ℕ) → program ≡ x.size → IsSomeAnd (meaning (tree program) m reset) (λ end. n ≡ slice_index end.registers 0) → n ≡ (types_of table).size t m
     unfolding types_of answer_of

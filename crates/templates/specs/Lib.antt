@@ -6,3 +6,4 @@ pub mod Tables
 pub mod RootFields
 pub mod Formats
 pub mod Faults
+pub mod Decided

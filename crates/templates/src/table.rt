@@ -2,6 +2,7 @@
 
 ghost use Rattle.std.specs.Prelude.{◌≡◌, ◌-◌, ◌≤◌, map, slice_set, Some, None, IsTrue, IfOk};
 ghost use Rattle.std.specs.Option.{option_copied};
+ghost use Rattle.templates.specs.Decided.{DecidesOwned};
 ghost use Rattle.templates.specs.Meaning.{pair_of};
 ghost use Rattle.templates.specs.Tables.{IsTable, no_templates, template_of, types_of};
 
@@ -11,7 +12,7 @@ use crate::template::Template;
 use arrayvec::ArrayVec;
 use std::alloc::{AllocError, Global};
 use std::marker::Model;
-use udf_run::{Pair, owns, size};
+use udf_run::{Pair, ReadSet, owns, owns_tracked, size};
 use udf_verify::Role;
 
 /// The type of the catalogue's first place.
@@ -92,6 +93,18 @@ impl Table {
     {
         match self.get(ty) {
             Some(template) => owns(template.owns(), block, out),
+            None => unreachable!(),
+        }
+    }
+
+    /// The same, and which chunks of the block decide it.
+    pub fn owns_tracked(&self, ty: u32, block: &[u8; 512], out: &mut ArrayVec<Pair, 128>) -> ReadSet
+        requires { IsTrue ((types_of self.now).installed ty) }
+        ensures pairs { map pair_of out.new.items ≡ (types_of self.now).owned ty block.now }
+        ensures reads { DecidesOwned (types_of self.now) ty block.now result.chunks }
+    {
+        match self.get(ty) {
+            Some(template) => owns_tracked(template.owns(), block, out),
             None => unreachable!(),
         }
     }
