@@ -3,11 +3,12 @@
 ghost use Rattle.std.specs.Prelude.{◌≡◌, ◌≤◌, length, IsTrue};
 ghost use Rattle.xn_model.specs.Lists.{has_pair};
 ghost use Rattle.xn_model.specs.Types.{inside};
+ghost use Rattle.templates.specs.Decided.{DecidesOwned};
 ghost use Rattle.templates.specs.Tables.{types_of};
 
 use arrayvec::ArrayVec;
 use templates::Table;
-use udf_run::Pair;
+use udf_run::{Pair, ReadSet};
 
 /// Whether a pair is among these.
 pub(crate) fn has_pair(pairs: &[(u32, u32)], pair: (u32, u32)) -> bool
@@ -25,16 +26,21 @@ pub(crate) fn is_inside(pairs: &[(u32, u32)], others: &[(u32, u32)]) -> bool
     pairs.iter().all(|pair| has_pair(others, *pair))
 }
 
-/// The blocks that a block of an installed type points to, each with its type.
-pub fn owned_pairs(table: &Table, ty: u32, bytes: &[u8; 512]) -> ArrayVec<(u32, u32), 128>
+/// The blocks that a block of an installed type points to, each with its type, and which chunks of the block decide them.
+pub fn owned_pairs(
+    table: &Table,
+    ty: u32,
+    bytes: &[u8; 512],
+) -> (ArrayVec<(u32, u32), 128>, ReadSet)
     requires { IsTrue ((types_of table.now).installed ty) }
-    ensures { result.items ≡ (types_of table.now).owned ty bytes.now }
+    ensures pairs { result.0.items ≡ (types_of table.now).owned ty bytes.now }
+    ensures reads { DecidesOwned (types_of table.now) ty bytes.now result.1.chunks }
 {
     let mut found = ArrayVec::<Pair, 128>::new();
-    table.owns(ty, bytes, &mut found);
+    let reads = table.owns_tracked(ty, bytes, &mut found);
     let mut pairs = ArrayVec::<(u32, u32), 128>::new();
     for pair in found.as_slice() {
         pairs.push((pair.block, pair.ty));
     }
-    pairs
+    (pairs, reads)
 }
