@@ -1,6 +1,6 @@
 // Which places of a block a run reads.
 
-ghost use Rattle.std.specs.Prelude.{◌≡◌, ◌≢◌, ◌↔◌, ℕ, ◌+◌, ◌<◌, ◌≤◌, IsTrue, List};
+ghost use Rattle.std.specs.Prelude.{◌≡◌, ◌≢◌, ◌↔◌, ℕ, ◌+◌, ◌/◌, ◌<◌, ◌≤◌, IsTrue, List};
 ghost use Rattle.std.specs.Int.{bit_at};
 ghost use Rattle.udf_run.specs.ReadSets.{AgreeFrom, AgreeOn};
 
@@ -21,8 +21,22 @@ impl ReadSet {
         ReadSet { chunks: 0 }
     }
 
+    /// Whether none of the bytes from one place to another lies in a chunk of the set.
+    pub fn is_apart(self, first: usize, last: usize) -> bool
+        requires ordered { first ≤ last }
+        requires within { last < 512 }
+        ensures { IsTrue result ↔ ((i : ℕ) → first ≤ i → i ≤ last → bit_at self.chunks (i / 8) ≡ 0) }
+    {
+        for chunk in first / CHUNK_LEN..last / CHUNK_LEN + 1 {
+            if self.has(chunk) {
+                return false;
+            }
+        }
+        true
+    }
+
     /// Whether a chunk is in the set.
-    pub fn has(self, chunk: usize) -> bool
+    fn has(self, chunk: usize) -> bool
         requires { chunk < 64 }
         ensures { IsTrue result ↔ (bit_at self.chunks chunk ≡ 1) }
     {

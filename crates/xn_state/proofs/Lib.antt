@@ -12,3 +12,5 @@ pub mod Writing
 pub mod Slots
 pub mod Claiming
 pub mod Dirty
+pub mod Deciding
+pub mod Unclaimed

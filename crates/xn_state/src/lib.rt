@@ -8,6 +8,7 @@ mod floors;
 mod found;
 pub mod law;
 mod lives;
+mod read_sets;
 mod root;
 mod state;
 mod store;

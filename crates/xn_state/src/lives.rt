@@ -83,6 +83,13 @@ impl Lives {
         })
     }
 
+    /// How many blocks there are.
+    pub fn blocks(&self) -> u32
+        ensures { result ≡ length self.now }
+    {
+        self.cache.blocks()
+    }
+
     /// What is known of a block in use beside its bytes.
     pub fn facts(&self, block: u32) -> Option<Facts>
         ensures { result ≡ option_map facts_of (life_at self.now block) }

@@ -14,6 +14,7 @@ ghost use Rattle.xn_state.specs.States.{StateValue, types_in};
 
 use crate::found::Found;
 use crate::lives::Lives;
+use crate::read_sets::ReadSets;
 use arrayvec::ArrayVec;
 use edit_list::{EditId, Fs};
 use std::alloc::{AllocError, Global};
@@ -36,19 +37,21 @@ pub struct State {
     alloc: Global,
     table: Table,
     lives: Lives,
+    reads: ReadSets,
     next: u64,
 }
 
 impl Model for State {
     ghost use Rattle.xn_model.specs.Rules.{IsConsistent};
     ghost use Rattle.templates.specs.Tables.{types_of};
+    ghost use Rattle.xn_state.specs.Decided.{AreDecided};
     ghost use Rattle.xn_state.specs.States.{StateValue};
 
     ghost Value = { StateValue };
 
     ghost view = { λ a. record { table = a.table; store = record { lives = a.lives; next = a.next } } };
 
-    ghost invariant = { λ a. IsConsistent (types_of a.table) (record { lives = a.lives; next = a.next }) };
+    ghost invariant = { λ a. IsConsistent (types_of a.table) (record { lives = a.lives; next = a.next }) × AreDecided (types_of a.table) a.reads.sets.items a.lives };
 }
 
 impl State {
@@ -66,10 +69,12 @@ impl State {
         ensures rules { IfOk result (λ state. IsConsistent (types_in state) state.store) }
     {
         let lives = Lives::found(alloc, image, found)?;
+        let reads = ReadSets::new(alloc, lives.blocks())?;
         Ok(State {
             alloc,
             table,
             lives,
+            reads,
             next: 1,
         })
     }
@@ -118,6 +123,7 @@ impl State {
         let Ok(()) = self.lives.start(self.alloc, block, number, fs, ty, bytes) else {
             return Err(Refusal::NoMemory);
         };
+        self.reads.set(block, None);
         self.next += 1;
         Ok((block, number))
     }

@@ -6,22 +6,25 @@ ghost use Rattle.xn_model.specs.Results.{Gives};
 ghost use Rattle.xn_model.specs.Calls.{accepts, life_bytes, life_pending, patched, pending_of};
 ghost use Rattle.xn_model.specs.Rules.{IsConsistent};
 ghost use Rattle.claims.specs.Owned.{MayClaim};
+ghost use Rattle.xn_state.specs.Decided.{Decides};
 ghost use Rattle.xn_state.specs.Proposals.{entry_of};
 ghost use Rattle.xn_state.specs.States.{types_in};
 
 use crate::state::State;
 use block_cache::Claim;
 use edit_list::{EditId, Fs, Undo};
+use udf_run::ReadSet;
 use xn_model::Refusal;
 
 impl State {
     /// A block in use accepts an entry with these bytes and claims, after which the rules hold. What undoes it gives the newest
-    /// bytes again. `NoMemory` changes nothing.
+    /// bytes again. The chunks that decide what the bytes own are kept, where they are known. `NoMemory` changes nothing.
     pub(crate) fn accept(
         &mut self,
         fs: Fs,
         block: u32,
         bytes: &[u8; 512],
+        reads: Option<ReadSet>,
         undo: Undo,
         adds: &[(u32, u32)],
         drops: &[u32],
@@ -34,6 +37,7 @@ impl State {
         requires claims { MayClaim self.old.store.lives block adds.now drops.now }
         requires few_adds { length adds.now ≤ 128 }
         requires small { length drops.now ≤ 128 }
+        requires reads { Decides (types_in self.old) self.old.store.lives block bytes.now reads }
         requires undoes { patched bytes.now undo ≡ life_bytes (life_at self.old.store.lives block) }
         requires rules { IsConsistent (types_in self.old) (accepts self.old.store block (entry_of self.old.store fs.number bytes.now adds.now drops.now after)).1 }
         ensures state { Gives (Ok (accepts self.old.store block (entry_of self.old.store fs.number bytes.now adds.now drops.now after))) self.old.store self.new.store result }
@@ -49,6 +53,7 @@ impl State {
         else {
             return Err(Refusal::NoMemory);
         };
+        self.reads.set(block, reads);
         self.next += 1;
         Ok(number)
     }

@@ -1,22 +1,33 @@
 // A file system edits one of its blocks.
 
-ghost use Rattle.std.specs.Prelude.{◌≡◌, ◌<◌, ◌≤◌, ◌&&◌, ◌^◌, ◌-◌, length, is_some, IsTrue, IfErr, IfOk, OnOk};
+ghost use Rattle.std.specs.Prelude.{◌≡◌, ◌<◌, ◌≤◌, ◌&&◌, ◌^◌, ◌-◌, length, is_some, IsTrue, IfErr, IfOk, IfSome, OnOk, Some};
 ghost use Rattle.std.specs.List.{list_all};
 ghost use Rattle.xn_model.specs.Lists.{blocks_of, distinct};
 ghost use Rattle.xn_model.specs.Types.{named_once};
-ghost use Rattle.xn_model.specs.Lives.{life_at};
-ghost use Rattle.xn_model.specs.Results.{Gives};
+ghost use Rattle.xn_model.specs.Lives.{Life, current, life_at};
+ghost use Rattle.xn_model.specs.Results.{Gives, result_map};
 ghost use Rattle.xn_model.specs.Calls.{is_empty, life_bytes, life_pending, may_add, may_drop, patched, pending_of, propose_of, was_given, within_limits};
 ghost use Rattle.xn_model.specs.Rules.{IsConsistent};
 ghost use Rattle.owner_records.specs.Owners.{is_claimed, owned_count};
+ghost use Rattle.templates.specs.Decided.{DecidesOwned};
+ghost use Rattle.xn_state.specs.Decided.{Decides, Leaves, newest_at};
 ghost use Rattle.xn_state.specs.Proposals.{edited_with, proposed_of};
 ghost use Rattle.xn_state.specs.States.{types_in};
 
+use crate::read_sets::leaves;
 use crate::state::{State, is_within_size};
 use block_cache::Facts;
 use claims::{are_blocks_distinct, are_distinct, owned_pairs};
 use edit_list::{Edit, EditId, Fs, Undo};
+use udf_run::ReadSet;
 use xn_model::Refusal;
+
+/// The bytes that an edit leaves, and the chunks of them that decide what they own.
+#[derive(Drop)]
+struct Proposal {
+    bytes: [u8; 512],
+    reads: ReadSet,
+}
 
 impl State {
     /// Whether an entry of this number was given, where one is named.
@@ -92,21 +103,49 @@ impl State {
         blocks.iter().all(|block| self.is_empty(*block))
     }
 
-    /// Whether the blocks that a block owns change exactly as claimed to those that its new bytes name, each once.
-    fn is_as_claimed(&self, block: u32, ty: u32, new: &[u8; 512], edit: &Edit) -> bool
-        requires alive { IsTrue (is_some (life_at self.now.store.lives block)) }
-        requires installed { IsTrue ((types_in self.now).installed ty) }
-        ensures { result ≡ (is_claimed self.now.store.lives block (owned_count self.now.store.lives block) ((types_in self.now).owned ty new.now) edit.now.adds edit.now.drops
-            && named_once (types_in self.now) ty new.now) }
+    /// The chunks that decide what a block owns, where an edit writes into none of them, and adds and drops nothing.
+    fn left(&self, block: u32, edit: &Edit) -> Option<ReadSet>
+        requires limits { IsTrue (within_limits edit.now) }
+        ensures decides { (l : Life) → life_at self.now.store.lives block ≡ Some l → IfSome result (λ reads. DecidesOwned (types_in self.now) l.ty (current l) reads.chunks) }
+        ensures leaves { IfSome result (λ reads. Leaves reads.chunks edit.now) }
+        ensures rules { IsConsistent (types_in self.now) self.now.store }
     {
-        let pairs = owned_pairs(&self.table, ty, new);
-        let pairs = pairs.as_slice();
-        self.lives
-            .is_claimed(block, pairs, edit.adds(), edit.drops())
-            && are_blocks_distinct(pairs)
+        let reads = self.reads.get(block)?;
+        if leaves(reads, edit) {
+            Some(reads)
+        } else {
+            None
+        }
     }
 
-    /// The bytes that an edit leaves of a block with these, or the first refusal that applies.
+    /// The chunks that decide what a block of these bytes owns, where that has changed exactly as an edit claims, and each block
+    /// is named once. It takes a run only where the edit claims something or writes into a chunk that decides it.
+    fn claimed(&self, block: u32, ty: u32, new: &[u8; 512], edit: &Edit) -> Option<ReadSet>
+        requires alive { IsTrue (is_some (life_at self.now.store.lives block)) }
+        requires installed { IsTrue ((types_in self.now).installed ty) }
+        requires newest { (l : Life) → life_at self.now.store.lives block ≡ Some l → (l.ty ≡ ty) × (patched (current l) edit.now.patches ≡ new.now) × (length (current l) ≡ 512) }
+        requires limits { IsTrue (within_limits edit.now) }
+        ensures claimed { is_some result ≡ (is_claimed self.now.store.lives block (owned_count self.now.store.lives block) ((types_in self.now).owned ty new.now) edit.now.adds edit.now.drops
+            && named_once (types_in self.now) ty new.now) }
+        ensures reads { IfSome result (λ reads. DecidesOwned (types_in self.now) ty new.now reads.chunks) }
+    {
+        if let Some(reads) = self.left(block, edit) {
+            return Some(reads);
+        }
+        let (pairs, reads) = owned_pairs(&self.table, ty, new);
+        let pairs = pairs.as_slice();
+        let is_claimed = self
+            .lives
+            .is_claimed(block, pairs, edit.adds(), edit.drops());
+        if is_claimed && are_blocks_distinct(pairs) {
+            Some(reads)
+        } else {
+            None
+        }
+    }
+
+    /// The bytes that an edit leaves of a block with these, and the chunks that decide what they own, or the first refusal
+    /// that applies.
     fn edited(
         &self,
         fs: Fs,
@@ -114,10 +153,12 @@ impl State {
         facts: Facts,
         old: &[u8; 512],
         edit: &Edit,
-    ) -> Result<[u8; 512], Refusal>
+    ) -> Result<Proposal, Refusal>
         requires alive { IsTrue (is_some (life_at self.now.store.lives block)) }
         requires installed { IsTrue ((types_in self.now).installed facts.ty) }
-        ensures plan { result ≡ edited_with (types_in self.now) self.now.store fs.number block edit.now facts old.now }
+        requires newest { newest_at self.now.store.lives block ≡ Some (facts.ty, old.now) }
+        ensures plan { result_map (λ p. p.bytes) result ≡ edited_with (types_in self.now) self.now.store fs.number block edit.now facts old.now }
+        ensures reads { IfOk result (λ p. DecidesOwned (types_in self.now) facts.ty p.bytes p.reads.chunks) }
         ensures room { OnOk result (facts.pending < 64) }
         ensures few { OnOk result (pending_of self.now.store fs.number < 4096) }
         ensures numbers { OnOk result (self.now.store.next < 2 ^ 64 - 1) }
@@ -147,19 +188,20 @@ impl State {
         if !self.are_empty(edit.drops()) {
             return Err(Refusal::NotEmpty);
         }
-        let new = edited_bytes(old, edit);
-        if !self.is_as_claimed(block, facts.ty, &new, edit) {
+        let bytes = edited_bytes(old, edit);
+        let Some(reads) = self.claimed(block, facts.ty, &bytes, edit) else {
             return Err(Refusal::ClaimWrong);
-        }
-        if !is_within_size(&self.table, facts.ty, &new) {
+        };
+        if !is_within_size(&self.table, facts.ty, &bytes) {
             return Err(Refusal::SizeWrong);
         }
-        Ok(new)
+        Ok(Proposal { bytes, reads })
     }
 
-    /// The bytes that an edit leaves, or the first refusal that applies.
-    fn proposed(&self, fs: Fs, block: u32, edit: &Edit) -> Result<[u8; 512], Refusal>
-        ensures plan { result ≡ proposed_of (types_in self.now) self.now.store fs.number block edit.now }
+    /// The bytes that an edit leaves, and the chunks that decide what they own, or the first refusal that applies.
+    fn proposed(&self, fs: Fs, block: u32, edit: &Edit) -> Result<Proposal, Refusal>
+        ensures plan { result_map (λ p. p.bytes) result ≡ proposed_of (types_in self.now) self.now.store fs.number block edit.now }
+        ensures reads { IfOk result (λ p. Decides (types_in self.now) self.now.store.lives block p.bytes (Some p.reads)) }
         ensures rules { IsConsistent (types_in self.now) self.now.store }
         ensures alive { OnOk result (IsTrue (is_some (life_at self.now.store.lives block))) }
         ensures room { OnOk result (life_pending (life_at self.now.store.lives block) < 64) }
@@ -203,12 +245,13 @@ impl State {
         ensures state { Gives (propose_of (types_in self.old) self.old.store fs.number block edit.now) self.old.store self.new.store result }
         ensures table { self.new.table ≡ self.old.table }
     {
-        let bytes = self.proposed(fs, block, edit)?;
+        let proposal = self.proposed(fs, block, edit)?;
         let undo = self.undo_of(block, edit)?;
         self.accept(
             fs,
             block,
-            &bytes,
+            &proposal.bytes,
+            Some(proposal.reads),
             undo,
             edit.adds(),
             edit.drops(),

@@ -57,7 +57,7 @@ impl State {
     {
         let (bytes, ty) = self.make_root_plan(fs, block)?;
         let undo = self.slot_undo(fs)?;
-        self.accept(fs, 0, &bytes, undo, &[(block, ty)], &[], None)
+        self.accept(fs, 0, &bytes, None, undo, &[(block, ty)], &[], None)
     }
 
     /// Block 0's bytes with the file system's root slot empty, and the block that stands there.
@@ -98,7 +98,7 @@ impl State {
     {
         let (bytes, block) = self.drop_root_plan(fs)?;
         let undo = self.slot_undo(fs)?;
-        self.accept(fs, 0, &bytes, undo, &[], &[block], None)
+        self.accept(fs, 0, &bytes, None, undo, &[], &[block], None)
     }
 
     /// What undoes a change of the file system's root slot, in block 0.

@@ -1,8 +1,11 @@
-use Rattle.std.proofs.Common.{◌+◌, ◌∙◌, ap, sym, subst}
+use Rattle.std.proofs.Common.{◌+◌, ◌∙◌, None, ap, arith, sym}
+use Rattle.std.proofs.lemmas.Option.{slice_get_within}
 use Rattle.xn_model.specs.Calls.{init_refusal}
 use Rattle.templates.specs.Tables.{types_of}
 use Rattle.xn_state.specs.States.{StateValue, types_in}
 use Rattle.xn_model.specs.Rules.{IsConsistent}
+use Rattle.xn_state.proofs.Counting.{least_is_free}
+use Rattle.xn_state.proofs.Deciding.{started_decided}
 use Rattle.xn_state.proofs.Keeping.{state_of, started_consistent}
 use Rattle.xn_state.proofs.state.State.init.Goals as goal
 
@@ -10,5 +13,11 @@ pub invariant_of-self-2 : goal.invariant_of-self-2
 invariant_of-self-2 c =
     let allowed = ap (λ (s : StateValue). init_refusal (types_in s) s.store c.args.fs.number c.args.ty c.args.bytes.now) c.self.view_is ∙ sym c.in_default.ensures in
     let free = sym c.in-Some-lowest_free.ensures in
-    let consistent = started_consistent (types_of c.self.inside.table) c.self.inside.lives c.self.inside.next c.args.fs.number c.args.ty c.args.bytes.now c.in-Some-lowest_free.block c.self.invariant allowed free in
-    subst (λ xs. IsConsistent (types_of c.self.inside.table) (state_of xs (c.self.inside.next + 1))) (sym c.in-Ok.ensures.ok) consistent
+    let consistent = started_consistent (types_of c.self.inside.table) c.self.inside.lives c.self.inside.next c.args.fs.number c.args.ty c.args.bytes.now c.in-Some-lowest_free.block c.self.invariant.0 allowed free in
+    let decided = started_decided (types_of c.self.inside.table) c.self.inside.reads.sets.items c.self.inside.lives c.in-Some-lowest_free.block c.self.inside.next c.args.fs.number c.args.ty c.args.bytes.now c.self.invariant.1 in
+    rw (c.set.ensures, c.in-Ok.ensures.ok) (consistent, decided)
+
+pub set-requires : goal.set-requires
+set-requires c =
+    let free = least_is_free c.self.inside.lives c.in-Some-lowest_free.block (sym c.in-Some-lowest_free.ensures) in
+    omega (arith, slice_get_within c.self.inside.lives c.in-Some-lowest_free.block None free, c.self.invariant.1.long)

@@ -8,5 +8,5 @@ use Rattle.xn_state.proofs.state.State.is_empty.Goals as goal
 
 pub returns : goal.returns
 returns c =
-    let here = c.owns_none.ensures ∙ sym (empty_is (types_of c.self.inside.table) (state_of c.self.inside.lives c.self.inside.next) c.args.block c.self.invariant) in
+    let here = c.owns_none.ensures ∙ sym (empty_is (types_of c.self.inside.table) (state_of c.self.inside.lives c.self.inside.next) c.args.block c.self.invariant.0) in
     subst (λ (s : StateValue). c.owns_none.result ≡ is_empty (types_in s) s.store c.args.block) c.self.view_is here

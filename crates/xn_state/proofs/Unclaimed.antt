@@ -1,0 +1,64 @@
+-- Edits that claim nothing and leave what decides the owned blocks.
+use Rattle.std.proofs.Common.{◌≡◌, ℕ, true, List, [], ◌∷◌, ◌++◌, length, Option, Some, None, refl, sym, ◌∙◌, ap, subst}
+use Rattle.std.specs.Prelude.{◌&&◌, is_some}
+use Rattle.std.proofs.lemmas.Bool.{and_from, false≢true}
+use Rattle.xn_model.specs.Lists.{blocks_of, distinct}
+use Rattle.xn_model.specs.Types.{Types, inside, without, claims, named_once}
+use Rattle.xn_model.specs.Lives.{Life, Lives, StoreState, current, life_at}
+use Rattle.xn_model.specs.Calls.{Edit, patched}
+use Rattle.xn_model.specs.Rules.{IsConsistent}
+use Rattle.owner_records.specs.Owners.{is_claimed, owned_count}
+use Rattle.owner_records.proofs.Claimed.{claimed_is, newest_once}
+use Rattle.owner_records.proofs.Counts.{inside_from}
+use Rattle.owner_records.proofs.OwnedCounts.{owned_counted}
+use Rattle.udf_run.specs.ReadSets.{AgreeOn}
+use Rattle.udf_run.specs.Safe.{IsBlock}
+use Rattle.templates.specs.Decided.{DecidesOwned}
+use Rattle.xn_state.specs.Decided.{Leaves}
+
+pub some_life : (lives : Lives) (b : ℕ) → is_some (life_at lives b) ≡ true → (l : Life) × (life_at lives b ≡ Some l)
+some_life lives b alive = by (life_at lives b) refl alive
+  where
+    by : (o : Option Life) → life_at lives b ≡ o → is_some o ≡ true → (l : Life) × (life_at lives b ≡ Some l)
+    by None here e = absurd (false≢true e)
+    by (Some l) here e = (l, here)
+
+all_left : (ps : List (ℕ × ℕ)) → without ps [] ++ [] ≡ ps
+all_left [] = refl
+all_left (p ∷ ps) = ap (λ qs. p ∷ qs) (all_left ps)
+
+-- what a block owns is what it owned, where an edit claims nothing
+claims_nothing : (T : Types) (t : ℕ) (m : List ℕ) → claims T t m m [] [] ≡ true
+claims_nothing T t m =
+    let ps = T.owned t m in
+    let left = all_left ps in
+    let itself = inside_from ps ps (λ p i. i) in
+    and_from (inside ps (without ps [] ++ [])) (inside (without ps [] ++ []) ps)
+    (ap (inside ps) left ∙ itself)
+    (ap (λ qs. inside qs ps) left ∙ itself)
+
+unchanged_claim : (T : Types) (state : StoreState) (b : ℕ) (l : Life) → IsConsistent T state → life_at state.lives b ≡ Some l →
+    (is_claimed state.lives b (owned_count state.lives b) (T.owned l.ty (current l)) [] [] && named_once T l.ty (current l)) ≡ true
+unchanged_claim T state b l h alive =
+    ap (λ n. is_claimed state.lives b n (T.owned l.ty (current l)) [] [] && named_once T l.ty (current l)) (sym (owned_counted T state b l h alive))
+    ∙ (sym (claimed_is T state b 0 l (current l) [] [] h alive refl refl refl refl)
+    ∙ and_from (claims T l.ty (current l) (current l) [] []) (named_once T l.ty (current l)) (claims_nothing T l.ty (current l)) (newest_once T state b l h alive))
+
+module _ (T : Types) (state : StoreState) (b ty chunks : ℕ) (l : Life) (new : List ℕ) (e : Edit) (alive : life_at state.lives b ≡ Some l) (same_type : l.ty ≡ ty) (edited : patched (current l) e.patches ≡ new)
+    (long : length (current l) ≡ 512) (decides : DecidesOwned T l.ty (current l) chunks) (leaves : Leaves chunks e) where
+  agrees : AgreeOn chunks (current l) new
+  agrees = subst (AgreeOn chunks (current l)) edited (leaves.apart (current l) long)
+
+  still_owned : IsBlock new → T.owned ty new ≡ T.owned l.ty (current l)
+  still_owned bytes = ap (λ t. T.owned t new) (sym same_type) ∙ decides new bytes agrees
+
+  pub left_claim : IsConsistent T state → IsBlock new → (is_claimed state.lives b (owned_count state.lives b) (T.owned ty new) e.adds e.drops && named_once T ty new) ≡ true
+  left_claim h bytes =
+      let owned = still_owned bytes in
+      (λ i. is_claimed state.lives b (owned_count state.lives b) (owned i) (leaves.no_adds i) (leaves.no_drops i) && distinct (blocks_of (owned i))) ∙ unchanged_claim T state b l h alive
+
+  pub left_decides : IsBlock new → DecidesOwned T ty new chunks
+  left_decides bytes other is also =
+      ap (λ t. T.owned t other) (sym same_type)
+      ∙ (decides other is (λ i noted. also i noted ∙ agrees i noted)
+      ∙ sym (still_owned bytes))
