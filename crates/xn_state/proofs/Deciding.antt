@@ -1,15 +1,14 @@
 -- The chunks that decide what blocks own, where lives change.
-use Rattle.std.proofs.Common.{◌≡◌, ◌≢◌, ℕ, zero, suc, ◌+◌, ◌-◌, ◌/◌, ◌<◌, ◌≤◌, Bool, true, false, List, [], ◌∷◌, ◌++◌, length, take, drop, get_or, replicate, Option, Some, None, refl, sym, ◌∙◌, ap, subst, arith, ◌⊎◌, inl, inr, ⊎_elim}
+use Rattle.std.proofs.Common.{◌≡◌, ◌≢◌, ℕ, zero, suc, ◌+◌, ◌≤◌, true, List, [], ◌∷◌, ◌++◌, length, take, drop, get_or, replicate, Option, Some, None, refl, sym, ◌∙◌, ap, subst, arith, ◌⊎◌, inl, inr}
 use Rattle.std.specs.Prelude.{◌&&◌, ◌==◌, All, nat_le, nat_lt, option_map, slice_set, sum_by}
-use Rattle.std.specs.Int.{bit_at}
 use Rattle.std.specs.List.{last_or, list_all}
 use Rattle.std.proofs.lemmas.Bool.{and_parts, cases_eq, cases_lt, eqb-true, leb-true}
 use Rattle.std.proofs.lemmas.Option.{none-some, same_Some}
-use Rattle.std.proofs.lemmas.List.{get_or_past, get_or-replicate, get_or-set_other, get_or-set_same, nil_from_length, length-replicate, length-set}
+use Rattle.std.proofs.lemmas.List.{get_or_past, get_or-set_other, get_or-set_same, nil_from_length, length-replicate, length-set}
 use Rattle.xn_model.specs.declared.status.Status.TheVariants.{Owned, Dropped}
 use Rattle.xn_model.specs.Types.{Types}
 use Rattle.xn_model.specs.Lists.{put}
-use Rattle.xn_model.specs.Lives.{BlockState, Life, Lives, bytes_of, current, life_at, change_at, with_state, with_status, settle, settled_at, begun_at, owned_after, dropped_after, durable_after, accepted_at, freed}
+use Rattle.xn_model.specs.Lives.{BlockState, Life, Lives, bytes_of, life_at, change_at, with_state, with_status, settle, settled_at, begun_at, owned_after, dropped_after, durable_after, accepted_at, freed}
 use Rattle.xn_model.specs.Calls.{Edit, Patch, is_patch, new_life, patched, within_limits}
 use Rattle.xn_model.proofs.ForCallers.{change_same, set_other, settled_last}
 use Rattle.edit_list.proofs.Puts.{length-put, put_outside}

@@ -22,13 +22,6 @@ use edit_list::{Edit, EditId, Fs, Undo};
 use udf_run::ReadSet;
 use xn_model::Refusal;
 
-/// The bytes that an edit leaves, and the chunks of them that decide what they own.
-#[derive(Drop)]
-struct Proposal {
-    bytes: [u8; 512],
-    reads: ReadSet,
-}
-
 impl State {
     /// Whether an entry of this number was given, where one is named.
     fn was_given(&self, after: Option<EditId>) -> bool
@@ -144,8 +137,8 @@ impl State {
         }
     }
 
-    /// The bytes that an edit leaves of a block with these, and the chunks that decide what they own, or the first refusal
-    /// that applies.
+    /// Writes into `bytes` what an edit leaves of a block with these, and answers the chunks that decide what they own, or
+    /// the first refusal that applies.
     fn edited(
         &self,
         fs: Fs,
@@ -153,12 +146,13 @@ impl State {
         facts: Facts,
         old: &[u8; 512],
         edit: &Edit,
-    ) -> Result<Proposal, Refusal>
+        bytes: &mut [u8; 512],
+    ) -> Result<ReadSet, Refusal>
         requires alive { IsTrue (is_some (life_at self.now.store.lives block)) }
         requires installed { IsTrue ((types_in self.now).installed facts.ty) }
         requires newest { newest_at self.now.store.lives block ≡ Some (facts.ty, old.now) }
-        ensures plan { result_map (λ p. p.bytes) result ≡ edited_with (types_in self.now) self.now.store fs.number block edit.now facts old.now }
-        ensures reads { IfOk result (λ p. DecidesOwned (types_in self.now) facts.ty p.bytes p.reads.chunks) }
+        ensures plan { result_map (λ reads. bytes.new) result ≡ edited_with (types_in self.now) self.now.store fs.number block edit.now facts old.now }
+        ensures reads { IfOk result (λ reads. DecidesOwned (types_in self.now) facts.ty bytes.new reads.chunks) }
         ensures room { OnOk result (facts.pending < 64) }
         ensures few { OnOk result (pending_of self.now.store fs.number < 4096) }
         ensures numbers { OnOk result (self.now.store.next < 2 ^ 64 - 1) }
@@ -188,20 +182,28 @@ impl State {
         if !self.are_empty(edit.drops()) {
             return Err(Refusal::NotEmpty);
         }
-        let bytes = edited_bytes(old, edit);
-        let Some(reads) = self.claimed(block, facts.ty, &bytes, edit) else {
+        *bytes = *old;
+        edit.apply(bytes);
+        let Some(reads) = self.claimed(block, facts.ty, bytes, edit) else {
             return Err(Refusal::ClaimWrong);
         };
-        if !is_within_size(&self.table, facts.ty, &bytes) {
+        if !is_within_size(&self.table, facts.ty, bytes) {
             return Err(Refusal::SizeWrong);
         }
-        Ok(Proposal { bytes, reads })
+        Ok(reads)
     }
 
-    /// The bytes that an edit leaves, and the chunks that decide what they own, or the first refusal that applies.
-    fn proposed(&self, fs: Fs, block: u32, edit: &Edit) -> Result<Proposal, Refusal>
-        ensures plan { result_map (λ p. p.bytes) result ≡ proposed_of (types_in self.now) self.now.store fs.number block edit.now }
-        ensures reads { IfOk result (λ p. Decides (types_in self.now) self.now.store.lives block p.bytes (Some p.reads)) }
+    /// Writes into `bytes` what an edit leaves, and answers the chunks that decide what they own, or the first refusal that
+    /// applies.
+    fn proposed(
+        &self,
+        fs: Fs,
+        block: u32,
+        edit: &Edit,
+        bytes: &mut [u8; 512],
+    ) -> Result<ReadSet, Refusal>
+        ensures plan { result_map (λ reads. bytes.new) result ≡ proposed_of (types_in self.now) self.now.store fs.number block edit.now }
+        ensures reads { IfOk result (λ reads. Decides (types_in self.now) self.now.store.lives block bytes.new (Some reads)) }
         ensures rules { IsConsistent (types_in self.now) self.now.store }
         ensures alive { OnOk result (IsTrue (is_some (life_at self.now.store.lives block))) }
         ensures room { OnOk result (life_pending (life_at self.now.store.lives block) < 64) }
@@ -213,7 +215,7 @@ impl State {
         let Some(old) = self.lives.current(block) else {
             unreachable!()
         };
-        self.edited(fs, block, facts, old, edit)
+        self.edited(fs, block, facts, old, edit, bytes)
     }
 
     /// What undoes an edit of a block in use.
@@ -245,27 +247,18 @@ impl State {
         ensures state { Gives (propose_of (types_in self.old) self.old.store fs.number block edit.now) self.old.store self.new.store result }
         ensures table { self.new.table ≡ self.old.table }
     {
-        let proposal = self.proposed(fs, block, edit)?;
+        let mut bytes = [0u8; 512];
+        let reads = self.proposed(fs, block, edit, &mut bytes)?;
         let undo = self.undo_of(block, edit)?;
         self.accept(
             fs,
             block,
-            &proposal.bytes,
-            Some(proposal.reads),
+            &bytes,
+            Some(reads),
             undo,
             edit.adds(),
             edit.drops(),
             edit.after(),
         )
     }
-}
-
-/// The bytes of a block once an edit is made.
-fn edited_bytes(old: &[u8; 512], edit: &Edit) -> [u8; 512]
-    requires { IsTrue (within_limits edit.now) }
-    ensures { result ≡ patched old.now edit.now.patches }
-{
-    let mut bytes = *old;
-    edit.apply(&mut bytes);
-    bytes
 }

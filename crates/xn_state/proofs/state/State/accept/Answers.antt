@@ -1,4 +1,4 @@
-use Rattle.std.proofs.Common.{◌+◌, ◌∙◌, ap, arith, sym, subst}
+use Rattle.std.proofs.Common.{◌∙◌, ap, arith, sym, subst}
 use Rattle.std.specs.Prelude.{is_some, IsTrue}
 use Rattle.xn_model.specs.Lives.{accepted_at, life_at}
 use Rattle.xn_model.specs.Calls.{accepts}

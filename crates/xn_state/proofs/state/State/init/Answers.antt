@@ -1,12 +1,11 @@
-use Rattle.std.proofs.Common.{◌+◌, ◌∙◌, None, ap, arith, sym}
+use Rattle.std.proofs.Common.{◌∙◌, None, ap, arith, sym}
 use Rattle.std.proofs.lemmas.Option.{slice_get_within}
 use Rattle.xn_model.specs.Calls.{init_refusal}
 use Rattle.templates.specs.Tables.{types_of}
 use Rattle.xn_state.specs.States.{StateValue, types_in}
-use Rattle.xn_model.specs.Rules.{IsConsistent}
 use Rattle.xn_state.proofs.Counting.{least_is_free}
 use Rattle.xn_state.proofs.Deciding.{started_decided}
-use Rattle.xn_state.proofs.Keeping.{state_of, started_consistent}
+use Rattle.xn_state.proofs.Keeping.{started_consistent}
 use Rattle.xn_state.proofs.state.State.init.Goals as goal
 
 pub invariant_of-self-2 : goal.invariant_of-self-2
