@@ -1,2 +1,4 @@
 pub mod Written
 pub mod KnownTemplates
+pub mod Turns
+pub mod OwnedPairs

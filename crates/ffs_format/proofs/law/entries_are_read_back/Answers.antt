@@ -1,5 +1,5 @@
-use Rattle.std.proofs.Common.{◌≡◌, ℕ, ◌-◌, ◌≤◌, not, ◌&&◌, List, ◌++◌, length, take, replicate, ap, ◌∙◌, arith}
-use Rattle.std.specs.Prelude.{min, nat_le, IsTrue}
+use Rattle.std.proofs.Common.{ℕ, ◌-◌, ◌≤◌, not, ◌&&◌, List, ◌++◌, length, take, replicate, ap, ◌∙◌}
+use Rattle.std.specs.Prelude.{nat_le, IsTrue}
 use Rattle.std.specs.List.{list_all}
 use Rattle.std.proofs.Math.Nat.{min-eq_left}
 use Rattle.std.proofs.Math.Seq.{take-append_seam}
