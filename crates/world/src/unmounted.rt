@@ -12,6 +12,7 @@ ghost use Rattle.world.specs.Worlds.{mounted_value};
 
 use crate::mounted::MountedDisk;
 use crate::ticket::DroppableTicket;
+use crate::tickets::Tickets;
 use crash_check::{ImageFault, mount};
 use disk::{BLOCK_LEN, Lanes, MemDisk, MemLane};
 use std::alloc::{AllocError, Global};
@@ -22,7 +23,7 @@ use std::thread::Threads;
 #[derive(Drop)]
 pub struct UnmountedDisk {
     lanes: Lanes<MemLane>,
-    tickets: Vec<Option<DroppableTicket>>,
+    tickets: Tickets,
 }
 
 impl Model for UnmountedDisk {
@@ -31,16 +32,16 @@ impl Model for UnmountedDisk {
 
     ghost Value = { List (List ℕ) };
 
-    ghost view = { λ a. image_of a.lanes a.tickets.items };
+    ghost view = { λ a. image_of a.lanes a.tickets };
 
-    ghost invariant = { λ a. IsUnmounted a.lanes a.tickets.items };
+    ghost invariant = { λ a. IsUnmounted a.lanes a.tickets };
 }
 
 impl UnmountedDisk {
     /// The disk of these lanes.
-    pub fn new(lanes: Lanes<MemLane>, tickets: Vec<Option<DroppableTicket>>) -> UnmountedDisk
-        requires { IsUnmounted lanes tickets.items }
-        ensures { result ≡ image_of lanes tickets.items }
+    pub fn new(lanes: Lanes<MemLane>, tickets: Tickets) -> UnmountedDisk
+        requires { IsUnmounted lanes tickets }
+        ensures { result ≡ image_of lanes tickets }
     {
         UnmountedDisk { lanes, tickets }
     }
@@ -52,7 +53,7 @@ impl UnmountedDisk {
         ensures { IfOk result (λ disk. disk ≡ blocks_in image.now) }
     {
         let lanes = fresh_lanes(alloc, image)?;
-        let tickets = no_tickets(alloc, lanes.blocks())?;
+        let tickets = Tickets::new(alloc, lanes.blocks())?;
         Ok(UnmountedDisk::new(lanes, tickets))
     }
 
@@ -122,26 +123,15 @@ fn fresh_lanes(alloc: Global, image: &[u8]) -> Result<Lanes<MemLane>, AllocError
     }
 }
 
-/// An empty place for the ticket of each block.
-fn no_tickets(alloc: Global, blocks: usize) -> Result<Vec<Option<DroppableTicket>>, AllocError>
-    ensures { IfOk result (λ tickets. tickets.items ≡ replicate blocks None) }
-{
-    let mut tickets = Vec::with_capacity(alloc, blocks)?;
-    for _block in 0..blocks {
-        tickets.push_reserved(None);
-    }
-    Ok(tickets)
-}
-
 /// Puts the lane of each ticket back in its place.
-pub fn take_lanes_back(lanes: &mut Lanes<MemLane>, tickets: &mut [Option<DroppableTicket>])
+pub fn take_lanes_back(lanes: &mut Lanes<MemLane>, tickets: &mut Tickets)
     requires { AreWhole lanes.old tickets.old }
     ensures home { AllByRecursion IsHome lanes.new }
     ensures empty { tickets.new ≡ replicate (length lanes.new) None }
     ensures image { image_of lanes.new tickets.new ≡ image_of lanes.old tickets.old }
 {
-    for block in 0..tickets.len() {
-        let ticket = tickets[block].take();
+    for block in 0..lanes.blocks() as u32 {
+        let ticket = tickets.take(block);
         give_back(lanes, ticket);
     }
 }
