@@ -2,7 +2,6 @@
 
 ghost use Rattle.std.specs.Prelude.{◌≡◌, ◌≢◌, ◌⊎◌, ◌*◌, ◌%◌, ◌^◌, ◌<◌, List, All, length, replicate, Some, None, Err, IfOk, IfErr, IfSome, slice_get};
 ghost use Rattle.std.specs.List.{AllByRecursion};
-ghost use Rattle.disk.specs.Mem.{AreFreshLanes};
 ghost use Rattle.xn_model.specs.Root.{HasBuiltIns};
 ghost use Rattle.xn_model.specs.Images.{block_of, blocks_in, joined, IsSound};
 ghost use Rattle.image_model.specs.Walk.{verdict};
@@ -13,8 +12,8 @@ ghost use Rattle.world.specs.Worlds.{mounted_value};
 use crate::mounted::MountedDisk;
 use crate::ticket::DroppableTicket;
 use crate::tickets::Tickets;
-use crash_check::{ImageFault, mount};
-use disk::{BLOCK_LEN, Lanes, MemDisk, MemLane};
+use crash_check::{ImageFault, mount, mount_image};
+use disk::{BLOCK_LEN, Lanes, MemLane, fresh_lanes};
 use std::alloc::{AllocError, Global};
 use std::marker::Model;
 use std::thread::Threads;
@@ -79,6 +78,27 @@ impl UnmountedDisk {
         }
     }
 
+    /// Mounts the disk, of which the bytes are given beside it, by a kernel of this number: no lane is read. `Err` has the first fault.
+    pub fn mount_image(
+        self,
+        rt: &(impl Threads + Sync),
+        alloc: Global,
+        image: &[u8],
+        id: u64,
+    ) -> Result<MountedDisk, ImageFault>
+        requires built_ins { HasBuiltIns (types_in self) }
+        requires bytes { self ≡ blocks_in image.now }
+        ensures ok { IfOk result (λ disk. disk ≡ mounted_value self) }
+        ensures sound { IfOk result (λ disk. IsSound (types_in self) (length self) (block_of self)) }
+        ensures fault { IfErr result (λ fault. (fault ≡ ImageFault.NoMemory) ⊎ (verdict (types_in self) image.now ≡ Err fault)) }
+    {
+        let UnmountedDisk { lanes, tickets } = self;
+        match mount_image(rt, alloc, lanes, image, id) {
+            Ok(kernel) => Ok(MountedDisk::new(kernel, tickets)),
+            Err((fault, _lanes)) => Err(fault),
+        }
+    }
+
     /// The bytes that the disk holds now, block after block.
     pub fn image(&self, alloc: Global) -> Result<Vec<u8>, AllocError>
         ensures { IfOk result (λ image. image.items ≡ joined self.now) }
@@ -107,19 +127,6 @@ impl UnmountedDisk {
             Some(lane) => lane.bytes(),
             None => unreachable!(),
         }
-    }
-}
-
-/// Fresh lanes over the bytes of a disk.
-fn fresh_lanes(alloc: Global, image: &[u8]) -> Result<Lanes<MemLane>, AllocError>
-    requires whole { length image.now % 512 ≡ 0 }
-    requires small { length image.now < 512 * 2 ^ 32 }
-    ensures { IfOk result (λ lanes. AreFreshLanes image.now lanes) }
-{
-    let disk = MemDisk::new(alloc, image)?;
-    match disk.split(alloc) {
-        Ok(lanes) => Ok(lanes),
-        Err(_) => Err(AllocError),
     }
 }
 
