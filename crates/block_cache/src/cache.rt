@@ -64,7 +64,7 @@ impl Cache {
     )
         ensures { self.new ≡ slice_set self.old block (Some (life_at_rest (option_map (λ f. f.number) fs) ty status bytes.now)) }
     {
-        self.end(block);
+        forget_all(&mut self.entries, self.places.life(block));
         let life = Life::found(alloc, fs, ty, status, bytes);
         self.places.set(block, Some(life));
     }

@@ -8,9 +8,9 @@ ghost use Rattle.templates.specs.Tables.{types_of};
 ghost use Rattle.crash_check.specs.Answers.{Answers};
 
 use crate::blocks::{block, is_blank_from};
+use crate::named::NamedBlocks;
 use crate::names::add;
 use image_model::{ImageFault, Place};
-use indexmap::IndexMap;
 use std::alloc::Global;
 use templates::{CATALOGUE_PLACES, ROOT_SLOTS, Table, pointer, root_slot};
 
@@ -19,8 +19,9 @@ pub fn visit_root(
     alloc: Global,
     table: &Table,
     blocks: &[[u8; 512]],
-) -> Result<IndexMap<u32, Place>, ImageFault>
-    requires { 0 < length blocks.now }
+) -> Result<NamedBlocks, ImageFault>
+    requires some { 0 < length blocks.now }
+    requires few { length blocks.now ≤ 32768 }
     ensures { Answers result (λ named. named.entries) (visit_root (types_of table.now) (length blocks.now) (block_of blocks.now)) }
 {
     let root = block(blocks, 0);
@@ -28,7 +29,9 @@ pub fn visit_root(
         return Err(ImageFault::SizeWrong(0));
     }
     let count = blocks.len();
-    let mut named = IndexMap::new(alloc);
+    let Ok(mut named) = NamedBlocks::new(alloc, count) else {
+        return Err(ImageFault::NoMemory);
+    };
     add_templates(&mut named, table, count, root, CATALOGUE_PLACES)?;
     add_roots(&mut named, table, count, root, ROOT_SLOTS)?;
     Ok(named)
@@ -36,13 +39,14 @@ pub fn visit_root(
 
 /// Adds the blocks of the first `places` catalogue entries.
 fn add_templates(
-    named: &mut IndexMap<u32, Place>,
+    named: &mut NamedBlocks,
     table: &Table,
     count: usize,
     root: &[u8; 512],
     places: usize,
 ) -> Result<(), ImageFault>
-    requires { places ≤ 16 }
+    requires few { count ≤ 32768 }
+    requires places { places ≤ 16 }
     ensures { Answers result (λ _. named.new.entries) (add_all (types_of table.now) count 0 named.old.entries (names_from (template_name root.now) 0 places)) }
 {
     for place in 0..places {
@@ -53,13 +57,14 @@ fn add_templates(
 
 /// Adds the blocks of the first `slots` root slots.
 fn add_roots(
-    named: &mut IndexMap<u32, Place>,
+    named: &mut NamedBlocks,
     table: &Table,
     count: usize,
     root: &[u8; 512],
     slots: usize,
 ) -> Result<(), ImageFault>
-    requires { slots ≤ 32 }
+    requires few { count ≤ 32768 }
+    requires slots { slots ≤ 32 }
     ensures { Answers result (λ _. named.new.entries) (add_all (types_of table.now) count 0 named.old.entries (names_from (slot_name root.now) 0 slots)) }
 {
     for slot in 0..slots {
@@ -71,13 +76,14 @@ fn add_roots(
 
 /// Adds a block that block 0 names, where it isn't 0.
 fn add_some(
-    named: &mut IndexMap<u32, Place>,
+    named: &mut NamedBlocks,
     table: &Table,
     count: usize,
     block: u32,
     ty: u32,
     fs: Option<u8>,
 ) -> Result<(), ImageFault>
+    requires { count ≤ 32768 }
     ensures { Answers result (λ _. named.new.entries) (add_all (types_of table.now) count 0 named.old.entries (option_to_list (some_named fs (block, ty)))) }
 {
     if block == 0 {

@@ -1,11 +1,12 @@
 -- Laws of lanes that hold an image, for callers too.
-use Rattle.std.proofs.Common.{◌≡◌, ℕ, ◌+◌, ◌*◌, ◌<◌, ◌≤◌, List, length, Option, Some, None, slice_get, slice_set, Contains, arith, inl, inr, refl, sym, ap, ◌∙◌}
+use Rattle.std.proofs.Common.{◌≡◌, ℕ, ◌+◌, ◌*◌, ◌^◌, ◌<◌, ◌≤◌, List, [], ◌∷◌, ◌++◌, length, Option, Some, None, slice_get, slice_set, Contains, arith, inl, inr, refl, sym, ap, ◌∙◌}
 use Rattle.std.proofs.lemmas.Bool.{cases_eq}
 use Rattle.std.proofs.lemmas.List.{length-set}
 use Rattle.std.proofs.lemmas.Option.{same_Some, none-some, get_or_from_slice_get, slice_get_within}
+use Rattle.disk.specs.Lanes.{AreLanes}
 use Rattle.disk.specs.Images.{HoldsBytes, block_at, with_block}
 use Rattle.disk.specs.Mem.{MemoryLane, AreFreshLanes, fresh_lane}
-use Rattle.disk.proofs.SliceGet.{slice_get-set_same, slice_get-set_other}
+use Rattle.disk.proofs.SliceGet.{slice_get-set_same, slice_get-set_other, slice_get-push_front, slice_get-push_last}
 use Rattle.disk.proofs.BlockAt.{block_at-same, length-with_block, block_at-with_block_same, block_at-with_block_other}
 
 -- lanes hold one image
@@ -58,3 +59,22 @@ pub HoldsBytes-missing : {L : Type 0} (bytes_of : L → List ℕ) (places : List
 HoldsBytes-missing bytes_of places image missing held =
     let p = held.each missing.0 missing.1 in
     none-some p.0 (sym missing.2 ∙ get_or_from_slice_get places missing.0 (Some p.0) None p.1)
+
+-- fresh lanes over the first blocks of an image, in a list that grows
+module _ (image : List ℕ) (places : List (Option MemoryLane)) (n : ℕ) (long : length places ≡ n) (each : (k : ℕ) → k < n → slice_get places k ≡ Some (Some (fresh_lane k (block_at image k)))) where
+  pub fresh-more : (lane : MemoryLane) → lane ≡ fresh_lane n (block_at image n) → (k : ℕ) → k < n + 1 → slice_get (places ++ Some lane ∷ []) k ≡ Some (Some (fresh_lane k (block_at image k)))
+  fresh-more lane is k lt = elim (cases_eq k n) [
+    | inl same ↦ slice_get-push_last places (Some lane) k (long ∙ sym same) ∙ ap (λ l. Some (Some l)) (is ∙ ap (λ j. fresh_lane j (block_at image j)) (sym same))
+    | inr other ↦ slice_get-push_front places (Some lane) k (omega arith) ∙ each k (omega arith)
+  ]
+
+  pub fresh-numbers : n < 2 ^ 32 → AreLanes (λ (lane : MemoryLane). lane.number) places
+  fresh-numbers few = record {
+    few = omega arith;
+    at_home = λ k lane at.
+        let within : k < n = let h = slice_get_within places k (Some lane) at in omega arith in
+        ap (λ (l : MemoryLane). l.number) (same_Some lane (fresh_lane k (block_at image k)) (same_Some (Some lane) (Some (fresh_lane k (block_at image k))) (sym at ∙ each k within)));
+  }
+
+  pub fresh-all : length image ≡ 512 * n → AreFreshLanes image places
+  fresh-all whole = record { whole = omega arith; each = λ k lt. each k (omega arith) }

@@ -1,4 +1,5 @@
 ghost use Rattle.std.specs.Prelude.{◌≡◌, ◌≢◌, ℕ, ◌+◌, ◌^◌, ◌<◌, ◌≤◌, List, length, replicate, Option, Some, None, IfOk, OnOk, OnErr, IfErr, IsOk, ◌↔◌, slice_get, slice_set, IfSome, option_copied};
+ghost use Rattle.disk.specs.Lanes.{AreLanes};
 
 use crate::lane::Lane;
 use std::alloc::{AllocError, Global};
@@ -33,6 +34,14 @@ impl<L: Lane> Lanes<L> {
             places.push_reserved(None);
         }
         Ok(Lanes { places })
+    }
+
+    /// The lanes in these places.
+    pub(crate) fn of_places(places: Vec<Option<L>>) -> Lanes<L>
+        requires { AreLanes L.number_of places.items }
+        ensures { result ≡ places.items }
+    {
+        Lanes { places }
     }
 
     /// How many blocks there are, at home or not.

@@ -170,17 +170,10 @@ impl MemDisk {
         ensures holds { IfOk result (λ lanes. HoldsBytes (λ lane. lane.bytes) lanes self) }
         ensures err { IfErr result (λ disk. disk ≡ self) }
     {
-        let blocks = (self.bytes.len() / BLOCK_LEN) as u32;
-        let Ok(mut lanes) = Lanes::new(alloc, blocks) else {
-            return Err(self);
-        };
-        for block in 0..blocks {
-            let lane = MemLane::new(block, block_of(&self.bytes, block));
-            if let Err(_lane) = lanes.give(lane) {
-                unreachable!()
-            }
+        match fresh_lanes(alloc, &self.bytes) {
+            Ok(lanes) => Ok(lanes),
+            Err(_) => Err(self),
         }
-        Ok(lanes)
     }
 
     /// The disk whose lanes these are. `Err` gives the lanes back: one is missing, or, where all are at home, there was no
@@ -196,6 +189,21 @@ impl MemDisk {
             None => Err(lanes),
         }
     }
+}
+
+/// A fresh lane for each block of these bytes, which are whole blocks, all at home. `Err` comes only for want of memory.
+pub fn fresh_lanes(alloc: Global, image: &[u8]) -> Result<Lanes<MemLane>, AllocError>
+    requires whole { length image.now % 512 ≡ 0 }
+    requires small { length image.now < 512 * 2 ^ 32 }
+    ensures { IfOk result (λ lanes. AreFreshLanes image.now lanes) }
+{
+    let blocks = (image.len() / BLOCK_LEN) as u32;
+    let mut places = Vec::with_capacity(alloc, blocks as usize)?;
+    for block in 0..blocks {
+        let lane = MemLane::new(block, block_of(image, block));
+        places.push_reserved(Some(lane));
+    }
+    Ok(Lanes::of_places(places))
 }
 
 /// The bytes of all lanes, one after another, unless one is missing or there is no memory.

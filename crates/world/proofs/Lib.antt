@@ -14,3 +14,4 @@ pub mod Openings
 pub mod Mounting
 pub mod Crashes
 pub mod Formats
+pub mod Ticketing

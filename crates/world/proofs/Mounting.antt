@@ -19,6 +19,7 @@ use Rattle.xn_model.specs.BareDisks.{mounted_disk}
 use Rattle.xn_model.specs.Rules.{Holds}
 use Rattle.xn_model.proofs.ForCallers.{blocks_read, length-joined, lanes_mounted, mount_holds, recovered_is}
 use Rattle.image_model.specs.Walk.{verdict}
+use Rattle.image_model.specs.Report.{IsSoundImage}
 use Rattle.image_model.specs.declared.fault.ImageFault.{ImageFault}
 use Rattle.image_model.specs.declared.fault.ImageFault.TheVariants.{NoMemory}
 use Rattle.image_model.proofs.Judged.{verdict-unsound}
@@ -119,6 +120,9 @@ module _ (lanes : Lanes) (tickets : Tickets) (is : IsUnmounted lanes tickets) wh
   blocks_are : blocks_in (joined image) ≡ image
   blocks_are = blocks_read image is.long
 
+  pub held_image : (bytes_of_disk : List ℕ) → image ≡ blocks_in bytes_of_disk → HoldImage bytes lanes (blocks_in bytes_of_disk)
+  held_image bytes_of_disk given = subst (HoldImage bytes lanes) (image_is ∙ given) (hold_all lanes is.home)
+
   module _ (built : HasBuiltIns T) (id : ℕ) where
     started : IsSound T (length image) (block_of image) → IsWorld (kernel_of id lanes image) tickets
     started sound =
@@ -131,6 +135,21 @@ module _ (lanes : Lanes) (tickets : Tickets) (is : IsUnmounted lanes tickets) wh
           flights = λ b. ap (λ (ts : Tickets). ticket_flight (ticket_at ts b)) is.empty ∙ (ap ticket_flight (no_ticket (length lanes) b) ∙ sym (no_flight T image (recovered T image) found b));
           mine = λ b ticket at. absurd (none-some ticket (sym (no_ticket (length lanes) b) ∙ (ap (λ (ts : Tickets). ticket_at ts b) (sym is.empty) ∙ at)));
         }
+
+    -- The kernel of a mount that is given the bytes
+
+    module _ (bytes_of_disk : List ℕ) (given : image ≡ blocks_in bytes_of_disk) (kernel : KernelValue MemoryLane) (k : kernel ≡ kernel_of id lanes (blocks_in bytes_of_disk)) (whole : IsSoundImage (types_in (blocks_in bytes_of_disk)) bytes_of_disk) where
+      given_is : kernel ≡ kernel_of id lanes image
+      given_is = k ∙ ap (kernel_of id lanes) (sym given)
+
+      pub given_sound : IsSound T (length image) (block_of image)
+      given_sound = subst (λ bs. IsSound (types_in bs) (length bs) (block_of bs)) (sym given) whole.blocks
+
+      pub given_world : IsWorld kernel tickets
+      given_world = subst (λ k. IsWorld k tickets) (sym given_is) (started given_sound)
+
+      pub given_value : value_of kernel tickets ≡ mounted_value image
+      given_value = ap (λ k. value_of k tickets) given_is
 
     -- The kernel of a mount
 

@@ -1,7 +1,8 @@
 -- The blocks of a disk, of which some lanes are at home and some with tickets.
-use Rattle.std.specs.Prelude.{◌≡◌, ℕ, ◌<◌, List, [], ◌∷◌, All, length, replicate, Option, Some, None, false, unwrap_or, slice_get, slice_set}
+use Rattle.std.specs.Prelude.{◌≡◌, ℕ, ◌-◌, ◌<◌, Bool, List, [], ◌∷◌, ◌++◌, All, length, replicate, Option, Some, None, Result, false, unwrap_or, slice_get, slice_set}
 use Rattle.std.specs.List.{AllByRecursion}
-use Rattle.disk.specs.Mem.{MemoryLane}
+use Rattle.disk.specs.declared.lane.DeviceFault.{DeviceFault}
+use Rattle.disk.specs.Mem.{MemoryLane, memory_write}
 use Rattle.xn_kernel.specs.Kernels.{TicketValue}
 
 -- the bytes of a block: its lane's, wherever that is
@@ -51,3 +52,20 @@ pub record IsUnmounted (lanes : List (Option MemoryLane)) (tickets : List (Optio
   pub home : AllByRecursion IsHome lanes
   pub empty : tickets ≡ replicate (length lanes) None
   pub long : All (λ block. length block ≡ 512) (image_of lanes tickets)
+
+-- a place for each block: the first ones, and behind them empty ones
+abbrev pub all_places : ℕ → List (Option (TicketValue MemoryLane)) → List (Option (TicketValue MemoryLane))
+all_places blocks front = front ++ replicate (blocks - length front) None
+
+-- a write of block b is answered, where it has a ticket, whose lane is told something before
+abbrev pub IsWritten : (MemoryLane → MemoryLane) → List (Option (TicketValue MemoryLane)) → ℕ → Option (Result (Unit {0}) DeviceFault) → List (Option (TicketValue MemoryLane)) → Type 0
+IsWritten told tickets b None after = (ticket_at tickets b ≡ None) × (after ≡ tickets)
+IsWritten told tickets b (Some answer) after =
+    (ticket : TicketValue MemoryLane) × (lane : MemoryLane) × (ticket_at tickets b ≡ Some ticket) × memory_write (told ticket.lane) ticket.bytes answer lane
+    × (after ≡ slice_set tickets b (Some (record ticket { lane = lane })))
+
+abbrev pub IsLanded : List (Option (TicketValue MemoryLane)) → ℕ → Option (Result (Unit {0}) DeviceFault) → List (Option (TicketValue MemoryLane)) → Type 0
+IsLanded tickets b answer after = IsWritten (λ lane. lane) tickets b answer after
+
+abbrev pub IsFailed : List (Option (TicketValue MemoryLane)) → ℕ → Bool → Option (Result (Unit {0}) DeviceFault) → List (Option (TicketValue MemoryLane)) → Type 0
+IsFailed tickets b new_bytes_stay answer after = IsWritten (λ lane. record lane { write_fault = Some new_bytes_stay }) tickets b answer after

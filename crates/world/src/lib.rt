@@ -6,6 +6,7 @@ pub mod law;
 mod mounted;
 mod reply;
 mod ticket;
+mod tickets;
 mod unmounted;
 mod world;
 

@@ -10,7 +10,7 @@ ghost use Rattle.world.specs.Worlds.{world_with, value_of, IsWorld};
 
 use crate::event::Event;
 use crate::reply::Reply;
-use crate::ticket::DroppableTicket;
+use crate::tickets::Tickets;
 use crate::unmounted::{UnmountedDisk, take_lanes_back};
 use disk::{BLOCK_LEN, MemLane};
 use std::alloc::{AllocError, Global};
@@ -24,7 +24,7 @@ mod steps;
 #[derive(Drop)]
 pub struct MountedDisk {
     kernel: Kernel<MemLane>,
-    tickets: Vec<Option<DroppableTicket>>,
+    tickets: Tickets,
 }
 
 impl Model for MountedDisk {
@@ -32,16 +32,16 @@ impl Model for MountedDisk {
 
     ghost Value = { WorldValue };
 
-    ghost view = { λ a. value_of a.kernel a.tickets.items };
+    ghost view = { λ a. value_of a.kernel a.tickets };
 
-    ghost invariant = { λ a. IsWorld a.kernel a.tickets.items };
+    ghost invariant = { λ a. IsWorld a.kernel a.tickets };
 }
 
 impl MountedDisk {
     /// The disk of this kernel, with a place for each ticket.
-    pub fn new(kernel: Kernel<MemLane>, tickets: Vec<Option<DroppableTicket>>) -> MountedDisk
-        requires { IsWorld kernel tickets.items }
-        ensures { result ≡ value_of kernel tickets.items }
+    pub fn new(kernel: Kernel<MemLane>, tickets: Tickets) -> MountedDisk
+        requires { IsWorld kernel tickets }
+        ensures { result ≡ value_of kernel tickets }
     {
         MountedDisk { kernel, tickets }
     }
@@ -84,7 +84,7 @@ impl MountedDisk {
             mut tickets,
         } = self;
         let mut lanes = kernel.into_lanes();
-        take_lanes_back(&mut lanes, tickets.as_mut_slice());
+        take_lanes_back(&mut lanes, &mut tickets);
         UnmountedDisk::new(lanes, tickets)
     }
 
@@ -130,7 +130,7 @@ impl MountedDisk {
     {
         match self.kernel.lane(block as u32) {
             Some(lane) => lane.bytes(),
-            None => match &self.tickets[block] {
+            None => match self.tickets.get(block as u32) {
                 Some(ticket) => ticket.lane().bytes(),
                 None => unreachable!(),
             },

@@ -2,7 +2,6 @@
 
 ghost use Rattle.std.specs.Prelude.{◌≡◌, ◌≢◌, ◌⊎◌, ◌*◌, ◌%◌, ◌^◌, ◌<◌, List, All, length, replicate, Some, None, Err, IfOk, IfErr, IfSome, slice_get};
 ghost use Rattle.std.specs.List.{AllByRecursion};
-ghost use Rattle.disk.specs.Mem.{AreFreshLanes};
 ghost use Rattle.xn_model.specs.Root.{HasBuiltIns};
 ghost use Rattle.xn_model.specs.Images.{block_of, blocks_in, joined, IsSound};
 ghost use Rattle.image_model.specs.Walk.{verdict};
@@ -12,8 +11,9 @@ ghost use Rattle.world.specs.Worlds.{mounted_value};
 
 use crate::mounted::MountedDisk;
 use crate::ticket::DroppableTicket;
-use crash_check::{ImageFault, mount};
-use disk::{BLOCK_LEN, Lanes, MemDisk, MemLane};
+use crate::tickets::Tickets;
+use crash_check::{ImageFault, mount, mount_image};
+use disk::{BLOCK_LEN, Lanes, MemLane, fresh_lanes};
 use std::alloc::{AllocError, Global};
 use std::marker::Model;
 use std::thread::Threads;
@@ -22,7 +22,7 @@ use std::thread::Threads;
 #[derive(Drop)]
 pub struct UnmountedDisk {
     lanes: Lanes<MemLane>,
-    tickets: Vec<Option<DroppableTicket>>,
+    tickets: Tickets,
 }
 
 impl Model for UnmountedDisk {
@@ -31,16 +31,16 @@ impl Model for UnmountedDisk {
 
     ghost Value = { List (List ℕ) };
 
-    ghost view = { λ a. image_of a.lanes a.tickets.items };
+    ghost view = { λ a. image_of a.lanes a.tickets };
 
-    ghost invariant = { λ a. IsUnmounted a.lanes a.tickets.items };
+    ghost invariant = { λ a. IsUnmounted a.lanes a.tickets };
 }
 
 impl UnmountedDisk {
     /// The disk of these lanes.
-    pub fn new(lanes: Lanes<MemLane>, tickets: Vec<Option<DroppableTicket>>) -> UnmountedDisk
-        requires { IsUnmounted lanes tickets.items }
-        ensures { result ≡ image_of lanes tickets.items }
+    pub fn new(lanes: Lanes<MemLane>, tickets: Tickets) -> UnmountedDisk
+        requires { IsUnmounted lanes tickets }
+        ensures { result ≡ image_of lanes tickets }
     {
         UnmountedDisk { lanes, tickets }
     }
@@ -52,7 +52,7 @@ impl UnmountedDisk {
         ensures { IfOk result (λ disk. disk ≡ blocks_in image.now) }
     {
         let lanes = fresh_lanes(alloc, image)?;
-        let tickets = no_tickets(alloc, lanes.blocks())?;
+        let tickets = Tickets::new(alloc, lanes.blocks())?;
         Ok(UnmountedDisk::new(lanes, tickets))
     }
 
@@ -75,6 +75,27 @@ impl UnmountedDisk {
         match mount(rt, alloc, lanes, id) {
             Ok(kernel) => Ok(MountedDisk::new(kernel, tickets)),
             Err((fault, lanes)) => Err((fault, UnmountedDisk::new(lanes, tickets))),
+        }
+    }
+
+    /// Mounts the disk, of which the bytes are given beside it, by a kernel of this number: no lane is read. `Err` has the first fault.
+    pub fn mount_image(
+        self,
+        rt: &(impl Threads + Sync),
+        alloc: Global,
+        image: &[u8],
+        id: u64,
+    ) -> Result<MountedDisk, ImageFault>
+        requires built_ins { HasBuiltIns (types_in self) }
+        requires bytes { self ≡ blocks_in image.now }
+        ensures ok { IfOk result (λ disk. disk ≡ mounted_value self) }
+        ensures sound { IfOk result (λ disk. IsSound (types_in self) (length self) (block_of self)) }
+        ensures fault { IfErr result (λ fault. (fault ≡ ImageFault.NoMemory) ⊎ (verdict (types_in self) image.now ≡ Err fault)) }
+    {
+        let UnmountedDisk { lanes, tickets } = self;
+        match mount_image(rt, alloc, lanes, image, id) {
+            Ok(kernel) => Ok(MountedDisk::new(kernel, tickets)),
+            Err((fault, _lanes)) => Err(fault),
         }
     }
 
@@ -109,39 +130,15 @@ impl UnmountedDisk {
     }
 }
 
-/// Fresh lanes over the bytes of a disk.
-fn fresh_lanes(alloc: Global, image: &[u8]) -> Result<Lanes<MemLane>, AllocError>
-    requires whole { length image.now % 512 ≡ 0 }
-    requires small { length image.now < 512 * 2 ^ 32 }
-    ensures { IfOk result (λ lanes. AreFreshLanes image.now lanes) }
-{
-    let disk = MemDisk::new(alloc, image)?;
-    match disk.split(alloc) {
-        Ok(lanes) => Ok(lanes),
-        Err(_) => Err(AllocError),
-    }
-}
-
-/// An empty place for the ticket of each block.
-fn no_tickets(alloc: Global, blocks: usize) -> Result<Vec<Option<DroppableTicket>>, AllocError>
-    ensures { IfOk result (λ tickets. tickets.items ≡ replicate blocks None) }
-{
-    let mut tickets = Vec::with_capacity(alloc, blocks)?;
-    for _block in 0..blocks {
-        tickets.push_reserved(None);
-    }
-    Ok(tickets)
-}
-
 /// Puts the lane of each ticket back in its place.
-pub fn take_lanes_back(lanes: &mut Lanes<MemLane>, tickets: &mut [Option<DroppableTicket>])
+pub fn take_lanes_back(lanes: &mut Lanes<MemLane>, tickets: &mut Tickets)
     requires { AreWhole lanes.old tickets.old }
     ensures home { AllByRecursion IsHome lanes.new }
     ensures empty { tickets.new ≡ replicate (length lanes.new) None }
     ensures image { image_of lanes.new tickets.new ≡ image_of lanes.old tickets.old }
 {
-    for block in 0..tickets.len() {
-        let ticket = tickets[block].take();
+    for block in 0..lanes.blocks() as u32 {
+        let ticket = tickets.take(block);
         give_back(lanes, ticket);
     }
 }

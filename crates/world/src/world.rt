@@ -95,9 +95,9 @@ impl World {
         let Ok(disk) = UnmountedDisk::of_image(alloc, image) else {
             return Err(ImageFault::NoMemory);
         };
-        match disk.mount(rt, alloc, 1) {
+        match disk.mount_image(rt, alloc, image, 1) {
             Ok(disk) => Ok(World::mounted(alloc, disk)),
-            Err((fault, _disk)) => Err(fault),
+            Err(fault) => Err(fault),
         }
     }
 

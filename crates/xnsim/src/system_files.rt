@@ -97,7 +97,7 @@ fn write<R: System + AllocGlobal>(rt: &R, name: &str, bytes: &[u8]) -> io::Resul
 
 /// The first bytes of the file of a name, at most `limit` of them.
 fn read_start<R: System + AllocGlobal>(rt: &R, name: &str, limit: usize) -> io::Result<Vec<u8>> {
-    let mut bytes = Vec::new(rt.alloc());
+    let mut bytes = Vec::with_capacity(rt.alloc(), limit)?;
     fs::open(rt, name)?
         .take(limit as u64)
         .read_to_end(&mut bytes)?;

@@ -114,7 +114,7 @@ fn run_files<'a, F: Files, W: Write>(
         .ok_or(Fault::CannotRead(image))?;
     let text = files.read(alloc, script).ok_or(Fault::CannotRead(script))?;
     let events = parse(alloc, text_of(text.as_slice(), script)?)?;
-    let after = run_on_image(rt, alloc, before.as_slice(), events, out)?;
+    let after = run_on_image(rt, alloc, before, events, out)?;
     if !files.write(image, after.as_slice()) {
         return Err(Fault::CannotWrite(image));
     }

@@ -73,14 +73,17 @@ pub fn run_script<'a, W: Write>(
 pub fn run_on_image<'a, W: Write>(
     rt: &(impl Threads + Sync),
     alloc: Global,
-    image: &[u8],
+    image: Vec<u8>,
     events: Vec<Event>,
     out: &mut W,
 ) -> Result<Vec<u8>, Fault<'a>>
-    ensures run { IfOk result (λ after. IsMountedRun image.now events.items (W.contents out.old) (W.contents out.new) after.items) }
-    ensures fault { IfErr result (IsMountFault image.now) }
+    ensures run { IfOk result (λ after. IsMountedRun image.items events.items (W.contents out.old) (W.contents out.new) after.items) }
+    ensures fault { IfErr result (IsMountFault image.items) }
 {
-    match World::open(rt, alloc, image) {
+    let opened = World::open(rt, alloc, image.as_slice());
+    // The world has bytes of its own, and those after the run may take this memory.
+    drop(image);
+    match opened {
         Ok(world) => run_events(rt, world, events, out),
         Err(fault) => Err(Fault::Image(fault)),
     }

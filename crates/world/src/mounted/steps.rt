@@ -18,7 +18,7 @@ impl MountedDisk {
             Err(refusal) => Reply::Refused(refusal),
             Ok(ticket) => {
                 let entries = ticket.count();
-                self.tickets[block as usize] = Some(DroppableTicket::new(ticket));
+                self.tickets.put(block, DroppableTicket::new(ticket));
                 Reply::Begun { entries }
             }
         }
@@ -28,15 +28,10 @@ impl MountedDisk {
     pub(crate) fn land(&mut self, block: u32) -> Reply
         ensures { model.Step (world_with self.old) (model.Land block) (reply_of result) (world_with self.new) }
     {
-        if block as usize >= self.tickets.len() {
-            return Reply::NoTicket;
-        }
-        match &mut self.tickets[block as usize] {
+        match self.tickets.land(block) {
             None => Reply::NoTicket,
-            Some(ticket) => match ticket.land() {
-                Ok(()) => Reply::Landed,
-                Err(_fault) => unreachable!(),
-            },
+            Some(Ok(())) => Reply::Landed,
+            Some(Err(_fault)) => unreachable!(),
         }
     }
 
@@ -44,15 +39,10 @@ impl MountedDisk {
     pub(crate) fn fail(&mut self, block: u32, new_bytes_stay: bool) -> Reply
         ensures { model.Step (world_with self.old) (model.Fail block new_bytes_stay) (reply_of result) (world_with self.new) }
     {
-        if block as usize >= self.tickets.len() {
-            return Reply::NoTicket;
-        }
-        match &mut self.tickets[block as usize] {
+        match self.tickets.fail(block, new_bytes_stay) {
             None => Reply::NoTicket,
-            Some(ticket) => match ticket.fail(new_bytes_stay) {
-                Ok(()) => unreachable!(),
-                Err(_fault) => Reply::Fault,
-            },
+            Some(Ok(())) => unreachable!(),
+            Some(Err(_fault)) => Reply::Fault,
         }
     }
 
@@ -60,10 +50,7 @@ impl MountedDisk {
     pub(crate) fn finish(&mut self, block: u32) -> Reply
         ensures { model.Step (world_with self.old) (model.Finish block) (reply_of result) (world_with self.new) }
     {
-        if block as usize >= self.tickets.len() {
-            return Reply::NoTicket;
-        }
-        let Some(ticket) = self.tickets[block as usize].take() else {
+        let Some(ticket) = self.tickets.take(block) else {
             return Reply::NoTicket;
         };
         match self.kernel.finish(ticket.into_ticket()) {

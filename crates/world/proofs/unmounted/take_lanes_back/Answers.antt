@@ -1,7 +1,6 @@
-use Rattle.std.proofs.Common.{◌≡◌, ◌∙◌, ◌<◌, None, length, arith}
+use Rattle.std.proofs.Common.{◌≡◌, ◌∙◌, ◌<◌, None, length, sym, arith}
 use Rattle.std.proofs.lemmas.List.{length-set}
 use Rattle.world.specs.Disks.{ticket_at}
-use Rattle.world.proofs.Places.{place_of}
 use Rattle.world.proofs.Returns.{one_back, more_empty, more_back, all_home, all_empty}
 use Rattle.world.proofs.unmounted.take_lanes_back.Goals as goal
 
@@ -15,9 +14,9 @@ loop-block-preserved c =
     let long = c.loop-block.invariant.2 in
     let more = c.loop-block-test.true in
     let within : b < length tickets = omega arith in
-    let here : ticket_at tickets b ≡ c.take-ticket.result = place_of tickets b c.index-tickets-block.result c.take-ticket.result within c.take-ticket.ensures.value in
+    let here : ticket_at tickets b ≡ c.take-ticket.result = sym c.take-ticket.ensures.ticket in
     let back = one_back lanes tickets before.whole b (omega arith) c.take-ticket.result here in
-    rw (c.give_back.ensures, c.take-ticket.ensures.after) (more_back c.args.lanes.now c.args.tickets.now lanes tickets _ _ before back, more_empty tickets b within c.loop-block.invariant.1, length-set tickets b None ∙ long)
+    rw (c.give_back.ensures, c.take-ticket.ensures.rest) (more_back c.args.lanes.now c.args.tickets.now lanes tickets _ _ before back, more_empty tickets b within c.loop-block.invariant.1, length-set tickets b None ∙ long)
 
 pub returns-clause-home : goal.returns-clause-home
 returns-clause-home c =

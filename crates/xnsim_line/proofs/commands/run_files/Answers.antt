@@ -1,4 +1,4 @@
-use Rattle.std.proofs.Common.{rules, ◌≡◌, ◌<◌, ◌≤◌, ◌*◌, length, sym, subst, arith}
+use Rattle.std.proofs.Common.{rules, ◌≡◌, ◌<◌, ◌≤◌, ◌*◌, length, arith}
 use Rattle.std.proofs.lemmas.Result.{err_from_is_err_and}
 use Rattle.image_model.specs.Walk.{count_of}
 use Rattle.xnsim_line.specs.Files.{IsHeld, IsStartHeld}
@@ -9,10 +9,8 @@ use Rattle.xnsim_line.proofs.commands.run_files.Goals as goal
 pub returns-clause-done : goal.returns-clause-done
 returns-clause-done g c =
     let held = g.F.Files.held c.args.files.now in
-    let before = c.in_ok-before.before.items in
-    let image = c.as_slice-2.result.now in
-    let start : IsStartHeld held c.args.image.now 16777217 before = search rules in
-    let same : image ≡ before = c.as_slice-2.ensures.value in
+    let image = c.in_ok-before.before.items in
+    let start : IsStartHeld held c.args.image.now 16777217 image = search rules in
     let run = c.in_ok-after.ensures.run in
     let long : length image ≡ 512 * count_of image = run.sound.whole in
     let most : count_of image ≤ 32768 = run.sound.blocks.size.1 in
@@ -22,7 +20,7 @@ returns-clause-done g c =
       text = c.in_ok-text_of.field-0.now;
       events = c.in_ok-events.events.items;
       after = c.in_ok-after.after.items;
-      image_held = whole_held held c.args.image.now image 16777217 (subst (IsStartHeld held c.args.image.now 16777217) (sym same) start) few;
+      image_held = whole_held held c.args.image.now image 16777217 start few;
       script_held = search rules;
       script = search rules;
       run = run;

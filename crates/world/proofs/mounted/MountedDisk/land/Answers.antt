@@ -1,36 +1,33 @@
-use Rattle.std.proofs.Common.{◌∙◌, sym, subst, rules}
+use Rattle.std.proofs.Common.{Result, sym, subst}
+use Rattle.disk.specs.declared.lane.DeviceFault.{DeviceFault}
+use Rattle.disk.specs.Mem.{memory_write}
 use Rattle.xn_model.specs.Worlds as model
 use Rattle.world.specs.Events.{reply_of}
 use Rattle.world.specs.Worlds.{Tickets, IsWorld, value_of, world_of}
-use Rattle.world.proofs.Places.{place_is, set_still}
 use Rattle.world.proofs.Stepping.{land_without, land_step, land_world}
 use Rattle.world.proofs.Views.{seen}
 use Rattle.world.proofs.mounted.MountedDisk.land.Goals as goal
-use Rattle.world.proofs.mounted.MountedDisk.land.Goals.{in-None, in-Some+in-Ok}
+use Rattle.world.proofs.mounted.MountedDisk.land.Goals.{in-None, in-Some-Ok}
 
 pub invariant_of-self : goal.invariant_of-self
-invariant_of-self c =
-    let here = place_is c.self.inside.tickets.items c.args.block c.index_mut.result.now (search rules) c.index_mut.ensures.value in
-    elim c.match-index_mut.branch [
-      | in-None w ↦
-          let still = set_still c.self.inside.tickets.items c.args.block c.index_mut.result.now here in
-          rw w.self-inside-is (subst (λ (ts : Tickets). IsWorld c.self.inside.kernel ts) (sym still) c.self.invariant)
-      | in-Some+in-Ok w ↦
-          let leaves = land_world c.self.inside.kernel c.self.inside.tickets.items c.self.invariant c.args.block w.in-Some.ticket (here ∙ w.in-Some.is) w.land.new.self.lane w.in-Ok.ensures.gives.1 in
-          rw (w.self-inside-is, w.in-Ok.ensures.ticket) leaves
-    ]
+invariant_of-self c = elim c.match-land.branch [
+  | in-None w ↦ subst (λ (ts : Tickets). IsWorld c.self.inside.kernel ts) (sym w.in-None.ensures.1) c.self.invariant
+  | in-Some-Ok w ↦
+      let h = w.in-Some-Ok.ensures in
+      let gave = subst (λ (r : Result (Unit {0}) DeviceFault). memory_write h.0.lane h.0.bytes r h.1) w.in-Some-Ok.field-0-is h.3 in
+      subst (λ (ts : Tickets). IsWorld c.self.inside.kernel ts) (sym h.4) (land_world c.self.inside.kernel c.self.inside.tickets c.self.invariant c.args.block h.0 h.2 h.1 gave.1)
+]
 
 pub returns : goal.returns
-returns c =
-    let here = place_is c.self.inside.tickets.items c.args.block c.index_mut.result.now (search rules) c.index_mut.ensures.value in
-    elim c.match-index_mut.branch [
-      | in-None w ↦
-          let still = set_still c.self.inside.tickets.items c.args.block c.index_mut.result.now here in
-          seen (value_of c.self.inside.kernel c.self.inside.tickets.items) c.args.self.now c.self.view_is (model.Land c.args.block) (reply_of c.match-index_mut.result) _
-          (rw (w.result-is, w.self-inside-is) (subst (λ (ts : Tickets). model.AfterCall (world_of c.self.inside.kernel c.self.inside.tickets.items) (model.Land c.args.block) model.NoTicket (world_of c.self.inside.kernel ts)) (sym still)
-          (land_without c.self.inside.kernel c.self.inside.tickets.items c.self.invariant c.args.block (here ∙ w.in-None.is))))
-      | in-Some+in-Ok w ↦
-          let step = land_step c.self.inside.kernel c.self.inside.tickets.items c.self.invariant c.args.block w.in-Some.ticket (here ∙ w.in-Some.is) w.land.new.self.lane w.in-Ok.ensures.gives.1 in
-          seen (value_of c.self.inside.kernel c.self.inside.tickets.items) c.args.self.now c.self.view_is (model.Land c.args.block) (reply_of c.match-index_mut.result) _
-          (rw (w.result-is, w.self-inside-is, w.in-Ok.ensures.ticket) step)
-    ]
+returns c = elim c.match-land.branch [
+  | in-None w ↦
+      seen (value_of c.self.inside.kernel c.self.inside.tickets) c.args.self.now c.self.view_is (model.Land c.args.block) (reply_of c.match-land.result) _
+      (rw (w.result-is) (subst (λ (ts : Tickets). model.AfterCall (world_of c.self.inside.kernel c.self.inside.tickets) (model.Land c.args.block) model.NoTicket (world_of c.self.inside.kernel ts)) (sym w.in-None.ensures.1)
+      (land_without c.self.inside.kernel c.self.inside.tickets c.self.invariant c.args.block w.in-None.ensures.0)))
+  | in-Some-Ok w ↦
+      let h = w.in-Some-Ok.ensures in
+      let gave = subst (λ (r : Result (Unit {0}) DeviceFault). memory_write h.0.lane h.0.bytes r h.1) w.in-Some-Ok.field-0-is h.3 in
+      let step = land_step c.self.inside.kernel c.self.inside.tickets c.self.invariant c.args.block h.0 h.2 h.1 gave.1 in
+      seen (value_of c.self.inside.kernel c.self.inside.tickets) c.args.self.now c.self.view_is (model.Land c.args.block) (reply_of c.match-land.result) _
+      (rw (w.result-is, h.4) step)
+]

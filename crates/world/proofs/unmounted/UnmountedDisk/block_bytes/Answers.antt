@@ -9,8 +9,8 @@ use Rattle.world.proofs.unmounted.UnmountedDisk.block_bytes.Goals as goal
 pub lane-requires : goal.lane-requires
 lane-requires c =
     let within = c.requires in
-    let long = length-image_of c.self.inside.lanes c.self.inside.tickets.items in
-    let seen : length (image_of c.self.inside.lanes c.self.inside.tickets.items) ≡ length c.args.self.now = ap (λ (v : List (List ℕ)). length v) c.self.view_is in
+    let long = length-image_of c.self.inside.lanes c.self.inside.tickets in
+    let seen : length (image_of c.self.inside.lanes c.self.inside.tickets) ≡ length c.args.self.now = ap (λ (v : List (List ℕ)). length v) c.self.view_is in
     omega arith
 
 pub unreachable-requires : goal.unreachable-requires
@@ -19,5 +19,5 @@ unreachable-requires c = never_away c.self.inside.lanes c.self.invariant.home c.
 pub returns : goal.returns
 returns c =
     c.bytes.ensures
-    ∙ (sym (block_of-home c.self.inside.lanes c.self.inside.tickets.items c.args.block c.in-Some.lane.now (c.lane.ensures ∙ ap (λ o. Some (option_copied o)) c.in-Some.is))
+    ∙ (sym (block_of-home c.self.inside.lanes c.self.inside.tickets c.args.block c.in-Some.lane.now (c.lane.ensures ∙ ap (λ o. Some (option_copied o)) c.in-Some.is))
     ∙ ap (λ (v : List (List ℕ)). block_of v c.args.block) c.self.view_is)

@@ -17,18 +17,17 @@ returns-then-image-ne0-clause-err g c = inr (elim c.then-image-ne0.branch [
   | then-image-ne0-via-else-image-ne0+then-image-gt-GREATEST_IMAGE_LEN w ↦ bad_length (types_in (blocks_in c.args.image.now)) c.args.image.now (inr w.if-image-gt-GREATEST_IMAGE_LEN.true)
 ])
 
-pub mount-requires-after_bounds : goal.mount-requires-after_bounds
-mount-requires-after_bounds g c κs h =
+pub mount_image-requires-clause-built_ins : goal.mount_image-requires-clause-built_ins
+mount_image-requires-clause-built_ins g c κs h =
     subst (λ bs. HasBuiltIns (types_in bs)) (sym c.in-Ok.ensures)
     (has-built-ins c.args.image.now (All-from_get_or (λ byte. byte < 256) c.args.image.now 0 (λ i h. (c.type_inv.image i).fits)))
 
-pub returns-in-Ok-mount-clause-ok : goal.returns-in-Ok-mount-clause-ok
-returns-in-Ok-mount-clause-ok g c = (
-  whole_image c.args.image.now c.if-image-ne0.false (subst (λ bs. IsSound (types_in bs) (length bs) (block_of bs)) c.in-Ok.ensures c.in-Ok-mount.ensures.sound),
-  ap world_with (c.mounted.ensures ∙ (c.in-Ok-mount.ensures.ok ∙ ap mounted_value c.in-Ok.ensures)),
+pub returns-in-Ok-mount_image-clause-ok : goal.returns-in-Ok-mount_image-clause-ok
+returns-in-Ok-mount_image-clause-ok g c = (
+  whole_image c.args.image.now c.if-image-ne0.false (subst (λ bs. IsSound (types_in bs) (length bs) (block_of bs)) c.in-Ok.ensures c.in-Ok-mount_image.ensures.sound),
+  ap world_with (c.mounted.ensures ∙ (c.in-Ok-mount_image.ensures.ok ∙ ap mounted_value c.in-Ok.ensures)),
 )
 
 pub returns-in-Err-clause-err : goal.returns-in-Err-clause-err
 returns-in-Err-clause-err g c =
-    subst (λ bytes. (c.in-Err.fault ≡ NoMemory) ⊎ (verdict (types_in (blocks_in c.args.image.now)) bytes ≡ Err c.in-Err.fault)) (joined_blocks c.args.image.now c.if-image-ne0.false)
-    (subst (λ bs. (c.in-Err.fault ≡ NoMemory) ⊎ (verdict (types_in bs) (joined bs) ≡ Err c.in-Err.fault)) c.in-Ok.ensures c.in-Err.ensures.fault)
+    subst (λ bs. (c.in-Err.fault ≡ NoMemory) ⊎ (verdict (types_in bs) c.args.image.now ≡ Err c.in-Err.fault)) c.in-Ok.ensures c.in-Err.ensures.fault

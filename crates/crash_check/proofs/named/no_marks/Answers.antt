@@ -1,0 +1,6 @@
+use Rattle.crash_check.proofs.named.no_marks.Goals as goal
+use Rattle.std.proofs.Common.{◌≡◌, IfOk, replicate, false}
+use Rattle.crash_check.proofs.Marks.{then-equal}
+
+pub returns : goal.returns
+returns c = then-equal c.vec.result _ c.vec.ensures.items_if_clones_equal (λ y h. h)
