@@ -13,4 +13,5 @@ pub mod Returns
 pub mod Openings
 pub mod Mounting
 pub mod Crashes
+pub mod AtRest
 pub mod Formats

@@ -1,4 +1,6 @@
 pub mod ScriptRuns
+pub mod BlockWrites
+pub mod StoppedRuns
 pub mod CommandLines
 pub mod TemplateWords
 pub mod TemplatesRead

@@ -26,7 +26,7 @@ run_more w (x ∷ es) [] mid e r after run step = absurd run
 run_more w (x ∷ es) (y ∷ rs) mid e r after run step = (run.0, run.1, run_more run.0 es rs mid e r after run.2 step)
 
 -- what was printed, and one line more
-printed_more : (old mid new : Option (List ℕ)) (bytes line : List ℕ) → Appends old mid bytes → Appends mid new line → Appends old new (bytes ++ line)
+pub printed_more : (old mid new : Option (List ℕ)) (bytes line : List ℕ) → Appends old mid bytes → Appends mid new line → Appends old new (bytes ++ line)
 printed_more None mid new bytes line first second = tt
 printed_more (Some xs) None new bytes line first second = absurd first
 printed_more (Some xs) (Some ys) None bytes line first second = absurd second
