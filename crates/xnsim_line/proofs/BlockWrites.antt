@@ -162,31 +162,33 @@ one_round n k w b more some =
     let rest : n - k ≡ suc (n - (k + 1)) = omega (arith, more) in
     ap (λ fuel. drain_for fuel k w) rest ∙ some_left (n - (k + 1)) k w b some
 
+pick_cases : (o : Option ℕ) → (o ≡ None) ⊎ ((b : ℕ) × (o ≡ Some b))
+pick_cases None = inl refl
+pick_cases (Some b) = inr (b, refl)
+
 -- where a block is still picked, all rounds were done
 pub all_done : (n k : ℕ) (w : World) (m : ℕ) (after : World) (b : ℕ) → drain_for n k w ≡ (m, after) → pick_of after.state ≡ Some b → m ≡ k + n
 all_done zero k w m after b e some = let same : k ≡ m = ap (λ (p : ℕ × World). p.0) e in omega (arith, same)
-all_done (suc n) k w m after b e some = by_pick (pick_of w.state) refl
-  where
-    by_pick : (o : Option ℕ) → pick_of w.state ≡ o → m ≡ k + suc n
-    by_pick None none =
-        let same : w ≡ after = ap (λ (p : ℕ × World). p.1) (sym (none_left (suc n) k w none) ∙ e) in
-        absurd (none-some b (sym none ∙ (ap (λ (v : World). pick_of v.state) same ∙ some)))
-    by_pick (Some c) picked = let rest = all_done n (k + 1) (write_out w c) m after b (sym (some_left n k w c picked) ∙ e) some in omega (arith, rest)
+all_done (suc n) k w m after b e some = elim (pick_cases (pick_of w.state)) [
+  | inl none ↦
+      let same : w ≡ after = ap (λ (p : ℕ × World). p.1) (sym (none_left (suc n) k w none) ∙ e) in
+      absurd (none-some b (sym none ∙ (ap (λ (v : World). pick_of v.state) same ∙ some)))
+  | inr picked ↦ let rest = all_done n (k + 1) (write_out w picked.0) m after b (sym (some_left n k w picked.0 picked.1) ∙ e) some in omega (arith, rest)
+]
 
 -- a drain that picks nothing any more ends as one with more rounds
 same_end : (n f k : ℕ) (w : World) → pick_of (drain_for n k w).1.state ≡ None → pick_of (drain_for f k w).1.state ≡ None → drain_for n k w ≡ drain_for f k w
 same_end zero f k w p q = sym (none_left f k w p)
 same_end (suc n) zero k w p q = none_left (suc n) k w q
-same_end (suc n) (suc f) k w p q = by_pick (pick_of w.state) refl
-  where
-    by_pick : (o : Option ℕ) → pick_of w.state ≡ o → drain_for (suc n) k w ≡ drain_for (suc f) k w
-    by_pick None none = none_left (suc n) k w none ∙ sym (none_left (suc f) k w none)
-    by_pick (Some c) picked =
-        let first = some_left n k w c picked in
-        let second = some_left f k w c picked in
-        first
-        ∙ (same_end n f (k + 1) (write_out w c) (sym (ap (λ (p : ℕ × World). pick_of p.1.state) first) ∙ p) (sym (ap (λ (p : ℕ × World). pick_of p.1.state) second) ∙ q)
-        ∙ sym second)
+same_end (suc n) (suc f) k w p q = elim (pick_cases (pick_of w.state)) [
+  | inl none ↦ none_left (suc n) k w none ∙ sym (none_left (suc f) k w none)
+  | inr picked ↦
+      let first = some_left n k w picked.0 picked.1 in
+      let second = some_left f k w picked.0 picked.1 in
+      first
+      ∙ (same_end n f (k + 1) (write_out w picked.0) (sym (ap (λ (r : ℕ × World). pick_of r.1.state) first) ∙ p) (sym (ap (λ (r : ℕ × World). pick_of r.1.state) second) ∙ q)
+      ∙ sym second)
+]
 
 -- a drain with nothing left to pick is a client's
 pub whole_drain : (w : World) (fs n m : ℕ) (after : World) → Holds w → w.down ≡ false → is_any_in_flight w.state ≡ false → drain_for n 0 w ≡ (m, after) → pick_of after.state ≡ None →

@@ -252,7 +252,10 @@ fn asked_stop(words: &[String]) -> Option<Option<u64>>
 {
     match words {
         [] => Some(None),
-        [word, count] if is_word(word, STOP) => {
+        [word, count] => {
+            if !is_word(word, STOP) {
+                return None;
+            }
             let count = parse_number(count.as_str(), u64::MAX)?;
             Some(Some(count))
         }

@@ -1,8 +1,9 @@
 // A script is run up to a stop: it ends immediately before the block write that comes after so many.
 
-ghost use Rattle.std.specs.Prelude.{◌≡◌, ◌+◌, ◌++◌, ◌∷◌, ◌≤◌, [], codes, false, IfErr, IfNone, IfOk, IfSome, IsTrue, OnOk};
+ghost use Rattle.std.specs.Prelude.{◌≡◌, ◌+◌, ◌++◌, ◌∷◌, ◌<◌, ◌≤◌, ◌^◌, [], codes, false, IfErr, IfNone, IfOk, IfSome, IsTrue, OnOk};
 ghost use Rattle.std.specs.Io.KnownBytes.{Appends};
 ghost use Rattle.xn_model.specs.Calls.{pick_of};
+ghost use Rattle.xn_model.specs.Images.{joined};
 ghost use Rattle.xn_model.specs.Worlds as model;
 ghost use Rattle.xn_model.specs.Worlds.{drain_for, write_out};
 ghost use Rattle.world.specs.Events.{event_of, reply_of};
@@ -98,23 +99,44 @@ fn write_at_most(rt: &(impl Threads + Sync), world: &mut World, fs: Fs, limit: u
     limit
 }
 
-/// A drain with no write under way, of which at most so many may come. `None` is for one more.
-fn drain_at_most(
+/// One event, of which as many block writes come as may.
+fn step_counted(
+    rt: &(impl Threads + Sync),
+    world: &mut World,
+    event: &Event,
+    left: &mut u64,
+) -> Reply
+    requires { (reply : model.Reply) (after : model.World) → model.Step (world_with world.old) (event_of event.now) reply after → writes_of reply < 2 ^ 32 → writes_of reply ≤ left.old }
+    ensures step { model.Step (world_with world.old) (event_of event.now) (reply_of result) (world_with world.new) }
+    ensures counted { writes_of (reply_of result) + left.new ≡ left.old }
+{
+    let reply = world.step(rt, event);
+    *left -= u64::from(writes_in(&reply));
+    reply
+}
+
+/// A drain with no write under way, of which at most so many may come: those that are left. `None` is for one more.
+fn drain_counted(
     rt: &(impl Threads + Sync),
     world: &mut World,
     fs: Fs,
     limit: u32,
+    left: &mut u64,
 ) -> Option<Reply>
     requires up { world.old.down ≡ false }
     requires calm { is_any_in_flight world.old.state ≡ false }
+    requires limit { left.old ≡ limit }
     ensures some { IfSome result (λ reply. model.Step (world_with world.old) (model.Client fs.number model.Drain) (reply_of reply) (world_with world.new)
-        × (writes_of (reply_of reply) ≤ limit)) }
-    ensures none { IfNone result (IsHeldBack (world_with world.old) (model.Client fs.number model.Drain) limit (world_with world.new)) }
+        × (writes_of (reply_of reply) + left.new ≡ left.old)) }
+    ensures none { IfNone result (IsHeldBack (world_with world.old) (model.Client fs.number model.Drain) left.old (world_with world.new)) }
 {
     world.rules();
     let writes = write_at_most(rt, world, fs, limit);
     match pick(rt, world, fs) {
-        None => Some(Reply::Answered(Answer::Drain(Ok(writes)))),
+        None => {
+            *left -= u64::from(writes);
+            Some(Reply::Answered(Answer::Drain(Ok(writes))))
+        }
         Some(_block) => None,
     }
 }
@@ -130,15 +152,17 @@ fn drain_within(
         × (writes_of (reply_of reply) + left.new ≡ left.old)) }
     ensures none { IfNone result (IsHeldBack (world_with world.old) (model.Client fs.number model.Drain) left.old (world_with world.new)) }
 {
-    if world.is_down() || world.is_any_in_flight() {
-        return Some(world.step(rt, &Event::Call(fs, Call::Drain)));
+    let drain = Event::Call(fs, Call::Drain);
+    if world.is_down() {
+        return Some(step_counted(rt, world, &drain, left));
     }
-    let reply = match u32::try_from(*left) {
-        Ok(limit) => drain_at_most(rt, world, fs, limit)?,
-        Err(_) => world.step(rt, &Event::Call(fs, Call::Drain)),
-    };
-    *left -= u64::from(writes_in(&reply));
-    Some(reply)
+    if world.is_any_in_flight() {
+        return Some(step_counted(rt, world, &drain, left));
+    }
+    match u32::try_from(*left) {
+        Ok(limit) => drain_counted(rt, world, fs, limit, left),
+        Err(_) => Some(step_counted(rt, world, &drain, left)),
+    }
 }
 
 /// An event that is no drain. `None` is for a block write that may not come any more.
@@ -153,12 +177,13 @@ fn step_within(
         × (writes_of (reply_of reply) + left.new ≡ left.old)) }
     ensures none { IfNone result (IsHeldBack (world_with world.old) (event_of event.now) left.old (world_with world.new)) }
 {
-    if is_write(world, event) && *left == 0 {
+    if !is_write(world, event) {
+        return Some(step_counted(rt, world, event, left));
+    }
+    if *left == 0 {
         return None;
     }
-    let reply = world.step(rt, event);
-    *left -= u64::from(writes_in(&reply));
-    Some(reply)
+    Some(step_counted(rt, world, event, left))
 }
 
 /// One event. `None` is for a block write that may not come any more; the world is then as before that write.
@@ -178,6 +203,24 @@ fn go_on_within(
     }
 }
 
+/// The bytes that are on a world's disk.
+fn image_of<'a>(world: &World) -> Result<Vec<u8>, Fault<'a>>
+    ensures image { IfOk result (λ image. image.items ≡ joined world.now.image) }
+    ensures fault { IfErr result IsRunFault }
+{
+    Ok(world.image()?)
+}
+
+/// Prints that the run stopped, and answers the bytes that are then on its disk.
+fn stopped_image<'a, W: Write>(world: &World, out: &mut W) -> Result<Vec<u8>, Fault<'a>>
+    ensures image { IfOk result (λ image. image.items ≡ joined world.now.image) }
+    ensures printed { OnOk result (Appends (W.contents out.old) (W.contents out.new) (codes "stopped" ++ 10 ∷ [])) }
+    ensures fault { IfErr result IsRunFault }
+{
+    print_stopped(out)?;
+    image_of(world)
+}
+
 /// Runs the events on a world, to their end or to a stop immediately before the block write that comes after so many. Prints a
 /// reply an event, and whether the run stopped; answers the bytes that are then on the disk.
 pub fn run_events_until<'a, W: Write>(
@@ -194,11 +237,8 @@ pub fn run_events_until<'a, W: Write>(
     for event in events {
         match go_on_within(rt, &mut world, &event, &mut left) {
             Some(reply) => print_reply(out, &reply)?,
-            None => {
-                print_stopped(out)?;
-                return Ok(world.image()?);
-            }
+            None => return stopped_image(&world, out),
         }
     }
-    Ok(world.image()?)
+    image_of(&world)
 }
