@@ -909,3 +909,78 @@ accepted cost 4 emits 1
 ",
     )
 }
+
+/// Between the write of a block and that of the root that names it, the disk is as it was.
+#[test]
+fn a_run_stops_between_two_writes(rt: HostRuntime) -> Result<(), PlayFault> {
+    plays(
+        &rt,
+        rt.alloc(),
+        "$ xnsim format disk 32
+blocks 32 templates 0
+$ cat > script <<EOF
+init 0 2 414243
+root 0 1
+begin 0
+begin 1
+land 1
+begin 0
+finish 1
+begin 0
+land 0
+finish 0
+floor 0
+EOF
+$ xnsim run disk script --stop 1
+block 1 edit 1
+edit 2
+refused 20 NothingSafe
+begun 1
+landed
+refused 20 NothingSafe
+durable 1 freed 0
+begun 1
+stopped
+$ xnsim check disk
+reached 1 free 31
+",
+    )
+}
+
+#[test]
+fn a_run_with_no_write_behind_its_stop_ends(rt: HostRuntime) -> Result<(), PlayFault> {
+    plays(
+        &rt,
+        rt.alloc(),
+        "$ xnsim format disk 32
+blocks 32 templates 0
+$ cat > script <<EOF
+init 0 2 414243
+root 0 1
+begin 0
+begin 1
+land 1
+begin 0
+finish 1
+begin 0
+land 0
+finish 0
+floor 0
+EOF
+$ xnsim run disk script --stop 2
+block 1 edit 1
+edit 2
+refused 20 NothingSafe
+begun 1
+landed
+refused 20 NothingSafe
+durable 1 freed 0
+begun 1
+landed
+durable 1 freed 0
+floor 3
+$ xnsim check disk
+reached 2 free 30
+",
+    )
+}

@@ -13,5 +13,6 @@ pub mod Returns
 pub mod Openings
 pub mod Mounting
 pub mod Crashes
+pub mod AtRest
 pub mod Formats
 pub mod Ticketing

@@ -1,7 +1,8 @@
 -- A world, as its kernel and its tickets make it.
-use Rattle.std.specs.Prelude.{◌≡◌, ℕ, List, [], length, Option, Some, None, Bool, true, false, option_map, slice_get}
+use Rattle.std.specs.Prelude.{◌≡◌, ℕ, List, [], length, Option, Some, None, Bool, true, false, is_some, option_map, slice_get}
+use Rattle.std.specs.List.{list_any}
 use Rattle.disk.specs.Mem.{MemoryLane}
-use Rattle.xn_model.specs.Lives.{StoreState, life_at}
+use Rattle.xn_model.specs.Lives.{StoreState, life_at, alive_and}
 use Rattle.xn_model.specs.Lanes.{FitLives}
 use Rattle.xn_model.specs.Flights.{flight_of}
 use Rattle.xn_model.specs.Worlds.{World, mounted_state}
@@ -53,6 +54,10 @@ pub record IsWorld (kernel : KernelValue MemoryLane) (tickets : Tickets) : Type 
   pub count : length tickets ≡ length kernel.lanes
   pub flights : (b : ℕ) → ticket_flight (ticket_at tickets b) ≡ flight_of (life_at kernel.state.store.lives b)
   pub mine : (b : ℕ) (ticket : TicketValue MemoryLane) → ticket_at tickets b ≡ Some ticket → IsTicketOf kernel b ticket
+
+-- a write of some block is under way
+abbrev pub is_any_in_flight : StoreState → Bool
+is_any_in_flight state = list_any (alive_and (λ l. is_some l.begun)) state.lives
 
 -- the types are those of the image's own catalogue
 abbrev pub HasOwnTypes : World → Type 0

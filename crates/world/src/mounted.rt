@@ -1,12 +1,13 @@
 // A disk that is mounted.
 
-ghost use Rattle.std.specs.Prelude.{◌≡◌, ◌≢◌, ◌<◌, ◌-◌, All, length, IfOk};
+ghost use Rattle.std.specs.Prelude.{◌≡◌, ◌≢◌, ◌<◌, ◌-◌, All, length, IfOk, false};
 ghost use Rattle.xn_model.specs.Images.{block_of, joined};
 ghost use Rattle.xn_model.specs.Calls.{free_of};
 ghost use Rattle.xn_model.specs.Worlds as model;
 ghost use Rattle.xn_model.specs.Rules.{Holds};
+ghost use Rattle.xn_kernel.specs.Kernels.{is_in_flight};
 ghost use Rattle.world.specs.Events.{event_of, reply_of};
-ghost use Rattle.world.specs.Worlds.{world_with, value_of, IsWorld};
+ghost use Rattle.world.specs.Worlds.{is_any_in_flight, world_with, value_of, IsWorld};
 
 use crate::event::Event;
 use crate::reply::Reply;
@@ -98,6 +99,35 @@ impl MountedDisk {
             image.extend_from_slice(self.block_bytes(block))?;
         }
         Ok(image)
+    }
+
+    /// Whether a write of the block is under way.
+    pub fn is_in_flight(&self, block: u32) -> bool
+        ensures flight { result ≡ is_in_flight self.now.state block }
+        ensures up { self.now.down ≡ false }
+    {
+        self.tickets.get(block).is_some()
+    }
+
+    /// Whether a write of some block is under way.
+    pub fn is_any_in_flight(&self) -> bool
+        ensures { result ≡ is_any_in_flight self.now.state }
+    {
+        self.rules();
+        for block in 0..self.blocks() {
+            if self.is_in_flight(block as u32) {
+                return true;
+            }
+        }
+        false
+    }
+
+    /// Whether it is down, which no mounted disk is.
+    pub fn is_down(&self) -> bool
+        ensures { result ≡ self.now.down }
+    {
+        let _kernel = &self.kernel;
+        false
     }
 
     /// Its rules.

@@ -1,6 +1,6 @@
 // A world.
 
-ghost use Rattle.std.specs.Prelude.{◌≡◌, ◌≢◌, ◌⊎◌, All, length, map, Err, IfOk, IfErr, MatchResult};
+ghost use Rattle.std.specs.Prelude.{◌≡◌, ◌≢◌, ◌⊎◌, All, length, map, Err, IfOk, IfErr, MatchResult, IsTrue, false};
 ghost use Rattle.xn_model.specs.Images.{block_of, blocks_in, joined, IsSound};
 ghost use Rattle.xn_model.specs.BareDisks.{mounted_disk};
 ghost use Rattle.xn_model.specs.Worlds as model;
@@ -14,8 +14,9 @@ ghost use Rattle.templates.specs.Templates.{IsTemplate};
 ghost use Rattle.templates.specs.Tables.{table_of_image, types_of};
 ghost use Rattle.templates.specs.Formats.{formatted, format_fault, table_of, IsFormatFault};
 ghost use Rattle.crash_check.specs.Answers.{types_in};
+ghost use Rattle.xn_kernel.specs.Kernels.{is_in_flight};
 ghost use Rattle.world.specs.Events.{event_of, reply_of};
-ghost use Rattle.world.specs.Worlds.{world_with, world_value, HasOwnTypes, IsSoundDisk, IsWorldOf};
+ghost use Rattle.world.specs.Worlds.{is_any_in_flight, world_with, world_value, HasOwnTypes, IsSoundDisk, IsWorldOf};
 
 use crate::event::Event;
 use crate::mounted::MountedDisk;
@@ -157,6 +158,37 @@ impl World {
         }
     }
 
+    /// Whether a write of the block is under way. While the world is down there is none.
+    pub fn is_in_flight(&self, block: u32) -> bool
+        ensures flight { result ≡ is_in_flight self.now.state block }
+        ensures up { IsTrue result → self.now.down ≡ false }
+    {
+        match &self.mounted {
+            None => false,
+            Some(disk) => disk.is_in_flight(block),
+        }
+    }
+
+    /// Whether a write of some block is under way. While the world is down there is none.
+    pub fn is_any_in_flight(&self) -> bool
+        ensures { result ≡ is_any_in_flight self.now.state }
+    {
+        match &self.mounted {
+            None => false,
+            Some(disk) => disk.is_any_in_flight(),
+        }
+    }
+
+    /// Whether the last crash's mount found no memory.
+    pub fn is_down(&self) -> bool
+        ensures { result ≡ self.now.down }
+    {
+        match &self.mounted {
+            None => true,
+            Some(disk) => disk.is_down(),
+        }
+    }
+
     /// The world of a mounted disk.
     fn mounted(alloc: Global, disk: MountedDisk) -> World
         requires { HasOwnTypes (world_with disk) }
@@ -202,8 +234,8 @@ impl World {
         }
     }
 
-    /// Its rules.
-    fn rules(&self)
+    /// The rules hold of every world. This does nothing.
+    pub fn rules(&self)
         ensures { Holds (world_with self.now) }
     {
         match &self.mounted {

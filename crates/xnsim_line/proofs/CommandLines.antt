@@ -163,9 +163,9 @@ line_is_three start rest three (Format image blocks file_system templates) line 
     let greatest : blocks ≤ 32768 = line.4 in
     let words : start ≡ codes "format" ∷ image.now ∷ decimal blocks ∷ [] = start_alike start rest (codes "format") image.now (decimal blocks) line.0 three line.1 in
     record { first = image.now; second = decimal blocks; command = inl words; first_name = line.2; second_name = decimal_is_IsName blocks (omega arith) (omega arith) }
-line_is_three start rest three (Run image script) line =
-    let words : start ≡ codes "run" ∷ image.now ∷ script.now ∷ [] = start_alike start rest (codes "run") image.now script.now [] three line.0 in
-    record { first = image.now; second = script.now; command = inr (inl words); first_name = line.1; second_name = line.2 }
+line_is_three start rest three (Run image script stop) line =
+    let words : start ≡ codes "run" ∷ image.now ∷ script.now ∷ [] = start_alike start rest (codes "run") image.now script.now line.0 three line.1 in
+    record { first = image.now; second = script.now; command = inr (inl words); first_name = line.2; second_name = line.3 }
 line_is_three start rest three (Check image) line = let two : length (start ++ rest) ≡ 2 = ap length line.0 in absurd (omega (arith, length-append start rest))
 line_is_three start rest three (Asm owns size block) line =
     let words : start ≡ codes "asm" ∷ owns.now ∷ size.now ∷ [] = start_alike start rest (codes "asm") owns.now size.now (block.now ∷ []) three line.0 in

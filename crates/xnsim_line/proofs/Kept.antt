@@ -12,6 +12,7 @@ use Rattle.xnsim_line.specs.Files.{Held}
 use Rattle.xnsim_line.specs.Formatting.{PrintsMade}
 use Rattle.xnsim_line.specs.Programs.{PrintsAccepted}
 use Rattle.xnsim_line.specs.Runs.{IsMountedRun, IsPrintedRun}
+use Rattle.xnsim_line.specs.Stops.{IsAskedRun, IsStoppedRun}
 use Rattle.xn_model.specs.Worlds.{World}
 use Rattle.udf_verify.specs.declared.fault.Role.{Role}
 use Rattle.world.specs.declared.event.Event.{Event}
@@ -36,6 +37,26 @@ module _ (old mid new : Option (List ℕ)) (flushed : Keeps mid new) where
   mounted_kept : (image : List ℕ) (events : List Event) (after : List ℕ) → IsMountedRun image events old mid after → IsMountedRun image events old new after
   mounted_kept image events after run =
       record { sound = run.sound; run = run_kept _ events after run.run }
+
+  stopped_kept : (from : World) (events : List Event) (limit : ℕ) (image : List ℕ) → IsStoppedRun from events limit old mid image → IsStoppedRun from events limit old new image
+  stopped_kept from events limit image run = record {
+    done = run.done;
+    rest = run.rest;
+    all = run.all;
+    replies = run.replies;
+    before = run.before;
+    run = run.run;
+    left = run.left;
+    counted = run.counted;
+    after = run.after;
+    end = run.end;
+    printed = appends_kept old mid new _ run.printed flushed;
+    reached = run.reached;
+  }
+
+  asked_kept : (stop : Option ℕ) (image : List ℕ) (events : List Event) (after : List ℕ) → IsAskedRun stop image events old mid after → IsAskedRun stop image events old new after
+  asked_kept None image events after run = mounted_kept image events after run
+  asked_kept (Some limit) image events after run = record { sound = run.sound; run = stopped_kept _ events limit after run.run }
 
   template_kept : (held held_after : Held) (block_name owns_text size_text : List ℕ) →
       PrintsTemplate held held_after block_name owns_text size_text old mid → PrintsTemplate held held_after block_name owns_text size_text old new
@@ -75,7 +96,7 @@ module _ (old mid new : Option (List ℕ)) (flushed : Keeps mid new) where
     written = done.written;
     printed = appends_kept old mid new _ done.printed flushed;
   }
-  done_kept input held held_after (Run image script) done = record {
+  done_kept input held held_after (Run image script stop) done = record {
     image = done.image;
     text = done.text;
     events = done.events;
@@ -83,7 +104,7 @@ module _ (old mid new : Option (List ℕ)) (flushed : Keeps mid new) where
     image_held = done.image_held;
     script_held = done.script_held;
     script = done.script;
-    run = mounted_kept done.image done.events done.after done.run;
+    run = asked_kept stop done.image done.events done.after done.run;
     written = done.written;
   }
   done_kept input held held_after (Check image) done = record {

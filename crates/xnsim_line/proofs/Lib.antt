@@ -1,6 +1,9 @@
 pub mod ScriptRuns
+pub mod BlockWrites
+pub mod StoppedRuns
 pub mod CommandLines
 pub mod TemplateWords
+pub mod StopWords
 pub mod TemplatesRead
 pub mod MountFaults
 pub mod Kept

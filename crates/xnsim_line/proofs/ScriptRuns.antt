@@ -26,13 +26,13 @@ run_more w (x ∷ es) [] mid e r after run step = absurd run
 run_more w (x ∷ es) (y ∷ rs) mid e r after run step = (run.0, run.1, run_more run.0 es rs mid e r after run.2 step)
 
 -- what was printed, and one line more
-printed_more : (old mid new : Option (List ℕ)) (bytes line : List ℕ) → Appends old mid bytes → Appends mid new line → Appends old new (bytes ++ line)
+pub printed_more : (old mid new : Option (List ℕ)) (bytes line : List ℕ) → Appends old mid bytes → Appends mid new line → Appends old new (bytes ++ line)
 printed_more None mid new bytes line first second = tt
 printed_more (Some xs) None new bytes line first second = absurd first
 printed_more (Some xs) (Some ys) None bytes line first second = absurd second
 printed_more (Some xs) (Some ys) (Some zs) bytes line first second = second ∙ (ap (λ start. start ++ line) first ∙ append_assoc xs bytes line)
 
-nothing_printed : (old : Option (List ℕ)) → Appends old old []
+pub nothing_printed : (old : Option (List ℕ)) → Appends old old []
 nothing_printed None = tt
 nothing_printed (Some xs) = sym (append-nil xs)
 
@@ -40,19 +40,26 @@ nothing_printed (Some xs) = sym (append-nil xs)
 pub none_run : (from : model.World) (old : Option (List ℕ)) → IsRunTo from [] old old from
 none_run from old = record { replies = []; run = refl; printed = nothing_printed old }
 
--- one event more
+-- one event more, and its line
+pub ran_one_more : (from : model.World) (events : List Event) (event : Event) (rs : List Reply) (reply : Reply) (before after : model.World) → Step before (event_of event) (reply_of reply) after →
+    IsRun from events rs before → IsRun from (events ++ event ∷ []) (rs ++ reply ∷ []) after
+ran_one_more from events event rs reply before after step ran =
+    let sent = map-append event_of events (event ∷ []) in
+    let told = map-append reply_of rs (reply ∷ []) in
+    rw (sent, told) (run_more from (map event_of events) (map reply_of rs) before (event_of event) (reply_of reply) after ran step)
+
+pub printed_one_more : (rs : List Reply) (reply : Reply) (old mid new : Option (List ℕ)) → Appends old mid (flat_map reply_line rs) → Appends mid new (reply_line reply) →
+    Appends old new (flat_map reply_line (rs ++ reply ∷ []))
+printed_one_more rs reply old mid new before printed =
+    let lines : flat_map reply_line (rs ++ reply ∷ []) ≡ flat_map reply_line rs ++ reply_line reply =
+    flat_map-append reply_line rs (reply ∷ []) ∙ ap (λ last. flat_map reply_line rs ++ last) (append-nil (reply_line reply)) in
+    rw lines (printed_more old mid new (flat_map reply_line rs) (reply_line reply) before printed)
+
 pub run_one_more : (from : model.World) (events : List Event) (event : Event) (old mid new : Option (List ℕ)) (before after : model.World) (reply : Reply) →
     Step before (event_of event) (reply_of reply) after → Appends mid new (reply_line reply) →
     IsRunTo from events old mid before → IsRunTo from (events ++ event ∷ []) old new after
-run_one_more from events event old mid new before after reply step printed so_far =
-    let rs = so_far.replies in
-    let sent = map-append event_of events (event ∷ []) in
-    let told = map-append reply_of rs (reply ∷ []) in
-    let ran = run_more from (map event_of events) (map reply_of rs) before (event_of event) (reply_of reply) after so_far.run step in
-    let lines : flat_map reply_line (rs ++ reply ∷ []) ≡ flat_map reply_line rs ++ reply_line reply =
-    flat_map-append reply_line rs (reply ∷ []) ∙ ap (λ last. flat_map reply_line rs ++ last) (append-nil (reply_line reply)) in
-    record {
-      replies = rs ++ reply ∷ [];
-      run = rw (sent, told) ran;
-      printed = rw lines (printed_more old mid new (flat_map reply_line rs) (reply_line reply) so_far.printed printed);
-    }
+run_one_more from events event old mid new before after reply step printed so_far = record {
+  replies = so_far.replies ++ reply ∷ [];
+  run = ran_one_more from events event so_far.replies reply before after step so_far.run;
+  printed = printed_one_more so_far.replies reply old mid new so_far.printed printed;
+}

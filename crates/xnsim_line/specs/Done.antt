@@ -13,7 +13,8 @@ use Rattle.xnsim_line.specs.Formatting.{IsSomeFault, IsTooMany, PrintsMade}
 use Rattle.xnsim_line.specs.Checking.{IsVerdict, PrintsChecked}
 use Rattle.xnsim_line.specs.Lines.{IsLine, IsNoLine}
 use Rattle.xnsim_line.specs.Programs.{IsProgramFault, PrintsAccepted}
-use Rattle.xnsim_line.specs.Runs.{fresh_world, IsMountedRun, IsPrintedRun}
+use Rattle.xnsim_line.specs.Runs.{fresh_world, IsPrintedRun}
+use Rattle.xnsim_line.specs.Stops.{IsAskedRun}
 use Rattle.script.specs.Scripts.{IsFirstUnreadable, IsScript}
 
 -- a script was run on a fresh disk of so many blocks with these templates, and its replies printed; where it is known which
@@ -26,9 +27,9 @@ pub record PrintsReplies (known : Option (List ℕ)) (blocks : ℕ) (templates :
   pub script : IsScript text events
   pub run : IsPrintedRun (fresh_world blocks templates) events old new image
 
--- the script of a file was run on the disk of a file's image, which is sound, its replies printed, and what is then on the
--- disk written back
-pub record PrintsMounted (held held_after : Held) (image_name script_name : List ℕ) (old new : Option (List ℕ)) : Type 0 where
+-- the script of a file was run on the disk of a file's image, which is sound, to its end or to a stop, its replies printed, and
+-- what is then on the disk written back
+pub record PrintsMounted (held held_after : Held) (image_name script_name : List ℕ) (stop : Option ℕ) (old new : Option (List ℕ)) : Type 0 where
   pub image : List ℕ
   pub text : List ℕ
   pub events : List Event
@@ -36,7 +37,7 @@ pub record PrintsMounted (held held_after : Held) (image_name script_name : List
   pub image_held : IsHeld held image_name image
   pub script_held : IsHeld held script_name text
   pub script : IsScript text events
-  pub run : IsMountedRun image events old new after
+  pub run : IsAskedRun stop image events old new after
   pub written : held_after ≡ with_file held image_name after
 
 -- the template of the texts of two files was made, its block written, and its line printed
@@ -59,7 +60,7 @@ abbrev pub IsDone : Option (List ℕ) → Held → Held → Invocation → Optio
 IsDone input held held_after Bare old new = PrintsReplies input 32 [] old new × (held_after ≡ held)
 IsDone input held held_after (Format image blocks file_system templates) old new =
     PrintsMade held held_after image.now blocks file_system (map string_bytes templates.now) old new
-IsDone input held held_after (Run image script) old new = PrintsMounted held held_after image.now script.now old new
+IsDone input held held_after (Run image script stop) old new = PrintsMounted held held_after image.now script.now stop old new
 IsDone input held held_after (Check image) old new = PrintsChecked held held_after image.now old new
 IsDone input held held_after (Asm owns size block) old new = PrintsAssembled held held_after owns.now size.now block.now old new
 IsDone input held held_after (Verify name role) old new = PrintsVerified held held_after name.now role old new
@@ -85,10 +86,10 @@ IsFaultOf input (Format image blocks file_system templates) (CannotRead name) = 
 IsFaultOf input (Format image blocks file_system templates) (Template place found) = IsSomeFault (length templates.now) place found
 IsFaultOf input (Format image blocks file_system templates) TooManyTemplates = IsTooMany file_system (length templates.now)
 IsFaultOf input (Format image blocks file_system templates) (CannotWrite name) = name ≡ image
-IsFaultOf input (Run image script) (CannotRead name) = (name ≡ image) ⊎ (name ≡ script)
-IsFaultOf input (Run image script) (Unreadable line) = (text : List ℕ) × IsFirstUnreadable text line
-IsFaultOf input (Run image script) (Image fault) = (bytes : List ℕ) × IsVerdict bytes fault
-IsFaultOf input (Run image script) (CannotWrite name) = name ≡ image
+IsFaultOf input (Run image script stop) (CannotRead name) = (name ≡ image) ⊎ (name ≡ script)
+IsFaultOf input (Run image script stop) (Unreadable line) = (text : List ℕ) × IsFirstUnreadable text line
+IsFaultOf input (Run image script stop) (Image fault) = (bytes : List ℕ) × IsVerdict bytes fault
+IsFaultOf input (Run image script stop) (CannotWrite name) = name ≡ image
 IsFaultOf input (Check image) (CannotRead name) = name ≡ image
 IsFaultOf input (Check image) (Image fault) = (bytes : List ℕ) × IsVerdict bytes fault
 IsFaultOf input (Asm owns size block) NoMemory = ⊥

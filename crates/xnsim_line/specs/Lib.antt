@@ -2,6 +2,7 @@ pub mod Checking
 pub mod Lines
 pub mod CommandLine
 pub mod Runs
+pub mod Stops
 pub mod ProgramFaults
 pub mod Programs
 pub mod Files

@@ -1,4 +1,4 @@
-use Rattle.std.specs.Prelude.{◌≡◌, ◌≢◌, ◌≤◌, ◌⊎◌, ℕ, Bool, false, if◌then◌else◌, List, [], ◌∷◌, ◌++◌, map, slice_index, codes, string_bytes, All}
+use Rattle.std.specs.Prelude.{◌≡◌, ◌≢◌, ◌<◌, ◌≤◌, ◌^◌, ◌⊎◌, ℕ, Option, None, Some, IfSome, Bool, false, if◌then◌else◌, List, [], ◌∷◌, ◌++◌, map, slice_index, codes, string_bytes, All}
 use Rattle.std.specs.Fmt.{decimal}
 use Rattle.clap.specs.declared.error.kind.ErrorKind.{ErrorKind}
 use Rattle.clap.specs.declared.error.kind.ErrorKind.TheVariants.{OutOfMemory}
@@ -40,13 +40,23 @@ pub record IsTemplateWords (words : List (List ℕ)) (file_system : Bool) (names
   pub spelled : words ≡ file_system_words file_system ++ names
   pub named : All IsName names
 
+-- the words behind a script: none, or after how many block writes the run is to stop
+abbrev pub stop_words : Option ℕ → List (List ℕ)
+stop_words None = []
+stop_words (Some count) = codes "--stop" ∷ decimal count ∷ []
+
+pub record IsStopWords (words : List (List ℕ)) (stop : Option ℕ) : Type 0 where
+  pub spelled : words ≡ stop_words stop
+  pub small : IfSome stop (λ count. count < 2 ^ 64)
+
 -- the words of a line
 abbrev pub IsLine : List (List ℕ) → Invocation → Type 0
 IsLine words Bare = words ≡ []
 IsLine words (Format image blocks file_system templates) =
     (rest : List (List ℕ)) × (words ≡ codes "format" ∷ image.now ∷ decimal blocks ∷ rest) × IsName image.now × (32 ≤ blocks) × (blocks ≤ 32768)
     × IsTemplateWords rest file_system (map string_bytes templates.now)
-IsLine words (Run image script) = (words ≡ codes "run" ∷ image.now ∷ script.now ∷ []) × IsName image.now × IsName script.now
+IsLine words (Run image script stop) =
+    (rest : List (List ℕ)) × (words ≡ codes "run" ∷ image.now ∷ script.now ∷ rest) × IsName image.now × IsName script.now × IsStopWords rest stop
 IsLine words (Check image) = (words ≡ codes "check" ∷ image.now ∷ []) × IsName image.now
 IsLine words (Asm owns size block) =
     (words ≡ codes "asm" ∷ owns.now ∷ size.now ∷ block.now ∷ []) × IsName owns.now × IsName size.now × IsName block.now

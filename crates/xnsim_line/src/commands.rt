@@ -97,7 +97,8 @@ fn assemble_files<'a, F: Files, W: Write>(
     Ok(())
 }
 
-/// Runs the script of a file on the image of a file, and writes the image back.
+/// Runs the script of a file on the image of a file, to its end or to a stop before the block write that comes after so many,
+/// and writes the image back.
 fn run_files<'a, F: Files, W: Write>(
     rt: &(impl Threads + Sync),
     alloc: Global,
@@ -105,16 +106,17 @@ fn run_files<'a, F: Files, W: Write>(
     out: &mut W,
     image: &'a str,
     script: &'a str,
+    stop: Option<u64>,
 ) -> Result<(), Fault<'a>>
-    ensures done { OnOk result (PrintsMounted (F.held files.old) (F.held files.new) image.entry.now script.entry.now (W.contents out.old) (W.contents out.new)) }
-    ensures fault { IfErr result (IsFaultOf None (Invocation.Run image.entry script.entry)) }
+    ensures done { OnOk result (PrintsMounted (F.held files.old) (F.held files.new) image.entry.now script.entry.now stop (W.contents out.old) (W.contents out.new)) }
+    ensures fault { IfErr result (IsFaultOf None (Invocation.Run image.entry script.entry stop)) }
 {
     let before = files
         .read_start(alloc, image, GREATEST_IMAGE_LEN + 1)
         .ok_or(Fault::CannotRead(image))?;
     let text = files.read(alloc, script).ok_or(Fault::CannotRead(script))?;
     let events = parse(alloc, text_of(text.as_slice(), script)?)?;
-    let after = run_on_image(rt, alloc, before, events, out)?;
+    let after = run_on_image(rt, alloc, before, events, stop, out)?;
     if !files.write(image, after.as_slice()) {
         return Err(Fault::CannotWrite(image));
     }
@@ -200,7 +202,11 @@ pub fn run<'a, F: Files, R: Read, W: Write>(
             file_system,
             templates,
         } => format(alloc, files, out, image, blocks, file_system, templates),
-        Invocation::Run { image, script } => run_files(rt, alloc, files, out, image, script),
+        Invocation::Run {
+            image,
+            script,
+            stop,
+        } => run_files(rt, alloc, files, out, image, script, stop),
         Invocation::Check { image } => check_file(rt, alloc, files, out, image),
         Invocation::Asm { owns, size, block } => {
             assemble_files(alloc, files, out, owns, size, block)

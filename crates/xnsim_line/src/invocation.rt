@@ -1,10 +1,10 @@
-ghost use Rattle.std.specs.Prelude.{◌≡◌, ◌≢◌, ◌<◌, ◌≤◌, ◌↔◌, ℕ, List, [], ◌∷◌, ◌++◌, Bool, Ok, Some, false, true, IfSome, IfNone, IfOk, IfErr, IsSomeAnd, IsTrue, All, codes, length, map, string_bytes};
+ghost use Rattle.std.specs.Prelude.{◌≡◌, ◌≢◌, ◌<◌, ◌≤◌, ◌↔◌, ℕ, List, [], ◌∷◌, ◌++◌, Bool, Option, Ok, Some, false, true, IfSome, IfNone, IfOk, IfErr, IsSomeAnd, IsTrue, All, codes, length, map, string_bytes};
 ghost use Rattle.std.specs.Fmt.{decimal};
 ghost use Rattle.clap.specs.Words.{app_of, kind_of, rule_of, takes, with_subcommand, HasMatchesOf};
 ghost use Rattle.clap.specs.declared.builder.command.Command.TheViews.{out-Command as fields_of};
 ghost use Rattle.udf_verify.specs.declared.Role.{Role};
 ghost use Rattle.xnsim_line.specs.CommandLine.{no_commands, program, two_words, wanted};
-ghost use Rattle.xnsim_line.specs.Lines.{CutsFileSystem, IsName, IsLine, IsNoLine, IsTemplateWords, IsThreeWords};
+ghost use Rattle.xnsim_line.specs.Lines.{CutsFileSystem, IsName, IsLine, IsNoLine, IsStopWords, IsTemplateWords, IsThreeWords};
 ghost use Rattle.xnsim_line.specs.Programs.{role_name};
 
 use clap::error::ErrorKind;
@@ -27,10 +27,11 @@ pub enum Invocation<'a> {
         file_system: bool,
         templates: &'a [String],
     },
-    /// A script is run on the image of a file.
+    /// A script is run on the image of a file; with a `stop` it ends before the block write that comes after so many.
     Run {
         image: &'a str,
         script: &'a str,
+        stop: Option<u64>,
     },
     /// The image of a file is checked.
     Check {
@@ -89,6 +90,9 @@ const SECOND: &str = "second";
 
 /// The word that asks for the templates of the library's file system.
 const FILE_SYSTEM: &str = "--ffs";
+
+/// The word that asks for a run to stop.
+const STOP: &str = "--stop";
 
 /// A word that has to be there.
 fn wanted<'a>(alloc: Global, id: &'a str) -> Arg<'a>
@@ -241,15 +245,38 @@ fn asked_format<'a>(image: &'a str, blocks: &str, rest: &'a [String]) -> Option<
     })
 }
 
+/// After how many block writes the words behind a script ask for a run to stop, if they do.
+fn asked_stop(words: &[String]) -> Option<Option<u64>>
+    ensures some { IfSome result (IsStopWords (map string_bytes words.now)) }
+    ensures none { IfNone result ((stop : Option ℕ) → ¬ IsStopWords (map string_bytes words.now) stop) }
+{
+    match words {
+        [] => Some(None),
+        [word, count] => {
+            if !is_word(word, STOP) {
+                return None;
+            }
+            let count = parse_number(count.as_str(), u64::MAX)?;
+            Some(Some(count))
+        }
+        _ => None,
+    }
+}
+
 /// What `run` with these words asks for.
 fn asked_run<'a>(image: &'a str, script: &'a str, rest: &[String]) -> Option<Invocation<'a>>
     ensures some { IfSome result (IsLine (codes "run" ∷ image.entry.now ∷ script.entry.now ∷ map string_bytes rest.now)) }
     ensures none { IfNone result (IsNoLine (codes "run" ∷ image.entry.now ∷ script.entry.now ∷ map string_bytes rest.now)) }
 {
-    if !rest.is_empty() || !is_name(image) || !is_name(script) {
+    if !is_name(image) || !is_name(script) {
         return None;
     }
-    Some(Invocation::Run { image, script })
+    let stop = asked_stop(rest)?;
+    Some(Invocation::Run {
+        image,
+        script,
+        stop,
+    })
 }
 
 /// What a command with one word behind it asks for.
@@ -353,8 +380,8 @@ fn read_words<'a>(
     line_of(start, rest, &matches).ok_or(LineFault::Usage)
 }
 
-/// Reads a command line: `format IMAGE BLOCKS [--ffs] [TEMPLATE]...`, `run IMAGE SCRIPT`, `check IMAGE`, `asm OWNS SIZE OUT`,
-/// `verify TEXT ROLE`, or no words. Every other line is `Usage`, also one that says the same in other words.
+/// Reads a command line: `format IMAGE BLOCKS [--ffs] [TEMPLATE]...`, `run IMAGE SCRIPT [--stop K]`, `check IMAGE`, `asm OWNS SIZE
+/// OUT`, `verify TEXT ROLE`, or no words. Every other line is `Usage`, also one that says the same in other words.
 pub fn read<'a>(alloc: Global, words: &'a [String]) -> Result<Invocation<'a>, LineFault>
     ensures line { IfOk result (IsLine (map string_bytes words.now)) }
     ensures bare { words.now ≡ [] → result ≡ Ok Invocation.Bare }

@@ -15,6 +15,7 @@ mod formatting;
 mod invocation;
 mod program;
 mod replay;
+mod stopping;
 mod telling;
 
 use commands::run;

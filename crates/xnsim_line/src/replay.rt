@@ -4,9 +4,11 @@ ghost use Rattle.std.specs.Prelude.{◌≡◌, ◌≤◌, length, IfOk, IfErr};
 ghost use Rattle.xn_model.specs.Images.{IsDiskSize};
 ghost use Rattle.world.specs.Worlds.{world_with};
 ghost use Rattle.xnsim_line.specs.Done.{IsMountFault, IsRunFault};
-ghost use Rattle.xnsim_line.specs.Runs.{fresh_world, IsMountedRun, IsPrintedRun};
+ghost use Rattle.xnsim_line.specs.Runs.{fresh_world, IsPrintedRun};
+ghost use Rattle.xnsim_line.specs.Stops.{IsAskedRun};
 
 use crate::fault::Fault;
+use crate::stopping::run_events_until;
 use script::print_reply;
 use std::alloc::{AllocError, Global};
 use std::io::Write;
@@ -68,23 +70,27 @@ pub fn run_script<'a, W: Write>(
     run_events(rt, world, events, out)
 }
 
-/// Runs the events on the disk of a sound image, prints a reply an event, and answers the bytes that are then on the disk.
-/// Of any other image the fault is told.
+/// Runs the events on the disk of a sound image, to their end or to a stop before the block write that comes after so many,
+/// prints a reply an event, and answers the bytes that are then on the disk. Of any other image the fault is told.
 pub fn run_on_image<'a, W: Write>(
     rt: &(impl Threads + Sync),
     alloc: Global,
     image: Vec<u8>,
     events: Vec<Event>,
+    stop: Option<u64>,
     out: &mut W,
 ) -> Result<Vec<u8>, Fault<'a>>
-    ensures run { IfOk result (λ after. IsMountedRun image.items events.items (W.contents out.old) (W.contents out.new) after.items) }
+    ensures run { IfOk result (λ after. IsAskedRun stop image.items events.items (W.contents out.old) (W.contents out.new) after.items) }
     ensures fault { IfErr result (IsMountFault image.items) }
 {
     let opened = World::open(rt, alloc, image.as_slice());
     // The world has bytes of its own, and those after the run may take this memory.
     drop(image);
     match opened {
-        Ok(world) => run_events(rt, world, events, out),
+        Ok(world) => match stop {
+            None => run_events(rt, world, events, out),
+            Some(limit) => run_events_until(rt, world, events, limit, out),
+        },
         Err(fault) => Err(Fault::Image(fault)),
     }
 }

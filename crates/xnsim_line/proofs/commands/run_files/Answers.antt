@@ -4,6 +4,7 @@ use Rattle.image_model.specs.Walk.{count_of}
 use Rattle.xnsim_line.specs.Files.{IsHeld, IsStartHeld}
 use Rattle.xnsim_line.proofs.MountFaults.{mount_fault}
 use Rattle.xnsim_line.proofs.StartsRead.{whole_held}
+use Rattle.xnsim_line.proofs.StoppedRuns.{asked_sound}
 use Rattle.xnsim_line.proofs.commands.run_files.Goals as goal
 
 pub returns-clause-done : goal.returns-clause-done
@@ -12,8 +13,9 @@ returns-clause-done g c =
     let image = c.in_ok-before.before.items in
     let start : IsStartHeld held c.args.image.now 16777217 image = search rules in
     let run = c.in_ok-after.ensures.run in
-    let long : length image ≡ 512 * count_of image = run.sound.whole in
-    let most : count_of image ≤ 32768 = run.sound.blocks.size.1 in
+    let sound = asked_sound c.args.stop image c.in_ok-events.events.items _ _ c.in_ok-after.after.items run in
+    let long : length image ≡ 512 * count_of image = sound.whole in
+    let most : count_of image ≤ 32768 = sound.blocks.size.1 in
     let few : length image < 16777217 = omega (arith, long, most) in
     record {
       image = image;
@@ -31,4 +33,4 @@ pub returns-in_err-after-clause-fault : goal.returns-in_err-after-clause-fault
 returns-in_err-after-clause-fault g c =
     let call = c.from_residual-in_err-after in
     let p = err_from_is_err_and call.result call.ensures.1 in
-    rw (p.1, p.2) (mount_fault c.args.image c.args.script _ _ c.in_err-after.ensures.fault)
+    rw (p.1, p.2) (mount_fault c.args.image c.args.script c.args.stop _ _ c.in_err-after.ensures.fault)

@@ -1,0 +1,43 @@
+-- Writes that are under way: of all blocks, and of a world that is down, which has none.
+use Rattle.std.proofs.Common.{◌≡◌, ◌<◌, ℕ, zero, suc, true, false, Option, Some, None, List, [], ◌∷◌, length, ap, refl, arith}
+use Rattle.std.specs.Prelude.{is_some}
+use Rattle.std.specs.List.{list_any}
+use Rattle.std.proofs.lemmas.Bool.{false≢true, or_from, or_left, or_right}
+use Rattle.xn_model.specs.Lives.{Life, Lives, life_at, alive_and}
+use Rattle.xn_model.specs.Mounts.{recovered, IsRecovered}
+use Rattle.xn_model.specs.Worlds.{mounted_state}
+use Rattle.xn_model.proofs.ForCallers.{recovered_is}
+use Rattle.crash_check.specs.Answers.{types_in}
+use Rattle.xn_kernel.specs.Kernels.{is_in_flight}
+use Rattle.world.specs.Worlds.{is_any_in_flight, world_value, IsSoundDisk, IsWorldOf}
+
+calm : (o : Option Life) → ((l : Life) → o ≡ Some l → l.begun ≡ None) → alive_and (λ l. is_some l.begun) o ≡ false
+calm None idle = refl
+calm (Some l) idle = ap is_some (idle l refl)
+
+down_is_calm : (image : List (List ℕ)) (b : ℕ) → IsSoundDisk image → is_in_flight (mounted_state (recovered (types_in image) image)) b ≡ false
+down_is_calm image b disk =
+    let lives = recovered (types_in image) image in
+    let recovers : IsRecovered (types_in image) image lives = recovered_is (types_in image) disk.built_ins image disk.sound in
+    calm (life_at lives b) (λ l here. (recovers.only b l here).idle)
+
+pub unmounted_is_calm : (unmounted : Option (List (List ℕ))) (b : ℕ) → IsWorldOf None unmounted → is_in_flight (world_value None unmounted).state b ≡ false
+unmounted_is_calm None b none = absurd none
+unmounted_is_calm (Some image) b disk = down_is_calm image b disk
+
+pub one_busy : (lives : Lives) (b : ℕ) → alive_and (λ l. is_some l.begun) (life_at lives b) ≡ true → list_any (alive_and (λ l. is_some l.begun)) lives ≡ true
+one_busy [] b busy = absurd (false≢true busy)
+one_busy (o ∷ os) zero busy = or_left (alive_and (λ l. is_some l.begun) o) (list_any (alive_and (λ l. is_some l.begun)) os) busy
+one_busy (o ∷ os) (suc b) busy = or_right (alive_and (λ l. is_some l.begun) o) (list_any (alive_and (λ l. is_some l.begun)) os) (one_busy os b busy)
+
+pub none_busy : (lives : Lives) → ((b : ℕ) → b < length lives → alive_and (λ l. is_some l.begun) (life_at lives b) ≡ false) → list_any (alive_and (λ l. is_some l.begun)) lives ≡ false
+none_busy [] calm = refl
+none_busy (o ∷ os) calm = or_from (alive_and (λ l. is_some l.begun) o) (list_any (alive_and (λ l. is_some l.begun)) os) (calm 0 (omega arith)) (none_busy os (λ b lt. calm (suc b) (omega arith)))
+
+pub unmounted_is_idle : (unmounted : Option (List (List ℕ))) → IsWorldOf None unmounted → is_any_in_flight (world_value None unmounted).state ≡ false
+unmounted_is_idle unmounted is = none_busy (world_value None unmounted).state.lives (λ b lt. unmounted_is_calm unmounted b is)
+
+-- a world without a mounted disk is down
+pub unmounted_is_down : (unmounted : Option (List (List ℕ))) → (world_value None unmounted).down ≡ true
+unmounted_is_down None = refl
+unmounted_is_down (Some image) = refl

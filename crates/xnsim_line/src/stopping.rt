@@ -1,0 +1,244 @@
+// A script is run up to a stop: it ends immediately before the block write that comes after so many.
+
+ghost use Rattle.std.specs.Prelude.{◌≡◌, ◌+◌, ◌++◌, ◌∷◌, ◌<◌, ◌≤◌, ◌^◌, [], codes, false, IfErr, IfNone, IfOk, IfSome, IsTrue, OnOk};
+ghost use Rattle.std.specs.Io.KnownBytes.{Appends};
+ghost use Rattle.xn_model.specs.Calls.{pick_of};
+ghost use Rattle.xn_model.specs.Images.{joined};
+ghost use Rattle.xn_model.specs.Worlds as model;
+ghost use Rattle.xn_model.specs.Worlds.{drain_for, write_out};
+ghost use Rattle.world.specs.Events.{event_of, reply_of};
+ghost use Rattle.world.specs.Worlds.{is_any_in_flight, world_with};
+ghost use Rattle.xnsim_line.specs.Done.{IsRunFault};
+ghost use Rattle.xnsim_line.specs.Stops.{is_drain, is_write, writes_of, IsHeldBack, IsStoppedRun};
+
+use crate::fault::Fault;
+use script::print_reply;
+use std::io;
+use std::io::Write;
+use std::thread::Threads;
+use world::{Answer, Call, Event, Reply, World};
+use xn_state::Fs;
+
+/// Prints that the run stopped.
+fn print_stopped<W: Write>(out: &mut W) -> io::Result<()>
+    ensures { OnOk result (Appends (W.contents out.old) (W.contents out.new) (codes "stopped" ++ 10 ∷ [])) }
+{
+    writeln!(out, "stopped")
+}
+
+/// Whether the event writes a block by itself: it lands a write that is under way, or lets it fail.
+fn is_write(world: &World, event: &Event) -> bool
+    ensures write { result ≡ is_write (world_with world.now) (event_of event.now) }
+    ensures up { IsTrue result → world.now.down ≡ false }
+{
+    match event {
+        Event::Land(block) => world.is_in_flight(*block),
+        Event::Fail(block, _) => world.is_in_flight(*block),
+        _ => false,
+    }
+}
+
+/// Whose drain an event is, if it is one.
+fn drained_by(event: &Event) -> Option<Fs>
+    ensures some { IfSome result (λ fs. event_of event.now ≡ model.Client fs.number model.Drain) }
+    ensures none { IfNone result (is_drain (event_of event.now) ≡ false) }
+{
+    match event {
+        Event::Call(fs, Call::Drain) => Some(*fs),
+        _ => None,
+    }
+}
+
+/// How many block writes a reply tells.
+fn writes_in(reply: &Reply) -> u32
+    ensures { result ≡ writes_of (reply_of reply.now) }
+{
+    match reply {
+        Reply::Landed | Reply::Fault => 1,
+        Reply::Answered(Answer::Drain(Ok(writes))) => *writes,
+        _ => 0,
+    }
+}
+
+/// The block that is picked.
+fn pick(rt: &(impl Threads + Sync), world: &mut World, fs: Fs) -> Option<u32>
+    requires { world.old.down ≡ false }
+    ensures picked { result ≡ pick_of world.old.state }
+    ensures same { world_with world.new ≡ world_with world.old }
+{
+    match world.step(rt, &Event::Call(fs, Call::Pick)) {
+        Reply::Answered(Answer::Pick(picked)) => picked,
+        _ => unreachable!(),
+    }
+}
+
+/// Writes a block, from its begin to its finish.
+fn write_out(rt: &(impl Threads + Sync), world: &mut World, block: u32)
+    requires { world.old.down ≡ false }
+    ensures written { world_with world.new ≡ write_out (world_with world.old) block }
+    ensures up { world.new.down ≡ false }
+{
+    let _begun = world.step(rt, &Event::Begin(block));
+    let _landed = world.step(rt, &Event::Land(block));
+    let _finished = world.step(rt, &Event::Finish(block));
+}
+
+/// Writes the picked block again and again, at most so many times, and answers how often that was.
+fn write_at_most(rt: &(impl Threads + Sync), world: &mut World, fs: Fs, limit: u32) -> u32
+    requires { world.old.down ≡ false }
+    ensures rounds { drain_for limit 0 (world_with world.old) ≡ (result, world_with world.new) }
+    ensures few { result ≤ limit }
+    ensures up { world.new.down ≡ false }
+{
+    for writes in 0..limit {
+        match pick(rt, world, fs) {
+            None => return writes,
+            Some(block) => write_out(rt, world, block),
+        }
+    }
+    limit
+}
+
+/// One event, of which as many block writes come as may.
+fn step_counted(
+    rt: &(impl Threads + Sync),
+    world: &mut World,
+    event: &Event,
+    left: &mut u64,
+) -> Reply
+    requires { (reply : model.Reply) (after : model.World) → model.Step (world_with world.old) (event_of event.now) reply after → writes_of reply < 2 ^ 32 → writes_of reply ≤ left.old }
+    ensures step { model.Step (world_with world.old) (event_of event.now) (reply_of result) (world_with world.new) }
+    ensures counted { writes_of (reply_of result) + left.new ≡ left.old }
+{
+    let reply = world.step(rt, event);
+    *left -= u64::from(writes_in(&reply));
+    reply
+}
+
+/// A drain with no write under way, of which at most so many may come: those that are left. `None` is for one more.
+fn drain_counted(
+    rt: &(impl Threads + Sync),
+    world: &mut World,
+    fs: Fs,
+    limit: u32,
+    left: &mut u64,
+) -> Option<Reply>
+    requires up { world.old.down ≡ false }
+    requires calm { is_any_in_flight world.old.state ≡ false }
+    requires limit { left.old ≡ limit }
+    ensures some { IfSome result (λ reply. model.Step (world_with world.old) (model.Client fs.number model.Drain) (reply_of reply) (world_with world.new)
+        × (writes_of (reply_of reply) + left.new ≡ left.old)) }
+    ensures none { IfNone result (IsHeldBack (world_with world.old) (model.Client fs.number model.Drain) left.old (world_with world.new)) }
+{
+    world.rules();
+    let writes = write_at_most(rt, world, fs, limit);
+    match pick(rt, world, fs) {
+        None => {
+            *left -= u64::from(writes);
+            Some(Reply::Answered(Answer::Drain(Ok(writes))))
+        }
+        Some(_block) => None,
+    }
+}
+
+/// A drain. `None` is for a block write that may not come any more.
+fn drain_within(
+    rt: &(impl Threads + Sync),
+    world: &mut World,
+    fs: Fs,
+    left: &mut u64,
+) -> Option<Reply>
+    ensures some { IfSome result (λ reply. model.Step (world_with world.old) (model.Client fs.number model.Drain) (reply_of reply) (world_with world.new)
+        × (writes_of (reply_of reply) + left.new ≡ left.old)) }
+    ensures none { IfNone result (IsHeldBack (world_with world.old) (model.Client fs.number model.Drain) left.old (world_with world.new)) }
+{
+    let drain = Event::Call(fs, Call::Drain);
+    if world.is_down() {
+        return Some(step_counted(rt, world, &drain, left));
+    }
+    if world.is_any_in_flight() {
+        return Some(step_counted(rt, world, &drain, left));
+    }
+    match u32::try_from(*left) {
+        Ok(limit) => drain_counted(rt, world, fs, limit, left),
+        Err(_) => Some(step_counted(rt, world, &drain, left)),
+    }
+}
+
+/// An event that is no drain. `None` is for a block write that may not come any more.
+fn step_within(
+    rt: &(impl Threads + Sync),
+    world: &mut World,
+    event: &Event,
+    left: &mut u64,
+) -> Option<Reply>
+    requires { is_drain (event_of event.now) ≡ false }
+    ensures some { IfSome result (λ reply. model.Step (world_with world.old) (event_of event.now) (reply_of reply) (world_with world.new)
+        × (writes_of (reply_of reply) + left.new ≡ left.old)) }
+    ensures none { IfNone result (IsHeldBack (world_with world.old) (event_of event.now) left.old (world_with world.new)) }
+{
+    if !is_write(world, event) {
+        return Some(step_counted(rt, world, event, left));
+    }
+    if *left == 0 {
+        return None;
+    }
+    Some(step_counted(rt, world, event, left))
+}
+
+/// One event. `None` is for a block write that may not come any more; the world is then as before that write.
+fn go_on_within(
+    rt: &(impl Threads + Sync),
+    world: &mut World,
+    event: &Event,
+    left: &mut u64,
+) -> Option<Reply>
+    ensures some { IfSome result (λ reply. model.Step (world_with world.old) (event_of event.now) (reply_of reply) (world_with world.new)
+        × (writes_of (reply_of reply) + left.new ≡ left.old)) }
+    ensures none { IfNone result (IsHeldBack (world_with world.old) (event_of event.now) left.old (world_with world.new)) }
+{
+    match drained_by(event) {
+        Some(fs) => drain_within(rt, world, fs, left),
+        None => step_within(rt, world, event, left),
+    }
+}
+
+/// The bytes that are on a world's disk.
+fn image_of<'a>(world: &World) -> Result<Vec<u8>, Fault<'a>>
+    ensures image { IfOk result (λ image. image.items ≡ joined world.now.image) }
+    ensures fault { IfErr result IsRunFault }
+{
+    Ok(world.image()?)
+}
+
+/// Prints that the run stopped, and answers the bytes that are then on its disk.
+fn stopped_image<'a, W: Write>(world: &World, out: &mut W) -> Result<Vec<u8>, Fault<'a>>
+    ensures image { IfOk result (λ image. image.items ≡ joined world.now.image) }
+    ensures printed { OnOk result (Appends (W.contents out.old) (W.contents out.new) (codes "stopped" ++ 10 ∷ [])) }
+    ensures fault { IfErr result IsRunFault }
+{
+    print_stopped(out)?;
+    image_of(world)
+}
+
+/// Runs the events on a world, to their end or to a stop immediately before the block write that comes after so many. Prints a
+/// reply an event, and whether the run stopped; answers the bytes that are then on the disk.
+pub fn run_events_until<'a, W: Write>(
+    rt: &(impl Threads + Sync),
+    mut world: World,
+    events: Vec<Event>,
+    limit: u64,
+    out: &mut W,
+) -> Result<Vec<u8>, Fault<'a>>
+    ensures run { IfOk result (λ image. IsStoppedRun (world_with world) events.items limit (W.contents out.old) (W.contents out.new) image.items) }
+    ensures fault { IfErr result IsRunFault }
+{
+    let mut left = limit;
+    for event in events {
+        match go_on_within(rt, &mut world, &event, &mut left) {
+            Some(reply) => print_reply(out, &reply)?,
+            None => return stopped_image(&world, out),
+        }
+    }
+    image_of(&world)
+}
