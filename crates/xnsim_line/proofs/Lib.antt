@@ -3,7 +3,6 @@ pub mod BlockWrites
 pub mod StoppedRuns
 pub mod CommandLines
 pub mod TemplateWords
-pub mod StopWords
 pub mod TemplatesRead
 pub mod MountFaults
 pub mod Kept
