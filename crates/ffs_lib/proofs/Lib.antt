@@ -1,0 +1,5 @@
+pub mod Stores
+pub mod Found
+pub mod Fields
+pub mod Edited
+pub mod Kept
