@@ -3,3 +3,4 @@ pub mod Found
 pub mod Fields
 pub mod Edited
 pub mod Kept
+pub mod Numbers

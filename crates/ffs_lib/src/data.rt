@@ -1,8 +1,11 @@
 // The bytes of files.
 
+ghost use Rattle.std.specs.Prelude.{◌≡◌, ◌<◌, ◌≤◌, ◌+◌, OnErr, length};
+ghost use Rattle.ffs_lib.specs.Outcomes.{Keeps};
+
 use crate::edits;
 use crate::fault::FfsFault;
-use crate::places::{Found, find_file};
+use crate::places::{Found, find_file, read_block};
 use crate::steps::{DATA, POINTER_BLOCK, POINTERS, forgotten};
 use edit_list::{EditId, Fs};
 use ffs_format::inodes::{DIRECT_POINTERS, INODE_LEN};
@@ -17,7 +20,9 @@ pub const BLOCK_LEN: usize = 512;
 pub const FILE_BLOCKS: usize = DIRECT_POINTERS + POINTERS;
 
 /// A block of zeros with bytes written at a place.
-fn block_with(at: usize, bytes: &[u8]) -> [u8; 512] {
+fn block_with(at: usize, bytes: &[u8]) -> [u8; 512]
+    requires { at + length bytes.now ≤ 512 }
+{
     let mut block = [0; 512];
     block[at..at + bytes.len()].copy_from_slice(bytes);
     block
@@ -32,6 +37,10 @@ fn attach_direct<S: Store>(
     index: usize,
     block: u32,
 ) -> Result<EditId, FfsFault>
+    requires { index < 12 }
+    ensures types { S.types_of store.new ≡ S.types_of store.old }
+    ensures keeps { Keeps (S.types_of store.old) fs.number (S.state_of store.old) (S.state_of store.new) }
+    ensures err { OnErr result (S.state_of store.new ≡ S.state_of store.old) }
 {
     let Found {
         block: home,
@@ -52,7 +61,13 @@ fn write_direct<S: Store>(
     index: usize,
     at: usize,
     bytes: &[u8],
-) -> Result<EditId, FfsFault> {
+) -> Result<EditId, FfsFault>
+    requires few { index < 12 }
+    requires within { at + length bytes.now ≤ 512 }
+    requires some { 0 < length bytes.now }
+    ensures types { S.types_of store.new ≡ S.types_of store.old }
+    ensures keeps { Keeps (S.types_of store.old) fs.number (S.state_of store.old) (S.state_of store.new) }
+{
     let block = find_file(store, fs, number)?.inode.direct(index);
     if block == 0 {
         let (block, _) = store.init(fs, DATA, &block_with(at, bytes))?;
@@ -70,7 +85,11 @@ fn attach_pointers<S: Store>(
     fs: Fs,
     number: u16,
     block: u32,
-) -> Result<EditId, FfsFault> {
+) -> Result<EditId, FfsFault>
+    ensures types { S.types_of store.new ≡ S.types_of store.old }
+    ensures keeps { Keeps (S.types_of store.old) fs.number (S.state_of store.old) (S.state_of store.new) }
+    ensures err { OnErr result (S.state_of store.new ≡ S.state_of store.old) }
+{
     let Found {
         block: home,
         place,
@@ -93,7 +112,10 @@ fn add_pointers<S: Store>(
     store: &mut S,
     fs: Fs,
     number: u16,
-) -> Result<(), FfsFault> {
+) -> Result<(), FfsFault>
+    ensures types { S.types_of store.new ≡ S.types_of store.old }
+    ensures keeps { Keeps (S.types_of store.old) fs.number (S.state_of store.old) (S.state_of store.new) }
+{
     if find_file(store, fs, number)?.inode.indirect() == 0 {
         let (block, _) = store.init(fs, POINTER_BLOCK, &[0; 512])?;
         let attached = attach_pointers(alloc, store, fs, number, block);
@@ -110,8 +132,16 @@ fn attach_data<S: Store>(
     number: u16,
     place: usize,
     block: u32,
-) -> Result<EditId, FfsFault> {
+) -> Result<EditId, FfsFault>
+    requires { place < 128 }
+    ensures types { S.types_of store.new ≡ S.types_of store.old }
+    ensures keeps { Keeps (S.types_of store.old) fs.number (S.state_of store.old) (S.state_of store.new) }
+    ensures err { OnErr result (S.state_of store.new ≡ S.state_of store.old) }
+{
     let indirect = find_file(store, fs, number)?.inode.indirect();
+    if indirect == 0 {
+        return Err(FfsFault::NoEntry);
+    }
     let edit = edits::addition(alloc, 4 * place, &pointer_bytes(block), (block, DATA), None)?;
     Ok(store.propose(fs, indirect, &edit)?)
 }
@@ -125,10 +155,19 @@ fn write_indirect<S: Store>(
     place: usize,
     at: usize,
     bytes: &[u8],
-) -> Result<EditId, FfsFault> {
+) -> Result<EditId, FfsFault>
+    requires few { place < 128 }
+    requires within { at + length bytes.now ≤ 512 }
+    requires some { 0 < length bytes.now }
+    ensures types { S.types_of store.new ≡ S.types_of store.old }
+    ensures keeps { Keeps (S.types_of store.old) fs.number (S.state_of store.old) (S.state_of store.new) }
+{
     add_pointers(alloc, store, fs, number)?;
     let indirect = find_file(store, fs, number)?.inode.indirect();
-    let block = pointer(store.read(fs, indirect)?, place);
+    if indirect == 0 {
+        return Err(FfsFault::NoEntry);
+    }
+    let block = pointer(read_block(store, fs, indirect)?, place);
     if block == 0 {
         let (block, _) = store.init(fs, DATA, &block_with(at, bytes))?;
         let attached = attach_data(alloc, store, fs, number, place, block);
@@ -147,7 +186,13 @@ pub fn write_block<S: Store>(
     index: usize,
     at: usize,
     bytes: &[u8],
-) -> Result<EditId, FfsFault> {
+) -> Result<EditId, FfsFault>
+    requires few { index < 140 }
+    requires within { at + length bytes.now ≤ 512 }
+    requires some { 0 < length bytes.now }
+    ensures types { S.types_of store.new ≡ S.types_of store.old }
+    ensures keeps { Keeps (S.types_of store.old) fs.number (S.state_of store.old) (S.state_of store.new) }
+{
     if index < DIRECT_POINTERS {
         write_direct(alloc, store, fs, number, index, at, bytes)
     } else {
@@ -171,7 +216,10 @@ pub fn raise_size<S: Store>(
     number: u16,
     size: u32,
     after: EditId,
-) -> Result<(), FfsFault> {
+) -> Result<(), FfsFault>
+    ensures types { S.types_of store.new ≡ S.types_of store.old }
+    ensures keeps { Keeps (S.types_of store.old) fs.number (S.state_of store.old) (S.state_of store.new) }
+{
     let Found {
         block,
         place,

@@ -1,5 +1,13 @@
 // A volume: the files and directories of a file system.
 
+ghost use Rattle.std.specs.Prelude.{◌≡◌, ◌≢◌, ◌<◌, length, IfOk, OnOk, OnErr, IfSome, IsTrue};
+ghost use Rattle.xn_model.specs.Lists.{put};
+ghost use Rattle.ffs_format.specs.Entries.{is_name};
+ghost use Rattle.ffs_model.specs.Library.{library_layout};
+ghost use Rattle.ffs_model.specs.Volumes.{VolumeKeeps, no_edits};
+ghost use Rattle.ffs_lib.specs.Places.{IsFree, IsSlot};
+ghost use Rattle.ffs_lib.specs.Outcomes.{Keeps};
+
 use crate::data::{BLOCK_LEN, FILE_BLOCKS, raise_size, write_block};
 use crate::edits;
 use crate::fault::FfsFault;
@@ -29,6 +37,13 @@ const MOST_BYTES: usize = BLOCK_LEN * FILE_BLOCKS;
 pub struct Volume {
     fs: Fs,
     added: [Option<EditId>; 16],
+}
+
+/// A volume has a place for the number of each inode block.
+fn has_places(added: &[Option<EditId>; 16])
+    ensures { length added.now ≡ 16 }
+{
+    let _ = added;
 }
 
 /// Whether a root block is there, without any inode block.
@@ -79,6 +94,8 @@ fn attach_first<S: Store>(
 }
 
 impl Volume {
+    ghost use Rattle.ffs_lib.specs.Volumes.{IsVolume, MayOpen};
+
     /// Makes the volume of a file system that has none.
     pub fn make<S: Store>(alloc: Global, store: &mut S, fs: Fs) -> Result<Volume, FfsFault> {
         let begun = is_begun(store, fs)?;
@@ -110,7 +127,11 @@ impl Volume {
         store: &mut S,
         directory: u16,
         name: &[u8],
-    ) -> Result<u16, FfsFault> {
+    ) -> Result<u16, FfsFault>
+        requires volume { IsVolume (S.types_of store.old) (S.state_of store.old) self.old }
+        ensures types { S.types_of store.new ≡ S.types_of store.old }
+        ensures keeps { IsVolume (S.types_of store.old) (S.state_of store.new) self.new }
+    {
         self.make_entry(alloc, store, directory, name, FILE)
     }
 
@@ -121,7 +142,11 @@ impl Volume {
         store: &mut S,
         directory: u16,
         name: &[u8],
-    ) -> Result<u16, FfsFault> {
+    ) -> Result<u16, FfsFault>
+        requires volume { IsVolume (S.types_of store.old) (S.state_of store.old) self.old }
+        ensures types { S.types_of store.new ≡ S.types_of store.old }
+        ensures keeps { IsVolume (S.types_of store.old) (S.state_of store.new) self.new }
+    {
         self.make_entry(alloc, store, directory, name, DIRECTORY)
     }
 
@@ -133,7 +158,12 @@ impl Volume {
         directory: u16,
         name: &[u8],
         mode: u16,
-    ) -> Result<u16, FfsFault> {
+    ) -> Result<u16, FfsFault>
+        requires volume { IsVolume (S.types_of store.old) (S.state_of store.old) self.old }
+        requires used { mode ≢ 0 }
+        ensures types { S.types_of store.new ≡ S.types_of store.old }
+        ensures keeps { IsVolume (S.types_of store.old) (S.state_of store.new) self.new }
+    {
         let found = find_directory(store, self.fs, directory)?;
         if !is_name(name) {
             return Err(FfsFault::BadName);
@@ -146,19 +176,65 @@ impl Volume {
             let _ = find_pointer(store, self.fs)?;
         }
         let _ = find_room(store, self.fs, &found, directory)?;
-        let free = match free {
-            Some(free) => free,
-            None => self.add_inodes(alloc, store)?,
-        };
+        let free = self.take_free(alloc, store, free)?;
+        self.name_inode(alloc, store, directory, name, mode, free)?;
+        Ok(free.number)
+    }
+
+    /// The free inode that was found, or the first one of a new inode block.
+    fn take_free<S: Store>(
+        &mut self,
+        alloc: Global,
+        store: &mut S,
+        found: Option<Free>,
+    ) -> Result<Free, FfsFault>
+        requires volume { IsVolume (S.types_of store.old) (S.state_of store.old) self.old }
+        requires free { IfSome found (λ free. IsFree (S.state_of store.old) self.old.fs.number free) }
+        ensures types { S.types_of store.new ≡ S.types_of store.old }
+        ensures fs { self.new.fs ≡ self.old.fs }
+        ensures keeps { IsVolume (S.types_of store.old) (S.state_of store.new) self.new }
+        ensures free { IfOk result (λ free. IsFree (S.state_of store.new) self.old.fs.number free) }
+    {
+        match found {
+            Some(free) => Ok(free),
+            None => self.add_inodes(alloc, store),
+        }
+    }
+
+    /// Takes a free inode into use, and names it.
+    fn name_inode<S: Store>(
+        &mut self,
+        alloc: Global,
+        store: &mut S,
+        directory: u16,
+        name: &[u8],
+        mode: u16,
+        free: Free,
+    ) -> Result<(), FfsFault>
+        requires volume { IsVolume (S.types_of store.old) (S.state_of store.old) self.old }
+        requires free { IsFree (S.state_of store.old) self.old.fs.number free }
+        requires name { IsTrue (is_name name.now) }
+        requires used { mode ≢ 0 }
+        ensures types { S.types_of store.new ≡ S.types_of store.old }
+        ensures keeps { IsVolume (S.types_of store.old) (S.state_of store.new) self.new }
+    {
+        has_places(&self.added);
         let index = usize::from(free.number - 1) / INODES;
         let made = make_inode(alloc, store, self.fs, free, mode, self.added[index])?;
         let _ = enter(alloc, store, self.fs, directory, free.number, name, made)?;
         self.added[index] = None;
-        Ok(free.number)
+        Ok(())
     }
 
     /// Makes an inode block, and answers its first inode.
-    fn add_inodes<S: Store>(&mut self, alloc: Global, store: &mut S) -> Result<Free, FfsFault> {
+    fn add_inodes<S: Store>(&mut self, alloc: Global, store: &mut S) -> Result<Free, FfsFault>
+        requires { IsVolume (S.types_of store.old) (S.state_of store.old) self.old }
+        ensures types { S.types_of store.new ≡ S.types_of store.old }
+        ensures fs { self.new.fs ≡ self.old.fs }
+        ensures keeps { IsVolume (S.types_of store.old) (S.state_of store.new) self.new }
+        ensures free { IfOk result (λ free. IsFree (S.state_of store.new) self.old.fs.number free) }
+    {
+        has_places(&self.added);
         let (index, block, entry) = add_inodes(alloc, store, self.fs)?;
         self.added[index] = Some(entry);
         Ok(Free {
@@ -176,7 +252,11 @@ impl Volume {
         inode: u16,
         offset: u32,
         bytes: &[u8],
-    ) -> Result<(), FfsFault> {
+    ) -> Result<(), FfsFault>
+        requires volume { IsVolume (S.types_of store.old) (S.state_of store.old) self.now }
+        ensures types { S.types_of store.new ≡ S.types_of store.old }
+        ensures keeps { IsVolume (S.types_of store.old) (S.state_of store.new) self.now }
+    {
         let _ = find_file(store, self.fs, inode)?;
         let start = offset as usize;
         if start > MOST_BYTES || bytes.len() > MOST_BYTES - start {
@@ -243,7 +323,9 @@ impl Volume {
     }
 
     /// The entry of a directory that has a name.
-    fn named<S: Store>(&self, store: &S, directory: u16, name: &[u8]) -> Result<Slot, FfsFault> {
+    fn named<S: Store>(&self, store: &S, directory: u16, name: &[u8]) -> Result<Slot, FfsFault>
+        ensures { IfOk result (λ slot. IsSlot (S.state_of store.now) self.now.fs.number slot) }
+    {
         let found = find_directory(store, self.fs, directory)?;
         if !is_name(name) {
             return Err(FfsFault::BadName);
@@ -258,7 +340,11 @@ impl Volume {
         store: &mut S,
         directory: u16,
         name: &[u8],
-    ) -> Result<(), FfsFault> {
+    ) -> Result<(), FfsFault>
+        requires volume { IsVolume (S.types_of store.old) (S.state_of store.old) self.now }
+        ensures types { S.types_of store.new ≡ S.types_of store.old }
+        ensures keeps { IsVolume (S.types_of store.old) (S.state_of store.new) self.now }
+    {
         let slot = self.named(store, directory, name)?;
         let _ = find_file(store, self.fs, slot.inode)?;
         self.remove(alloc, store, slot)
@@ -271,7 +357,11 @@ impl Volume {
         store: &mut S,
         directory: u16,
         name: &[u8],
-    ) -> Result<(), FfsFault> {
+    ) -> Result<(), FfsFault>
+        requires volume { IsVolume (S.types_of store.old) (S.state_of store.old) self.now }
+        ensures types { S.types_of store.new ≡ S.types_of store.old }
+        ensures keeps { IsVolume (S.types_of store.old) (S.state_of store.new) self.now }
+    {
         let slot = self.named(store, directory, name)?;
         let found = find_directory(store, self.fs, slot.inode)?;
         if !is_empty(store, self.fs, &found)? {
@@ -281,14 +371,20 @@ impl Volume {
     }
 
     /// Clears an entry, and takes a link from its inode, or gives that up with its last link.
-    fn remove<S: Store>(&self, alloc: Global, store: &mut S, slot: Slot) -> Result<(), FfsFault> {
+    fn remove<S: Store>(&self, alloc: Global, store: &mut S, slot: Slot) -> Result<(), FfsFault>
+        requires volume { IsVolume (S.types_of store.old) (S.state_of store.old) self.now }
+        requires entry { IsSlot (S.state_of store.old) self.now.fs.number slot }
+        ensures types { S.types_of store.new ≡ S.types_of store.old }
+        ensures keeps { IsVolume (S.types_of store.old) (S.state_of store.new) self.now }
+    {
         let cleared = clear_entry(alloc, store, self.fs, slot, None)?;
-        if find_inode(store, self.fs, slot.inode)?.inode.links() > 1 {
+        let links = find_inode(store, self.fs, slot.inode)?.inode.links();
+        if links > 1 {
             let _ = take_link(alloc, store, self.fs, slot.inode, cleared)?;
-        } else {
-            let dropped = drop_data(alloc, store, self.fs, slot.inode, cleared)?;
-            let _ = free_inode(alloc, store, self.fs, slot.inode, dropped)?;
+            return Ok(());
         }
+        let dropped = drop_data(alloc, store, self.fs, slot.inode, cleared)?;
+        let _ = free_inode(alloc, store, self.fs, slot.inode, dropped)?;
         Ok(())
     }
 
@@ -301,7 +397,11 @@ impl Volume {
         name: &[u8],
         other: u16,
         new_name: &[u8],
-    ) -> Result<(), FfsFault> {
+    ) -> Result<(), FfsFault>
+        requires volume { IsVolume (S.types_of store.old) (S.state_of store.old) self.now }
+        ensures types { S.types_of store.new ≡ S.types_of store.old }
+        ensures keeps { IsVolume (S.types_of store.old) (S.state_of store.new) self.now }
+    {
         let from = find_inode(store, self.fs, directory)?;
         let to = find_inode(store, self.fs, other)?;
         if from.inode.mode() != DIRECTORY || to.inode.mode() != DIRECTORY {
@@ -322,8 +422,28 @@ impl Volume {
             return Err(FfsFault::TooLarge);
         }
         let _ = find_room(store, self.fs, &to, other)?;
-        let added = add_link(alloc, store, self.fs, slot.inode)?;
-        let entered = enter(alloc, store, self.fs, other, slot.inode, new_name, added)?;
+        self.move_entry(alloc, store, directory, name, slot.inode, other, new_name)
+    }
+
+    /// Names an inode a second time, and takes the first name and its link.
+    fn move_entry<S: Store>(
+        &self,
+        alloc: Global,
+        store: &mut S,
+        directory: u16,
+        name: &[u8],
+        inode: u16,
+        other: u16,
+        new_name: &[u8],
+    ) -> Result<(), FfsFault>
+        requires volume { IsVolume (S.types_of store.old) (S.state_of store.old) self.now }
+        requires name { IsTrue (is_name new_name.now) }
+        requires some { inode ≢ 0 }
+        ensures types { S.types_of store.new ≡ S.types_of store.old }
+        ensures keeps { IsVolume (S.types_of store.old) (S.state_of store.new) self.now }
+    {
+        let added = add_link(alloc, store, self.fs, inode)?;
+        let entered = enter(alloc, store, self.fs, other, inode, new_name, added)?;
         let slot = self.named(store, directory, name)?;
         let cleared = clear_entry(alloc, store, self.fs, slot, Some(entered))?;
         let _ = take_link(alloc, store, self.fs, slot.inode, cleared)?;
