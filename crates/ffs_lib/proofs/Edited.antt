@@ -20,10 +20,10 @@ use Rattle.ffs_model.proofs.Rewritten as rewritten
 use Rattle.ffs_lib.specs.declared.places.Found.{Found}
 use Rattle.ffs_lib.specs.declared.places.Slot.{Slot}
 use Rattle.ffs_lib.specs.Edits.{edit_at}
-use Rattle.ffs_lib.specs.Places.{IsPlace, IsFound, IsDirectory, IsEmptyPointer, IsGap, IsSlot}
+use Rattle.ffs_lib.specs.Places.{IsPlace, IsFound, IsDirectory, IsFile, IsEmptyPointer, IsGap, IsSlot}
 use Rattle.ffs_lib.specs.Outcomes.{IsMade, IsAdded}
 use Rattle.ffs_lib.proofs.Stores.{gives_ok}
-use Rattle.ffs_lib.proofs.Found.{pointer_is}
+use Rattle.ffs_lib.proofs.Found.{found_mode, pointer_is}
 
 -- an edit that was made, by what is known of it
 pub done_by : (T : Types) (old new : StoreState) (fs b : ℕ) (edit same : Edit) (entry : ℕ) → edit ≡ same → Gives (propose_of T old fs b edit) old new (Ok entry) → propose_of T old fs b same ≡ Ok (entry, new)
@@ -130,9 +130,33 @@ module _ (T : Types) (lib : IsLibrary T) (fs : ℕ) (few : fs < 32) (array : ℕ
   pub dropped : (block n e entry : ℕ) (edit : Edit) → Under T (latest state.lives) fs block 5 → n ≢ 0 → CanUnlink library_layout state.lives fs n e → edit.after ≡ Some e →
       propose_of T state fs block edit ≡ Ok (entry, new) → VolumeKeeps T library_layout fs array new × CanUnlink library_layout new.lives fs n entry
   dropped block n e entry edit at some can comes done = (
-      other_written T library_layout reads fs few array state v block new edit entry done 5 (λ z. omega arith) (λ z. omega arith) (λ z. omega arith) at,
-      other_spare T library_layout reads fs few array state v block new edit entry done 5 n e (λ z. omega arith) (λ z. omega arith) (λ z. omega arith) at some can comes,
-    )
+    other_written T library_layout reads fs few array state v block new edit entry done 5 (λ z. omega arith) (λ z. omega arith) (λ z. omega arith) at,
+    other_spare T library_layout reads fs few array state v block new edit entry done 5 n e (λ z. omega arith) (λ z. omega arith) (λ z. omega arith) at some can comes,
+  )
+
+  -- a block of data of a file is written: one that its inode points to, or one that its block of pointers does
+  pub file_data : (n block entry : ℕ) (found : Found) (edit : Edit) → IsFile state fs n found → Contains (library_layout.direct (latest state.lives found.block) found.place) block →
+      propose_of T state fs block edit ≡ Ok (entry, new) → VolumeKeeps T library_layout fs array new
+  file_data n block entry found edit is has done =
+      let x : IsInFile library_layout (latest state.lives) fs block = record {
+        index = (library_layout.home n).0;
+        block = found.block;
+        place = found.place;
+        inodes = is.is.stands.inodes;
+        file = λ z. is.file (sym (found_mode state fs n found is.is) ∙ z);
+        has = has;
+      } in
+      file_written T library_layout reads fs few array state v block new edit entry done x
+
+  pub pointed_data : (indirect place block entry : ℕ) (edit : Edit) → Under T (latest state.lives) fs indirect 5 → place < 128 → word_at (latest state.lives indirect) (4 * place) ≡ block → block ≢ 0 →
+      propose_of T state fs block edit ≡ Ok (entry, new) → VolumeKeeps T library_layout fs array new
+  pointed_data indirect place block entry edit at low points there done =
+      below_written T library_layout reads fs few array state v block new edit entry done indirect 5 2 (λ z. omega arith) (λ z. omega arith) (λ z. omega arith) at
+      (data_owned T lib (latest state.lives indirect) place block low points there)
+
+  -- a block of pointers is written
+  pub pointed : (block entry : ℕ) (edit : Edit) → Under T (latest state.lives) fs block 5 → propose_of T state fs block edit ≡ Ok (entry, new) → VolumeKeeps T library_layout fs array new
+  pointed block entry edit at done = other_written T library_layout reads fs few array state v block new edit entry done 5 (λ z. omega arith) (λ z. omega arith) (λ z. omega arith) at
 
 -- the last pointer of an inode
 last_word : (m : List ℕ) (p : ℕ) → p < 8 → word_at m (64 * p + 56) ≡ word_at (inode_at m p) 56

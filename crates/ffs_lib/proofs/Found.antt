@@ -29,7 +29,7 @@ module _ (state : StoreState) (fs n : ℕ) (found : Found) (is : IsFound state f
   pub found_has : (i b : ℕ) → i < 12 → word_at found.inode (8 + 4 * i) ≡ b → b ≢ 0 → Contains (library_layout.direct (latest state.lives found.block) found.place) b
   found_has i b few e ne =
       let m = latest state.lives found.block in
-      subst (λ xs. Contains xs b) (sym (blocks_read m found.place is.stands.few) ) (subst (λ bytes. Contains (inode_blocks bytes) b) is.bytes (direct_has found.inode i b few e ne))
+      subst (λ xs. Contains xs b) (sym (blocks_read m found.place is.stands.few)) (subst (λ bytes. Contains (inode_blocks bytes) b) is.bytes (direct_has found.inode i b few e ne))
 
   pub found_mode : library_layout.mode (latest state.lives found.block) found.place ≡ inode_mode found.inode
   found_mode = mode_read (latest state.lives found.block) found.place is.stands.few ∙ ap inode_mode (sym is.bytes)

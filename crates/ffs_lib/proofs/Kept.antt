@@ -76,4 +76,11 @@ pub gone_then : {A : Type 0} (T : Types) (fs : ℕ) → fs < 32 → (ty block nu
 gone_then T fs few ty block number bytes zeroth first second third attached fault given is err keeps lib array v =
     let done = gives_ok (init_of T zeroth fs ty bytes) zeroth first (block, number) given in
     keeps lib array (subst (VolumeKeeps T library_layout fs array) (sym (after_err attached fault is err))
-        (started_keeps T library_layout (library_reads T lib) fs few array zeroth first v fs ty bytes (block, number) done))
+    (started_keeps T library_layout (library_reads T lib) fs few array zeroth first v fs ty bytes (block, number) done))
+
+-- a new block of a file: begun, attached, and forgotten where that was refused
+pub data_then : (T : Types) (fs : ℕ) → fs < 32 → (ty block number : ℕ) (bytes : List ℕ) (zeroth first second third : StoreState) → Gives (init_of T zeroth fs ty bytes) zeroth first (Ok (block, number)) →
+    Keeps T fs first second → Keeps T fs second third → Keeps T fs zeroth third
+data_then T fs few ty block number bytes zeroth first second third given attached kept lib array v =
+    let done = gives_ok (init_of T zeroth fs ty bytes) zeroth first (block, number) given in
+    kept lib array (attached lib array (started_keeps T library_layout (library_reads T lib) fs few array zeroth first v fs ty bytes (block, number) done))

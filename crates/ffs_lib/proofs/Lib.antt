@@ -4,3 +4,4 @@ pub mod Fields
 pub mod Edited
 pub mod Kept
 pub mod Numbers
+pub mod Making

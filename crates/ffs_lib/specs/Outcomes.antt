@@ -1,7 +1,7 @@
 -- What the edits of a volume leave, each for every array of numbers for which a volume's rules held before.
 --     Keeps T fs old new      a volume's rules hold on
 --     IsMade, ..              and what may come next
-use Rattle.std.specs.Prelude.{◌≡◌, ◌≢◌, ℕ, ◌<◌, List, Option, Some, Contains}
+use Rattle.std.specs.Prelude.{◌≡◌, ◌≢◌, ℕ, ◌<◌, List, Option, Some, None, Contains}
 use Rattle.xn_model.specs.Types.{Types}
 use Rattle.xn_model.specs.Lives.{StoreState}
 use Rattle.ffs_model.specs.Cuts.{latest}
@@ -57,3 +57,17 @@ Unlinks T fs old new n after = IsLibrary T → (array : ℕ → Option ℕ) → 
 abbrev pub Drops : Types → ℕ → StoreState → StoreState → ℕ → ℕ → ℕ → Type 0
 Drops T fs old new n after entry = IsLibrary T → (array : ℕ → Option ℕ) → VolumeKeeps T library_layout fs array old → n ≢ 0 → CanUnlink library_layout old.lives fs n after →
     VolumeKeeps T library_layout fs array new × CanUnlink library_layout new.lives fs n entry
+
+-- what holds only some bytes still does
+abbrev pub Leaves : Types → ℕ → StoreState → StoreState → Type 0
+Leaves T fs old new = IsLibrary T → (array : ℕ → Option ℕ) (block : ℕ) (bytes : List ℕ) → VolumeKeeps T library_layout fs array old → block ≢ 0 → HoldsOnly old.lives block bytes → HoldsOnly new.lives block bytes
+
+-- the root slot was set to a block of zeros
+abbrev pub Roots : Types → ℕ → StoreState → StoreState → ℕ → Type 0
+Roots T fs old new block = IsLibrary T → (array : ℕ → Option ℕ) → VolumeKeeps T library_layout fs array old → HoldsOnly old.lives block zeros →
+    VolumeKeeps T library_layout fs array new × ((other : ℕ) (bytes : List ℕ) → other ≢ 0 → HoldsOnly old.lives other bytes → HoldsOnly new.lives other bytes)
+
+-- the first block of inodes was attached, which point to nothing
+abbrev pub Starts : Types → ℕ → StoreState → StoreState → ℕ → Type 0
+Starts T fs old new block = IsLibrary T → (array : ℕ → Option ℕ) (bytes : List ℕ) → VolumeKeeps T library_layout fs array old → array 0 ≡ None → HoldsOnly old.lives block bytes →
+    ((p c : ℕ) → Contains (library_layout.direct bytes p) c → ⊥) → block ≢ 0 → VolumeKeeps T library_layout fs array new

@@ -1,6 +1,6 @@
 // The bytes of files.
 
-ghost use Rattle.std.specs.Prelude.{◌≡◌, ◌<◌, ◌≤◌, ◌+◌, OnErr, length};
+ghost use Rattle.std.specs.Prelude.{◌≡◌, ◌<◌, ◌≤◌, ◌+◌, length};
 ghost use Rattle.ffs_lib.specs.Outcomes.{Keeps};
 
 use crate::edits;
@@ -40,7 +40,6 @@ fn attach_direct<S: Store>(
     requires { index < 12 }
     ensures types { S.types_of store.new ≡ S.types_of store.old }
     ensures keeps { Keeps (S.types_of store.old) fs.number (S.state_of store.old) (S.state_of store.new) }
-    ensures err { OnErr result (S.state_of store.new ≡ S.state_of store.old) }
 {
     let Found {
         block: home,
@@ -88,7 +87,6 @@ fn attach_pointers<S: Store>(
 ) -> Result<EditId, FfsFault>
     ensures types { S.types_of store.new ≡ S.types_of store.old }
     ensures keeps { Keeps (S.types_of store.old) fs.number (S.state_of store.old) (S.state_of store.new) }
-    ensures err { OnErr result (S.state_of store.new ≡ S.state_of store.old) }
 {
     let Found {
         block: home,
@@ -107,12 +105,7 @@ fn attach_pointers<S: Store>(
 }
 
 /// Sees to it that a file has a block of pointers.
-fn add_pointers<S: Store>(
-    alloc: Global,
-    store: &mut S,
-    fs: Fs,
-    number: u16,
-) -> Result<(), FfsFault>
+fn add_pointers<S: Store>(alloc: Global, store: &mut S, fs: Fs, number: u16) -> Result<(), FfsFault>
     ensures types { S.types_of store.new ≡ S.types_of store.old }
     ensures keeps { Keeps (S.types_of store.old) fs.number (S.state_of store.old) (S.state_of store.new) }
 {
@@ -136,7 +129,6 @@ fn attach_data<S: Store>(
     requires { place < 128 }
     ensures types { S.types_of store.new ≡ S.types_of store.old }
     ensures keeps { Keeps (S.types_of store.old) fs.number (S.state_of store.old) (S.state_of store.new) }
-    ensures err { OnErr result (S.state_of store.new ≡ S.state_of store.old) }
 {
     let indirect = find_file(store, fs, number)?.inode.indirect();
     if indirect == 0 {
@@ -196,15 +188,7 @@ pub fn write_block<S: Store>(
     if index < DIRECT_POINTERS {
         write_direct(alloc, store, fs, number, index, at, bytes)
     } else {
-        write_indirect(
-            alloc,
-            store,
-            fs,
-            number,
-            index - DIRECT_POINTERS,
-            at,
-            bytes,
-        )
+        write_indirect(alloc, store, fs, number, index - DIRECT_POINTERS, at, bytes)
     }
 }
 

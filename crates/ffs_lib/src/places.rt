@@ -6,7 +6,6 @@ ghost use Rattle.ffs_model.specs.Names.{IsRoot, IsInodes};
 ghost use Rattle.ffs_model.specs.Library.{library_layout, half_at, inode_at, inode_mode};
 ghost use Rattle.ffs_lib.specs.Places.{IsFound, IsDirectory, IsFile, IsFree, IsEmptyPointer, IsSlot, IsRoom};
 
-
 use crate::fault::FfsFault;
 use edit_list::Fs;
 use ffs_format::inodes::DIRECT_POINTERS;
@@ -196,7 +195,12 @@ pub fn find_entry<S: Store>(
 }
 
 /// Where a directory has room for an entry: at its first place without one, or at its first empty pointer.
-pub fn find_room<S: Store>(store: &S, fs: Fs, directory: &Found, number: u16) -> Result<Room, FfsFault>
+pub fn find_room<S: Store>(
+    store: &S,
+    fs: Fs,
+    directory: &Found,
+    number: u16,
+) -> Result<Room, FfsFault>
     requires { IsDirectory (S.state_of store.now) fs.number number directory.now }
     ensures { IfOk result (λ room. IsRoom (S.state_of store.now) directory.now room) }
 {

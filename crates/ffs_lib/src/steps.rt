@@ -162,7 +162,7 @@ fn attach_entries<S: Store>(
 }
 
 /// A block that begins with these bytes.
-fn block_with(bytes: &[u8]) -> [u8; 512]
+pub fn block_with(bytes: &[u8]) -> [u8; 512]
     requires { length bytes.now ≤ 512 }
     ensures { result ≡ put zeros 0 bytes.now }
 {

@@ -1,23 +1,22 @@
 // A volume: the files and directories of a file system.
 
-ghost use Rattle.std.specs.Prelude.{◌≡◌, ◌≢◌, ◌<◌, length, IfOk, OnOk, OnErr, IfSome, IsTrue};
-ghost use Rattle.xn_model.specs.Lists.{put};
+ghost use Rattle.std.specs.Prelude.{◌≡◌, ◌≢◌, ◌<◌, ℕ, length, Contains, IfOk, OnOk, OnErr, IfSome, IsTrue};
 ghost use Rattle.ffs_format.specs.Entries.{is_name};
 ghost use Rattle.ffs_model.specs.Library.{library_layout};
 ghost use Rattle.ffs_model.specs.Volumes.{VolumeKeeps, no_edits};
 ghost use Rattle.ffs_lib.specs.Places.{IsFree, IsSlot};
-ghost use Rattle.ffs_lib.specs.Outcomes.{Keeps};
+ghost use Rattle.ffs_lib.specs.Outcomes.{Keeps, Leaves, Roots, Starts};
 
 use crate::data::{BLOCK_LEN, FILE_BLOCKS, raise_size, write_block};
 use crate::edits;
 use crate::fault::FfsFault;
 use crate::places::{
     DIRECTORY, Free, INODE_BLOCKS, ROOT, Slot, find_directory, find_entry, find_file, find_free,
-    find_inode, find_pointer, find_room, inode_block, is_empty, root_block,
+    find_inode, find_pointer, find_room, inode_block, is_empty, read_block, root_block,
 };
 use crate::steps::{
-    INODE_BLOCK, add_inodes, add_link, clear_entry, drop_data, enter, forgotten, free_inode,
-    make_inode, take_link,
+    INODE_BLOCK, add_inodes, add_link, block_with, clear_entry, drop_data, enter, forgotten,
+    free_inode, make_inode, take_link,
 };
 use edit_list::{EditId, Fs};
 use ffs_format::inodes::{DIRECT_POINTERS, INODES};
@@ -60,34 +59,56 @@ fn is_begun<S: Store>(store: &S, fs: Fs) -> Result<bool, FfsFault> {
     Ok(true)
 }
 
-/// The first inode block, with the top directory.
-fn first_inodes() -> [u8; 512] {
+/// The first inode block, with the top directory, which has no block yet.
+fn first_inodes() -> [u8; 512]
+    ensures { (p block : ℕ) → Contains (library_layout.direct result p) block → ⊥ }
+{
     let mut inode = Inode::free();
     inode.set_mode(DIRECTORY);
     inode.set_links(1);
-    let mut block = [0; 512];
-    block[..64].copy_from_slice(inode.bytes());
-    block
+    block_with(inode.bytes())
+}
+
+/// Sets the root slot to a root block without pointers.
+fn set_root<S: Store>(store: &mut S, fs: Fs, block: u32) -> Result<(), FfsFault>
+    ensures types { S.types_of store.new ≡ S.types_of store.old }
+    ensures ok { OnOk result (Roots (S.types_of store.old) fs.number (S.state_of store.old) (S.state_of store.new) block) }
+    ensures err { OnErr result (S.state_of store.new ≡ S.state_of store.old) }
+{
+    let _ = store.make_root(fs, block)?;
+    Ok(())
 }
 
 /// Makes a root block without pointers, and sets the root slot to it.
-fn make_root<S: Store>(store: &mut S, fs: Fs) -> Result<(), FfsFault> {
+fn make_root<S: Store>(store: &mut S, fs: Fs) -> Result<(), FfsFault>
+    ensures types { S.types_of store.new ≡ S.types_of store.old }
+    ensures keeps { Keeps (S.types_of store.old) fs.number (S.state_of store.old) (S.state_of store.new) }
+    ensures ok { OnOk result (Leaves (S.types_of store.old) fs.number (S.state_of store.old) (S.state_of store.new)) }
+{
     let (block, _) = store.init(fs, ROOT, &[0; 512])?;
-    let made = match store.make_root(fs, block) {
-        Ok(_) => Ok(()),
-        Err(refusal) => Err(FfsFault::Kernel(refusal)),
-    };
+    let made = set_root(store, fs, block);
     forgotten(store, fs, block, made)
 }
 
+/// Sees to it that there is a root block.
+fn prepare_root<S: Store>(store: &mut S, fs: Fs, begun: bool) -> Result<(), FfsFault>
+    ensures types { S.types_of store.new ≡ S.types_of store.old }
+    ensures keeps { Keeps (S.types_of store.old) fs.number (S.state_of store.old) (S.state_of store.new) }
+    ensures ok { OnOk result (Leaves (S.types_of store.old) fs.number (S.state_of store.old) (S.state_of store.new)) }
+{
+    if begun { Ok(()) } else { make_root(store, fs) }
+}
+
 /// Sets the first pointer of the root block, which is empty.
-fn attach_first<S: Store>(
-    alloc: Global,
-    store: &mut S,
-    fs: Fs,
-    block: u32,
-) -> Result<(), FfsFault> {
+fn attach_first<S: Store>(alloc: Global, store: &mut S, fs: Fs, block: u32) -> Result<(), FfsFault>
+    ensures types { S.types_of store.new ≡ S.types_of store.old }
+    ensures ok { OnOk result (Starts (S.types_of store.old) fs.number (S.state_of store.old) (S.state_of store.new) block) }
+    ensures err { OnErr result (S.state_of store.new ≡ S.state_of store.old) }
+{
     let root = root_block(store, fs)?;
+    if pointer(read_block(store, fs, root)?, 0) != 0 {
+        return Err(FfsFault::Exists);
+    }
     let edit = edits::addition(alloc, 0, &pointer_bytes(block), (block, INODE_BLOCK), None)?;
     let _ = store.propose(fs, root, &edit)?;
     Ok(())
@@ -96,13 +117,16 @@ fn attach_first<S: Store>(
 impl Volume {
     ghost use Rattle.ffs_lib.specs.Volumes.{IsVolume, MayOpen};
 
-    /// Makes the volume of a file system that has none.
-    pub fn make<S: Store>(alloc: Global, store: &mut S, fs: Fs) -> Result<Volume, FfsFault> {
+    /// Makes the volume of a file system that has none, or has one half made.
+    pub fn make<S: Store>(alloc: Global, store: &mut S, fs: Fs) -> Result<Volume, FfsFault>
+        requires { MayOpen (S.types_of store.old) (S.state_of store.old) fs.number }
+        ensures types { S.types_of store.new ≡ S.types_of store.old }
+        ensures ok { IfOk result (λ volume. IsVolume (S.types_of store.old) (S.state_of store.new) volume) }
+        ensures err { OnErr result (VolumeKeeps (S.types_of store.old) library_layout fs.number no_edits (S.state_of store.new)) }
+    {
         let begun = is_begun(store, fs)?;
         let (block, _) = store.init(fs, INODE_BLOCK, &first_inodes())?;
-        if !begun {
-            make_root(store, fs)?;
-        }
+        prepare_root(store, fs, begun)?;
         let attached = attach_first(alloc, store, fs, block);
         forgotten(store, fs, block, attached)?;
         Ok(Volume {
@@ -112,7 +136,10 @@ impl Volume {
     }
 
     /// The volume of a file system that has one.
-    pub fn open<S: Store>(store: &S, fs: Fs) -> Result<Volume, FfsFault> {
+    pub fn open<S: Store>(store: &S, fs: Fs) -> Result<Volume, FfsFault>
+        requires { MayOpen (S.types_of store.now) (S.state_of store.now) fs.number }
+        ensures { IfOk result (λ volume. IsVolume (S.types_of store.now) (S.state_of store.now) volume) }
+    {
         let _ = inode_block(store, fs, 0)?;
         Ok(Volume {
             fs,
@@ -269,15 +296,7 @@ impl Volume {
             let within = at % BLOCK_LEN;
             let length = rest.len().min(BLOCK_LEN - within);
             let (part, more) = rest.split_at(length);
-            last = Some(write_block(
-                alloc,
-                store,
-                self.fs,
-                inode,
-                at / BLOCK_LEN,
-                within,
-                part,
-            )?);
+            last = Some(write_block(alloc, store, self.fs, inode, at / BLOCK_LEN, within, part)?);
             at += length;
             rest = more;
         }
@@ -309,7 +328,10 @@ impl Volume {
             } else if file.indirect() == 0 {
                 0
             } else {
-                pointer(store.read(self.fs, file.indirect())?, index - DIRECT_POINTERS)
+                pointer(
+                    store.read(self.fs, file.indirect())?,
+                    index - DIRECT_POINTERS,
+                )
             };
             if block == 0 {
                 bytes[done..done + length].fill(0);
