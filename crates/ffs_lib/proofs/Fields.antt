@@ -1,11 +1,11 @@
 -- The blocks of an inode whose fields were set.
-use Rattle.std.proofs.Common.{◌≡◌, ℕ, zero, suc, ◌<◌, ◌^◌, ◌⊎◌, Bool, true, false, cond, List, [], ◌∷◌, Option, Some, None, refl, sym, ◌∙◌, ap, inl, inr, subst, replicate}
+use Rattle.std.proofs.Common.{◌≡◌, ℕ, zero, suc, ◌<◌, ◌^◌, ◌⊎◌, Bool, true, false, cond, List, [], ◌∷◌, Some, None, refl, sym, ◌∙◌, ap, inl, inr, subst, replicate}
 use Rattle.std.specs.Prelude.{Contains, filter_map, map, slice_set, ◌==◌}
 use Rattle.std.specs.List.{range_with_len, cons_option}
 use Rattle.xn_model.specs.Lists.{blocks_of}
 use Rattle.xn_model.specs.Root.{word_at, unless_empty}
-use Rattle.xn_model.proofs.ForCallers.{Contains-cons, Contains-head, Contains-none, Contains-tail}
-use Rattle.ffs_model.specs.Library.{half_at, inode_blocks, inode_links, inode_mode}
+use Rattle.xn_model.proofs.ForCallers.{Contains-cons, Contains-head, Contains-tail}
+use Rattle.ffs_model.specs.Library.{half_at, inode_blocks, inode_mode}
 use Rattle.std.proofs.lemmas.Nat.{from_le_bytes-to_le_bytes_2}
 use Rattle.ffs_format.specs.Entries.{entry_of}
 use Rattle.ffs_format.specs.Fields.{fields_of, direct_in}

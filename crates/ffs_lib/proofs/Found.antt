@@ -1,16 +1,16 @@
 -- Where inodes and entries stand, from what was read.
-use Rattle.std.proofs.Common.{◌≡◌, ℕ, ◌+◌, ◌-◌, ◌*◌, ◌/◌, ◌%◌, ◌<◌, ◌≢◌, List, length, ap, sym, ◌∙◌, arith, subst}
-use Rattle.std.specs.Prelude.{Contains, nat_lt, if◌then◌else◌}
+use Rattle.std.proofs.Common.{◌≡◌, ℕ, ◌+◌, ◌-◌, ◌*◌, ◌/◌, ◌<◌, ◌≢◌, List, length, ap, sym, ◌∙◌, arith, subst}
+use Rattle.std.specs.Prelude.{Contains, if◌then◌else◌}
 use Rattle.std.proofs.lemmas.Bool.{lt-ltb}
 use Rattle.xn_model.specs.Lives.{StoreState}
 use Rattle.xn_model.specs.Root.{word_at}
 use Rattle.xn_model.proofs.ForCallers.{blocks_of_has}
 use Rattle.ffs_model.specs.Cuts.{latest}
-use Rattle.ffs_model.specs.Names.{IsRoot, IsInodes, Names}
+use Rattle.ffs_model.specs.Names.{IsRoot, IsInodes}
 use Rattle.ffs_model.specs.Library.{library_layout, half_at, inode_at, inode_mode, inode_blocks, pointed, pointer_word}
 use Rattle.ffs_model.proofs.ForCallers.{blocks_read, mode_read, pointed_from}
 use Rattle.ffs_lib.specs.declared.places.Found.{Found}
-use Rattle.ffs_lib.specs.Places.{IsPlace, IsFound, IsDirectory, IsFree, IsGap, IsSlot}
+use Rattle.ffs_lib.specs.Places.{IsFound, IsDirectory, IsFree, IsGap, IsSlot}
 
 -- how the layout reads within range
 pub entry_is : (m : List ℕ) (x : ℕ) → x < 16 → library_layout.entry m x ≡ half_at m (32 * x)

@@ -1,5 +1,5 @@
 -- The numbers of edits that a volume keeps.
-use Rattle.std.proofs.Common.{◌≡◌, ◌≢◌, ℕ, zero, suc, refl, [], ◌∷◌, ◌+◌, ◌-◌, ◌*◌, ◌/◌, ◌<◌, ◌≤◌, List, length, get_or, Option, Some, None, sym, ◌∙◌, ap, inl, inr, arith, subst, eq-eqb}
+use Rattle.std.proofs.Common.{◌≡◌, ◌≢◌, ℕ, zero, suc, refl, [], ◌∷◌, ◌+◌, ◌-◌, ◌*◌, ◌/◌, ◌<◌, List, length, get_or, Option, Some, None, sym, ◌∙◌, ap, inl, inr, arith, subst, eq-eqb}
 use Rattle.std.specs.Prelude.{if◌then◌else◌}
 use Rattle.std.proofs.Math.ListN.{set}
 use Rattle.std.proofs.lemmas.Bool.{cases_eq, ne_eqb}
@@ -12,7 +12,7 @@ use Rattle.ffs_model.specs.Names.{IsInodes}
 use Rattle.ffs_model.specs.Volumes.{VolumeKeeps, with_edit, without_edit}
 use Rattle.ffs_model.specs.Library.{library_layout, inode_at, inode_mode, IsLibrary}
 use Rattle.ffs_model.proofs.ForCallers.{mode_read, zeros_mode}
-use Rattle.ffs_lib.specs.Outcomes.{IsAdded, IsMade, Makes, Names}
+use Rattle.ffs_lib.specs.Outcomes.{IsAdded, Makes, Names}
 use Rattle.ffs_lib.specs.Places.{IsFree}
 use Rattle.ffs_lib.specs.Volumes.{edits_of}
 

@@ -1,9 +1,9 @@
 -- What a store's clauses say.
-use Rattle.std.proofs.Common.{◌≡◌, ℕ, ◌⊎◌, ◌≢◌, inl, inr, List, Option, Some, None, Result, Ok, Err, refl, sym, ◌∙◌, ap, subst}
+use Rattle.std.proofs.Common.{◌≡◌, ℕ, inl, inr, List, Result, Ok, Err, sym, ap}
 use Rattle.std.specs.Borrow.{Bor}
 use Rattle.xn_model.specs.declared.refusal.Refusal.{Refusal}
 use Rattle.xn_model.specs.Lives.{StoreState}
-use Rattle.xn_model.specs.Results.{Gives, GivesExactly, Lends}
+use Rattle.xn_model.specs.Results.{Gives, Lends}
 use Rattle.xn_model.specs.Calls.{read_of}
 use Rattle.ffs_model.specs.Cuts.{latest}
 use Rattle.ffs_model.proofs.ForCallers.{read_latest}

@@ -3,11 +3,11 @@
 --     IsFound, IsDirectory, IsFile       it does, and is in use, is a directory, is none
 --     IsFree, IsEmptyPointer             a free inode; an empty pointer of the root block
 --     IsSlot, IsRoom                     an entry of a directory; where one has room for an entry
-use Rattle.std.specs.Prelude.{◌≡◌, ◌≢◌, ℕ, ◌*◌, ◌<◌, ◌≤◌, length, Contains}
+use Rattle.std.specs.Prelude.{◌≡◌, ◌≢◌, ℕ, ◌<◌, ◌≤◌, length, Contains}
 use Rattle.xn_model.specs.Lives.{StoreState}
 use Rattle.ffs_model.specs.Cuts.{latest}
 use Rattle.ffs_model.specs.Names.{IsRoot, IsInodes, Names}
-use Rattle.ffs_model.specs.Library.{library_layout, inode_at, inode_mode, half_at, pointer_word}
+use Rattle.ffs_model.specs.Library.{library_layout, inode_at, inode_mode, pointer_word}
 use Rattle.ffs_lib.specs.declared.places.Found.{Found}
 use Rattle.ffs_lib.specs.declared.places.Free.{Free}
 use Rattle.ffs_lib.specs.declared.places.Slot.{Slot}

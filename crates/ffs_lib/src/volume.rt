@@ -2,6 +2,8 @@
 
 ghost use Rattle.std.specs.Prelude.{◌≡◌, ◌≢◌, ◌<◌, ℕ, length, Contains, IfOk, OnOk, OnErr, IfSome, IsTrue};
 ghost use Rattle.ffs_format.specs.Entries.{is_name};
+ghost use Rattle.ffs_model.specs.Cuts.{latest};
+ghost use Rattle.ffs_model.specs.Names.{IsInodes};
 ghost use Rattle.ffs_model.specs.Library.{library_layout};
 ghost use Rattle.ffs_model.specs.Volumes.{VolumeKeeps, no_edits};
 ghost use Rattle.ffs_lib.specs.Places.{IsFree, IsSlot};
@@ -122,6 +124,7 @@ impl Volume {
         requires { MayOpen (S.types_of store.old) (S.state_of store.old) fs.number }
         ensures types { S.types_of store.new ≡ S.types_of store.old }
         ensures ok { IfOk result (λ volume. IsVolume (S.types_of store.old) (S.state_of store.new) volume) }
+        ensures fs { IfOk result (λ volume. volume.fs ≡ fs) }
         ensures err { OnErr result (VolumeKeeps (S.types_of store.old) library_layout fs.number no_edits (S.state_of store.new)) }
     {
         let begun = is_begun(store, fs)?;
@@ -138,7 +141,9 @@ impl Volume {
     /// The volume of a file system that has one.
     pub fn open<S: Store>(store: &S, fs: Fs) -> Result<Volume, FfsFault>
         requires { MayOpen (S.types_of store.now) (S.state_of store.now) fs.number }
-        ensures { IfOk result (λ volume. IsVolume (S.types_of store.now) (S.state_of store.now) volume) }
+        ensures ok { IfOk result (λ volume. IsVolume (S.types_of store.now) (S.state_of store.now) volume) }
+        ensures fs { IfOk result (λ volume. volume.fs ≡ fs) }
+        ensures found { OnOk result ((block : ℕ) × IsInodes library_layout (latest (S.state_of store.now).lives) fs.number 0 block) }
     {
         let _ = inode_block(store, fs, 0)?;
         Ok(Volume {
@@ -157,6 +162,7 @@ impl Volume {
     ) -> Result<u16, FfsFault>
         requires volume { IsVolume (S.types_of store.old) (S.state_of store.old) self.old }
         ensures types { S.types_of store.new ≡ S.types_of store.old }
+        ensures fs { self.new.fs ≡ self.old.fs }
         ensures keeps { IsVolume (S.types_of store.old) (S.state_of store.new) self.new }
     {
         self.make_entry(alloc, store, directory, name, FILE)
@@ -172,6 +178,7 @@ impl Volume {
     ) -> Result<u16, FfsFault>
         requires volume { IsVolume (S.types_of store.old) (S.state_of store.old) self.old }
         ensures types { S.types_of store.new ≡ S.types_of store.old }
+        ensures fs { self.new.fs ≡ self.old.fs }
         ensures keeps { IsVolume (S.types_of store.old) (S.state_of store.new) self.new }
     {
         self.make_entry(alloc, store, directory, name, DIRECTORY)
@@ -189,6 +196,7 @@ impl Volume {
         requires volume { IsVolume (S.types_of store.old) (S.state_of store.old) self.old }
         requires used { mode ≢ 0 }
         ensures types { S.types_of store.new ≡ S.types_of store.old }
+        ensures fs { self.new.fs ≡ self.old.fs }
         ensures keeps { IsVolume (S.types_of store.old) (S.state_of store.new) self.new }
     {
         let found = find_directory(store, self.fs, directory)?;
@@ -243,6 +251,7 @@ impl Volume {
         requires name { IsTrue (is_name name.now) }
         requires used { mode ≢ 0 }
         ensures types { S.types_of store.new ≡ S.types_of store.old }
+        ensures fs { self.new.fs ≡ self.old.fs }
         ensures keeps { IsVolume (S.types_of store.old) (S.state_of store.new) self.new }
     {
         has_places(&self.added);

@@ -1,4 +1,4 @@
-use Rattle.std.proofs.Common.{ℕ, List, [], ◌∷◌, length, None, ap, ◌∙◌, subst, inl}
+use Rattle.std.proofs.Common.{[], ◌∷◌, length, None, ap, ◌∙◌, subst, inl}
 use Rattle.std.specs.Prelude.{Contains}
 use Rattle.ffs_model.specs.Library.{inode_blocks, inode_links, inode_mode}
 use Rattle.ffs_format.specs.Fields.{Fields}

@@ -1,6 +1,5 @@
-use Rattle.std.proofs.Common.{ℕ, sym, ◌∙◌, subst, Result}
+use Rattle.std.proofs.Common.{ℕ, sym, ◌∙◌, subst}
 use Rattle.std.specs.Prelude.{IfOk}
-use Rattle.ffs_lib.specs.declared.fault.FfsFault.{FfsFault}
 use Rattle.ffs_lib.specs.Outcomes.{Attaches, Keeps}
 use Rattle.ffs_lib.proofs.Kept.{gone_then, inodes_then, on_err, refused}
 use Rattle.ffs_lib.proofs.steps.add_inodes.Goals as goal

@@ -1,4 +1,4 @@
-use Rattle.std.proofs.Common.{◌≡◌, suc, [], length, None, ap, ◌∙◌, arith}
+use Rattle.std.proofs.Common.{◌≡◌, [], length, None, ap, ◌∙◌, arith}
 use Rattle.ffs_model.specs.Cuts.{latest}
 use Rattle.ffs_model.specs.Library.{inode_at, inode_blocks, inode_links, inode_mode}
 use Rattle.ffs_format.specs.Fields.{Fields}

@@ -1,4 +1,4 @@
-use Rattle.std.proofs.Common.{◌≡◌, ℕ, ◌+◌, ◌≤◌, length}
+use Rattle.std.proofs.Common.{◌≡◌, ◌+◌, ◌≤◌, length}
 use Rattle.ffs_lib.specs.Volumes.{IsVolume}
 use Rattle.ffs_lib.proofs.volume.Volume.write.Given as goal
 
