@@ -52,13 +52,13 @@ module _ (T : Types) (state : StoreState) (b ty chunks : ℕ) (l : Life) (new : 
   still_owned : IsBlock new → T.owned ty new ≡ T.owned l.ty (current l)
   still_owned bytes = ap (λ t. T.owned t new) (sym same_type) ∙ decides new bytes agrees
 
-  pub left_claim : IsConsistent T state → IsBlock new → (is_claimed state.lives b (owned_count state.lives b) (T.owned ty new) e.adds e.drops && named_once T ty new) ≡ true
-  left_claim h bytes =
+  pub kept_claim : IsConsistent T state → IsBlock new → (is_claimed state.lives b (owned_count state.lives b) (T.owned ty new) e.adds e.drops && named_once T ty new) ≡ true
+  kept_claim h bytes =
       let owned = still_owned bytes in
       (λ i. is_claimed state.lives b (owned_count state.lives b) (owned i) (leaves.no_adds i) (leaves.no_drops i) && distinct (blocks_of (owned i))) ∙ unchanged_claim T state b l h alive
 
-  pub left_decides : IsBlock new → DecidesOwned T ty new chunks
-  left_decides bytes other is also =
+  pub kept_decides : IsBlock new → DecidesOwned T ty new chunks
+  kept_decides bytes other is also =
       ap (λ t. T.owned t other) (sym same_type)
       ∙ (decides other is (λ i noted. also i noted ∙ agrees i noted)
       ∙ sym (still_owned bytes))

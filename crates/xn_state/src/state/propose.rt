@@ -97,7 +97,7 @@ impl State {
     }
 
     /// The chunks that decide what a block owns, where an edit writes into none of them, and adds and drops nothing.
-    fn left(&self, block: u32, edit: &Edit) -> Option<ReadSet>
+    fn kept_reads(&self, block: u32, edit: &Edit) -> Option<ReadSet>
         requires limits { IsTrue (within_limits edit.now) }
         ensures decides { (l : Life) → life_at self.now.store.lives block ≡ Some l → IfSome result (λ reads. DecidesOwned (types_in self.now) l.ty (current l) reads.chunks) }
         ensures leaves { IfSome result (λ reads. Leaves reads.chunks edit.now) }
@@ -122,7 +122,7 @@ impl State {
             && named_once (types_in self.now) ty new.now) }
         ensures reads { IfSome result (λ reads. DecidesOwned (types_in self.now) ty new.now reads.chunks) }
     {
-        if let Some(reads) = self.left(block, edit) {
+        if let Some(reads) = self.kept_reads(block, edit) {
             return Some(reads);
         }
         let (pairs, reads) = owned_pairs(&self.table, ty, new);
