@@ -39,7 +39,8 @@ pub fn entry_name(block: &[u8; 512], place: usize) -> &[u8]
 /// The 32 bytes of the entry that names an inode. What is read of them is said by the law `entries_are_read_back`.
 pub fn entry_bytes(inode: u16, name: &[u8]) -> [u8; 32]
     requires { IsTrue (is_name name.now) }
-    ensures { result ≡ entry_of inode name.now }
+    ensures bytes { result ≡ entry_of inode name.now }
+    ensures whole { length result ≡ 32 }
 {
     let mut bytes = [0; 32];
     LittleEndian::write_u16(&mut bytes[..2], inode);

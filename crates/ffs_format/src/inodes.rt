@@ -111,7 +111,8 @@ impl Inode {
 
     /// Its bytes.
     pub fn bytes(&self) -> &[u8; 64]
-        ensures { result.now ≡ self.now }
+        ensures bytes { result.now ≡ self.now }
+        ensures whole { length self.now ≡ 64 }
     {
         &self.bytes
     }

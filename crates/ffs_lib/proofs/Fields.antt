@@ -1,0 +1,71 @@
+-- The blocks of an inode whose fields were set.
+use Rattle.std.proofs.Common.{◌≡◌, ℕ, zero, suc, ◌<◌, ◌^◌, ◌⊎◌, Bool, true, false, cond, List, [], ◌∷◌, Some, None, refl, sym, ◌∙◌, ap, inl, inr, subst, replicate}
+use Rattle.std.specs.Prelude.{Contains, filter_map, map, slice_set, ◌==◌}
+use Rattle.std.specs.List.{range_with_len, cons_option}
+use Rattle.xn_model.specs.Lists.{blocks_of}
+use Rattle.xn_model.specs.Root.{word_at, unless_empty}
+use Rattle.xn_model.proofs.ForCallers.{Contains-cons, Contains-head, Contains-tail}
+use Rattle.ffs_model.specs.Library.{half_at, inode_blocks, inode_mode}
+use Rattle.std.proofs.lemmas.Nat.{from_le_bytes-to_le_bytes_2}
+use Rattle.ffs_format.specs.Entries.{entry_of}
+use Rattle.ffs_format.specs.Fields.{fields_of, direct_in}
+
+-- the words that are not 0
+abbrev set_words : List ℕ → List ℕ
+set_words ws = blocks_of (filter_map (λ w. unless_empty (w, 2)) ws)
+
+words_of : (f : ℕ → ℕ) (xs : List ℕ) → filter_map (λ i. unless_empty (f i, 2)) xs ≡ filter_map (λ w. unless_empty (w, 2)) (map f xs)
+words_of f [] = refl
+words_of f (x ∷ xs) = ap (cons_option (unless_empty (f x, 2))) (words_of f xs)
+
+blocks_are : (bytes : List ℕ) → inode_blocks bytes ≡ set_words (fields_of bytes).direct
+blocks_are bytes = ap blocks_of (words_of (direct_in bytes) (range_with_len 0 12))
+
+pub same_blocks : (a b : List ℕ) → (fields_of b).direct ≡ (fields_of a).direct → inode_blocks b ≡ inode_blocks a
+same_blocks a b e = blocks_are b ∙ (ap set_words e ∙ sym (blocks_are a))
+
+head_case : (b : Bool) (w : ℕ) (ps : List (ℕ × ℕ)) (c : ℕ) → Contains (blocks_of (cons_option (cond b None (Some (w, 2))) ps)) c → (c ≡ w) ⊎ Contains (blocks_of ps) c
+head_case true w ps c h = inr h
+head_case false w ps c h = elim (Contains-cons w (blocks_of ps) c h) [ inl e ↦ inl (sym e) | inr i ↦ inr i ]
+
+head_tail : (b : Bool) (w : ℕ) (ps : List (ℕ × ℕ)) (c : ℕ) → Contains (blocks_of ps) c → Contains (blocks_of (cons_option (cond b None (Some (w, 2))) ps)) c
+head_tail true w ps c h = h
+head_tail false w ps c h = Contains-tail w (blocks_of ps) c h
+
+head_both : (b : Bool) (w : ℕ) (ps qs : List (ℕ × ℕ)) (c v : ℕ) → (Contains (blocks_of ps) c → Contains (blocks_of qs) c ⊎ (c ≡ v)) →
+    Contains (blocks_of (cons_option (cond b None (Some (w, 2))) ps)) c → Contains (blocks_of (cons_option (cond b None (Some (w, 2))) qs)) c ⊎ (c ≡ v)
+head_both true w ps qs c v f h = f h
+head_both false w ps qs c v f h = elim (Contains-cons w (blocks_of ps) c h) [
+  | inl e ↦ inl (subst (λ x. Contains (w ∷ blocks_of qs) x) e (Contains-head w (blocks_of qs)))
+  | inr i ↦ elim (f i) [ inl j ↦ inl (Contains-tail w (blocks_of qs) c j) | inr e ↦ inr e ]
+]
+
+set_one : (ws : List ℕ) (i v c : ℕ) → Contains (set_words (slice_set ws i v)) c → Contains (set_words ws) c ⊎ (c ≡ v)
+set_one [] i v c h = inl h
+set_one (w ∷ ws) zero v c h = elim (head_case (v == 0) v (filter_map (λ x. unless_empty (x, 2)) ws) c h) [
+  | inl e ↦ inr e
+  | inr i ↦ inl (head_tail (w == 0) w (filter_map (λ x. unless_empty (x, 2)) ws) c i)
+]
+set_one (w ∷ ws) (suc i) v c h =
+    head_both (w == 0) w (filter_map (λ x. unless_empty (x, 2)) (slice_set ws i v)) (filter_map (λ x. unless_empty (x, 2)) ws) c v (set_one ws i v c) h
+
+-- one pointer was set
+pub one_more : (a b : List ℕ) (i v c : ℕ) → (fields_of b).direct ≡ slice_set (fields_of a).direct i v → Contains (inode_blocks b) c → Contains (inode_blocks a) c ⊎ (c ≡ v)
+one_more a b i v c e h = elim (set_one (fields_of a).direct i v c (subst (λ xs. Contains xs c) (blocks_are b ∙ ap set_words e) h)) [
+  | inl j ↦ inl (subst (λ xs. Contains xs c) (sym (blocks_are a)) j)
+  | inr e ↦ inr e
+]
+
+-- a free inode
+pub free_blocks : inode_blocks (replicate 64 0) ≡ []
+unfolding word_at
+free_blocks = refl
+
+pub free_mode : inode_mode (replicate 64 0) ≡ 0
+unfolding half_at
+free_mode = refl
+
+-- the inode of an entry
+pub entry_names : (inode : ℕ) (name : List ℕ) → inode < 2 ^ 16 → half_at (entry_of inode name) 0 ≡ inode
+unfolding half_at
+entry_names inode name few = from_le_bytes-to_le_bytes_2 inode few

@@ -1,0 +1,68 @@
+-- The numbers of edits that a volume keeps.
+use Rattle.std.proofs.Common.{◌≡◌, ◌≢◌, ℕ, zero, suc, refl, [], ◌∷◌, ◌+◌, ◌-◌, ◌*◌, ◌/◌, ◌<◌, List, length, get_or, Option, Some, None, sym, ◌∙◌, ap, inl, inr, arith, subst, eq-eqb}
+use Rattle.std.specs.Prelude.{if◌then◌else◌}
+use Rattle.std.proofs.Math.ListN.{set}
+use Rattle.std.proofs.lemmas.Bool.{cases_eq, ne_eqb}
+use Rattle.std.proofs.lemmas.Grind.{get_or-set_at}
+use Rattle.std.proofs.lemmas.List.{get_or-set_other}
+use Rattle.xn_model.specs.Types.{Types}
+use Rattle.xn_model.specs.Lives.{StoreState}
+use Rattle.ffs_model.specs.Cuts.{latest}
+use Rattle.ffs_model.specs.Names.{IsInodes}
+use Rattle.ffs_model.specs.Volumes.{VolumeKeeps, with_edit, without_edit}
+use Rattle.ffs_model.specs.Library.{library_layout, inode_at, inode_mode, IsLibrary}
+use Rattle.ffs_model.proofs.ForCallers.{mode_read, zeros_mode}
+use Rattle.ffs_lib.specs.Outcomes.{IsAdded, Makes, Names}
+use Rattle.ffs_lib.specs.Places.{IsFree}
+use Rattle.ffs_lib.specs.Volumes.{edits_of}
+
+module _ (added : List (Option ℕ)) (index : ℕ) (low : index < length added) where
+  with_at : (entry j : ℕ) → with_edit (edits_of added) index entry j ≡ edits_of (set added index (Some entry)) j
+  with_at entry j = elim (cases_eq j index) [
+    | inl e ↦ ap (λ t. if t then Some entry else edits_of added j) (eq-eqb j index e) ∙ sym (get_or-set_at added index j (Some entry) None e low)
+    | inr ne ↦ ap (λ t. if t then Some entry else edits_of added j) (ne_eqb j index ne) ∙ sym (get_or-set_other added index j (Some entry) None ne)
+  ]
+
+  pub with_one : (entry : ℕ) → with_edit (edits_of added) index entry ≡ edits_of (set added index (Some entry))
+  with_one entry = λ i j. with_at entry j i
+
+  without_at : (j : ℕ) → without_edit (edits_of added) index j ≡ edits_of (set added index None) j
+  without_at j = elim (cases_eq j index) [
+    | inl e ↦ ap (λ t. if t then None else edits_of added j) (eq-eqb j index e) ∙ sym (get_or-set_at added index j None None e low)
+    | inr ne ↦ ap (λ t. if t then None else edits_of added j) (ne_eqb j index ne) ∙ sym (get_or-set_other added index j None None ne)
+  ]
+
+  pub without_one : without_edit (edits_of added) index ≡ edits_of (set added index None)
+  without_one = λ i j. without_at j i
+
+-- an element that is there is read whatever stands for one that is not
+pub same_read : {A : Type 0} (xs : List A) (i : ℕ) (d e : A) → i < length xs → get_or xs i d ≡ get_or xs i e
+same_read [] i d e low = absurd (omega arith)
+same_read (x ∷ xs) zero d e low = refl
+same_read (x ∷ xs) (suc i) d e low = same_read xs i d e (omega arith)
+
+-- a free inode of a new block
+pub first_free : (T : Types) (state : StoreState) (fs : ℕ) (array : ℕ → Option ℕ) (index block entry : ℕ) → index < 16 → IsAdded T fs array index block entry state →
+    IsFree state fs (record { number = 8 * index + 1; block = block; place = 0 })
+first_free T state fs array index block entry low added =
+    let home : (8 * index + 1 - 1) / 8 ≡ index = omega arith in
+    record {
+      stands = record {
+        some = λ e. absurd (omega (arith, e));
+        inodes = subst (λ i. IsInodes library_layout (latest state.lives) fs i block) (sym home) added.inodes;
+        at = omega arith;
+        few = omega arith;
+        long = ap length added.empty;
+      };
+      unused = ap (λ m. inode_mode (inode_at m 0)) added.empty ∙ (sym (mode_read _ 0 (omega arith)) ∙ zeros_mode 0);
+      low = omega arith;
+    }
+
+-- an inode is made, named, and its block's number forgotten
+pub named_then : (T : Types) (lib : IsLibrary T) (fs n entry index : ℕ) (d : Option ℕ) (added : List (Option ℕ)) (first second third : StoreState) → n ≢ 0 → index ≡ (n - 1) / 8 → index < length added →
+    VolumeKeeps T library_layout fs (edits_of added) first → Makes T fs first second n (get_or added index d) entry → Names T fs second third n entry →
+    VolumeKeeps T library_layout fs (edits_of (set added index None)) third
+named_then T lib fs n entry index d added first second third some home low v makes names =
+    let made = makes lib (edits_of added) v (same_read added index d None low ∙ ap (edits_of added) home) in
+    let kept = names lib (without_edit (edits_of added) ((n - 1) / 8)) made.forgets some made.can in
+    subst (λ (array : ℕ → Option ℕ). VolumeKeeps T library_layout fs array third) (ap (without_edit (edits_of added)) (sym home) ∙ without_one added index low) kept

@@ -1,0 +1,20 @@
+use Rattle.std.proofs.Common.{[], ◌∷◌, None, ◌*◌, sym}
+use Rattle.ffs_lib.specs.Edits.{edit_at}
+use Rattle.ffs_lib.proofs.Edited.{done_by, pointed, pointers_reached}
+use Rattle.ffs_lib.proofs.Kept.{refused}
+use Rattle.ffs_lib.proofs.data.attach_data.Goals as goal
+
+pub returns-in_err-propose-clause-keeps : goal.returns-in_err-propose-clause-keeps
+returns-in_err-propose-clause-keeps g c = λ lib array v.
+    refused (g.S.Store.types_of c.args.store.now) c.args.fs.number array _ (g.S.Store.state_of c.args.store.now) (g.S.Store.state_of c.propose.new.self) _ c.in_err-propose.ensures.state v
+
+pub returns-clause-keeps : goal.returns-clause-keeps
+returns-clause-keeps g c = λ lib array v.
+    let T = g.S.Store.types_of c.args.store.now in
+    let state = g.S.Store.state_of c.args.store.now in
+    let new = g.S.Store.state_of c.propose.new.self in
+    let indirect = c.indirect-indirect.result in
+    let entry = c.in_ok-propose.field-0 in
+    pointed T lib c.args.fs.number c.args.fs.few array state new v indirect entry (edit_at (4 * c.args.place) c.pointer_bytes.result ((c.args.block, 2) ∷ []) [] None)
+    (pointers_reached T lib state c.args.fs.number c.args.number c.in_ok-find_file.field-0 c.in_ok-find_file.ensures.is indirect (sym c.indirect-indirect.ensures) c.if-indirect-eq0.false)
+    (done_by T state new c.args.fs.number indirect _ _ entry c.in_ok-edit.ensures c.in_ok-propose.ensures.state)

@@ -1,0 +1,34 @@
+use Rattle.std.proofs.Common.{ℕ, List, [], ◌∷◌, length, None, ap, sym, ◌∙◌, subst, inl, inr}
+use Rattle.std.specs.Prelude.{Contains}
+use Rattle.xn_model.proofs.ForCallers.{Contains-head}
+use Rattle.ffs_model.specs.Library.{inode_blocks, inode_links, inode_mode}
+use Rattle.ffs_format.specs.Fields.{Fields}
+use Rattle.ffs_lib.proofs.Edited.{done_by, kept}
+use Rattle.ffs_lib.proofs.Fields.{one_more}
+use Rattle.ffs_lib.proofs.Kept.{refused}
+use Rattle.ffs_lib.proofs.data.attach_direct.Goals as goal
+
+pub returns-in_err-propose-clause-keeps : goal.returns-in_err-propose-clause-keeps
+returns-in_err-propose-clause-keeps g c = λ lib array v.
+    refused (g.S.Store.types_of c.args.store.now) c.args.fs.number array _ (g.S.Store.state_of c.args.store.now) (g.S.Store.state_of c.propose.new.self) _ c.in_err-propose.ensures.state v
+
+pub returns-clause-keeps : goal.returns-clause-keeps
+returns-clause-keeps g c = λ lib array v.
+    let T = g.S.Store.types_of c.args.store.now in
+    let state = g.S.Store.state_of c.args.store.now in
+    let new = g.S.Store.state_of c.propose.new.self in
+    let found = c.in_ok-home.field-0 in
+    let file = c.in_ok-home.ensures in
+    let block = c.args.block in
+    let bytes = c.bytes.result.now in
+    let is = c.bytes.ensures.bytes in
+    let f = c.set_direct.ensures.fields in
+    let mode = ap inode_mode is ∙ ap (λ (x : Fields). x.mode) f in
+    kept T lib c.args.fs.number c.args.fs.few array state new v c.args.number found.block found.place file.is.stands bytes (ap length is ∙ c.bytes.ensures.whole) ((block, 2) ∷ []) [] None c.in_ok-propose.field-0
+    (done_by T state new c.args.fs.number found.block _ _ c.in_ok-propose.field-0 c.in_ok-edit.ensures c.in_ok-propose.ensures.state)
+    (mode ∙ ap inode_mode file.is.bytes)
+    (ap inode_links is ∙ (ap (λ (x : Fields). x.links) f ∙ ap inode_links file.is.bytes))
+    (λ b m. elim (one_more found.inode c.set_direct.new.self c.args.index block b (ap (λ (x : Fields). x.direct) f) (subst (λ xs. Contains xs b) (ap inode_blocks is) m)) [
+      | inl j ↦ inl (subst (λ (x : List ℕ). Contains (inode_blocks x) b) file.is.bytes j)
+      | inr e ↦ inr (λ z. file.file (sym mode ∙ z), subst (λ (x : ℕ). Contains {X = ℕ × ℕ} ((block, 2) ∷ []) (x, 2)) (sym e) (Contains-head (block, 2) []))
+    ])

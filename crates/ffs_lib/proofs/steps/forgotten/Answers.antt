@@ -1,0 +1,6 @@
+use Rattle.ffs_lib.proofs.Kept.{forgets}
+use Rattle.ffs_lib.proofs.steps.forgotten.Goals as goal
+
+pub returns-then-is_err-clause-keeps : goal.returns-then-is_err-clause-keeps
+returns-then-is_err-clause-keeps g c =
+    forgets (g.S.Store.types_of c.args.store.now) c.args.fs.number c.args.fs.few c.args.fs.number c.args.block (g.S.Store.state_of c.args.store.now) (g.S.Store.state_of c.forget.new.self) c.forget.result c.forget.ensures.state

@@ -1,0 +1,24 @@
+use Rattle.std.proofs.Common.{[], length, ap, sym, ◌∙◌}
+use Rattle.ffs_model.specs.Library.{inode_blocks, inode_links, inode_mode}
+use Rattle.ffs_format.specs.Fields.{Fields}
+use Rattle.ffs_lib.proofs.Edited.{done_by, made}
+use Rattle.ffs_lib.proofs.Fields.{free_blocks, same_blocks}
+use Rattle.ffs_lib.proofs.steps.make_inode.Goals as goal
+
+pub returns-clause-ok : goal.returns-clause-ok
+returns-clause-ok g c = λ lib array v comes.
+    let T = g.S.Store.types_of c.args.store.now in
+    let state = g.S.Store.state_of c.args.store.now in
+    let new = g.S.Store.state_of c.propose.new.self in
+    let free = c.args.free in
+    let entry = c.in_ok-propose.field-0 in
+    let bytes = c.bytes.result.now in
+    let is = c.bytes.ensures.bytes in
+    let one = c.set_links.ensures.fields in
+    let two = c.set_mode.ensures.fields in
+    made T lib c.args.fs.number c.args.fs.few array state new v free.number free.block free.place c.requires.free.stands bytes (ap length is ∙ c.bytes.ensures.whole) [] [] c.args.after entry
+    (done_by T state new c.args.fs.number free.block _ _ entry c.in_ok-edit.ensures c.in_ok-propose.ensures.state)
+    c.requires.free.unused (λ e. c.requires.used (sym (ap inode_mode is ∙ (ap (λ (f : Fields). f.mode) one ∙ ap (λ (f : Fields). f.mode) two)) ∙ e))
+    (ap inode_links is ∙ ap (λ (f : Fields). f.links) one)
+    (ap inode_blocks is ∙ (same_blocks c.free-inode.result c.set_links.new.self (ap (λ (f : Fields). f.direct) one ∙ ap (λ (f : Fields). f.direct) two) ∙ (ap inode_blocks c.free-inode.ensures ∙ free_blocks)))
+    comes

@@ -1,0 +1,33 @@
+use Rattle.std.proofs.Common.{◌≡◌, ◌≢◌, suc, [], length, Some, ap, ◌∙◌, arith, refl}
+use Rattle.ffs_model.specs.Cuts.{latest}
+use Rattle.ffs_model.specs.Library.{inode_at, inode_blocks, inode_links, inode_mode}
+use Rattle.ffs_format.specs.Fields.{Fields}
+use Rattle.ffs_lib.proofs.Edited.{done_by, less}
+use Rattle.ffs_lib.proofs.Fields.{same_blocks}
+use Rattle.ffs_lib.proofs.Kept.{refused}
+use Rattle.ffs_lib.proofs.steps.take_link.Goals as goal
+
+pub returns-in_err-propose-clause-keeps : goal.returns-in_err-propose-clause-keeps
+returns-in_err-propose-clause-keeps g c = λ lib array v some can.
+    refused (g.S.Store.types_of c.args.store.now) c.args.fs.number array _ (g.S.Store.state_of c.args.store.now) (g.S.Store.state_of c.propose.new.self) _ c.in_err-propose.ensures.state v
+
+pub returns-clause-keeps : goal.returns-clause-keeps
+returns-clause-keeps g c = λ lib array v some can.
+    let T = g.S.Store.types_of c.args.store.now in
+    let state = g.S.Store.state_of c.args.store.now in
+    let new = g.S.Store.state_of c.propose.new.self in
+    let found = c.in_ok-block.field-0 in
+    let stands = c.in_ok-block.ensures in
+    let bytes = c.bytes.result.now in
+    let is = c.bytes.ensures.bytes in
+    let one = c.set_links.ensures.fields in
+    let old = inode_at (latest state.lives found.block) found.place in
+    let was : c.links-links.result ≡ inode_links old = c.links-links.ensures ∙ ap inode_links stands.bytes in
+    let now = ap inode_links is ∙ ap (λ (f : Fields). f.links) one in
+    let not_zero : c.links-links.result ≢ 0 = c.if-links-eq0.false in
+    less T lib c.args.fs.number c.args.fs.few array state new v c.args.number found.block found.place stands.stands bytes (ap length is ∙ c.bytes.ensures.whole) [] [] (Some c.args.after) c.in_ok-propose.field-0
+    (done_by T state new c.args.fs.number found.block _ _ c.in_ok-propose.field-0 c.in_ok-edit.ensures c.in_ok-propose.ensures.state)
+    (ap inode_mode is ∙ (ap (λ (f : Fields). f.mode) one ∙ ap inode_mode stands.bytes))
+    (ap suc now ∙ omega (arith, was, not_zero))
+    (ap inode_blocks is ∙ (same_blocks found.inode c.set_links.new.self (ap (λ (f : Fields). f.direct) one) ∙ ap inode_blocks stands.bytes))
+    c.args.after can refl

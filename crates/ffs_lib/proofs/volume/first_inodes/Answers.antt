@@ -1,0 +1,17 @@
+use Rattle.std.proofs.Common.{List, ℕ, length, ap, ◌∙◌, subst}
+use Rattle.std.specs.Prelude.{Contains}
+use Rattle.ffs_model.specs.Library.{inode_blocks, library_layout}
+use Rattle.ffs_model.proofs.ForCallers.{one_inode}
+use Rattle.ffs_format.specs.Fields.{Fields}
+use Rattle.ffs_lib.proofs.Fields.{free_blocks, same_blocks}
+use Rattle.ffs_lib.proofs.volume.first_inodes.Goals as goal
+
+pub returns : goal.returns
+returns c = λ p block h.
+    let bytes = c.bytes.result.now in
+    let is = c.bytes.ensures.bytes in
+    let one = c.set_links.ensures.fields in
+    let two = c.set_mode.ensures.fields in
+    one_inode bytes (ap length is ∙ c.bytes.ensures.whole)
+    (ap inode_blocks is ∙ (same_blocks c.free-inode.result c.set_links.new.self (ap (λ (f : Fields). f.direct) one ∙ ap (λ (f : Fields). f.direct) two) ∙ (ap inode_blocks c.free-inode.ensures ∙ free_blocks)))
+    p block (subst (λ (m : List ℕ). Contains (library_layout.direct m p) block) c.block_with.ensures h)

@@ -1,0 +1,4 @@
+pub mod Edits
+pub mod Places
+pub mod Outcomes
+pub mod Volumes

@@ -1,0 +1,73 @@
+-- What the edits of a volume leave, each for every array of numbers for which a volume's rules held before.
+--     Keeps T fs old new      a volume's rules hold on
+--     IsMade, ..              and what may come next
+use Rattle.std.specs.Prelude.{◌≡◌, ◌≢◌, ℕ, List, Option, None, Contains}
+use Rattle.xn_model.specs.Types.{Types}
+use Rattle.xn_model.specs.Lives.{StoreState}
+use Rattle.ffs_model.specs.Cuts.{latest}
+use Rattle.ffs_model.specs.Names.{IsInodes}
+use Rattle.ffs_model.specs.Edits.{HoldsOnly, OneEntry}
+use Rattle.ffs_model.specs.Volumes.{VolumeKeeps, CanName, CanUnlink, with_edit, without_edit}
+use Rattle.ffs_model.specs.Library.{library_layout, IsLibrary, zeros}
+
+abbrev pub Keeps : Types → ℕ → StoreState → StoreState → Type 0
+Keeps T fs old new = IsLibrary T → (array : ℕ → Option ℕ) → VolumeKeeps T library_layout fs array old → VolumeKeeps T library_layout fs array new
+
+-- an inode came into use by an edit, after which it may be named; the number that was recorded for its block may be forgotten
+pub record IsMade (T : Types) (fs : ℕ) (array : ℕ → Option ℕ) (n entry : ℕ) (new : StoreState) : Type 0 where
+  pub keeps : VolumeKeeps T library_layout fs array new
+  pub forgets : VolumeKeeps T library_layout fs (without_edit array (library_layout.home n).0) new
+  pub can : CanName library_layout new.lives fs n entry
+
+abbrev pub Makes : Types → ℕ → StoreState → StoreState → ℕ → Option ℕ → ℕ → Type 0
+Makes T fs old new n after entry = IsLibrary T → (array : ℕ → Option ℕ) → VolumeKeeps T library_layout fs array old → after ≡ array (library_layout.home n).0 → IsMade T fs array n entry new
+
+-- a block of inodes was attached by an edit, whose number is recorded
+pub record IsAdded (T : Types) (fs : ℕ) (array : ℕ → Option ℕ) (index block entry : ℕ) (new : StoreState) : Type 0 where
+  pub keeps : VolumeKeeps T library_layout fs (with_edit array index entry) new
+  pub inodes : IsInodes library_layout (latest new.lives) fs index block
+  pub empty : latest new.lives block ≡ zeros
+
+abbrev pub Attaches : Types → ℕ → StoreState → StoreState → ℕ → ℕ → ℕ → Type 0
+Attaches T fs old new index block entry = IsLibrary T → (array : ℕ → Option ℕ) → VolumeKeeps T library_layout fs array old → HoldsOnly old.lives block zeros → latest old.lives block ≡ zeros → block ≢ 0 → IsAdded T fs array index block entry new
+
+abbrev pub Adds : Types → ℕ → StoreState → StoreState → ℕ → ℕ → ℕ → Type 0
+Adds T fs old new index block entry = IsLibrary T → (array : ℕ → Option ℕ) → VolumeKeeps T library_layout fs array old → IsAdded T fs array index block entry new
+
+-- an inode that may be named was
+abbrev pub Names : Types → ℕ → StoreState → StoreState → ℕ → ℕ → Type 0
+Names T fs old new n after = IsLibrary T → (array : ℕ → Option ℕ) → VolumeKeeps T library_layout fs array old → n ≢ 0 → CanName library_layout old.lives fs n after → VolumeKeeps T library_layout fs array new
+
+-- a directory has a new block, whose one entry names an inode
+abbrev pub Grows : Types → ℕ → StoreState → StoreState → ℕ → ℕ → Type 0
+Grows T fs old new block after = IsLibrary T → (array : ℕ → Option ℕ) (n : ℕ) (bytes : List ℕ) → VolumeKeeps T library_layout fs array old → n ≢ 0 → HoldsOnly old.lives block bytes → OneEntry library_layout bytes n →
+    CanName library_layout old.lives fs n after → VolumeKeeps T library_layout fs array new
+
+-- after an edit an inode may be named, or a link taken from it
+abbrev pub Lets : Types → ℕ → StoreState → StoreState → ℕ → ℕ → Type 0
+Lets T fs old new n entry = IsLibrary T → (array : ℕ → Option ℕ) → VolumeKeeps T library_layout fs array old → VolumeKeeps T library_layout fs array new × CanName library_layout new.lives fs n entry
+
+abbrev pub Clears : Types → ℕ → StoreState → StoreState → ℕ → ℕ → Type 0
+Clears T fs old new n entry = IsLibrary T → (array : ℕ → Option ℕ) → VolumeKeeps T library_layout fs array old → VolumeKeeps T library_layout fs array new × CanUnlink library_layout new.lives fs n entry
+
+-- a link that may be taken was; blocks were dropped before that
+abbrev pub Unlinks : Types → ℕ → StoreState → StoreState → ℕ → ℕ → Type 0
+Unlinks T fs old new n after = IsLibrary T → (array : ℕ → Option ℕ) → VolumeKeeps T library_layout fs array old → n ≢ 0 → CanUnlink library_layout old.lives fs n after → VolumeKeeps T library_layout fs array new
+
+abbrev pub Drops : Types → ℕ → StoreState → StoreState → ℕ → ℕ → ℕ → Type 0
+Drops T fs old new n after entry = IsLibrary T → (array : ℕ → Option ℕ) → VolumeKeeps T library_layout fs array old → n ≢ 0 → CanUnlink library_layout old.lives fs n after →
+    VolumeKeeps T library_layout fs array new × CanUnlink library_layout new.lives fs n entry
+
+-- what holds only some bytes still does
+abbrev pub Leaves : Types → ℕ → StoreState → StoreState → Type 0
+Leaves T fs old new = IsLibrary T → (array : ℕ → Option ℕ) (block : ℕ) (bytes : List ℕ) → VolumeKeeps T library_layout fs array old → block ≢ 0 → HoldsOnly old.lives block bytes → HoldsOnly new.lives block bytes
+
+-- the root slot was set to a block of zeros
+abbrev pub Roots : Types → ℕ → StoreState → StoreState → ℕ → Type 0
+Roots T fs old new block = IsLibrary T → (array : ℕ → Option ℕ) → VolumeKeeps T library_layout fs array old → HoldsOnly old.lives block zeros →
+    VolumeKeeps T library_layout fs array new × ((other : ℕ) (bytes : List ℕ) → other ≢ 0 → HoldsOnly old.lives other bytes → HoldsOnly new.lives other bytes)
+
+-- the first block of inodes was attached, which point to nothing
+abbrev pub Starts : Types → ℕ → StoreState → StoreState → ℕ → Type 0
+Starts T fs old new block = IsLibrary T → (array : ℕ → Option ℕ) (bytes : List ℕ) → VolumeKeeps T library_layout fs array old → array 0 ≡ None → HoldsOnly old.lives block bytes →
+    ((p c : ℕ) → Contains (library_layout.direct bytes p) c → ⊥) → block ≢ 0 → VolumeKeeps T library_layout fs array new

@@ -1,0 +1,218 @@
+// The bytes of files.
+
+ghost use Rattle.std.specs.Prelude.{◌≡◌, ◌<◌, ◌≤◌, ◌+◌, length};
+ghost use Rattle.ffs_lib.specs.Outcomes.{Keeps};
+
+use crate::edits;
+use crate::fault::FfsFault;
+use crate::places::{Found, find_file, read_block};
+use crate::steps::{DATA, POINTER_BLOCK, POINTERS, forgotten};
+use edit_list::{EditId, Fs};
+use ffs_format::inodes::{DIRECT_POINTERS, INODE_LEN};
+use ffs_format::{pointer, pointer_bytes};
+use std::alloc::Global;
+use xn_state::Store;
+
+/// How many bytes a block has.
+pub const BLOCK_LEN: usize = 512;
+
+/// How many blocks a file has at most.
+pub const FILE_BLOCKS: usize = DIRECT_POINTERS + POINTERS;
+
+/// A block of zeros with bytes written at a place.
+fn block_with(at: usize, bytes: &[u8]) -> [u8; 512]
+    requires { at + length bytes.now ≤ 512 }
+{
+    let mut block = [0; 512];
+    block[at..at + bytes.len()].copy_from_slice(bytes);
+    block
+}
+
+/// Lets a file's inode point to a new block of data.
+fn attach_direct<S: Store>(
+    alloc: Global,
+    store: &mut S,
+    fs: Fs,
+    number: u16,
+    index: usize,
+    block: u32,
+) -> Result<EditId, FfsFault>
+    requires { index < 12 }
+    ensures types { S.types_of store.new ≡ S.types_of store.old }
+    ensures keeps { Keeps (S.types_of store.old) fs.number (S.state_of store.old) (S.state_of store.new) }
+{
+    let Found {
+        block: home,
+        place,
+        mut inode,
+    } = find_file(store, fs, number)?;
+    inode.set_direct(index, block);
+    let edit = edits::addition(alloc, INODE_LEN * place, inode.bytes(), (block, DATA), None)?;
+    Ok(store.propose(fs, home, &edit)?)
+}
+
+/// Writes into one of the blocks of a file that its inode points to.
+fn write_direct<S: Store>(
+    alloc: Global,
+    store: &mut S,
+    fs: Fs,
+    number: u16,
+    index: usize,
+    at: usize,
+    bytes: &[u8],
+) -> Result<EditId, FfsFault>
+    requires few { index < 12 }
+    requires within { at + length bytes.now ≤ 512 }
+    requires some { 0 < length bytes.now }
+    ensures types { S.types_of store.new ≡ S.types_of store.old }
+    ensures keeps { Keeps (S.types_of store.old) fs.number (S.state_of store.old) (S.state_of store.new) }
+{
+    let block = find_file(store, fs, number)?.inode.direct(index);
+    if block == 0 {
+        let (block, _) = store.init(fs, DATA, &block_with(at, bytes))?;
+        let attached = attach_direct(alloc, store, fs, number, index, block);
+        return forgotten(store, fs, block, attached);
+    }
+    let edit = edits::change(alloc, at, bytes, None)?;
+    Ok(store.propose(fs, block, &edit)?)
+}
+
+/// Lets a file's inode point to a new block of pointers.
+fn attach_pointers<S: Store>(
+    alloc: Global,
+    store: &mut S,
+    fs: Fs,
+    number: u16,
+    block: u32,
+) -> Result<EditId, FfsFault>
+    ensures types { S.types_of store.new ≡ S.types_of store.old }
+    ensures keeps { Keeps (S.types_of store.old) fs.number (S.state_of store.old) (S.state_of store.new) }
+{
+    let Found {
+        block: home,
+        place,
+        mut inode,
+    } = find_file(store, fs, number)?;
+    inode.set_indirect(block);
+    let edit = edits::addition(
+        alloc,
+        INODE_LEN * place,
+        inode.bytes(),
+        (block, POINTER_BLOCK),
+        None,
+    )?;
+    Ok(store.propose(fs, home, &edit)?)
+}
+
+/// Sees to it that a file has a block of pointers.
+fn add_pointers<S: Store>(alloc: Global, store: &mut S, fs: Fs, number: u16) -> Result<(), FfsFault>
+    ensures types { S.types_of store.new ≡ S.types_of store.old }
+    ensures keeps { Keeps (S.types_of store.old) fs.number (S.state_of store.old) (S.state_of store.new) }
+{
+    if find_file(store, fs, number)?.inode.indirect() == 0 {
+        let (block, _) = store.init(fs, POINTER_BLOCK, &[0; 512])?;
+        let attached = attach_pointers(alloc, store, fs, number, block);
+        let _ = forgotten(store, fs, block, attached)?;
+    }
+    Ok(())
+}
+
+/// Lets a file's block of pointers point to a new block of data.
+fn attach_data<S: Store>(
+    alloc: Global,
+    store: &mut S,
+    fs: Fs,
+    number: u16,
+    place: usize,
+    block: u32,
+) -> Result<EditId, FfsFault>
+    requires { place < 128 }
+    ensures types { S.types_of store.new ≡ S.types_of store.old }
+    ensures keeps { Keeps (S.types_of store.old) fs.number (S.state_of store.old) (S.state_of store.new) }
+{
+    let indirect = find_file(store, fs, number)?.inode.indirect();
+    if indirect == 0 {
+        return Err(FfsFault::NoEntry);
+    }
+    let edit = edits::addition(alloc, 4 * place, &pointer_bytes(block), (block, DATA), None)?;
+    Ok(store.propose(fs, indirect, &edit)?)
+}
+
+/// Writes into one of the blocks of a file that its block of pointers points to.
+fn write_indirect<S: Store>(
+    alloc: Global,
+    store: &mut S,
+    fs: Fs,
+    number: u16,
+    place: usize,
+    at: usize,
+    bytes: &[u8],
+) -> Result<EditId, FfsFault>
+    requires few { place < 128 }
+    requires within { at + length bytes.now ≤ 512 }
+    requires some { 0 < length bytes.now }
+    ensures types { S.types_of store.new ≡ S.types_of store.old }
+    ensures keeps { Keeps (S.types_of store.old) fs.number (S.state_of store.old) (S.state_of store.new) }
+{
+    add_pointers(alloc, store, fs, number)?;
+    let indirect = find_file(store, fs, number)?.inode.indirect();
+    if indirect == 0 {
+        return Err(FfsFault::NoEntry);
+    }
+    let block = pointer(read_block(store, fs, indirect)?, place);
+    if block == 0 {
+        let (block, _) = store.init(fs, DATA, &block_with(at, bytes))?;
+        let attached = attach_data(alloc, store, fs, number, place, block);
+        return forgotten(store, fs, block, attached);
+    }
+    let edit = edits::change(alloc, at, bytes, None)?;
+    Ok(store.propose(fs, block, &edit)?)
+}
+
+/// Writes into one of the blocks of a file.
+pub fn write_block<S: Store>(
+    alloc: Global,
+    store: &mut S,
+    fs: Fs,
+    number: u16,
+    index: usize,
+    at: usize,
+    bytes: &[u8],
+) -> Result<EditId, FfsFault>
+    requires few { index < 140 }
+    requires within { at + length bytes.now ≤ 512 }
+    requires some { 0 < length bytes.now }
+    ensures types { S.types_of store.new ≡ S.types_of store.old }
+    ensures keeps { Keeps (S.types_of store.old) fs.number (S.state_of store.old) (S.state_of store.new) }
+{
+    if index < DIRECT_POINTERS {
+        write_direct(alloc, store, fs, number, index, at, bytes)
+    } else {
+        write_indirect(alloc, store, fs, number, index - DIRECT_POINTERS, at, bytes)
+    }
+}
+
+/// Raises the size of a file to this, where it is below, after the edit before it.
+pub fn raise_size<S: Store>(
+    alloc: Global,
+    store: &mut S,
+    fs: Fs,
+    number: u16,
+    size: u32,
+    after: EditId,
+) -> Result<(), FfsFault>
+    ensures types { S.types_of store.new ≡ S.types_of store.old }
+    ensures keeps { Keeps (S.types_of store.old) fs.number (S.state_of store.old) (S.state_of store.new) }
+{
+    let Found {
+        block,
+        place,
+        mut inode,
+    } = find_file(store, fs, number)?;
+    if inode.size() < size {
+        inode.set_size(size);
+        let edit = edits::change(alloc, INODE_LEN * place, inode.bytes(), Some(after))?;
+        let _ = store.propose(fs, block, &edit)?;
+    }
+    Ok(())
+}

@@ -1,0 +1,47 @@
+// Why a call of a volume did not do what it was asked.
+
+ghost use Rattle.ffs_lib.specs.declared.fault.FfsFault.TheVariants.{Kernel};
+ghost use Rattle.xn_model.specs.declared.refusal.Refusal.TheVariants.{NoMemory};
+ghost use Rattle.std.specs.Prelude.{◌≡◌};
+
+use std::alloc::AllocError;
+use xn_model::Refusal;
+
+/// Why a call of a volume was refused.
+#[derive(Clone, Copy, Debug, PartialEq, Eq)]
+pub enum FfsFault {
+    /// No inode in use has this number, or the directory has no such name, or there is no volume.
+    NoEntry,
+    /// The directory has the name already, or there is a volume already.
+    Exists,
+    /// The inode is no directory.
+    NotDir,
+    /// The inode is a directory.
+    IsDir,
+    /// The directory has entries.
+    DirNotEmpty,
+    /// These bytes are no name.
+    BadName,
+    /// More than a file, a directory or a count of links may have.
+    TooLarge,
+    /// No inode is free.
+    NoInode,
+    /// The store refused a call, or there was no memory. What was done before stands.
+    Kernel(Refusal),
+}
+
+impl From<Refusal> for FfsFault {
+    ghost from_gives = { λ refusal fault. fault ≡ Kernel refusal };
+
+    fn from(refusal: Refusal) -> FfsFault {
+        FfsFault::Kernel(refusal)
+    }
+}
+
+impl From<AllocError> for FfsFault {
+    ghost from_gives = { λ _ fault. fault ≡ Kernel NoMemory };
+
+    fn from(_: AllocError) -> FfsFault {
+        FfsFault::Kernel(Refusal::NoMemory)
+    }
+}

@@ -1,0 +1,14 @@
+//! A library file system over a store: files and directories by name, whose names stay good in every image that a crash may
+//! leave.
+#![tactic(auto)]
+
+mod data;
+mod edits;
+mod fault;
+mod places;
+mod steps;
+mod volume;
+
+pub use edit_list::{EditId, Fs};
+pub use fault::FfsFault;
+pub use volume::Volume;

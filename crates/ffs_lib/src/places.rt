@@ -1,0 +1,285 @@
+// Where inodes and entries stand.
+
+ghost use Rattle.std.specs.Prelude.{◌≡◌, ◌≢◌, ◌<◌, ◌≤◌, ◌*◌, length, IfOk, IfSome};
+ghost use Rattle.ffs_model.specs.Cuts.{latest};
+ghost use Rattle.ffs_model.specs.Names.{IsRoot, IsInodes};
+ghost use Rattle.ffs_model.specs.Library.{library_layout, half_at, inode_at, inode_mode};
+ghost use Rattle.ffs_lib.specs.Places.{IsFound, IsDirectory, IsFile, IsFree, IsEmptyPointer, IsSlot, IsRoom};
+
+use crate::fault::FfsFault;
+use edit_list::Fs;
+use ffs_format::inodes::DIRECT_POINTERS;
+use ffs_format::{ENTRIES, INODES, Inode, entry_inode, entry_name, home, pointer};
+use xn_state::Store;
+
+/// The type of a file system's root block.
+pub const ROOT: u32 = 3;
+
+/// How many inode blocks a root block points to.
+pub const INODE_BLOCKS: usize = 16;
+
+/// The mode of a directory's inode.
+pub const DIRECTORY: u16 = 2;
+
+/// How many inodes there may be.
+const MOST_INODES: u16 = 128;
+
+/// An inode in use, and where it stands: its block and its place there.
+#[derive(Drop)]
+pub struct Found {
+    pub block: u32,
+    pub place: usize,
+    pub inode: Inode,
+}
+
+/// An entry of a directory: its block, its place there, and the inode that it names.
+#[derive(Clone, Copy)]
+pub struct Slot {
+    pub block: u32,
+    pub place: usize,
+    pub inode: u16,
+}
+
+/// A free inode: its number, its block and its place there.
+#[derive(Clone, Copy)]
+pub struct Free {
+    pub number: u16,
+    pub block: u32,
+    pub place: usize,
+}
+
+/// Where a directory has room for an entry.
+#[derive(Clone, Copy)]
+pub enum Room {
+    /// In one of its blocks, at a place.
+    Entry { block: u32, place: usize },
+    /// In a block that is to be its next one, at this one of its pointers.
+    Pointer(usize),
+}
+
+/// A block of a disk has 512 bytes.
+fn is_whole(block: &[u8; 512])
+    ensures { length block.now ≡ 512 }
+{
+    let _ = block;
+}
+
+/// The newest bytes of a block.
+pub fn read_block<S: Store>(store: &S, fs: Fs, block: u32) -> Result<&[u8; 512], FfsFault>
+    ensures bytes { IfOk result (λ bytes. latest (S.state_of store.now).lives block ≡ bytes.now) }
+    ensures whole { IfOk result (λ bytes. length bytes.now ≡ 512) }
+{
+    let bytes = store.read(fs, block)?;
+    is_whole(bytes);
+    Ok(bytes)
+}
+
+/// The root block.
+pub fn root_block<S: Store>(store: &S, fs: Fs) -> Result<u32, FfsFault>
+    ensures { IfOk result (λ root. IsRoot (latest (S.state_of store.now).lives) fs.number root) }
+{
+    let Some(root) = store.root(fs) else {
+        return Err(FfsFault::NoEntry);
+    };
+    if store.kind(fs, root)? == ROOT {
+        Ok(root)
+    } else {
+        Err(FfsFault::NoEntry)
+    }
+}
+
+/// The inode block at an index, 0 to 15, of the root block.
+pub fn inode_block<S: Store>(store: &S, fs: Fs, index: usize) -> Result<u32, FfsFault>
+    requires { index < 16 }
+    ensures { IfOk result (λ block. IsInodes library_layout (latest (S.state_of store.now).lives) fs.number index block) }
+{
+    let root = root_block(store, fs)?;
+    let block = pointer(read_block(store, fs, root)?, index);
+    if block == 0 {
+        Err(FfsFault::NoEntry)
+    } else {
+        Ok(block)
+    }
+}
+
+/// The inode of this number, if it is in use.
+pub fn find_inode<S: Store>(store: &S, fs: Fs, number: u16) -> Result<Found, FfsFault>
+    ensures { IfOk result (λ found. IsFound (S.state_of store.now) fs.number number found) }
+{
+    if number == 0 || number > MOST_INODES {
+        return Err(FfsFault::NoEntry);
+    }
+    let (index, place) = home(number);
+    let block = inode_block(store, fs, index)?;
+    let inode = Inode::read(read_block(store, fs, block)?, place);
+    if inode.mode() == 0 {
+        return Err(FfsFault::NoEntry);
+    }
+    Ok(Found {
+        block,
+        place,
+        inode,
+    })
+}
+
+/// The directory of this number.
+pub fn find_directory<S: Store>(store: &S, fs: Fs, number: u16) -> Result<Found, FfsFault>
+    ensures { IfOk result (λ found. IsDirectory (S.state_of store.now) fs.number number found) }
+{
+    let found = find_inode(store, fs, number)?;
+    if found.inode.mode() == DIRECTORY {
+        Ok(found)
+    } else {
+        Err(FfsFault::NotDir)
+    }
+}
+
+/// The file of this number.
+pub fn find_file<S: Store>(store: &S, fs: Fs, number: u16) -> Result<Found, FfsFault>
+    ensures { IfOk result (λ found. IsFile (S.state_of store.now) fs.number number found) }
+{
+    let found = find_inode(store, fs, number)?;
+    if found.inode.mode() == DIRECTORY {
+        Err(FfsFault::IsDir)
+    } else {
+        Ok(found)
+    }
+}
+
+/// The place of the entry with this name in a directory's block.
+fn entry_in(block: &[u8; 512], name: &[u8]) -> Option<usize>
+    ensures { IfSome result (λ place. (place < 16) × (half_at block.now (32 * place) ≢ 0)) }
+{
+    for place in 0..ENTRIES {
+        if entry_inode(block, place) != 0 && entry_name(block, place) == name {
+            return Some(place);
+        }
+    }
+    None
+}
+
+/// The first place without an entry in a directory's block.
+fn gap_in(block: &[u8; 512]) -> Option<usize>
+    ensures { IfSome result (λ place. place < 16) }
+{
+    (0..ENTRIES).find(|place| entry_inode(block, *place) == 0)
+}
+
+/// The entry of a directory that has this name, if there is one.
+pub fn find_entry<S: Store>(
+    store: &S,
+    fs: Fs,
+    directory: &Found,
+    number: u16,
+    name: &[u8],
+) -> Result<Option<Slot>, FfsFault>
+    requires { IsDirectory (S.state_of store.now) fs.number number directory.now }
+    ensures { IfOk result (λ entry. IfSome entry (λ slot. IsSlot (S.state_of store.now) fs.number slot)) }
+{
+    for i in 0..DIRECT_POINTERS {
+        let block = directory.inode.direct(i);
+        if block == 0 {
+            continue;
+        }
+        let bytes = read_block(store, fs, block)?;
+        if let Some(place) = entry_in(bytes, name) {
+            let inode = entry_inode(bytes, place);
+            return Ok(Some(Slot {
+                block,
+                place,
+                inode,
+            }));
+        }
+    }
+    Ok(None)
+}
+
+/// Where a directory has room for an entry: at its first place without one, or at its first empty pointer.
+pub fn find_room<S: Store>(
+    store: &S,
+    fs: Fs,
+    directory: &Found,
+    number: u16,
+) -> Result<Room, FfsFault>
+    requires { IsDirectory (S.state_of store.now) fs.number number directory.now }
+    ensures { IfOk result (λ room. IsRoom (S.state_of store.now) directory.now room) }
+{
+    for i in 0..DIRECT_POINTERS {
+        let block = directory.inode.direct(i);
+        if block == 0 {
+            continue;
+        }
+        if let Some(place) = gap_in(read_block(store, fs, block)?) {
+            return Ok(Room::Entry { block, place });
+        }
+    }
+    for i in 0..DIRECT_POINTERS {
+        if directory.inode.direct(i) == 0 {
+            return Ok(Room::Pointer(i));
+        }
+    }
+    Err(FfsFault::TooLarge)
+}
+
+/// Whether a directory has no entry.
+pub fn is_empty<S: Store>(store: &S, fs: Fs, directory: &Found) -> Result<bool, FfsFault> {
+    for i in 0..DIRECT_POINTERS {
+        let block = directory.inode.direct(i);
+        if block == 0 {
+            continue;
+        }
+        let bytes = read_block(store, fs, block)?;
+        if (0..ENTRIES).any(|place| entry_inode(bytes, place) != 0) {
+            return Ok(false);
+        }
+    }
+    Ok(true)
+}
+
+/// The first place of an inode block whose inode is free.
+fn free_in(block: &[u8; 512]) -> Option<usize>
+    ensures { IfSome result (λ place. (place < 8) × (inode_mode (inode_at block.now place) ≡ 0)) }
+{
+    for place in 0..INODES {
+        if Inode::read(block, place).mode() == 0 {
+            return Some(place);
+        }
+    }
+    None
+}
+
+/// The free inode of the lowest number in the inode blocks that there are.
+pub fn find_free<S: Store>(store: &S, fs: Fs) -> Result<Option<Free>, FfsFault>
+    ensures { IfOk result (λ found. IfSome found (λ free. IsFree (S.state_of store.now) fs.number free)) }
+{
+    let root = root_block(store, fs)?;
+    for index in 0..INODE_BLOCKS {
+        let block = pointer(read_block(store, fs, root)?, index);
+        if block == 0 {
+            continue;
+        }
+        if let Some(place) = free_in(read_block(store, fs, block)?) {
+            let number = (INODES * index + place + 1) as u16;
+            return Ok(Some(Free {
+                number,
+                block,
+                place,
+            }));
+        }
+    }
+    Ok(None)
+}
+
+/// The first empty pointer of the root block.
+pub fn find_pointer<S: Store>(store: &S, fs: Fs) -> Result<usize, FfsFault>
+    ensures { IfOk result (λ index. IsEmptyPointer (S.state_of store.now) fs.number index) }
+{
+    let root = root_block(store, fs)?;
+    let bytes = read_block(store, fs, root)?;
+    for index in 0..INODE_BLOCKS {
+        if pointer(bytes, index) == 0 {
+            return Ok(index);
+        }
+    }
+    Err(FfsFault::NoInode)
+}

@@ -1,0 +1,509 @@
+// A volume: the files and directories of a file system.
+
+ghost use Rattle.std.specs.Prelude.{◌≡◌, ◌≢◌, ◌<◌, ℕ, length, Contains, IfOk, OnOk, OnErr, IfSome, IsTrue};
+ghost use Rattle.ffs_format.specs.Entries.{is_name};
+ghost use Rattle.ffs_model.specs.Cuts.{latest};
+ghost use Rattle.ffs_model.specs.Names.{IsInodes};
+ghost use Rattle.ffs_model.specs.Library.{library_layout};
+ghost use Rattle.ffs_model.specs.Volumes.{VolumeKeeps, no_edits};
+ghost use Rattle.ffs_lib.specs.Places.{IsFree, IsSlot};
+ghost use Rattle.ffs_lib.specs.Outcomes.{Keeps, Leaves, Roots, Starts};
+
+use crate::data::{BLOCK_LEN, FILE_BLOCKS, raise_size, write_block};
+use crate::edits;
+use crate::fault::FfsFault;
+use crate::places::{
+    DIRECTORY, Free, INODE_BLOCKS, ROOT, Slot, find_directory, find_entry, find_file, find_free,
+    find_inode, find_pointer, find_room, inode_block, is_empty, read_block, root_block,
+};
+use crate::steps::{
+    INODE_BLOCK, add_inodes, add_link, block_with, clear_entry, drop_data, enter, forgotten,
+    free_inode, make_inode, take_link,
+};
+use edit_list::{EditId, Fs};
+use ffs_format::inodes::{DIRECT_POINTERS, INODES};
+use ffs_format::{ENTRIES, Inode, entry_inode, entry_name, is_name, pointer, pointer_bytes};
+use std::alloc::{AllocError, Global};
+use xn_model::Refusal;
+use xn_state::Store;
+
+/// The mode of a file's inode.
+const FILE: u16 = 1;
+
+/// How many bytes a file has at most.
+const MOST_BYTES: usize = BLOCK_LEN * FILE_BLOCKS;
+
+/// A volume of a store: which file system it is, and by which edits it added inode blocks that no inode stands behind yet.
+#[derive(Drop)]
+pub struct Volume {
+    fs: Fs,
+    added: [Option<EditId>; 16],
+}
+
+/// A volume has a place for the number of each inode block.
+fn has_places(added: &[Option<EditId>; 16])
+    ensures { length added.now ≡ 16 }
+{
+    let _ = added;
+}
+
+/// Whether a root block is there, without any inode block.
+fn is_begun<S: Store>(store: &S, fs: Fs) -> Result<bool, FfsFault> {
+    let Some(root) = store.root(fs) else {
+        return Ok(false);
+    };
+    if store.kind(fs, root)? != ROOT {
+        return Err(FfsFault::Kernel(Refusal::RootTaken));
+    }
+    if pointer(store.read(fs, root)?, 0) != 0 {
+        return Err(FfsFault::Exists);
+    }
+    Ok(true)
+}
+
+/// The first inode block, with the top directory, which has no block yet.
+fn first_inodes() -> [u8; 512]
+    ensures { (p block : ℕ) → Contains (library_layout.direct result p) block → ⊥ }
+{
+    let mut inode = Inode::free();
+    inode.set_mode(DIRECTORY);
+    inode.set_links(1);
+    block_with(inode.bytes())
+}
+
+/// Sets the root slot to a root block without pointers.
+fn set_root<S: Store>(store: &mut S, fs: Fs, block: u32) -> Result<(), FfsFault>
+    ensures types { S.types_of store.new ≡ S.types_of store.old }
+    ensures ok { OnOk result (Roots (S.types_of store.old) fs.number (S.state_of store.old) (S.state_of store.new) block) }
+    ensures err { OnErr result (S.state_of store.new ≡ S.state_of store.old) }
+{
+    let _ = store.make_root(fs, block)?;
+    Ok(())
+}
+
+/// Makes a root block without pointers, and sets the root slot to it.
+fn make_root<S: Store>(store: &mut S, fs: Fs) -> Result<(), FfsFault>
+    ensures types { S.types_of store.new ≡ S.types_of store.old }
+    ensures keeps { Keeps (S.types_of store.old) fs.number (S.state_of store.old) (S.state_of store.new) }
+    ensures ok { OnOk result (Leaves (S.types_of store.old) fs.number (S.state_of store.old) (S.state_of store.new)) }
+{
+    let (block, _) = store.init(fs, ROOT, &[0; 512])?;
+    let made = set_root(store, fs, block);
+    forgotten(store, fs, block, made)
+}
+
+/// Sees to it that there is a root block.
+fn prepare_root<S: Store>(store: &mut S, fs: Fs, begun: bool) -> Result<(), FfsFault>
+    ensures types { S.types_of store.new ≡ S.types_of store.old }
+    ensures keeps { Keeps (S.types_of store.old) fs.number (S.state_of store.old) (S.state_of store.new) }
+    ensures ok { OnOk result (Leaves (S.types_of store.old) fs.number (S.state_of store.old) (S.state_of store.new)) }
+{
+    if begun { Ok(()) } else { make_root(store, fs) }
+}
+
+/// Sets the first pointer of the root block, which is empty.
+fn attach_first<S: Store>(alloc: Global, store: &mut S, fs: Fs, block: u32) -> Result<(), FfsFault>
+    ensures types { S.types_of store.new ≡ S.types_of store.old }
+    ensures ok { OnOk result (Starts (S.types_of store.old) fs.number (S.state_of store.old) (S.state_of store.new) block) }
+    ensures err { OnErr result (S.state_of store.new ≡ S.state_of store.old) }
+{
+    let root = root_block(store, fs)?;
+    if pointer(read_block(store, fs, root)?, 0) != 0 {
+        return Err(FfsFault::Exists);
+    }
+    let edit = edits::addition(alloc, 0, &pointer_bytes(block), (block, INODE_BLOCK), None)?;
+    let _ = store.propose(fs, root, &edit)?;
+    Ok(())
+}
+
+impl Volume {
+    ghost use Rattle.ffs_lib.specs.Volumes.{IsVolume, MayOpen};
+
+    /// Makes the volume of a file system that has none, or has one half made.
+    pub fn make<S: Store>(alloc: Global, store: &mut S, fs: Fs) -> Result<Volume, FfsFault>
+        requires { MayOpen (S.types_of store.old) (S.state_of store.old) fs.number }
+        ensures types { S.types_of store.new ≡ S.types_of store.old }
+        ensures ok { IfOk result (λ volume. IsVolume (S.types_of store.old) (S.state_of store.new) volume) }
+        ensures fs { IfOk result (λ volume. volume.fs ≡ fs) }
+        ensures err { OnErr result (VolumeKeeps (S.types_of store.old) library_layout fs.number no_edits (S.state_of store.new)) }
+    {
+        let begun = is_begun(store, fs)?;
+        let (block, _) = store.init(fs, INODE_BLOCK, &first_inodes())?;
+        prepare_root(store, fs, begun)?;
+        let attached = attach_first(alloc, store, fs, block);
+        forgotten(store, fs, block, attached)?;
+        Ok(Volume {
+            fs,
+            added: [None; 16],
+        })
+    }
+
+    /// The volume of a file system that has one.
+    pub fn open<S: Store>(store: &S, fs: Fs) -> Result<Volume, FfsFault>
+        requires { MayOpen (S.types_of store.now) (S.state_of store.now) fs.number }
+        ensures ok { IfOk result (λ volume. IsVolume (S.types_of store.now) (S.state_of store.now) volume) }
+        ensures fs { IfOk result (λ volume. volume.fs ≡ fs) }
+        ensures found { OnOk result ((block : ℕ) × IsInodes library_layout (latest (S.state_of store.now).lives) fs.number 0 block) }
+    {
+        let _ = inode_block(store, fs, 0)?;
+        Ok(Volume {
+            fs,
+            added: [None; 16],
+        })
+    }
+
+    /// Makes a file in a directory, and answers its inode.
+    pub fn create<S: Store>(
+        &mut self,
+        alloc: Global,
+        store: &mut S,
+        directory: u16,
+        name: &[u8],
+    ) -> Result<u16, FfsFault>
+        requires volume { IsVolume (S.types_of store.old) (S.state_of store.old) self.old }
+        ensures types { S.types_of store.new ≡ S.types_of store.old }
+        ensures fs { self.new.fs ≡ self.old.fs }
+        ensures keeps { IsVolume (S.types_of store.old) (S.state_of store.new) self.new }
+    {
+        self.make_entry(alloc, store, directory, name, FILE)
+    }
+
+    /// Makes a directory in a directory, and answers its inode.
+    pub fn mkdir<S: Store>(
+        &mut self,
+        alloc: Global,
+        store: &mut S,
+        directory: u16,
+        name: &[u8],
+    ) -> Result<u16, FfsFault>
+        requires volume { IsVolume (S.types_of store.old) (S.state_of store.old) self.old }
+        ensures types { S.types_of store.new ≡ S.types_of store.old }
+        ensures fs { self.new.fs ≡ self.old.fs }
+        ensures keeps { IsVolume (S.types_of store.old) (S.state_of store.new) self.new }
+    {
+        self.make_entry(alloc, store, directory, name, DIRECTORY)
+    }
+
+    /// Makes an inode of a mode, and names it.
+    fn make_entry<S: Store>(
+        &mut self,
+        alloc: Global,
+        store: &mut S,
+        directory: u16,
+        name: &[u8],
+        mode: u16,
+    ) -> Result<u16, FfsFault>
+        requires volume { IsVolume (S.types_of store.old) (S.state_of store.old) self.old }
+        requires used { mode ≢ 0 }
+        ensures types { S.types_of store.new ≡ S.types_of store.old }
+        ensures fs { self.new.fs ≡ self.old.fs }
+        ensures keeps { IsVolume (S.types_of store.old) (S.state_of store.new) self.new }
+    {
+        let found = find_directory(store, self.fs, directory)?;
+        if !is_name(name) {
+            return Err(FfsFault::BadName);
+        }
+        if find_entry(store, self.fs, &found, directory, name)?.is_some() {
+            return Err(FfsFault::Exists);
+        }
+        let free = find_free(store, self.fs)?;
+        if free.is_none() {
+            let _ = find_pointer(store, self.fs)?;
+        }
+        let _ = find_room(store, self.fs, &found, directory)?;
+        let free = self.take_free(alloc, store, free)?;
+        self.name_inode(alloc, store, directory, name, mode, free)?;
+        Ok(free.number)
+    }
+
+    /// The free inode that was found, or the first one of a new inode block.
+    fn take_free<S: Store>(
+        &mut self,
+        alloc: Global,
+        store: &mut S,
+        found: Option<Free>,
+    ) -> Result<Free, FfsFault>
+        requires volume { IsVolume (S.types_of store.old) (S.state_of store.old) self.old }
+        requires free { IfSome found (λ free. IsFree (S.state_of store.old) self.old.fs.number free) }
+        ensures types { S.types_of store.new ≡ S.types_of store.old }
+        ensures fs { self.new.fs ≡ self.old.fs }
+        ensures keeps { IsVolume (S.types_of store.old) (S.state_of store.new) self.new }
+        ensures free { IfOk result (λ free. IsFree (S.state_of store.new) self.old.fs.number free) }
+    {
+        match found {
+            Some(free) => Ok(free),
+            None => self.add_inodes(alloc, store),
+        }
+    }
+
+    /// Takes a free inode into use, and names it.
+    fn name_inode<S: Store>(
+        &mut self,
+        alloc: Global,
+        store: &mut S,
+        directory: u16,
+        name: &[u8],
+        mode: u16,
+        free: Free,
+    ) -> Result<(), FfsFault>
+        requires volume { IsVolume (S.types_of store.old) (S.state_of store.old) self.old }
+        requires free { IsFree (S.state_of store.old) self.old.fs.number free }
+        requires name { IsTrue (is_name name.now) }
+        requires used { mode ≢ 0 }
+        ensures types { S.types_of store.new ≡ S.types_of store.old }
+        ensures fs { self.new.fs ≡ self.old.fs }
+        ensures keeps { IsVolume (S.types_of store.old) (S.state_of store.new) self.new }
+    {
+        has_places(&self.added);
+        let index = usize::from(free.number - 1) / INODES;
+        let made = make_inode(alloc, store, self.fs, free, mode, self.added[index])?;
+        let _ = enter(alloc, store, self.fs, directory, free.number, name, made)?;
+        self.added[index] = None;
+        Ok(())
+    }
+
+    /// Makes an inode block, and answers its first inode.
+    fn add_inodes<S: Store>(&mut self, alloc: Global, store: &mut S) -> Result<Free, FfsFault>
+        requires { IsVolume (S.types_of store.old) (S.state_of store.old) self.old }
+        ensures types { S.types_of store.new ≡ S.types_of store.old }
+        ensures fs { self.new.fs ≡ self.old.fs }
+        ensures keeps { IsVolume (S.types_of store.old) (S.state_of store.new) self.new }
+        ensures free { IfOk result (λ free. IsFree (S.state_of store.new) self.old.fs.number free) }
+    {
+        has_places(&self.added);
+        let (index, block, entry) = add_inodes(alloc, store, self.fs)?;
+        self.added[index] = Some(entry);
+        Ok(Free {
+            number: (INODES * index + 1) as u16,
+            block,
+            place: 0,
+        })
+    }
+
+    /// Writes bytes into a file from an offset on.
+    pub fn write<S: Store>(
+        &self,
+        alloc: Global,
+        store: &mut S,
+        inode: u16,
+        offset: u32,
+        bytes: &[u8],
+    ) -> Result<(), FfsFault>
+        requires volume { IsVolume (S.types_of store.old) (S.state_of store.old) self.now }
+        ensures types { S.types_of store.new ≡ S.types_of store.old }
+        ensures keeps { IsVolume (S.types_of store.old) (S.state_of store.new) self.now }
+    {
+        let _ = find_file(store, self.fs, inode)?;
+        let start = offset as usize;
+        if start > MOST_BYTES || bytes.len() > MOST_BYTES - start {
+            return Err(FfsFault::TooLarge);
+        }
+        let mut at = start;
+        let mut rest = bytes;
+        let mut last = None;
+        while !rest.is_empty() {
+            let within = at % BLOCK_LEN;
+            let length = rest.len().min(BLOCK_LEN - within);
+            let (part, more) = rest.split_at(length);
+            last = Some(write_block(alloc, store, self.fs, inode, at / BLOCK_LEN, within, part)?);
+            at += length;
+            rest = more;
+        }
+        match last {
+            Some(last) => raise_size(alloc, store, self.fs, inode, at as u32, last),
+            None => Ok(()),
+        }
+    }
+
+    /// Reads a file from an offset on, and answers how many bytes there were.
+    pub fn read<S: Store>(
+        &self,
+        store: &S,
+        inode: u16,
+        offset: u32,
+        bytes: &mut [u8],
+    ) -> Result<usize, FfsFault> {
+        let file = find_file(store, self.fs, inode)?.inode;
+        let end = (file.size() as usize).min(MOST_BYTES);
+        let start = offset as usize;
+        let mut done = 0;
+        while done < bytes.len() && start + done < end {
+            let at = start + done;
+            let within = at % BLOCK_LEN;
+            let length = (BLOCK_LEN - within).min(end - at).min(bytes.len() - done);
+            let index = at / BLOCK_LEN;
+            let block = if index < DIRECT_POINTERS {
+                file.direct(index)
+            } else if file.indirect() == 0 {
+                0
+            } else {
+                pointer(
+                    store.read(self.fs, file.indirect())?,
+                    index - DIRECT_POINTERS,
+                )
+            };
+            if block == 0 {
+                bytes[done..done + length].fill(0);
+            } else {
+                let data = store.read(self.fs, block)?;
+                bytes[done..done + length].copy_from_slice(&data[within..within + length]);
+            }
+            done += length;
+        }
+        Ok(done)
+    }
+
+    /// The entry of a directory that has a name.
+    fn named<S: Store>(&self, store: &S, directory: u16, name: &[u8]) -> Result<Slot, FfsFault>
+        ensures { IfOk result (λ slot. IsSlot (S.state_of store.now) self.now.fs.number slot) }
+    {
+        let found = find_directory(store, self.fs, directory)?;
+        if !is_name(name) {
+            return Err(FfsFault::BadName);
+        }
+        find_entry(store, self.fs, &found, directory, name)?.ok_or(FfsFault::NoEntry)
+    }
+
+    /// Takes a file's name from a directory, and gives the file up with its last name.
+    pub fn unlink<S: Store>(
+        &self,
+        alloc: Global,
+        store: &mut S,
+        directory: u16,
+        name: &[u8],
+    ) -> Result<(), FfsFault>
+        requires volume { IsVolume (S.types_of store.old) (S.state_of store.old) self.now }
+        ensures types { S.types_of store.new ≡ S.types_of store.old }
+        ensures keeps { IsVolume (S.types_of store.old) (S.state_of store.new) self.now }
+    {
+        let slot = self.named(store, directory, name)?;
+        let _ = find_file(store, self.fs, slot.inode)?;
+        self.remove(alloc, store, slot)
+    }
+
+    /// Takes an empty directory's name from a directory, and gives it up.
+    pub fn rmdir<S: Store>(
+        &self,
+        alloc: Global,
+        store: &mut S,
+        directory: u16,
+        name: &[u8],
+    ) -> Result<(), FfsFault>
+        requires volume { IsVolume (S.types_of store.old) (S.state_of store.old) self.now }
+        ensures types { S.types_of store.new ≡ S.types_of store.old }
+        ensures keeps { IsVolume (S.types_of store.old) (S.state_of store.new) self.now }
+    {
+        let slot = self.named(store, directory, name)?;
+        let found = find_directory(store, self.fs, slot.inode)?;
+        if !is_empty(store, self.fs, &found)? {
+            return Err(FfsFault::DirNotEmpty);
+        }
+        self.remove(alloc, store, slot)
+    }
+
+    /// Clears an entry, and takes a link from its inode, or gives that up with its last link.
+    fn remove<S: Store>(&self, alloc: Global, store: &mut S, slot: Slot) -> Result<(), FfsFault>
+        requires volume { IsVolume (S.types_of store.old) (S.state_of store.old) self.now }
+        requires entry { IsSlot (S.state_of store.old) self.now.fs.number slot }
+        ensures types { S.types_of store.new ≡ S.types_of store.old }
+        ensures keeps { IsVolume (S.types_of store.old) (S.state_of store.new) self.now }
+    {
+        let cleared = clear_entry(alloc, store, self.fs, slot, None)?;
+        let links = find_inode(store, self.fs, slot.inode)?.inode.links();
+        if links > 1 {
+            let _ = take_link(alloc, store, self.fs, slot.inode, cleared)?;
+            return Ok(());
+        }
+        let dropped = drop_data(alloc, store, self.fs, slot.inode, cleared)?;
+        let _ = free_inode(alloc, store, self.fs, slot.inode, dropped)?;
+        Ok(())
+    }
+
+    /// Gives a file another name, or a directory one in the same directory.
+    pub fn rename<S: Store>(
+        &self,
+        alloc: Global,
+        store: &mut S,
+        directory: u16,
+        name: &[u8],
+        other: u16,
+        new_name: &[u8],
+    ) -> Result<(), FfsFault>
+        requires volume { IsVolume (S.types_of store.old) (S.state_of store.old) self.now }
+        ensures types { S.types_of store.new ≡ S.types_of store.old }
+        ensures keeps { IsVolume (S.types_of store.old) (S.state_of store.new) self.now }
+    {
+        let from = find_inode(store, self.fs, directory)?;
+        let to = find_inode(store, self.fs, other)?;
+        if from.inode.mode() != DIRECTORY || to.inode.mode() != DIRECTORY {
+            return Err(FfsFault::NotDir);
+        }
+        if !is_name(name) || !is_name(new_name) {
+            return Err(FfsFault::BadName);
+        }
+        let slot = find_entry(store, self.fs, &from, directory, name)?.ok_or(FfsFault::NoEntry)?;
+        if find_entry(store, self.fs, &to, other, new_name)?.is_some() {
+            return Err(FfsFault::Exists);
+        }
+        let found = find_inode(store, self.fs, slot.inode)?;
+        if found.inode.mode() == DIRECTORY && directory != other {
+            return Err(FfsFault::IsDir);
+        }
+        if found.inode.links() == u16::MAX {
+            return Err(FfsFault::TooLarge);
+        }
+        let _ = find_room(store, self.fs, &to, other)?;
+        self.move_entry(alloc, store, directory, name, slot.inode, other, new_name)
+    }
+
+    /// Names an inode a second time, and takes the first name and its link.
+    fn move_entry<S: Store>(
+        &self,
+        alloc: Global,
+        store: &mut S,
+        directory: u16,
+        name: &[u8],
+        inode: u16,
+        other: u16,
+        new_name: &[u8],
+    ) -> Result<(), FfsFault>
+        requires volume { IsVolume (S.types_of store.old) (S.state_of store.old) self.now }
+        requires name { IsTrue (is_name new_name.now) }
+        requires some { inode ≢ 0 }
+        ensures types { S.types_of store.new ≡ S.types_of store.old }
+        ensures keeps { IsVolume (S.types_of store.old) (S.state_of store.new) self.now }
+    {
+        let added = add_link(alloc, store, self.fs, inode)?;
+        let entered = enter(alloc, store, self.fs, other, inode, new_name, added)?;
+        let slot = self.named(store, directory, name)?;
+        let cleared = clear_entry(alloc, store, self.fs, slot, Some(entered))?;
+        let _ = take_link(alloc, store, self.fs, slot.inode, cleared)?;
+        Ok(())
+    }
+
+    /// The names in a directory and their inodes, by block and place.
+    pub fn list<S: Store>(
+        &self,
+        alloc: Global,
+        store: &S,
+        directory: u16,
+    ) -> Result<Vec<(Vec<u8>, u16)>, FfsFault> {
+        let found = find_directory(store, self.fs, directory)?;
+        let mut names = Vec::new(alloc);
+        for i in 0..DIRECT_POINTERS {
+            let block = found.inode.direct(i);
+            if block == 0 {
+                continue;
+            }
+            let bytes = store.read(self.fs, block)?;
+            for place in 0..ENTRIES {
+                let inode = entry_inode(bytes, place);
+                if inode != 0 {
+                    let name = entry_name(bytes, place).to_vec(alloc)?;
+                    names.push((name, inode)).map_err(AllocError::from)?;
+                }
+            }
+        }
+        Ok(names)
+    }
+}
