@@ -119,7 +119,10 @@ fn attach_first<S: Store>(alloc: Global, store: &mut S, fs: Fs, block: u32) -> R
 impl Volume {
     ghost use Rattle.ffs_lib.specs.Volumes.{IsVolume, MayOpen};
 
-    /// Makes the volume of a file system that has none, or has one half made.
+    /// Makes the volume of a file system that has none, or has one half made: a root block, and a first block of inodes with
+    /// inode 1, the top directory. Before any edit it answers `Exists` where there is a volume, and `Kernel(RootTaken)` where the
+    /// root slot names a block of another type. Any refusal of the store is `Kernel`; what was done before it stands, and
+    /// another `make` finishes it.
     pub fn make<S: Store>(alloc: Global, store: &mut S, fs: Fs) -> Result<Volume, FfsFault>
         requires { MayOpen (S.types_of store.old) (S.state_of store.old) fs.number }
         ensures types { S.types_of store.new ≡ S.types_of store.old }
@@ -138,7 +141,7 @@ impl Volume {
         })
     }
 
-    /// The volume of a file system that has one.
+    /// The volume of a file system that has one, as after a mount; `NoEntry` where there is none.
     pub fn open<S: Store>(store: &S, fs: Fs) -> Result<Volume, FfsFault>
         requires { MayOpen (S.types_of store.now) (S.state_of store.now) fs.number }
         ensures ok { IfOk result (λ volume. IsVolume (S.types_of store.now) (S.state_of store.now) volume) }
@@ -152,7 +155,9 @@ impl Volume {
         })
     }
 
-    /// Makes a file in a directory, and answers its inode.
+    /// Makes an empty file in a directory, and answers its inode, the lowest free one of 1 to 128. Before any edit it answers, in this
+    /// order, `NoEntry` or `NotDir` of the directory, `BadName`, `Exists`, `NoInode` where all are in use, `TooLarge` where the
+    /// directory has no room. Any refusal of the store is `Kernel`; what was done before it stands.
     pub fn create<S: Store>(
         &mut self,
         alloc: Global,
@@ -168,7 +173,7 @@ impl Volume {
         self.make_entry(alloc, store, directory, name, FILE)
     }
 
-    /// Makes a directory in a directory, and answers its inode.
+    /// Makes an empty directory in a directory, and answers its inode, with the faults of `create`.
     pub fn mkdir<S: Store>(
         &mut self,
         alloc: Global,
@@ -280,7 +285,9 @@ impl Volume {
         })
     }
 
-    /// Writes bytes into a file from an offset on.
+    /// Writes bytes into a file from an offset on, block after block; a file has at most 71,680 bytes, and what lies between its end and the offset
+    /// is zeros. Before any edit it answers `NoEntry` or `IsDir` of the inode, then `TooLarge`. Any refusal of the store is
+    /// `Kernel`; the blocks before it are written.
     pub fn write<S: Store>(
         &self,
         alloc: Global,
@@ -315,7 +322,8 @@ impl Volume {
         }
     }
 
-    /// Reads a file from an offset on, and answers how many bytes there were.
+    /// Reads a file from an offset on, up to its size, and answers how many bytes there were. Holes are zeros. Faults are `NoEntry`
+    /// and `IsDir` of the inode.
     pub fn read<S: Store>(
         &self,
         store: &S,
@@ -364,7 +372,9 @@ impl Volume {
         find_entry(store, self.fs, &found, directory, name)?.ok_or(FfsFault::NoEntry)
     }
 
-    /// Takes a file's name from a directory, and gives the file up with its last name.
+    /// Takes a file's name from a directory, and gives the file up with its last name. Before any edit it answers, in this order,
+    /// `NoEntry` or `NotDir` of the directory, `BadName`, `NoEntry` of the name, `IsDir`. Any refusal of the store is `Kernel`; what was
+    /// done before it stands, so a file may be left without a name.
     pub fn unlink<S: Store>(
         &self,
         alloc: Global,
@@ -381,7 +391,8 @@ impl Volume {
         self.remove(alloc, store, slot)
     }
 
-    /// Takes an empty directory's name from a directory, and gives it up.
+    /// Takes an empty directory's name from a directory, and gives it up, with the faults of `unlink`, but `NotDir` where the name is a
+    /// file's, and then `DirNotEmpty`.
     pub fn rmdir<S: Store>(
         &self,
         alloc: Global,
@@ -419,7 +430,10 @@ impl Volume {
         Ok(())
     }
 
-    /// Gives a file another name, or a directory one in the same directory.
+    /// Gives a file another name, or a directory another in the directory where it is. Before any edit it answers, in this order,
+    /// `NoEntry` or `NotDir` of either directory, `BadName` of either name, `NoEntry` of the old name, `Exists` of the new one, `IsDir` for a
+    /// directory that would go elsewhere, `TooLarge` where the inode has 65,535 links or the other directory no room. Any refusal of the
+    /// store is `Kernel`; what was done before it stands, so both names may be left.
     pub fn rename<S: Store>(
         &self,
         alloc: Global,
@@ -481,7 +495,7 @@ impl Volume {
         Ok(())
     }
 
-    /// The names in a directory and their inodes, by block and place.
+    /// The names in a directory and their inodes, by block and place. Faults are `NoEntry` and `NotDir`, and `Kernel(NoMemory)`.
     pub fn list<S: Store>(
         &self,
         alloc: Global,
