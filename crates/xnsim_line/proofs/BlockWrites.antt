@@ -140,7 +140,7 @@ wrote w w1 w2 w3 b r1 r2 r3 up begins lands finishes =
     let up2 : w2.down ≡ false = ap (λ (v : World). v.down) two ∙ (down_ticket w1 (begun_count (life_at w1.state.lives b)) _ (λ k. refl) ∙ up1) in
     let three = (acts w2 (model.Finish b) r3 w3 finishes refl up2 refl).1 in
     let up3 : w3.down ≡ false = ap (λ (v : World). v.down) three ∙ (down_ticket w2 (begun_count (life_at w2.state.lives b)) _
-        (λ k. down_result (λ done. model.Finished done.0 done.1) w2 (settled_of w2.state b (block_of w2.image b))) ∙ up2) in
+    (λ k. down_result (λ done. model.Finished done.0 done.1) w2 (settled_of w2.state b (block_of w2.image b))) ∙ up2) in
     (three ∙ (ap (λ v. (model.finish v b).1) two ∙ ap (λ v. (model.finish (model.land v b).1 b).1) one), up3)
 
 -- what is picked
@@ -197,12 +197,12 @@ whole_drain w fs n m after holds up calm rounds none =
     let fuel = all_pending w.state.lives in
     let ends = drain_ends w holds (idle_from w.state.lives calm) in
     let go : act w (model.Client fs model.Drain) ≡ (model.Drained (drain_for fuel 0 w).0, (drain_for fuel 0 w).1) =
-        ap (λ d. cond {A = model.Reply × World} (d && true) (model.Down, w) (model.drain w)) up
-        ∙ ap (λ x. cond {A = model.Reply × World} x (model.Refused InFlight, w) (model.Drained (drain_for fuel 0 w).0, (drain_for fuel 0 w).1)) calm in
+    ap (λ d. cond {A = model.Reply × World} (d && true) (model.Down, w) (model.drain w)) up
+    ∙ ap (λ x. cond {A = model.Reply × World} x (model.Refused InFlight, w) (model.Drained (drain_for fuel 0 w).0, (drain_for fuel 0 w).1)) calm in
     let last : pick_of (model.drain w).1.state ≡ None = none_picked (model.drain w).1.state ends.3 in
     let done : (model.drain w).1 ≡ (drain_for fuel 0 w).1 =
-        ap (λ x. (cond {A = model.Reply × World} x (model.Refused InFlight, w) (model.Drained (drain_for fuel 0 w).0, (drain_for fuel 0 w).1)).1) calm in
+    ap (λ x. (cond {A = model.Reply × World} x (model.Refused InFlight, w) (model.Drained (drain_for fuel 0 w).0, (drain_for fuel 0 w).1)).1) calm in
     let same : drain_for fuel 0 w ≡ (m, after) =
-        sym (same_end n fuel 0 w (ap (λ (p : ℕ × World). pick_of p.1.state) rounds ∙ none) (sym (ap (λ (v : World). pick_of v.state) done) ∙ last)) ∙ rounds in
+    sym (same_end n fuel 0 w (ap (λ (p : ℕ × World). pick_of p.1.state) rounds ∙ none) (sym (ap (λ (v : World). pick_of v.state) done) ∙ last)) ∙ rounds in
     let acted : act w (model.Client fs model.Drain) ≡ (model.Drained m, after) = go ∙ ap (λ (p : ℕ × World). (model.Drained p.0, p.1)) same in
     inl (sym (ap (λ (p : model.Reply × World). p.0) acted), sym (ap (λ (p : model.Reply × World). p.1) acted))
