@@ -5,10 +5,10 @@ use Rattle.std.specs.List.{list_any}
 use Rattle.std.proofs.lemmas.Bool.{cases_lt, false≢true, lt-ltb}
 use Rattle.std.proofs.lemmas.List.{length-map}
 use Rattle.std.proofs.lemmas.Option.{unwrap_or-slice_get}
-use Rattle.xn_model.specs.Lives.{BlockState, Life, Lives, alive_and, has_entry, life_at, safe_count}
+use Rattle.xn_model.specs.Lives.{BlockState, Life, Lives, has_entry, life_at, safe_count}
 use Rattle.xn_model.specs.Calls.{is_ready, life_pending}
 use Rattle.block_set.specs.Members.{HasNoneFrom, IsLeastFrom}
-use Rattle.dependencies.specs.Pending.{is_dirty}
+use Rattle.dependencies.specs.Pending.{is_dirty, pends}
 use Rattle.dependencies.proofs.Places.{least_place, no_place}
 
 dirty_at : (lives : Lives) (k : ℕ) → slice_index_or (map is_dirty lives) k false ≡ is_dirty (life_at lives k)
@@ -22,7 +22,7 @@ clean o e = elim (cases_lt 0 (life_pending o)) [
   | inr none ↦ omega (arith, none)
 ]
 
-clean_at : (dirty : List Bool) (lives : Lives) (k : ℕ) → dirty ≡ map is_dirty lives → slice_index_or dirty k false ≡ false → life_pending (life_at lives k) ≡ 0
+pub clean_at : (dirty : List Bool) (lives : Lives) (k : ℕ) → dirty ≡ map is_dirty lives → slice_index_or dirty k false ≡ false → life_pending (life_at lives k) ≡ 0
 clean_at dirty lives k e none = clean (life_at lives k) (sym (dirty_at lives k) ∙ (ap (λ ds. slice_index_or ds k false) (sym e) ∙ none))
 
 -- What the least member from a number on says
@@ -49,9 +49,6 @@ not_ready lives (Some l) none = by (is_none l.begun) l.pending none
     by : (t : Bool) (ps : List BlockState) → length ps ≡ 0 → (t && nat_lt 0 (safe_count lives [] ps)) ≡ false
     by t [] e = and_none t
     by t (p ∷ ps) e = absurd (omega arith)
-
-abbrev pub pends : ℕ → Option Life → Bool
-pends n o = alive_and (λ l. has_entry l.pending n) o
 
 pub pends_not : (n : ℕ) (o : Option Life) → life_pending o ≡ 0 → pends n o ≡ false
 pends_not n None none = refl

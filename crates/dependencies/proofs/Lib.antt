@@ -3,3 +3,6 @@ pub mod Prefixes
 pub mod Places
 pub mod Fronts
 pub mod Dirty
+pub mod Accounts
+pub mod LifeChanges
+pub mod HomeChanges

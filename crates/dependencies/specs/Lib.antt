@@ -1,3 +1,6 @@
 pub mod Safety
 pub mod Numbers
 pub mod Pending
+pub mod Waiting
+pub mod Candidates
+pub mod Homes

@@ -1,13 +1,15 @@
 // Whether the entry is there that another one comes after.
 
-ghost use Rattle.std.specs.Prelude.{◌≡◌, map, option_map, slice_get};
+ghost use Rattle.std.specs.Prelude.{◌≡◌, true, map, is_some, option_map, slice_get, IfSome};
 ghost use Rattle.xn_model.specs.Lives.{alive_and, has_entry, is_after_met, is_pending, life_at};
 ghost use Rattle.xn_model.specs.Calls.{first_pending};
 ghost use Rattle.block_cache.specs.Claims.{claim_of};
 ghost use Rattle.block_cache.specs.Views.{pending_at};
 ghost use Rattle.dependencies.specs.Numbers.{is_number};
-ghost use Rattle.dependencies.specs.Pending.{is_dirty};
+ghost use Rattle.dependencies.specs.Homes.{AreHomes};
+ghost use Rattle.dependencies.specs.Pending.{is_dirty, pends};
 
+use crate::homes::Homes;
 use block_cache::{Cache, EditId};
 use block_set::BlockSet;
 
@@ -40,23 +42,48 @@ fn is_pending_in(cache: &Cache, block: u32, number: u64) -> bool
     has_number(cache, block, cache.pending(block), number)
 }
 
-/// Whether the entry of this number is pending in some block. The walk is over the blocks for which something is pending.
-fn is_pending(cache: &Cache, dirty: &BlockSet, number: u64) -> bool
+/// A block in which the entry of this number is pending, by a walk over the blocks for which something is.
+fn pending_somewhere(cache: &Cache, dirty: &BlockSet, number: u64) -> Option<u32>
     requires { dirty.now ≡ map is_dirty cache.now }
-    ensures { result ≡ is_pending cache.now number }
+    ensures found { is_some result ≡ is_pending cache.now number }
+    ensures there { IfSome result (λ block. pends number (life_at cache.now block) ≡ true) }
 {
     let blocks = cache.blocks();
     let mut from = 0;
     while from < blocks {
-        let Some(block) = dirty.least_from(from) else {
-            return false;
-        };
+        let block = dirty.least_from(from)?;
         if is_pending_in(cache, block, number) {
-            return true;
+            return Some(block);
         }
         from = block + 1;
     }
-    false
+    None
+}
+
+/// The block in which the entry of this number is pending. An entry whose block is not known, as it is old, takes a walk.
+pub fn pending_block(cache: &Cache, dirty: &BlockSet, homes: &Homes, number: u64) -> Option<u32>
+    requires dirty { dirty.now ≡ map is_dirty cache.now }
+    requires homes { AreHomes cache.now homes.now }
+    ensures found { is_some result ≡ is_pending cache.now number }
+    ensures there { IfSome result (λ block. pends number (life_at cache.now block) ≡ true) }
+{
+    let Some(block) = homes.home(number) else {
+        return pending_somewhere(cache, dirty, number);
+    };
+    if is_pending_in(cache, block, number) {
+        Some(block)
+    } else {
+        None
+    }
+}
+
+/// Whether the entry of this number is pending in some block.
+fn is_pending(cache: &Cache, dirty: &BlockSet, homes: &Homes, number: u64) -> bool
+    requires dirty { dirty.now ≡ map is_dirty cache.now }
+    requires homes { AreHomes cache.now homes.now }
+    ensures { result ≡ is_pending cache.now number }
+{
+    pending_block(cache, dirty, homes, number).is_some()
 }
 
 /// Whether an entry that comes after another one may be written, behind the first ones of its block: the other stands among
@@ -64,18 +91,20 @@ fn is_pending(cache: &Cache, dirty: &BlockSet, number: u64) -> bool
 pub fn is_after_met(
     cache: &Cache,
     dirty: &BlockSet,
+    homes: &Homes,
     block: u32,
     earlier: usize,
     after: Option<EditId>,
 ) -> bool
-    requires { dirty.now ≡ map is_dirty cache.now }
+    requires dirty { dirty.now ≡ map is_dirty cache.now }
+    requires homes { AreHomes cache.now homes.now }
     ensures { result ≡ is_after_met cache.now (first_pending earlier (life_at cache.now block)) after }
 {
     match after {
         None => true,
         Some(other) => {
             has_number(cache, block, earlier, other.number())
-                || !is_pending(cache, dirty, other.number())
+                || !is_pending(cache, dirty, homes, other.number())
         }
     }
 }

@@ -2,11 +2,16 @@
 #![tactic(auto)]
 
 mod after;
+mod candidates;
+mod homes;
 mod idle;
 mod prefix;
 mod ready;
 mod safe;
+mod waiting;
 
+pub use candidates::Candidates;
+pub use homes::Homes;
 pub use idle::{all_pending, is_any_in_flight};
 pub use prefix::{is_tainted, safe_prefix};
 pub use ready::{is_ready, pick};

@@ -4,15 +4,17 @@ ghost use Rattle.std.specs.Prelude.{◌≡◌, map, option_map, slice_get};
 ghost use Rattle.std.specs.List.{list_all};
 ghost use Rattle.xn_model.specs.Lives.{has_durable, is_all_durable, life_at};
 ghost use Rattle.xn_model.specs.Calls.{first_pending};
+ghost use Rattle.dependencies.specs.Homes.{AreHomes};
 ghost use Rattle.dependencies.specs.Pending.{is_dirty};
 ghost use Rattle.dependencies.specs.Safety.{is_claim_safe, is_safe_at};
 
 use crate::after::is_after_met;
+use crate::homes::Homes;
 use block_cache::{Cache, Claim};
 use block_set::BlockSet;
 
 /// Whether some state of a block is known to be on the disk.
-fn has_durable(cache: &Cache, block: u32) -> bool
+pub fn has_durable(cache: &Cache, block: u32) -> bool
     ensures { result ≡ has_durable cache.now block }
 {
     match cache.facts(block) {
@@ -22,7 +24,7 @@ fn has_durable(cache: &Cache, block: u32) -> bool
 }
 
 /// Whether the newest state of a block is known to be on the disk.
-fn is_all_durable(cache: &Cache, block: u32) -> bool
+pub fn is_all_durable(cache: &Cache, block: u32) -> bool
     ensures { result ≡ is_all_durable cache.now block }
 {
     match cache.facts(block) {
@@ -49,22 +51,31 @@ fn are_all_durable(cache: &Cache, drops: &[u32]) -> bool
 /// state on the disk (never point to a structure before it has been initialised), each block that it drops its newest one
 /// (never reuse a resource before all pointers to it are gone), and the entry that it comes after has to be there or to go
 /// with it. These are the rules of soft updates, kept for each entry.
-fn is_claim_safe(cache: &Cache, dirty: &BlockSet, block: u32, earlier: usize, claim: &Claim) -> bool
-    requires { dirty.now ≡ map is_dirty cache.now }
+fn is_claim_safe(
+    cache: &Cache,
+    dirty: &BlockSet,
+    homes: &Homes,
+    block: u32,
+    earlier: usize,
+    claim: &Claim,
+) -> bool
+    requires dirty { dirty.now ≡ map is_dirty cache.now }
+    requires homes { AreHomes cache.now homes.now }
     ensures { result ≡ is_claim_safe cache.now (first_pending earlier (life_at cache.now block)) claim.now }
 {
     are_durable(cache, claim.adds())
         && are_all_durable(cache, claim.drops())
-        && is_after_met(cache, dirty, block, earlier, claim.after())
+        && is_after_met(cache, dirty, homes, block, earlier, claim.after())
 }
 
 /// Whether the pending entry at a place of a block may be written, once those before it are.
-pub fn is_safe_at(cache: &Cache, dirty: &BlockSet, block: u32, place: usize) -> bool
-    requires { dirty.now ≡ map is_dirty cache.now }
+pub fn is_safe_at(cache: &Cache, dirty: &BlockSet, homes: &Homes, block: u32, place: usize) -> bool
+    requires dirty { dirty.now ≡ map is_dirty cache.now }
+    requires homes { AreHomes cache.now homes.now }
     ensures { result ≡ is_safe_at cache.now (life_at cache.now block) place }
 {
     match cache.claim(block, place) {
-        Some(claim) => is_claim_safe(cache, dirty, block, place, claim),
+        Some(claim) => is_claim_safe(cache, dirty, homes, block, place, claim),
         None => false,
     }
 }

@@ -285,9 +285,9 @@ impl Volume {
         })
     }
 
-    /// Writes bytes into a file from an offset on, block after block; a file has at most 71,680 bytes, and what lies between its end and the offset
-    /// is zeros. Before any edit it answers `NoEntry` or `IsDir` of the inode, then `TooLarge`. Any refusal of the store is
-    /// `Kernel`; the blocks before it are written.
+    /// Writes bytes into a file from an offset on, block after block; a file has at most 71,680 bytes, and what lies between its end
+    /// and the offset is zeros, but for what a write that was cut short left there. Before any edit it answers `NoEntry` or `IsDir` of
+    /// the inode, then `TooLarge`. Any refusal of the store is `Kernel`; the blocks before it are written.
     pub fn write<S: Store>(
         &self,
         alloc: Global,

@@ -1,5 +1,5 @@
 -- The text of a script.
-use Rattle.std.specs.Prelude.{◌≡◌, ◌<◌, ◌⊎◌, ⊤, ℕ, ◌+◌, ◌==◌, Bool, true, false, not, List, [], ◌∷◌, length, filter}
+use Rattle.std.specs.Prelude.{◌≡◌, ◌<◌, ◌⊎◌, ⊤, ℕ, ◌+◌, ◌==◌, Bool, true, false, not, List, [], ◌∷◌, length, filter, Option, Some, None}
 use Rattle.std.specs.List.{AllZip, slice_split, slice_index_or}
 use Rattle.world.specs.declared.event.Event.{Event}
 use Rattle.script.specs.declared.script.ScriptFault.{ScriptFault}
@@ -14,6 +14,11 @@ lines_of text = slice_split (λ byte. byte == 10) text
 abbrev pub words_of : List ℕ → List (List ℕ)
 words_of line = slice_split (λ byte. byte == 32) line
 
+-- the words of a text, or none where there is no text
+abbrev pub words_in : Option (List ℕ) → List (List ℕ)
+words_in None = []
+words_in (Some text) = words_of text
+
 -- an empty line, or one that begins with `#`
 abbrev pub is_passed_over : List ℕ → Bool
 is_passed_over [] = true
@@ -22,13 +27,29 @@ is_passed_over (byte ∷ line) = byte == 35
 abbrev pub LineSpells : List ℕ → Event → Type 0
 LineSpells line event = Spells (words_of line) event
 
--- the lines that aren't passed over spell these events, one a line, in order
+-- a line that spells an event
+abbrev pub SpellsSome : List ℕ → Type 0
+SpellsSome line = (event : Event) × LineSpells line event
+
+-- these lines spell these events, one a line, in order
+abbrev pub AllSpell : List (List ℕ) → List Event → Type 0
+AllSpell lines events = AllZip LineSpells lines events
+
+-- these lines spell some events
+abbrev pub SpellEvents : List (List ℕ) → Type 0
+SpellEvents lines = (events : List Event) × AllSpell lines events
+
+-- the lines that aren't passed over
+abbrev pub event_lines : List ℕ → List (List ℕ)
+event_lines text = filter (λ line. not (is_passed_over line)) (lines_of text)
+
+-- those lines spell these events
 abbrev pub IsScript : List ℕ → List Event → Type 0
-IsScript text events = AllZip LineSpells (filter (λ line. not (is_passed_over line)) (lines_of text)) events
+IsScript text events = AllSpell (event_lines text) events
 
 -- a line that is passed over or spells an event
 abbrev pub IsReadable : List ℕ → Type 0
-IsReadable line = (is_passed_over line ≡ true) ⊎ ((event : Event) × LineSpells line event)
+IsReadable line = (is_passed_over line ≡ true) ⊎ SpellsSome line
 
 -- a line that is neither
 pub record IsUnreadable (line : List ℕ) : Type 0 where

@@ -13,4 +13,4 @@ mod script;
 pub use hex::parse_block;
 pub use number::parse_number;
 pub use print::print_reply;
-pub use script::{ScriptFault, parse};
+pub use script::{ScriptFault, parse, parse_line};

@@ -1,9 +1,8 @@
-ghost use Rattle.std.specs.Prelude.{◌≡◌, ◌≢◌, ◌<◌, ◌==◌, ℕ, IfOk, IfErr, IfSome, IfNone, IsSome, [], ◌∷◌, codes, map};
+ghost use Rattle.std.specs.Prelude.{◌≡◌, ◌≢◌, ◌<◌, ◌==◌, ℕ, IfOk, IfErr, IfSome, IfNone, IsSome, [], ◌∷◌, codes, map, option_copied, MatchBool};
 ghost use Rattle.std.specs.Fmt.{decimal};
 ghost use Rattle.std.specs.List.{slice_split};
-ghost use Rattle.world.specs.declared.event.Event.{Event};
 ghost use Rattle.script.specs.Events.{Spells, SpellNothing};
-ghost use Rattle.script.specs.Scripts.{is_passed_over, words_of, IsScript, IsScriptFault, LineSpells};
+ghost use Rattle.script.specs.Scripts.{event_lines, is_passed_over, words_in, words_of, IsScriptFault, LineSpells, SpellEvents, SpellsSome};
 
 use crate::edit::parse_edit;
 use crate::hex::parse_block;
@@ -184,25 +183,32 @@ fn parse_long(
     }
 }
 
-/// The event of a line that is cut at each space, or `None` where it is none.
-fn parse_words(alloc: Global, words: &[&str]) -> Result<Option<Event>, AllocError>
-    ensures some { IfOk result (λ read. IfSome read (Spells (map (λ word. word.now) words.now))) }
-    ensures none { IfOk result (λ read. IfNone read (SpellNothing (map (λ word. word.now) words.now))) }
-{
-    match words {
-        [name] => Ok(parse_name(name)),
-        [name, word] => Ok(parse_short(name, word)),
-        [name, first, second, rest @ ..] => parse_long(alloc, name, first, second, rest),
-        _ => Ok(None),
-    }
-}
-
 /// The parts of a text that is cut at each `separator`.
 fn cut<'a>(alloc: Global, text: &'a str, separator: char) -> Result<Vec<&'a str>, AllocError>
     requires { separator < 128 }
     ensures { IfOk result (λ parts. map (λ part. part.now) parts.items ≡ slice_split (λ byte. byte == separator) text.now) }
 {
     text.split(separator).collect(alloc)
+}
+
+/// The first word of a text, and what stands behind the space after it, where there is one.
+fn first_word(text: &str) -> (&str, Option<&str>)
+    ensures { words_of text.now ≡ result.0.now ∷ words_in (option_copied result.1) }
+{
+    match text.split_once(' ') {
+        Some((word, rest)) => (word, Some(rest)),
+        None => (text, None),
+    }
+}
+
+/// The words of a text, or none where there is no text.
+fn words_in(alloc: Global, text: Option<&str>) -> Result<Vec<&str>, AllocError>
+    ensures { IfOk result (λ words. map (λ word. word.now) words.items ≡ words_in (option_copied text.entry)) }
+{
+    match text {
+        Some(text) => cut(alloc, text, ' '),
+        None => Ok(Vec::new(alloc)),
+    }
 }
 
 /// Whether a line is empty or begins with `#`.
@@ -216,32 +222,52 @@ fn is_passed_over(line: &str) -> bool
 }
 
 /// The event of a line, or `None` where it is none.
-fn parse_line(alloc: Global, line: &str) -> Result<Option<Event>, AllocError>
+pub fn parse_line(alloc: Global, line: &str) -> Result<Option<Event>, AllocError>
     ensures some { IfOk result (λ read. IfSome read (LineSpells line.now)) }
     ensures none { IfOk result (λ read. IfNone read (SpellNothing (words_of line.now))) }
 {
-    let words = cut(alloc, line, ' ')?;
-    parse_words(alloc, words.as_slice())
+    let (name, rest) = first_word(line);
+    let Some(rest) = rest else {
+        return Ok(parse_name(name));
+    };
+    let (first, rest) = first_word(rest);
+    let Some(rest) = rest else {
+        return Ok(parse_short(name, first));
+    };
+    let (second, rest) = first_word(rest);
+    let words = words_in(alloc, rest)?;
+    parse_long(alloc, name, first, second, words.as_slice())
 }
 
-/// The events of a script, in order, one a line. Empty lines and lines that begin with `#` are passed over.
-pub fn parse(alloc: Global, script: &str) -> Result<Vec<Event>, ScriptFault>
-    ensures script { IfOk result (λ events. IsScript script.now events.items) }
+/// Whether a line spells an event.
+fn spells_event(alloc: Global, line: &str) -> Result<bool, AllocError>
+    ensures { IfOk result (λ spells. MatchBool spells (SpellsSome line.now) (SpellNothing (words_of line.now))) }
+{
+    let read = parse_line(alloc, line);
+    match &read {
+        Ok(Some(_event)) => Ok(true),
+        Ok(None) => Ok(false),
+        Err(_) => Err(AllocError),
+    }
+}
+
+/// The lines of a script that are not passed over, where each of them spells an event. Passed over are empty lines and those that
+/// begin with `#`.
+pub fn parse<'a>(alloc: Global, script: &'a str) -> Result<Vec<&'a str>, ScriptFault>
+    ensures lines { IfOk result (λ lines. map (λ line. line.now) lines.items ≡ event_lines script.now) }
+    ensures events { IfOk result (λ lines. SpellEvents (map (λ line. line.now) lines.items)) }
     ensures fault { IfErr result (IsScriptFault script.now) }
 {
-    let lines = cut(alloc, script, '\n')?;
-    let mut events = Vec::new(alloc);
-    for (place, line) in lines.iter().enumerate() {
+    let mut lines = Vec::new(alloc);
+    for (place, line) in script.split('\n').enumerate() {
         if is_passed_over(line) {
             continue;
         }
-        match parse_line(alloc, line)? {
-            Some(event) => events.push(event)?,
-            None => {
-                let line = place as u64 + 1;
-                return Err(ScriptFault::Unreadable { line });
-            }
+        if !spells_event(alloc, line)? {
+            let line = place as u64 + 1;
+            return Err(ScriptFault::Unreadable { line });
         }
+        lines.push(line)?;
     }
-    Ok(events)
+    Ok(lines)
 }

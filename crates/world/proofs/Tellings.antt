@@ -22,7 +22,7 @@ use Rattle.world.specs.declared.event.Event.{Event}
 use Rattle.world.specs.declared.event.Event.TheVariants as event
 use Rattle.world.specs.Events.{event_of}
 
-is_event : (e : Event) → model.IsEvent (event_of e)
+pub is_event : (e : Event) → model.IsEvent (event_of e)
 is_event (event.Call fs call) = fs.few
 is_event (event.Begin block) = tt
 is_event (event.Land block) = tt

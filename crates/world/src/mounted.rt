@@ -20,6 +20,7 @@ use xn_kernel::Kernel;
 
 mod calls;
 mod steps;
+mod store;
 
 /// A disk in memory with its kernel, and the tickets of the writes that are under way.
 #[derive(Drop)]

@@ -1,6 +1,6 @@
 // A world.
 
-ghost use Rattle.std.specs.Prelude.{◌≡◌, ◌≢◌, ◌⊎◌, All, length, map, Err, IfOk, IfErr, MatchResult, IsTrue, false};
+ghost use Rattle.std.specs.Prelude.{◌≡◌, ◌≢◌, ◌⊎◌, ℕ, ◌<◌, All, length, map, Err, IfOk, IfErr, MatchResult, IsTrue, true, false};
 ghost use Rattle.xn_model.specs.Images.{block_of, blocks_in, joined, IsSound};
 ghost use Rattle.xn_model.specs.BareDisks.{mounted_disk};
 ghost use Rattle.xn_model.specs.Worlds as model;
@@ -10,6 +10,8 @@ ghost use Rattle.xn_history.specs.Moments.{RunWhere, Anything, IsMoment};
 ghost use Rattle.xn_history.specs.Promises.{ImageHolds};
 ghost use Rattle.image_model.specs.Walk.{verdict};
 ghost use Rattle.image_model.specs.Report.{IsSoundImage};
+ghost use Rattle.ffs_model.specs.Cuts.{Choice, IsCut, IsCutImage, SameUnder, seen};
+ghost use Rattle.ffs_model.specs.Events.{IsForeign};
 ghost use Rattle.templates.specs.Templates.{IsTemplate};
 ghost use Rattle.templates.specs.Tables.{table_of_image, types_of};
 ghost use Rattle.templates.specs.Formats.{formatted, format_fault, table_of, IsFormatFault};
@@ -21,9 +23,11 @@ ghost use Rattle.world.specs.Worlds.{is_any_in_flight, world_with, world_value, 
 use crate::event::Event;
 use crate::mounted::MountedDisk;
 use crate::reply::Reply;
+use crate::running::Running;
 use crate::unmounted::UnmountedDisk;
 use crash_check::ImageFault;
 use disk::BLOCK_LEN;
+use ffs_model::{events_keep_cuts, image_is_cut};
 use std::alloc::{AllocError, Global};
 use std::marker::Model;
 use std::thread::Threads;
@@ -97,23 +101,28 @@ impl World {
             return Err(ImageFault::NoMemory);
         };
         match disk.mount_image(rt, alloc, image, 1) {
-            Ok(disk) => Ok(World::mounted(alloc, disk)),
+            Ok(disk) => Ok(World::mounted(alloc, 1, disk)),
             Err(fault) => Err(fault),
         }
     }
 
     /// One event. The reply and the world after it are a step of the model; and each block that the
     /// root reaches in the image holds a state of its life, from the durable to the begun one, and has
-    /// one owner.
+    /// one owner. After any event but a crash, or an edit by a file system, each cut of the lives reaches from that file system's
+    /// root slot the same blocks and bytes as some cut before; and so does the image, as some cut now.
     pub fn step(&mut self, rt: &(impl Threads + Sync), event: &Event) -> Reply
         ensures step { model.Step (world_with self.old) (event_of event.now) (reply_of result) (world_with self.new) }
         ensures rules { Holds (world_with self.new) }
         ensures agrees { Agrees (types_of self.new.table) (length self.new.state.lives) (block_of self.new.image) self.new.state.lives }
+        ensures cuts { (fs : ℕ) → fs < 32 → IsForeign fs (event_of event.now) → (k : Choice) → IsCut self.new.state.lives k →
+            (j : Choice) × IsCut self.old.state.lives j × SameUnder (types_of self.old.table) (seen self.new.state.lives k) (seen self.old.state.lives j) fs }
+        ensures image { (fs : ℕ) → fs < 32 → (k : Choice) × IsCut self.new.state.lives k × IsCutImage self.new.state.lives k (block_of self.new.image) ×
+            SameUnder (types_of self.new.table) (seen self.new.state.lives k) (block_of self.new.image) fs }
     {
-        let reply = match event {
-            Event::Crash => self.crash(rt),
-            _ => self.go_on(event),
-        };
+        self.rules();
+        events_keep_cuts();
+        image_is_cut();
+        let reply = self.take(rt, event);
         self.rules();
         reply
     }
@@ -179,6 +188,28 @@ impl World {
         }
     }
 
+    /// The world as a store, for as long as no crash comes. `Err` gives it back, and comes only while it is down.
+    pub fn into_running(self) -> Result<Running, World>
+        ensures ok { IfOk result (λ running. (running ≡ self) × (running.down ≡ false)) }
+        ensures err { IfErr result (λ back. (back ≡ self) × (back.down ≡ true)) }
+    {
+        let World {
+            alloc,
+            kernel,
+            mounted,
+            unmounted,
+        } = self;
+        match mounted {
+            Some(disk) => Ok(Running::new(alloc, kernel, disk)),
+            None => Err(World {
+                alloc,
+                kernel,
+                mounted: None,
+                unmounted,
+            }),
+        }
+    }
+
     /// Whether the last crash's mount found no memory.
     pub fn is_down(&self) -> bool
         ensures { result ≡ self.now.down }
@@ -189,16 +220,26 @@ impl World {
         }
     }
 
-    /// The world of a mounted disk.
-    fn mounted(alloc: Global, disk: MountedDisk) -> World
+    /// The world of a mounted disk, with the number of its kernel.
+    pub(crate) fn mounted(alloc: Global, kernel: u64, disk: MountedDisk) -> World
         requires { HasOwnTypes (world_with disk) }
         ensures { result ≡ disk }
     {
         World {
             alloc,
-            kernel: 1,
+            kernel,
             mounted: Some(disk),
             unmounted: None,
+        }
+    }
+
+    /// One event.
+    fn take(&mut self, rt: &(impl Threads + Sync), event: &Event) -> Reply
+        ensures { model.Step (world_with self.old) (event_of event.now) (reply_of result) (world_with self.new) }
+    {
+        match event {
+            Event::Crash => self.crash(rt),
+            _ => self.go_on(event),
         }
     }
 

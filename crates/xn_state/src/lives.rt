@@ -1,6 +1,6 @@
 // The lives of all blocks, with what is counted of them.
 
-ghost use Rattle.std.specs.Prelude.{◌≡◌, ℕ, ◌^◌, ◌<◌, ◌≤◌, ◌&&◌, ◌==◌, All, length, map, Option, Some, None, IfOk, IsTrue, OnOk, OnErr, is_some, is_none, count_by, option_map, position, slice_get, slice_set, sum_by};
+ghost use Rattle.std.specs.Prelude.{◌≡◌, ℕ, ◌^◌, ◌<◌, ◌≤◌, ◌&&◌, ◌==◌, All, false, length, map, Option, Some, None, IfOk, IsTrue, OnOk, OnErr, is_some, is_none, count_by, option_map, position, slice_get, slice_set, sum_by};
 ghost use Rattle.std.specs.Option.{option_copied};
 ghost use Rattle.xn_model.specs.Lists.{distinct};
 ghost use Rattle.xn_model.specs.Lives.{accepted_at, alive_and, current, dropped_after, entries_of, is_for, least_to, life_at, lowest_free, owned_after};
@@ -12,6 +12,7 @@ ghost use Rattle.block_cache.specs.Views.{facts_of};
 ghost use Rattle.xn_model.specs.Mounts.{found_status};
 ghost use Rattle.owner_records.specs.Owners.{is_claimed, owned_count};
 ghost use Rattle.claims.specs.Owned.{MayClaim};
+ghost use Rattle.dependencies.specs.Pending.{pends};
 ghost use Rattle.xn_state.specs.Mounts.{lives_in};
 
 use crate::counts::mark;
@@ -20,6 +21,7 @@ use crate::found::Found;
 use block_cache::{Cache, Claim, Facts};
 use block_set::BlockSet;
 use claims::OwnedCounts;
+use dependencies::{Candidates, Homes};
 use edit_list::{EditId, Fs, Undo};
 use free_map::FreeMap;
 use std::alloc::{AllocError, Global};
@@ -30,8 +32,9 @@ mod forget;
 mod idle;
 mod writes;
 
-/// The lives of all blocks, by block number. Which blocks are free, for which something is pending, how many pending entries
-/// count for a file system, and how many blocks each block owns, is kept beside them, so that no call walks all lives for it.
+/// The lives of all blocks, by block number. Which blocks are free, for which something is pending, of which a write may begin,
+/// in which block the newest entries are pending, how many pending entries count for a file system, and how many blocks each block owns, is kept beside them, so that no call
+/// walks all lives for it.
 #[derive(Drop)]
 pub struct Lives {
     cache: Cache,
@@ -39,19 +42,23 @@ pub struct Lives {
     pending: [u32; 32],
     owned: OwnedCounts,
     dirty: BlockSet,
+    candidates: Candidates,
+    homes: Homes,
 }
 
 impl Model for Lives {
     ghost use Rattle.std.specs.Prelude.{◌≡◌, List, Option, map};
     ghost use Rattle.xn_model.specs.Lives.{Life as LifeValue};
     ghost use Rattle.claims.specs.Owned.{AreOwnedCounts};
+    ghost use Rattle.dependencies.specs.Candidates.{AreCandidates};
+    ghost use Rattle.dependencies.specs.Homes.{AreHomes};
     ghost use Rattle.xn_state.specs.Kept.{IsCounted, is_dirty};
 
     ghost Value = { List (Option LifeValue) };
 
     ghost view = { λ a. a.cache };
 
-    ghost invariant = { λ a. IsCounted a.cache a.free a.pending × AreOwnedCounts a.owned a.cache × (a.dirty ≡ map is_dirty a.cache) };
+    ghost invariant = { λ a. IsCounted a.cache a.free a.pending × AreOwnedCounts a.owned a.cache × (a.dirty ≡ map is_dirty a.cache) × AreCandidates a.cache a.candidates × AreHomes a.cache a.homes };
 }
 
 impl Lives {
@@ -74,12 +81,16 @@ impl Lives {
         }
         let owned = OwnedCounts::of(alloc, &cache)?;
         let dirty = BlockSet::new(alloc, count)?;
+        let candidates = Candidates::new(alloc, count)?;
+        let homes = Homes::new(alloc, count)?;
         Ok(Lives {
             cache,
             free,
             pending: [0; 32],
             owned,
             dirty,
+            candidates,
+            homes,
         })
     }
 
@@ -192,14 +203,14 @@ impl Lives {
     pub fn is_tainted(&self, block: u32) -> bool
         ensures { result ≡ is_tainted self.now (life_at self.now block) }
     {
-        dependencies::is_tainted(&self.cache, &self.dirty, block)
+        dependencies::is_tainted(&self.cache, &self.dirty, &self.homes, block)
     }
 
     /// The least block of which a write may begin.
     pub fn pick(&self) -> Option<u32>
         ensures { result ≡ position (is_ready self.now) self.now }
     {
-        dependencies::pick(&self.cache, &self.dirty)
+        dependencies::pick(&self.cache, &self.dirty, &self.homes, &self.candidates)
     }
 
     /// Starts a life on the least free block.
@@ -214,12 +225,15 @@ impl Lives {
     ) -> Result<(), AllocError>
         requires free { lowest_free self.old ≡ Some block }
         requires room { sum_by (pending_in fs.number) self.old < 4096 }
+        requires fresh { (b : ℕ) → pends number (life_at self.old b) ≡ false }
         ensures ok { OnOk result (self.new ≡ slice_set self.old block (Some (new_life number fs.number ty bytes.now))) }
         ensures err { OnErr result (self.new ≡ self.old) }
     {
         self.cache.start(alloc, block, number, fs, ty, bytes)?;
         self.free.take(block);
         mark(&mut self.dirty, block, true);
+        self.candidates.set(block, true);
+        self.homes.put(number.number(), block);
         self.pending[fs.index()] += 1;
         Ok(())
     }
@@ -244,18 +258,23 @@ impl Lives {
         requires few_adds { length adds.now ≤ 128 }
         requires few_drops { length drops.now ≤ 128 }
         requires undoes { patched bytes.now undo ≡ life_bytes (life_at self.old block) }
+        requires fresh { (b : ℕ) → pends claim.entry (life_at self.old b) ≡ false }
         requires fs { claim.fs ≡ Some fs.number }
         requires adds { claim.adds ≡ adds.now }
         requires drops { claim.drops ≡ drops.now }
         ensures ok { OnOk result (self.new ≡ accepted_at self.old block (state_of claim bytes.now)) }
         ensures err { OnErr result (self.new ≡ self.old) }
     {
+        let number = claim.entry().number();
+        let is_first = self.cache.pending(block) == 0;
         self.cache.append(block, claim, bytes, undo)?;
         set_dropped(&mut self.cache, block, drops);
         set_owned(&mut self.cache, block, adds);
         self.owned
             .change(block, drops.len() as u32, adds.len() as u32);
         mark(&mut self.dirty, block, true);
+        self.candidates.note_entry(block, is_first);
+        self.homes.put(number, block);
         self.pending[fs.index()] += 1;
         Ok(())
     }

@@ -1,22 +1,20 @@
 -- What events write, and what drains do round by round.
-use Rattle.std.proofs.Common.{◌≡◌, ◌≤◌, ◌<◌, ◌+◌, ◌-◌, ℕ, zero, suc, Bool, true, false, Option, None, Some, Result, Ok, Err, refl, sym, ◌∙◌, ap, subst, inl, inr, arith}
-use Rattle.std.specs.Prelude.{◌⊎◌, cond, is_some, not, ◌&&◌, IsTrue}
-use Rattle.std.specs.List.{list_any}
+use Rattle.std.proofs.Common.{◌≡◌, ◌≤◌, ◌<◌, ◌+◌, ◌-◌, ℕ, zero, suc, Bool, true, false, Option, None, Some, Result, Ok, Err, refl, sym, ◌∙◌, ap, inl, inr, arith}
+use Rattle.std.specs.Prelude.{◌⊎◌, cond, is_some, not, ◌&&◌}
 use Rattle.std.proofs.lemmas.Bool.{false≢true}
 use Rattle.std.proofs.lemmas.Option.{none-some}
 use Rattle.xn_model.specs.declared.refusal.Refusal.{Refusal}
 use Rattle.xn_model.specs.declared.refusal.Refusal.TheVariants.{InFlight}
 use Rattle.xn_model.specs.Images.{block_of}
-use Rattle.xn_model.specs.Lives.{Life, Lives, StoreState, life_at, alive_and}
+use Rattle.xn_model.specs.Lives.{Life, StoreState, life_at, alive_and}
 use Rattle.xn_model.specs.Calls.{init_of, propose_of, make_root_of, drop_root_of, forget_of, read_of, kind_of, begun_of, settled_of, pick_of}
 use Rattle.xn_model.specs.Rules.{Holds}
 use Rattle.xn_model.specs.Worlds as model
 use Rattle.xn_model.specs.Worlds.{World, Step, act, act_up, begun_count, reply_and_world, reply_alone, with_ticket, asks_memory, is_crash, AfterCall, all_pending, drain_for, write_out}
 use Rattle.xn_model.proofs.ForCallers.{drain_ends, none_picked}
-use Rattle.xn_kernel.specs.Kernels.{is_in_flight}
 use Rattle.xn_kernel.proofs.Draining.{idle_from}
 use Rattle.world.specs.Worlds.{is_any_in_flight}
-use Rattle.xnsim_line.specs.Stops.{writes_of, is_drain, is_write, IsCutDrain, IsHeldBack}
+use Rattle.xnsim_line.specs.Stops.{writes_of, is_drain, is_write, IsHeldBack}
 
 -- one write, or none
 abbrev pub one_if : Bool → ℕ

@@ -1,15 +1,14 @@
 -- What was printed stands where it is then flushed.
-use Rattle.std.proofs.Common.{◌≡◌, ℕ, List, Option, Some, None, ◌∙◌}
+use Rattle.std.proofs.Common.{ℕ, List, Option, Some, None, ◌∙◌}
 use Rattle.std.specs.Io.KnownBytes.{Appends, Keeps}
 use Rattle.xnsim_line.specs.declared.invocation.Invocation.{Invocation}
 use Rattle.xnsim_line.specs.declared.invocation.Invocation.TheVariants.{Bare, Format, Run, Check, Asm, Verify}
 use Rattle.xnsim_line.specs.declared.fault.Fault.{Fault}
 use Rattle.xnsim_line.specs.declared.fault.Fault.TheVariants.{Usage, CannotRead, Unreadable, Image, CannotWrite, NoMemory, Program, Owns, Size, Template, TooManyTemplates, TooManyWords, Stream}
 use Rattle.xnsim_line.specs.Assembling.{PrintsTemplate}
-use Rattle.xnsim_line.specs.Done.{IsDone, IsLineDone, PrintsReplies, PrintsMounted, PrintsAssembled, PrintsVerified}
+use Rattle.xnsim_line.specs.Done.{IsDone, IsLineDone}
 use Rattle.xnsim_line.specs.Faults.{IsTold}
 use Rattle.xnsim_line.specs.Files.{Held}
-use Rattle.xnsim_line.specs.Formatting.{PrintsMade}
 use Rattle.xnsim_line.specs.Programs.{PrintsAccepted}
 use Rattle.xnsim_line.specs.Runs.{IsMountedRun, IsPrintedRun}
 use Rattle.xnsim_line.specs.Stops.{IsAskedRun, IsStoppedRun}

@@ -1,4 +1,5 @@
 pub mod ScriptRuns
+pub mod SpelledLines
 pub mod BlockWrites
 pub mod StoppedRuns
 pub mod CommandLines

@@ -1,8 +1,8 @@
 -- Runs of the first events of a script.
-use Rattle.std.proofs.Common.{◌≡◌, ◌<◌, ◌+◌, ℕ, Option, None, Some, List, [], ◌∷◌, ◌++◌, length, take, map, get_or, refl, sym, ◌∙◌, ap, subst}
+use Rattle.std.proofs.Common.{◌≡◌, ◌<◌, ◌≤◌, ◌+◌, ℕ, Bor, Option, None, Some, List, [], ◌∷◌, ◌++◌, length, take, map, get_or, refl, sym, ◌∙◌, ap, subst}
 use Rattle.std.specs.List.{flat_map}
 use Rattle.std.specs.Io.KnownBytes.{Appends}
-use Rattle.std.proofs.lemmas.List.{take_more, map-append, append-nil, append_assoc}
+use Rattle.std.proofs.lemmas.List.{map-append, append-nil, append_assoc}
 use Rattle.std.proofs.lemmas.Grind.{flat_map-append}
 use Rattle.xn_model.specs.Worlds as model
 use Rattle.xn_model.specs.Worlds.{Run, Step}
@@ -10,7 +10,10 @@ use Rattle.world.specs.declared.reply.Reply.{Reply}
 use Rattle.world.specs.declared.event.Event.{Event}
 use Rattle.world.specs.Events.{event_of, reply_of}
 use Rattle.script.specs.Replies.{reply_line}
-use Rattle.xnsim_line.specs.Runs.{IsRun}
+use Rattle.script.specs.Scripts.{AllSpell, LineSpells}
+use Rattle.script.proofs.WordLists.{zip_all, zip_more}
+use Rattle.xn_model.specs.Images.{joined}
+use Rattle.xnsim_line.specs.Runs.{IsPrintedRun, IsRun, IsRunLine, RunsLines}
 
 -- these events were run, their replies printed, and the world is this
 pub record IsRunTo (from : model.World) (events : List Event) (old new : Option (List ℕ)) (after : model.World) : Type 0 where
@@ -63,3 +66,32 @@ run_one_more from events event old mid new before after reply step printed so_fa
   run = ran_one_more from events event so_far.replies reply before after step so_far.run;
   printed = printed_one_more so_far.replies reply old mid new so_far.printed printed;
 }
+
+-- the events that these lines spell were run
+pub record IsLinesRun (from : model.World) (lines : List (List ℕ)) (old new : Option (List ℕ)) (after : model.World) : Type 0 where
+  pub events : List Event
+  pub spelled : AllSpell lines events
+  pub ran : IsRunTo from events old new after
+
+pub no_lines_run : (from : model.World) (old : Option (List ℕ)) → IsLinesRun from [] old old from
+no_lines_run from old = record { events = []; spelled = tt; ran = none_run from old }
+
+-- one line more
+pub line_run : (from : model.World) (lines : List (Bor (List ℕ))) (place : ℕ) (default : Bor (List ℕ)) (old mid new : Option (List ℕ)) (before after : model.World) →
+    place < length lines → IsRunLine before (get_or lines place default).now mid new after →
+    IsLinesRun from (take place (map (λ line. line.now) lines)) old mid before → IsLinesRun from (take (place + 1) (map (λ line. line.now) lines)) old new after
+line_run from lines place default old mid new before after within one so_far = record {
+  events = so_far.events ++ one.event ∷ [];
+  spelled = zip_more LineSpells lines place so_far.events (so_far.events ++ one.event ∷ []) one.event default within one.spells refl so_far.spelled;
+  ran = run_one_more from so_far.events one.event old mid new before after one.reply one.step one.printed so_far.ran;
+}
+
+-- after the last line
+pub lines_run : (from : model.World) (lines : List (Bor (List ℕ))) (place : ℕ) (old new : Option (List ℕ)) (after : model.World) → length lines ≤ place →
+    IsLinesRun from (take place (map (λ line. line.now) lines)) old new after →
+    RunsLines (map (λ line. line.now) lines) (λ events. IsPrintedRun from events old new (joined after.image))
+lines_run from lines place old new after past so_far = (
+  so_far.events,
+  zip_all LineSpells lines place so_far.events past so_far.spelled,
+  record { replies = so_far.ran.replies; after = after; run = so_far.ran.run; printed = so_far.ran.printed; left = refl },
+)

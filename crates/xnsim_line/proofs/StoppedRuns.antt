@@ -1,8 +1,9 @@
 -- Runs up to a stop.
-use Rattle.std.proofs.Common.{◌≡◌, ◌+◌, ℕ, Option, None, Some, List, [], ◌∷◌, ◌++◌, map, length, refl, sym, ◌∙◌, ap, subst, arith}
-use Rattle.std.specs.Prelude.{Result, Ok, Err, IfOk, OnOk}
+use Rattle.std.proofs.Common.{◌≡◌, ◌<◌, ◌≤◌, ◌+◌, ℕ, Bor, Option, None, Some, List, [], ◌∷◌, ◌++◌, append_assoc, map, length, take, drop, get_or, refl, sym, ◌∙◌, ap, subst, arith}
+use Rattle.std.specs.Prelude.{Result, Ok, Err, IfOk, IfErr, IsOk, OnOk}
 use Rattle.std.specs.List.{flat_map}
 use Rattle.std.specs.Io.KnownBytes.{Appends}
+use Rattle.std.proofs.lemmas.Bool.{false≢true}
 use Rattle.std.proofs.lemmas.List.{map-append, append-nil}
 use Rattle.xn_model.specs.Images.{blocks_in, joined}
 use Rattle.xn_model.specs.Worlds as model
@@ -13,8 +14,11 @@ use Rattle.world.specs.declared.reply.Reply.{Reply}
 use Rattle.world.specs.declared.event.Event.{Event}
 use Rattle.world.specs.Events.{event_of, reply_of}
 use Rattle.script.specs.Replies.{reply_line}
-use Rattle.xnsim_line.specs.Stops.{writes_of, writes_in, end_line, IsEnd, IsAskedRun, IsHeldBack, IsStoppedRun}
-use Rattle.xnsim_line.specs.Runs.{IsRun}
+use Rattle.script.specs.Scripts.{AllSpell, LineSpells, SpellEvents}
+use Rattle.script.proofs.WordLists.{zip_all, zip_more}
+use Rattle.xnsim_line.specs.Stops.{writes_of, writes_in, end_line, IsAskedOn, IsAskedRun, IsHeldBack, IsLineHeldBack, IsLineWithin, IsStoppedRun}
+use Rattle.xnsim_line.specs.Runs.{opened_world, IsPrintedRun, IsRun, RunsLines}
+use Rattle.xnsim_line.proofs.SpelledLines.{rest_spelled}
 use Rattle.xnsim_line.proofs.ScriptRuns.{nothing_printed, printed_more, printed_one_more, ran_one_more}
 
 -- these events were run, their replies printed, the world is this, and so many block writes may still come
@@ -47,19 +51,6 @@ one_within from events event limit old mid new before after reply left rest step
       printed = printed_one_more so_far.replies reply old mid new so_far.printed printed;
       counted = ap (λ rs. writes_in rs + rest) told ∙ all;
     }
-
--- what holds of a good result with what holds of all
-pub good_with : {A E : Type 0} (r : Result A E) (X : Type 0) (P Q : A → Type 0) → OnOk r X → IfOk r P → ((a : A) → X → P a → Q a) → IfOk r Q
-good_with (Ok a) X P Q always good gives = gives a always good
-good_with (Err e) X P Q always good gives = tt
-
-pub good_then : {A E : Type 0} (r : Result A E) (P Q : A → Type 0) → IfOk r P → ((a : A) → P a → Q a) → IfOk r Q
-good_then (Ok a) P Q good gives = gives a good
-good_then (Err e) P Q good gives = tt
-
-pub no_elements : {A : Type 0} (xs : List A) → length xs ≡ 0 → xs ≡ []
-no_elements [] none = refl
-no_elements (x ∷ xs) none = absurd (omega arith)
 
 -- all events were run
 pub ran_to_end : (from : World) (events rest all : List Event) (limit : ℕ) (old new : Option (List ℕ)) (after : World) (left : ℕ) (image : List ℕ) →
@@ -98,8 +89,79 @@ ran_to_stop from events event rest all limit old mid new before after left image
   reached = reached;
 }
 
+-- the events that these lines spell were run
+pub record AreLinesWithin (from : World) (lines : List (List ℕ)) (limit : ℕ) (old new : Option (List ℕ)) (after : World) (left : ℕ) : Type 0 where
+  pub events : List Event
+  pub spelled : AllSpell lines events
+  pub ran : IsRunWithin from events limit old new after left
+
+pub no_lines_within : (from : World) (limit : ℕ) (old : Option (List ℕ)) → AreLinesWithin from [] limit old old from limit
+no_lines_within from limit old = record { events = []; spelled = tt; ran = none_within from limit old }
+
+-- one line more
+pub line_within : (from : World) (lines : List (Bor (List ℕ))) (place : ℕ) (default : Bor (List ℕ)) (limit : ℕ) (old mid new : Option (List ℕ)) (before after : World) (left rest : ℕ) →
+    place < length lines → IsLineWithin before (get_or lines place default).now left mid new after rest →
+    AreLinesWithin from (take place (map (λ line. line.now) lines)) limit old mid before left →
+    AreLinesWithin from (take (place + 1) (map (λ line. line.now) lines)) limit old new after rest
+line_within from lines place default limit old mid new before after left rest within one so_far = record {
+  events = so_far.events ++ one.run.event ∷ [];
+  spelled = zip_more LineSpells lines place so_far.events (so_far.events ++ one.run.event ∷ []) one.run.event default within one.run.spells refl so_far.spelled;
+  ran = one_within from so_far.events one.run.event limit old mid new before after one.run.reply left rest one.run.step one.counted one.run.printed so_far.ran;
+}
+
+-- after the last line
+pub lines_to_end : (from : World) (lines : List (Bor (List ℕ))) (place limit : ℕ) (old new : Option (List ℕ)) (after : World) (left : ℕ) → length lines ≤ place →
+    AreLinesWithin from (take place (map (λ line. line.now) lines)) limit old new after left →
+    RunsLines (map (λ line. line.now) lines) (λ events. IsStoppedRun from events limit old new (joined after.image))
+lines_to_end from lines place limit old new after left past so_far = (
+  so_far.events,
+  zip_all LineSpells lines place so_far.events past so_far.spelled,
+  ran_to_end from so_far.events [] so_far.events limit old new after left (joined after.image) so_far.ran (append-nil so_far.events) refl refl,
+)
+
+-- at a line whose event is held back
+pub lines_to_stop : (from : World) (lines : List (Bor (List ℕ))) (place : ℕ) (default : Bor (List ℕ)) (limit : ℕ) (old mid new : Option (List ℕ)) (before after : World) (left : ℕ) →
+    place < length lines → IsLineHeldBack before (get_or lines place default).now left mid new after → SpellEvents (map (λ line. line.now) lines) →
+    AreLinesWithin from (take place (map (λ line. line.now) lines)) limit old mid before left →
+    RunsLines (map (λ line. line.now) lines) (λ events. IsStoppedRun from events limit old new (joined after.image))
+lines_to_stop from lines place default limit old mid new before after left within one given so_far =
+    let texts = map (λ (line : Bor (List ℕ)). line.now) lines in
+    let event = one.event in
+    let rest = drop (place + 1) given.0 in
+    let first = zip_more LineSpells lines place so_far.events (so_far.events ++ event ∷ []) event default within one.spells refl so_far.spelled in
+    let whole = rest_spelled texts (place + 1) (so_far.events ++ event ∷ []) first given in (
+      so_far.events ++ event ∷ rest,
+      subst (AllSpell texts) (append_assoc so_far.events (event ∷ []) rest) whole,
+      ran_to_stop from so_far.events event rest (so_far.events ++ event ∷ rest) limit old mid new before after left (joined after.image) so_far.ran refl one.held one.printed refl,
+    )
+
 -- what was run on an image, to its end or to a stop, was run on a sound one
 pub asked_sound : (stop : Option ℕ) (image : List ℕ) (events : List Event) (old new : Option (List ℕ)) (after : List ℕ) → IsAskedRun stop image events old new after →
     IsSoundImage (types_in (blocks_in image)) image
 asked_sound None image events old new after run = run.sound
 asked_sound (Some limit) image events old new after run = run.sound
+
+-- what was run on the world of a sound image was run on that image
+pub asked_run : (stop : Option ℕ) (image : List ℕ) (from : World) (lines : List (List ℕ)) (old new : Option (List ℕ)) (last after : List ℕ) →
+    IsSoundImage (types_in (blocks_in image)) image → from ≡ opened_world image → after ≡ last →
+    RunsLines lines (λ events. IsAskedOn stop from events old new last) → RunsLines lines (λ events. IsAskedRun stop image events old new after)
+asked_run None image from lines old new last after sound opened same run =
+    (run.0, run.1, record { sound = sound; run = subst (λ w. IsPrintedRun w run.0 old new after) opened (subst (IsPrintedRun from run.0 old new) (sym same) run.2) })
+asked_run (Some limit) image from lines old new last after sound opened same run =
+    (run.0, run.1, record { sound = sound; run = subst (λ w. IsStoppedRun w run.0 limit old new after) opened (subst (IsStoppedRun from run.0 limit old new) (sym same) run.2) })
+
+-- what was run on a fresh world
+pub printed_run : (from start : World) (lines : List (List ℕ)) (old new : Option (List ℕ)) (last after : List ℕ) → from ≡ start → after ≡ last →
+    RunsLines lines (λ events. IsPrintedRun from events old new last) → RunsLines lines (λ events. IsPrintedRun start events old new after)
+printed_run from start lines old new last after opened same run =
+    (run.0, run.1, subst (λ w. IsPrintedRun w run.0 old new after) opened (subst (IsPrintedRun from run.0 old new) (sym same) run.2))
+
+-- a run that ended well, and the bytes after it
+pub ended : {A B E : Type 0} (r : Result A E) (ran : Result B E) (X : Type 0) (P Q : A → Type 0) → OnOk r (IsOk ran) → OnOk ran X → IfOk r P → ((a : A) → X → P a → Q a) → IfOk r Q
+ended (Ok a) (Ok b) X P Q good run reached gives = gives a run reached
+ended (Ok a) (Err e) X P Q good run reached gives = absurd (false≢true good)
+ended (Err e) ran X P Q good run reached gives = tt
+
+pub fault_then : {A E : Type 0} (r : Result A E) (P Q : E → Type 0) → IfErr r P → ((e : E) → P e → Q e) → IfErr r Q
+fault_then (Ok a) P Q fault gives = tt
+fault_then (Err e) P Q fault gives = gives e fault

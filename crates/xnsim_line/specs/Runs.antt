@@ -2,7 +2,7 @@
 use Rattle.std.specs.Prelude.{◌≡◌, ℕ, List, map, Option}
 use Rattle.std.specs.List.{flat_map}
 use Rattle.std.specs.Io.KnownBytes.{Appends}
-use Rattle.xn_model.specs.Worlds.{World, Run}
+use Rattle.xn_model.specs.Worlds.{World, Run, Step}
 use Rattle.xn_model.specs.BareDisks.{mounted_disk}
 use Rattle.xn_model.specs.Images.{blocks_in, joined}
 use Rattle.image_model.specs.Report.{IsSoundImage}
@@ -14,6 +14,7 @@ use Rattle.world.specs.declared.reply.Reply.{Reply}
 use Rattle.world.specs.declared.event.Event.{Event}
 use Rattle.world.specs.Events.{event_of, reply_of}
 use Rattle.script.specs.Replies.{reply_line}
+use Rattle.script.specs.Scripts.{AllSpell, LineSpells}
 
 -- the first mount of a fresh disk of so many blocks with these templates
 abbrev pub fresh_world : ℕ → List TemplateValue → World
@@ -39,3 +40,15 @@ pub record IsPrintedRun (from : World) (events : List Event) (old new : Option (
 pub record IsMountedRun (image : List ℕ) (events : List Event) (old new : Option (List ℕ)) (after : List ℕ) : Type 0 where
   pub sound : IsSoundImage (types_in (blocks_in image)) image
   pub run : IsPrintedRun (opened_world image) events old new after
+
+-- a line spells an event, which was run on this world and its reply printed, and the world is then that
+pub record IsRunLine (from : World) (line : List ℕ) (old new : Option (List ℕ)) (after : World) : Type 0 where
+  pub event : Event
+  pub spells : LineSpells line event
+  pub reply : Reply
+  pub step : Step from (event_of event) (reply_of reply) after
+  pub printed : Appends old new (reply_line reply)
+
+-- these lines spell events of which this holds
+abbrev pub RunsLines : List (List ℕ) → (List Event → Type 0) → Type 0
+RunsLines lines Ran = (events : List Event) × AllSpell lines events × Ran events

@@ -14,7 +14,8 @@ use Rattle.world.specs.declared.event.Event.{Event}
 use Rattle.world.specs.Events.{event_of, reply_of}
 use Rattle.world.specs.Worlds.{is_any_in_flight}
 use Rattle.script.specs.Replies.{reply_line}
-use Rattle.xnsim_line.specs.Runs.{opened_world, IsMountedRun, IsRun}
+use Rattle.script.specs.Scripts.{LineSpells}
+use Rattle.xnsim_line.specs.Runs.{opened_world, IsMountedRun, IsPrintedRun, IsRun, IsRunLine}
 
 -- how many block writes a reply tells
 abbrev pub writes_of : model.Reply → ℕ
@@ -75,6 +76,23 @@ pub record IsStoppedRun (from : World) (events : List Event) (limit : ℕ) (old 
   pub end : IsEnd before rest left after
   pub printed : Appends old new (flat_map reply_line replies ++ end_line rest)
   pub reached : image ≡ joined after.image
+
+-- a line spells an event, which was run on this world and its reply printed; so many block writes may come after those of the reply
+pub record IsLineWithin (from : World) (line : List ℕ) (left : ℕ) (old new : Option (List ℕ)) (after : World) (rest : ℕ) : Type 0 where
+  pub run : IsRunLine from line old new after
+  pub counted : writes_of (reply_of run.reply) + rest ≡ left
+
+-- a line spells an event that is held back, and `stopped` was printed
+pub record IsLineHeldBack (from : World) (line : List ℕ) (left : ℕ) (old new : Option (List ℕ)) (after : World) : Type 0 where
+  pub event : Event
+  pub spells : LineSpells line event
+  pub held : IsHeldBack from (event_of event) left after
+  pub printed : Appends old new (codes "stopped" ++ 10 ∷ [])
+
+-- a run on a world, to its end or to a stop
+abbrev pub IsAskedOn : Option ℕ → World → List Event → Option (List ℕ) → Option (List ℕ) → List ℕ → Type 0
+IsAskedOn None from events old new image = IsPrintedRun from events old new image
+IsAskedOn (Some limit) from events old new image = IsStoppedRun from events limit old new image
 
 -- such a run on the disk of an image, which is sound
 pub record IsMountedStop (image : List ℕ) (events : List Event) (limit : ℕ) (old new : Option (List ℕ)) (after : List ℕ) : Type 0 where

@@ -115,8 +115,8 @@ fn run_files<'a, F: Files, W: Write>(
         .read_start(alloc, image, GREATEST_IMAGE_LEN + 1)
         .ok_or(Fault::CannotRead(image))?;
     let text = files.read(alloc, script).ok_or(Fault::CannotRead(script))?;
-    let events = parse(alloc, text_of(text.as_slice(), script)?)?;
-    let after = run_on_image(rt, alloc, before, events, stop, out)?;
+    let lines = parse(alloc, text_of(text.as_slice(), script)?)?;
+    let after = run_on_image(rt, alloc, before, lines.as_slice(), stop, out)?;
     if !files.write(image, after.as_slice()) {
         return Err(Fault::CannotWrite(image));
     }
@@ -162,8 +162,8 @@ fn run_input<'a, R: Read, W: Write>(
             _ => Fault::CannotRead(STANDARD_INPUT),
         });
     }
-    let events = parse(alloc, text_of(text.as_slice(), STANDARD_INPUT)?)?;
-    run_script(rt, alloc, MIN_BLOCKS, &[], events, out)?;
+    let lines = parse(alloc, text_of(text.as_slice(), STANDARD_INPUT)?)?;
+    run_script(rt, alloc, MIN_BLOCKS, &[], lines.as_slice(), out)?;
     Ok(())
 }
 

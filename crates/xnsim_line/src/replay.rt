@@ -1,20 +1,21 @@
 // A script is run.
 
-ghost use Rattle.std.specs.Prelude.{◌≡◌, ◌≤◌, length, IfOk, IfErr};
-ghost use Rattle.xn_model.specs.Images.{IsDiskSize};
+ghost use Rattle.std.specs.Prelude.{◌≡◌, ◌≤◌, length, map, IfOk, IfErr, IsOk, OnOk};
+ghost use Rattle.xn_model.specs.Images.{IsDiskSize, joined};
+ghost use Rattle.script.specs.Scripts.{SpellEvents, SpellsSome};
 ghost use Rattle.world.specs.Worlds.{world_with};
 ghost use Rattle.xnsim_line.specs.Done.{IsMountFault, IsRunFault};
-ghost use Rattle.xnsim_line.specs.Runs.{fresh_world, IsPrintedRun};
-ghost use Rattle.xnsim_line.specs.Stops.{IsAskedRun};
+ghost use Rattle.xnsim_line.specs.Runs.{fresh_world, IsPrintedRun, IsRunLine, RunsLines};
+ghost use Rattle.xnsim_line.specs.Stops.{IsAskedOn, IsAskedRun};
 
 use crate::fault::Fault;
-use crate::stopping::run_events_until;
-use script::print_reply;
+use crate::stopping::run_lines_until;
+use script::{parse_line, print_reply};
 use std::alloc::{AllocError, Global};
 use std::io::Write;
 use std::thread::Threads;
 use templates::{FormatFault, Template};
-use world::{Event, World};
+use world::World;
 
 /// The first mount of a fresh disk.
 fn fresh_world(
@@ -34,63 +35,123 @@ fn fresh_world(
     }
 }
 
-/// Runs the events on a world, prints a reply an event, and answers the bytes that are then on the disk.
-fn run_events<'a, W: Write>(
+/// Runs the event that a line spells on a world, and prints its reply.
+fn run_line<'a, W: Write>(
     rt: &(impl Threads + Sync),
-    mut world: World,
-    events: Vec<Event>,
+    alloc: Global,
+    world: &mut World,
+    line: &str,
     out: &mut W,
-) -> Result<Vec<u8>, Fault<'a>>
-    ensures run { IfOk result (λ image. IsPrintedRun (world_with world) events.items (W.contents out.old) (W.contents out.new) image.items) }
+) -> Result<(), Fault<'a>>
+    requires spells { SpellsSome line.now }
+    ensures run { OnOk result (IsRunLine (world_with world.old) line.now (W.contents out.old) (W.contents out.new) (world_with world.new)) }
     ensures fault { IfErr result IsRunFault }
 {
-    for event in events {
-        let reply = world.step(rt, &event);
-        print_reply(out, &reply)?;
+    let read = parse_line(alloc, line);
+    match &read {
+        Ok(Some(event)) => {
+            let reply = world.step(rt, event);
+            print_reply(out, &reply)?;
+            Ok(())
+        }
+        Ok(None) => unreachable!(),
+        Err(_) => Err(Fault::NoMemory),
     }
-    Ok(world.image()?)
 }
 
-/// Runs the events on a fresh disk of so many blocks with these templates, prints a reply an event, and answers the bytes
-/// that are then on the disk.
+/// Runs the events that these lines spell on a world, and prints a reply an event.
+fn run_lines<'a, W: Write>(
+    rt: &(impl Threads + Sync),
+    alloc: Global,
+    world: &mut World,
+    lines: &[&str],
+    out: &mut W,
+) -> Result<(), Fault<'a>>
+    requires { SpellEvents (map (λ line. line.now) lines.now) }
+    ensures run { OnOk result (RunsLines (map (λ line. line.now) lines.now) (λ events. IsPrintedRun (world_with world.old) events (W.contents out.old) (W.contents out.new) (joined world.new.image))) }
+    ensures fault { IfErr result IsRunFault }
+{
+    for line in lines {
+        run_line(rt, alloc, world, line, out)?;
+    }
+    Ok(())
+}
+
+/// Runs the events that these lines spell on a world, to their end or to a stop.
+fn run_asked<'a, W: Write>(
+    rt: &(impl Threads + Sync),
+    alloc: Global,
+    world: &mut World,
+    lines: &[&str],
+    stop: Option<u64>,
+    out: &mut W,
+) -> Result<(), Fault<'a>>
+    requires { SpellEvents (map (λ line. line.now) lines.now) }
+    ensures run { OnOk result (RunsLines (map (λ line. line.now) lines.now) (λ events. IsAskedOn stop (world_with world.old) events (W.contents out.old) (W.contents out.new) (joined world.new.image))) }
+    ensures fault { IfErr result IsRunFault }
+{
+    match stop {
+        None => run_lines(rt, alloc, world, lines, out),
+        Some(limit) => run_lines_until(rt, alloc, world, lines, limit, out),
+    }
+}
+
+/// The bytes that are on the disk after a run.
+fn end_run<'a>(world: World, ran: Result<(), Fault<'a>>) -> Result<Vec<u8>, Fault<'a>>
+    requires { IfErr ran IsRunFault }
+    ensures ran { OnOk result (IsOk ran.entry) }
+    ensures image { IfOk result (λ image. image.items ≡ joined world.image) }
+    ensures fault { IfErr result IsRunFault }
+{
+    let image = world.image();
+    drop(world);
+    ran?;
+    Ok(image?)
+}
+
+/// Runs the events that these lines spell on a fresh disk of so many blocks with these templates, prints a reply an event, and
+/// answers the bytes that are then on the disk.
 pub fn run_script<'a, W: Write>(
     rt: &(impl Threads + Sync),
     alloc: Global,
     blocks: u32,
     templates: &[Template],
-    events: Vec<Event>,
+    lines: &[&str],
     out: &mut W,
 ) -> Result<Vec<u8>, Fault<'a>>
     requires size { IsDiskSize blocks }
     requires few { length templates.now ≤ 16 }
-    ensures run { IfOk result (λ image. IsPrintedRun (fresh_world blocks templates.now) events.items (W.contents out.old) (W.contents out.new) image.items) }
+    requires lines { SpellEvents (map (λ line. line.now) lines.now) }
+    ensures run { IfOk result (λ image. RunsLines (map (λ line. line.now) lines.now) (λ events. IsPrintedRun (fresh_world blocks templates.now) events (W.contents out.old) (W.contents out.new) image.items)) }
     ensures fault { IfErr result IsRunFault }
 {
-    let world = fresh_world(rt, alloc, blocks, templates)?;
-    run_events(rt, world, events, out)
+    let mut world = fresh_world(rt, alloc, blocks, templates)?;
+    let ran = run_lines(rt, alloc, &mut world, lines, out);
+    end_run(world, ran)
 }
 
-/// Runs the events on the disk of a sound image, to their end or to a stop before the block write that comes after so many,
+/// Runs the events that these lines spell on the disk of a sound image, to their end or to a stop before the block write that comes after so many,
 /// prints a reply an event, and answers the bytes that are then on the disk. Of any other image the fault is told.
 pub fn run_on_image<'a, W: Write>(
     rt: &(impl Threads + Sync),
     alloc: Global,
     image: Vec<u8>,
-    events: Vec<Event>,
+    lines: &[&str],
     stop: Option<u64>,
     out: &mut W,
 ) -> Result<Vec<u8>, Fault<'a>>
-    ensures run { IfOk result (λ after. IsAskedRun stop image.items events.items (W.contents out.old) (W.contents out.new) after.items) }
+    requires lines { SpellEvents (map (λ line. line.now) lines.now) }
+    ensures run { IfOk result (λ after. RunsLines (map (λ line. line.now) lines.now) (λ events. IsAskedRun stop image.items events (W.contents out.old) (W.contents out.new) after.items)) }
     ensures fault { IfErr result (IsMountFault image.items) }
 {
     let opened = World::open(rt, alloc, image.as_slice());
     // The world has bytes of its own, and those after the run may take this memory.
     drop(image);
     match opened {
-        Ok(world) => match stop {
-            None => run_events(rt, world, events, out),
-            Some(limit) => run_events_until(rt, world, events, limit, out),
-        },
+        Ok(mut world) => {
+            let ran = run_asked(rt, alloc, &mut world, lines, stop, out);
+            end_run(world, ran)
+        }
         Err(fault) => Err(Fault::Image(fault)),
     }
 }

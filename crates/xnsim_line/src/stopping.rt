@@ -1,18 +1,21 @@
 // A script is run up to a stop: it ends immediately before the block write that comes after so many.
 
-ghost use Rattle.std.specs.Prelude.{◌≡◌, ◌+◌, ◌++◌, ◌∷◌, ◌<◌, ◌≤◌, ◌^◌, [], codes, false, IfErr, IfNone, IfOk, IfSome, IsTrue, OnOk};
+ghost use Rattle.std.specs.Prelude.{◌≡◌, ◌+◌, ◌++◌, ◌∷◌, ◌<◌, ◌≤◌, ◌^◌, [], codes, map, false, IfErr, IfNone, IfOk, IfSome, IsTrue, MatchBool, OnOk};
 ghost use Rattle.std.specs.Io.KnownBytes.{Appends};
 ghost use Rattle.xn_model.specs.Calls.{pick_of};
 ghost use Rattle.xn_model.specs.Images.{joined};
 ghost use Rattle.xn_model.specs.Worlds as model;
 ghost use Rattle.xn_model.specs.Worlds.{drain_for, write_out};
+ghost use Rattle.script.specs.Scripts.{SpellEvents, SpellsSome};
 ghost use Rattle.world.specs.Events.{event_of, reply_of};
 ghost use Rattle.world.specs.Worlds.{is_any_in_flight, world_with};
 ghost use Rattle.xnsim_line.specs.Done.{IsRunFault};
-ghost use Rattle.xnsim_line.specs.Stops.{is_drain, is_write, writes_of, IsHeldBack, IsStoppedRun};
+ghost use Rattle.xnsim_line.specs.Runs.{RunsLines};
+ghost use Rattle.xnsim_line.specs.Stops.{is_drain, is_write, writes_of, IsHeldBack, IsLineHeldBack, IsLineWithin, IsStoppedRun};
 
 use crate::fault::Fault;
-use script::print_reply;
+use script::{parse_line, print_reply};
+use std::alloc::Global;
 use std::io;
 use std::io::Write;
 use std::thread::Threads;
@@ -203,42 +206,58 @@ fn go_on_within(
     }
 }
 
-/// The bytes that are on a world's disk.
-fn image_of<'a>(world: &World) -> Result<Vec<u8>, Fault<'a>>
-    ensures image { IfOk result (λ image. image.items ≡ joined world.now.image) }
-    ensures fault { IfErr result IsRunFault }
-{
-    Ok(world.image()?)
-}
-
-/// Prints that the run stopped, and answers the bytes that are then on its disk.
-fn stopped_image<'a, W: Write>(world: &World, out: &mut W) -> Result<Vec<u8>, Fault<'a>>
-    ensures image { IfOk result (λ image. image.items ≡ joined world.now.image) }
-    ensures printed { OnOk result (Appends (W.contents out.old) (W.contents out.new) (codes "stopped" ++ 10 ∷ [])) }
-    ensures fault { IfErr result IsRunFault }
-{
-    print_stopped(out)?;
-    image_of(world)
-}
-
-/// Runs the events on a world, to their end or to a stop immediately before the block write that comes after so many. Prints a
-/// reply an event, and whether the run stopped; answers the bytes that are then on the disk.
-pub fn run_events_until<'a, W: Write>(
+/// Runs the event that a line spells, and prints its reply; or prints that the run stopped, where a block write may not come any
+/// more, and answers false.
+fn run_line_within<'a, W: Write>(
     rt: &(impl Threads + Sync),
-    mut world: World,
-    events: Vec<Event>,
+    alloc: Global,
+    world: &mut World,
+    line: &str,
+    left: &mut u64,
+    out: &mut W,
+) -> Result<bool, Fault<'a>>
+    requires spells { SpellsSome line.now }
+    ensures run { IfOk result (λ ran. MatchBool ran
+        (IsLineWithin (world_with world.old) line.now left.old (W.contents out.old) (W.contents out.new) (world_with world.new) left.new)
+        (IsLineHeldBack (world_with world.old) line.now left.old (W.contents out.old) (W.contents out.new) (world_with world.new))) }
+    ensures fault { IfErr result IsRunFault }
+{
+    let read = parse_line(alloc, line);
+    match &read {
+        Ok(Some(event)) => match go_on_within(rt, world, event, left) {
+            Some(reply) => {
+                print_reply(out, &reply)?;
+                Ok(true)
+            }
+            None => {
+                print_stopped(out)?;
+                Ok(false)
+            }
+        },
+        Ok(None) => unreachable!(),
+        Err(_) => Err(Fault::NoMemory),
+    }
+}
+
+/// Runs the events that these lines spell on a world, to their end or to a stop immediately before the block write that comes after
+/// so many. Prints a reply an event, and whether the run stopped.
+pub fn run_lines_until<'a, W: Write>(
+    rt: &(impl Threads + Sync),
+    alloc: Global,
+    world: &mut World,
+    lines: &[&str],
     limit: u64,
     out: &mut W,
-) -> Result<Vec<u8>, Fault<'a>>
-    ensures run { IfOk result (λ image. IsStoppedRun (world_with world) events.items limit (W.contents out.old) (W.contents out.new) image.items) }
+) -> Result<(), Fault<'a>>
+    requires { SpellEvents (map (λ line. line.now) lines.now) }
+    ensures run { OnOk result (RunsLines (map (λ line. line.now) lines.now) (λ events. IsStoppedRun (world_with world.old) events limit (W.contents out.old) (W.contents out.new) (joined world.new.image))) }
     ensures fault { IfErr result IsRunFault }
 {
     let mut left = limit;
-    for event in events {
-        match go_on_within(rt, &mut world, &event, &mut left) {
-            Some(reply) => print_reply(out, &reply)?,
-            None => return stopped_image(&world, out),
+    for line in lines {
+        if !run_line_within(rt, alloc, world, line, &mut left, out)? {
+            return Ok(());
         }
     }
-    image_of(&world)
+    Ok(())
 }

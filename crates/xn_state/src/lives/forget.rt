@@ -18,5 +18,7 @@ impl Lives {
         self.cache.end(block);
         self.free.give(block);
         mark(&mut self.dirty, block, false);
+        self.candidates.wake(block);
+        self.candidates.set(block, false);
     }
 }

@@ -26,7 +26,7 @@ impl Lives {
         if facts.is_in_flight() {
             return Err(Refusal::InFlight);
         }
-        let count = safe_prefix(&self.cache, &self.dirty, block);
+        let count = safe_prefix(&self.cache, &self.dirty, &self.homes, block);
         if count == 0 {
             return Err(Refusal::NothingSafe);
         }
@@ -88,6 +88,8 @@ impl Lives {
         ensures { self.new ≡ begun_at self.old block count }
     {
         self.cache.begin(block, count);
+        self.candidates.set(block, false);
+        self.candidates.trim(&self.cache, &self.dirty, &self.homes);
     }
 
     /// Ends a write of a block that made its first entries durable: the blocks that they drop are free. Answers how many
@@ -103,6 +105,10 @@ impl Lives {
         give_drops(&mut self.free, &self.cache, block, count as usize);
         let left = self.cache.pending(block) - count as usize;
         mark(&mut self.dirty, block, left > 0);
-        self.cache.settle_and_free(block, count)
+        self.candidates.wake(block);
+        self.candidates.set(block, left > 0);
+        let freed = self.cache.settle_and_free(block, count);
+        self.candidates.trim(&self.cache, &self.dirty, &self.homes);
+        freed
     }
 }

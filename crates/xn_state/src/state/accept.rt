@@ -16,6 +16,13 @@ use edit_list::{EditId, Fs, Undo};
 use udf_run::ReadSet;
 use xn_model::Refusal;
 
+/// What an entry claims: the blocks that it adds, each with its type, those that it drops, and the entry that it comes after.
+pub(crate) struct Claims<'a> {
+    pub adds: &'a [(u32, u32)],
+    pub drops: &'a [u32],
+    pub after: Option<EditId>,
+}
+
 impl State {
     /// A block in use accepts an entry with these bytes and claims, after which the rules hold. What undoes it gives the newest
     /// bytes again. The chunks that decide what the bytes own are kept, where they are known. `NoMemory` changes nothing.
@@ -26,23 +33,22 @@ impl State {
         bytes: &[u8; 512],
         reads: Option<ReadSet>,
         undo: Undo,
-        adds: &[(u32, u32)],
-        drops: &[u32],
-        after: Option<EditId>,
+        claims: Claims<'_>,
     ) -> Result<EditId, Refusal>
         requires alive { IsTrue (is_some (life_at self.old.store.lives block)) }
         requires room { life_pending (life_at self.old.store.lives block) < 64 }
         requires few { pending_of self.old.store fs.number < 4096 }
         requires numbers { self.old.store.next < 2 ^ 64 - 1 }
-        requires claims { MayClaim self.old.store.lives block adds.now drops.now }
-        requires few_adds { length adds.now ≤ 128 }
-        requires small { length drops.now ≤ 128 }
+        requires claims { MayClaim self.old.store.lives block claims.adds.now claims.drops.now }
+        requires few_adds { length claims.adds.now ≤ 128 }
+        requires small { length claims.drops.now ≤ 128 }
         requires reads { Decides (types_in self.old) self.old.store.lives block bytes.now reads }
         requires undoes { patched bytes.now undo ≡ life_bytes (life_at self.old.store.lives block) }
-        requires rules { IsConsistent (types_in self.old) (accepts self.old.store block (entry_of self.old.store fs.number bytes.now adds.now drops.now after)).1 }
-        ensures state { Gives (Ok (accepts self.old.store block (entry_of self.old.store fs.number bytes.now adds.now drops.now after))) self.old.store self.new.store result }
+        requires rules { IsConsistent (types_in self.old) (accepts self.old.store block (entry_of self.old.store fs.number bytes.now claims.adds.now claims.drops.now claims.after)).1 }
+        ensures state { Gives (Ok (accepts self.old.store block (entry_of self.old.store fs.number bytes.now claims.entry.adds.now claims.entry.drops.now claims.entry.after))) self.old.store self.new.store result }
         ensures table { self.new.table ≡ self.old.table }
     {
+        let Claims { adds, drops, after } = claims;
         let number = EditId(self.next);
         let Ok(claim) = Claim::copied(self.alloc, number, adds, drops, after, fs) else {
             return Err(Refusal::NoMemory);

@@ -15,6 +15,7 @@ ghost use Rattle.xn_state.specs.Proposals.{edited_with, proposed_of};
 ghost use Rattle.xn_state.specs.States.{types_in};
 
 use crate::read_sets::leaves;
+use crate::state::accept::Claims;
 use crate::state::{State, is_within_size};
 use block_cache::Facts;
 use claims::{are_blocks_distinct, are_distinct, owned_pairs};
@@ -250,15 +251,11 @@ impl State {
         let mut bytes = [0u8; 512];
         let reads = self.proposed(fs, block, edit, &mut bytes)?;
         let undo = self.undo_of(block, edit)?;
-        self.accept(
-            fs,
-            block,
-            &bytes,
-            Some(reads),
-            undo,
-            edit.adds(),
-            edit.drops(),
-            edit.after(),
-        )
+        let claims = Claims {
+            adds: edit.adds(),
+            drops: edit.drops(),
+            after: edit.after(),
+        };
+        self.accept(fs, block, &bytes, Some(reads), undo, claims)
     }
 }

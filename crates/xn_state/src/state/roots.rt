@@ -12,6 +12,7 @@ ghost use Rattle.xn_state.specs.States.{types_in};
 
 use crate::root::slot_undo;
 use crate::state::State;
+use crate::state::accept::Claims;
 use edit_list::{EditId, Fs, Undo};
 use templates::{root_slot, with_root_slot};
 use udf_run::Pair;
@@ -57,7 +58,12 @@ impl State {
     {
         let (bytes, ty) = self.make_root_plan(fs, block)?;
         let undo = self.slot_undo(fs)?;
-        self.accept(fs, 0, &bytes, None, undo, &[(block, ty)], &[], None)
+        let claims = Claims {
+            adds: &[(block, ty)],
+            drops: &[],
+            after: None,
+        };
+        self.accept(fs, 0, &bytes, None, undo, claims)
     }
 
     /// Block 0's bytes with the file system's root slot empty, and the block that stands there.
@@ -98,7 +104,12 @@ impl State {
     {
         let (bytes, block) = self.drop_root_plan(fs)?;
         let undo = self.slot_undo(fs)?;
-        self.accept(fs, 0, &bytes, None, undo, &[], &[block], None)
+        let claims = Claims {
+            adds: &[],
+            drops: &[block],
+            after: None,
+        };
+        self.accept(fs, 0, &bytes, None, undo, claims)
     }
 
     /// What undoes a change of the file system's root slot, in block 0.

@@ -1,39 +1,48 @@
-use Rattle.std.proofs.Common.{◌<◌, ◌+◌, ℕ, List, map, length, refl, sym, ◌∙◌, ap, subst, Bor}
-use Rattle.std.proofs.lemmas.List.{length-map}
+use Rattle.std.proofs.Common.{◌≡◌, ◌+◌, ◌∷◌, ◌++◌, [], map, length, arith, sym, ◌∙◌, ap, subst, Bor, List, ℕ}
+use Rattle.std.proofs.lemmas.Iterator.Consumers.{YieldsList-at, YieldsList-end, YieldsList-from_enumerate, YieldsList-turn}
+use Rattle.std.proofs.lemmas.Iterator.Splits.{YieldsList-from_str_split}
+use Rattle.std.proofs.lemmas.List.{length_push, map-append}
 use Rattle.script.specs.Events.{SpellNothing}
-use Rattle.script.specs.Scripts.{is_passed_over, words_of, LineSpells}
-use Rattle.script.proofs.ScriptLines.{line_at, passed_over, spelled_more, first_unreadable}
+use Rattle.script.specs.Scripts.{lines_of, is_passed_over, words_of, SpellsSome}
+use Rattle.script.proofs.ScriptLines.{all_read, line_at, passed_over, spelled_more, first_unreadable, IsReadTo}
 use Rattle.script.proofs.script.parse.Goals as goal
 
 pub loop-place-preserved-then-is_passed_over : goal.loop-place-preserved-then-is_passed_over
 loop-place-preserved-then-is_passed_over c =
-    let items = c.deref-line-items.result.now in
-    let place = c.loop-place.place in
-    let within : place < length (map (λ (line : Bor (List ℕ)). line.now) items) = rw length-map c.loop-place-test.true in
-    let line = line_at items place _ c.loop-place-test.true in
-    passed_over (map (λ line. line.now) items) place c.loop-place.events.items within (ap is_passed_over line ∙ (sym c.is_passed_over.ensures ∙ c.if-is_passed_over.true)) c.loop-place.invariant
-
-pub returns-in-None-clause-fault : goal.returns-in-None-clause-fault
-returns-in-None-clause-fault c =
-    let items = c.deref-line-items.result.now in
-    let place = c.loop-place.place in
-    let lines = map (λ (line : Bor (List ℕ)). line.now) items in
-    let within : place < length lines = rw length-map c.loop-place-test.true in
-    let line = line_at items place _ c.loop-place-test.true in
-    let none = rw c.in-None.is at c.in_ok-event.ensures.none in
-    first_unreadable c.args.script.now lines place (place + 1) c.loop-place.events.items
-    (rw c.deref-line-items.ensures.value c.in_ok-lines.ensures) within refl
-    (ap is_passed_over line ∙ (sym c.is_passed_over.ensures ∙ c.if-is_passed_over.false))
-    (subst (λ text. SpellNothing (words_of text)) (sym line) none) c.loop-place.invariant
+    let road = YieldsList-from_enumerate (YieldsList-at (cc) (YieldsList-from_str_split {s = c.split.result} 10 c.args.script.now (omega arith) c.split.ensures.text c.split.ensures.has_more c.split.ensures.pattern)) (cc) in
+    let turn = YieldsList-turn road c.loop-place.yielded _ c.loop-place.yielded_by _ _ _ c.in-Some.is c.next.ensures.steps in
+    let lines = lines_of c.args.script.now in
+    let kept = map (λ (line : Bor (List ℕ)). line.now) c.loop-place.lines.items in
+    let line = line_at lines (length c.loop-place.yielded) c.in-Some.place c.in-Some.line.now turn in
+    let more = passed_over lines (length c.loop-place.yielded) kept line.within (ap is_passed_over line.at ∙ (sym c.is_passed_over.ensures ∙ c.if-is_passed_over.true)) c.loop-place.invariant in
+    subst (λ n. IsReadTo lines n kept) (sym (length_push c.loop-place.yielded (c.in-Some.place, c.in-Some.line))) more
 
 pub loop-place-preserved : goal.loop-place-preserved
 loop-place-preserved c =
-    let items = c.deref-line-items.result.now in
-    let place = c.loop-place.place in
-    let lines = map (λ (line : Bor (List ℕ)). line.now) items in
-    let within : place < length lines = rw length-map c.loop-place-test.true in
-    let line = line_at items place _ c.loop-place-test.true in
-    let spelled = rw c.in-Some.is at c.in_ok-event.ensures.some in
-    spelled_more lines place c.loop-place.events.items c.push.new.self.items c.in-Some.event within
-    (ap is_passed_over line ∙ (sym c.is_passed_over.ensures ∙ c.if-is_passed_over.false))
-    (subst (λ text. LineSpells text c.in-Some.event) (sym line) spelled) c.in_ok-push-in-Some.ensures.items c.loop-place.invariant
+    let road = YieldsList-from_enumerate (YieldsList-at (cc) (YieldsList-from_str_split {s = c.split.result} 10 c.args.script.now (omega arith) c.split.ensures.text c.split.ensures.has_more c.split.ensures.pattern)) (cc) in
+    let turn = YieldsList-turn road c.loop-place.yielded _ c.loop-place.yielded_by _ _ _ c.in-Some.is c.next.ensures.steps in
+    let lines = lines_of c.args.script.now in
+    let kept = map (λ (line : Bor (List ℕ)). line.now) c.loop-place.lines.items in
+    let line = line_at lines (length c.loop-place.yielded) c.in-Some.place c.in-Some.line.now turn in
+    let spells : SpellsSome c.in-Some.line.now = rw c.if-not-branch.false at c.in_ok-spells_event.ensures in
+    let pushed : map (λ (line : Bor (List ℕ)). line.now) c.push.new.self.items ≡ kept ++ c.in-Some.line.now ∷ [] =
+    ap (map (λ line. line.now)) c.in_ok-push.ensures.items ∙ map-append (λ line. line.now) c.loop-place.lines.items (c.in-Some.line ∷ []) in
+    let more = spelled_more lines (length c.loop-place.yielded) kept (map (λ line. line.now) c.push.new.self.items) line.within (ap is_passed_over line.at ∙ (sym c.is_passed_over.ensures ∙ c.if-is_passed_over.false))
+    (subst SpellsSome (sym line.at) spells) (pushed ∙ ap (λ last. kept ++ last ∷ []) (sym line.at)) c.loop-place.invariant in
+    subst (λ n. IsReadTo lines n (map (λ line. line.now) c.push.new.self.items)) (sym (length_push c.loop-place.yielded (c.in-Some.place, c.in-Some.line))) more
+
+pub returns-then-not-branch-clause-fault : goal.returns-then-not-branch-clause-fault
+returns-then-not-branch-clause-fault c =
+    let road = YieldsList-from_enumerate (YieldsList-at (cc) (YieldsList-from_str_split {s = c.split.result} 10 c.args.script.now (omega arith) c.split.ensures.text c.split.ensures.has_more c.split.ensures.pattern)) (cc) in
+    let turn = YieldsList-turn road c.loop-place.yielded _ c.loop-place.yielded_by _ _ _ c.in-Some.is c.next.ensures.steps in
+    let line = line_at (lines_of c.args.script.now) (length c.loop-place.yielded) c.in-Some.place c.in-Some.line.now turn in
+    let none : SpellNothing (words_of c.in-Some.line.now) = rw c.if-not-branch.true at c.in_ok-spells_event.ensures in
+    first_unreadable c.args.script.now (length c.loop-place.yielded) (c.in-Some.place + 1) (map (λ line. line.now) c.loop-place.lines.items) line.within (ap (λ n. n + 1) line.counted)
+    (ap is_passed_over line.at ∙ (sym c.is_passed_over.ensures ∙ c.if-is_passed_over.false))
+    (subst (λ text. SpellNothing (words_of text)) (sym line.at) none) c.loop-place.invariant
+
+pub returns-clause-lines : goal.returns-clause-lines
+returns-clause-lines c =
+    let road = YieldsList-from_enumerate (YieldsList-at (cc) (YieldsList-from_str_split {s = c.split.result} 10 c.args.script.now (omega arith) c.split.ensures.text c.split.ensures.has_more c.split.ensures.pattern)) (cc) in
+    let end = YieldsList-end road c.loop-place.yielded _ c.loop-place.yielded_by _ _ c.in-None.is c.next.ensures.steps in
+    all_read c.args.script.now (length c.loop-place.yielded) (map (λ line. line.now) c.loop-place.lines.items) end.1 c.loop-place.invariant

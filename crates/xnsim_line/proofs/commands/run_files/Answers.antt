@@ -1,11 +1,15 @@
-use Rattle.std.proofs.Common.{rules, ◌≡◌, ◌<◌, ◌≤◌, ◌*◌, length, arith}
+use Rattle.std.proofs.Common.{rules, ◌≡◌, ◌∙◌, ◌<◌, ◌≤◌, ◌*◌, length, map, ap, subst, sym, arith}
 use Rattle.std.proofs.lemmas.Result.{err_from_is_err_and}
 use Rattle.image_model.specs.Walk.{count_of}
-use Rattle.xnsim_line.specs.Files.{IsHeld, IsStartHeld}
+use Rattle.script.specs.Scripts.{AllSpell, SpellEvents}
+use Rattle.xnsim_line.specs.Files.{IsStartHeld}
 use Rattle.xnsim_line.proofs.MountFaults.{mount_fault}
 use Rattle.xnsim_line.proofs.StartsRead.{whole_held}
 use Rattle.xnsim_line.proofs.StoppedRuns.{asked_sound}
 use Rattle.xnsim_line.proofs.commands.run_files.Goals as goal
+
+pub run_on_image-requires-clause-lines : goal.run_on_image-requires-clause-lines
+run_on_image-requires-clause-lines g c = λ κs b. subst (λ lines. SpellEvents (map (λ line. line.now) lines)) (sym c.as_slice-2.ensures.value) c.in_ok-lines.ensures.events
 
 pub returns-clause-done : goal.returns-clause-done
 returns-clause-done g c =
@@ -13,19 +17,19 @@ returns-clause-done g c =
     let image = c.in_ok-before.before.items in
     let start : IsStartHeld held c.args.image.now 16777217 image = search rules in
     let run = c.in_ok-after.ensures.run in
-    let sound = asked_sound c.args.stop image c.in_ok-events.events.items _ _ c.in_ok-after.after.items run in
+    let sound = asked_sound c.args.stop image run.0 _ _ c.in_ok-after.after.items run.2 in
     let long : length image ≡ 512 * count_of image = sound.whole in
     let most : count_of image ≤ 32768 = sound.blocks.size.1 in
     let few : length image < 16777217 = omega (arith, long, most) in
     record {
       image = image;
       text = c.in_ok-text_of.field-0.now;
-      events = c.in_ok-events.events.items;
+      events = run.0;
       after = c.in_ok-after.after.items;
       image_held = whole_held held c.args.image.now image 16777217 start few;
       script_held = search rules;
-      script = search rules;
-      run = run;
+      script = subst (λ lines. AllSpell lines run.0) (ap (map (λ line. line.now)) c.as_slice-2.ensures.value ∙ c.in_ok-lines.ensures.lines) run.1;
+      run = run.2;
       written = search rules;
     }
 

@@ -1,5 +1,5 @@
-use Rattle.std.proofs.Common.{rules, ◌≡◌, ◌<◌, length, arith, subst}
-use Rattle.xnsim_line.specs.Files.{IsHeld, IsStartHeld}
+use Rattle.std.proofs.Common.{rules, ◌≡◌, ◌<◌, length}
+use Rattle.xnsim_line.specs.Files.{IsStartHeld}
 use Rattle.xnsim_line.proofs.StartsRead.{whole_held}
 use Rattle.xnsim_line.proofs.formatting.read_file.Goals as goal
 

@@ -1,4 +1,4 @@
-use Rattle.std.proofs.Common.{◌≡◌, ◌≤◌, ◌+◌, ◌-◌, ◌∙◌, sym, ap, arith, ℕ, None, Some}
+use Rattle.std.proofs.Common.{◌≡◌, ◌∙◌, sym, ap, arith, ℕ, None, Some}
 use Rattle.std.specs.Prelude.{is_some}
 use Rattle.xn_model.specs.Calls.{pick_of}
 use Rattle.xn_model.specs.Worlds.{World, drain_for}

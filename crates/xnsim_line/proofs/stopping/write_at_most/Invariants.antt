@@ -1,4 +1,4 @@
-use Rattle.std.proofs.Common.{◌≡◌, ◌≤◌, ◌-◌, false}
+use Rattle.std.proofs.Common.{◌≡◌, ◌-◌, false}
 use Rattle.xn_model.specs.Worlds.{drain_for}
 use Rattle.world.specs.Worlds.{world_with}
 use Rattle.xnsim_line.proofs.stopping.write_at_most.Given as goal

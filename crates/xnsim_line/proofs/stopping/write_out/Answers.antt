@@ -1,4 +1,3 @@
-use Rattle.std.proofs.Common.{◌≡◌}
 use Rattle.world.specs.Events.{reply_of}
 use Rattle.world.specs.Worlds.{world_with}
 use Rattle.xnsim_line.proofs.BlockWrites.{wrote}

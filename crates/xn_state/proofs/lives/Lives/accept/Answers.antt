@@ -1,10 +1,15 @@
-use Rattle.std.proofs.Common.{◌≡◌, ◌∙◌, ◌+◌, ◌-◌, ◌≤◌, length, sym, subst, arith}
-use Rattle.std.specs.Prelude.{is_some, slice_index, slice_set, IsTrue}
+use Rattle.std.proofs.Common.{◌≡◌, ◌∙◌, ℕ, ◌%◌, ◌<◌, ◌+◌, ◌-◌, ◌≤◌, true, cond, length, ap, sym, subst, arith}
+use Rattle.std.specs.Prelude.{◌==◌, is_some, slice_index, slice_set, IsTrue}
 use Rattle.xn_model.specs.Lives.{Lives, dropped_after, life_at, owned_after}
 use Rattle.block_cache.specs.Claims.{state_of}
 use Rattle.claims.specs.Owned.{MayClaim}
 use Rattle.claims.proofs.Counted.{accepted_counts, few_owned, may_drop_all}
 use Rattle.claims.proofs.Owners.{alive_place}
+use Rattle.dependencies.specs.Candidates.{with_candidate}
+use Rattle.dependencies.specs.Homes.{with_home}
+use Rattle.dependencies.specs.Pending.{pends}
+use Rattle.dependencies.proofs.HomeChanges.{accepted_homes}
+use Rattle.dependencies.proofs.LifeChanges.{accepted_accounts}
 use Rattle.xn_state.proofs.Counting.{accepted_counted}
 use Rattle.xn_state.proofs.Dirty.{accepted_dirty}
 use Rattle.xn_state.proofs.lives.Lives.accept.Goals as goal
@@ -41,8 +46,16 @@ invariant_of-self-2 c =
     let claimed = subst (λ adds. MayClaim cache block adds c.args.claim.drops) (sym c.requires.adds) (subst (MayClaim cache block c.args.adds.now) (sym c.requires.drops) may) in
     let counts : c.change.new.self ≡ slice_set owned block (slice_index owned block - length c.args.claim.drops + length c.args.claim.adds) = c.change.ensures
     ∙ (λ i. slice_set owned block (slice_index owned block - length (sym c.requires.drops i) + length (sym c.requires.adds i))) in
-    rw (lives, c.index.ensures.value, counts, c.mark.ensures) (
+    let note = c.note_entry.ensures ∙ ap (λ n. cond (n == 0) (with_candidate c.self.inside.candidates block true) c.self.inside.candidates) c.pending-is_first.ensures.count in
+    let homes = c.self.inside.homes in
+    let number = c.number-number.ensures ∙ c.entry.ensures in
+    let home = c.put.ensures.home ∙ ap (λ n. with_home homes n block) number in
+    let room = subst (λ n. n % length homes < length homes) number c.put.ensures.room in
+    let fresh = λ (x : ℕ). ap (λ (xs : Lives). pends c.args.claim.entry (life_at xs x)) c.self.view_is ∙ c.requires.fresh x in
+    rw (lives, c.index.ensures.value, counts, c.mark.ensures, note, home) (
       accepted_counted cache c.self.inside.free c.self.inside.pending block c.args.fs.number state c.self.invariant.0 (omega arith) alive c.requires.fs,
       accepted_counts owned cache block state c.self.invariant.1 (alive_place cache block alive) claimed,
       accepted_dirty c.self.inside.dirty cache block state c.self.invariant.2 alive,
+      accepted_accounts cache c.self.inside.candidates block state c.self.invariant.3 alive,
+      accepted_homes cache homes block state room c.self.invariant.4 fresh,
     )

@@ -1,6 +1,8 @@
 use Rattle.std.proofs.Common.{arith, sym, subst}
 use Rattle.xn_model.specs.Lives.{Lives, life_at}
 use Rattle.claims.proofs.Counted.{ended_counts}
+use Rattle.dependencies.proofs.HomeChanges.{forgotten_homes}
+use Rattle.dependencies.proofs.LifeChanges.{forgotten_accounts}
 use Rattle.xn_state.specs.Kept.{IsUnowned}
 use Rattle.xn_state.proofs.Dirty.{forgotten_dirty}
 use Rattle.xn_state.proofs.Forgetting.{few_forgotten, forgotten_counted}
@@ -14,8 +16,10 @@ pub invariant_of-self : goal.invariant_of-self
 invariant_of-self c =
     let cache = c.self.inside.cache in
     let unowned = subst (λ (xs : Lives). IsUnowned (life_at xs c.args.block)) (sym c.self.view_is) c.requires in
-    rw (c.end.ensures, c.give.ensures, c.mark.ensures) (
+    rw (c.end.ensures, c.give.ensures, c.mark.ensures, c.set.ensures) (
       forgotten_counted cache c.self.inside.free c.self.inside.pending c.discount.new.pending c.args.block c.pending-count.result c.self.invariant.0 c.pending-count.ensures.count c.discount.ensures,
       ended_counts c.self.inside.owned cache c.args.block c.self.invariant.1 unowned,
       forgotten_dirty c.self.inside.dirty cache c.args.block c.self.invariant.2,
+      forgotten_accounts cache c.self.inside.candidates c.wake.new.self c.args.block c.self.invariant.3 c.wake.ensures,
+      forgotten_homes cache c.self.inside.homes c.args.block c.self.invariant.4,
     )

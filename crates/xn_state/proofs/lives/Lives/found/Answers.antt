@@ -5,6 +5,8 @@ use Rattle.xn_model.specs.Images.{blocks_in}
 use Rattle.xn_model.specs.Lives.{Lives}
 use Rattle.block_cache.specs.Views.{life_at_rest}
 use Rattle.edit_list.specs.declared.fs.Fs.{Fs}
+use Rattle.dependencies.proofs.HomeChanges.{clean_homes}
+use Rattle.dependencies.proofs.LifeChanges.{clean_accounts}
 use Rattle.xn_state.specs.Mounts.{found_of}
 use Rattle.xn_state.proofs.Counting.{marks}
 use Rattle.xn_state.proofs.Dirty.{found_dirty}
@@ -36,7 +38,14 @@ all_are c =
 
 pub invariant_of-result : goal.invariant_of-result
 invariant_of-result c =
-    (found_counted (blocks_in c.args.image.now) (map found_of c.args.found.now) c.loop-block.cache c.loop-block.free _ (all_are c) c.loop-block.invariant.1 refl, c.in_ok-owned.ensures, found_dirty (blocks_in c.args.image.now) (map found_of c.args.found.now) c.loop-block.cache c.in_ok-dirty.dirty (length c.as_chunks.result.0.now) (all_are c) (ap length c.as_chunks.ensures.front) c.in_ok-dirty.ensures)
+    let count = length c.as_chunks.result.0.now in
+    let dirty = found_dirty (blocks_in c.args.image.now) (map found_of c.args.found.now) c.loop-block.cache c.in_ok-dirty.dirty count (all_are c) (ap length c.as_chunks.ensures.front) c.in_ok-dirty.ensures in (
+      found_counted (blocks_in c.args.image.now) (map found_of c.args.found.now) c.loop-block.cache c.loop-block.free _ (all_are c) c.loop-block.invariant.1 refl,
+      c.in_ok-owned.ensures,
+      dirty,
+      clean_accounts c.loop-block.cache c.in_ok-dirty.dirty c.in_ok-candidates.candidates count dirty c.in_ok-dirty.ensures c.in_ok-candidates.ensures,
+      clean_homes c.loop-block.cache c.in_ok-dirty.dirty c.in_ok-homes.homes count dirty c.in_ok-dirty.ensures,
+    )
 
 pub returns : goal.returns
 returns c = all_are c

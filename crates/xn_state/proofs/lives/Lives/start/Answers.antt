@@ -1,7 +1,11 @@
-use Rattle.std.proofs.Common.{◌∙◌, None, ap, arith}
+use Rattle.std.proofs.Common.{◌∙◌, ℕ, ◌%◌, ◌<◌, None, ap, arith, length, subst}
 use Rattle.std.specs.Prelude.{unwrap_or}
-use Rattle.xn_model.specs.Lives.{lowest_free}
+use Rattle.xn_model.specs.Lives.{Lives, life_at, lowest_free}
 use Rattle.claims.proofs.Counted.{started_counts}
+use Rattle.dependencies.specs.Homes.{with_home}
+use Rattle.dependencies.specs.Pending.{pends}
+use Rattle.dependencies.proofs.HomeChanges.{started_homes}
+use Rattle.dependencies.proofs.LifeChanges.{started_accounts}
 use Rattle.xn_state.proofs.Counting.{least_is_free, started_counted}
 use Rattle.xn_state.proofs.Dirty.{started_dirty}
 use Rattle.xn_state.proofs.lives.Lives.start.Goals as goal
@@ -13,8 +17,14 @@ pub invariant_of-self-2 : goal.invariant_of-self-2
 invariant_of-self-2 c =
     let cache = c.self.inside.cache in
     let free = least_is_free cache c.args.block (ap lowest_free c.self.view_is ∙ c.requires.free) in
-    rw (c.in_ok-start.ensures.ok, c.take.ensures, c.index.ensures.value, c.mark.ensures) (
+    let homes = c.self.inside.homes in
+    let home = c.put.ensures.home ∙ ap (λ n. with_home homes n c.args.block) c.number.ensures in
+    let room = subst (λ n. n % length homes < length homes) c.number.ensures c.put.ensures.room in
+    let fresh = λ (x : ℕ). ap (λ (xs : Lives). pends c.args.number (life_at xs x)) c.self.view_is ∙ c.requires.fresh x in
+    rw (c.in_ok-start.ensures.ok, c.take.ensures, c.index.ensures.value, c.mark.ensures, c.set.ensures, home) (
       started_counted cache c.self.inside.free c.self.inside.pending c.args.block c.args.number c.args.fs.number c.args.ty c.args.bytes.now c.self.invariant.0 (omega arith) free,
       started_counts c.self.inside.owned cache c.args.block c.args.number c.args.fs.number c.args.ty c.args.bytes.now c.self.invariant.1 (ap (λ o. unwrap_or o None) free),
       started_dirty c.self.inside.dirty cache c.args.block c.args.number c.args.fs.number c.args.ty c.args.bytes.now c.self.invariant.2,
+      started_accounts cache c.self.inside.candidates c.args.block c.args.number c.args.fs.number c.args.ty c.args.bytes.now c.self.invariant.3 free,
+      started_homes cache homes c.args.block c.args.number c.args.fs.number c.args.ty c.args.bytes.now room c.self.invariant.4 fresh,
     )

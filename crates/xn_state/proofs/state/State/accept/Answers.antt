@@ -10,16 +10,18 @@ use Rattle.xn_state.specs.States.{StateValue, types_in}
 use Rattle.xn_state.specs.Decided.{Decides}
 use Rattle.claims.proofs.Owners.{alive_place}
 use Rattle.xn_state.proofs.Deciding.{accepted_decided}
+use Rattle.dependencies.specs.Pending.{pends}
 use Rattle.xn_state.proofs.Keeping as keeping
+use Rattle.xn_state.proofs.Newest.{none_next}
 use Rattle.xn_state.proofs.state.State.accept.Goals as goal
 
 pub invariant_of-self-2 : goal.invariant_of-self-2
 invariant_of-self-2 c =
-    let rules = subst (λ (s : StateValue). IsConsistent (types_in s) (accepts s.store c.args.block (entry_of s.store c.args.fs.number c.args.bytes.now c.args.adds.now c.args.drops.now c.args.after)).1)
+    let rules = subst (λ (s : StateValue). IsConsistent (types_in s) (accepts s.store c.args.block (entry_of s.store c.args.fs.number c.args.bytes.now c.args.claims.adds.now c.args.claims.drops.now c.args.claims.after)).1)
     (sym c.self.view_is) c.requires.rules in
     let lives = c.in-Ok-accept.ensures.ok ∙ ap (λ (claim : ClaimValue). accepted_at c.self.inside.lives c.args.block (state_of claim c.args.bytes.now)) c.in-Ok.ensures in
     let decides = subst (λ (s : StateValue). Decides (types_in s) s.store.lives c.args.block c.args.bytes.now c.args.reads) (sym c.self.view_is) c.requires.reads in
-    let state = entry_of (keeping.state_of c.self.inside.lives c.self.inside.next) c.args.fs.number c.args.bytes.now c.args.adds.now c.args.drops.now c.args.after in
+    let state = entry_of (keeping.state_of c.self.inside.lives c.self.inside.next) c.args.fs.number c.args.bytes.now c.args.claims.adds.now c.args.claims.drops.now c.args.claims.after in
     let decided = accepted_decided (types_of c.self.inside.table) c.self.inside.reads.sets.items c.self.inside.lives c.args.block state c.args.reads c.self.invariant.1 decides in
     rw (c.set.ensures, lives) (rules, decided)
 
@@ -27,3 +29,8 @@ pub set-requires : goal.set-requires
 set-requires c =
     let alive = subst (λ (s : StateValue). IsTrue (is_some (life_at s.store.lives c.args.block))) (sym c.self.view_is) c.requires.alive in
     omega (arith, alive_place c.self.inside.lives c.args.block alive, c.self.invariant.1.long)
+
+pub accept-requires-clause-fresh : goal.accept-requires-clause-fresh
+accept-requires-clause-fresh c =
+    let lives = c.self.inside.lives in
+    λ b. ap (λ (claim : ClaimValue). pends claim.entry (life_at lives b)) c.in-Ok.ensures ∙ none_next (types_of c.self.inside.table) (keeping.state_of lives c.self.inside.next) c.self.invariant.0 b

@@ -5,7 +5,8 @@ use Rattle.templates.specs.Tables.{types_of}
 use Rattle.xn_state.specs.States.{StateValue, types_in}
 use Rattle.xn_state.proofs.Counting.{least_is_free}
 use Rattle.xn_state.proofs.Deciding.{started_decided}
-use Rattle.xn_state.proofs.Keeping.{started_consistent}
+use Rattle.xn_state.proofs.Keeping.{started_consistent, state_of}
+use Rattle.xn_state.proofs.Newest.{none_next}
 use Rattle.xn_state.proofs.state.State.init.Goals as goal
 
 pub invariant_of-self-2 : goal.invariant_of-self-2
@@ -20,3 +21,6 @@ pub set-requires : goal.set-requires
 set-requires c =
     let free = least_is_free c.self.inside.lives c.in-Some-lowest_free.block (sym c.in-Some-lowest_free.ensures) in
     omega (arith, slice_get_within c.self.inside.lives c.in-Some-lowest_free.block None free, c.self.invariant.1.long)
+
+pub start-requires-clause-fresh : goal.start-requires-clause-fresh
+start-requires-clause-fresh c = none_next (types_of c.self.inside.table) (state_of c.self.inside.lives c.self.inside.next) c.self.invariant.0

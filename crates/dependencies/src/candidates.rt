@@ -1,0 +1,138 @@
+// The blocks of which a write may begin.
+
+ghost use Rattle.std.specs.Prelude.{◌≡◌, ◌≤◌, ◌⊎◌, true, false, cond, length, map, replicate, None, IfOk, IfSome, IfNone};
+ghost use Rattle.block_set.specs.Members.{IsLeastFrom, HasNoneFrom};
+ghost use Rattle.wait_lists.specs.Waiting.{at};
+ghost use Rattle.dependencies.specs.Candidates.{AreCandidates, CandidatesValue, Parks, Wakes, with_candidate};
+ghost use Rattle.dependencies.specs.Homes.{AreHomes};
+ghost use Rattle.dependencies.specs.Pending.{is_dirty};
+
+use crate::homes::Homes;
+use crate::waiting::waits_for;
+use block_cache::Cache;
+use block_set::BlockSet;
+use std::alloc::{AllocError, Global};
+use std::marker::Model;
+use wait_lists::WaitLists;
+
+/// The blocks of which a write may begin, and perhaps more. A block whose first entry waits for another block is on the list of
+/// that one, and is looked at again once a write of it has ended: so no call looks at each block that waits.
+#[derive(Drop)]
+pub struct Candidates {
+    blocks: BlockSet,
+    waits: WaitLists,
+}
+
+impl Model for Candidates {
+    ghost use Rattle.std.specs.Prelude.{◌≡◌, length};
+    ghost use Rattle.dependencies.specs.Candidates.{CandidatesValue};
+
+    ghost Value = { CandidatesValue };
+
+    ghost view = { λ a. record { blocks = a.blocks; waits = a.waits } };
+
+    ghost invariant = { λ a. length a.waits ≡ length a.blocks };
+}
+
+impl Candidates {
+    /// None of so many blocks is a candidate, and none waits.
+    pub fn new(alloc: Global, blocks: u32) -> Result<Candidates, AllocError>
+        ensures { IfOk result (λ candidates. candidates ≡ record { blocks = replicate blocks false; waits = replicate blocks None }) }
+    {
+        Ok(Candidates {
+            blocks: BlockSet::new(alloc, blocks)?,
+            waits: WaitLists::new(alloc, blocks)?,
+        })
+    }
+
+    /// The least candidate that is not below a number.
+    pub fn least_from(&self, from: u32) -> Option<u32>
+        ensures some { IfSome result (IsLeastFrom self.now.blocks from) }
+        ensures none { IfNone result (HasNoneFrom self.now.blocks from) }
+    {
+        self.blocks.least_from(from)
+    }
+
+    /// Makes a block a candidate, or takes it out.
+    pub fn set(&mut self, block: u32, is_candidate: bool)
+        ensures { self.new ≡ with_candidate self.old block is_candidate }
+    {
+        if block < self.blocks.bound() {
+            if is_candidate {
+                self.blocks.insert(block);
+            } else {
+                self.blocks.remove(block);
+            }
+        }
+    }
+
+    /// Makes a block a candidate where its first entry has come.
+    pub fn note_entry(&mut self, block: u32, is_first: bool)
+        ensures { self.new ≡ cond is_first (with_candidate self.old block true) self.old }
+    {
+        if is_first {
+            self.set(block, true);
+        }
+    }
+
+    /// Makes candidates of the blocks that wait for another one.
+    pub fn wake(&mut self, other: u32)
+        ensures { Wakes self.old self.new other }
+    {
+        wake_all(&mut self.blocks, &mut self.waits, other);
+    }
+
+    /// Puts a candidate on the list of another block, unless it stands on one.
+    fn park(&mut self, block: u32, other: u32) -> bool
+        ensures { (self.new ≡ self.old) ⊎ Parks self.old self.new block other }
+    {
+        let bound = self.blocks.bound();
+        if block >= bound || other >= bound || self.waits.is_waiting(block) {
+            return false;
+        }
+        self.waits.push(other, block);
+        self.blocks.remove(block);
+        true
+    }
+
+    /// Takes the least candidate out, if its first entry waits for another block.
+    fn park_least(&mut self, cache: &Cache, dirty: &BlockSet, homes: &Homes) -> bool
+        requires dirty { dirty.now ≡ map is_dirty cache.now }
+        requires homes { AreHomes cache.now homes.now }
+        requires candidates { AreCandidates cache.now self.old }
+        ensures { AreCandidates cache.now self.new }
+    {
+        let Some(block) = self.blocks.least() else {
+            return false;
+        };
+        let Some(other) = waits_for(cache, dirty, homes, block) else {
+            return false;
+        };
+        self.park(block, other)
+    }
+
+    /// Takes candidates out, from the least on, as long as their first entries wait for other blocks.
+    pub fn trim(&mut self, cache: &Cache, dirty: &BlockSet, homes: &Homes)
+        requires dirty { dirty.now ≡ map is_dirty cache.now }
+        requires homes { AreHomes cache.now homes.now }
+        requires candidates { AreCandidates cache.now self.old }
+        ensures { AreCandidates cache.now self.new }
+    {
+        for _turn in 0..cache.blocks() {
+            if !self.park_least(cache, dirty, homes) {
+                return;
+            }
+        }
+    }
+}
+
+/// Makes candidates of the blocks that wait for another one.
+fn wake_all(blocks: &mut BlockSet, waits: &mut WaitLists, other: u32)
+    requires { length waits.old ≡ length blocks.old }
+    ensures wakes { Wakes (record { blocks = blocks.old; waits = waits.old }) (record { blocks = blocks.new; waits = waits.new }) other }
+    ensures long { length waits.new ≡ length blocks.new }
+{
+    while let Some(block) = waits.pop(other) {
+        blocks.insert(block);
+    }
+}

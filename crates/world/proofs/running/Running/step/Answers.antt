@@ -1,0 +1,9 @@
+use Rattle.std.proofs.Common.{◌≡◌}
+use Rattle.world.specs.Events.{event_of, reply_of}
+use Rattle.world.specs.Worlds.{world_with}
+use Rattle.world.proofs.Catalogues.{step_own}
+use Rattle.world.proofs.running.Running.step.Goals as goal
+
+pub invariant_of-self : goal.invariant_of-self
+invariant_of-self c =
+    step_own (world_with c.self.inside.disk) (event_of c.args.event.now) (reply_of c.step-reply.result) (world_with c.step-reply.new.self) c.step-reply.ensures.rules c.self.invariant c.step-reply.ensures.step
