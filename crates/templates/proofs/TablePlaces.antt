@@ -1,5 +1,5 @@
 -- The places of a table, and what its types mean.
-use Rattle.std.proofs.Common.{◌≡◌, ℕ, ◌-◌, ◌≤◌, ◌<◌, ◌≢◌, zero, suc, replicate, ◌∙◌, ap, sym, refl, subst, cond, List, length, get_or, set, inl, inr, arith}
+use Rattle.std.proofs.Common.{◌≡◌, ◌⊎◌, [], ℕ, ◌-◌, ◌≤◌, ◌<◌, ◌≢◌, zero, suc, replicate, ◌∙◌, ap, sym, refl, subst, cond, List, length, get_or, set, inl, inr, arith}
 use Rattle.std.specs.Prelude.{Option, Some, None, is_some, IsTrue, IsSomeAnd, map, slice_index}
 use Rattle.std.proofs.lemmas.Bool.{lt-ltb, le-ltb, ne_eqb, cases_eq, false≢true}
 use Rattle.std.proofs.lemmas.Option.{same_Some, none-some}
@@ -84,3 +84,20 @@ module _ (table : TableValue) (t : ℕ) where
         by None e h = absurd h
         by (Some end) e h =
             h ∙ (sym (ap answer_after e) ∙ (ap (λ (p : Program). answer_after (meaning (tree p) m reset)) is ∙ sym (ap (λ o. size_under o m) at)))
+
+-- A leaf points to nothing, and may use all its bytes
+
+module _ (table : TableValue) (t : ℕ) (leaf : (t ≡ 1) ⊎ (t ≡ 2)) (m : List ℕ) where
+  pub leaf_owned : [] ≡ (types_of table).owned t m
+  unfolding types_of template_of owned_by leaf_template
+  leaf_owned = elim leaf [
+    | inl e ↦ sym (ap (λ ty. (types_of table).owned ty m) e)
+    | inr e ↦ sym (ap (λ ty. (types_of table).owned ty m) e)
+  ]
+
+  pub leaf_size : 512 ≡ (types_of table).size t m
+  unfolding types_of template_of answer_of leaf_template
+  leaf_size = elim leaf [
+    | inl e ↦ sym (ap (λ ty. (types_of table).size ty m) e)
+    | inr e ↦ sym (ap (λ ty. (types_of table).size ty m) e)
+  ]

@@ -1,6 +1,6 @@
 // The templates of all types.
 
-ghost use Rattle.std.specs.Prelude.{◌≡◌, ◌-◌, ◌≤◌, map, slice_set, Some, None, IsTrue, IfOk};
+ghost use Rattle.std.specs.Prelude.{◌≡◌, ◌⊎◌, ◌↔◌, ◌-◌, ◌≤◌, map, slice_set, Some, None, IsTrue, IfOk};
 ghost use Rattle.std.specs.Option.{option_copied};
 ghost use Rattle.templates.specs.Decided.{DecidesOwned};
 ghost use Rattle.templates.specs.Meaning.{pair_of};
@@ -17,6 +17,13 @@ use udf_verify::Role;
 
 /// The type of the catalogue's first place.
 const FIRST_PLACE: u32 = 3;
+
+/// Whether blocks of the type point to nothing and may use all their bytes, as those of templates and of data: no program is run for them.
+fn is_leaf(ty: u32) -> bool
+    ensures { IsTrue result ↔ ((ty ≡ 1) ⊎ (ty ≡ 2)) }
+{
+    ty == 1 || ty == 2
+}
 
 /// The templates by type: 0 to 2 are built in, and type 3 + i stands at place i of the catalogue, i from 0 to 15.
 pub struct Table {
@@ -108,6 +115,9 @@ impl Table {
         requires { IsTrue ((types_of self.now).installed ty) }
         ensures { map pair_of out.new.items ≡ (types_of self.now).owned ty block.now }
     {
+        if is_leaf(ty) {
+            return out.clear();
+        }
         match self.get(ty) {
             Some(template) => owns(template.owns(), block, out),
             None => unreachable!(),
@@ -132,6 +142,9 @@ impl Table {
         ensures value { result ≡ (types_of self.now).size ty block.now }
         ensures small { result ≤ 512 }
     {
+        if is_leaf(ty) {
+            return 512;
+        }
         match self.get(ty) {
             Some(template) => size(template.size(), block),
             None => unreachable!(),

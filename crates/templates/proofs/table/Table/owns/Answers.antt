@@ -1,5 +1,6 @@
-use Rattle.std.proofs.Common.{sym}
-use Rattle.templates.proofs.TablePlaces.{not_absent, owned_is}
+use Rattle.std.proofs.Common.{map, ◌∙◌, ap, sym}
+use Rattle.templates.specs.Meaning.{pair_of}
+use Rattle.templates.proofs.TablePlaces.{leaf_owned, not_absent, owned_is}
 use Rattle.templates.proofs.table.Table.owns.Goals as goal
 
 pub unreachable-requires : goal.unreachable-requires
@@ -8,3 +9,6 @@ unreachable-requires c = not_absent c.args.self.now c.args.ty c.requires (sym c.
 pub returns : goal.returns
 returns c = owned_is c.args.self.now c.args.ty c.in-Some.template.now (sym c.in-Some.ensures.value) c.owns.result.now c.args.block.now
     c.owns-in-Some.new.out.items c.owns.ensures.value c.owns-in-Some.ensures.pairs
+
+pub returns-then-is_leaf : goal.returns-then-is_leaf
+returns-then-is_leaf c = ap (map pair_of) c.clear.ensures ∙ leaf_owned c.args.self.now c.args.ty (c.is_leaf.ensures.0 c.if-is_leaf.true) c.args.block.now
