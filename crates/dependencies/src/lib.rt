@@ -12,6 +12,6 @@ mod waiting;
 
 pub use candidates::Candidates;
 pub use homes::Homes;
-pub use oldest::{home_for, next_pending, with_entry};
+pub use oldest::{first_system, home_for, move_on, note_number};
 pub use prefix::{is_tainted, safe_prefix};
 pub use ready::{is_ready, pick};

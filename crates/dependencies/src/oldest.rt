@@ -1,11 +1,11 @@
 // From which number on the pending entries of a file system lie.
 
-ghost use Rattle.std.specs.Prelude.{◌≡◌, ◌≤◌, ℕ, true, false, cond, ◌==◌, min, option_map, slice_get, IfSome, IsTrue};
+ghost use Rattle.std.specs.Prelude.{◌≡◌, ◌≤◌, ℕ, true, false, option_map, slice_get, IfSome, IsTrue};
 ghost use Rattle.xn_model.specs.Lives.{life_at};
 ghost use Rattle.block_cache.specs.Claims.{claim_of};
 ghost use Rattle.block_cache.specs.Views.{pending_at};
 ghost use Rattle.dependencies.specs.Homes.{AreHomes};
-ghost use Rattle.dependencies.specs.Oldest.{is_number_for, pends_for};
+ghost use Rattle.dependencies.specs.Oldest.{AreOldest, is_number_for, pends_for, with_entry};
 
 use crate::homes::Homes;
 use block_cache::{Cache, Fs};
@@ -45,7 +45,7 @@ fn is_past(cache: &Cache, homes: &Homes, fs: Fs, number: u64) -> bool
 
 /// The least number from this one on whose entry may be pending for the file system. Mostly it is: only of an entry whose slot a
 /// later one has taken that is not known.
-pub fn next_pending(cache: &Cache, homes: &Homes, fs: Fs, from: u64) -> u64
+fn next_pending(cache: &Cache, homes: &Homes, fs: Fs, from: u64) -> u64
     requires { AreHomes cache.now homes.now }
     ensures { (n b : ℕ) → pends_for fs.number n (life_at cache.now b) ≡ true → from ≤ n → result ≤ n }
 {
@@ -70,13 +70,32 @@ pub fn home_for(cache: &Cache, homes: &Homes, fs: Fs, number: u64) -> Option<u32
     }
 }
 
-/// The number for a file system once a new entry of it has come, of which so many were pending.
-pub fn with_entry(oldest: u64, number: u64, pending: u32) -> u64
-    ensures { result ≡ cond (pending == 0) number (min number oldest) }
+/// Notes a new entry of a file system, of which so many were pending.
+pub fn note_number(oldest: &mut [u64; 32], fs: Fs, number: u64, pending: u32)
+    ensures { oldest.new ≡ with_entry oldest.old fs.number number pending }
 {
+    let place = fs.index();
     if pending == 0 {
-        number
+        oldest[place] = number;
     } else {
-        number.min(oldest)
+        oldest[place] = number.min(oldest[place]);
     }
+}
+
+/// Moves the number of a file system on, some entries of which are pending no longer.
+pub fn move_on(oldest: &mut [u64; 32], cache: &Cache, homes: &Homes, fs: Option<Fs>)
+    requires homes { AreHomes cache.now homes.now }
+    requires oldest { AreOldest cache.now oldest.old }
+    ensures { AreOldest cache.now oldest.new }
+{
+    if let Some(fs) = fs {
+        let place = fs.index();
+        oldest[place] = next_pending(cache, homes, fs, oldest[place]);
+    }
+}
+
+/// The file system of the oldest pending entry of a block.
+pub fn first_system(cache: &Cache, block: u32) -> Option<Fs> {
+    let claim = cache.claim(block, 0)?;
+    Some(claim.fs())
 }
