@@ -4,7 +4,7 @@ ghost use Rattle.std.specs.Prelude.{◌≡◌, None, slice_set};
 ghost use Rattle.xn_model.specs.Lives.{life_at};
 ghost use Rattle.xn_state.specs.Kept.{IsUnowned};
 
-use crate::counts::{discount, mark};
+use crate::counts::{discount, mark, with_pending};
 use crate::lives::Lives;
 use dependencies::{first_system, move_on};
 
@@ -22,6 +22,7 @@ impl Lives {
         mark(&mut self.dirty, block, false);
         self.candidates.wake(block);
         self.candidates.set(block, false);
+        let fs = with_pending(&self.pending, fs);
         move_on(&mut self.oldest, &self.cache, &self.homes, fs);
     }
 }

@@ -6,7 +6,7 @@ ghost use Rattle.xn_model.specs.Calls.{begun_place, first_pending, is_durable, l
 ghost use Rattle.block_cache.specs.Views.{HasImage, image_at};
 ghost use Rattle.xn_state.specs.Kept.{MayFree};
 
-use crate::counts::{discount, give_drops, mark};
+use crate::counts::{discount, give_drops, mark, with_pending};
 use crate::lives::Lives;
 use dependencies::{first_system, move_on, safe_prefix};
 use xn_model::Refusal;
@@ -110,6 +110,7 @@ impl Lives {
         self.candidates.set(block, left > 0);
         let freed = self.cache.settle_and_free(block, count);
         self.candidates.trim(&self.cache, &self.dirty, &self.homes);
+        let fs = with_pending(&self.pending, fs);
         move_on(&mut self.oldest, &self.cache, &self.homes, fs);
         freed
     }
