@@ -1,12 +1,12 @@
 -- Each entry is one of a life.
-use Rattle.std.proofs.Common.{◌≡◌, ◌≢◌, ◌⊎◌, inl, inr, ⊎_elim, ℕ, zero, suc, ◌+◌, ◌<◌, Bool, List, [], ◌∷◌, ◌++◌, length, take, drop, get_or, Option, Some, None, refl, sym, ◌∙◌, ap, arith, subst, slice_get}
+use Rattle.std.proofs.Common.{◌≡◌, ◌≢◌, ◌⊎◌, inl, inr, ⊎_elim, ℕ, zero, suc, ◌+◌, ◌<◌, List, [], ◌∷◌, ◌++◌, length, take, drop, get_or, Option, Some, None, refl, sym, ◌∙◌, ap, arith, subst, slice_get}
 use Rattle.std.specs.Prelude.{IsTrue, is_some, option_map, slice_set, unwrap_or}
 use Rattle.std.proofs.lemmas.Bool.{cases_eq, false≢true}
 use Rattle.std.proofs.lemmas.Option.{none-some, same_Some, slice_get_within}
 use Rattle.slab.specs.Slab.{Slab, get, Updates}
 use Rattle.block_cache.specs.declared.entry.Entry.{Entry}
 use Rattle.block_cache.specs.Cached.{CachedLife}
-use Rattle.block_cache.specs.Kept.{IsApart, IsAmong, IsUsed, AreUsed, place_at, change_place, appended, settled, started, resting, first_keys, keys_of}
+use Rattle.block_cache.specs.Kept.{IsApart, IsAmong, IsUsed, AreUsed, place_at, change_place, appended, settled, first_keys, keys_of}
 
 abbrev Places : Type 0
 Places = List (Option CachedLife)

@@ -1,11 +1,13 @@
 // What each block has been since it was last free.
 
-ghost use Rattle.std.specs.Prelude.{◌≡◌, ℕ, ◌+◌, ◌<◌, ◌≤◌, [], ◌∷◌, length, replicate, Option, Some, None, IsTrue, IfOk, IfSome, OnOk, OnErr, is_some, option_map, slice_get, slice_set};
+ghost use Rattle.std.specs.Prelude.{◌≡◌, ℕ, ◌+◌, ◌*◌, ◌<◌, ◌≤◌, [], ◌∷◌, length, replicate, Option, Some, None, IsTrue, IfOk, IfSome, OnOk, OnErr, is_some, option_map, slice_get, slice_set};
+ghost use Rattle.std.specs.List.{list_any};
 ghost use Rattle.std.specs.Option.{option_copied, option_and_then};
 ghost use Rattle.slab.specs.Slab.{get};
 ghost use Rattle.xn_model.specs.Lives.{life_at, change_at, with_state, with_status, settled_at, begun_at, current, alive_and, is_for};
 ghost use Rattle.xn_model.specs.Calls.{new_life, life_bytes, life_pending, patched};
 ghost use Rattle.xn_model.specs.Rules.{IsCount};
+ghost use Rattle.xn_model.specs.Worlds.{all_pending};
 ghost use Rattle.block_cache.specs.Claims.{state_of, claim_of};
 ghost use Rattle.block_cache.specs.Kept.{IsAmong, IsApart, first_keys, keys_of};
 ghost use Rattle.block_cache.specs.Views.{image_at, HasImage, facts_of, pending_at, life_at_rest};
@@ -156,6 +158,21 @@ impl Cache {
             Some(facts) => facts.pending,
             None => 0,
         }
+    }
+
+    /// How many entries are pending, of all blocks: at most 64 of each.
+    pub fn all_pending(&self) -> usize
+        ensures count { result ≡ all_pending self.now }
+        ensures few { result ≤ 64 * length self.now }
+    {
+        self.places.pending()
+    }
+
+    /// Whether a write of some block is under way.
+    pub fn is_any_in_flight(&self) -> bool
+        ensures { result ≡ list_any (alive_and (λ l. is_some l.begun)) self.now }
+    {
+        self.places.in_flight() > 0
     }
 
     /// Whether a block is in use and belongs to a file system.

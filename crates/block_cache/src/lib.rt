@@ -8,6 +8,7 @@ mod freeing;
 mod life;
 mod places;
 mod rollback;
+mod totals;
 
 pub use cache::Cache;
 pub use claim::Claim;

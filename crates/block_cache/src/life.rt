@@ -173,6 +173,13 @@ impl Life {
         self.keys.as_slice()
     }
 
+    /// Whether a write of the block is under way.
+    pub fn is_in_flight(&self) -> bool
+        ensures { result ≡ is_some self.now.begun }
+    {
+        self.begun.is_some()
+    }
+
     /// The newest bytes.
     pub fn current(&self) -> &[u8; 512]
         ensures { result.now ≡ self.now.current }

@@ -1,3 +1,4 @@
 pub mod Owners
 pub mod Counted
 pub mod Numbers
+pub mod Deciding

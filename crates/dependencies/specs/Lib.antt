@@ -4,3 +4,4 @@ pub mod Pending
 pub mod Waiting
 pub mod Candidates
 pub mod Homes
+pub mod Oldest

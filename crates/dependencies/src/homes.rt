@@ -33,6 +33,13 @@ impl Homes {
         })
     }
 
+    /// How many slots there are.
+    pub fn slots(&self) -> usize
+        ensures { result ≡ length self.now }
+    {
+        self.slots.len()
+    }
+
     /// The block of an entry, unless a later one has taken its slot.
     pub fn home(&self, number: u64) -> Option<u32>
         ensures { result ≡ home_of self.now number }

@@ -4,7 +4,7 @@
 mod after;
 mod candidates;
 mod homes;
-mod idle;
+mod oldest;
 mod prefix;
 mod ready;
 mod safe;
@@ -12,6 +12,6 @@ mod waiting;
 
 pub use candidates::Candidates;
 pub use homes::Homes;
-pub use idle::{all_pending, is_any_in_flight};
+pub use oldest::{first_system, home_for, move_on, note_number};
 pub use prefix::{is_tainted, safe_prefix};
 pub use ready::{is_ready, pick};

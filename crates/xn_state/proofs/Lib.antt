@@ -12,6 +12,5 @@ pub mod Writing
 pub mod Slots
 pub mod Claiming
 pub mod Dirty
-pub mod Deciding
 pub mod Unclaimed
 pub mod Newest

@@ -14,7 +14,7 @@ use Rattle.owner_records.proofs.OwnedCounts.{owned_counted}
 use Rattle.udf_run.specs.ReadSets.{AgreeOn}
 use Rattle.udf_run.specs.Safe.{IsBlock}
 use Rattle.templates.specs.Decided.{DecidesOwned}
-use Rattle.xn_state.specs.Decided.{Leaves}
+use Rattle.claims.specs.Decided.{Leaves}
 
 pub some_life : (lives : Lives) (b : ℕ) → is_some (life_at lives b) ≡ true → (l : Life) × (life_at lives b ≡ Some l)
 some_life lives b alive = by (life_at lives b) refl alive

@@ -6,4 +6,3 @@ pub mod States
 pub mod Mounts
 pub mod Proposals
 pub mod Answers
-pub mod Decided

@@ -8,6 +8,7 @@ ghost use Rattle.xn_state.specs.Counts.{claim_count, claim_drops, given};
 
 use block_cache::{Cache, Claim};
 use block_set::BlockSet;
+use edit_list::Fs;
 use free_map::FreeMap;
 
 /// Takes the first entries of a block out of the counts.
@@ -28,6 +29,16 @@ fn discount_one(pending: &mut [u32; 32], claim: Option<&Claim>)
 {
     if let Some(claim) = claim {
         pending[claim.fs().index()] -= 1;
+    }
+}
+
+/// A file system, where entries of it are pending.
+pub fn with_pending(pending: &[u32; 32], fs: Option<Fs>) -> Option<Fs> {
+    let fs = fs?;
+    if pending[fs.index()] > 0 {
+        Some(fs)
+    } else {
+        None
     }
 }
 

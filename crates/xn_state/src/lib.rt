@@ -8,7 +8,6 @@ mod floors;
 mod found;
 pub mod law;
 mod lives;
-mod read_sets;
 mod root;
 mod state;
 mod store;

@@ -21,7 +21,7 @@ use crate::found::Found;
 use block_cache::{Cache, Claim, Facts};
 use block_set::BlockSet;
 use claims::OwnedCounts;
-use dependencies::{Candidates, Homes};
+use dependencies::{Candidates, Homes, home_for, note_number};
 use edit_list::{EditId, Fs, Undo};
 use free_map::FreeMap;
 use std::alloc::{AllocError, Global};
@@ -33,8 +33,8 @@ mod idle;
 mod writes;
 
 /// The lives of all blocks, by block number. Which blocks are free, for which something is pending, of which a write may begin,
-/// in which block the newest entries are pending, how many pending entries count for a file system, and how many blocks each block owns, is kept beside them, so that no call
-/// walks all lives for it.
+/// in which block the newest entries are pending, how many pending entries count for a file system and from which number on they
+/// lie, and how many blocks each block owns, is kept beside them, so that no call walks all lives for it.
 pub struct Lives {
     cache: Cache,
     free: FreeMap,
@@ -43,6 +43,7 @@ pub struct Lives {
     dirty: BlockSet,
     candidates: Candidates,
     homes: Homes,
+    oldest: [u64; 32],
 }
 
 impl Model for Lives {
@@ -51,13 +52,14 @@ impl Model for Lives {
     ghost use Rattle.claims.specs.Owned.{AreOwnedCounts};
     ghost use Rattle.dependencies.specs.Candidates.{AreCandidates};
     ghost use Rattle.dependencies.specs.Homes.{AreHomes};
+    ghost use Rattle.dependencies.specs.Oldest.{AreOldest};
     ghost use Rattle.xn_state.specs.Kept.{IsCounted, is_dirty};
 
     ghost Value = { List (Option LifeValue) };
 
     ghost view = { λ a. a.cache };
 
-    ghost invariant = { λ a. IsCounted a.cache a.free a.pending × AreOwnedCounts a.owned a.cache × (a.dirty ≡ map is_dirty a.cache) × AreCandidates a.cache a.candidates × AreHomes a.cache a.homes };
+    ghost invariant = { λ a. IsCounted a.cache a.free a.pending × AreOwnedCounts a.owned a.cache × (a.dirty ≡ map is_dirty a.cache) × AreCandidates a.cache a.candidates × AreHomes a.cache a.homes × AreOldest a.cache a.oldest };
 }
 
 /// Written by hand, so that a function that drops one calls this: a derived drop is proved anew in each such function.
@@ -71,6 +73,7 @@ impl Drop for Lives {
             dirty: _,
             candidates: _,
             homes: _,
+            oldest: _,
         } = self;
     }
 }
@@ -105,6 +108,7 @@ impl Lives {
             dirty,
             candidates,
             homes,
+            oldest: [0; 32],
         })
     }
 
@@ -174,7 +178,14 @@ impl Lives {
     pub fn least_for(&self, fs: Fs, most: u64) -> u64
         ensures { result ≡ least_to most (entries_of fs.number self.now) }
     {
-        floors::least_for(&self.cache, &self.dirty, fs, most, self.pending[fs.index()])
+        let pending = self.pending[fs.index()];
+        if pending > 0 {
+            let oldest = self.oldest[fs.index()];
+            if let Some(_block) = home_for(&self.cache, &self.homes, fs, oldest) {
+                return oldest.min(most);
+            }
+        }
+        floors::least_for(&self.cache, &self.dirty, fs, most, pending)
     }
 
     /// The least free block.
@@ -248,6 +259,8 @@ impl Lives {
         mark(&mut self.dirty, block, true);
         self.candidates.set(block, true);
         self.homes.put(number.number(), block);
+        let pending = self.pending[fs.index()];
+        note_number(&mut self.oldest, fs, number.number(), pending);
         self.pending[fs.index()] += 1;
         Ok(())
     }
@@ -289,6 +302,8 @@ impl Lives {
         mark(&mut self.dirty, block, true);
         self.candidates.note_entry(block, is_first);
         self.homes.put(number, block);
+        let pending = self.pending[fs.index()];
+        note_number(&mut self.oldest, fs, number, pending);
         self.pending[fs.index()] += 1;
         Ok(())
     }

@@ -14,8 +14,8 @@ ghost use Rattle.xn_state.specs.States.{StateValue, types_in};
 
 use crate::found::Found;
 use crate::lives::Lives;
-use crate::read_sets::ReadSets;
 use arrayvec::ArrayVec;
+use claims::ReadSets;
 use edit_list::{EditId, Fs};
 use std::alloc::{AllocError, Global};
 use std::marker::Model;
@@ -43,14 +43,14 @@ pub struct State {
 impl Model for State {
     ghost use Rattle.xn_model.specs.Rules.{IsConsistent};
     ghost use Rattle.templates.specs.Tables.{types_of};
-    ghost use Rattle.xn_state.specs.Decided.{AreDecided};
+    ghost use Rattle.claims.specs.Decided.{AreDecided};
     ghost use Rattle.xn_state.specs.States.{StateValue};
 
     ghost Value = { StateValue };
 
     ghost view = { λ a. record { table = a.table; store = record { lives = a.lives; next = a.next } } };
 
-    ghost invariant = { λ a. IsConsistent (types_of a.table) (record { lives = a.lives; next = a.next }) × AreDecided (types_of a.table) a.reads.sets.items a.lives };
+    ghost invariant = { λ a. IsConsistent (types_of a.table) (record { lives = a.lives; next = a.next }) × AreDecided (types_of a.table) a.reads a.lives };
 }
 
 /// Written by hand, so that a function that drops one calls this: a derived drop is proved anew in each such function.

@@ -12,7 +12,7 @@ impl Lives {
     pub fn is_any_in_flight(&self) -> bool
         ensures { result ≡ list_any (alive_and (λ l. is_some l.begun)) self.now }
     {
-        dependencies::is_any_in_flight(&self.cache)
+        self.cache.is_any_in_flight()
     }
 
     /// How many entries are pending, of all blocks and file systems.
@@ -20,6 +20,6 @@ impl Lives {
         requires { length self.now ≤ 32768 }
         ensures { result ≡ all_pending self.now }
     {
-        dependencies::all_pending(&self.cache)
+        self.cache.all_pending() as u32
     }
 }

@@ -6,9 +6,9 @@ ghost use Rattle.xn_model.specs.Calls.{begun_place, first_pending, is_durable, l
 ghost use Rattle.block_cache.specs.Views.{HasImage, image_at};
 ghost use Rattle.xn_state.specs.Kept.{MayFree};
 
-use crate::counts::{discount, give_drops, mark};
+use crate::counts::{discount, give_drops, mark, with_pending};
 use crate::lives::Lives;
-use dependencies::safe_prefix;
+use dependencies::{first_system, move_on, safe_prefix};
 use xn_model::Refusal;
 
 impl Lives {
@@ -101,6 +101,7 @@ impl Lives {
         ensures lives { self.new ≡ freed (settled_at self.old block count) (drops_of (first_pending count (life_at self.old block))) }
         ensures count { result ≡ length (drops_of (first_pending count (life_at self.old block))) }
     {
+        let fs = first_system(&self.cache, block);
         discount(&mut self.pending, &self.cache, block, count as usize);
         give_drops(&mut self.free, &self.cache, block, count as usize);
         let left = self.cache.pending(block) - count as usize;
@@ -109,6 +110,8 @@ impl Lives {
         self.candidates.set(block, left > 0);
         let freed = self.cache.settle_and_free(block, count);
         self.candidates.trim(&self.cache, &self.dirty, &self.homes);
+        let fs = with_pending(&self.pending, fs);
+        move_on(&mut self.oldest, &self.cache, &self.homes, fs);
         freed
     }
 }

@@ -6,7 +6,7 @@ ghost use Rattle.xn_model.specs.Results.{Gives};
 ghost use Rattle.xn_model.specs.Calls.{accepts, life_bytes, life_pending, patched, pending_of};
 ghost use Rattle.xn_model.specs.Rules.{IsConsistent};
 ghost use Rattle.claims.specs.Owned.{MayClaim};
-ghost use Rattle.xn_state.specs.Decided.{Decides};
+ghost use Rattle.claims.specs.Decided.{Decides};
 ghost use Rattle.xn_state.specs.Proposals.{entry_of};
 ghost use Rattle.xn_state.specs.States.{types_in};
 

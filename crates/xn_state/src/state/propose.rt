@@ -10,15 +10,14 @@ ghost use Rattle.xn_model.specs.Calls.{is_empty, life_bytes, life_pending, may_a
 ghost use Rattle.xn_model.specs.Rules.{IsConsistent};
 ghost use Rattle.owner_records.specs.Owners.{is_claimed, owned_count};
 ghost use Rattle.templates.specs.Decided.{DecidesOwned};
-ghost use Rattle.xn_state.specs.Decided.{Decides, Leaves, newest_at};
+ghost use Rattle.claims.specs.Decided.{Decides, Leaves, newest_at};
 ghost use Rattle.xn_state.specs.Proposals.{edited_with, proposed_of};
 ghost use Rattle.xn_state.specs.States.{types_in};
 
-use crate::read_sets::leaves;
 use crate::state::accept::Claims;
 use crate::state::{State, is_within_size};
 use block_cache::Facts;
-use claims::{are_blocks_distinct, are_distinct, owned_pairs};
+use claims::{are_blocks_distinct, are_distinct, leaves, owned_pairs};
 use edit_list::{Edit, EditId, Fs, Undo};
 use udf_run::ReadSet;
 use xn_model::Refusal;

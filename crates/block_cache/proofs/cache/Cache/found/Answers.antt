@@ -1,12 +1,17 @@
-use Rattle.std.proofs.Common.{◌≡◌, ◌∙◌, ℕ, ap, sym, subst, None, Some, Option}
+use Rattle.std.proofs.Common.{◌∙◌, ℕ, ap, sym, subst, arith, length, None, Some, Option}
 use Rattle.std.specs.Prelude.{slice_set, option_map}
 use Rattle.edit_list.specs.declared.fs.Fs.{Fs}
 use Rattle.block_cache.specs.Cached.{CachedLife}
 use Rattle.block_cache.specs.Undone.{lives_of}
 use Rattle.block_cache.specs.Kept.{AreKept, IsAmong, IsApart, keys_of, place_at, resting}
+use Rattle.block_cache.proofs.Counting.{few_of_all}
 use Rattle.block_cache.proofs.Starts.{end_kept, end_view, ended_is_free, found_kept, found_view, place_twice, set_twice}
 use Rattle.block_cache.specs.Views.{life_at_rest}
 use Rattle.block_cache.proofs.cache.Cache.found.Goals as goal
+
+pub set-requires : goal.set-requires
+set-requires c =
+    omega (arith, few_of_all c.self.inside.entries c.self.inside.places c.self.invariant, c.self.invariant.few, ap (λ (l : CachedLife). length l.keys) c.found-life.ensures)
 
 pub invariant_of-self : goal.invariant_of-self
 invariant_of-self c =

@@ -10,6 +10,8 @@ use Rattle.dependencies.specs.Homes.{with_home}
 use Rattle.dependencies.specs.Pending.{pends}
 use Rattle.dependencies.proofs.HomeChanges.{accepted_homes}
 use Rattle.dependencies.proofs.LifeChanges.{accepted_accounts}
+use Rattle.dependencies.specs.Oldest.{with_entry}
+use Rattle.dependencies.proofs.OldestChanges.{accepted_oldest}
 use Rattle.xn_state.proofs.Counting.{accepted_counted}
 use Rattle.xn_state.proofs.Dirty.{accepted_dirty}
 use Rattle.xn_state.proofs.lives.Lives.accept.Goals as goal
@@ -52,10 +54,12 @@ invariant_of-self-2 c =
     let home = c.put.ensures.home ∙ ap (λ n. with_home homes n block) number in
     let room = subst (λ n. n % length homes < length homes) number c.put.ensures.room in
     let fresh = λ (x : ℕ). ap (λ (xs : Lives). pends c.args.claim.entry (life_at xs x)) c.self.view_is ∙ c.requires.fresh x in
-    rw (lives, c.index.ensures.value, counts, c.mark.ensures, note, home) (
+    let noted = c.note_number.ensures ∙ (λ i. with_entry c.self.inside.oldest c.args.fs.number (number i) (slice_index c.self.inside.pending (c.index.ensures.value i))) in
+    rw (lives, c.index-2.ensures.value, counts, c.mark.ensures, note, home, noted) (
       accepted_counted cache c.self.inside.free c.self.inside.pending block c.args.fs.number state c.self.invariant.0 (omega arith) alive c.requires.fs,
       accepted_counts owned cache block state c.self.invariant.1 (alive_place cache block alive) claimed,
       accepted_dirty c.self.inside.dirty cache block state c.self.invariant.2 alive,
       accepted_accounts cache c.self.inside.candidates block state c.self.invariant.3 alive,
       accepted_homes cache homes block state room c.self.invariant.4 fresh,
+      accepted_oldest cache c.self.inside.oldest block c.args.fs.number state (slice_index c.self.inside.pending c.args.fs.number) (omega arith) (c.self.invariant.0.counts c.args.fs.number (omega arith)) c.requires.fs c.self.invariant.5,
     )

@@ -3,6 +3,8 @@ use Rattle.xn_model.specs.Lives.{Lives}
 use Rattle.dependencies.specs.Homes.{AreHomes}
 use Rattle.dependencies.proofs.HomeChanges.{begun_homes}
 use Rattle.dependencies.proofs.LifeChanges.{begun_accounts}
+use Rattle.dependencies.specs.Oldest.{AreOldest}
+use Rattle.dependencies.proofs.OldestChanges.{begun_oldest}
 use Rattle.claims.specs.Owned.{AreOwnedCounts}
 use Rattle.claims.proofs.Counted.{begun_counts}
 use Rattle.xn_state.specs.Kept.{IsCounted, is_dirty}
@@ -28,4 +30,5 @@ invariant_of-self c =
       begun_dirty c.self.inside.dirty cache c.args.block c.args.count c.self.invariant.2,
     ) in
     let homes = subst (λ (xs : Lives). AreHomes xs c.self.inside.homes) (sym c.begin.ensures) (begun_homes cache c.self.inside.homes c.args.block c.args.count c.self.invariant.4) in
-    (kept.0, kept.1, kept.2, c.trim.ensures, homes)
+    let oldest = subst (λ (xs : Lives). AreOldest xs c.self.inside.oldest) (sym c.begin.ensures) (begun_oldest cache c.self.inside.oldest c.args.block c.args.count c.self.invariant.5) in
+    (kept.0, kept.1, kept.2, c.trim.ensures, homes, oldest)

@@ -6,6 +6,7 @@ use Rattle.xn_model.specs.Lives.{Lives}
 use Rattle.block_cache.specs.Views.{life_at_rest}
 use Rattle.edit_list.specs.declared.fs.Fs.{Fs}
 use Rattle.dependencies.proofs.HomeChanges.{clean_homes}
+use Rattle.dependencies.proofs.OldestChanges.{first_oldest}
 use Rattle.dependencies.proofs.LifeChanges.{clean_accounts}
 use Rattle.xn_state.specs.Mounts.{found_of}
 use Rattle.xn_state.proofs.Counting.{marks}
@@ -45,6 +46,7 @@ invariant_of-result c =
       dirty,
       clean_accounts c.loop-block.cache c.in_ok-dirty.dirty c.in_ok-candidates.candidates count dirty c.in_ok-dirty.ensures c.in_ok-candidates.ensures,
       clean_homes c.loop-block.cache c.in_ok-dirty.dirty c.in_ok-homes.homes count dirty c.in_ok-dirty.ensures,
+      first_oldest c.loop-block.cache 32,
     )
 
 pub returns : goal.returns

@@ -4,6 +4,8 @@ use Rattle.xn_model.specs.Lives.{Lives, drops_of, life_at}
 use Rattle.xn_model.specs.Calls.{first_pending}
 use Rattle.dependencies.specs.Candidates.{AreCandidates, with_candidate}
 use Rattle.dependencies.proofs.HomeChanges.{settled_homes}
+use Rattle.dependencies.specs.Oldest.{AreOldest}
+use Rattle.dependencies.proofs.OldestChanges.{settled_oldest}
 use Rattle.dependencies.proofs.LifeChanges.{settled_accounts}
 use Rattle.xn_state.specs.Kept.{MayFree}
 use Rattle.claims.proofs.Counted.{settled_counts}
@@ -46,6 +48,16 @@ trim-requires-clause-homes c =
     let cache = c.self.inside.cache in
     rw c.settle_and_free-freed.ensures.lives (settled_homes cache c.self.inside.homes c.args.block c.args.count (drops_of (first_pending c.args.count (life_at cache c.args.block))) c.self.invariant.4)
 
+pub move_on-requires-clause-homes : goal.move_on-requires-clause-homes
+move_on-requires-clause-homes c =
+    let cache = c.self.inside.cache in
+    rw c.settle_and_free-freed.ensures.lives (settled_homes cache c.self.inside.homes c.args.block c.args.count (drops_of (first_pending c.args.count (life_at cache c.args.block))) c.self.invariant.4)
+
+pub move_on-requires-clause-oldest : goal.move_on-requires-clause-oldest
+move_on-requires-clause-oldest c =
+    let cache = c.self.inside.cache in
+    rw c.settle_and_free-freed.ensures.lives (settled_oldest cache c.self.inside.oldest c.args.block c.args.count (drops_of (first_pending c.args.count (life_at cache c.args.block))) c.self.invariant.5)
+
 pub invariant_of-self : goal.invariant_of-self
 invariant_of-self c =
     let cache = c.self.inside.cache in
@@ -61,4 +73,5 @@ invariant_of-self c =
       settled_dirty c.self.inside.dirty cache block count drops c.self.invariant.2 rest,
       subst (λ (xs : Lives). AreCandidates xs c.trim.new.self) c.settle_and_free-freed.ensures.lives c.trim.ensures,
       settled_homes cache c.self.inside.homes block count drops c.self.invariant.4,
+      subst (λ (xs : Lives). AreOldest xs c.move_on.new.oldest) c.settle_and_free-freed.ensures.lives c.move_on.ensures,
     )

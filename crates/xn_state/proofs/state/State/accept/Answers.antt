@@ -7,9 +7,9 @@ use Rattle.templates.specs.Tables.{types_of}
 use Rattle.block_cache.specs.Claims.{ClaimValue, state_of}
 use Rattle.xn_state.specs.Proposals.{entry_of}
 use Rattle.xn_state.specs.States.{StateValue, types_in}
-use Rattle.xn_state.specs.Decided.{Decides}
+use Rattle.claims.specs.Decided.{Decides}
 use Rattle.claims.proofs.Owners.{alive_place}
-use Rattle.xn_state.proofs.Deciding.{accepted_decided}
+use Rattle.claims.proofs.Deciding.{accepted_decided}
 use Rattle.dependencies.specs.Pending.{pends}
 use Rattle.xn_state.proofs.Keeping as keeping
 use Rattle.xn_state.proofs.Newest.{none_next}
@@ -22,7 +22,7 @@ invariant_of-self-2 c =
     let lives = c.in-Ok-accept.ensures.ok ∙ ap (λ (claim : ClaimValue). accepted_at c.self.inside.lives c.args.block (state_of claim c.args.bytes.now)) c.in-Ok.ensures in
     let decides = subst (λ (s : StateValue). Decides (types_in s) s.store.lives c.args.block c.args.bytes.now c.args.reads) (sym c.self.view_is) c.requires.reads in
     let state = entry_of (keeping.state_of c.self.inside.lives c.self.inside.next) c.args.fs.number c.args.bytes.now c.args.claims.adds.now c.args.claims.drops.now c.args.claims.after in
-    let decided = accepted_decided (types_of c.self.inside.table) c.self.inside.reads.sets.items c.self.inside.lives c.args.block state c.args.reads c.self.invariant.1 decides in
+    let decided = accepted_decided (types_of c.self.inside.table) c.self.inside.reads c.self.inside.lives c.args.block state c.args.reads c.self.invariant.1 decides in
     rw (c.set.ensures, lives) (rules, decided)
 
 pub set-requires : goal.set-requires

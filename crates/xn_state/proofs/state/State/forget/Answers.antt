@@ -5,8 +5,8 @@ use Rattle.xn_model.specs.Results.{GivesExactly}
 use Rattle.xn_model.specs.Rules.{IsConsistent}
 use Rattle.xn_state.specs.States.{StateValue, types_in}
 use Rattle.xn_state.specs.Forgets.{forget_plan}
-use Rattle.xn_state.specs.Decided.{AreDecided}
-use Rattle.xn_state.proofs.Deciding.{ended_decided}
+use Rattle.claims.specs.Decided.{AreDecided}
+use Rattle.claims.proofs.Deciding.{ended_decided}
 use Rattle.xn_state.proofs.Keeping.{state_of}
 use Rattle.xn_state.proofs.Forgetting.{forget_refused, forgotten_consistent}
 use Rattle.xn_state.proofs.state.State.forget.Goals as goal
@@ -22,7 +22,7 @@ pub invariant_of-self : goal.invariant_of-self
 invariant_of-self c =
     let plan = ap (λ (s : StateValue). forget_plan (types_in s) s.store c.args.fs.number c.args.block) c.self.view_is ∙ sym c.in_ok-forgettable.ensures in
     let consistent = forgotten_consistent (types_of c.self.inside.table) c.self.inside.lives c.self.inside.next c.args.fs.number c.args.block c.in_ok-forgettable.field-0 c.self.invariant.0 plan in
-    let decided = ended_decided (types_of c.self.inside.table) c.self.inside.reads.sets.items c.self.inside.lives c.args.block c.self.invariant.1 in (
+    let decided = ended_decided (types_of c.self.inside.table) c.self.inside.reads c.self.inside.lives c.args.block c.self.invariant.1 in (
       subst (λ xs. IsConsistent (types_of c.self.inside.table) (state_of xs c.self.inside.next)) (sym c.forget.ensures) consistent,
-      subst (λ xs. AreDecided (types_of c.self.inside.table) c.self.inside.reads.sets.items xs) (sym c.forget.ensures) decided,
+      subst (λ xs. AreDecided (types_of c.self.inside.table) c.self.inside.reads xs) (sym c.forget.ensures) decided,
     )

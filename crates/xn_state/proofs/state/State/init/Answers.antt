@@ -4,7 +4,7 @@ use Rattle.xn_model.specs.Calls.{init_refusal}
 use Rattle.templates.specs.Tables.{types_of}
 use Rattle.xn_state.specs.States.{StateValue, types_in}
 use Rattle.xn_state.proofs.Counting.{least_is_free}
-use Rattle.xn_state.proofs.Deciding.{started_decided}
+use Rattle.claims.proofs.Deciding.{started_decided}
 use Rattle.xn_state.proofs.Keeping.{started_consistent, state_of}
 use Rattle.xn_state.proofs.Newest.{none_next}
 use Rattle.xn_state.proofs.state.State.init.Goals as goal
@@ -14,7 +14,7 @@ invariant_of-self-2 c =
     let allowed = ap (λ (s : StateValue). init_refusal (types_in s) s.store c.args.fs.number c.args.ty c.args.bytes.now) c.self.view_is ∙ sym c.in_default.ensures in
     let free = sym c.in-Some-lowest_free.ensures in
     let consistent = started_consistent (types_of c.self.inside.table) c.self.inside.lives c.self.inside.next c.args.fs.number c.args.ty c.args.bytes.now c.in-Some-lowest_free.block c.self.invariant.0 allowed free in
-    let decided = started_decided (types_of c.self.inside.table) c.self.inside.reads.sets.items c.self.inside.lives c.in-Some-lowest_free.block c.self.inside.next c.args.fs.number c.args.ty c.args.bytes.now c.self.invariant.1 in
+    let decided = started_decided (types_of c.self.inside.table) c.self.inside.reads c.self.inside.lives c.in-Some-lowest_free.block c.self.inside.next c.args.fs.number c.args.ty c.args.bytes.now c.self.invariant.1 in
     rw (c.set.ensures, c.in-Ok.ensures.ok) (consistent, decided)
 
 pub set-requires : goal.set-requires

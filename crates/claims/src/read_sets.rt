@@ -3,10 +3,11 @@
 ghost use Rattle.std.specs.Prelude.{◌≡◌, ◌<◌, All, None, length, replicate, slice_index_or, slice_set, IfOk, IsTrue};
 ghost use Rattle.std.specs.List.{list_all};
 ghost use Rattle.xn_model.specs.Calls.{is_patch, within_limits};
-ghost use Rattle.xn_state.specs.Decided.{IsApart, Leaves};
+ghost use Rattle.claims.specs.Decided.{IsApart, Leaves};
 
 use edit_list::{Edit, Patch};
 use std::alloc::{AllocError, Global};
+use std::marker::Model;
 use udf_run::ReadSet;
 
 /// Of each block the chunks that decide what its newest bytes own, where they are known.
@@ -15,10 +16,19 @@ pub struct ReadSets {
     sets: Vec<Option<ReadSet>>,
 }
 
+impl Model for ReadSets {
+    ghost use Rattle.std.specs.Prelude.{List, Option};
+    ghost use Rattle.udf_run.specs.declared.reads.ReadSet.{ReadSet as ReadSetValue};
+
+    ghost Value = { List (Option ReadSetValue) };
+
+    ghost view = { λ a. a.sets.items };
+}
+
 impl ReadSets {
     /// Nothing is known of so many blocks.
     pub fn new(alloc: Global, blocks: u32) -> Result<ReadSets, AllocError>
-        ensures { IfOk result (λ reads. reads.sets.items ≡ replicate blocks None) }
+        ensures { IfOk result (λ reads. reads ≡ replicate blocks None) }
     {
         Ok(ReadSets {
             sets: vec![in alloc; None; blocks as usize]?,
@@ -27,7 +37,7 @@ impl ReadSets {
 
     /// The chunks that decide what a block owns, where they are known.
     pub fn get(&self, block: u32) -> Option<ReadSet>
-        ensures { result ≡ slice_index_or self.now.sets.items block None }
+        ensures { result ≡ slice_index_or self.now block None }
     {
         match self.sets.get(block as usize) {
             Some(set) => *set,
@@ -37,8 +47,8 @@ impl ReadSets {
 
     /// Keeps the chunks that decide what a block owns, or that they are not known.
     pub fn set(&mut self, block: u32, set: Option<ReadSet>)
-        requires { block < length self.old.sets.items }
-        ensures { self.new.sets.items ≡ slice_set self.old.sets.items block set }
+        requires { block < length self.old }
+        ensures { self.new ≡ slice_set self.old block set }
     {
         self.sets[block as usize] = set;
     }

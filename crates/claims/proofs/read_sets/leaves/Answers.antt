@@ -2,10 +2,10 @@ use Rattle.std.proofs.Common.{◌≡◌, ◌∙◌, ap, sym, subst, true, length
 use Rattle.std.specs.Prelude.{◌==◌, All}
 use Rattle.std.proofs.lemmas.Bool.{false≢true}
 use Rattle.xn_model.specs.Calls.{Edit, Patch}
-use Rattle.xn_state.specs.Decided.{IsApart}
-use Rattle.xn_state.proofs.Deciding.{leaves_from}
-use Rattle.xn_state.proofs.read_sets.leaves.Goals as goal
-use Rattle.xn_state.proofs.read_sets.leaves.Goals.{then-is_empty, else-is_empty}
+use Rattle.claims.specs.Decided.{IsApart}
+use Rattle.claims.proofs.Deciding.{leaves_from}
+use Rattle.claims.proofs.read_sets.leaves.Goals as goal
+use Rattle.claims.proofs.read_sets.leaves.Goals.{then-is_empty, else-is_empty}
 
 pub returns-then-is_empty-2 : goal.returns-then-is_empty-2
 returns-then-is_empty-2 c = λ yes. elim c.if-is_empty.branch [

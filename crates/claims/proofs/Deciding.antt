@@ -16,7 +16,7 @@ use Rattle.udf_run.specs.ReadSets.{AgreeOn}
 use Rattle.udf_run.specs.declared.reads.ReadSet.{ReadSet}
 use Rattle.templates.specs.Decided.{DecidesOwned}
 use Rattle.claims.proofs.Owners.{length_accepted, length_freed}
-use Rattle.xn_state.specs.Decided.{AreDecided, Decides, IsApart, Leaves, newest_at, newest_of}
+use Rattle.claims.specs.Decided.{AreDecided, Decides, IsApart, Leaves, newest_at, newest_of}
 
 -- An edit that writes into none of the chunks
 

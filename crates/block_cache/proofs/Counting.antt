@@ -1,0 +1,188 @@
+-- What is counted of lives, where one place is written.
+use Rattle.std.proofs.Common.{◌≡◌, ℕ, zero, suc, ◌+◌, ◌-◌, ◌*◌, ◌<◌, ◌≤◌, Bool, true, false, cond, List, [], ◌∷◌, ◌++◌, length, take, drop, replicate, Option, Some, None, refl, sym, ◌∙◌, ap, arith, slice_get, length-drop}
+use Rattle.std.specs.Prelude.{is_some, option_map, slice_set, sum_by, nat_lt, ◌||◌}
+use Rattle.std.specs.List.{list_any}
+use Rattle.std.proofs.lemmas.Bool.{lt-ltb}
+use Rattle.std.proofs.lemmas.List.{length-set, drop_all, length_push}
+use Rattle.std.proofs.lemmas.List.Sums.{sum_by-cons}
+use Rattle.slab.specs.Slab.{Slab}
+use Rattle.xn_model.specs.declared.status.Status.{Status}
+use Rattle.xn_model.specs.Lives.{alive_and}
+use Rattle.xn_model.specs.Calls.{life_pending}
+use Rattle.xn_model.specs.Worlds.{all_pending}
+use Rattle.block_cache.specs.declared.entry.Entry.{Entry}
+use Rattle.block_cache.specs.declared.totals.Totals.{Totals}
+use Rattle.block_cache.specs.Cached.{CachedLife}
+use Rattle.block_cache.specs.Undone.{life_of, lives_of}
+use Rattle.block_cache.specs.Kept.{AreKept, place_at, change_place, appended, settled, with_begun, with_status}
+use Rattle.block_cache.specs.Totals.{pending_of, in_flight_of, totals_of}
+use Rattle.block_cache.proofs.Changes.{length-pending}
+
+-- what is counted of the life of a block
+abbrev pub totals_at : List (Option CachedLife) → ℕ → Totals
+totals_at places b = record { pending = pending_of (place_at places b); in_flight = in_flight_of (place_at places b) }
+
+-- a list after a call had all of it
+abbrev pub written_back : {X : Type 0} → ℕ → List X → List X → List X
+written_back len new old = take len (new ++ drop (length new) old)
+
+pub all_written : {X : Type 0} (len : ℕ) (new old : List X) → len ≡ length old → length new ≡ length old → written_back len new old ≡ new
+all_written len new old whole same =
+    let none : drop (length new) old ≡ [] = drop_all (length new) old (omega (arith, same)) in
+    ap (λ xs. take len (new ++ xs)) none ∙ (front new (len) (omega (arith, whole, same)))
+  where
+    front : {X : Type 0} (xs : List X) (k : ℕ) → length xs ≤ k → take k (xs ++ []) ≡ xs
+    front [] zero h = refl
+    front [] (suc k) h = refl
+    front (x ∷ xs) zero h = absurd (omega (arith, h))
+    front (x ∷ xs) (suc k) h = ap (λ ys. x ∷ ys) (front xs k (omega (arith, h)))
+
+-- A sum in which one summand changes
+
+module _ (f : Option CachedLife → ℕ) (free : f None ≡ 0) where
+  pub sum-set : (places : List (Option CachedLife)) (b : ℕ) (x : Option CachedLife) →
+      sum_by f (slice_set places b x) + f (place_at places b) ≡ sum_by f places + f (place_at (slice_set places b x) b)
+  sum-set [] b x = refl
+  sum-set (o ∷ os) zero x = omega (arith, sum_by-cons f x os, sum_by-cons f o os)
+  sum-set (o ∷ os) (suc b) x = omega (arith, sum_by-cons f o os, sum_by-cons f o (slice_set os b x), sum-set os b x)
+
+  pub sum-at : (places : List (Option CachedLife)) (b : ℕ) → f (place_at places b) ≤ sum_by f places
+  sum-at [] b = omega (arith, free)
+  sum-at (o ∷ os) zero = omega (arith, sum_by-cons f o os)
+  sum-at (o ∷ os) (suc b) = omega (arith, sum_by-cons f o os, sum-at os b)
+
+  pub sum-new : (places : List (Option CachedLife)) (b : ℕ) (x : Option CachedLife) → f (place_at (slice_set places b x) b) ≤ f x
+  sum-new [] b x = omega (arith, free)
+  sum-new (o ∷ os) zero x = omega arith
+  sum-new (o ∷ os) (suc b) x = sum-new os b x
+
+  pub sum-free : (n : ℕ) → sum_by f (replicate n None) ≡ 0
+  sum-free zero = refl
+  sum-free (suc n) = omega (arith, free, sum_by-cons f None (replicate n None), sum-free n)
+
+  pub sum-same : (places : List (Option CachedLife)) (b : ℕ) (x : Option CachedLife) → f x ≡ f (place_at places b) → sum_by f (slice_set places b x) ≡ sum_by f places
+  sum-same [] b x same = refl
+  sum-same (o ∷ os) zero x same = omega (arith, sum_by-cons f x os, sum_by-cons f o os, same)
+  sum-same (o ∷ os) (suc b) x same = omega (arith, sum_by-cons f o os, sum_by-cons f o (slice_set os b x), sum-same os b x same)
+
+-- at most one of each life is in flight
+few_in_flight : (places : List (Option CachedLife)) → sum_by in_flight_of places ≤ length places
+few_in_flight [] = omega arith
+few_in_flight (o ∷ os) = omega (arith, sum_by-cons in_flight_of o os, one o, few_in_flight os)
+  where
+    small : (t : Bool) → cond t 1 0 ≤ 1
+    small true = omega arith
+    small false = omega arith
+
+    one : (o : Option CachedLife) → in_flight_of o ≤ 1
+    one None = omega arith
+    one (Some l) = small (is_some l.begun)
+
+pub totals_free : (n : ℕ) → record { pending = 0; in_flight = 0 } ≡ totals_of (replicate n None)
+totals_free n = λ i. record { pending = sym (sum-free pending_of refl n) i; in_flight = sym (sum-free in_flight_of refl n) i }
+
+-- a place is written, and what was counted of its life is exchanged for what is counted of it now
+module _ (places new : List (Option CachedLife)) (len b : ℕ) (x : Option CachedLife) (totals before after : Totals)
+    (whole : len ≡ length places) (written : new ≡ slice_set places b x) (kept : totals ≡ totals_of places)
+    (was : before ≡ totals_at places b) (is : after ≡ totals_at (written_back len new places) b) where
+  back : written_back len new places ≡ slice_set places b x
+  back = all_written len new places whole (ap (λ xs. length xs) written ∙ length-set places b x) ∙ written
+
+  now : after ≡ totals_at (slice_set places b x) b
+  now = is ∙ ap (λ xs. totals_at xs b) back
+
+  pub less_pending : before.pending ≤ totals.pending
+  less_pending = omega (arith, ap (λ (t : Totals). t.pending) kept, ap (λ (t : Totals). t.pending) was, sum-at pending_of refl places b)
+
+  pub less_in_flight : before.in_flight ≤ totals.in_flight
+  less_in_flight = omega (arith, ap (λ (t : Totals). t.in_flight) kept, ap (λ (t : Totals). t.in_flight) was, sum-at in_flight_of refl places b)
+
+  pending_now : totals.pending - before.pending + after.pending ≡ sum_by pending_of (slice_set places b x)
+  pending_now =
+      omega (arith, ap (λ (t : Totals). t.pending) kept, ap (λ (t : Totals). t.pending) was, ap (λ (t : Totals). t.pending) now, sum-at pending_of refl places b, sum-set pending_of refl places b x)
+
+  in_flight_now : totals.in_flight - before.in_flight + after.in_flight ≡ sum_by in_flight_of (slice_set places b x)
+  in_flight_now =
+      omega (arith, ap (λ (t : Totals). t.in_flight) kept, ap (λ (t : Totals). t.in_flight) was, ap (λ (t : Totals). t.in_flight) now, sum-at in_flight_of refl places b, sum-set in_flight_of refl places b x)
+
+  pub few_pending : (n : ℕ) → sum_by pending_of places + pending_of x < n + pending_of (place_at places b) → totals.pending - before.pending + after.pending < n
+  few_pending n few = omega (arith, pending_now, sum-set pending_of refl places b x, sum-new pending_of refl places b x, few)
+
+  pub few_flights : (n : ℕ) → len < n → totals.in_flight - before.in_flight + after.in_flight < n
+  few_flights n few = omega (arith, in_flight_now, few_in_flight (slice_set places b x), length-set places b x, whole, few)
+
+  pub totals_changed : record { pending = totals.pending - before.pending + after.pending; in_flight = totals.in_flight - before.in_flight + after.in_flight } ≡ totals_of (written_back len new places)
+  totals_changed = (λ i. record { pending = pending_now i; in_flight = in_flight_now i }) ∙ ap totals_of (sym back)
+
+-- a status is written, which is not counted
+pub totals_kept : (places new : List (Option CachedLife)) (len b : ℕ) (status : Status) (totals : Totals) → len ≡ length places →
+    new ≡ change_place places b (with_status status) → totals ≡ totals_of places → totals ≡ totals_of (written_back len new places)
+totals_kept places new len b status totals whole written kept =
+    let x = option_map (with_status status) (place_at places b) in
+    let back = all_written len new places whole (ap (λ xs. length xs) written ∙ length-set places b x) ∙ written in
+    kept
+    ∙ ((λ i. record {
+      pending = sym (sum-same pending_of refl places b x (pending_same (place_at places b))) i;
+      in_flight = sym (sum-same in_flight_of refl places b x (in_flight_same (place_at places b))) i;
+    })
+    ∙ ap totals_of (sym back))
+  where
+    pending_same : (o : Option CachedLife) → pending_of (option_map (with_status status) o) ≡ pending_of o
+    pending_same None = refl
+    pending_same (Some l) = refl
+
+    in_flight_same : (o : Option CachedLife) → in_flight_of (option_map (with_status status) o) ≡ in_flight_of o
+    in_flight_same None = refl
+    in_flight_same (Some l) = refl
+
+-- How many are pending after a change
+
+pub pending_appended : (k : ℕ) (bytes : List ℕ) (o : Option CachedLife) → pending_of (option_map (appended k bytes) o) ≤ pending_of o + 1
+pending_appended k bytes None = omega arith
+pending_appended k bytes (Some l) = omega (arith, length_push l.keys k)
+
+pub pending_settled : (k : ℕ) (o : Option CachedLife) → pending_of (option_map (settled k) o) ≤ pending_of o
+pending_settled k None = omega arith
+pending_settled k (Some l) = omega (arith, length-drop k l.keys)
+
+pub pending_begun : (begun : Option ℕ) (o : Option CachedLife) → pending_of (option_map (with_begun begun) o) ≤ pending_of o
+pending_begun begun None = omega arith
+pending_begun begun (Some l) = omega arith
+
+-- What is counted of the lives of the view
+
+module _ (slab : Slab Entry) where
+  all_sum : (places : List (Option CachedLife)) → ((b : ℕ) (l : CachedLife) → slice_get places b ≡ Some (Some l) → length (life_of slab l).pending ≡ length l.keys) →
+      sum_by pending_of places ≡ all_pending (lives_of slab places)
+  all_sum [] h = refl
+  all_sum (o ∷ os) h = omega (arith, sum_by-cons pending_of o os, here o (λ l e. h 0 l (ap (λ x. Some x) e)), all_sum os (λ b. h (suc b)))
+    where
+      here : (o : Option CachedLife) → ((l : CachedLife) → o ≡ Some l → length (life_of slab l).pending ≡ length l.keys) → life_pending (option_map (life_of slab) o) ≡ pending_of o
+      here None h = refl
+      here (Some l) h = h l refl
+
+  few_sum : (places : List (Option CachedLife)) → ((b : ℕ) (l : CachedLife) → slice_get places b ≡ Some (Some l) → length l.keys ≤ 64) → sum_by pending_of places ≤ 64 * length places
+  few_sum [] h = omega arith
+  few_sum (o ∷ os) h = omega (arith, sum_by-cons pending_of o os, here o (λ l e. h 0 l (ap (λ x. Some x) e)), few_sum os (λ b. h (suc b)))
+    where
+      here : (o : Option CachedLife) → ((l : CachedLife) → o ≡ Some l → length l.keys ≤ 64) → pending_of o ≤ 64
+      here None h = omega arith
+      here (Some l) h = h l refl
+
+  pub all_pending_is : (places : List (Option CachedLife)) → AreKept slab places → sum_by pending_of places ≡ all_pending (lives_of slab places)
+  all_pending_is places kept = all_sum places (λ b l there. length-pending slab b l (kept.each b l there))
+
+  pub few_of_all : (places : List (Option CachedLife)) → AreKept slab places → sum_by pending_of places ≤ 64 * length places
+  few_of_all places kept = few_sum places (λ b l there. (kept.each b l there).few)
+
+  pub any_in_flight_is : (places : List (Option CachedLife)) → nat_lt 0 (sum_by in_flight_of places) ≡ list_any (alive_and (λ l. is_some l.begun)) (lives_of slab places)
+  any_in_flight_is [] = refl
+  any_in_flight_is (o ∷ os) = ap (nat_lt 0) (sum_by-cons in_flight_of o os) ∙ here o (sum_by in_flight_of os) (list_any (alive_and (λ l. is_some l.begun)) (lives_of slab os)) (any_in_flight_is os)
+    where
+      either : (t : Bool) (n : ℕ) (u : Bool) → nat_lt 0 n ≡ u → nat_lt 0 (cond t 1 0 + n) ≡ (t || u)
+      either true n u e = lt-ltb 0 (1 + n) (omega arith)
+      either false n u e = let none : 0 + n ≡ n = omega arith in ap (nat_lt 0) none ∙ e
+
+      here : (o : Option CachedLife) (n : ℕ) (u : Bool) → nat_lt 0 n ≡ u → nat_lt 0 (in_flight_of o + n) ≡ (alive_and (λ l. is_some l.begun) (option_map (life_of slab) o) || u)
+      here None n u e = let none : 0 + n ≡ n = omega arith in ap (nat_lt 0) none ∙ e
+      here (Some l) n u e = either (is_some l.begun) n u e

@@ -1,0 +1,18 @@
+-- What is counted of lives.
+--     totals_of places          how many entries are pending, and of how many lives a write is under way
+use Rattle.std.specs.Prelude.{ℕ, cond, List, length, Option, Some, None, is_some, sum_by}
+use Rattle.block_cache.specs.Cached.{CachedLife}
+use Rattle.block_cache.specs.declared.totals.Totals.{Totals}
+
+-- how many entries of a life are pending
+abbrev pub pending_of : Option CachedLife → ℕ
+pending_of None = 0
+pending_of (Some l) = length l.keys
+
+-- 1 where a write of it is under way
+abbrev pub in_flight_of : Option CachedLife → ℕ
+in_flight_of None = 0
+in_flight_of (Some l) = cond (is_some l.begun) 1 0
+
+abbrev pub totals_of : List (Option CachedLife) → Totals
+totals_of places = record { pending = sum_by pending_of places; in_flight = sum_by in_flight_of places }

@@ -1,0 +1,101 @@
+// From which number on the pending entries of a file system lie.
+
+ghost use Rattle.std.specs.Prelude.{◌≡◌, ◌≤◌, ℕ, true, false, option_map, slice_get, IfSome, IsTrue};
+ghost use Rattle.xn_model.specs.Lives.{life_at};
+ghost use Rattle.block_cache.specs.Claims.{claim_of};
+ghost use Rattle.block_cache.specs.Views.{pending_at};
+ghost use Rattle.dependencies.specs.Homes.{AreHomes};
+ghost use Rattle.dependencies.specs.Oldest.{AreOldest, is_number_for, pends_for, with_entry};
+
+use crate::homes::Homes;
+use block_cache::{Cache, Fs};
+
+/// Whether the pending entry at a place of a block has this number and counts for the file system.
+fn is_for_at(cache: &Cache, block: u32, place: usize, fs: Fs, number: u64) -> bool
+    ensures { result ≡ is_number_for fs.number number (option_map claim_of (slice_get (pending_at (life_at cache.now block)) place)) }
+{
+    match cache.claim(block, place) {
+        Some(claim) => claim.fs().number() == fs.number() && claim.entry().number() == number,
+        None => false,
+    }
+}
+
+/// Whether the entry of this number is pending in a block and counts for the file system.
+fn is_pending_in(cache: &Cache, block: u32, fs: Fs, number: u64) -> bool
+    ensures { result ≡ pends_for fs.number number (life_at cache.now block) }
+{
+    for place in 0..cache.pending(block) {
+        if is_for_at(cache, block, place, fs, number) {
+            return true;
+        }
+    }
+    false
+}
+
+/// Whether the entry of this number is known to be pending nowhere, or to count for another file system.
+fn is_past(cache: &Cache, homes: &Homes, fs: Fs, number: u64) -> bool
+    requires { AreHomes cache.now homes.now }
+    ensures { IsTrue result → (b : ℕ) → pends_for fs.number number (life_at cache.now b) ≡ false }
+{
+    match homes.home(number) {
+        Some(block) => !is_pending_in(cache, block, fs, number),
+        None => false,
+    }
+}
+
+/// The least number from this one on whose entry may be pending for the file system. Mostly it is: only of an entry whose slot a
+/// later one has taken that is not known.
+fn next_pending(cache: &Cache, homes: &Homes, fs: Fs, from: u64) -> u64
+    requires { AreHomes cache.now homes.now }
+    ensures { (n b : ℕ) → pends_for fs.number n (life_at cache.now b) ≡ true → from ≤ n → result ≤ n }
+{
+    let end = from.saturating_add(homes.slots() as u64);
+    for number in from..end {
+        if !is_past(cache, homes, fs, number) {
+            return number;
+        }
+    }
+    end
+}
+
+/// The block in which the entry of this number is known to be pending for the file system.
+pub fn home_for(cache: &Cache, homes: &Homes, fs: Fs, number: u64) -> Option<u32>
+    ensures { IfSome result (λ block. pends_for fs.number number (life_at cache.now block) ≡ true) }
+{
+    let block = homes.home(number)?;
+    if is_pending_in(cache, block, fs, number) {
+        Some(block)
+    } else {
+        None
+    }
+}
+
+/// Notes a new entry of a file system, of which so many were pending.
+pub fn note_number(oldest: &mut [u64; 32], fs: Fs, number: u64, pending: u32)
+    ensures { oldest.new ≡ with_entry oldest.old fs.number number pending }
+{
+    let place = fs.index();
+    if pending == 0 {
+        oldest[place] = number;
+    } else {
+        oldest[place] = number.min(oldest[place]);
+    }
+}
+
+/// Moves the number of a file system on, some entries of which are pending no longer.
+pub fn move_on(oldest: &mut [u64; 32], cache: &Cache, homes: &Homes, fs: Option<Fs>)
+    requires homes { AreHomes cache.now homes.now }
+    requires oldest { AreOldest cache.now oldest.old }
+    ensures { AreOldest cache.now oldest.new }
+{
+    if let Some(fs) = fs {
+        let place = fs.index();
+        oldest[place] = next_pending(cache, homes, fs, oldest[place]);
+    }
+}
+
+/// The file system of the oldest pending entry of a block.
+pub fn first_system(cache: &Cache, block: u32) -> Option<Fs> {
+    let claim = cache.claim(block, 0)?;
+    Some(claim.fs())
+}
