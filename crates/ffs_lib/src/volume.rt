@@ -1,15 +1,17 @@
 // A volume: the files and directories of a file system.
 
-ghost use Rattle.std.specs.Prelude.{◌≡◌, ◌≢◌, ◌<◌, ℕ, length, Contains, IfOk, OnOk, OnErr, IfSome, IsTrue};
+ghost use Rattle.std.specs.Prelude.{◌≡◌, ◌≢◌, ◌<◌, ◌++◌, ◌⊎◌, ℕ, length, map, Contains, Ok, Err, IfOk, IfErr, OnOk, OnErr, IfSome, IsTrue};
+ghost use Rattle.std.specs.List.{range_with_len};
 ghost use Rattle.ffs_format.specs.Entries.{is_name};
 ghost use Rattle.ffs_model.specs.Cuts.{latest};
 ghost use Rattle.ffs_model.specs.Names.{IsInodes};
-ghost use Rattle.ffs_model.specs.Library.{library_layout};
+ghost use Rattle.ffs_model.specs.Library.{library_layout, IsLibrary};
+ghost use Rattle.ffs_lib.specs.Newest.{file_in, named_in, names_at, names_in, read_count, read_into};
 ghost use Rattle.ffs_model.specs.Volumes.{VolumeKeeps, no_edits};
 ghost use Rattle.ffs_lib.specs.Places.{IsFree, IsSlot};
 ghost use Rattle.ffs_lib.specs.Outcomes.{Keeps, Leaves, Roots, Starts};
 
-use crate::data::{BLOCK_LEN, FILE_BLOCKS, raise_size, write_block};
+use crate::data::{BLOCK_LEN, FILE_BLOCKS, raise_size, read_part, write_block};
 use crate::edits;
 use crate::fault::FfsFault;
 use crate::places::{
@@ -113,6 +115,25 @@ fn attach_first<S: Store>(alloc: Global, store: &mut S, fs: Fs, block: u32) -> R
     }
     let edit = edits::addition(alloc, 0, &pointer_bytes(block), (block, INODE_BLOCK), None)?;
     let _ = store.propose(fs, root, &edit)?;
+    Ok(())
+}
+
+/// Adds the names of a directory's block and their inodes, by place.
+fn add_names(
+    alloc: Global,
+    block: &[u8; 512],
+    names: &mut Vec<(Vec<u8>, u16)>,
+) -> Result<(), AllocError>
+    ensures { OnOk result (map (λ name. (name.0.items, name.1)) names.new.items ≡ map (λ name. (name.0.items, name.1)) names.old.items ++ names_at block.now (range_with_len 0 16)) }
+{
+    for place in 0..ENTRIES {
+        let inode = entry_inode(block, place);
+        if inode == 0 {
+            continue;
+        }
+        let name = entry_name(block, place).to_vec(alloc)?;
+        names.push((name, inode))?;
+    }
     Ok(())
 }
 
@@ -330,40 +351,36 @@ impl Volume {
         inode: u16,
         offset: u32,
         bytes: &mut [u8],
-    ) -> Result<usize, FfsFault> {
-        let file = find_file(store, self.fs, inode)?.inode;
-        let end = (file.size() as usize).min(MOST_BYTES);
+    ) -> Result<usize, FfsFault>
+        ensures exact { IsLibrary (S.types_of store.now) → result ≡ read_count (length bytes.old) offset (file_in (latest (S.state_of store.now).lives) self.now.fs.number inode) }
+        ensures bytes { IsLibrary (S.types_of store.now) →
+            bytes.new ≡ read_into (latest (S.state_of store.now).lives) bytes.old offset (file_in (latest (S.state_of store.now).lives) self.now.fs.number inode) }
+    {
+        let file = find_file(store, self.fs, inode)?;
+        let end = (file.inode.size() as usize).min(MOST_BYTES);
         let start = offset as usize;
+        let count = bytes.len().min(end.saturating_sub(start));
         let mut done = 0;
-        while done < bytes.len() && start + done < end {
+        while done < count {
             let at = start + done;
-            let within = at % BLOCK_LEN;
-            let length = (BLOCK_LEN - within).min(end - at).min(bytes.len() - done);
-            let index = at / BLOCK_LEN;
-            let block = if index < DIRECT_POINTERS {
-                file.direct(index)
-            } else if file.indirect() == 0 {
-                0
-            } else {
-                pointer(
-                    store.read(self.fs, file.indirect())?,
-                    index - DIRECT_POINTERS,
-                )
-            };
-            if block == 0 {
-                bytes[done..done + length].fill(0);
-            } else {
-                let data = store.read(self.fs, block)?;
-                bytes[done..done + length].copy_from_slice(&data[within..within + length]);
-            }
+            let length = (BLOCK_LEN - at % BLOCK_LEN).min(count - done);
+            read_part(
+                store,
+                self.fs,
+                inode,
+                &file,
+                at,
+                &mut bytes[done..done + length],
+            )?;
             done += length;
         }
-        Ok(done)
+        Ok(count)
     }
 
     /// The entry of a directory that has a name.
     fn named<S: Store>(&self, store: &S, directory: u16, name: &[u8]) -> Result<Slot, FfsFault>
-        ensures { IfOk result (λ slot. IsSlot (S.state_of store.now) self.now.fs.number slot) }
+        ensures slot { IfOk result (λ slot. IsSlot (S.state_of store.now) self.now.fs.number slot) }
+        ensures exact { IsLibrary (S.types_of store.now) → result ≡ named_in (latest (S.state_of store.now).lives) self.now.fs.number directory name.now }
     {
         let found = find_directory(store, self.fs, directory)?;
         if !is_name(name) {
@@ -501,7 +518,10 @@ impl Volume {
         alloc: Global,
         store: &S,
         directory: u16,
-    ) -> Result<Vec<(Vec<u8>, u16)>, FfsFault> {
+    ) -> Result<Vec<(Vec<u8>, u16)>, FfsFault>
+        ensures names { IsLibrary (S.types_of store.now) → IfOk result (λ names. Ok (map (λ name. (name.0.items, name.1)) names.items) ≡ names_in (latest (S.state_of store.now).lives) self.now.fs.number directory) }
+        ensures faults { IsLibrary (S.types_of store.now) → IfErr result (λ fault. (fault ≡ FfsFault.Kernel Refusal.NoMemory) ⊎ (Err fault ≡ names_in (latest (S.state_of store.now).lives) self.now.fs.number directory)) }
+    {
         let found = find_directory(store, self.fs, directory)?;
         let mut names = Vec::new(alloc);
         for i in 0..DIRECT_POINTERS {
@@ -509,14 +529,7 @@ impl Volume {
             if block == 0 {
                 continue;
             }
-            let bytes = store.read(self.fs, block)?;
-            for place in 0..ENTRIES {
-                let inode = entry_inode(bytes, place);
-                if inode != 0 {
-                    let name = entry_name(bytes, place).to_vec(alloc)?;
-                    names.push((name, inode)).map_err(AllocError::from)?;
-                }
-            }
+            add_names(alloc, read_block(store, self.fs, block)?, &mut names)?;
         }
         Ok(names)
     }
