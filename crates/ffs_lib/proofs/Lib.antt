@@ -9,3 +9,4 @@ pub mod Readable
 pub mod Newest
 pub mod Walks
 pub mod Parts
+pub mod Refusals

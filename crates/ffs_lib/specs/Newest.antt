@@ -6,16 +6,19 @@
 --     name_at, first_named, named_in        an entry's name; the first entry with a name, as `None` or as a fault where there is none
 --     names_of, names_in                    the names of a directory and the inodes that they name
 --     file_end, byte_of, bytes_from         where a file ends; its byte at an offset, 0 in a hole; its bytes from an offset on, up to its end
+--     write_in, unlink_in, rmdir_in         what a call looks up before it edits
+--     is_own, RefusesAs                      a fault of the library's own; what is answered where a look-up fails
 --     read_count, read_into                 how many bytes a read answers, and what it leaves of those that it was given
-use Rattle.std.specs.Prelude.{ℕ, ◌+◌, ◌*◌, ◌-◌, ◌/◌, ◌%◌, Bool, not, ◌&&◌, ◌||◌, ◌==◌, nat_lt, min, List, ◌++◌, length, drop, map, find, Option, Some, None, Result, Ok, Err, get_or, bytes_eq, filter_map, flat_map, if◌then◌else◌}
+use Rattle.std.specs.Prelude.{ℕ, ◌+◌, ◌*◌, ◌-◌, ◌/◌, ◌%◌, Bool, true, false, not, ◌&&◌, ◌||◌, ◌==◌, nat_lt, min, List, ◌++◌, length, drop, map, find, Option, Some, None, Result, Ok, Err, ◌≡◌, IfErr, get_or, bytes_eq, filter_map, flat_map, if◌then◌else◌}
 use Rattle.std.specs.List.{range_with_len}
 use Rattle.std.specs.Option.{ok_or}
 use Rattle.xn_model.specs.Root.{slot, word_at}
+use Rattle.xn_model.specs.Lives.{StoreState}
 use Rattle.ffs_model.specs.Library.{half_at, pointer_word, inode_at, inode_mode, inode_blocks}
 use Rattle.ffs_format.specs.Entries.{is_name, name_in}
 use Rattle.ffs_format.specs.Fields.{direct_in}
 use Rattle.ffs_lib.specs.declared.fault.FfsFault.{FfsFault}
-use Rattle.ffs_lib.specs.declared.fault.FfsFault.TheVariants.{NoEntry, NotDir, IsDir, BadName}
+use Rattle.ffs_lib.specs.declared.fault.FfsFault.TheVariants.{NoEntry, NotDir, IsDir, DirNotEmpty, BadName, TooLarge, Kernel}
 use Rattle.ffs_lib.specs.declared.places.Slot.{Slot}
 
 -- Results
@@ -140,3 +143,27 @@ read_count count offset file = mapped (λ inode. min count (file_end inode - off
 abbrev pub read_into : (ℕ → List ℕ) → List ℕ → ℕ → Result (List ℕ) FfsFault → List ℕ
 read_into content old offset (Ok inode) = let new = bytes_from content inode offset (length old) in new ++ drop (length new) old
 read_into content old offset (Err fault) = old
+
+-- What a call looks up before it edits
+
+unfoldable pub write_in : (ℕ → List ℕ) → ℕ → ℕ → ℕ → Result (List ℕ) FfsFault
+write_in content fs n size = and_then (file_in content fs n) (λ inode. if nat_lt 71680 size then Err TooLarge else Ok inode)
+
+unfoldable pub unlink_in : (ℕ → List ℕ) → ℕ → ℕ → List ℕ → Result Slot FfsFault
+unlink_in content fs n name = and_then (named_in content fs n name) (λ entry. mapped (λ inode. entry) (file_in content fs entry.inode))
+
+abbrev pub if_empty : (ℕ → List ℕ) → Slot → List ℕ → Result Slot FfsFault
+if_empty content entry inode = if length (entries_of content inode) == 0 then Ok entry else Err DirNotEmpty
+
+unfoldable pub rmdir_in : (ℕ → List ℕ) → ℕ → ℕ → List ℕ → Result Slot FfsFault
+rmdir_in content fs n name = and_then (named_in content fs n name) (λ entry. and_then (directory_in content fs entry.inode) (if_empty content entry))
+
+-- neither the store's nor for want of memory
+abbrev pub is_own : FfsFault → Bool
+is_own (Kernel refusal) = false
+is_own fault = true
+
+-- Where a look-up fails that fault is answered, and nothing changes. Else a fault is the store's, or for want of memory.
+abbrev pub RefusesAs : {A B : Type 0} → Result A FfsFault → StoreState → StoreState → Result B FfsFault → Type 0
+RefusesAs (Err fault) old new result = (result ≡ Err fault) × (new ≡ old)
+RefusesAs (Ok found) old new result = IfErr result (λ fault. is_own fault ≡ false)

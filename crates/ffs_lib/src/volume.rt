@@ -1,12 +1,12 @@
 // A volume: the files and directories of a file system.
 
-ghost use Rattle.std.specs.Prelude.{◌≡◌, ◌≢◌, ◌<◌, ◌++◌, ◌⊎◌, ℕ, length, map, Contains, Ok, Err, IfOk, IfErr, OnOk, OnErr, IfSome, IsTrue};
+ghost use Rattle.std.specs.Prelude.{◌≡◌, ◌≢◌, ◌<◌, ◌≤◌, ◌+◌, ◌++◌, true, false, ◌⊎◌, ℕ, length, map, Contains, Ok, Err, IfOk, IfErr, OnOk, OnErr, IfSome, IsTrue};
 ghost use Rattle.std.specs.List.{range_with_len};
 ghost use Rattle.ffs_format.specs.Entries.{is_name};
 ghost use Rattle.ffs_model.specs.Cuts.{latest};
 ghost use Rattle.ffs_model.specs.Names.{IsInodes};
 ghost use Rattle.ffs_model.specs.Library.{library_layout, IsLibrary};
-ghost use Rattle.ffs_lib.specs.Newest.{file_in, named_in, names_at, names_in, read_count, read_into};
+ghost use Rattle.ffs_lib.specs.Newest.{RefusesAs, file_in, is_own, named_in, names_at, names_in, read_count, read_into, rmdir_in, unlink_in, write_in};
 ghost use Rattle.ffs_model.specs.Volumes.{VolumeKeeps, no_edits};
 ghost use Rattle.ffs_lib.specs.Places.{IsFree, IsSlot};
 ghost use Rattle.ffs_lib.specs.Outcomes.{Keeps, Leaves, Roots, Starts};
@@ -137,6 +137,20 @@ fn add_names(
     Ok(())
 }
 
+/// What a call answers once it may have edited. A look-up that fails then is told as the store's refusal, so that a fault of the
+/// library's own always comes before any edit.
+fn once_edited<A>(answer: Result<A, FfsFault>) -> Result<A, FfsFault>
+    ensures ok { IfOk result (λ value. answer ≡ Ok value) }
+    ensures err { IfErr result (λ fault. is_own fault ≡ false) }
+    ensures same { IfErr answer (λ fault. is_own fault ≡ false → result ≡ Err fault) }
+{
+    match answer {
+        Ok(value) => Ok(value),
+        Err(FfsFault::Kernel(refusal)) => Err(FfsFault::Kernel(refusal)),
+        Err(_) => Err(FfsFault::Kernel(Refusal::NotInUse)),
+    }
+}
+
 impl Volume {
     ghost use Rattle.ffs_lib.specs.Volumes.{IsVolume, MayOpen};
 
@@ -189,6 +203,7 @@ impl Volume {
         requires volume { IsVolume (S.types_of store.old) (S.state_of store.old) self.old }
         ensures types { S.types_of store.new ≡ S.types_of store.old }
         ensures fs { self.new.fs ≡ self.old.fs }
+        ensures unchanged { IfErr result (λ fault. is_own fault ≡ true → S.state_of store.new ≡ S.state_of store.old) }
         ensures keeps { IsVolume (S.types_of store.old) (S.state_of store.new) self.new }
     {
         self.make_entry(alloc, store, directory, name, FILE)
@@ -205,6 +220,7 @@ impl Volume {
         requires volume { IsVolume (S.types_of store.old) (S.state_of store.old) self.old }
         ensures types { S.types_of store.new ≡ S.types_of store.old }
         ensures fs { self.new.fs ≡ self.old.fs }
+        ensures unchanged { IfErr result (λ fault. is_own fault ≡ true → S.state_of store.new ≡ S.state_of store.old) }
         ensures keeps { IsVolume (S.types_of store.old) (S.state_of store.new) self.new }
     {
         self.make_entry(alloc, store, directory, name, DIRECTORY)
@@ -223,6 +239,7 @@ impl Volume {
         requires used { mode ≢ 0 }
         ensures types { S.types_of store.new ≡ S.types_of store.old }
         ensures fs { self.new.fs ≡ self.old.fs }
+        ensures unchanged { IfErr result (λ fault. is_own fault ≡ true → S.state_of store.new ≡ S.state_of store.old) }
         ensures keeps { IsVolume (S.types_of store.old) (S.state_of store.new) self.new }
     {
         let found = find_directory(store, self.fs, directory)?;
@@ -237,7 +254,28 @@ impl Volume {
             let _ = find_pointer(store, self.fs)?;
         }
         let _ = find_room(store, self.fs, &found, directory)?;
-        let free = self.take_free(alloc, store, free)?;
+        once_edited(self.make_named(alloc, store, directory, name, mode, free))
+    }
+
+    /// Takes the free inode that was found into use, or one of a new inode block, and names it.
+    fn make_named<S: Store>(
+        &mut self,
+        alloc: Global,
+        store: &mut S,
+        directory: u16,
+        name: &[u8],
+        mode: u16,
+        found: Option<Free>,
+    ) -> Result<u16, FfsFault>
+        requires volume { IsVolume (S.types_of store.old) (S.state_of store.old) self.old }
+        requires free { IfSome found (λ free. IsFree (S.state_of store.old) self.old.fs.number free) }
+        requires name { IsTrue (is_name name.now) }
+        requires used { mode ≢ 0 }
+        ensures types { S.types_of store.new ≡ S.types_of store.old }
+        ensures fs { self.new.fs ≡ self.old.fs }
+        ensures keeps { IsVolume (S.types_of store.old) (S.state_of store.new) self.new }
+    {
+        let free = self.take_free(alloc, store, found)?;
         self.name_inode(alloc, store, directory, name, mode, free)?;
         Ok(free.number)
     }
@@ -319,6 +357,7 @@ impl Volume {
     ) -> Result<(), FfsFault>
         requires volume { IsVolume (S.types_of store.old) (S.state_of store.old) self.now }
         ensures types { S.types_of store.new ≡ S.types_of store.old }
+        ensures faults { RefusesAs (write_in (latest (S.state_of store.old).lives) self.now.fs.number inode (offset + length bytes.now)) (S.state_of store.old) (S.state_of store.new) result }
         ensures keeps { IsVolume (S.types_of store.old) (S.state_of store.new) self.now }
     {
         let _ = find_file(store, self.fs, inode)?;
@@ -326,6 +365,23 @@ impl Volume {
         if start > MOST_BYTES || bytes.len() > MOST_BYTES - start {
             return Err(FfsFault::TooLarge);
         }
+        once_edited(self.write_all(alloc, store, inode, start, bytes))
+    }
+
+    /// Writes bytes into a file from a byte on, block after block, and raises its size.
+    fn write_all<S: Store>(
+        &self,
+        alloc: Global,
+        store: &mut S,
+        inode: u16,
+        start: usize,
+        bytes: &[u8],
+    ) -> Result<(), FfsFault>
+        requires volume { IsVolume (S.types_of store.old) (S.state_of store.old) self.now }
+        requires within { start + length bytes.now ≤ 71680 }
+        ensures types { S.types_of store.new ≡ S.types_of store.old }
+        ensures keeps { IsVolume (S.types_of store.old) (S.state_of store.new) self.now }
+    {
         let mut at = start;
         let mut rest = bytes;
         let mut last = None;
@@ -401,11 +457,12 @@ impl Volume {
     ) -> Result<(), FfsFault>
         requires volume { IsVolume (S.types_of store.old) (S.state_of store.old) self.now }
         ensures types { S.types_of store.new ≡ S.types_of store.old }
+        ensures faults { RefusesAs (unlink_in (latest (S.state_of store.old).lives) self.now.fs.number directory name.now) (S.state_of store.old) (S.state_of store.new) result }
         ensures keeps { IsVolume (S.types_of store.old) (S.state_of store.new) self.now }
     {
         let slot = self.named(store, directory, name)?;
         let _ = find_file(store, self.fs, slot.inode)?;
-        self.remove(alloc, store, slot)
+        once_edited(self.remove(alloc, store, slot))
     }
 
     /// Takes an empty directory's name from a directory, and gives it up, with the faults of `unlink`, but `NotDir` where the name is a
@@ -419,6 +476,7 @@ impl Volume {
     ) -> Result<(), FfsFault>
         requires volume { IsVolume (S.types_of store.old) (S.state_of store.old) self.now }
         ensures types { S.types_of store.new ≡ S.types_of store.old }
+        ensures faults { RefusesAs (rmdir_in (latest (S.state_of store.old).lives) self.now.fs.number directory name.now) (S.state_of store.old) (S.state_of store.new) result }
         ensures keeps { IsVolume (S.types_of store.old) (S.state_of store.new) self.now }
     {
         let slot = self.named(store, directory, name)?;
@@ -426,7 +484,7 @@ impl Volume {
         if !is_empty(store, self.fs, &found)? {
             return Err(FfsFault::DirNotEmpty);
         }
-        self.remove(alloc, store, slot)
+        once_edited(self.remove(alloc, store, slot))
     }
 
     /// Clears an entry, and takes a link from its inode, or gives that up with its last link.
@@ -462,6 +520,7 @@ impl Volume {
     ) -> Result<(), FfsFault>
         requires volume { IsVolume (S.types_of store.old) (S.state_of store.old) self.now }
         ensures types { S.types_of store.new ≡ S.types_of store.old }
+        ensures unchanged { IfErr result (λ fault. is_own fault ≡ true → S.state_of store.new ≡ S.state_of store.old) }
         ensures keeps { IsVolume (S.types_of store.old) (S.state_of store.new) self.now }
     {
         let from = find_inode(store, self.fs, directory)?;
@@ -484,7 +543,7 @@ impl Volume {
             return Err(FfsFault::TooLarge);
         }
         let _ = find_room(store, self.fs, &to, other)?;
-        self.move_entry(alloc, store, directory, name, slot.inode, other, new_name)
+        once_edited(self.move_entry(alloc, store, directory, name, slot.inode, other, new_name))
     }
 
     /// Names an inode a second time, and takes the first name and its link.
