@@ -5,3 +5,8 @@ pub mod Edited
 pub mod Kept
 pub mod Numbers
 pub mod Making
+pub mod Readable
+pub mod Newest
+pub mod Walks
+pub mod Parts
+pub mod Refusals

@@ -1,4 +1,5 @@
 pub mod Edits
+pub mod Newest
 pub mod Places
 pub mod Outcomes
 pub mod Volumes

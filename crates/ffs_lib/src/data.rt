@@ -1,7 +1,12 @@
 // The bytes of files.
 
-ghost use Rattle.std.specs.Prelude.{◌≡◌, ◌<◌, ◌≤◌, ◌+◌, length};
+ghost use Rattle.std.specs.Prelude.{◌≡◌, ◌≢◌, ◌<◌, ◌≤◌, ◌+◌, ◌/◌, ◌%◌, length, map, Ok, IfOk, IsOk, OnOk};
+ghost use Rattle.std.specs.List.{range_with_len};
+ghost use Rattle.ffs_model.specs.Cuts.{Under, latest};
+ghost use Rattle.ffs_model.specs.Library.{IsLibrary};
+ghost use Rattle.ffs_lib.specs.Newest.{byte_in, byte_of, file_block};
 ghost use Rattle.ffs_lib.specs.Outcomes.{Keeps};
+ghost use Rattle.ffs_lib.specs.Places.{IsFile};
 
 use crate::edits;
 use crate::fault::FfsFault;
@@ -215,4 +220,68 @@ pub fn raise_size<S: Store>(
         let _ = store.propose(fs, block, &edit)?;
     }
     Ok(())
+}
+
+/// The block of a file at an index, or 0 in a hole.
+fn file_block<S: Store>(
+    store: &S,
+    fs: Fs,
+    number: u16,
+    file: &Found,
+    index: usize,
+) -> Result<u32, FfsFault>
+    requires file { IsFile (S.state_of store.now) fs.number number file.now }
+    requires few { index < 140 }
+    ensures exact { IsLibrary (S.types_of store.now) → result ≡ Ok (file_block (latest (S.state_of store.now).lives) file.now.inode index) }
+    ensures block { IfOk result (λ block. block ≡ file_block (latest (S.state_of store.now).lives) file.now.inode index) }
+    ensures reached { IfOk result (λ block. IsLibrary (S.types_of store.now) → block ≢ 0 → Under (S.types_of store.now) (latest (S.state_of store.now).lives) fs.number block 2) }
+{
+    if index < DIRECT_POINTERS {
+        return Ok(file.inode.direct(index));
+    }
+    let indirect = file.inode.indirect();
+    if indirect == 0 {
+        return Ok(0);
+    }
+    Ok(pointer(read_block(store, fs, indirect)?, index - DIRECT_POINTERS))
+}
+
+/// Reads the bytes of a block from a place on, or zeros where there is no block.
+fn copy_block<S: Store>(
+    store: &S,
+    fs: Fs,
+    block: u32,
+    at: usize,
+    bytes: &mut [u8],
+) -> Result<(), FfsFault>
+    requires { at + length bytes.old ≤ 512 }
+    ensures bytes { OnOk result (bytes.new ≡ map (byte_in (latest (S.state_of store.now).lives) block) (range_with_len at (length bytes.old))) }
+    ensures reached { (block ≢ 0 → Under (S.types_of store.now) (latest (S.state_of store.now).lives) fs.number block 2) → IsOk result }
+{
+    if block == 0 {
+        bytes.fill(0);
+        return Ok(());
+    }
+    let data = read_block(store, fs, block)?;
+    bytes.copy_from_slice(&data[at..at + bytes.len()]);
+    Ok(())
+}
+
+/// Reads bytes of a file that stand in one of its blocks.
+pub fn read_part<S: Store>(
+    store: &S,
+    fs: Fs,
+    number: u16,
+    file: &Found,
+    at: usize,
+    bytes: &mut [u8],
+) -> Result<(), FfsFault>
+    requires file { IsFile (S.state_of store.now) fs.number number file.now }
+    requires few { at < 71680 }
+    requires within { at % 512 + length bytes.old ≤ 512 }
+    ensures bytes { OnOk result (bytes.new ≡ map (byte_of (latest (S.state_of store.now).lives) file.now.inode) (range_with_len at (length bytes.old))) }
+    ensures reached { IsLibrary (S.types_of store.now) → IsOk result }
+{
+    let block = file_block(store, fs, number, file, at / BLOCK_LEN)?;
+    copy_block(store, fs, block, at % BLOCK_LEN, bytes)
 }

@@ -1,9 +1,12 @@
 // Where inodes and entries stand.
 
-ghost use Rattle.std.specs.Prelude.{◌≡◌, ◌≢◌, ◌<◌, ◌≤◌, ◌*◌, length, IfOk, IfSome};
-ghost use Rattle.ffs_model.specs.Cuts.{latest};
+ghost use Rattle.std.specs.Prelude.{◌≡◌, ◌≢◌, ◌<◌, ◌≤◌, ◌*◌, ◌==◌, ◌&&◌, ℕ, length, find, not, bytes_eq, IfOk, IfSome, IsOk, Ok};
+ghost use Rattle.std.specs.List.{list_any, range_with_len};
+ghost use Rattle.ffs_format.specs.Entries.{name_in};
+ghost use Rattle.ffs_model.specs.Cuts.{Under, latest};
 ghost use Rattle.ffs_model.specs.Names.{IsRoot, IsInodes};
-ghost use Rattle.ffs_model.specs.Library.{library_layout, half_at, inode_at, inode_mode};
+ghost use Rattle.ffs_model.specs.Library.{library_layout, half_at, inode_at, inode_mode, IsLibrary};
+ghost use Rattle.ffs_lib.specs.Newest.{mapped, root_in, inode_block_in, inode_in, directory_in, file_in, entries_of, first_named};
 ghost use Rattle.ffs_lib.specs.Places.{IsFound, IsDirectory, IsFile, IsFree, IsEmptyPointer, IsSlot, IsRoom};
 
 use crate::fault::FfsFault;
@@ -68,6 +71,7 @@ fn is_whole(block: &[u8; 512])
 pub fn read_block<S: Store>(store: &S, fs: Fs, block: u32) -> Result<&[u8; 512], FfsFault>
     ensures bytes { IfOk result (λ bytes. latest (S.state_of store.now).lives block ≡ bytes.now) }
     ensures whole { IfOk result (λ bytes. length bytes.now ≡ 512) }
+    ensures reached { (ty : ℕ) → Under (S.types_of store.now) (latest (S.state_of store.now).lives) fs.number block ty → IsOk result }
 {
     let bytes = store.read(fs, block)?;
     is_whole(bytes);
@@ -76,7 +80,8 @@ pub fn read_block<S: Store>(store: &S, fs: Fs, block: u32) -> Result<&[u8; 512],
 
 /// The root block.
 pub fn root_block<S: Store>(store: &S, fs: Fs) -> Result<u32, FfsFault>
-    ensures { IfOk result (λ root. IsRoot (latest (S.state_of store.now).lives) fs.number root) }
+    ensures root { IfOk result (λ root. IsRoot (latest (S.state_of store.now).lives) fs.number root) }
+    ensures exact { result ≡ root_in (latest (S.state_of store.now).lives) fs.number }
 {
     let Some(root) = store.root(fs) else {
         return Err(FfsFault::NoEntry);
@@ -91,7 +96,8 @@ pub fn root_block<S: Store>(store: &S, fs: Fs) -> Result<u32, FfsFault>
 /// The inode block at an index, 0 to 15, of the root block.
 pub fn inode_block<S: Store>(store: &S, fs: Fs, index: usize) -> Result<u32, FfsFault>
     requires { index < 16 }
-    ensures { IfOk result (λ block. IsInodes library_layout (latest (S.state_of store.now).lives) fs.number index block) }
+    ensures inodes { IfOk result (λ block. IsInodes library_layout (latest (S.state_of store.now).lives) fs.number index block) }
+    ensures exact { result ≡ inode_block_in (latest (S.state_of store.now).lives) fs.number index }
 {
     let root = root_block(store, fs)?;
     let block = pointer(read_block(store, fs, root)?, index);
@@ -104,7 +110,8 @@ pub fn inode_block<S: Store>(store: &S, fs: Fs, index: usize) -> Result<u32, Ffs
 
 /// The inode of this number, if it is in use.
 pub fn find_inode<S: Store>(store: &S, fs: Fs, number: u16) -> Result<Found, FfsFault>
-    ensures { IfOk result (λ found. IsFound (S.state_of store.now) fs.number number found) }
+    ensures found { IfOk result (λ found. IsFound (S.state_of store.now) fs.number number found) }
+    ensures exact { IsLibrary (S.types_of store.now) → mapped (λ found. found.inode) result ≡ inode_in (latest (S.state_of store.now).lives) fs.number number }
 {
     if number == 0 || number > MOST_INODES {
         return Err(FfsFault::NoEntry);
@@ -124,7 +131,8 @@ pub fn find_inode<S: Store>(store: &S, fs: Fs, number: u16) -> Result<Found, Ffs
 
 /// The directory of this number.
 pub fn find_directory<S: Store>(store: &S, fs: Fs, number: u16) -> Result<Found, FfsFault>
-    ensures { IfOk result (λ found. IsDirectory (S.state_of store.now) fs.number number found) }
+    ensures found { IfOk result (λ found. IsDirectory (S.state_of store.now) fs.number number found) }
+    ensures exact { IsLibrary (S.types_of store.now) → mapped (λ found. found.inode) result ≡ directory_in (latest (S.state_of store.now).lives) fs.number number }
 {
     let found = find_inode(store, fs, number)?;
     if found.inode.mode() == DIRECTORY {
@@ -136,7 +144,8 @@ pub fn find_directory<S: Store>(store: &S, fs: Fs, number: u16) -> Result<Found,
 
 /// The file of this number.
 pub fn find_file<S: Store>(store: &S, fs: Fs, number: u16) -> Result<Found, FfsFault>
-    ensures { IfOk result (λ found. IsFile (S.state_of store.now) fs.number number found) }
+    ensures found { IfOk result (λ found. IsFile (S.state_of store.now) fs.number number found) }
+    ensures exact { IsLibrary (S.types_of store.now) → mapped (λ found. found.inode) result ≡ file_in (latest (S.state_of store.now).lives) fs.number number }
 {
     let found = find_inode(store, fs, number)?;
     if found.inode.mode() == DIRECTORY {
@@ -148,14 +157,10 @@ pub fn find_file<S: Store>(store: &S, fs: Fs, number: u16) -> Result<Found, FfsF
 
 /// The place of the entry with this name in a directory's block.
 fn entry_in(block: &[u8; 512], name: &[u8]) -> Option<usize>
-    ensures { IfSome result (λ place. (place < 16) × (half_at block.now (32 * place) ≢ 0)) }
+    ensures entry { IfSome result (λ place. (place < 16) × (half_at block.now (32 * place) ≢ 0)) }
+    ensures exact { result ≡ find (λ place. not (half_at block.now (32 * place) == 0) && bytes_eq (name_in block.now (32 * place)) name.now) (range_with_len 0 16) }
 {
-    for place in 0..ENTRIES {
-        if entry_inode(block, place) != 0 && entry_name(block, place) == name {
-            return Some(place);
-        }
-    }
-    None
+    (0..ENTRIES).find(|place| entry_inode(block, *place) != 0 && entry_name(block, *place) == name)
 }
 
 /// The first place without an entry in a directory's block.
@@ -174,7 +179,8 @@ pub fn find_entry<S: Store>(
     name: &[u8],
 ) -> Result<Option<Slot>, FfsFault>
     requires { IsDirectory (S.state_of store.now) fs.number number directory.now }
-    ensures { IfOk result (λ entry. IfSome entry (λ slot. IsSlot (S.state_of store.now) fs.number slot)) }
+    ensures slot { IfOk result (λ entry. IfSome entry (λ slot. IsSlot (S.state_of store.now) fs.number slot)) }
+    ensures exact { IsLibrary (S.types_of store.now) → result ≡ Ok (first_named (latest (S.state_of store.now).lives) directory.now.inode name.now) }
 {
     for i in 0..DIRECT_POINTERS {
         let block = directory.inode.direct(i);
@@ -221,15 +227,25 @@ pub fn find_room<S: Store>(
     Err(FfsFault::TooLarge)
 }
 
+/// Whether a directory's block has an entry.
+fn has_entries(block: &[u8; 512]) -> bool
+    ensures { result ≡ list_any (λ place. not (half_at block.now (32 * place) == 0)) (range_with_len 0 16) }
+{
+    (0..ENTRIES).any(|place| entry_inode(block, place) != 0)
+}
+
 /// Whether a directory has no entry.
-pub fn is_empty<S: Store>(store: &S, fs: Fs, directory: &Found) -> Result<bool, FfsFault> {
+pub fn is_empty<S: Store>(store: &S, fs: Fs, directory: &Found) -> Result<bool, FfsFault>
+    ensures { (number : ℕ) → IsLibrary (S.types_of store.now) → IsDirectory (S.state_of store.now) fs.number number directory.now →
+        result ≡ Ok (length (entries_of (latest (S.state_of store.now).lives) directory.now.inode) == 0) }
+{
     for i in 0..DIRECT_POINTERS {
         let block = directory.inode.direct(i);
         if block == 0 {
             continue;
         }
         let bytes = read_block(store, fs, block)?;
-        if (0..ENTRIES).any(|place| entry_inode(bytes, place) != 0) {
+        if has_entries(bytes) {
             return Ok(false);
         }
     }

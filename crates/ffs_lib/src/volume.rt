@@ -1,15 +1,17 @@
 // A volume: the files and directories of a file system.
 
-ghost use Rattle.std.specs.Prelude.{◌≡◌, ◌≢◌, ◌<◌, ℕ, length, Contains, IfOk, OnOk, OnErr, IfSome, IsTrue};
+ghost use Rattle.std.specs.Prelude.{◌≡◌, ◌≢◌, ◌<◌, ◌≤◌, ◌+◌, ◌++◌, true, false, ◌⊎◌, ℕ, length, map, Contains, Ok, Err, IfOk, IfErr, OnOk, OnErr, IfSome, IsTrue};
+ghost use Rattle.std.specs.List.{range_with_len};
 ghost use Rattle.ffs_format.specs.Entries.{is_name};
 ghost use Rattle.ffs_model.specs.Cuts.{latest};
 ghost use Rattle.ffs_model.specs.Names.{IsInodes};
-ghost use Rattle.ffs_model.specs.Library.{library_layout};
+ghost use Rattle.ffs_model.specs.Library.{library_layout, IsLibrary};
+ghost use Rattle.ffs_lib.specs.Newest.{RefusesAs, file_in, is_own, named_in, names_at, names_in, read_count, read_into, rmdir_in, unlink_in, write_in};
 ghost use Rattle.ffs_model.specs.Volumes.{VolumeKeeps, no_edits};
 ghost use Rattle.ffs_lib.specs.Places.{IsFree, IsSlot};
 ghost use Rattle.ffs_lib.specs.Outcomes.{Keeps, Leaves, Roots, Starts};
 
-use crate::data::{BLOCK_LEN, FILE_BLOCKS, raise_size, write_block};
+use crate::data::{BLOCK_LEN, FILE_BLOCKS, raise_size, read_part, write_block};
 use crate::edits;
 use crate::fault::FfsFault;
 use crate::places::{
@@ -116,6 +118,39 @@ fn attach_first<S: Store>(alloc: Global, store: &mut S, fs: Fs, block: u32) -> R
     Ok(())
 }
 
+/// Adds the names of a directory's block and their inodes, by place.
+fn add_names(
+    alloc: Global,
+    block: &[u8; 512],
+    names: &mut Vec<(Vec<u8>, u16)>,
+) -> Result<(), AllocError>
+    ensures { OnOk result (map (λ name. (name.0.items, name.1)) names.new.items ≡ map (λ name. (name.0.items, name.1)) names.old.items ++ names_at block.now (range_with_len 0 16)) }
+{
+    for place in 0..ENTRIES {
+        let inode = entry_inode(block, place);
+        if inode == 0 {
+            continue;
+        }
+        let name = entry_name(block, place).to_vec(alloc)?;
+        names.push((name, inode))?;
+    }
+    Ok(())
+}
+
+/// What a call answers once it may have edited. A look-up that fails then is told as the store's refusal, so that a fault of the
+/// library's own always comes before any edit.
+fn once_edited<A>(answer: Result<A, FfsFault>) -> Result<A, FfsFault>
+    ensures ok { IfOk result (λ value. answer ≡ Ok value) }
+    ensures err { IfErr result (λ fault. is_own fault ≡ false) }
+    ensures same { IfErr answer (λ fault. is_own fault ≡ false → result ≡ Err fault) }
+{
+    match answer {
+        Ok(value) => Ok(value),
+        Err(FfsFault::Kernel(refusal)) => Err(FfsFault::Kernel(refusal)),
+        Err(_) => Err(FfsFault::Kernel(Refusal::NotInUse)),
+    }
+}
+
 impl Volume {
     ghost use Rattle.ffs_lib.specs.Volumes.{IsVolume, MayOpen};
 
@@ -168,6 +203,7 @@ impl Volume {
         requires volume { IsVolume (S.types_of store.old) (S.state_of store.old) self.old }
         ensures types { S.types_of store.new ≡ S.types_of store.old }
         ensures fs { self.new.fs ≡ self.old.fs }
+        ensures unchanged { IfErr result (λ fault. is_own fault ≡ true → S.state_of store.new ≡ S.state_of store.old) }
         ensures keeps { IsVolume (S.types_of store.old) (S.state_of store.new) self.new }
     {
         self.make_entry(alloc, store, directory, name, FILE)
@@ -184,6 +220,7 @@ impl Volume {
         requires volume { IsVolume (S.types_of store.old) (S.state_of store.old) self.old }
         ensures types { S.types_of store.new ≡ S.types_of store.old }
         ensures fs { self.new.fs ≡ self.old.fs }
+        ensures unchanged { IfErr result (λ fault. is_own fault ≡ true → S.state_of store.new ≡ S.state_of store.old) }
         ensures keeps { IsVolume (S.types_of store.old) (S.state_of store.new) self.new }
     {
         self.make_entry(alloc, store, directory, name, DIRECTORY)
@@ -202,6 +239,7 @@ impl Volume {
         requires used { mode ≢ 0 }
         ensures types { S.types_of store.new ≡ S.types_of store.old }
         ensures fs { self.new.fs ≡ self.old.fs }
+        ensures unchanged { IfErr result (λ fault. is_own fault ≡ true → S.state_of store.new ≡ S.state_of store.old) }
         ensures keeps { IsVolume (S.types_of store.old) (S.state_of store.new) self.new }
     {
         let found = find_directory(store, self.fs, directory)?;
@@ -216,7 +254,28 @@ impl Volume {
             let _ = find_pointer(store, self.fs)?;
         }
         let _ = find_room(store, self.fs, &found, directory)?;
-        let free = self.take_free(alloc, store, free)?;
+        once_edited(self.make_named(alloc, store, directory, name, mode, free))
+    }
+
+    /// Takes the free inode that was found into use, or one of a new inode block, and names it.
+    fn make_named<S: Store>(
+        &mut self,
+        alloc: Global,
+        store: &mut S,
+        directory: u16,
+        name: &[u8],
+        mode: u16,
+        found: Option<Free>,
+    ) -> Result<u16, FfsFault>
+        requires volume { IsVolume (S.types_of store.old) (S.state_of store.old) self.old }
+        requires free { IfSome found (λ free. IsFree (S.state_of store.old) self.old.fs.number free) }
+        requires name { IsTrue (is_name name.now) }
+        requires used { mode ≢ 0 }
+        ensures types { S.types_of store.new ≡ S.types_of store.old }
+        ensures fs { self.new.fs ≡ self.old.fs }
+        ensures keeps { IsVolume (S.types_of store.old) (S.state_of store.new) self.new }
+    {
+        let free = self.take_free(alloc, store, found)?;
         self.name_inode(alloc, store, directory, name, mode, free)?;
         Ok(free.number)
     }
@@ -298,6 +357,7 @@ impl Volume {
     ) -> Result<(), FfsFault>
         requires volume { IsVolume (S.types_of store.old) (S.state_of store.old) self.now }
         ensures types { S.types_of store.new ≡ S.types_of store.old }
+        ensures faults { RefusesAs (write_in (latest (S.state_of store.old).lives) self.now.fs.number inode (offset + length bytes.now)) (S.state_of store.old) (S.state_of store.new) result }
         ensures keeps { IsVolume (S.types_of store.old) (S.state_of store.new) self.now }
     {
         let _ = find_file(store, self.fs, inode)?;
@@ -305,6 +365,23 @@ impl Volume {
         if start > MOST_BYTES || bytes.len() > MOST_BYTES - start {
             return Err(FfsFault::TooLarge);
         }
+        once_edited(self.write_all(alloc, store, inode, start, bytes))
+    }
+
+    /// Writes bytes into a file from a byte on, block after block, and raises its size.
+    fn write_all<S: Store>(
+        &self,
+        alloc: Global,
+        store: &mut S,
+        inode: u16,
+        start: usize,
+        bytes: &[u8],
+    ) -> Result<(), FfsFault>
+        requires volume { IsVolume (S.types_of store.old) (S.state_of store.old) self.now }
+        requires within { start + length bytes.now ≤ 71680 }
+        ensures types { S.types_of store.new ≡ S.types_of store.old }
+        ensures keeps { IsVolume (S.types_of store.old) (S.state_of store.new) self.now }
+    {
         let mut at = start;
         let mut rest = bytes;
         let mut last = None;
@@ -330,40 +407,36 @@ impl Volume {
         inode: u16,
         offset: u32,
         bytes: &mut [u8],
-    ) -> Result<usize, FfsFault> {
-        let file = find_file(store, self.fs, inode)?.inode;
-        let end = (file.size() as usize).min(MOST_BYTES);
+    ) -> Result<usize, FfsFault>
+        ensures exact { IsLibrary (S.types_of store.now) → result ≡ read_count (length bytes.old) offset (file_in (latest (S.state_of store.now).lives) self.now.fs.number inode) }
+        ensures bytes { IsLibrary (S.types_of store.now) →
+            bytes.new ≡ read_into (latest (S.state_of store.now).lives) bytes.old offset (file_in (latest (S.state_of store.now).lives) self.now.fs.number inode) }
+    {
+        let file = find_file(store, self.fs, inode)?;
+        let end = (file.inode.size() as usize).min(MOST_BYTES);
         let start = offset as usize;
+        let count = bytes.len().min(end.saturating_sub(start));
         let mut done = 0;
-        while done < bytes.len() && start + done < end {
+        while done < count {
             let at = start + done;
-            let within = at % BLOCK_LEN;
-            let length = (BLOCK_LEN - within).min(end - at).min(bytes.len() - done);
-            let index = at / BLOCK_LEN;
-            let block = if index < DIRECT_POINTERS {
-                file.direct(index)
-            } else if file.indirect() == 0 {
-                0
-            } else {
-                pointer(
-                    store.read(self.fs, file.indirect())?,
-                    index - DIRECT_POINTERS,
-                )
-            };
-            if block == 0 {
-                bytes[done..done + length].fill(0);
-            } else {
-                let data = store.read(self.fs, block)?;
-                bytes[done..done + length].copy_from_slice(&data[within..within + length]);
-            }
+            let length = (BLOCK_LEN - at % BLOCK_LEN).min(count - done);
+            read_part(
+                store,
+                self.fs,
+                inode,
+                &file,
+                at,
+                &mut bytes[done..done + length],
+            )?;
             done += length;
         }
-        Ok(done)
+        Ok(count)
     }
 
     /// The entry of a directory that has a name.
     fn named<S: Store>(&self, store: &S, directory: u16, name: &[u8]) -> Result<Slot, FfsFault>
-        ensures { IfOk result (λ slot. IsSlot (S.state_of store.now) self.now.fs.number slot) }
+        ensures slot { IfOk result (λ slot. IsSlot (S.state_of store.now) self.now.fs.number slot) }
+        ensures exact { IsLibrary (S.types_of store.now) → result ≡ named_in (latest (S.state_of store.now).lives) self.now.fs.number directory name.now }
     {
         let found = find_directory(store, self.fs, directory)?;
         if !is_name(name) {
@@ -384,11 +457,12 @@ impl Volume {
     ) -> Result<(), FfsFault>
         requires volume { IsVolume (S.types_of store.old) (S.state_of store.old) self.now }
         ensures types { S.types_of store.new ≡ S.types_of store.old }
+        ensures faults { RefusesAs (unlink_in (latest (S.state_of store.old).lives) self.now.fs.number directory name.now) (S.state_of store.old) (S.state_of store.new) result }
         ensures keeps { IsVolume (S.types_of store.old) (S.state_of store.new) self.now }
     {
         let slot = self.named(store, directory, name)?;
         let _ = find_file(store, self.fs, slot.inode)?;
-        self.remove(alloc, store, slot)
+        once_edited(self.remove(alloc, store, slot))
     }
 
     /// Takes an empty directory's name from a directory, and gives it up, with the faults of `unlink`, but `NotDir` where the name is a
@@ -402,6 +476,7 @@ impl Volume {
     ) -> Result<(), FfsFault>
         requires volume { IsVolume (S.types_of store.old) (S.state_of store.old) self.now }
         ensures types { S.types_of store.new ≡ S.types_of store.old }
+        ensures faults { RefusesAs (rmdir_in (latest (S.state_of store.old).lives) self.now.fs.number directory name.now) (S.state_of store.old) (S.state_of store.new) result }
         ensures keeps { IsVolume (S.types_of store.old) (S.state_of store.new) self.now }
     {
         let slot = self.named(store, directory, name)?;
@@ -409,7 +484,7 @@ impl Volume {
         if !is_empty(store, self.fs, &found)? {
             return Err(FfsFault::DirNotEmpty);
         }
-        self.remove(alloc, store, slot)
+        once_edited(self.remove(alloc, store, slot))
     }
 
     /// Clears an entry, and takes a link from its inode, or gives that up with its last link.
@@ -445,6 +520,7 @@ impl Volume {
     ) -> Result<(), FfsFault>
         requires volume { IsVolume (S.types_of store.old) (S.state_of store.old) self.now }
         ensures types { S.types_of store.new ≡ S.types_of store.old }
+        ensures unchanged { IfErr result (λ fault. is_own fault ≡ true → S.state_of store.new ≡ S.state_of store.old) }
         ensures keeps { IsVolume (S.types_of store.old) (S.state_of store.new) self.now }
     {
         let from = find_inode(store, self.fs, directory)?;
@@ -467,7 +543,7 @@ impl Volume {
             return Err(FfsFault::TooLarge);
         }
         let _ = find_room(store, self.fs, &to, other)?;
-        self.move_entry(alloc, store, directory, name, slot.inode, other, new_name)
+        once_edited(self.move_entry(alloc, store, directory, name, slot.inode, other, new_name))
     }
 
     /// Names an inode a second time, and takes the first name and its link.
@@ -501,7 +577,10 @@ impl Volume {
         alloc: Global,
         store: &S,
         directory: u16,
-    ) -> Result<Vec<(Vec<u8>, u16)>, FfsFault> {
+    ) -> Result<Vec<(Vec<u8>, u16)>, FfsFault>
+        ensures names { IsLibrary (S.types_of store.now) → IfOk result (λ names. Ok (map (λ name. (name.0.items, name.1)) names.items) ≡ names_in (latest (S.state_of store.now).lives) self.now.fs.number directory) }
+        ensures faults { IsLibrary (S.types_of store.now) → IfErr result (λ fault. (fault ≡ FfsFault.Kernel Refusal.NoMemory) ⊎ (Err fault ≡ names_in (latest (S.state_of store.now).lives) self.now.fs.number directory)) }
+    {
         let found = find_directory(store, self.fs, directory)?;
         let mut names = Vec::new(alloc);
         for i in 0..DIRECT_POINTERS {
@@ -509,14 +588,7 @@ impl Volume {
             if block == 0 {
                 continue;
             }
-            let bytes = store.read(self.fs, block)?;
-            for place in 0..ENTRIES {
-                let inode = entry_inode(bytes, place);
-                if inode != 0 {
-                    let name = entry_name(bytes, place).to_vec(alloc)?;
-                    names.push((name, inode)).map_err(AllocError::from)?;
-                }
-            }
+            add_names(alloc, read_block(store, self.fs, block)?, &mut names)?;
         }
         Ok(names)
     }

@@ -16,5 +16,5 @@ returns-clause-keeps g c = λ lib array v.
     let indirect = c.indirect-indirect.result in
     let entry = c.in_ok-propose.field-0 in
     pointed T lib c.args.fs.number c.args.fs.few array state new v indirect entry (edit_at (4 * c.args.place) c.pointer_bytes.result ((c.args.block, 2) ∷ []) [] None)
-    (pointers_reached T lib state c.args.fs.number c.args.number c.in_ok-find_file.field-0 c.in_ok-find_file.ensures.is indirect (sym c.indirect-indirect.ensures) c.if-indirect-eq0.false)
+    (pointers_reached T lib state c.args.fs.number c.args.number c.in_ok-find_file.field-0 c.in_ok-find_file.ensures.found.is indirect (sym c.indirect-indirect.ensures) c.if-indirect-eq0.false)
     (done_by T state new c.args.fs.number indirect _ _ entry c.in_ok-edit.ensures c.in_ok-propose.ensures.state)

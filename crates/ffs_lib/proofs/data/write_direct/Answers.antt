@@ -26,7 +26,7 @@ returns-clause-keeps g c = λ lib array v.
     let state = g.S.Store.state_of c.args.store.now in
     let new = g.S.Store.state_of c.propose.new.self in
     let found = c.in_ok-find_file.field-0 in
-    let file = c.in_ok-find_file.ensures in
+    let file = c.in_ok-find_file.ensures.found in
     let block = c.direct-block.result in
     let entry = c.in_ok-propose.field-0 in
     file_data T lib c.args.fs.number c.args.fs.few array state new v c.args.number block entry found (edit_at c.args.at c.args.bytes.now [] [] None) file

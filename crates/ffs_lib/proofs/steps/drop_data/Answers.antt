@@ -10,5 +10,5 @@ returns-clause-ok g c = λ lib array v some can.
     let new = g.S.Store.state_of c.propose.new.self in
     let block = c.indirect-indirect.result in
     dropped T lib c.args.fs.number c.args.fs.few array state new v block c.args.number c.args.after c.in_ok-propose.field-0 (edit_at 0 (replicate 512 0) [] c.in_ok-dropped.dropped.items (Some c.args.after))
-    (pointers_reached T lib state c.args.fs.number c.args.number c.in_ok-found.found c.in_ok-found.ensures block (sym c.indirect-indirect.ensures) c.if-indirect-eq0.false) some can refl
+    (pointers_reached T lib state c.args.fs.number c.args.number c.in_ok-found.found c.in_ok-found.ensures.found block (sym c.indirect-indirect.ensures) c.if-indirect-eq0.false) some can refl
     (done_by T state new c.args.fs.number block _ _ c.in_ok-propose.field-0 c.in_ok-edit.ensures c.in_ok-propose.ensures.state)

@@ -24,7 +24,7 @@ returns-in_ok-propose-in-Entry-clause-keeps g c = λ lib array v some can.
     let bytes = c.entry_bytes-entry.result in
     let entry = c.in_ok-propose-in-Entry.field-0 in
     let gap = subst (IsRoom state c.in_ok-directory.directory) room.is c.in_ok-block.ensures in
-    entered T lib c.args.fs.number c.args.fs.few array state new v c.args.number room.place room.block c.in_ok-directory.directory c.in_ok-directory.ensures gap bytes c.entry_bytes-entry.ensures.whole
+    entered T lib c.args.fs.number c.args.fs.few array state new v c.args.number room.place room.block c.in_ok-directory.directory c.in_ok-directory.ensures.found gap bytes c.entry_bytes-entry.ensures.whole
     c.args.inode c.args.after entry (ap (λ (b : List ℕ). half_at b 0) c.entry_bytes-entry.ensures.bytes ∙ entry_names c.args.inode c.args.name.now c.ranges.inode.fits) some can
     (done_by T state new c.args.fs.number room.block _ _ entry c.in_ok-edit-in-Entry.ensures c.in_ok-propose-in-Entry.ensures.state)
 

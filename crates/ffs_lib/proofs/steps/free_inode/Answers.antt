@@ -15,7 +15,7 @@ returns-clause-keeps g c = λ lib array v some can.
     let state = g.S.Store.state_of c.args.store.now in
     let new = g.S.Store.state_of c.propose.new.self in
     let found = c.in_ok-found.found in
-    let stands = c.in_ok-found.ensures in
+    let stands = c.in_ok-found.ensures.found in
     let bytes = c.bytes.result.now in
     let is = c.bytes.ensures.bytes ∙ c.free.ensures in
     freed T lib c.args.fs.number c.args.fs.few array state new v c.args.number found.block found.place stands.stands bytes (ap length is) [] c.in_ok-dropped.dropped.items (Some c.args.after) c.in_ok-propose.field-0

@@ -12,6 +12,6 @@ returns-clause-ok g c =
     let root = c.in_ok-root.root in
     let block = c.args.block in
     let entry = c.in_ok-propose.field-0 in
-    first_then T c.args.fs.number c.args.fs.few root block entry state new c.in_ok-read_block.field-0.now c.in_ok-root.ensures c.in_ok-read_block.ensures.bytes c.in_ok-read_block.ensures.whole
+    first_then T c.args.fs.number c.args.fs.few root block entry state new c.in_ok-read_block.field-0.now c.in_ok-root.ensures.root c.in_ok-read_block.ensures.bytes c.in_ok-read_block.ensures.whole
     (sym c.pointer.ensures ∙ c.if-pointer-ne0.false) c.ranges.block.fits
     (done_by T state new c.args.fs.number root _ _ entry (c.in_ok-edit.ensures ∙ ap (λ (bs : List ℕ). edit_at 0 bs ((block, 4) ∷ []) [] None) c.pointer_bytes.ensures.bytes) c.in_ok-propose.ensures.state)

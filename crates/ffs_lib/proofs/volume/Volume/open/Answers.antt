@@ -15,4 +15,4 @@ returns-clause-ok g c =
     }
 
 pub returns-clause-found : goal.returns-clause-found
-returns-clause-found g c = (c.in_ok-inode_block.field-0, c.in_ok-inode_block.ensures)
+returns-clause-found g c = (c.in_ok-inode_block.field-0, c.in_ok-inode_block.ensures.inodes)

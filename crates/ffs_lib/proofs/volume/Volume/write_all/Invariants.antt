@@ -1,6 +1,6 @@
 use Rattle.std.proofs.Common.{◌≡◌, ◌+◌, ◌≤◌, length}
 use Rattle.ffs_lib.specs.Volumes.{IsVolume}
-use Rattle.ffs_lib.proofs.volume.Volume.write.Given as goal
+use Rattle.ffs_lib.proofs.volume.Volume.write_all.Given as goal
 
 abbrev pub invariant-loop-last : goal.invariant-loop-last
 invariant-loop-last g l = record {

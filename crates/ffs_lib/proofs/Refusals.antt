@@ -1,0 +1,57 @@
+-- Where the look-ups of a call fail, and where they pass.
+use Rattle.std.proofs.Common.{◌≡◌, ℕ, ◌+◌, ◌<◌, ◌≤◌, Bool, true, false, List, length, refl, sym, ◌∙◌, ap, subst}
+use Rattle.std.specs.Prelude.{Result, Ok, Err, IfErr, ◌==◌, nat_lt, if◌then◌else◌}
+use Rattle.std.proofs.lemmas.Bool.{le-ltb, lt-ltb}
+use Rattle.xn_model.specs.Lives.{StoreState}
+use Rattle.ffs_lib.specs.declared.fault.FfsFault.{FfsFault}
+use Rattle.ffs_lib.specs.declared.fault.FfsFault.TheVariants.{DirNotEmpty, TooLarge}
+use Rattle.ffs_lib.specs.declared.places.Slot.{Slot}
+use Rattle.ffs_lib.specs.Newest.{RefusesAs, and_then, directory_in, entries_of, file_in, if_empty, is_own, mapped, named_in, rmdir_in, unlink_in, write_in}
+
+module _ {A B : Type 0} (looked : Result A FfsFault) (result : Result B FfsFault) where
+  pub refuses : (fault : FfsFault) (state : StoreState) → Err fault ≡ looked → result ≡ Err fault → RefusesAs looked state state result
+  refuses fault state e is = subst (λ (r : Result A FfsFault). RefusesAs r state state result) e (is, refl)
+
+  pub goes_on : (x : A) (old new : StoreState) → Ok x ≡ looked → IfErr result (λ fault. is_own fault ≡ false) → RefusesAs looked old new result
+  goes_on x old new e h = subst (λ (r : Result A FfsFault). RefusesAs r old new result) e h
+
+module _ (content : ℕ → List ℕ) (fs d : ℕ) (name : List ℕ) where
+  pub unlink_nothing : (fault : FfsFault) → Err fault ≡ named_in content fs d name → Err fault ≡ unlink_in content fs d name
+  unfolding unlink_in
+  unlink_nothing fault e = ap (λ (r : Result Slot FfsFault). and_then r (λ entry. mapped (λ inode. entry) (file_in content fs entry.inode))) e
+
+  pub unlink_is : (entry : Slot) (r : Result (List ℕ) FfsFault) → Ok entry ≡ named_in content fs d name → r ≡ file_in content fs entry.inode → mapped (λ inode. entry) r ≡ unlink_in content fs d name
+  unfolding unlink_in
+  unlink_is entry r e f = ap (mapped (λ inode. entry)) f ∙ ap (λ (x : Result Slot FfsFault). and_then x (λ entry. mapped (λ inode. entry) (file_in content fs entry.inode))) e
+
+  pub rmdir_nothing : (fault : FfsFault) → Err fault ≡ named_in content fs d name → Err fault ≡ rmdir_in content fs d name
+  unfolding rmdir_in
+  rmdir_nothing fault e = ap (λ (r : Result Slot FfsFault). and_then r (λ entry. and_then (directory_in content fs entry.inode) (if_empty content entry))) e
+
+  pub rmdir_is : (entry : Slot) (r : Result (List ℕ) FfsFault) → Ok entry ≡ named_in content fs d name → r ≡ directory_in content fs entry.inode → and_then r (if_empty content entry) ≡ rmdir_in content fs d name
+  unfolding rmdir_in
+  rmdir_is entry r e f =
+      ap (λ (x : Result (List ℕ) FfsFault). and_then x (if_empty content entry)) f
+      ∙ ap (λ (x : Result Slot FfsFault). and_then x (λ entry. and_then (directory_in content fs entry.inode) (if_empty content entry))) e
+
+module _ (content : ℕ → List ℕ) (entry : Slot) (inode : List ℕ) (empty : Bool) (is : ◌≡◌ {A = Result Bool FfsFault} (Ok empty) (Ok (length (entries_of content inode) == 0))) where
+  pub entries_left : empty ≡ false → Err DirNotEmpty ≡ if_empty content entry inode
+  entries_left e = let t : (length (entries_of content inode) == 0) ≡ false = cc in sym (ap (λ (x : Bool). if x then Ok entry else Err DirNotEmpty) t)
+
+  pub none_left : empty ≡ true → Ok entry ≡ if_empty content entry inode
+  none_left e = let t : (length (entries_of content inode) == 0) ≡ true = cc in sym (ap (λ (x : Bool). if x then Ok entry else Err DirNotEmpty) t)
+
+module _ (content : ℕ → List ℕ) (fs n size : ℕ) where
+  pub write_nothing : (fault : FfsFault) → Err fault ≡ file_in content fs n → Err fault ≡ write_in content fs n size
+  unfolding write_in
+  write_nothing fault e = ap (λ (r : Result (List ℕ) FfsFault). and_then r (λ inode. if nat_lt 71680 size then Err TooLarge else Ok inode)) e
+
+  pub too_large : (inode : List ℕ) → Ok inode ≡ file_in content fs n → 71680 < size → Err TooLarge ≡ write_in content fs n size
+  unfolding write_in
+  too_large inode e large =
+      sym (ap (λ (x : Bool). if x then Err TooLarge else Ok inode) (lt-ltb 71680 size large)) ∙ ap (λ (r : Result (List ℕ) FfsFault). and_then r (λ inode. if nat_lt 71680 size then Err TooLarge else Ok inode)) e
+
+  pub fits_file : (inode : List ℕ) → Ok inode ≡ file_in content fs n → size ≤ 71680 → Ok inode ≡ write_in content fs n size
+  unfolding write_in
+  fits_file inode e small =
+      sym (ap (λ (x : Bool). if x then Err TooLarge else Ok inode) (le-ltb 71680 size small)) ∙ ap (λ (r : Result (List ℕ) FfsFault). and_then r (λ inode. if nat_lt 71680 size then Err TooLarge else Ok inode)) e

@@ -1,0 +1,50 @@
+use Rattle.std.proofs.Common.{◌+◌, ◌++◌, ◌∙◌, ap, arith, inl, inr, refl, sym}
+use Rattle.std.specs.List.{range_with_len}
+use Rattle.std.proofs.lemmas.Result.{err_from_is_err_and}
+use Rattle.ffs_model.specs.Cuts.{latest}
+use Rattle.ffs_model.specs.Library.{library_layout}
+use Rattle.ffs_model.proofs.ForCallers.{library_reads, under_direct}
+use Rattle.ffs_lib.specs.Newest.{names_at}
+use Rattle.ffs_lib.proofs.Found.{found_has}
+use Rattle.ffs_lib.proofs.Newest.{not_ok}
+use Rattle.ffs_lib.proofs.Walks.{names_are, names_more, names_past, no_names}
+use Rattle.ffs_lib.proofs.volume.Volume.list.Goals as goal
+
+pub returns-in_err-found-clause-faults : goal.returns-in_err-found-clause-faults
+returns-in_err-found-clause-faults g c = λ lib.
+    let p = err_from_is_err_and c.from_residual.result c.from_residual.ensures.1 in
+    rw (p.1, p.2) (inr (no_names (latest (g.S.Store.state_of c.args.store.now).lives) c.args.self.now.fs.number c.args.directory _ (c.in_err-found.ensures.exact lib)))
+
+pub returns-in_err-read_block-clause-faults : goal.returns-in_err-read_block-clause-faults
+returns-in_err-read_block-clause-faults g c = λ lib.
+    let T = g.S.Store.types_of c.args.store.now in
+    let state = g.S.Store.state_of c.args.store.now in
+    let fs = c.args.self.now.fs.number in
+    let found = c.in_ok-found.found in
+    let is = c.in_ok-found.ensures.found.is in
+    let block = c.direct-block in
+    absurd (not_ok (c.in_err-read_block.ensures.reached 2
+    (under_direct T library_layout (library_reads T lib) (latest state.lives) fs _ found.block found.place block.result is.stands.inodes
+    (found_has state fs c.args.directory found is c.loop-i.i block.result (omega arith) (sym block.ensures) c.if-block-eq0.false))))
+
+pub returns-in_err-add_names-clause-faults : goal.returns-in_err-add_names-clause-faults
+returns-in_err-add_names-clause-faults g c = λ lib.
+    let p = err_from_is_err_and c.from_residual-in_err-add_names.result c.from_residual-in_err-add_names.ensures.1 in
+    rw p.1 (inl p.2)
+
+pub loop-i-preserved-then-block-eq0 : goal.loop-i-preserved-then-block-eq0
+loop-i-preserved-then-block-eq0 g c =
+    c.loop-i.invariant
+    ∙ names_past (latest (g.S.Store.state_of c.args.store.now).lives) c.in_ok-found.found.inode c.loop-i.i (c.loop-i.i + 1) refl (sym c.direct-block.ensures ∙ c.if-block-eq0.true)
+
+pub loop-i-preserved : goal.loop-i-preserved
+loop-i-preserved g c =
+    let bytes = c.in_ok-read_block.field-0.now in
+    c.in_ok-add_names.ensures
+    ∙ (ap (λ xs. xs ++ names_at bytes (range_with_len 0 16)) c.loop-i.invariant
+    ∙ names_more (latest (g.S.Store.state_of c.args.store.now).lives) c.in_ok-found.found.inode c.loop-i.i (c.loop-i.i + 1) refl c.direct-block.result bytes (sym c.direct-block.ensures) c.if-block-eq0.false
+    c.in_ok-read_block.ensures.bytes)
+
+pub returns-clause-names : goal.returns-clause-names
+returns-clause-names g c = λ lib.
+    names_are (latest (g.S.Store.state_of c.args.store.now).lives) c.args.self.now.fs.number c.args.directory c.loop-i.i c.in_ok-found.found.inode _ (c.in_ok-found.ensures.exact lib) (omega arith) c.loop-i.invariant

@@ -1,0 +1,7 @@
+use Rattle.std.proofs.Common.{◌≡◌, map}
+use Rattle.ffs_model.specs.Cuts.{latest}
+use Rattle.ffs_lib.proofs.Walks.{first_names}
+use Rattle.ffs_lib.proofs.volume.Volume.list.Given as goal
+
+abbrev pub invariant-loop-i : goal.invariant-loop-i
+invariant-loop-i g l = map (λ name. (name.0.items, name.1)) l.names.items ≡ first_names (latest (g.S.Store.state_of l.store).lives) l.found.inode l.i

@@ -1,0 +1,26 @@
+use Rattle.std.proofs.Common.{◌≡◌, ◌+◌, ◌-◌, ◌≤◌, ◌∙◌, ap, arith, length, min}
+use Rattle.ffs_model.specs.Cuts.{latest}
+use Rattle.ffs_lib.specs.Newest.{byte_of, file_end, read_into}
+use Rattle.ffs_lib.proofs.Parts.{read_done, read_step}
+use Rattle.ffs_lib.proofs.volume.Volume.read.Goals as goal
+
+pub loop-done-preserved : goal.loop-done-preserved
+loop-done-preserved g c =
+    let content = latest (g.S.Store.state_of c.args.store.now).lives in
+    let done = c.loop-done.done in
+    let n = c.min-length.result in
+    let k : done + n - done ≡ n = omega arith in
+    record {
+      within = omega arith;
+      bytes = read_step (byte_of content c.in_ok-file.file.inode) c.args.offset done n (done + n - done) c.loop-done.bytes c.args.bytes.now c.read_part.new.bytes k (omega arith) c.loop-done.invariant.bytes c.in_ok-read_part.ensures.bytes;
+    }
+
+pub returns-clause-bytes : goal.returns-clause-bytes
+returns-clause-bytes g c = λ lib.
+    let content = latest (g.S.Store.state_of c.args.store.now).lives in
+    let inode = c.in_ok-file.file.inode in
+    let old = c.args.bytes.now in
+    let e : c.loop-done.done ≡ min (length old) (file_end inode - c.args.offset) = omega arith in
+    c.loop-done.invariant.bytes
+    ∙ (read_done content inode c.args.offset c.loop-done.done old e
+    ∙ ap (read_into content old c.args.offset) (c.in_ok-file.ensures.exact lib))
