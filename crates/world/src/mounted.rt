@@ -58,6 +58,7 @@ impl MountedDisk {
     }
 
     /// One event, any but a crash.
+    #[inline(always)]
     pub fn step(&mut self, event: &Event) -> Reply
         requires { event.now ≢ Event.Crash }
         ensures step { model.Step (world_with self.old) (event_of event.now) (reply_of result) (world_with self.new) }

@@ -121,6 +121,7 @@ impl World {
     /// root reaches in the image holds a state of its life, from the durable to the begun one, and has
     /// one owner. After any event but a crash, or an edit by a file system, each cut of the lives reaches from that file system's
     /// root slot the same blocks and bytes as some cut before; and so does the image, as some cut now.
+    #[inline(always)]
     pub fn step(&mut self, rt: &(impl Threads + Sync), event: &Event) -> Reply
         ensures step { model.Step (world_with self.old) (event_of event.now) (reply_of result) (world_with self.new) }
         ensures rules { Holds (world_with self.new) }
@@ -245,6 +246,7 @@ impl World {
     }
 
     /// One event.
+    #[inline(always)]
     fn take(&mut self, rt: &(impl Threads + Sync), event: &Event) -> Reply
         ensures { model.Step (world_with self.old) (event_of event.now) (reply_of result) (world_with self.new) }
     {
@@ -255,6 +257,7 @@ impl World {
     }
 
     /// One event, any but a crash.
+    #[inline(always)]
     fn go_on(&mut self, event: &Event) -> Reply
         requires { event.now ≢ Event.Crash }
         ensures { model.Step (world_with self.old) (event_of event.now) (reply_of result) (world_with self.new) }

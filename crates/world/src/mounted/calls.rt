@@ -12,6 +12,7 @@ use xn_state::{Answer, Call, Fs, Stopped};
 
 impl MountedDisk {
     /// A client's call.
+    #[inline(always)]
     pub(crate) fn call(&mut self, fs: Fs, call: &Call) -> Reply
         ensures { model.Step (world_with self.old) (model.Client fs.number (call_of call.now)) (reply_of result) (world_with self.new) }
     {

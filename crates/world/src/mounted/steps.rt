@@ -11,6 +11,7 @@ use crate::ticket::DroppableTicket;
 
 impl MountedDisk {
     /// A write of a block begins, and its ticket is kept.
+    #[inline(always)]
     pub(crate) fn begin(&mut self, block: u32) -> Reply
         ensures { model.Step (world_with self.old) (model.Begin block) (reply_of result) (world_with self.new) }
     {
@@ -25,6 +26,7 @@ impl MountedDisk {
     }
 
     /// The begun write of a block is carried out.
+    #[inline(always)]
     pub(crate) fn land(&mut self, block: u32) -> Reply
         ensures { model.Step (world_with self.old) (model.Land block) (reply_of result) (world_with self.new) }
     {
@@ -36,6 +38,7 @@ impl MountedDisk {
     }
 
     /// The begun write of a block fails.
+    #[inline(always)]
     pub(crate) fn fail(&mut self, block: u32, new_bytes_stay: bool) -> Reply
         ensures { model.Step (world_with self.old) (model.Fail block new_bytes_stay) (reply_of result) (world_with self.new) }
     {
@@ -47,6 +50,7 @@ impl MountedDisk {
     }
 
     /// A block is read back, and its write ends.
+    #[inline(always)]
     pub(crate) fn finish(&mut self, block: u32) -> Reply
         ensures { model.Step (world_with self.old) (model.Finish block) (reply_of result) (world_with self.new) }
     {

@@ -13,6 +13,7 @@ use xn_state::{Answer, Call, Edit, EditId, Fs, Refusal, Store};
 
 impl<L: Lane> Kernel<L> {
     /// Makes a call for a file system, any but `drain`.
+    #[inline(always)]
     pub fn call(&mut self, fs: Fs, call: &Call) -> Answer
         requires { call.now ≢ Drain }
         ensures answer { Answers (types_in self.old.state) self.old.state.store fs.number call.now self.new.state.store result }
