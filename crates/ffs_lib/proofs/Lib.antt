@@ -10,3 +10,5 @@ pub mod Newest
 pub mod Walks
 pub mod Parts
 pub mod Refusals
+pub mod Frames
+pub mod Listed

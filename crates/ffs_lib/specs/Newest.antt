@@ -4,12 +4,13 @@
 --     inode_in, directory_in, file_in       the 64 bytes of the inode in use with a number; of a directory; of a file
 --     entries_in, entries_of                the entries of a block, by place; of a directory, block after block as its inode has them
 --     name_at, first_named, named_in        an entry's name; the first entry with a name, as `None` or as a fault where there is none
+--     listing, without_entry                the entries of a directory with their names; without one of them
 --     names_of, names_in                    the names of a directory and the inodes that they name
 --     file_end, byte_of, bytes_from         where a file ends; its byte at an offset, 0 in a hole; its bytes from an offset on, up to its end
 --     write_in, unlink_in, rmdir_in         what a call looks up before it edits
 --     is_own, RefusesAs                      a fault of the library's own; what is answered where a look-up fails
 --     read_count, read_into                 how many bytes a read answers, and what it leaves of those that it was given
-use Rattle.std.specs.Prelude.{ℕ, ◌+◌, ◌*◌, ◌-◌, ◌/◌, ◌%◌, Bool, true, false, not, ◌&&◌, ◌||◌, ◌==◌, nat_lt, min, List, ◌++◌, length, drop, map, find, Option, Some, None, Result, Ok, Err, ◌≡◌, IfErr, get_or, bytes_eq, filter_map, flat_map, if◌then◌else◌}
+use Rattle.std.specs.Prelude.{ℕ, ◌+◌, ◌*◌, ◌-◌, ◌/◌, ◌%◌, Bool, true, false, not, ◌&&◌, ◌||◌, ◌==◌, nat_lt, min, List, ◌++◌, length, drop, map, find, Option, Some, None, Result, Ok, Err, ◌≡◌, IfErr, get_or, bytes_eq, filter, filter_map, flat_map, if◌then◌else◌}
 use Rattle.std.specs.List.{range_with_len}
 use Rattle.std.specs.Option.{ok_or}
 use Rattle.xn_model.specs.Root.{slot, word_at}
@@ -113,6 +114,17 @@ names_at m places = filter_map (name_of_place m) places
 unfoldable pub names_in : (ℕ → List ℕ) → ℕ → ℕ → Result (List (List ℕ × ℕ)) FfsFault
 names_in content fs n = mapped (names_of content) (directory_in content fs n)
 
+-- each entry with its name
+abbrev pub listing : (ℕ → List ℕ) → List ℕ → List (Slot × List ℕ)
+listing content inode = map (λ entry. (entry, name_at content entry)) (entries_of content inode)
+
+abbrev pub is_at : Slot → Slot → Bool
+is_at entry other = (other.block == entry.block) && (other.place == entry.place)
+
+-- without the one that stands there
+abbrev pub without_entry : Slot → List (Slot × List ℕ) → List (Slot × List ℕ)
+without_entry entry entries = filter (λ p. not (is_at entry p.0)) entries
+
 -- Bytes of files
 
 -- the block of a file with this inode at an index, 0 to 139; 0 for a hole
@@ -167,3 +179,7 @@ is_own fault = true
 abbrev pub RefusesAs : {A B : Type 0} → Result A FfsFault → StoreState → StoreState → Result B FfsFault → Type 0
 RefusesAs (Err fault) old new result = (result ≡ Err fault) × (new ≡ old)
 RefusesAs (Ok found) old new result = IfErr result (λ fault. is_own fault ≡ false)
+
+-- The directory with a number is the same, but for one entry that is gone.
+abbrev pub TakesEntry : (ℕ → List ℕ) → (ℕ → List ℕ) → ℕ → ℕ → Slot → Type 0
+TakesEntry old new fs n entry = (inode : List ℕ) → Ok inode ≡ directory_in old fs n → (Ok inode ≡ directory_in new fs n) × (listing new inode ≡ without_entry entry (listing old inode))

@@ -6,9 +6,11 @@ ghost use Rattle.ffs_format.specs.Entries.{is_name};
 ghost use Rattle.ffs_model.specs.Cuts.{latest};
 ghost use Rattle.ffs_model.specs.Names.{IsInodes};
 ghost use Rattle.ffs_model.specs.Library.{library_layout, IsLibrary};
-ghost use Rattle.ffs_lib.specs.Newest.{RefusesAs, file_in, is_own, named_in, names_at, names_in, read_count, read_into, rmdir_in, unlink_in, write_in};
+ghost use Rattle.ffs_lib.specs.Newest.{RefusesAs, TakesEntry, directory_in, file_in, is_own, listing, named_in, names_at, names_in, read_count, read_into, rmdir_in, unlink_in, without_entry, write_in};
+ghost use Rattle.ffs_lib.specs.declared.places.Found.{Found};
+ghost use Rattle.ffs_lib.specs.declared.places.Slot.{Slot};
 ghost use Rattle.ffs_model.specs.Volumes.{VolumeKeeps, no_edits};
-ghost use Rattle.ffs_lib.specs.Places.{IsFree, IsSlot};
+ghost use Rattle.ffs_lib.specs.Places.{IsDirectory, IsFree, IsSlot};
 ghost use Rattle.ffs_lib.specs.Outcomes.{Keeps, Leaves, Roots, Starts};
 
 use crate::data::{BLOCK_LEN, FILE_BLOCKS, raise_size, read_part, write_block};
@@ -436,6 +438,8 @@ impl Volume {
     /// The entry of a directory that has a name.
     fn named<S: Store>(&self, store: &S, directory: u16, name: &[u8]) -> Result<Slot, FfsFault>
         ensures slot { IfOk result (λ slot. IsSlot (S.state_of store.now) self.now.fs.number slot) }
+        ensures directory { OnOk result ((found : Found) × IsDirectory (S.state_of store.now) self.now.fs.number directory found
+            × (IsLibrary (S.types_of store.now) → Ok found.inode ≡ directory_in (latest (S.state_of store.now).lives) self.now.fs.number directory)) }
         ensures exact { IsLibrary (S.types_of store.now) → result ≡ named_in (latest (S.state_of store.now).lives) self.now.fs.number directory name.now }
     {
         let found = find_directory(store, self.fs, directory)?;
@@ -459,6 +463,8 @@ impl Volume {
         ensures types { S.types_of store.new ≡ S.types_of store.old }
         ensures faults { RefusesAs (unlink_in (latest (S.state_of store.old).lives) self.now.fs.number directory name.now) (S.state_of store.old) (S.state_of store.new) result }
         ensures keeps { IsVolume (S.types_of store.old) (S.state_of store.new) self.now }
+        ensures gone { OnOk result ((entry : Slot) → Ok entry ≡ unlink_in (latest (S.state_of store.old).lives) self.now.fs.number directory name.now →
+            TakesEntry (latest (S.state_of store.old).lives) (latest (S.state_of store.new).lives) self.now.fs.number directory entry) }
     {
         let slot = self.named(store, directory, name)?;
         let _ = find_file(store, self.fs, slot.inode)?;
@@ -478,6 +484,8 @@ impl Volume {
         ensures types { S.types_of store.new ≡ S.types_of store.old }
         ensures faults { RefusesAs (rmdir_in (latest (S.state_of store.old).lives) self.now.fs.number directory name.now) (S.state_of store.old) (S.state_of store.new) result }
         ensures keeps { IsVolume (S.types_of store.old) (S.state_of store.new) self.now }
+        ensures gone { OnOk result ((entry : Slot) → Ok entry ≡ rmdir_in (latest (S.state_of store.old).lives) self.now.fs.number directory name.now →
+            TakesEntry (latest (S.state_of store.old).lives) (latest (S.state_of store.new).lives) self.now.fs.number directory entry) }
     {
         let slot = self.named(store, directory, name)?;
         let found = find_directory(store, self.fs, slot.inode)?;
@@ -493,6 +501,8 @@ impl Volume {
         requires entry { IsSlot (S.state_of store.old) self.now.fs.number slot }
         ensures types { S.types_of store.new ≡ S.types_of store.old }
         ensures keeps { IsVolume (S.types_of store.old) (S.state_of store.new) self.now }
+        ensures gone { OnOk result ((n : ℕ) (found : Found) → n ≢ slot.inode → IsDirectory (S.state_of store.old) self.now.fs.number n found → IsDirectory (S.state_of store.new) self.now.fs.number n found
+            × (listing (latest (S.state_of store.new).lives) found.inode ≡ without_entry slot (listing (latest (S.state_of store.old).lives) found.inode))) }
     {
         let cleared = clear_entry(alloc, store, self.fs, slot, None)?;
         let links = find_inode(store, self.fs, slot.inode)?.inode.links();
