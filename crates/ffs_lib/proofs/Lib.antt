@@ -12,3 +12,5 @@ pub mod Parts
 pub mod Refusals
 pub mod Frames
 pub mod Listed
+pub mod Rooms
+pub mod Creating

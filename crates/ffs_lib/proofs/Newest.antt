@@ -160,7 +160,7 @@ is_numbered content fs n inode e = go ((n == 0) || nat_lt 128 n) (and_then (inod
     go true rest e = absurd (cc e)
     go false rest e = refl
 
-root_again : (content : ℕ → List ℕ) (fs r : ℕ) → IsRoot content fs r → Ok r ≡ root_in content fs
+pub root_again : (content : ℕ → List ℕ) (fs r : ℕ) → IsRoot content fs r → Ok r ≡ root_in content fs
 unfolding root_in
 root_again content fs r x = sym (ap root_of_type x.at ∙ ap (λ (t : Bool). if t then Err NoEntry else Ok r) (ne_eqb r 0 x.there))
 
