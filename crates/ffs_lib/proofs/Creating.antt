@@ -1,5 +1,5 @@
 -- What is looked up before a name is made.
-use Rattle.std.proofs.Common.{◌≡◌, ℕ, Bool, true, false, List, Option, Some, None, refl, sym, ◌∙◌, ap}
+use Rattle.std.proofs.Common.{◌≡◌, ℕ, Bool, true, false, List, Option, refl, sym, ◌∙◌, ap}
 use Rattle.std.specs.Prelude.{Result, Ok, Err, IfErr, IsOk, ◌||◌, is_some, if◌then◌else◌}
 use Rattle.xn_model.specs.Lives.{StoreState}
 use Rattle.ffs_format.specs.Entries.{is_name}

@@ -1,28 +1,27 @@
 -- What an edit leaves of the directories that it does not touch, and what it takes from the one that it does.
-use Rattle.std.proofs.Common.{◌≡◌, ℕ, zero, suc, ◌+◌, ◌-◌, ◌*◌, ◌<◌, ◌≤◌, ◌≢◌, ◌⊎◌, Bool, true, false, cond, List, [], ◌∷◌, ◌++◌, map, length, take, drop, replicate, get_or, Option, Some, None, Ok, refl, sym, ◌∙◌, ap, inl, inr, arith, subst, append_assoc, eq-eqb, length-append, get_or-take, get_or-drop}
+use Rattle.std.proofs.Common.{◌≡◌, ℕ, ◌+◌, ◌-◌, ◌*◌, ◌<◌, ◌≤◌, ◌≢◌, ◌⊎◌, Bool, true, false, cond, List, [], ◌∷◌, ◌++◌, map, length, take, drop, replicate, get_or, Option, Some, None, Ok, refl, sym, ◌∙◌, ap, inl, inr, arith, subst, append_assoc, eq-eqb, length-append, get_or-take, get_or-drop}
 use Rattle.std.specs.Prelude.{Contains, ◌==◌, ◌&&◌, not, min, filter, filter_map, flat_map, if◌then◌else◌}
 use Rattle.std.specs.List.{range_with_len, cons_option}
 use Rattle.std.proofs.lemmas.Bool.{cases_eq, cases_lt, ne_eqb}
 use Rattle.std.proofs.lemmas.List.{drop-drop, drop-take, drop_at, length-take, length-drop, map-append, take-append-le, take-take}
 use Rattle.std.proofs.lemmas.List.Elements.{filter-append}
 use Rattle.std.proofs.lemmas.Option.{none-some, same_Some}
-use Rattle.xn_model.specs.Types.{Types, fits}
+use Rattle.xn_model.specs.Types.{Types}
 use Rattle.xn_model.specs.Lists.{put}
 use Rattle.xn_model.specs.Root.{slot}
-use Rattle.xn_model.specs.Lives.{Life, StoreState, life_at, bytes_of}
-use Rattle.xn_model.specs.Calls.{Edit, life_bytes, propose_of}
+use Rattle.xn_model.specs.Lives.{Life, StoreState, life_at}
+use Rattle.xn_model.specs.Calls.{Edit, propose_of}
 use Rattle.xn_model.specs.Rules.{IsConsistent}
-use Rattle.xn_model.proofs.ForCallers.{Contains-head, Contains-tail, last_of}
+use Rattle.xn_model.proofs.ForCallers.{Contains-head, Contains-tail}
 use Rattle.ffs_model.specs.Cuts.{Under, root, latest}
 use Rattle.ffs_model.specs.Names.{IsInodes, IsRoot}
 use Rattle.ffs_model.specs.Library.{IsLibrary, half_at, inode_at, inode_blocks, library_layout}
-use Rattle.ffs_model.proofs.ForCallers.{half_apart, half_within, latest_reached, library_reads, one_type, proposed_here, proposed_others, under_direct, under_inodes}
+use Rattle.ffs_model.proofs.ForCallers.{half_apart, half_within, latest_reached, one_type, proposed_others}
 use Rattle.ffs_format.specs.Entries.{name_in}
 use Rattle.ffs_lib.specs.declared.places.Found.{Found}
 use Rattle.ffs_lib.specs.declared.places.Slot.{Slot}
-use Rattle.ffs_lib.specs.Edits.{edit_at}
-use Rattle.ffs_lib.specs.Newest.{entries_in, entries_of, entry_at, is_at, listing, name_at, used_entry, without_entry}
-use Rattle.ffs_lib.specs.Places.{IsPlace, IsDirectory, IsSlot}
+use Rattle.ffs_lib.specs.Newest.{entries_in, entry_at, is_at, listing, name_at, used_entry, without_entry}
+use Rattle.ffs_lib.specs.Places.{IsDirectory}
 
 -- Bytes written at a place, and those apart from it
 

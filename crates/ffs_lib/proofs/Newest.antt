@@ -1,15 +1,14 @@
 -- What is found in the newest bytes, step by step.
-use Rattle.std.proofs.Common.{◌≡◌, ℕ, ◌+◌, ◌-◌, ◌*◌, ◌/◌, ◌%◌, ◌<◌, ◌≤◌, ◌≢◌, ◌⊎◌, inl, inr, Bool, true, false, List, Option, Some, None, refl, sym, ◌∙◌, ap, arith, eq-eqb}
+use Rattle.std.proofs.Common.{◌≡◌, ℕ, ◌-◌, ◌/◌, ◌%◌, ◌<◌, ◌≤◌, ◌≢◌, ◌⊎◌, inl, inr, Bool, true, false, List, Some, None, refl, sym, ◌∙◌, ap, eq-eqb}
 use Rattle.std.specs.Prelude.{Result, Ok, Err, ◌==◌, ◌||◌, nat_lt, if◌then◌else◌}
 use Rattle.std.proofs.lemmas.Bool.{eqb-false, le-ltb, lt-ltb, ne_eqb}
 use Rattle.std.proofs.lemmas.Option.{same_Some}
 use Rattle.xn_model.specs.declared.refusal.Refusal.{Refusal}
 use Rattle.xn_model.specs.Types.{Types}
-use Rattle.xn_model.specs.Root.{slot}
 use Rattle.xn_model.specs.Lives.{StoreState}
 use Rattle.xn_model.specs.Calls.{kind_of, root_of, slot_now}
 use Rattle.xn_model.specs.Rules.{IsConsistent}
-use Rattle.ffs_model.specs.Cuts.{Under, root, latest}
+use Rattle.ffs_model.specs.Cuts.{root, latest}
 use Rattle.ffs_model.specs.Names.{IsInodes, IsRoot}
 use Rattle.ffs_model.specs.Library.{inode_at, inode_mode, library_layout, pointer_word}
 use Rattle.ffs_lib.specs.declared.fault.FfsFault.{FfsFault}

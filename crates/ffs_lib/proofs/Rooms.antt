@@ -1,12 +1,12 @@
 -- Where there is room for an entry, or a free inode.
-use Rattle.std.proofs.Common.{◌≡◌, ℕ, zero, suc, ◌+◌, ◌*◌, ◌<◌, ◌≤◌, ◌≢◌, Bool, true, false, cond, List, [], ◌∷◌, ◌++◌, Option, Some, None, refl, sym, ◌∙◌, ap, arith, add-one, eq-eqb}
+use Rattle.std.proofs.Common.{◌≡◌, ℕ, zero, suc, ◌+◌, ◌*◌, ◌<◌, ◌≤◌, ◌≢◌, Bool, true, false, cond, List, [], ◌∷◌, ◌++◌, Option, Some, None, refl, sym, ◌∙◌, ap, arith, eq-eqb}
 use Rattle.std.specs.Prelude.{◌==◌, ◌&&◌, ◌||◌, not, find}
 use Rattle.std.specs.List.{list_any, range_with_len}
 use Rattle.std.proofs.lemmas.Bool.{ne_eqb}
 use Rattle.std.proofs.lemmas.Option.{none-some}
 use Rattle.ffs_model.specs.Library.{half_at, inode_at, inode_blocks, inode_mode, pointer_word}
 use Rattle.ffs_format.specs.Fields.{direct_in}
-use Rattle.ffs_lib.specs.Newest.{has_empty_pointer, has_free_at, has_free_inode, has_gap, has_room}
+use Rattle.ffs_lib.specs.Newest.{has_free_at, has_free_inode, has_gap, has_room}
 use Rattle.ffs_lib.proofs.Walks.{blocks_front, blocks_one, blocks_past, first_blocks, range_more}
 
 -- Tests of lists

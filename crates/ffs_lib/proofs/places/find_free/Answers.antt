@@ -1,5 +1,4 @@
 use Rattle.std.proofs.Common.{◌≡◌, ◌+◌, ◌∙◌, ap, arith, refl, sym}
-use Rattle.std.proofs.lemmas.Result.{err_from_is_err_and}
 use Rattle.ffs_model.specs.Cuts.{latest, root}
 use Rattle.ffs_model.specs.Library.{library_layout, pointer_word}
 use Rattle.ffs_model.proofs.ForCallers.{library_reads, under_inodes}
