@@ -1,15 +1,15 @@
 -- What is found in the newest bytes of a file system, and which fault is told where it is not there. Faults come in the order of the
 -- tests.
---     root_in, inode_block_in               the root block; the block of inodes at an index
---     inode_in, directory_in, file_in       the 64 bytes of the inode in use with a number; of a directory; of a file
---     entries_in, entries_of                the entries of a block, by place; of a directory, block after block as its inode has them
---     name_at, first_named, named_in        an entry's name; the first entry with a name, as `None` or as a fault where there is none
---     listing, without_entry                the entries of a directory with their names; without one of them
---     names_of, names_in                    the names of a directory and the inodes that they name
---     file_end, byte_of, bytes_from         where a file ends; its byte at an offset, 0 in a hole; its bytes from an offset on, up to its end
+--     root_in, inode_block_in                     the root block; the block of inodes at an index
+--     inode_in, directory_in, file_in             the 64 bytes of the inode in use with a number; of a directory; of a file
+--     entries_in, entries_of                      the entries of a block, by place; of a directory, block after block as its inode has them
+--     name_at, first_named, named_in              an entry's name; the first entry with a name, as `None` or as a fault where there is none
+--     listing, without_entry                      the entries of a directory with their names; without one of them
+--     names_of, names_in                          the names of a directory and the inodes that they name
+--     file_end, byte_of, bytes_from               where a file ends; its byte at an offset, 0 in a hole; its bytes from an offset on, up to its end
+--     read_count, read_into                       how many bytes a read answers, and what it leaves of those that it was given
 --     create_in, write_in, unlink_in, rmdir_in    what a call looks up before it edits
---     is_own, RefusesAs                      a fault of the library's own; what is answered where a look-up fails
---     read_count, read_into                 how many bytes a read answers, and what it leaves of those that it was given
+--     is_own, RefusesAs                           a fault of the library's own; what is answered where a look-up fails
 use Rattle.std.specs.Prelude.{ℕ, ◌*◌, ◌-◌, ◌/◌, ◌%◌, Bool, true, false, not, ◌&&◌, ◌||◌, ◌==◌, nat_lt, min, List, ◌++◌, length, drop, map, find, Option, Some, None, Result, Ok, Err, ◌≡◌, IfErr, get_or, is_some, bytes_eq, filter, filter_map, flat_map, if◌then◌else◌}
 use Rattle.std.specs.List.{list_any, range_with_len}
 use Rattle.std.specs.Option.{ok_or}
