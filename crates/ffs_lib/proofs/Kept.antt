@@ -84,3 +84,12 @@ pub data_then : (T : Types) (fs : ℕ) → fs < 32 → (ty block number : ℕ) (
 data_then T fs few ty block number bytes zeroth first second third given attached kept lib array v =
     let done = gives_ok (init_of T zeroth fs ty bytes) zeroth first (block, number) given in
     kept lib array (attached lib array (started_keeps T library_layout (library_reads T lib) fs few array zeroth first v fs ty bytes (block, number) done))
+
+pub on_ok : {A E : Type 0} (r : Result A E) {P : Type 0} → P → OnOk r P
+on_ok (Ok x) p = p
+on_ok (Err e) p = tt
+
+-- what an answer says that is handed on where it is Ok
+pub handed_on : {A E : Type 0} (P : Type 0) (answer result : Result A E) → IfOk result (λ value. answer ≡ Ok value) → OnOk answer P → OnOk result P
+handed_on P answer (Err e) is h = tt
+handed_on {A} {E} P answer (Ok x) is h = subst (λ (r : Result A E). OnOk r P) is h

@@ -10,3 +10,7 @@ pub mod Newest
 pub mod Walks
 pub mod Parts
 pub mod Refusals
+pub mod Frames
+pub mod Listed
+pub mod Rooms
+pub mod Creating

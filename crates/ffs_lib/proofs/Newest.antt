@@ -1,19 +1,21 @@
 -- What is found in the newest bytes, step by step.
-use Rattle.std.proofs.Common.{◌≡◌, ℕ, ◌+◌, ◌-◌, ◌*◌, ◌/◌, ◌%◌, ◌<◌, ◌≤◌, ◌≢◌, ◌⊎◌, inl, inr, Bool, true, false, List, Option, Some, None, refl, sym, ◌∙◌, ap, arith, eq-eqb}
+use Rattle.std.proofs.Common.{◌≡◌, ℕ, ◌-◌, ◌/◌, ◌%◌, ◌<◌, ◌≤◌, ◌≢◌, ◌⊎◌, inl, inr, Bool, true, false, List, Some, None, refl, sym, ◌∙◌, ap, eq-eqb}
 use Rattle.std.specs.Prelude.{Result, Ok, Err, ◌==◌, ◌||◌, nat_lt, if◌then◌else◌}
 use Rattle.std.proofs.lemmas.Bool.{eqb-false, le-ltb, lt-ltb, ne_eqb}
 use Rattle.std.proofs.lemmas.Option.{same_Some}
 use Rattle.xn_model.specs.declared.refusal.Refusal.{Refusal}
 use Rattle.xn_model.specs.Types.{Types}
-use Rattle.xn_model.specs.Root.{slot}
 use Rattle.xn_model.specs.Lives.{StoreState}
 use Rattle.xn_model.specs.Calls.{kind_of, root_of, slot_now}
 use Rattle.xn_model.specs.Rules.{IsConsistent}
-use Rattle.ffs_model.specs.Cuts.{Under, root, latest}
-use Rattle.ffs_model.specs.Library.{inode_at, inode_mode, pointer_word}
+use Rattle.ffs_model.specs.Cuts.{root, latest}
+use Rattle.ffs_model.specs.Names.{IsInodes, IsRoot}
+use Rattle.ffs_model.specs.Library.{inode_at, inode_mode, library_layout, pointer_word}
 use Rattle.ffs_lib.specs.declared.fault.FfsFault.{FfsFault}
 use Rattle.ffs_lib.specs.declared.fault.FfsFault.TheVariants.{NoEntry, NotDir, IsDir}
 use Rattle.ffs_lib.specs.Newest.{and_then, root_in, root_of_type, inode_block_in, unless_zero, inode_in, unless_unused, directory_in, if_directory, file_in, if_file}
+use Rattle.ffs_lib.specs.declared.places.Found.{Found}
+use Rattle.ffs_lib.specs.Places.{IsDirectory}
 use Rattle.ffs_lib.proofs.Readable.{readable}
 
 pub not_ok : false ≡ true → ⊥
@@ -146,3 +148,50 @@ module _ (inode : List ℕ) where
 
   pub not_file : inode_mode inode ≡ 2 → Err IsDir ≡ if_file inode
   not_file e = sym (ap (λ (t : Bool). if t then Err IsDir else Ok inode) (eq-eqb (inode_mode inode) 2 e))
+
+-- A directory that stands somewhere is found
+
+pub is_numbered : (content : ℕ → List ℕ) (fs n : ℕ) (inode : List ℕ) → Ok inode ≡ directory_in content fs n → (n == 0) || nat_lt 128 n ≡ false
+unfolding directory_in inode_in
+is_numbered content fs n inode e = go ((n == 0) || nat_lt 128 n) (and_then (inode_block_in content fs ((n - 1) / 8)) (λ block. unless_unused (inode_at (content block) ((n - 1) % 8)))) e
+  where
+    go : (t : Bool) (rest : Result (List ℕ) FfsFault) → Ok inode ≡ and_then (if t then Err NoEntry else rest) if_directory → t ≡ false
+    go true rest e = absurd (cc e)
+    go false rest e = refl
+
+pub root_again : (content : ℕ → List ℕ) (fs r : ℕ) → IsRoot content fs r → Ok r ≡ root_in content fs
+unfolding root_in
+root_again content fs r x = sym (ap root_of_type x.at ∙ ap (λ (t : Bool). if t then Err NoEntry else Ok r) (ne_eqb r 0 x.there))
+
+pointer_from : (m : List ℕ) (j b : ℕ) → library_layout.pointer m j ≡ b → b ≢ 0 → pointer_word m j ≡ b
+pointer_from m j b e ne = go (nat_lt j 16) e
+  where
+    go : (t : Bool) → (if t then pointer_word m j else 0) ≡ b → pointer_word m j ≡ b
+    go true e = e
+    go false e = absurd (ne (sym e))
+
+block_again : (content : ℕ → List ℕ) (fs j b : ℕ) → IsInodes library_layout content fs j b → Ok b ≡ inode_block_in content fs j
+block_again content fs j b x =
+    not_zero b x.there ∙ (ap unless_zero (sym (pointer_from (content x.root) j b x.points x.there)) ∙ in_root_block content fs j x.root (content x.root) (root_again content fs x.root x.is_root) refl)
+
+pub directory_again : (state : StoreState) (fs n : ℕ) (found : Found) → (n == 0) || nat_lt 128 n ≡ false → IsDirectory state fs n found → Ok found.inode ≡ directory_in (latest state.lives) fs n
+directory_again state fs n found right dir =
+    let content = latest state.lives in
+    let stands = dir.is.stands in
+    let inode : Ok found.inode ≡ inode_in content fs n =
+    used_is found.inode dir.is.used ∙ (ap unless_unused dir.is.bytes
+    ∙ in_inode_block content fs n right ((n - 1) / 8) found.place found.block (content found.block) refl stands.at (block_again content fs ((n - 1) / 8) found.block stands.inodes) refl) in
+    directory_is found.inode dir.directory ∙ in_directory content fs n (Ok found.inode) inode
+
+-- no inode is a directory and a file
+pub not_both : (content : ℕ → List ℕ) (fs n : ℕ) (a b : List ℕ) → Ok a ≡ directory_in content fs n → Ok b ≡ file_in content fs n → ⊥
+unfolding directory_in file_in
+not_both content fs n a b d f = by (inode_in content fs n) d f
+  where
+    two : (t : Bool) (i : List ℕ) → Ok a ≡ (if t then Ok i else Err NotDir) → Ok b ≡ (if t then Err IsDir else Ok i) → ⊥
+    two true i d f = cc
+    two false i d f = cc
+
+    by : (r : Result (List ℕ) FfsFault) → Ok a ≡ and_then r if_directory → Ok b ≡ and_then r if_file → ⊥
+    by (Err fault) d f = cc
+    by (Ok i) d f = two (inode_mode i == 2) i d f

@@ -1,8 +1,6 @@
 -- What is reached from a root slot in the newest bytes can be read.
-use Rattle.std.proofs.Common.{◌≡◌, ℕ, ◌<◌, ◌≢◌, Bool, true, false, List, [], ◌∷◌, Option, Some, None, refl, sym, ◌∙◌, ap, subst, eq-eqb}
-use Rattle.std.specs.Prelude.{Contains, Result, Ok, Err, not, ◌==◌, if◌then◌else◌}
-use Rattle.std.specs.Borrow.{Bor}
-use Rattle.std.proofs.lemmas.Bool.{eqb-false}
+use Rattle.std.proofs.Common.{◌≡◌, ℕ, ◌<◌, ◌≢◌, Bool, true, false, List, [], ◌∷◌, Some, refl, sym, ◌∙◌, ap, subst, eq-eqb}
+use Rattle.std.specs.Prelude.{Contains, Result, Ok, Err, not}
 use Rattle.std.proofs.lemmas.List.Elements.{Contains-append_right}
 use Rattle.std.proofs.lemmas.Option.{same_Some}
 use Rattle.xn_model.specs.declared.refusal.Refusal.{Refusal}
@@ -12,7 +10,7 @@ use Rattle.xn_model.specs.Types.{Types}
 use Rattle.xn_model.specs.Root.{slot, owned_by_root, templates_of, roots_of}
 use Rattle.xn_model.specs.Lives.{Life, StoreState, life_at, bytes_of, current, is_dropped, is_for}
 use Rattle.xn_model.specs.Results.{Lends, first_refusal, result_map, unless}
-use Rattle.xn_model.specs.Calls.{kind_of, life_bytes, own_life, own_place, read_of, root_of, slot_now}
+use Rattle.xn_model.specs.Calls.{kind_of, life_bytes, own_life, own_place, read_of}
 use Rattle.xn_model.specs.Rules.{IsConsistent, IsOwnedBy, NamedIn}
 use Rattle.xn_model.proofs.ForCallers.{place_from, roots_from}
 use Rattle.ffs_model.specs.Cuts.{Under, root, step, latest}

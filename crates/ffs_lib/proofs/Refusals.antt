@@ -1,12 +1,14 @@
 -- Where the look-ups of a call fail, and where they pass.
-use Rattle.std.proofs.Common.{◌≡◌, ℕ, ◌+◌, ◌<◌, ◌≤◌, Bool, true, false, List, length, refl, sym, ◌∙◌, ap, subst}
-use Rattle.std.specs.Prelude.{Result, Ok, Err, IfErr, ◌==◌, nat_lt, if◌then◌else◌}
-use Rattle.std.proofs.lemmas.Bool.{le-ltb, lt-ltb}
+use Rattle.std.proofs.Common.{◌≡◌, ℕ, ◌<◌, ◌≤◌, Bool, true, false, List, [], ◌∷◌, length, refl, sym, ◌∙◌, ap, arith, subst}
+use Rattle.std.specs.Prelude.{Result, Ok, Err, IfErr, ◌==◌, find, nat_lt, if◌then◌else◌}
+use Rattle.std.proofs.lemmas.Bool.{le-ltb, lt-ltb, ne_eqb}
+use Rattle.std.specs.Option.{ok_or}
 use Rattle.xn_model.specs.Lives.{StoreState}
+use Rattle.ffs_format.specs.Entries.{is_name}
 use Rattle.ffs_lib.specs.declared.fault.FfsFault.{FfsFault}
-use Rattle.ffs_lib.specs.declared.fault.FfsFault.TheVariants.{DirNotEmpty, TooLarge}
+use Rattle.ffs_lib.specs.declared.fault.FfsFault.TheVariants.{BadName, DirNotEmpty, NoEntry, TooLarge}
 use Rattle.ffs_lib.specs.declared.places.Slot.{Slot}
-use Rattle.ffs_lib.specs.Newest.{RefusesAs, and_then, directory_in, entries_of, file_in, if_empty, is_own, mapped, named_in, rmdir_in, unlink_in, write_in}
+use Rattle.ffs_lib.specs.Newest.{RefusesAs, and_then, directory_in, entries_of, entry_named, file_in, has_name, if_empty, is_own, mapped, named_in, rmdir_in, unlink_in, write_in}
 
 module _ {A B : Type 0} (looked : Result A FfsFault) (result : Result B FfsFault) where
   pub refuses : (fault : FfsFault) (state : StoreState) → Err fault ≡ looked → result ≡ Err fault → RefusesAs looked state state result
@@ -55,3 +57,20 @@ module _ (content : ℕ → List ℕ) (fs n size : ℕ) where
   unfolding write_in
   fits_file inode e small =
       sym (ap (λ (x : Bool). if x then Err TooLarge else Ok inode) (le-ltb 71680 size small)) ∙ ap (λ (r : Result (List ℕ) FfsFault). and_then r (λ inode. if nat_lt 71680 size then Err TooLarge else Ok inode)) e
+
+-- a directory that has a name is not empty
+nothing_listed : (p : Slot → Bool) (entry : Slot) (t : Bool) → Ok entry ≡ (if t then ok_or (find p []) NoEntry else Err BadName) → ⊥
+nothing_listed p entry true e = cc
+nothing_listed p entry false e = cc
+
+bare_named : (p : Slot → Bool) (entry : Slot) (t : Bool) (es : List Slot) → (length es == 0) ≡ true → Ok entry ≡ (if t then ok_or (find p es) NoEntry else Err BadName) → ⊥
+bare_named p entry t [] b e = nothing_listed p entry t e
+bare_named p entry t (x ∷ xs) b e = not_true (sym (ne_eqb (length (x ∷ xs)) 0 (λ z. absurd (omega (arith, z)))) ∙ b)
+  where
+    not_true : false ≡ true → ⊥
+    not_true f = cc
+
+pub not_bare : (content : ℕ → List ℕ) (fs n : ℕ) (name inode : List ℕ) (entry : Slot) → Ok inode ≡ directory_in content fs n → Ok entry ≡ named_in content fs n name → (length (entries_of content inode) == 0) ≡ true → ⊥
+unfolding named_in
+not_bare content fs n name inode entry is named bare =
+    bare_named (has_name content name) entry (is_name name) (entries_of content inode) bare (named ∙ sym (ap (λ (r : Result (List ℕ) FfsFault). and_then r (entry_named content name)) is))

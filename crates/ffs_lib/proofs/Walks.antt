@@ -1,5 +1,5 @@
 -- A directory's entries, pointer after pointer of its inode.
-use Rattle.std.proofs.Common.{◌≡◌, ℕ, zero, suc, ◌+◌, ◌-◌, ◌*◌, ◌<◌, ◌≤◌, ◌≢◌, Bool, true, false, cond, List, [], ◌∷◌, ◌++◌, map, length, Option, Some, None, refl, sym, ◌∙◌, ap, arith, append_assoc, add-one, eq-eqb, length-append}
+use Rattle.std.proofs.Common.{◌≡◌, ℕ, zero, suc, ◌+◌, ◌-◌, ◌*◌, ◌≤◌, ◌≢◌, Bool, true, false, cond, List, [], ◌∷◌, ◌++◌, map, length, Option, Some, None, refl, sym, ◌∙◌, ap, arith, append_assoc, add-one, eq-eqb, length-append}
 use Rattle.std.specs.Prelude.{Result, Ok, Err, ◌==◌, ◌&&◌, ◌||◌, not, find, bytes_eq, filter_map, flat_map, option_map, IfOk, IfSome, if◌then◌else◌}
 use Rattle.std.specs.List.{range_with_len, cons_option, list_any}
 use Rattle.std.specs.Option.{ok_or, option_or}
@@ -60,6 +60,22 @@ module _ (inode : List ℕ) where
         before.0 ++ more,
         ap (first_blocks inode) e ∙ (blocks_more (k + n) ∙ (ap (λ xs. xs ++ more) before.1 ∙ append_assoc (first_blocks inode n) before.0 more)),
       )
+
+  pub blocks_past : (n m : ℕ) → n + 1 ≡ m → direct_in inode n ≡ 0 → first_blocks inode m ≡ first_blocks inode n
+  blocks_past n m s e = ap (first_blocks inode) (sym s ∙ add-one n) ∙ (blocks_more n ∙ (ap (λ xs. first_blocks inode n ++ xs) (no_block n e) ∙ append_zero (first_blocks inode n)))
+    where
+      append_zero : (xs : List ℕ) → xs ++ [] ≡ xs
+      append_zero [] = refl
+      append_zero (x ∷ xs) = ap (λ ys. x ∷ ys) (append_zero xs)
+
+  pub blocks_one : (n m b : ℕ) → n + 1 ≡ m → direct_in inode n ≡ b → b ≢ 0 → first_blocks inode m ≡ first_blocks inode n ++ b ∷ []
+  blocks_one n m b s e ne = ap (first_blocks inode) (sym s ∙ add-one n) ∙ (blocks_more n ∙ ap (λ xs. first_blocks inode n ++ xs) (one_block n b e ne))
+
+  pub blocks_front : (n : ℕ) → n ≤ 12 → (rest : List ℕ) × (inode_blocks inode ≡ first_blocks inode n ++ rest)
+  blocks_front n few =
+      let r = front n (12 - n) in
+      let e : 12 ≡ 12 - n + n = omega arith in
+      (r.0, ap (first_blocks inode) e ∙ r.1)
 
 -- The entries of the first pointers
 

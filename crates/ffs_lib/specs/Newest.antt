@@ -1,16 +1,17 @@
 -- What is found in the newest bytes of a file system, and which fault is told where it is not there. Faults come in the order of the
 -- tests.
---     root_in, inode_block_in               the root block; the block of inodes at an index
---     inode_in, directory_in, file_in       the 64 bytes of the inode in use with a number; of a directory; of a file
---     entries_in, entries_of                the entries of a block, by place; of a directory, block after block as its inode has them
---     name_at, first_named, named_in        an entry's name; the first entry with a name, as `None` or as a fault where there is none
---     names_of, names_in                    the names of a directory and the inodes that they name
---     file_end, byte_of, bytes_from         where a file ends; its byte at an offset, 0 in a hole; its bytes from an offset on, up to its end
---     write_in, unlink_in, rmdir_in         what a call looks up before it edits
---     is_own, RefusesAs                      a fault of the library's own; what is answered where a look-up fails
---     read_count, read_into                 how many bytes a read answers, and what it leaves of those that it was given
-use Rattle.std.specs.Prelude.{ℕ, ◌+◌, ◌*◌, ◌-◌, ◌/◌, ◌%◌, Bool, true, false, not, ◌&&◌, ◌||◌, ◌==◌, nat_lt, min, List, ◌++◌, length, drop, map, find, Option, Some, None, Result, Ok, Err, ◌≡◌, IfErr, get_or, bytes_eq, filter_map, flat_map, if◌then◌else◌}
-use Rattle.std.specs.List.{range_with_len}
+--     root_in, inode_block_in                     the root block; the block of inodes at an index
+--     inode_in, directory_in, file_in             the 64 bytes of the inode in use with a number; of a directory; of a file
+--     entries_in, entries_of                      the entries of a block, by place; of a directory, block after block as its inode has them
+--     name_at, first_named, named_in              an entry's name; the first entry with a name, as `None` or as a fault where there is none
+--     listing, without_entry                      the entries of a directory with their names; without one of them
+--     names_of, names_in                          the names of a directory and the inodes that they name
+--     file_end, byte_of, bytes_from               where a file ends; its byte at an offset, 0 in a hole; its bytes from an offset on, up to its end
+--     read_count, read_into                       how many bytes a read answers, and what it leaves of those that it was given
+--     create_in, write_in, unlink_in, rmdir_in    what a call looks up before it edits
+--     is_own, RefusesAs                           a fault of the library's own; what is answered where a look-up fails
+use Rattle.std.specs.Prelude.{ℕ, ◌*◌, ◌-◌, ◌/◌, ◌%◌, Bool, true, false, not, ◌&&◌, ◌||◌, ◌==◌, nat_lt, min, List, ◌++◌, length, drop, map, find, Option, Some, None, Result, Ok, Err, ◌≡◌, IfErr, get_or, is_some, bytes_eq, filter, filter_map, flat_map, if◌then◌else◌}
+use Rattle.std.specs.List.{list_any, range_with_len}
 use Rattle.std.specs.Option.{ok_or}
 use Rattle.xn_model.specs.Root.{slot, word_at}
 use Rattle.xn_model.specs.Lives.{StoreState}
@@ -18,7 +19,7 @@ use Rattle.ffs_model.specs.Library.{half_at, pointer_word, inode_at, inode_mode,
 use Rattle.ffs_format.specs.Entries.{is_name, name_in}
 use Rattle.ffs_format.specs.Fields.{direct_in}
 use Rattle.ffs_lib.specs.declared.fault.FfsFault.{FfsFault}
-use Rattle.ffs_lib.specs.declared.fault.FfsFault.TheVariants.{NoEntry, NotDir, IsDir, DirNotEmpty, BadName, TooLarge, Kernel}
+use Rattle.ffs_lib.specs.declared.fault.FfsFault.TheVariants.{NoEntry, Exists, NotDir, IsDir, DirNotEmpty, BadName, TooLarge, NoInode, Kernel}
 use Rattle.ffs_lib.specs.declared.places.Slot.{Slot}
 
 -- Results
@@ -113,6 +114,17 @@ names_at m places = filter_map (name_of_place m) places
 unfoldable pub names_in : (ℕ → List ℕ) → ℕ → ℕ → Result (List (List ℕ × ℕ)) FfsFault
 names_in content fs n = mapped (names_of content) (directory_in content fs n)
 
+-- each entry with its name
+abbrev pub listing : (ℕ → List ℕ) → List ℕ → List (Slot × List ℕ)
+listing content inode = map (λ entry. (entry, name_at content entry)) (entries_of content inode)
+
+abbrev pub is_at : Slot → Slot → Bool
+is_at entry other = (other.block == entry.block) && (other.place == entry.place)
+
+-- without the one that stands there
+abbrev pub without_entry : Slot → List (Slot × List ℕ) → List (Slot × List ℕ)
+without_entry entry entries = filter (λ p. not (is_at entry p.0)) entries
+
 -- Bytes of files
 
 -- the block of a file with this inode at an index, 0 to 139; 0 for a hole
@@ -158,6 +170,39 @@ if_empty content entry inode = if length (entries_of content inode) == 0 then Ok
 unfoldable pub rmdir_in : (ℕ → List ℕ) → ℕ → ℕ → List ℕ → Result Slot FfsFault
 rmdir_in content fs n name = and_then (named_in content fs n name) (λ entry. and_then (directory_in content fs entry.inode) (if_empty content entry))
 
+-- a place of a block without an entry
+abbrev pub has_gap : List ℕ → Bool
+has_gap m = list_any (λ place. half_at m (32 * place) == 0) (range_with_len 0 16)
+
+-- room for an entry more in a directory: a gap in one of its blocks, or an empty pointer
+abbrev pub has_room : (ℕ → List ℕ) → List ℕ → Bool
+has_room content inode = list_any (λ block. has_gap (content block)) (inode_blocks inode) || list_any (λ index. direct_in inode index == 0) (range_with_len 0 12)
+
+-- a free inode in the block to which a pointer leads, 0 to none
+abbrev pub has_free_at : (ℕ → List ℕ) → ℕ → Bool
+has_free_at content block = not (block == 0) && list_any (λ place. inode_mode (inode_at (content block) place) == 0) (range_with_len 0 8)
+
+abbrev pub has_free_inode : (ℕ → List ℕ) → ℕ → Bool
+has_free_inode content root = list_any (λ index. has_free_at content (pointer_word (content root) index)) (range_with_len 0 16)
+
+-- a pointer of the root block for a new block of inodes
+abbrev pub has_empty_pointer : (ℕ → List ℕ) → ℕ → Bool
+has_empty_pointer content root = list_any (λ index. pointer_word (content root) index == 0) (range_with_len 0 16)
+
+abbrev pub has_inode : (ℕ → List ℕ) → ℕ → Bool
+has_inode content root = has_free_inode content root || has_empty_pointer content root
+
+abbrev pub if_room : (ℕ → List ℕ) → List ℕ → ℕ → Result (List ℕ) FfsFault
+if_room content inode root = if has_inode content root then (if has_room content inode then Ok inode else Err TooLarge) else Err NoInode
+
+abbrev pub if_new : (ℕ → List ℕ) → ℕ → List ℕ → List ℕ → Result (List ℕ) FfsFault
+if_new content fs name inode =
+    if is_name name then (if is_some (first_named content inode name) then Err Exists else and_then (root_in content fs) (if_room content inode)) else Err BadName
+
+-- of `create` and `mkdir`
+unfoldable pub create_in : (ℕ → List ℕ) → ℕ → ℕ → List ℕ → Result (List ℕ) FfsFault
+create_in content fs n name = and_then (directory_in content fs n) (if_new content fs name)
+
 -- neither the store's nor for want of memory
 abbrev pub is_own : FfsFault → Bool
 is_own (Kernel refusal) = false
@@ -167,3 +212,7 @@ is_own fault = true
 abbrev pub RefusesAs : {A B : Type 0} → Result A FfsFault → StoreState → StoreState → Result B FfsFault → Type 0
 RefusesAs (Err fault) old new result = (result ≡ Err fault) × (new ≡ old)
 RefusesAs (Ok found) old new result = IfErr result (λ fault. is_own fault ≡ false)
+
+-- The directory with a number is the same, but for one entry that is gone.
+abbrev pub TakesEntry : (ℕ → List ℕ) → (ℕ → List ℕ) → ℕ → ℕ → Slot → Type 0
+TakesEntry old new fs n entry = (inode : List ℕ) → Ok inode ≡ directory_in old fs n → (Ok inode ≡ directory_in new fs n) × (listing new inode ≡ without_entry entry (listing old inode))

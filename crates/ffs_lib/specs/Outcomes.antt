@@ -9,6 +9,11 @@ use Rattle.ffs_model.specs.Names.{IsInodes}
 use Rattle.ffs_model.specs.Edits.{HoldsOnly, OneEntry}
 use Rattle.ffs_model.specs.Volumes.{VolumeKeeps, CanName, CanUnlink, with_edit, without_edit}
 use Rattle.ffs_model.specs.Library.{library_layout, IsLibrary, zeros}
+use Rattle.xn_model.specs.Rules.{IsConsistent}
+use Rattle.ffs_lib.specs.declared.places.Found.{Found}
+use Rattle.ffs_lib.specs.declared.places.Slot.{Slot}
+use Rattle.ffs_lib.specs.Newest.{listing, without_entry}
+use Rattle.ffs_lib.specs.Places.{IsDirectory}
 
 abbrev pub Keeps : Types → ℕ → StoreState → StoreState → Type 0
 Keeps T fs old new = IsLibrary T → (array : ℕ → Option ℕ) → VolumeKeeps T library_layout fs array old → VolumeKeeps T library_layout fs array new
@@ -71,3 +76,14 @@ Roots T fs old new block = IsLibrary T → (array : ℕ → Option ℕ) → Volu
 abbrev pub Starts : Types → ℕ → StoreState → StoreState → ℕ → Type 0
 Starts T fs old new block = IsLibrary T → (array : ℕ → Option ℕ) (bytes : List ℕ) → VolumeKeeps T library_layout fs array old → array 0 ≡ None → HoldsOnly old.lives block bytes →
     ((p c : ℕ) → Contains (library_layout.direct bytes p) c → ⊥) → block ≢ 0 → VolumeKeeps T library_layout fs array new
+
+-- What is found in directories
+--     StaysListed, LosesEntry    all directories but one inode's stay as they are; an entry is gone from each that had it
+
+abbrev pub StaysListed : Types → ℕ → ℕ → StoreState → StoreState → Type 0
+StaysListed T fs n old new = IsLibrary T → IsConsistent T old → (d : ℕ) (found : Found) → d ≢ n → IsDirectory old fs d found →
+    IsDirectory new fs d found × (listing (latest new.lives) found.inode ≡ listing (latest old.lives) found.inode)
+
+abbrev pub LosesEntry : Types → ℕ → Slot → StoreState → StoreState → Type 0
+LosesEntry T fs entry old new = IsLibrary T → IsConsistent T old → (d : ℕ) (found : Found) → IsDirectory old fs d found →
+    IsDirectory new fs d found × (listing (latest new.lives) found.inode ≡ without_entry entry (listing (latest old.lives) found.inode))

@@ -7,7 +7,7 @@ ghost use Rattle.std.specs.Prelude.{◌≡◌};
 use std::alloc::AllocError;
 use xn_model::Refusal;
 
-/// Why a call of a volume was refused.
+/// Why a call of a volume was refused. After any other than `Kernel` the store is as it was, but for `Volume::make`.
 #[derive(Clone, Copy, Debug, PartialEq, Eq)]
 pub enum FfsFault {
     /// No inode in use has this number, or the directory has no such name, or there is no volume.

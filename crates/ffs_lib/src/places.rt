@@ -1,12 +1,13 @@
 // Where inodes and entries stand.
 
-ghost use Rattle.std.specs.Prelude.{◌≡◌, ◌≢◌, ◌<◌, ◌≤◌, ◌*◌, ◌==◌, ◌&&◌, ℕ, length, find, not, bytes_eq, IfOk, IfSome, IsOk, Ok};
+ghost use Rattle.std.specs.Prelude.{◌≡◌, ◌≢◌, ◌<◌, ◌≤◌, ◌*◌, ◌==◌, ◌&&◌, ℕ, length, find, not, bytes_eq, is_some, true, false, IfOk, IfSome, IsOk, MatchResult, Ok, Err};
 ghost use Rattle.std.specs.List.{list_any, range_with_len};
 ghost use Rattle.ffs_format.specs.Entries.{name_in};
+ghost use Rattle.ffs_format.specs.Fields.{direct_in};
 ghost use Rattle.ffs_model.specs.Cuts.{Under, latest};
 ghost use Rattle.ffs_model.specs.Names.{IsRoot, IsInodes};
-ghost use Rattle.ffs_model.specs.Library.{library_layout, half_at, inode_at, inode_mode, IsLibrary};
-ghost use Rattle.ffs_lib.specs.Newest.{mapped, root_in, inode_block_in, inode_in, directory_in, file_in, entries_of, first_named};
+ghost use Rattle.ffs_model.specs.Library.{library_layout, half_at, inode_at, inode_mode, pointer_word, IsLibrary};
+ghost use Rattle.ffs_lib.specs.Newest.{mapped, root_in, inode_block_in, inode_in, directory_in, file_in, entries_of, first_named, has_room, has_free_inode, has_empty_pointer};
 ghost use Rattle.ffs_lib.specs.Places.{IsFound, IsDirectory, IsFile, IsFree, IsEmptyPointer, IsSlot, IsRoom};
 
 use crate::fault::FfsFault;
@@ -165,7 +166,8 @@ fn entry_in(block: &[u8; 512], name: &[u8]) -> Option<usize>
 
 /// The first place without an entry in a directory's block.
 fn gap_in(block: &[u8; 512]) -> Option<usize>
-    ensures { IfSome result (λ place. place < 16) }
+    ensures few { IfSome result (λ place. place < 16) }
+    ensures exact { result ≡ find (λ place. half_at block.now (32 * place) == 0) (range_with_len 0 16) }
 {
     (0..ENTRIES).find(|place| entry_inode(block, *place) == 0)
 }
@@ -200,6 +202,14 @@ pub fn find_entry<S: Store>(
     Ok(None)
 }
 
+/// The first empty pointer of an inode to a block of its own.
+fn empty_direct(inode: &Inode) -> Option<usize>
+    ensures few { IfSome result (λ index. index < 12) }
+    ensures exact { result ≡ find (λ index. direct_in inode.now index == 0) (range_with_len 0 12) }
+{
+    (0..DIRECT_POINTERS).find(|index| inode.direct(*index) == 0)
+}
+
 /// Where a directory has room for an entry: at its first place without one, or at its first empty pointer.
 pub fn find_room<S: Store>(
     store: &S,
@@ -208,7 +218,9 @@ pub fn find_room<S: Store>(
     number: u16,
 ) -> Result<Room, FfsFault>
     requires { IsDirectory (S.state_of store.now) fs.number number directory.now }
-    ensures { IfOk result (λ room. IsRoom (S.state_of store.now) directory.now room) }
+    ensures room { IfOk result (λ room. IsRoom (S.state_of store.now) directory.now room) }
+    ensures exact { IsLibrary (S.types_of store.now) → MatchResult result (λ _. has_room (latest (S.state_of store.now).lives) directory.now.inode ≡ true)
+        (λ fault. (fault ≡ FfsFault.TooLarge) × (has_room (latest (S.state_of store.now).lives) directory.now.inode ≡ false)) }
 {
     for i in 0..DIRECT_POINTERS {
         let block = directory.inode.direct(i);
@@ -219,12 +231,10 @@ pub fn find_room<S: Store>(
             return Ok(Room::Entry { block, place });
         }
     }
-    for i in 0..DIRECT_POINTERS {
-        if directory.inode.direct(i) == 0 {
-            return Ok(Room::Pointer(i));
-        }
+    match empty_direct(&directory.inode) {
+        Some(index) => Ok(Room::Pointer(index)),
+        None => Err(FfsFault::TooLarge),
     }
-    Err(FfsFault::TooLarge)
 }
 
 /// Whether a directory's block has an entry.
@@ -254,19 +264,18 @@ pub fn is_empty<S: Store>(store: &S, fs: Fs, directory: &Found) -> Result<bool, 
 
 /// The first place of an inode block whose inode is free.
 fn free_in(block: &[u8; 512]) -> Option<usize>
-    ensures { IfSome result (λ place. (place < 8) × (inode_mode (inode_at block.now place) ≡ 0)) }
+    ensures free { IfSome result (λ place. (place < 8) × (inode_mode (inode_at block.now place) ≡ 0)) }
+    ensures exact { result ≡ find (λ place. inode_mode (inode_at block.now place) == 0) (range_with_len 0 8) }
 {
-    for place in 0..INODES {
-        if Inode::read(block, place).mode() == 0 {
-            return Some(place);
-        }
-    }
-    None
+    (0..INODES).find(|place| Inode::read(block, *place).mode() == 0)
 }
 
 /// The free inode of the lowest number in the inode blocks that there are.
 pub fn find_free<S: Store>(store: &S, fs: Fs) -> Result<Option<Free>, FfsFault>
-    ensures { IfOk result (λ found. IfSome found (λ free. IsFree (S.state_of store.now) fs.number free)) }
+    ensures free { IfOk result (λ found. IfSome found (λ free. IsFree (S.state_of store.now) fs.number free)) }
+    ensures exact { IsLibrary (S.types_of store.now) → MatchResult result
+        (λ found. (root : ℕ) → Ok root ≡ root_in (latest (S.state_of store.now).lives) fs.number → is_some found ≡ has_free_inode (latest (S.state_of store.now).lives) root)
+        (λ fault. Err fault ≡ root_in (latest (S.state_of store.now).lives) fs.number) }
 {
     let root = root_block(store, fs)?;
     for index in 0..INODE_BLOCKS {
@@ -286,16 +295,24 @@ pub fn find_free<S: Store>(store: &S, fs: Fs) -> Result<Option<Free>, FfsFault>
     Ok(None)
 }
 
+/// The first of the pointers in a root block's bytes that is empty.
+fn empty_in(block: &[u8; 512]) -> Option<usize>
+    ensures empty { IfSome result (λ index. (index < 16) × (pointer_word block.now index ≡ 0)) }
+    ensures exact { result ≡ find (λ index. pointer_word block.now index == 0) (range_with_len 0 16) }
+{
+    (0..INODE_BLOCKS).find(|index| pointer(block, *index) == 0)
+}
+
 /// The first empty pointer of the root block.
 pub fn find_pointer<S: Store>(store: &S, fs: Fs) -> Result<usize, FfsFault>
-    ensures { IfOk result (λ index. IsEmptyPointer (S.state_of store.now) fs.number index) }
+    ensures empty { IfOk result (λ index. IsEmptyPointer (S.state_of store.now) fs.number index) }
+    ensures exact { (root : ℕ) → Ok root ≡ root_in (latest (S.state_of store.now).lives) fs.number → MatchResult result
+        (λ _. has_empty_pointer (latest (S.state_of store.now).lives) root ≡ true)
+        (λ fault. (fault ≡ FfsFault.NoInode) × (has_empty_pointer (latest (S.state_of store.now).lives) root ≡ false)) }
 {
     let root = root_block(store, fs)?;
-    let bytes = read_block(store, fs, root)?;
-    for index in 0..INODE_BLOCKS {
-        if pointer(bytes, index) == 0 {
-            return Ok(index);
-        }
+    match empty_in(read_block(store, fs, root)?) {
+        Some(index) => Ok(index),
+        None => Err(FfsFault::NoInode),
     }
-    Err(FfsFault::NoInode)
 }

@@ -5,7 +5,7 @@ ghost use Rattle.xn_model.specs.Lists.{put};
 ghost use Rattle.ffs_model.specs.Library.{zeros};
 ghost use Rattle.ffs_format.specs.Entries.{is_name};
 ghost use Rattle.ffs_lib.specs.Places.{IsFree, IsSlot};
-ghost use Rattle.ffs_lib.specs.Outcomes.{Keeps, Makes, Attaches, Adds, Names, Grows, Lets, Clears, Unlinks, Drops};
+ghost use Rattle.ffs_lib.specs.Outcomes.{Keeps, Makes, Attaches, Adds, Names, Grows, Lets, Clears, Unlinks, Drops, StaysListed, LosesEntry};
 
 use crate::edits;
 use crate::fault::FfsFault;
@@ -211,6 +211,7 @@ pub fn clear_entry<S: Store>(
     requires { IsSlot (S.state_of store.old) fs.number slot }
     ensures types { S.types_of store.new ≡ S.types_of store.old }
     ensures ok { IfOk result (λ entry. Clears (S.types_of store.old) fs.number (S.state_of store.old) (S.state_of store.new) slot.inode entry) }
+    ensures cleared { OnOk result (LosesEntry (S.types_of store.old) fs.number slot (S.state_of store.old) (S.state_of store.new)) }
     ensures err { OnErr result (S.state_of store.new ≡ S.state_of store.old) }
 {
     let edit = edits::change(alloc, ENTRY_LEN * slot.place, &[0; ENTRY_LEN], after)?;
@@ -252,6 +253,7 @@ pub fn take_link<S: Store>(
 ) -> Result<EditId, FfsFault>
     ensures types { S.types_of store.new ≡ S.types_of store.old }
     ensures keeps { Unlinks (S.types_of store.old) fs.number (S.state_of store.old) (S.state_of store.new) number after }
+    ensures listed { OnOk result (StaysListed (S.types_of store.old) fs.number number (S.state_of store.old) (S.state_of store.new)) }
 {
     let Found {
         block,
@@ -304,6 +306,7 @@ pub fn drop_data<S: Store>(
 ) -> Result<EditId, FfsFault>
     ensures types { S.types_of store.new ≡ S.types_of store.old }
     ensures ok { IfOk result (λ entry. Drops (S.types_of store.old) fs.number (S.state_of store.old) (S.state_of store.new) number after entry) }
+    ensures listed { OnOk result (StaysListed (S.types_of store.old) fs.number number (S.state_of store.old) (S.state_of store.new)) }
     ensures err { OnErr result (S.state_of store.new ≡ S.state_of store.old) }
 {
     let found = find_inode(store, fs, number)?;
@@ -329,6 +332,7 @@ pub fn free_inode<S: Store>(
 ) -> Result<EditId, FfsFault>
     ensures types { S.types_of store.new ≡ S.types_of store.old }
     ensures keeps { Unlinks (S.types_of store.old) fs.number (S.state_of store.old) (S.state_of store.new) number after }
+    ensures listed { OnOk result (StaysListed (S.types_of store.old) fs.number number (S.state_of store.old) (S.state_of store.new)) }
 {
     let found = find_inode(store, fs, number)?;
     if found.inode.links() != 1 {

@@ -1,14 +1,16 @@
 // A volume: the files and directories of a file system.
 
-ghost use Rattle.std.specs.Prelude.{◌≡◌, ◌≢◌, ◌<◌, ◌≤◌, ◌+◌, ◌++◌, true, false, ◌⊎◌, ℕ, length, map, Contains, Ok, Err, IfOk, IfErr, OnOk, OnErr, IfSome, IsTrue};
+ghost use Rattle.std.specs.Prelude.{◌≡◌, ◌≢◌, ◌<◌, ◌≤◌, ◌+◌, ◌++◌, true, false, ◌⊎◌, ℕ, length, map, Contains, Ok, Err, IfOk, IfErr, OnOk, OnErr, IfSome, IsOk, IsTrue, MatchResult};
 ghost use Rattle.std.specs.List.{range_with_len};
 ghost use Rattle.ffs_format.specs.Entries.{is_name};
 ghost use Rattle.ffs_model.specs.Cuts.{latest};
 ghost use Rattle.ffs_model.specs.Names.{IsInodes};
 ghost use Rattle.ffs_model.specs.Library.{library_layout, IsLibrary};
-ghost use Rattle.ffs_lib.specs.Newest.{RefusesAs, file_in, is_own, named_in, names_at, names_in, read_count, read_into, rmdir_in, unlink_in, write_in};
+ghost use Rattle.ffs_lib.specs.Newest.{RefusesAs, TakesEntry, create_in, directory_in, has_inode, root_in, file_in, is_own, listing, named_in, names_at, names_in, read_count, read_into, rmdir_in, unlink_in, without_entry, write_in};
+ghost use Rattle.ffs_lib.specs.declared.places.Found.{Found};
+ghost use Rattle.ffs_lib.specs.declared.places.Slot.{Slot};
 ghost use Rattle.ffs_model.specs.Volumes.{VolumeKeeps, no_edits};
-ghost use Rattle.ffs_lib.specs.Places.{IsFree, IsSlot};
+ghost use Rattle.ffs_lib.specs.Places.{IsDirectory, IsFree, IsSlot};
 ghost use Rattle.ffs_lib.specs.Outcomes.{Keeps, Leaves, Roots, Starts};
 
 use crate::data::{BLOCK_LEN, FILE_BLOCKS, raise_size, read_part, write_block};
@@ -137,6 +139,45 @@ fn add_names(
     Ok(())
 }
 
+/// A free inode, if there is one; else there is room for another block of inodes.
+fn look_up_free<S: Store>(store: &S, fs: Fs) -> Result<Option<Free>, FfsFault>
+    ensures free { IfOk result (λ found. IfSome found (λ free. IsFree (S.state_of store.now) fs.number free)) }
+    ensures exact { IsLibrary (S.types_of store.now) → (root : ℕ) → Ok root ≡ root_in (latest (S.state_of store.now).lives) fs.number → MatchResult result
+        (λ _. has_inode (latest (S.state_of store.now).lives) root ≡ true)
+        (λ fault. (fault ≡ FfsFault.NoInode) × (has_inode (latest (S.state_of store.now).lives) root ≡ false)) }
+{
+    let free = find_free(store, fs)?;
+    if free.is_none() {
+        let _ = find_pointer(store, fs)?;
+    }
+    Ok(free)
+}
+
+/// Looks up what a new name in a directory needs, and answers a free inode, if there is one.
+fn look_up_new<S: Store>(
+    store: &S,
+    fs: Fs,
+    directory: u16,
+    name: &[u8],
+) -> Result<Option<Free>, FfsFault>
+    ensures free { IfOk result (λ found. IfSome found (λ free. IsFree (S.state_of store.now) fs.number free)) }
+    ensures name { OnOk result (IsTrue (is_name name.now)) }
+    ensures exact { IsLibrary (S.types_of store.now) → MatchResult result
+        (λ _. IsOk (create_in (latest (S.state_of store.now).lives) fs.number directory name.now))
+        (λ fault. Err fault ≡ create_in (latest (S.state_of store.now).lives) fs.number directory name.now) }
+{
+    let found = find_directory(store, fs, directory)?;
+    if !is_name(name) {
+        return Err(FfsFault::BadName);
+    }
+    if find_entry(store, fs, &found, directory, name)?.is_some() {
+        return Err(FfsFault::Exists);
+    }
+    let free = look_up_free(store, fs)?;
+    let _ = find_room(store, fs, &found, directory)?;
+    Ok(free)
+}
+
 /// What a call answers once it may have edited. A look-up that fails then is told as the store's refusal, so that a fault of the
 /// library's own always comes before any edit.
 fn once_edited<A>(answer: Result<A, FfsFault>) -> Result<A, FfsFault>
@@ -203,7 +244,7 @@ impl Volume {
         requires volume { IsVolume (S.types_of store.old) (S.state_of store.old) self.old }
         ensures types { S.types_of store.new ≡ S.types_of store.old }
         ensures fs { self.new.fs ≡ self.old.fs }
-        ensures unchanged { IfErr result (λ fault. is_own fault ≡ true → S.state_of store.new ≡ S.state_of store.old) }
+        ensures faults { RefusesAs (create_in (latest (S.state_of store.old).lives) self.old.fs.number directory name.now) (S.state_of store.old) (S.state_of store.new) result }
         ensures keeps { IsVolume (S.types_of store.old) (S.state_of store.new) self.new }
     {
         self.make_entry(alloc, store, directory, name, FILE)
@@ -220,7 +261,7 @@ impl Volume {
         requires volume { IsVolume (S.types_of store.old) (S.state_of store.old) self.old }
         ensures types { S.types_of store.new ≡ S.types_of store.old }
         ensures fs { self.new.fs ≡ self.old.fs }
-        ensures unchanged { IfErr result (λ fault. is_own fault ≡ true → S.state_of store.new ≡ S.state_of store.old) }
+        ensures faults { RefusesAs (create_in (latest (S.state_of store.old).lives) self.old.fs.number directory name.now) (S.state_of store.old) (S.state_of store.new) result }
         ensures keeps { IsVolume (S.types_of store.old) (S.state_of store.new) self.new }
     {
         self.make_entry(alloc, store, directory, name, DIRECTORY)
@@ -239,21 +280,10 @@ impl Volume {
         requires used { mode ≢ 0 }
         ensures types { S.types_of store.new ≡ S.types_of store.old }
         ensures fs { self.new.fs ≡ self.old.fs }
-        ensures unchanged { IfErr result (λ fault. is_own fault ≡ true → S.state_of store.new ≡ S.state_of store.old) }
+        ensures faults { RefusesAs (create_in (latest (S.state_of store.old).lives) self.old.fs.number directory name.now) (S.state_of store.old) (S.state_of store.new) result }
         ensures keeps { IsVolume (S.types_of store.old) (S.state_of store.new) self.new }
     {
-        let found = find_directory(store, self.fs, directory)?;
-        if !is_name(name) {
-            return Err(FfsFault::BadName);
-        }
-        if find_entry(store, self.fs, &found, directory, name)?.is_some() {
-            return Err(FfsFault::Exists);
-        }
-        let free = find_free(store, self.fs)?;
-        if free.is_none() {
-            let _ = find_pointer(store, self.fs)?;
-        }
-        let _ = find_room(store, self.fs, &found, directory)?;
+        let free = look_up_new(store, self.fs, directory, name)?;
         once_edited(self.make_named(alloc, store, directory, name, mode, free))
     }
 
@@ -436,6 +466,8 @@ impl Volume {
     /// The entry of a directory that has a name.
     fn named<S: Store>(&self, store: &S, directory: u16, name: &[u8]) -> Result<Slot, FfsFault>
         ensures slot { IfOk result (λ slot. IsSlot (S.state_of store.now) self.now.fs.number slot) }
+        ensures directory { OnOk result ((found : Found) × IsDirectory (S.state_of store.now) self.now.fs.number directory found
+            × (IsLibrary (S.types_of store.now) → Ok found.inode ≡ directory_in (latest (S.state_of store.now).lives) self.now.fs.number directory)) }
         ensures exact { IsLibrary (S.types_of store.now) → result ≡ named_in (latest (S.state_of store.now).lives) self.now.fs.number directory name.now }
     {
         let found = find_directory(store, self.fs, directory)?;
@@ -459,6 +491,8 @@ impl Volume {
         ensures types { S.types_of store.new ≡ S.types_of store.old }
         ensures faults { RefusesAs (unlink_in (latest (S.state_of store.old).lives) self.now.fs.number directory name.now) (S.state_of store.old) (S.state_of store.new) result }
         ensures keeps { IsVolume (S.types_of store.old) (S.state_of store.new) self.now }
+        ensures gone { OnOk result ((entry : Slot) → Ok entry ≡ unlink_in (latest (S.state_of store.old).lives) self.now.fs.number directory name.now →
+            TakesEntry (latest (S.state_of store.old).lives) (latest (S.state_of store.new).lives) self.now.fs.number directory entry) }
     {
         let slot = self.named(store, directory, name)?;
         let _ = find_file(store, self.fs, slot.inode)?;
@@ -478,6 +512,8 @@ impl Volume {
         ensures types { S.types_of store.new ≡ S.types_of store.old }
         ensures faults { RefusesAs (rmdir_in (latest (S.state_of store.old).lives) self.now.fs.number directory name.now) (S.state_of store.old) (S.state_of store.new) result }
         ensures keeps { IsVolume (S.types_of store.old) (S.state_of store.new) self.now }
+        ensures gone { OnOk result ((entry : Slot) → Ok entry ≡ rmdir_in (latest (S.state_of store.old).lives) self.now.fs.number directory name.now →
+            TakesEntry (latest (S.state_of store.old).lives) (latest (S.state_of store.new).lives) self.now.fs.number directory entry) }
     {
         let slot = self.named(store, directory, name)?;
         let found = find_directory(store, self.fs, slot.inode)?;
@@ -493,6 +529,8 @@ impl Volume {
         requires entry { IsSlot (S.state_of store.old) self.now.fs.number slot }
         ensures types { S.types_of store.new ≡ S.types_of store.old }
         ensures keeps { IsVolume (S.types_of store.old) (S.state_of store.new) self.now }
+        ensures gone { OnOk result ((n : ℕ) (found : Found) → n ≢ slot.inode → IsDirectory (S.state_of store.old) self.now.fs.number n found → IsDirectory (S.state_of store.new) self.now.fs.number n found
+            × (listing (latest (S.state_of store.new).lives) found.inode ≡ without_entry slot (listing (latest (S.state_of store.old).lives) found.inode))) }
     {
         let cleared = clear_entry(alloc, store, self.fs, slot, None)?;
         let links = find_inode(store, self.fs, slot.inode)?.inode.links();

@@ -1,4 +1,7 @@
+use Rattle.std.proofs.Common.{◌*◌, replicate, []}
+use Rattle.ffs_lib.specs.Edits.{edit_at}
 use Rattle.ffs_lib.proofs.Edited.{cleared, done_by}
+use Rattle.ffs_lib.proofs.Listed.{entry_lost}
 use Rattle.ffs_lib.proofs.steps.clear_entry.Goals as goal
 
 pub returns-clause-ok : goal.returns-clause-ok
@@ -8,3 +11,12 @@ returns-clause-ok g c = λ lib array v.
     let new = g.S.Store.state_of c.propose.new.self in
     cleared T lib c.args.fs.number c.args.fs.few array state new v c.args.slot c.requires c.args.after c.in_ok-propose.field-0
     (done_by T state new c.args.fs.number c.args.slot.block _ _ c.in_ok-propose.field-0 c.in_ok-edit.ensures c.in_ok-propose.ensures.state)
+
+pub returns-clause-cleared : goal.returns-clause-cleared
+returns-clause-cleared g c = λ lib h.
+    let T = g.S.Store.types_of c.args.store.now in
+    let state = g.S.Store.state_of c.args.store.now in
+    let new = g.S.Store.state_of c.propose.new.self in
+    let slot = c.args.slot in
+    entry_lost T lib state new h c.args.fs.number c.args.fs.few slot c.requires c.args.after c.in_ok-propose.field-0
+    (done_by T state new c.args.fs.number slot.block _ (edit_at (32 * slot.place) (replicate 32 0) [] [] c.args.after) c.in_ok-propose.field-0 c.in_ok-edit.ensures c.in_ok-propose.ensures.state)

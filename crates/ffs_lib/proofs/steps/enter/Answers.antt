@@ -23,7 +23,7 @@ returns-in_ok-propose-in-Entry-clause-keeps g c = λ lib array v some can.
     let room = c.in-Entry in
     let bytes = c.entry_bytes-entry.result in
     let entry = c.in_ok-propose-in-Entry.field-0 in
-    let gap = subst (IsRoom state c.in_ok-directory.directory) room.is c.in_ok-block.ensures in
+    let gap = subst (IsRoom state c.in_ok-directory.directory) room.is c.in_ok-block.ensures.room in
     entered T lib c.args.fs.number c.args.fs.few array state new v c.args.number room.place room.block c.in_ok-directory.directory c.in_ok-directory.ensures.found gap bytes c.entry_bytes-entry.ensures.whole
     c.args.inode c.args.after entry (ap (λ (b : List ℕ). half_at b 0) c.entry_bytes-entry.ensures.bytes ∙ entry_names c.args.inode c.args.name.now c.ranges.inode.fits) some can
     (done_by T state new c.args.fs.number room.block _ _ entry c.in_ok-edit-in-Entry.ensures c.in_ok-propose-in-Entry.ensures.state)
@@ -46,3 +46,7 @@ returns-in_ok-block-in-Pointer-clause-keeps g c =
     begun_then T fs c.args.fs.few begun.block begun.field-0-1 c.args.after zeroth first second third attached.result c.args.inode c.block_with.result begun.ensures.state one
     (subst (λ t. OnOk attached.result (Grows t fs first second begun.block c.args.after)) c.init.ensures.types attached.ensures.ok) attached.ensures.err
     (subst (λ t. Keeps t fs second third) (attached.ensures.types ∙ c.init.ensures.types) c.forgotten.ensures.keeps)
+
+pub returns-in_err-block-in-Pointer-clause-keeps : goal.returns-in_err-block-in-Pointer-clause-keeps
+returns-in_err-block-in-Pointer-clause-keeps g c = λ lib array v some can.
+    refused (g.S.Store.types_of c.args.store.now) c.args.fs.number array _ (g.S.Store.state_of c.args.store.now) (g.S.Store.state_of c.init.new.self) _ c.in_err-block-in-Pointer.ensures.state v

@@ -5,6 +5,7 @@ use Rattle.ffs_format.specs.Fields.{Fields}
 use Rattle.ffs_lib.proofs.Edited.{done_by, less}
 use Rattle.ffs_lib.proofs.Fields.{same_blocks}
 use Rattle.ffs_lib.proofs.Kept.{refused}
+use Rattle.ffs_lib.proofs.Listed.{inode_written}
 use Rattle.ffs_lib.proofs.steps.take_link.Goals as goal
 
 pub returns-in_err-propose-clause-keeps : goal.returns-in_err-propose-clause-keeps
@@ -31,3 +32,12 @@ returns-clause-keeps g c = λ lib array v some can.
     (ap suc now ∙ omega (arith, was, not_zero))
     (ap inode_blocks is ∙ (same_blocks found.inode c.set_links.new.self (ap (λ (f : Fields). f.direct) one) ∙ ap inode_blocks stands.bytes))
     c.args.after can refl
+
+pub returns-clause-listed : goal.returns-clause-listed
+returns-clause-listed g c = λ lib h d other ne dir.
+    let T = g.S.Store.types_of c.args.store.now in
+    let state = g.S.Store.state_of c.args.store.now in
+    let new = g.S.Store.state_of c.propose.new.self in
+    let found = c.in_ok-block.field-0 in
+    inode_written T lib state new h c.args.fs.number c.args.fs.few c.args.number found.block found.place c.in_ok-block.ensures.found.stands c.bytes.result.now (ap length c.bytes.ensures.bytes ∙ c.bytes.ensures.whole) [] [] (Some c.args.after) c.in_ok-propose.field-0
+    (done_by T state new c.args.fs.number found.block _ _ c.in_ok-propose.field-0 c.in_ok-edit.ensures c.in_ok-propose.ensures.state) d other ne dir

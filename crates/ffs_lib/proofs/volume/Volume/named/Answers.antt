@@ -3,6 +3,7 @@ use Rattle.std.proofs.lemmas.Result.{err_from_is_err_and}
 use Rattle.ffs_model.specs.Cuts.{latest}
 use Rattle.ffs_lib.specs.Newest.{first_named}
 use Rattle.ffs_lib.specs.Places.{IsSlot}
+use Rattle.ffs_lib.proofs.Kept.{on_ok}
 use Rattle.ffs_lib.proofs.Walks.{badly_named, if_some_ok, named_is, nothing_named, same_ok}
 use Rattle.ffs_lib.proofs.volume.Volume.named.Goals as goal
 
@@ -26,3 +27,6 @@ returns-clause-exact g c = λ lib.
     c.ok_or.ensures.value
     ∙ named_is content c.args.self.now.fs.number c.args.directory c.args.name.now inode o (c.in_ok-found.ensures.exact lib) (sym c.if-not-is_name.ensures)
     (same_ok o (first_named content inode c.args.name.now) (c.in_ok-find_entry.ensures.exact lib))
+
+pub returns-clause-directory : goal.returns-clause-directory
+returns-clause-directory g c = on_ok c.ok_or.result (c.in_ok-found.found, c.in_ok-found.ensures.found, c.in_ok-found.ensures.exact)

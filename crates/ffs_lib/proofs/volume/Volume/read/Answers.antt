@@ -1,4 +1,4 @@
-use Rattle.std.proofs.Common.{◌≡◌, ◌+◌, ◌-◌, ◌≤◌, ◌∙◌, ap, arith, length, min}
+use Rattle.std.proofs.Common.{◌≡◌, ◌+◌, ◌-◌, ◌∙◌, ap, arith, length, min}
 use Rattle.ffs_model.specs.Cuts.{latest}
 use Rattle.ffs_lib.specs.Newest.{byte_of, file_end, read_into}
 use Rattle.ffs_lib.proofs.Parts.{read_done, read_step}

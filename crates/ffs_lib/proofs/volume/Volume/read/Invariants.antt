@@ -1,4 +1,4 @@
-use Rattle.std.proofs.Common.{◌≡◌, ◌++◌, ◌-◌, ◌≤◌, drop, length, map}
+use Rattle.std.proofs.Common.{◌≡◌, ◌++◌, ◌-◌, ◌≤◌, drop, map}
 use Rattle.std.specs.List.{range_with_len}
 use Rattle.ffs_model.specs.Cuts.{latest}
 use Rattle.ffs_lib.specs.Newest.{byte_of}

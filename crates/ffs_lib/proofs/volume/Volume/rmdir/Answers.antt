@@ -1,8 +1,13 @@
-use Rattle.std.proofs.Common.{Err, Ok, ◌∙◌, refl}
-use Rattle.std.proofs.lemmas.Result.{err_from_is_err_and}
+use Rattle.std.proofs.Common.{◌≡◌, ◌≢◌, ◌∙◌, ℕ, true, List, length, Err, Ok, ap, refl, subst, sym}
+use Rattle.std.specs.Prelude.{◌==◌}
+use Rattle.std.proofs.lemmas.Result.{err_from_is_err_and, on_ok_weaker}
 use Rattle.ffs_model.specs.Cuts.{latest}
-use Rattle.ffs_lib.specs.Newest.{rmdir_in}
-use Rattle.ffs_lib.proofs.Refusals.{entries_left, goes_on, none_left, refuses, rmdir_is, rmdir_nothing}
+use Rattle.ffs_lib.specs.Newest.{TakesEntry, directory_in, entries_of, listing, rmdir_in, without_entry}
+use Rattle.ffs_lib.specs.declared.places.Slot.{Slot}
+use Rattle.ffs_lib.proofs.Kept.{handed_on}
+use Rattle.ffs_lib.proofs.Newest.{directory_again, is_numbered}
+use Rattle.ffs_lib.proofs.Walks.{same_ok}
+use Rattle.ffs_lib.proofs.Refusals.{entries_left, goes_on, none_left, not_bare, refuses, rmdir_is, rmdir_nothing}
 use Rattle.ffs_lib.proofs.volume.Volume.rmdir.Goals as goal
 
 pub returns-in_err-slot-clause-faults : goal.returns-in_err-slot-clause-faults
@@ -47,3 +52,31 @@ returns-clause-faults g c =
     (none_left content slot inode c.in_ok-is_empty.field-0 (c.in_ok-is_empty.ensures slot.inode lib c.in_ok-found.ensures.found) c.if-not-branch.false
     ∙ rmdir_is content fs c.args.directory c.args.name.now slot (Ok inode) (c.in_ok-slot.ensures.exact lib) (c.in_ok-found.ensures.exact lib))
     c.once_edited.ensures.err
+
+pub returns-clause-gone : goal.returns-clause-gone
+returns-clause-gone g c = handed_on _ c.remove.result c.once_edited.result c.once_edited.ensures.ok (on_ok_weaker c.remove.result (λ gone entry e.
+    let old = g.S.Store.state_of c.args.store.now in
+    let new = g.S.Store.state_of c.remove.new.store in
+    let content = latest old.lives in
+    let fs = c.args.self.now.fs.number in
+    let d = c.args.directory in
+    let name = c.args.name.now in
+    let slot = c.in_ok-slot.slot in
+    let lib = c.requires.volume.library in
+    let found = c.in_ok-slot.ensures.directory.0 in
+    let dir = c.in_ok-slot.ensures.directory.1 in
+    let is = c.in_ok-slot.ensures.directory.2 lib in
+    let named = c.in_ok-slot.ensures.exact lib in
+    let inner = c.in_ok-found.found.inode in
+    let empty = c.in_ok-is_empty.ensures slot.inode lib c.in_ok-found.ensures.found in
+    let bare : (length (entries_of content inner) == 0) ≡ true = sym (same_ok c.in_ok-is_empty.field-0 (length (entries_of content inner) == 0) empty) ∙ c.if-not-branch.false in
+    let apart : d ≢ slot.inode = λ z. not_bare content fs d name inner slot (c.in_ok-found.ensures.exact lib ∙ ap (directory_in content fs) (sym z)) named bare in
+    let after = gone d found apart dir in
+    let looked = none_left content slot inner c.in_ok-is_empty.field-0 empty c.if-not-branch.false ∙ rmdir_is content fs d name slot (Ok inner) named (c.in_ok-found.ensures.exact lib) in
+    let same : slot ≡ entry = same_ok slot entry (looked ∙ sym e) in
+    let all : TakesEntry content (latest new.lives) fs d slot =
+    λ inode i.
+    let own : found.inode ≡ inode = same_ok found.inode inode (is ∙ sym i) in
+    let again = directory_again new fs d found (is_numbered content fs d found.inode is) after.0 in
+    subst (λ (x : List ℕ). (Ok x ≡ directory_in (latest new.lives) fs d) × (listing (latest new.lives) x ≡ without_entry slot (listing content x))) own (again, after.1) in
+    subst (λ (x : Slot). TakesEntry content (latest new.lives) fs d x) same all) c.remove.ensures.gone)

@@ -1,7 +1,11 @@
-use Rattle.std.proofs.Common.{Err, Ok, refl}
-use Rattle.std.proofs.lemmas.Result.{err_from_is_err_and}
+use Rattle.std.proofs.Common.{◌≡◌, ◌≢◌, ◌∙◌, ℕ, List, Err, Ok, ap, refl, subst, sym}
+use Rattle.std.proofs.lemmas.Result.{err_from_is_err_and, on_ok_weaker}
 use Rattle.ffs_model.specs.Cuts.{latest}
-use Rattle.ffs_lib.specs.Newest.{unlink_in}
+use Rattle.ffs_lib.specs.Newest.{TakesEntry, directory_in, listing, unlink_in, without_entry}
+use Rattle.ffs_lib.specs.declared.places.Slot.{Slot}
+use Rattle.ffs_lib.proofs.Kept.{handed_on}
+use Rattle.ffs_lib.proofs.Newest.{directory_again, is_numbered, not_both}
+use Rattle.ffs_lib.proofs.Walks.{same_ok}
 use Rattle.ffs_lib.proofs.Refusals.{goes_on, refuses, unlink_is, unlink_nothing}
 use Rattle.ffs_lib.proofs.volume.Volume.unlink.Goals as goal
 
@@ -34,3 +38,26 @@ returns-clause-faults g c =
     goes_on (unlink_in content fs c.args.directory c.args.name.now) c.once_edited.result slot (g.S.Store.state_of c.args.store.now) (g.S.Store.state_of c.remove.new.store)
     (unlink_is content fs c.args.directory c.args.name.now slot (Ok c.in_ok-find_file.field-0.inode) (c.in_ok-slot.ensures.exact lib) (c.in_ok-find_file.ensures.exact lib))
     c.once_edited.ensures.err
+
+pub returns-clause-gone : goal.returns-clause-gone
+returns-clause-gone g c = handed_on _ c.remove.result c.once_edited.result c.once_edited.ensures.ok (on_ok_weaker c.remove.result (λ gone entry e.
+    let old = g.S.Store.state_of c.args.store.now in
+    let new = g.S.Store.state_of c.remove.new.store in
+    let content = latest old.lives in
+    let fs = c.args.self.now.fs.number in
+    let d = c.args.directory in
+    let slot = c.in_ok-slot.slot in
+    let lib = c.requires.volume.library in
+    let found = c.in_ok-slot.ensures.directory.0 in
+    let dir = c.in_ok-slot.ensures.directory.1 in
+    let is = c.in_ok-slot.ensures.directory.2 lib in
+    let file = c.in_ok-find_file.ensures.exact lib in
+    let apart : d ≢ slot.inode = λ z. not_both content fs slot.inode found.inode c.in_ok-find_file.field-0.inode (is ∙ ap (directory_in content fs) z) file in
+    let after = gone d found apart dir in
+    let same : slot ≡ entry = same_ok slot entry (unlink_is content fs d c.args.name.now slot (Ok c.in_ok-find_file.field-0.inode) (c.in_ok-slot.ensures.exact lib) file ∙ sym e) in
+    let all : TakesEntry content (latest new.lives) fs d slot =
+    λ inode i.
+    let own : found.inode ≡ inode = same_ok found.inode inode (is ∙ sym i) in
+    let again = directory_again new fs d found (is_numbered content fs d found.inode is) after.0 in
+    subst (λ (x : List ℕ). (Ok x ≡ directory_in (latest new.lives) fs d) × (listing (latest new.lives) x ≡ without_entry slot (listing content x))) own (again, after.1) in
+    subst (λ (x : Slot). TakesEntry content (latest new.lives) fs d x) same all) c.remove.ensures.gone)

@@ -1,4 +1,4 @@
-use Rattle.std.proofs.Common.{◌+◌, ◌<◌, ◌≤◌, arith, length, refl}
+use Rattle.std.proofs.Common.{◌+◌, ◌<◌, arith, length, refl}
 use Rattle.std.proofs.lemmas.Result.{err_from_is_err_and}
 use Rattle.ffs_model.specs.Cuts.{latest}
 use Rattle.ffs_lib.specs.Newest.{write_in}
