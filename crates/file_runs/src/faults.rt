@@ -1,0 +1,98 @@
+// Each fault of a volume's calls.
+
+use crate::disk::Disk;
+use crate::files::{Action, Files};
+use crate::text::fault_name;
+use ffs_lib::{FfsFault, Fs};
+use std::alloc::Global;
+use std::io;
+use xn_model::Refusal;
+
+/// How many calls are refused.
+const CASES: usize = 24;
+
+/// A name of 29 bytes.
+const LONG: &[u8] = b"a name of twenty-nine bytes..";
+
+/// Calls and their faults. Inode 2 is the file `f`, inode 3 the directory `d`, which has an entry.
+const FAULTS: [(Action<'static>, FfsFault); CASES] = [
+    (Action::Create(0, b"x"), FfsFault::NoEntry),
+    (Action::Create(9, b"x"), FfsFault::NoEntry),
+    (Action::Create(129, b"x"), FfsFault::NoEntry),
+    (Action::Create(2, b"x"), FfsFault::NotDir),
+    (Action::Create(1, b""), FfsFault::BadName),
+    (Action::Create(1, b"a/b"), FfsFault::BadName),
+    (Action::Create(1, b"."), FfsFault::BadName),
+    (Action::Mkdir(1, LONG), FfsFault::BadName),
+    (Action::Mkdir(1, b"f"), FfsFault::Exists),
+    (Action::Write(9, 0, b"x"), FfsFault::NoEntry),
+    (Action::Write(3, 0, b"x"), FfsFault::IsDir),
+    (Action::Write(2, 71_680, b"x"), FfsFault::TooLarge),
+    (Action::Unlink(2, b"x"), FfsFault::NotDir),
+    (Action::Unlink(1, b"x"), FfsFault::NoEntry),
+    (Action::Unlink(1, b"d"), FfsFault::IsDir),
+    (Action::Rmdir(1, b"x"), FfsFault::NoEntry),
+    (Action::Rmdir(1, b"f"), FfsFault::NotDir),
+    (Action::Rmdir(1, b"d"), FfsFault::DirNotEmpty),
+    (Action::Rename(1, b"x", 1, b"y"), FfsFault::NoEntry),
+    (Action::Rename(1, b"f", 9, b"y"), FfsFault::NoEntry),
+    (Action::Rename(1, b"f", 2, b"y"), FfsFault::NotDir),
+    (Action::Rename(1, b"f", 1, b".."), FfsFault::BadName),
+    (Action::Rename(1, b"f", 1, b"d"), FfsFault::Exists),
+    (Action::Rename(1, b"d", 3, b"y"), FfsFault::IsDir),
+];
+
+/// Makes calls that are refused, and prints how many of them were as they should.
+pub fn print_faults<S: Disk + Drop>(
+    rt: &impl Print,
+    alloc: Global,
+    files: &mut Files<S>,
+    fs: Fs,
+) -> io::Result<()> {
+    let none = files.open(fs) == Err(FfsFault::NoEntry);
+    let _ = files.make(alloc, fs);
+    let _ = files.drain();
+    let again = files.make(alloc, fs) == Err(FfsFault::Exists);
+    let _ = files.open(fs);
+    for action in &[
+        Action::Create(1, b"f"),
+        Action::Mkdir(1, b"d"),
+        Action::Create(3, b"x"),
+    ] {
+        let _ = files.call(alloc, fs, action);
+    }
+    let mut right = 0u32;
+    for (action, fault) in &FAULTS {
+        if files.call(alloc, fs, action) == Err(*fault) {
+            right = right.wrapping_add(1);
+        }
+    }
+    println!(rt; "no volume {none}, a second one {again}, faults {right} of {CASES}")?;
+    print_refusals(rt, alloc, files, fs)
+}
+
+/// Prints after how many calls the store refuses one: for the edits that a block has pending, and for want of room.
+fn print_refusals<S: Disk + Drop>(
+    rt: &impl Print,
+    alloc: Global,
+    files: &mut Files<S>,
+    fs: Fs,
+) -> io::Result<()> {
+    let mut writes = 0u32;
+    let mut answer = Ok(0);
+    while writes < 100 && answer.is_ok() {
+        answer = files.call(alloc, fs, &Action::Write(2, writes, b"x"));
+        writes += 1;
+    }
+    let many = answer == Err(FfsFault::Kernel(Refusal::TooManyPending));
+    let _ = files.drain();
+    answer = Ok(0);
+    let mut blocks = 0u32;
+    while blocks < 100 && answer.is_ok() {
+        answer = files.call(alloc, fs, &Action::Write(2, 512 * blocks, b"x"));
+        let _ = files.drain();
+        blocks += 1;
+    }
+    let full = answer == Err(FfsFault::Kernel(Refusal::NoSpace));
+    println!(rt; "too many pending at write {writes}: {many}; no space at block {blocks}: {full}")
+}
