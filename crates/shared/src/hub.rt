@@ -26,7 +26,6 @@ mod store;
 /// A kernel, with the publisher of the words that tell its floors.
 ///
 /// No word is above its file system's floor.
-#[derive(Drop)]
 pub struct Hub<L: Lane, K: Naming> {
     kernel: Kernel<L>,
     publisher: Publisher,
@@ -44,6 +43,18 @@ impl<L: Lane, K: Naming> Model for Hub<L, K> {
     ghost view = { λ h. record { kernel = h.kernel; words = h.publisher.seen } };
 
     ghost invariant = { λ h. (h.publisher.floor ≡ K.floor) × (arc_value h.floor ≡ K.floor) × NoWordAbove h.publisher.seen h.kernel.state.store };
+}
+
+/// Written by hand, so that a function that drops one calls this: a derived drop is proved anew in each such function.
+impl<L: Lane + Drop, K: Naming> Drop for Hub<L, K> {
+    fn drop(self) {
+        let Hub {
+            kernel: _,
+            publisher: _,
+            floor: _,
+            of: _,
+        } = self;
+    }
 }
 
 impl<L: Lane, K: Naming> Held for Hub<L, K> {
@@ -80,7 +91,13 @@ impl<L: Lane, K: Naming> Hub<L, K> {
     pub fn into_kernel(self) -> Kernel<L>
         ensures { result ≡ self.kernel }
     {
-        self.kernel
+        let Hub {
+            kernel,
+            publisher: _,
+            floor: _,
+            of: _,
+        } = self;
+        kernel
     }
 
     /// Tells a reader the floor of a file system: all entries of it below are durable, or of lives that have ended.

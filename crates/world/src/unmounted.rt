@@ -19,7 +19,6 @@ use std::marker::Model;
 use std::thread::Threads;
 
 /// A disk in memory whose lanes are all at home, and the empty places of its tickets.
-#[derive(Drop)]
 pub struct UnmountedDisk {
     lanes: Lanes<MemLane>,
     tickets: Tickets,
@@ -34,6 +33,16 @@ impl Model for UnmountedDisk {
     ghost view = { λ a. image_of a.lanes a.tickets };
 
     ghost invariant = { λ a. IsUnmounted a.lanes a.tickets };
+}
+
+/// Written by hand, so that a function that drops one calls this: a derived drop is proved anew in each such function.
+impl Drop for UnmountedDisk {
+    fn drop(self) {
+        let UnmountedDisk {
+            lanes: _,
+            tickets: _,
+        } = self;
+    }
 }
 
 impl UnmountedDisk {

@@ -29,7 +29,6 @@ mod kept;
 pub use drain::DrainStop;
 
 /// A store over the lanes of a disk.
-#[derive(Drop)]
 pub struct Kernel<L: Lane> {
     id: u64,
     lanes: Lanes<L>,
@@ -46,6 +45,17 @@ impl<L: Lane> Model for Kernel<L> {
     ghost view = { λ a. record { id = a.id; lanes = a.lanes; state = a.state } };
 
     ghost invariant = { λ a. IsKernel L.bytes_of a.lanes a.state };
+}
+
+/// Written by hand, so that a function that drops one calls this: a derived drop is proved anew in each such function.
+impl<L: Lane + Drop> Drop for Kernel<L> {
+    fn drop(self) {
+        let Kernel {
+            id: _,
+            lanes: _,
+            state: _,
+        } = self;
+    }
 }
 
 impl<L: Lane> Kernel<L> {
@@ -123,7 +133,12 @@ impl<L: Lane> Kernel<L> {
     pub fn into_lanes(self) -> Lanes<L>
         ensures { result ≡ self.lanes }
     {
-        self.lanes
+        let Kernel {
+            id: _,
+            lanes,
+            state: _,
+        } = self;
+        lanes
     }
 
     /// Begins a write of a block: the ticket has its lane, and the bytes that its safe entries leave.

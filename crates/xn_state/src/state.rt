@@ -32,7 +32,6 @@ mod ready;
 mod roots;
 
 /// What a store knows of its blocks, beside the disk.
-#[derive(Drop)]
 pub struct State {
     alloc: Global,
     table: Table,
@@ -54,6 +53,19 @@ impl Model for State {
     ghost invariant = { λ a. IsConsistent (types_of a.table) (record { lives = a.lives; next = a.next }) × AreDecided (types_of a.table) a.reads.sets.items a.lives };
 }
 
+/// Written by hand, so that a function that drops one calls this: a derived drop is proved anew in each such function.
+impl Drop for State {
+    fn drop(self) {
+        let State {
+            alloc: _,
+            table: _,
+            lives: _,
+            reads: _,
+            next: _,
+        } = self;
+    }
+}
+
 impl State {
     /// The state of a store whose disk holds a sound image, of which these are the reached blocks, each once, with the types of the
     /// image's table. Each of them has one state, the durable one, and entry numbers start at 1. `Err` comes only for want
@@ -68,6 +80,7 @@ impl State {
         ensures value { IfOk result (λ state. state ≡ record { table = table; store = mounted_state (lives_in image.now found.now) }) }
         ensures rules { IfOk result (λ state. IsConsistent (types_in state) state.store) }
     {
+        table.rules();
         let lives = Lives::found(alloc, image, found)?;
         let reads = ReadSets::new(alloc, lives.blocks())?;
         Ok(State {
