@@ -2,11 +2,11 @@
 --     array_of volume             the numbers that an open volume keeps
 --     IsKept T state fs volume    a volume's rules hold for a file system
 --     Stays T old new             they hold on, for every file system
---     IsQuiet event               no crash, and no edit by any file system
-use Rattle.std.specs.Prelude.{◌≡◌, ◌<◌, ℕ, Option, Some, None, IfSome}
-use Rattle.ffs_model.specs.Events.{IsForeign}
+--     Recovers T old T' new       they hold after a crash
+--     IsDevice event              no crash, and no call
+use Rattle.std.specs.Prelude.{◌≡◌, ◌<◌, ℕ, Option, Some, None, IfSome, ⊤}
 use Rattle.world.specs.declared.event.Event.{Event}
-use Rattle.world.specs.Events.{event_of}
+use Rattle.world.specs.declared.event.Event.TheVariants as event
 use Rattle.xn_model.specs.Types.{Types}
 use Rattle.xn_model.specs.Lives.{StoreState}
 use Rattle.ffs_model.specs.Volumes.{VolumeKeeps, no_edits}
@@ -27,5 +27,15 @@ pub record IsKept (T : Types) (state : StoreState) (fs : ℕ) (volume : Option V
 abbrev pub Stays : Types → StoreState → StoreState → Type 0
 Stays T old new = IsLibrary T → (fs : ℕ) (array : ℕ → Option ℕ) → fs < 32 → VolumeKeeps T library_layout fs array old → VolumeKeeps T library_layout fs array new
 
-abbrev pub IsQuiet : Event → Type 0
-IsQuiet event = (fs : ℕ) → IsForeign fs (event_of event)
+-- after a crash they hold of volumes that are opened anew
+abbrev pub Recovers : Types → StoreState → Types → StoreState → Type 0
+Recovers T old T' new = (fs : ℕ) (volume : Option Volume) → IsKept T old fs volume → IsKept T' new fs None
+
+-- what the device does
+abbrev pub IsDevice : Event → Type 0
+IsDevice (event.Begin block) = ⊤
+IsDevice (event.Land block) = ⊤
+IsDevice (event.Fail block stays) = ⊤
+IsDevice (event.Finish block) = ⊤
+IsDevice (event.Call fs call) = ⊥
+IsDevice event.Crash = ⊥

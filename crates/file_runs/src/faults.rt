@@ -1,8 +1,7 @@
 // Each fault of a volume's calls.
 
-use crate::disk::Disk;
-use crate::files::{Action, Files};
-use crate::text::fault_name;
+use crate::disks::Disk;
+use crate::files::{Action, Answer, Files};
 use ffs_lib::{FfsFault, Fs};
 use std::alloc::Global;
 use std::io;
@@ -71,28 +70,40 @@ pub fn print_faults<S: Disk + Drop>(
     print_refusals(rt, alloc, files, fs)
 }
 
-/// Prints after how many calls the store refuses one: for the edits that a block has pending, and for want of room.
+/// Writes a byte at one place after another, so far apart, with a drain after each or not, until the store refuses it. Answers how
+/// many writes were done, and the refusal.
+fn write_on<S: Disk + Drop>(
+    alloc: Global,
+    files: &mut Files<S>,
+    fs: Fs,
+    apart: u32,
+    drains: bool,
+) -> (u32, Answer) {
+    for i in 0..100u32 {
+        let answer = files.call(alloc, fs, &Action::Write(2, i.wrapping_mul(apart), b"x"));
+        if answer.is_err() {
+            return (i, answer);
+        }
+        if drains {
+            let _ = files.drain();
+        }
+    }
+    (100, Ok(0))
+}
+
+/// Prints after how many writes the store refuses one: for the edits that a block has pending, and for want of blocks.
 fn print_refusals<S: Disk + Drop>(
     rt: &impl Print,
     alloc: Global,
     files: &mut Files<S>,
     fs: Fs,
 ) -> io::Result<()> {
-    let mut writes = 0u32;
-    let mut answer = Ok(0);
-    while writes < 100 && answer.is_ok() {
-        answer = files.call(alloc, fs, &Action::Write(2, writes, b"x"));
-        writes += 1;
-    }
-    let many = answer == Err(FfsFault::Kernel(Refusal::TooManyPending));
+    let (writes, refused) = write_on(alloc, files, fs, 1, false);
+    let many = refused == Err(FfsFault::Kernel(Refusal::TooManyPending));
     let _ = files.drain();
-    answer = Ok(0);
-    let mut blocks = 0u32;
-    while blocks < 100 && answer.is_ok() {
-        answer = files.call(alloc, fs, &Action::Write(2, 512 * blocks, b"x"));
-        let _ = files.drain();
-        blocks += 1;
-    }
-    let full = answer == Err(FfsFault::Kernel(Refusal::NoSpace));
-    println!(rt; "too many pending at write {writes}: {many}; no space at block {blocks}: {full}")
+    let (blocks, refused) = write_on(alloc, files, fs, 512, true);
+    let full = refused == Err(FfsFault::Kernel(Refusal::NoSpace));
+    println!(rt;
+        "after {writes} writes too many are pending: {many}; after {blocks} blocks there is no space: {full}"
+    )
 }

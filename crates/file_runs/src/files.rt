@@ -4,7 +4,7 @@ ghost use Rattle.std.specs.Prelude.{◌≡◌, ◌<◌, ℕ};
 ghost use Rattle.ffs_lib.specs.Volumes.{IsVolume};
 ghost use Rattle.file_runs.specs.Kept.{IsKept};
 
-use crate::disk::Disk;
+use crate::disks::Disk;
 use crate::guarded::{Guarded, Other};
 use ffs_lib::{FfsFault, Fs, Volume};
 use std::alloc::Global;
@@ -35,7 +35,6 @@ pub enum Action<'a> {
 pub type Answer = Result<u16, FfsFault>;
 
 /// Two file systems on a store, each with its volume where that is open. After a crash whose mount found no memory there is no store.
-#[derive(Drop)]
 pub struct Files<S: Disk> {
     store: Option<Guarded<S>>,
     /// The file system that made the last call.
@@ -52,6 +51,16 @@ impl<S: Disk> Model for Files<S> {
     ghost view = { λ a. tt };
 
     ghost invariant = { λ a. IfSome a.store (λ store. IsKept (S.types_of store) (S.state_of store) a.fs.number a.volume) };
+}
+
+impl<S: Disk + Drop> Drop for Files<S> {
+    fn drop(self) {
+        let Files {
+            store: _,
+            fs: _,
+            volume: _,
+        } = self;
+    }
 }
 
 /// Makes a call of a volume.

@@ -1,14 +1,15 @@
 // A store on which one file system makes calls beside another one.
 
-ghost use Rattle.std.specs.Prelude.{◌≡◌, ◌≢◌, Some, IfSome};
+ghost use Rattle.std.specs.Prelude.{◌≡◌, ◌≢◌, Some, None, IfSome, IsSomeAnd};
 ghost use Rattle.templates.specs.Tables.{types_of};
-ghost use Rattle.file_runs.specs.Kept.{IsKept, IsQuiet, Stays};
+ghost use Rattle.file_runs.specs.Kept.{IsDevice, IsKept, Recovers, Stays};
 
-use crate::disk::Disk;
+use crate::disks::Disk;
 use ffs_lib::{EditId, Fs, Volume};
 use std::marker::Model;
-use xn_model::Refusal;
+use std::thread::Threads;
 use world::{Event, Reply, Running};
+use xn_model::Refusal;
 use xn_state::{Edit, Store};
 
 /// A file system that makes no calls meanwhile, with its volume where that is open.
@@ -19,7 +20,6 @@ pub struct Other {
 }
 
 /// A store, and what is known of a file system beside the one that makes calls.
-#[derive(Drop)]
 pub struct Guarded<S: Disk> {
     store: S,
     other: Option<Other>,
@@ -34,6 +34,12 @@ impl<S: Disk> Model for Guarded<S> {
     ghost view = { λ a. a.store };
 
     ghost invariant = { λ a. IfSome a.other (λ other. IsKept (S.types_of a.store) (S.state_of a.store) other.fs.number other.volume) };
+}
+
+impl<S: Disk + Drop> Drop for Guarded<S> {
+    fn drop(self) {
+        let Guarded { store: _, other: _ } = self;
+    }
 }
 
 impl<S: Disk> Guarded<S> {
@@ -70,6 +76,33 @@ fn beside(other: Option<Other>, fs: Fs) -> Option<Other>
 {
     match other {
         Some(other) if other.fs != fs => Some(other),
+        _ => None,
+    }
+}
+
+/// A file system whose volume is not open.
+fn closed(other: Option<Other>) -> Option<Other>
+    ensures { IfSome result (λ o. (o.volume ≡ None) × IsSomeAnd other (λ before. before.fs ≡ o.fs)) }
+{
+    let other = other?;
+    Some(Other {
+        fs: other.fs,
+        volume: None,
+    })
+}
+
+/// A world after a crash, with the counts of its mount.
+fn crashed(rt: &(impl Threads + Sync), running: Running) -> Option<(Running, u32, u32)>
+    ensures { IfSome result (λ r. Recovers (types_of running.table) running.state (types_of r.0.table) r.0.state) }
+{
+    let mut world = running.into_world();
+    world.rules();
+    let reply = world.step(rt, &Event::Crash);
+    let Ok(running) = world.into_running() else {
+        return None;
+    };
+    match reply {
+        Reply::Mounted { reached, free } => Some((running, reached, free)),
         _ => None,
     }
 }
@@ -129,14 +162,25 @@ impl<S: Disk> Disk for Guarded<S> {
 }
 
 impl Guarded<Running> {
-    /// One event that is no crash and no edit.
+    /// One event that is of the device.
     pub fn step(&mut self, event: &Event) -> Reply
-        requires { IsQuiet event.now }
+        requires { IsDevice event.now }
         ensures types { types_of self.new.table ≡ types_of self.old.table }
         ensures stays { Stays (types_of self.old.table) self.old.state self.new.state }
     {
         self.store.rules();
         self.store.step(event)
+    }
+
+    /// All that isn't on the disk is lost, and the disk is mounted anew; no volume is open then. Answers beside the store how many
+    /// blocks the mount reached, and how many are free; `None` where it found no memory.
+    pub fn crash(self, rt: &(impl Threads + Sync)) -> Option<(Guarded<Running>, u32, u32)>
+        ensures { IfSome result (λ r. Recovers (types_of self.table) self.state (types_of r.0.table) r.0.state) }
+    {
+        let (running, other) = self.into_parts();
+        let (store, reached, free) = crashed(rt, running)?;
+        let other = closed(other);
+        Some((Guarded { store, other }, reached, free))
     }
 
     /// The least block that may be written.

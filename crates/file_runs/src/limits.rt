@@ -1,6 +1,6 @@
 // Sizes: of files, of directories, and of a volume.
 
-use crate::disk::Disk;
+use crate::disks::Disk;
 use crate::files::{Action, Files};
 use crate::text::fault_name;
 use ffs_lib::{FfsFault, Fs};
@@ -11,6 +11,9 @@ use world::Running;
 
 /// How many bytes a write has, so that no block gets too many edits before it is written.
 const CHUNK: usize = 4096;
+
+/// How many such writes fill a file, the last one half.
+const CHUNKS: u32 = 18;
 
 /// How many bytes a file has at most.
 const MOST: u32 = 71_680;
@@ -40,15 +43,14 @@ fn free<S: Disk + Drop>(files: &mut Files<S>) -> u32 {
 
 /// Whether a file is read as it was written.
 fn is_as_written<S: Disk + Drop>(files: &mut Files<S>, fs: Fs, inode: u16) -> bool {
-    let mut offset = 0u32;
-    while offset < MOST {
+    for chunk in 0..CHUNKS {
+        let offset = 4096 * chunk;
         let mut bytes = [0; CHUNK];
         let length = files.read(fs, inode, offset, &mut bytes);
         let rest = ((MOST - offset) as usize).min(CHUNK);
         if length != Ok(rest) || bytes[..rest] != bytes_at(offset)[..rest] {
             return false;
         }
-        offset += CHUNK as u32;
     }
     true
 }
@@ -60,13 +62,12 @@ fn fill_file<S: Disk + Drop>(
     fs: Fs,
     inode: u16,
 ) -> Result<u16, FfsFault> {
-    let mut offset = 0u32;
-    while offset < MOST {
+    for chunk in 0..CHUNKS {
+        let offset = 4096 * chunk;
         let rest = ((MOST - offset) as usize).min(CHUNK);
         let bytes = bytes_at(offset);
         let _ = files.call(alloc, fs, &Action::Write(inode, offset, &bytes[..rest]))?;
         let _ = files.drain();
-        offset += CHUNK as u32;
     }
     Ok(0)
 }
@@ -79,12 +80,16 @@ pub fn print_file<S: Disk + Drop>(
     fs: Fs,
 ) -> io::Result<()> {
     let _ = files.make(alloc, fs);
-    let inode = files.call(alloc, fs, &Action::Create(1, b"large")).unwrap_or(0);
+    let inode = files
+        .call(alloc, fs, &Action::Create(1, b"large"))
+        .unwrap_or(0);
     let before = free(files);
     let filled = fill_file(alloc, files, fs, inode).is_ok();
     let blocks = before.wrapping_sub(free(files));
     let same = is_as_written(files, fs, inode);
-    println!(rt; "a file of {MOST} bytes: written {filled}, {blocks} blocks, read as written {same}")?;
+    println!(rt;
+        "a file of {MOST} bytes: written {filled}, {blocks} blocks, read as written {same}"
+    )?;
     let more = files.call(alloc, fs, &Action::Write(inode, MOST, b"x"));
     let name = fault_name(more);
     println!(rt; "one byte more: {name}")?;
@@ -99,7 +104,7 @@ fn long_name(number: u16) -> [u8; 28] {
     let digits = [number / 100 % 10, number / 10 % 10, number % 10];
     for (i, digit) in digits.iter().enumerate() {
         if let Some(place) = name.get_mut(i.wrapping_add(25)) {
-            *place = b'0' + *digit as u8;
+            *place = b'0' + (*digit % 10) as u8;
         }
     }
     name
@@ -120,7 +125,9 @@ fn name_twice(
     new_name: &[u8],
 ) -> bool {
     let kept = first_block(files, fs, 2);
-    let renamed = files.call(alloc, fs, &Action::Rename(2, name, 2, new_name)).is_ok();
+    let renamed = files
+        .call(alloc, fs, &Action::Rename(2, name, 2, new_name))
+        .is_ok();
     for _ in 0..8 {
         match files.pick() {
             Some(block) if Some(block) != kept => {
@@ -134,7 +141,12 @@ fn name_twice(
 }
 
 /// How many names a directory has.
-fn count_names<S: Disk + Drop>(alloc: Global, files: &mut Files<S>, fs: Fs, directory: u16) -> usize {
+fn count_names<S: Disk + Drop>(
+    alloc: Global,
+    files: &mut Files<S>,
+    fs: Fs,
+    directory: u16,
+) -> usize {
     match files.list(alloc, fs, directory) {
         Ok(names) => names.len(),
         Err(_) => 0,
@@ -152,7 +164,9 @@ pub fn print_directory(
     let _ = files.call(alloc, fs, &Action::Mkdir(1, b"d"));
     let mut last = 0;
     for number in 0..125 {
-        last = files.call(alloc, fs, &Action::Create(2, &long_name(number))).unwrap_or(0);
+        last = files
+            .call(alloc, fs, &Action::Create(2, &long_name(number)))
+            .unwrap_or(0);
         let _ = files.drain();
     }
     println!(rt; "files of long names: the last inode is {last}")?;
@@ -176,7 +190,9 @@ fn print_full(
     fs: Fs,
 ) -> io::Result<()> {
     let more = fault_name(files.call(alloc, fs, &Action::Create(2, b"more")));
-    let last = files.call(alloc, fs, &Action::Create(1, b"last")).unwrap_or(0);
+    let last = files
+        .call(alloc, fs, &Action::Create(1, b"last"))
+        .unwrap_or(0);
     let none = fault_name(files.call(alloc, fs, &Action::Create(1, b"none")));
     println!(rt; "a name more: {more}; elsewhere inode {last}, and then {none}")
 }

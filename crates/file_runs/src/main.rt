@@ -2,7 +2,7 @@
 // write of a rename, and random calls of two file systems beside each other.
 #![tactic(auto)]
 
-mod disk;
+mod disks;
 mod faults;
 mod files;
 mod guarded;
@@ -15,8 +15,8 @@ mod scan;
 mod text;
 
 use faults::print_faults;
-use files::Files;
 use ffs_lib::Fs;
+use files::Files;
 use limits::{print_directory, print_file};
 use random::print_random;
 use renames::print_rename;
@@ -72,8 +72,10 @@ fn main(rt: HostRuntime) -> io::Result<()> {
     for part in [Part::Rows, Part::File, Part::Faults] {
         run(&rt, alloc, part, first, second)?;
     }
-    for writes in 0..=5 {
+    for writes in 0..6 {
         run(&rt, alloc, Part::Rename(writes, true), first, second)?;
+    }
+    for writes in 1..6 {
         run(&rt, alloc, Part::Rename(writes, false), first, second)?;
     }
     run(&rt, alloc, Part::Directory, first, second)?;

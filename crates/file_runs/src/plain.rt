@@ -121,7 +121,10 @@ impl Plain {
 
     /// A place of a directory.
     pub fn place(&self, directory: u16, place: usize) -> Place {
-        match self.places.get(start(directory, PLACES).wrapping_add(place)) {
+        match self
+            .places
+            .get(start(directory, PLACES).wrapping_add(place))
+        {
             Some(entry) => *entry,
             None => GAP,
         }
@@ -129,7 +132,10 @@ impl Plain {
 
     /// Sets a place of a directory.
     pub fn set_place(&mut self, directory: u16, place: usize, entry: Place) {
-        if let Some(at) = self.places.get_mut(start(directory, PLACES).wrapping_add(place)) {
+        if let Some(at) = self
+            .places
+            .get_mut(start(directory, PLACES).wrapping_add(place))
+        {
             *at = entry;
         }
     }
@@ -163,6 +169,14 @@ impl Plain {
     /// The first place of a directory without a name.
     fn gap(&self, directory: u16) -> Option<usize> {
         (0..PLACES).find(|place| self.place(directory, *place).inode == 0)
+    }
+
+    /// Whether a directory has a name.
+    pub fn has_name(&self, directory: u16, name: &[u8]) -> bool {
+        match name_number(name) {
+            Some(name) => self.find(directory, name).is_some(),
+            None => false,
+        }
     }
 
     /// How many names an inode has.
@@ -338,11 +352,7 @@ impl Plain {
     }
 
     /// Whether a list of a directory should give this.
-    pub fn is_list(
-        &self,
-        directory: u16,
-        answer: &Result<Vec<(Vec<u8>, u16)>, FfsFault>,
-    ) -> bool {
+    pub fn is_list(&self, directory: u16, answer: &Result<Vec<(Vec<u8>, u16)>, FfsFault>) -> bool {
         match (self.check(directory, DIRECTORY), answer) {
             (Err(wanted), Err(fault)) => wanted == *fault,
             (Ok(_), Ok(names)) => self.are_names(directory, names),
@@ -352,17 +362,19 @@ impl Plain {
 
     /// Whether these are the names in a directory, in their order.
     fn are_names(&self, directory: u16, names: &[(Vec<u8>, u16)]) -> bool {
-        let mut next = 0;
-        for (name, inode) in names {
-            while next < PLACES && self.place(directory, next).inode == 0 {
-                next += 1;
+        let mut count = 0usize;
+        for place in 0..PLACES {
+            let entry = self.place(directory, place);
+            if entry.inode != 0 {
+                match names.get(count) {
+                    Some((name, inode))
+                        if *inode == entry.inode && name_number(name) == Some(entry.name) => {
+                        count = count.wrapping_add(1);
+                    }
+                    _ => return false,
+                }
             }
-            let entry = self.place(directory, next);
-            if entry.inode != *inode || Some(entry.name) != name_number(name) {
-                return false;
-            }
-            next += 1;
         }
-        (next..PLACES).all(|place| self.place(directory, place).inode == 0)
+        count == names.len()
     }
 }

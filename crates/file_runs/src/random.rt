@@ -12,7 +12,7 @@ use std::thread::Threads;
 use world::Running;
 
 /// How many bytes a write has at most.
-const MOST: usize = 1500;
+const MOST: usize = 700;
 
 /// What happened how often.
 #[derive(Clone, Copy)]
@@ -49,7 +49,11 @@ fn count(number: &mut u32, holds: bool) {
 impl Run {
     /// What one of the two should hold.
     fn plain(&mut self, second: bool) -> &mut Plain {
-        if second { &mut self.second } else { &mut self.first }
+        if second {
+            &mut self.second
+        } else {
+            &mut self.first
+        }
     }
 
     /// Its file system.
@@ -57,37 +61,45 @@ impl Run {
         self.systems[usize::from(second)]
     }
 
-    /// A name; one in sixteen is none.
-    fn name(&mut self) -> &'static [u8] {
-        if self.numbers.below(16) == 0 {
-            self.numbers.pick(&BAD_NAMES)
-        } else {
-            self.numbers.pick(&NAMES)
+    /// An inode, of a mode most often.
+    fn inode(&mut self, second: bool, mode: u16) -> u16 {
+        for _ in 0..4 {
+            let inode = self.numbers.below(LAST_WRITTEN + 2);
+            if self.plain(second).node(inode).mode == mode {
+                return inode;
+            }
         }
+        1
     }
 
-    /// The inode of a directory, most often.
-    fn directory(&mut self) -> u16 {
-        self.numbers.pick(&[1, 1, 1, 2, 3, 4, 5, 6])
+    /// A name, which a directory has or has not most often; one in sixteen is none.
+    fn name(&mut self, second: bool, directory: u16, there: bool) -> &'static [u8] {
+        for _ in 0..4 {
+            let name = self.numbers.pick(&NAMES);
+            if self.plain(second).has_name(directory, name) == there {
+                return name;
+            }
+        }
+        self.numbers.pick(&BAD_NAMES)
     }
 
     /// The next call, with these bytes to be written.
-    fn action<'a>(&mut self, bytes: &'a [u8]) -> Action<'a> {
-        let directory = self.directory();
-        let name = self.name();
+    fn action<'a>(&mut self, second: bool, bytes: &'a [u8]) -> Action<'a> {
+        let directory = self.inode(second, 2);
         match self.numbers.below(16) {
-            0..4 => Action::Create(directory, name),
-            4..6 => Action::Mkdir(directory, name),
-            6..10 => {
-                let inode = self.numbers.below(LAST_WRITTEN + 1);
+            0..4 => Action::Create(directory, self.name(second, directory, false)),
+            4 => Action::Mkdir(directory, self.name(second, directory, false)),
+            5..9 => {
+                let inode = self.inode(second, 1).min(LAST_WRITTEN);
                 let offset = u32::from(self.numbers.below((BYTES - MOST) as u16));
                 Action::Write(inode, offset, bytes)
             }
-            10..12 => Action::Unlink(directory, name),
-            12 => Action::Rmdir(directory, name),
+            9..12 => Action::Unlink(directory, self.name(second, directory, true)),
+            12 => Action::Rmdir(directory, self.name(second, directory, true)),
             _ => {
-                let other = self.directory();
-                Action::Rename(directory, name, other, self.name())
+                let name = self.name(second, directory, true);
+                let other = self.inode(second, 2);
+                Action::Rename(directory, name, other, self.name(second, other, false))
             }
         }
     }
@@ -99,7 +111,7 @@ impl Run {
         for byte in bytes[..length].iter_mut() {
             *byte = self.numbers.byte(256);
         }
-        let action = self.action(&bytes[..length]);
+        let action = self.action(second, &bytes[..length]);
         let answer = files.call(alloc, self.fs(second), &action);
         let wanted = self.plain(second).call(&action);
         match answer {
@@ -149,17 +161,19 @@ impl Run {
 
     /// Reads some of a file, and compares it with the model.
     fn read(&mut self, files: &mut Files<Running>, second: bool) {
-        let inode = self.numbers.below(LAST_WRITTEN + 1);
+        let inode = self.inode(second, 1).min(LAST_WRITTEN);
         let offset = self.numbers.below((BYTES - MOST) as u16);
         let mut bytes = [0; MOST];
         let answer = files.read(self.fs(second), inode, u32::from(offset), &mut bytes);
-        let same = self.plain(second).is_read(inode, usize::from(offset), &bytes, answer);
+        let same = self
+            .plain(second)
+            .is_read(inode, usize::from(offset), &bytes, answer);
         count(&mut self.tally.wrong, !same);
     }
 
     /// Lists a directory, and compares it with the model.
     fn list(&mut self, alloc: Global, files: &mut Files<Running>, second: bool) {
-        let directory = self.directory();
+        let directory = self.inode(second, 2);
         let answer = files.list(alloc, self.fs(second), directory);
         let same = self.plain(second).is_list(directory, &answer);
         count(&mut self.tally.wrong, !same);
@@ -280,6 +294,10 @@ fn print_tally(rt: &impl Print, calls: u32, tally: Tally) -> io::Result<()> {
         wrong,
         unsound,
     } = tally;
-    println!(rt; "{calls} calls of two file systems: {done} done, {faults} faults, {refused} refused")?;
-    println!(rt; "{crashes} crashes, {device_faults} device faults: {wrong} wrong, {unsound} unsound")
+    println!(rt;
+        "{calls} calls of two file systems: {done} done, {faults} faults, {refused} refused"
+    )?;
+    println!(rt;
+        "{crashes} crashes, {device_faults} device faults: {wrong} wrong, {unsound} unsound"
+    )
 }

@@ -49,7 +49,12 @@ pub fn print_rename(
     let mounted = files.crash(rt).is_some() && files.open(fs).is_ok();
     let top = names_in(alloc, files, fs, 1)?;
     let other = names_in(alloc, files, fs, 3)?;
-    println!(rt; "{writes} writes of a rename: mounted {mounted}, 1:{}, 3:{}", text(&top), text(&other))
+    let last = if ends { "" } else { ", the last not ended" };
+    println!(rt;
+        "a rename, {writes} writes{last}: mounted {mounted}, 1:{}, 3:{}",
+        text(&top),
+        text(&other)
+    )
 }
 
 /// Bytes as text.

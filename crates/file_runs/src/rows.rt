@@ -1,6 +1,6 @@
 // The calls of a volume, one after another, with the writes that each takes.
 
-use crate::disk::Disk;
+use crate::disks::Disk;
 use crate::files::{Action, Answer, Files};
 use ffs_lib::{FfsFault, Fs};
 use std::alloc::Global;

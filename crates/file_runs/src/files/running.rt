@@ -1,9 +1,9 @@
 // File systems on a world: its events, and its crashes.
 
-ghost use Rattle.file_runs.specs.Kept.{IsQuiet};
+ghost use Rattle.file_runs.specs.Kept.{IsDevice};
 
 use crate::files::Files;
-use crate::guarded::{Guarded, Other};
+use ffs_format::law::templates_are_the_librarys;
 use ffs_format::templates;
 use ffs_lib::Fs;
 use std::alloc::{AllocError, Global};
@@ -19,9 +19,14 @@ impl Files<Running> {
         first: Fs,
         second: Fs,
     ) -> Result<Files<Running>, AllocError> {
-        match World::format(rt, alloc, blocks, &templates(alloc)?) {
+        let templates = templates(alloc)?;
+        templates_are_the_librarys();
+        match World::format(rt, alloc, blocks, &templates) {
             Ok(world) => match world.into_running() {
-                Ok(running) => Ok(Files::new(running, first, second)),
+                Ok(running) => {
+                    running.rules();
+                    Ok(Files::new(running, first, second))
+                }
                 Err(_) => Err(AllocError),
             },
             Err(_) => Err(AllocError),
@@ -58,9 +63,9 @@ impl Files<Running> {
         self.store()?.pick()
     }
 
-    /// One event that is no crash and no edit.
+    /// One event of the device.
     fn step(&mut self, event: &Event) -> Reply
-        requires { IsQuiet event.now }
+        requires { IsDevice event.now }
     {
         match &mut self.store {
             Some(store) => store.step(event),
@@ -71,21 +76,9 @@ impl Files<Running> {
     /// All that isn't on the disk is lost, and the disk is mounted anew; no volume is open then. Answers how many blocks the mount
     /// reached, and how many are free; `None` where it found no memory.
     pub fn crash(&mut self, rt: &(impl Threads + Sync)) -> Option<(u32, u32)> {
-        let (running, other) = self.store.take()?.into_parts();
-        let mut world = running.into_world();
-        let reply = world.step(rt, &Event::Crash);
-        let (Ok(running), Reply::Mounted { reached, free }) = (world.into_running(), reply) else {
-            return None;
-        };
-        let other = match other {
-            Some(other) => Some(Other {
-                fs: other.fs,
-                volume: None,
-            }),
-            None => None,
-        };
+        let (store, reached, free) = self.store.take()?.crash(rt)?;
         self.volume = None;
-        self.store = Some(Guarded::new(running, other));
+        self.store = Some(store);
         Some((reached, free))
     }
 }

@@ -25,13 +25,19 @@ pub trait Disk: Store {
     fn free(&self) -> u32;
 }
 
+/// How many writes a drain took.
+fn writes_of(reply: Reply) -> Option<u32> {
+    match reply {
+        Reply::Answered(Answer::Drain(Ok(writes))) => Some(writes),
+        _ => None,
+    }
+}
+
 impl Disk for Running {
     fn drain(&mut self, fs: Fs) -> Option<u32> {
         self.rules();
-        match self.step(&Event::Call(fs, Call::Drain)) {
-            Reply::Answered(Answer::Drain(Ok(writes))) => Some(writes),
-            _ => None,
-        }
+        let event = Event::Call(fs, Call::Drain);
+        writes_of(self.step(&event))
     }
 
     fn pending(&self, fs: Fs) -> u32 {
