@@ -15,6 +15,7 @@ fn print_call<S: Disk + Drop>(
 ) -> io::Result<()> {
     let writes = files.drain().unwrap_or(0);
     match answer {
+        Ok(0) => println!(rt; "{name}: {writes} writes"),
         Ok(inode) => println!(rt; "{name}: inode {inode}, {writes} writes"),
         Err(_) => println!(rt; "{name}: refused"),
     }
