@@ -1,0 +1,83 @@
+// Runs the library file system on disks in memory: its calls with the writes that they take, its sizes, its faults, crashes after each
+// write of a rename, and random calls of two file systems beside each other.
+#![tactic(auto)]
+
+mod disks;
+mod faults;
+mod files;
+mod guarded;
+mod limits;
+mod plain;
+mod random;
+mod renames;
+mod rows;
+mod scan;
+mod text;
+
+use faults::print_faults;
+use ffs_lib::Fs;
+use files::Files;
+use limits::{print_directory, print_file};
+use random::print_random;
+use renames::print_rename;
+use rows::print_rows;
+use std::alloc::Global;
+use std::io;
+use std::thread::Threads;
+
+/// What is run on a disk of its own.
+#[derive(Clone, Copy)]
+enum Part {
+    Rows,
+    File,
+    Faults,
+    Rename(u32, bool),
+    Directory,
+    Random,
+}
+
+/// How many blocks the disk of a part has.
+fn size(part: Part) -> u32 {
+    match part {
+        Part::File => 256,
+        Part::Directory | Part::Random => 48,
+        _ => 32,
+    }
+}
+
+/// Runs a part. No other function owns a world: each that did would prove anew how it is dropped.
+fn run(
+    rt: &(impl Threads + Print + Sync),
+    alloc: Global,
+    part: Part,
+    first: Fs,
+    second: Fs,
+) -> io::Result<()> {
+    let mut files = Files::format(rt, alloc, size(part), first, second)?;
+    match part {
+        Part::Rows => print_rows(rt, alloc, &mut files, first),
+        Part::File => print_file(rt, alloc, &mut files, first),
+        Part::Faults => print_faults(rt, alloc, &mut files, first),
+        Part::Rename(writes, ends) => print_rename(rt, alloc, &mut files, first, writes, ends),
+        Part::Directory => print_directory(rt, alloc, &mut files, first),
+        Part::Random => print_random(rt, alloc, &mut files, [first, second], 2000),
+    }
+}
+
+fn main(rt: HostRuntime) -> io::Result<()> {
+    let alloc = rt.alloc();
+    let (Some(first), Some(second)) = (Fs::new(0), Fs::new(1)) else {
+        return Ok(());
+    };
+    for part in [Part::Rows, Part::File, Part::Faults] {
+        run(&rt, alloc, part, first, second)?;
+    }
+    for writes in 0..6 {
+        run(&rt, alloc, Part::Rename(writes, true), first, second)?;
+    }
+    for writes in 1..6 {
+        run(&rt, alloc, Part::Rename(writes, false), first, second)?;
+    }
+    run(&rt, alloc, Part::Directory, first, second)?;
+    run(&rt, alloc, Part::Random, first, second)
+}

@@ -1,0 +1,380 @@
+// A plain model of a volume: what its calls should answer and leave.
+
+use crate::files::{Action, Answer};
+use ffs_lib::FfsFault;
+use std::alloc::{AllocError, Global};
+
+/// How many inodes there are.
+pub const INODES: usize = 128;
+
+/// How many places of a directory are kept here: there are fewer names.
+pub const PLACES: usize = 16;
+
+/// The last inode of which bytes are kept here: no other file is written.
+pub const LAST_WRITTEN: u16 = 8;
+
+/// How many bytes of each such file are kept here: no more are written.
+pub const BYTES: usize = 7168;
+
+/// The names that are used; what is none of them counts as no name.
+pub const NAMES: [&[u8]; 10] = [
+    b"a",
+    b"b",
+    b"c",
+    b"d",
+    b"e",
+    b"f",
+    b"name",
+    b"other",
+    b"more",
+    b"a name of twenty-eight bytes",
+];
+
+/// What is no name.
+pub const BAD_NAMES: [&[u8]; 4] = [b"", b"a/b", b"..", b"a name of twenty-nine bytes..."];
+
+/// The mode of a file's inode, and of a directory's.
+const FILE: u16 = 1;
+
+const DIRECTORY: u16 = 2;
+
+/// An inode without its pointers.
+#[derive(Clone, Copy, PartialEq, Eq)]
+pub struct Node {
+    pub mode: u16,
+    pub links: u16,
+    pub size: u32,
+}
+
+/// A place of a directory: the inode that it names, or 0, and which name.
+#[derive(Clone, Copy, PartialEq, Eq)]
+pub struct Place {
+    pub inode: u16,
+    pub name: u16,
+}
+
+/// A volume: its inodes from 1 on, with the places of each directory, and the bytes of some files.
+#[derive(Drop)]
+pub struct Plain {
+    nodes: Vec<Node>,
+    places: Vec<Place>,
+    bytes: Vec<u8>,
+}
+
+const FREE: Node = Node {
+    mode: 0,
+    links: 0,
+    size: 0,
+};
+
+const GAP: Place = Place { inode: 0, name: 0 };
+
+/// Which of the names these bytes are.
+pub fn name_number(name: &[u8]) -> Option<u16> {
+    let place = NAMES.iter().position(|known| *known == name)?;
+    Some((place & 0xff) as u16)
+}
+
+/// The index of an inode's first place or byte, of so many.
+fn start(inode: u16, count: usize) -> usize {
+    usize::from(inode).wrapping_sub(1).wrapping_mul(count)
+}
+
+impl Plain {
+    /// A volume without any inode.
+    pub fn new(alloc: Global) -> Result<Plain, AllocError> {
+        Ok(Plain {
+            nodes: vec![in alloc; FREE; INODES]?,
+            places: vec![in alloc; GAP; INODES * PLACES]?,
+            bytes: vec![in alloc; 0u8; LAST_WRITTEN as usize * BYTES]?,
+        })
+    }
+
+    /// Without any inode again.
+    pub fn clear(&mut self) {
+        self.nodes.as_mut_slice().fill(FREE);
+        self.places.as_mut_slice().fill(GAP);
+        self.bytes.as_mut_slice().fill(0);
+    }
+
+    /// Whether two are the same.
+    pub fn is(&self, other: &Plain) -> bool {
+        self.nodes.as_slice() == other.nodes.as_slice()
+            && self.places.as_slice() == other.places.as_slice()
+            && self.bytes.as_slice() == other.bytes.as_slice()
+    }
+
+    /// An inode; a free one where there is none of this number.
+    pub fn node(&self, inode: u16) -> Node {
+        match self.nodes.get(start(inode, 1)) {
+            Some(node) => *node,
+            None => FREE,
+        }
+    }
+
+    /// Sets an inode.
+    pub fn set_node(&mut self, inode: u16, node: Node) {
+        if let Some(place) = self.nodes.get_mut(start(inode, 1)) {
+            *place = node;
+        }
+    }
+
+    /// A place of a directory.
+    pub fn place(&self, directory: u16, place: usize) -> Place {
+        match self
+            .places
+            .get(start(directory, PLACES).wrapping_add(place))
+        {
+            Some(entry) => *entry,
+            None => GAP,
+        }
+    }
+
+    /// Sets a place of a directory.
+    pub fn set_place(&mut self, directory: u16, place: usize, entry: Place) {
+        if let Some(at) = self
+            .places
+            .get_mut(start(directory, PLACES).wrapping_add(place))
+        {
+            *at = entry;
+        }
+    }
+
+    /// A byte of a file.
+    pub fn byte(&self, inode: u16, at: usize) -> u8 {
+        match self.bytes.get(start(inode, BYTES).wrapping_add(at)) {
+            Some(byte) => *byte,
+            None => 0,
+        }
+    }
+
+    /// Sets bytes of a file.
+    pub fn set_bytes(&mut self, inode: u16, at: usize, bytes: &[u8]) {
+        let first = start(inode, BYTES).wrapping_add(at);
+        for (i, byte) in bytes.iter().enumerate() {
+            if let Some(place) = self.bytes.get_mut(first.wrapping_add(i)) {
+                *place = *byte;
+            }
+        }
+    }
+
+    /// The place of a directory that has a name.
+    fn find(&self, directory: u16, name: u16) -> Option<usize> {
+        (0..PLACES).find(|place| {
+            let entry = self.place(directory, *place);
+            entry.inode != 0 && entry.name == name
+        })
+    }
+
+    /// The first place of a directory without a name.
+    fn gap(&self, directory: u16) -> Option<usize> {
+        (0..PLACES).find(|place| self.place(directory, *place).inode == 0)
+    }
+
+    /// Whether a directory has a name.
+    pub fn has_name(&self, directory: u16, name: &[u8]) -> bool {
+        match name_number(name) {
+            Some(name) => self.find(directory, name).is_some(),
+            None => false,
+        }
+    }
+
+    /// How many names an inode has.
+    fn names_of(&self, inode: u16) -> usize {
+        self.places
+            .iter()
+            .filter(|entry| entry.inode == inode)
+            .count()
+    }
+
+    /// Whether each name has an inode in use, with links enough.
+    pub fn is_sound(&self) -> bool {
+        for entry in &self.places {
+            let node = self.node(entry.inode);
+            if entry.inode != 0
+                && (node.mode == 0 || usize::from(node.links) < self.names_of(entry.inode))
+            {
+                return false;
+            }
+        }
+        true
+    }
+
+    /// The inode of a mode, or why there is none.
+    fn check(&self, inode: u16, mode: u16) -> Result<Node, FfsFault> {
+        let node = self.node(inode);
+        match (node.mode, mode) {
+            (0, _) => Err(FfsFault::NoEntry),
+            (FILE, DIRECTORY) => Err(FfsFault::NotDir),
+            (DIRECTORY, FILE) => Err(FfsFault::IsDir),
+            _ => Ok(node),
+        }
+    }
+
+    /// A directory's place with a name, or why there is none.
+    fn check_name(&self, directory: u16, name: &[u8]) -> Result<usize, FfsFault> {
+        let _ = self.check(directory, DIRECTORY)?;
+        let name = name_number(name).ok_or(FfsFault::BadName)?;
+        self.find(directory, name).ok_or(FfsFault::NoEntry)
+    }
+
+    /// A call.
+    pub fn call(&mut self, action: &Action) -> Answer {
+        match action {
+            Action::Create(directory, name) => self.make(*directory, name, FILE),
+            Action::Mkdir(directory, name) => self.make(*directory, name, DIRECTORY),
+            Action::Write(inode, offset, bytes) => self.write(*inode, *offset, bytes),
+            Action::Unlink(directory, name) => self.unlink(*directory, name),
+            Action::Rmdir(directory, name) => self.rmdir(*directory, name),
+            Action::Rename(directory, name, other, new_name) => {
+                self.rename(*directory, name, *other, new_name)
+            }
+        }
+    }
+
+    fn make(&mut self, directory: u16, name: &[u8], mode: u16) -> Answer {
+        let _ = self.check(directory, DIRECTORY)?;
+        let name = name_number(name).ok_or(FfsFault::BadName)?;
+        if self.find(directory, name).is_some() {
+            return Err(FfsFault::Exists);
+        }
+        let free = self.nodes.iter().position(|node| node.mode == 0);
+        let inode = (free.ok_or(FfsFault::NoInode)?.wrapping_add(1) & 0xffff) as u16;
+        let place = self.gap(directory).ok_or(FfsFault::TooLarge)?;
+        self.set_node(
+            inode,
+            Node {
+                mode,
+                links: 1,
+                size: 0,
+            },
+        );
+        self.enter(directory, place, Place { inode, name });
+        Ok(inode)
+    }
+
+    /// Sets a place, and the directory's size.
+    fn enter(&mut self, directory: u16, place: usize, entry: Place) {
+        self.set_place(directory, place, entry);
+        let mut node = self.node(directory);
+        let size = (place / 16).wrapping_add(1).wrapping_mul(512);
+        node.size = node.size.max((size & 0xffff) as u32);
+        self.set_node(directory, node);
+    }
+
+    fn write(&mut self, inode: u16, offset: u32, bytes: &[u8]) -> Answer {
+        let mut node = self.check(inode, FILE)?;
+        let end = (offset as usize).wrapping_add(bytes.len());
+        if end > 71_680 {
+            return Err(FfsFault::TooLarge);
+        }
+        self.set_bytes(inode, offset as usize, bytes);
+        if !bytes.is_empty() {
+            node.size = node.size.max(end as u32);
+        }
+        self.set_node(inode, node);
+        Ok(0)
+    }
+
+    /// Takes a name, and the inode with its last link.
+    fn remove(&mut self, directory: u16, place: usize) {
+        let inode = self.place(directory, place).inode;
+        self.set_place(directory, place, GAP);
+        let mut node = self.node(inode);
+        if node.links > 1 {
+            node.links -= 1;
+            self.set_node(inode, node);
+        } else {
+            self.set_node(inode, FREE);
+            self.set_bytes(inode, 0, &[0; BYTES]);
+        }
+    }
+
+    fn unlink(&mut self, directory: u16, name: &[u8]) -> Answer {
+        let place = self.check_name(directory, name)?;
+        let _ = self.check(self.place(directory, place).inode, FILE)?;
+        self.remove(directory, place);
+        Ok(0)
+    }
+
+    fn rmdir(&mut self, directory: u16, name: &[u8]) -> Answer {
+        let place = self.check_name(directory, name)?;
+        let inode = self.place(directory, place).inode;
+        let _ = self.check(inode, DIRECTORY)?;
+        if (0..PLACES).any(|place| self.place(inode, place).inode != 0) {
+            return Err(FfsFault::DirNotEmpty);
+        }
+        self.remove(directory, place);
+        Ok(0)
+    }
+
+    fn rename(&mut self, directory: u16, name: &[u8], other: u16, new_name: &[u8]) -> Answer {
+        if self.node(directory).mode == 0 || self.node(other).mode == 0 {
+            return Err(FfsFault::NoEntry);
+        }
+        let _ = self.check(directory, DIRECTORY)?;
+        let _ = self.check(other, DIRECTORY)?;
+        let number = name_number(new_name).ok_or(FfsFault::BadName)?;
+        let place = self.check_name(directory, name)?;
+        if self.find(other, number).is_some() {
+            return Err(FfsFault::Exists);
+        }
+        let inode = self.place(directory, place).inode;
+        if self.node(inode).mode == DIRECTORY && directory != other {
+            return Err(FfsFault::IsDir);
+        }
+        let gap = self.gap(other).ok_or(FfsFault::TooLarge)?;
+        let entry = Place {
+            inode,
+            name: number,
+        };
+        self.enter(other, gap, entry);
+        self.set_place(directory, place, GAP);
+        Ok(0)
+    }
+
+    /// Whether a read of a file should give this.
+    pub fn is_read(
+        &self,
+        inode: u16,
+        offset: usize,
+        bytes: &[u8],
+        answer: Result<usize, FfsFault>,
+    ) -> bool {
+        match self.check(inode, FILE) {
+            Err(fault) => answer == Err(fault),
+            Ok(node) => {
+                let length = (node.size as usize).saturating_sub(offset).min(bytes.len());
+                answer == Ok(length)
+                    && (0..length).all(|i| bytes[i] == self.byte(inode, offset.wrapping_add(i)))
+            }
+        }
+    }
+
+    /// Whether a list of a directory should give this.
+    pub fn is_list(&self, directory: u16, answer: &Result<Vec<(Vec<u8>, u16)>, FfsFault>) -> bool {
+        match (self.check(directory, DIRECTORY), answer) {
+            (Err(wanted), Err(fault)) => wanted == *fault,
+            (Ok(_), Ok(names)) => self.are_names(directory, names),
+            _ => false,
+        }
+    }
+
+    /// Whether these are the names in a directory, in their order.
+    fn are_names(&self, directory: u16, names: &[(Vec<u8>, u16)]) -> bool {
+        let mut count = 0usize;
+        for place in 0..PLACES {
+            let entry = self.place(directory, place);
+            if entry.inode != 0 {
+                match names.get(count) {
+                    Some((name, inode))
+                        if *inode == entry.inode && name_number(name) == Some(entry.name) => {
+                        count = count.wrapping_add(1);
+                    }
+                    _ => return false,
+                }
+            }
+        }
+        count == names.len()
+    }
+}

@@ -1,0 +1,303 @@
+// Pseudo-random calls of two file systems beside each other, with writes, device faults and crashes between, compared with a
+// plain model. The same in each run.
+
+use crate::files::{Action, Files};
+use crate::plain::{BAD_NAMES, BYTES, LAST_WRITTEN, NAMES, Plain};
+use crate::scan::scan;
+use ffs_lib::{FfsFault, Fs};
+use pseudo_random::Numbers;
+use std::alloc::{AllocError, Global};
+use std::io;
+use std::thread::Threads;
+use world::Running;
+
+/// How many bytes a write has at most.
+const MOST: usize = 700;
+
+/// What happened how often.
+#[derive(Clone, Copy)]
+struct Tally {
+    done: u32,
+    faults: u32,
+    refused: u32,
+    crashes: u32,
+    device_faults: u32,
+    /// Answers, bytes and names that were not those of the plain model.
+    wrong: u32,
+    /// Mounts that were refused, and names without an inode in use with links enough.
+    unsound: u32,
+}
+
+/// A run: the numbers, the two file systems, what each should hold, and room for what it does hold.
+#[derive(Drop)]
+struct Run {
+    numbers: Numbers,
+    systems: [Fs; 2],
+    first: Plain,
+    second: Plain,
+    seen: Plain,
+    tally: Tally,
+}
+
+/// Counts one more.
+fn count(number: &mut u32, holds: bool) {
+    if holds {
+        *number = number.saturating_add(1);
+    }
+}
+
+impl Run {
+    /// What one of the two should hold.
+    fn plain(&mut self, second: bool) -> &mut Plain {
+        if second {
+            &mut self.second
+        } else {
+            &mut self.first
+        }
+    }
+
+    /// Its file system.
+    fn fs(&self, second: bool) -> Fs {
+        self.systems[usize::from(second)]
+    }
+
+    /// An inode, of a mode most often.
+    fn inode(&mut self, second: bool, mode: u16) -> u16 {
+        for _ in 0..4 {
+            let inode = self.numbers.below(LAST_WRITTEN + 2);
+            if self.plain(second).node(inode).mode == mode {
+                return inode;
+            }
+        }
+        1
+    }
+
+    /// A name, which a directory has or has not most often; one in sixteen is none.
+    fn name(&mut self, second: bool, directory: u16, there: bool) -> &'static [u8] {
+        for _ in 0..4 {
+            let name = self.numbers.pick(&NAMES);
+            if self.plain(second).has_name(directory, name) == there {
+                return name;
+            }
+        }
+        self.numbers.pick(&BAD_NAMES)
+    }
+
+    /// The next call, with these bytes to be written.
+    fn action<'a>(&mut self, second: bool, bytes: &'a [u8]) -> Action<'a> {
+        let directory = self.inode(second, 2);
+        match self.numbers.below(16) {
+            0..4 => Action::Create(directory, self.name(second, directory, false)),
+            4 => Action::Mkdir(directory, self.name(second, directory, false)),
+            5..9 => {
+                let inode = self.inode(second, 1).min(LAST_WRITTEN);
+                let offset = u32::from(self.numbers.below((BYTES - MOST) as u16));
+                Action::Write(inode, offset, bytes)
+            }
+            9..12 => Action::Unlink(directory, self.name(second, directory, true)),
+            12 => Action::Rmdir(directory, self.name(second, directory, true)),
+            _ => {
+                let name = self.name(second, directory, true);
+                let other = self.inode(second, 2);
+                Action::Rename(directory, name, other, self.name(second, other, false))
+            }
+        }
+    }
+
+    /// Makes a call, and compares the answer. After a refusal of the store the model takes what was left.
+    fn call(&mut self, alloc: Global, files: &mut Files<Running>, second: bool) {
+        let mut bytes = [0; MOST];
+        let length = usize::from(self.numbers.below(MOST as u16));
+        for byte in bytes[..length].iter_mut() {
+            *byte = self.numbers.byte(256);
+        }
+        let action = self.action(second, &bytes[..length]);
+        let answer = files.call(alloc, self.fs(second), &action);
+        let wanted = self.plain(second).call(&action);
+        match answer {
+            Err(FfsFault::Kernel(_)) => {
+                count(&mut self.tally.refused, true);
+                count(&mut self.tally.wrong, wanted.is_err());
+                self.take(files, second);
+            }
+            _ => {
+                count(&mut self.tally.done, answer.is_ok());
+                count(&mut self.tally.faults, answer.is_err());
+                count(&mut self.tally.wrong, answer != wanted);
+            }
+        }
+    }
+
+    /// Reads what a file system holds.
+    fn scan(&mut self, files: &Files<Running>, second: bool) {
+        let fs = self.fs(second);
+        let known = match files.store() {
+            Some(store) => scan(store, fs, &mut self.seen),
+            None => false,
+        };
+        count(&mut self.tally.unsound, !known || !self.seen.is_sound());
+    }
+
+    /// The model takes what a file system holds.
+    fn take(&mut self, files: &Files<Running>, second: bool) {
+        self.scan(files, second);
+        if second {
+            std::mem::swap(&mut self.seen, &mut self.second);
+        } else {
+            std::mem::swap(&mut self.seen, &mut self.first);
+        }
+    }
+
+    /// Compares what a file system holds with the model.
+    fn compare(&mut self, files: &Files<Running>, second: bool) {
+        self.scan(files, second);
+        let same = if second {
+            self.seen.is(&self.second)
+        } else {
+            self.seen.is(&self.first)
+        };
+        count(&mut self.tally.wrong, !same);
+    }
+
+    /// Reads some of a file, and compares it with the model.
+    fn read(&mut self, files: &mut Files<Running>, second: bool) {
+        let inode = self.inode(second, 1).min(LAST_WRITTEN);
+        let offset = self.numbers.below((BYTES - MOST) as u16);
+        let mut bytes = [0; MOST];
+        let answer = files.read(self.fs(second), inode, u32::from(offset), &mut bytes);
+        let same = self
+            .plain(second)
+            .is_read(inode, usize::from(offset), &bytes, answer);
+        count(&mut self.tally.wrong, !same);
+    }
+
+    /// Lists a directory, and compares it with the model.
+    fn list(&mut self, alloc: Global, files: &mut Files<Running>, second: bool) {
+        let directory = self.inode(second, 2);
+        let answer = files.list(alloc, self.fs(second), directory);
+        let same = self.plain(second).is_list(directory, &answer);
+        count(&mut self.tally.wrong, !same);
+    }
+
+    /// A block: the least that may be written, or any.
+    fn block(&mut self, files: &Files<Running>) -> u32 {
+        let any = u32::from(self.numbers.below(48));
+        if self.numbers.below(4) == 0 {
+            any
+        } else {
+            files.pick().unwrap_or(any)
+        }
+    }
+
+    /// Some events of the device.
+    fn events(&mut self, files: &mut Files<Running>) {
+        for _ in 0..self.numbers.below(12) {
+            let block = self.block(files);
+            match self.numbers.below(32) {
+                0 => {
+                    let _ = files.begin(block);
+                }
+                1 => {
+                    let _ = files.land(block);
+                }
+                2 => {
+                    let _ = files.finish(block);
+                }
+                3 => {
+                    let stays = self.numbers.below(2) == 0;
+                    let failed = files.begin(block) && files.fail(block, stays);
+                    let _ = files.finish(block);
+                    count(&mut self.tally.device_faults, failed);
+                }
+                _ => {
+                    let _ = files.write(block);
+                }
+            }
+        }
+    }
+
+    /// Opens a volume, or makes it where it isn't there, and the model takes what it holds.
+    fn open(&mut self, alloc: Global, files: &mut Files<Running>, second: bool) {
+        let fs = self.fs(second);
+        let opened = match files.open(fs) {
+            Err(FfsFault::NoEntry) => files.make(alloc, fs),
+            opened => opened,
+        };
+        count(&mut self.tally.unsound, opened.is_err());
+        self.take(files, second);
+    }
+
+    /// A crash.
+    fn crash(&mut self, rt: &(impl Threads + Sync), alloc: Global, files: &mut Files<Running>) {
+        count(&mut self.tally.crashes, true);
+        let mounted = files.crash(rt).is_some();
+        count(&mut self.tally.unsound, !mounted);
+        self.open(alloc, files, false);
+        self.open(alloc, files, true);
+    }
+
+    /// One call of either file system, and what goes on beside it.
+    fn turn(&mut self, rt: &(impl Threads + Sync), alloc: Global, files: &mut Files<Running>) {
+        let second = self.numbers.below(2) == 0;
+        self.call(alloc, files, second);
+        self.events(files);
+        match self.numbers.below(32) {
+            0 => self.crash(rt, alloc, files),
+            1 => self.compare(files, second),
+            2..6 => self.read(files, second),
+            6..10 => self.list(alloc, files, second),
+            _ => {}
+        }
+    }
+}
+
+/// Makes so many calls, and prints what happened.
+pub fn print_random(
+    rt: &(impl Threads + Print + Sync),
+    alloc: Global,
+    files: &mut Files<Running>,
+    systems: [Fs; 2],
+    calls: u32,
+) -> io::Result<()> {
+    let mut run = Run {
+        numbers: Numbers { state: 1 },
+        systems,
+        first: Plain::new(alloc)?,
+        second: Plain::new(alloc)?,
+        seen: Plain::new(alloc)?,
+        tally: Tally {
+            done: 0,
+            faults: 0,
+            refused: 0,
+            crashes: 0,
+            device_faults: 0,
+            wrong: 0,
+            unsound: 0,
+        },
+    };
+    run.open(alloc, files, false);
+    run.open(alloc, files, true);
+    for _ in 0..calls {
+        run.turn(rt, alloc, files);
+    }
+    print_tally(rt, calls, run.tally)
+}
+
+/// Prints what happened.
+fn print_tally(rt: &impl Print, calls: u32, tally: Tally) -> io::Result<()> {
+    let Tally {
+        done,
+        faults,
+        refused,
+        crashes,
+        device_faults,
+        wrong,
+        unsound,
+    } = tally;
+    println!(rt;
+        "{calls} calls of two file systems: {done} done, {faults} faults, {refused} refused"
+    )?;
+    println!(rt;
+        "{crashes} crashes, {device_faults} device faults: {wrong} wrong, {unsound} unsound"
+    )
+}
