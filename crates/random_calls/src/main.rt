@@ -39,6 +39,12 @@ fn print_tally(rt: &impl Print, tally: &Tally) -> io::Result<()> {
         let refused = made.saturating_sub(accepted);
         println!(rt; "{kind} {made} accepted {accepted} refused {refused}")?;
     }
+    let (most, tainted) = (tally.most, tally.tainted);
+    println!(rt;
+        "at most {most} entries pending, {tainted} times a block with an entry that isn't safe"
+    )?;
+    let (durable, freed) = (tally.durable, tally.freed);
+    println!(rt; "writes made {durable} entries durable, and {freed} blocks free")?;
     let (compared, wrong, hash) = (tally.compared, tally.wrong, tally.hash);
     println!(rt; "compared {compared} answers, {wrong} wrong, hash {hash:#x}")
 }

@@ -157,7 +157,14 @@ impl Run {
         Ok(())
     }
 
+    /// Forgets this block, or a fresh one.
     fn forget(&mut self, kernel: &mut Kernel<MemLane>, fs: Fs, block: u32) {
+        let ty = self.numbers.pick(&[0u32, 2, 3, 4, 5]);
+        let block = if ty == 0 {
+            block
+        } else {
+            self.some_fresh(fs.number(), ty)
+        };
         let answer = match kernel.forget(fs, block) {
             Ok(()) => Ok((block, 0)),
             Err(refusal) => Err(refusal),
@@ -209,6 +216,7 @@ impl Run {
             0
         };
         let freed = self.record.settle(block, count);
+        self.tally.landed(count, freed);
         let answer = match write.finish(kernel) {
             Ok((durable, freed)) => Ok((durable, u64::from(freed))),
             Err(refusal) => Err(refusal),
@@ -246,10 +254,9 @@ impl Run {
             u64::from(record.pending(system)),
         );
         tally.ask(u64::from(kernel.free()), u64::from(record.free_count()));
-        tally.ask(
-            u64::from(kernel.tainted(block)),
-            u64::from(record.tainted(block)),
-        );
+        let is_tainted = record.tainted(block);
+        tally.ask(u64::from(kernel.tainted(block)), u64::from(is_tainted));
+        tally.met(record.entries.len(), is_tainted);
         tally.ask(code(kernel.root(fs)), code(record.root(system)));
     }
 
@@ -259,14 +266,14 @@ impl Run {
             return Ok(());
         };
         let block = self.some_block(fs.number());
-        match self.numbers.below(128) {
-            0..=17 => self.init(kernel, fs)?,
-            18..=21 => self.make_root(kernel, fs)?,
-            22 | 23 => self.drop_root(kernel, fs)?,
-            24..=89 => self.propose(alloc, kernel, fs, block)?,
-            90..=93 => self.forget(kernel, fs, block),
-            94..=112 if self.writes.len() < WRITES => self.begin(kernel, block)?,
-            94..=126 => self.finish(kernel),
+        match self.numbers.below(512) {
+            0..=31 => self.init(kernel, fs)?,
+            32..=43 => self.make_root(kernel, fs)?,
+            44..=51 => self.drop_root(kernel, fs)?,
+            52..=299 => self.propose(alloc, kernel, fs, block)?,
+            300..=359 => self.forget(kernel, fs, block),
+            360..=439 if self.writes.len() < WRITES => self.begin(kernel, block)?,
+            360..=510 => self.finish(kernel),
             _ => self.drain(kernel),
         }
         self.ask(kernel, fs, block);

@@ -23,10 +23,18 @@ pub struct Count {
     pub accepted: u32,
 }
 
-/// The counts of each kind; how many answers were compared with a scan's, and how many of them were others; a hash of all answers.
+/// The counts of each kind; what was met; how many answers were compared with a scan's, and how many of them were others; a hash of
+/// all answers.
 #[derive(Drop)]
 pub struct Tally {
     pub counts: [Count; 8],
+    /// How many entries were pending at once, at most.
+    pub most: usize,
+    /// How often a block that was asked for had an entry that isn't safe.
+    pub tainted: u32,
+    /// How many entries finished writes made durable, and how many blocks were free by them.
+    pub durable: u32,
+    pub freed: u32,
     pub compared: u32,
     pub wrong: u32,
     pub hash: u64,
@@ -54,6 +62,10 @@ impl Tally {
                 none("finish"),
                 none("drain"),
             ],
+            most: 0,
+            tainted: 0,
+            durable: 0,
+            freed: 0,
             compared: 0,
             wrong: 0,
             hash: 0xcbf29ce484222325,
@@ -91,6 +103,22 @@ impl Tally {
         self.compared = self.compared.saturating_add(1);
         if !is_same {
             self.wrong = self.wrong.saturating_add(1);
+        }
+    }
+
+    /// Takes what a finished write did.
+    pub fn landed(&mut self, durable: u32, freed: u32) {
+        self.durable = self.durable.saturating_add(durable);
+        self.freed = self.freed.saturating_add(freed);
+    }
+
+    /// Takes how many entries are pending, and whether the block that is asked for has one that isn't safe.
+    pub fn met(&mut self, pending: usize, is_tainted: bool) {
+        if pending > self.most {
+            self.most = pending;
+        }
+        if is_tainted {
+            self.tainted = self.tainted.saturating_add(1);
         }
     }
 
