@@ -1,0 +1,161 @@
+// Pseudo-random edits.
+
+use crate::answers::Asked;
+use crate::record::{BLOCKS, Entry, Record, Status};
+use pseudo_random::Numbers;
+use std::alloc::{AllocError, Global};
+use xn_kernel::{Edit, EditId, Patch};
+
+/// A pointer of a block: its offset, and the type to which it points. Of each type some pointers are taken alone.
+#[derive(Clone, Copy)]
+pub struct Pointer {
+    pub offset: u16,
+    pub ty: u32,
+}
+
+/// A pointer of a block of this type, which has none where it is a type of data.
+pub fn some_pointer(numbers: &mut Numbers, ty: u32) -> Option<Pointer> {
+    let place = numbers.below(3);
+    match ty {
+        3 => Some(Pointer {
+            offset: place * 4,
+            ty: 4,
+        }),
+        4 => {
+            let inode = numbers.below(2) * 64;
+            if place == 0 {
+                Some(Pointer {
+                    offset: inode + 56,
+                    ty: 5,
+                })
+            } else {
+                Some(Pointer {
+                    offset: inode + 4 + place * 4,
+                    ty: 2,
+                })
+            }
+        }
+        5 => Some(Pointer {
+            offset: place * 4,
+            ty: 2,
+        }),
+        _ => None,
+    }
+}
+
+/// Whether blocks of this type have bytes 4 to 7 free for a number of each state, so that no two states are the same.
+pub fn has_stamp(ty: u32) -> bool {
+    ty == 2 || ty == 4
+}
+
+/// The number of the next state, which is no block's.
+pub fn stamp(record: &Record) -> u32 {
+    (record.next & 0x7fff_ffff) as u32 | 0x8000_0000
+}
+
+/// The patch that writes a number.
+fn word_patch(alloc: Global, offset: u16, word: u32) -> Result<Patch, AllocError> {
+    let bytes = Vec::from_slice(alloc, &word.to_le_bytes())?;
+    Ok(Patch { offset, bytes })
+}
+
+/// The edit that sets a pointer, where one is given, and writes the number of the state or a zero that is there already.
+pub fn edit_of(
+    alloc: Global,
+    asked: &Asked,
+    pointer: Option<(u16, u32)>,
+    last: (u16, u32),
+) -> Result<Edit, AllocError> {
+    let mut patches = Vec::new(alloc);
+    if let Some((offset, block)) = pointer {
+        patches.push(word_patch(alloc, offset, block)?)?;
+    }
+    patches.push(word_patch(alloc, last.0, last.1)?)?;
+    let mut adds = Vec::new(alloc);
+    if let Some(block) = asked.entry.adds {
+        adds.push((block, asked.added_type))?;
+    }
+    let mut drops = Vec::new(alloc);
+    if let Some(block) = asked.entry.drops {
+        drops.push(block)?;
+    }
+    let after = match asked.entry.after {
+        Some(number) => Some(EditId(number)),
+        None => None,
+    };
+    Ok(Edit {
+        patches,
+        adds,
+        drops,
+        after,
+    })
+}
+
+/// The number that an edit comes after, for some: mostly one that was given.
+fn some_after(numbers: &mut Numbers, record: &Record) -> Option<u64> {
+    if numbers.below(3) > 0 {
+        return None;
+    }
+    let back = u64::from(numbers.below(40));
+    Some(record.next.saturating_sub(back))
+}
+
+/// A block of a file system, from a place on: any, or a fresh one of a type. Where there is none, the block at that place.
+pub fn search(record: &Record, start: u32, fs: u8, fresh: Option<u32>) -> u32 {
+    for step in 0..BLOCKS {
+        let block = start.wrapping_add(step) % BLOCKS;
+        let Some(life) = record.life(block) else {
+            continue;
+        };
+        let fits = match fresh {
+            Some(ty) => life.ty == ty && life.status == Status::Fresh,
+            None => true,
+        };
+        if fits && life.fs == Some(fs) {
+            return block;
+        }
+    }
+    start
+}
+
+/// An edit that changes no pointer.
+pub fn plain(numbers: &mut Numbers, record: &Record, fs: u8, block: u32) -> Asked {
+    let entry = Entry {
+        block,
+        number: record.next,
+        fs,
+        adds: None,
+        drops: None,
+        after: some_after(numbers, record),
+    };
+    Asked {
+        entry,
+        added_type: 0,
+        is_claimed: true,
+    }
+}
+
+/// The block to which an edit sets a pointer that has pointed to `old`, 0 for none.
+pub fn some_target(numbers: &mut Numbers, record: &Record, fs: u8, ty: u32, old: u32) -> u32 {
+    if old != 0 && numbers.below(4) > 0 {
+        return 0;
+    }
+    let start = u32::from(numbers.below(64));
+    search(record, start, fs, Some(ty))
+}
+
+/// The same edit with what it claims of a pointer that is set; each sixteenth claim is left out.
+pub fn claiming(numbers: &mut Numbers, asked: Asked, ty: u32, old: u32, new: u32) -> Asked {
+    let mut asked = asked;
+    let is_changed = old != new;
+    asked.added_type = ty;
+    if new != 0 && numbers.below(16) > 0 {
+        asked.entry.adds = Some(new);
+    }
+    if old != 0 && numbers.below(16) > 0 {
+        asked.entry.drops = Some(old);
+    }
+    asked.is_claimed = asked.entry.adds.is_some() == (is_changed && new != 0)
+        && asked.entry.drops.is_some() == (is_changed && old != 0);
+    asked
+}

@@ -1,0 +1,180 @@
+// What each block has been since it was last free, in plain lists: each change as the rules of lives say it, and no index beside them.
+
+use std::alloc::{AllocError, Global};
+
+/// How many blocks the disk has.
+pub const BLOCKS: u32 = 64;
+
+/// Whether an owner names a block.
+#[derive(Clone, Copy, PartialEq, Eq)]
+pub enum Status {
+    Fresh,
+    Owned(u32),
+    Dropped(u32),
+}
+
+/// A block's life, but for its pending entries.
+#[derive(Clone, Copy)]
+pub struct Life {
+    pub fs: Option<u8>,
+    pub ty: u32,
+    pub status: Status,
+    /// Whether a state of it is on the disk.
+    pub is_durable: bool,
+    /// How many entries the begun write carries.
+    pub begun: Option<u32>,
+}
+
+/// A pending entry: at most one block that it adds, and one that it drops.
+#[derive(Clone, Copy)]
+pub struct Entry {
+    pub block: u32,
+    pub number: u64,
+    pub fs: u8,
+    pub adds: Option<u32>,
+    pub drops: Option<u32>,
+    pub after: Option<u64>,
+}
+
+/// All lives by block, and all pending entries in the order of their numbers.
+#[derive(Drop)]
+pub struct Record {
+    pub lives: Vec<Option<Life>>,
+    pub entries: Vec<Entry>,
+    /// The next number to be given.
+    pub next: u64,
+}
+
+impl Record {
+    /// A fresh disk with three templates in blocks 1 to 3.
+    pub fn new(alloc: Global) -> Result<Record, AllocError> {
+        let mut record = Record {
+            lives: vec![in alloc; None; BLOCKS as usize]?,
+            entries: Vec::new(alloc),
+            next: 1,
+        };
+        for block in 0..4 {
+            let status = if block == 0 {
+                Status::Fresh
+            } else {
+                Status::Owned(0)
+            };
+            record.set(
+                block,
+                Some(Life {
+                    fs: None,
+                    ty: if block == 0 { 0 } else { 1 },
+                    status,
+                    is_durable: true,
+                    begun: None,
+                }),
+            );
+        }
+        Ok(record)
+    }
+
+    /// The life of a block; `None` where it is free, and past the end of the disk.
+    pub fn life(&self, block: u32) -> Option<Life> {
+        match self.lives.get(block as usize) {
+            Some(life) => *life,
+            None => None,
+        }
+    }
+
+    fn set(&mut self, block: u32, life: Option<Life>) {
+        if let Some(place) = self.lives.get_mut(block as usize) {
+            *place = life;
+        }
+    }
+
+    fn set_status(&mut self, block: u32, status: Status) {
+        if let Some(life) = self.life(block) {
+            self.set(block, Some(Life { status, ..life }));
+        }
+    }
+
+    /// A life begins.
+    pub fn init(&mut self, fs: u8, ty: u32, block: u32, number: u64) -> Result<(), AllocError> {
+        self.set(
+            block,
+            Some(Life {
+                fs: Some(fs),
+                ty,
+                status: Status::Fresh,
+                is_durable: false,
+                begun: None,
+            }),
+        );
+        self.accept(Entry {
+            block,
+            number,
+            fs,
+            adds: None,
+            drops: None,
+            after: None,
+        })
+    }
+
+    /// A block accepts an entry.
+    pub fn accept(&mut self, entry: Entry) -> Result<(), AllocError> {
+        self.entries.push(entry)?;
+        self.next = entry.number.saturating_add(1);
+        if let Some(block) = entry.drops {
+            self.set_status(block, Status::Dropped(entry.block));
+        }
+        if let Some(block) = entry.adds {
+            self.set_status(block, Status::Owned(entry.block));
+        }
+        Ok(())
+    }
+
+    /// A write begins.
+    pub fn begin(&mut self, block: u32, count: u32) {
+        if let Some(life) = self.life(block) {
+            let begun = Some(count);
+            self.set(block, Some(Life { begun, ..life }));
+        }
+    }
+
+    /// A life ends, and its entries with it.
+    pub fn free(&mut self, block: u32) {
+        self.set(block, None);
+        self.entries.retain(|entry| entry.block != block);
+    }
+
+    /// The first pending entry of a block, taken off the list.
+    fn take_first(&mut self, block: u32) -> Option<Entry> {
+        for at in 0..self.entries.len() {
+            if self.entries[at].block == block {
+                return Some(self.entries.remove(at));
+            }
+        }
+        None
+    }
+
+    /// A write ends, and this many entries are durable; how many blocks are free by that.
+    pub fn settle(&mut self, block: u32, count: u32) -> u32 {
+        let mut freed = 0u32;
+        for _ in 0..count {
+            if let Some(entry) = self.take_first(block)
+                && let Some(dropped) = entry.drops
+            {
+                self.free(dropped);
+                freed = freed.saturating_add(1);
+            }
+        }
+        if let Some(life) = self.life(block) {
+            let is_durable = life.is_durable || count > 0;
+            let begun = None;
+            self.set(
+                block,
+                Some(Life {
+                    is_durable,
+                    begun,
+                    ..life
+                }),
+            );
+        }
+        freed
+    }
+}
