@@ -6,6 +6,7 @@ mod disks;
 mod faults;
 mod files;
 mod guarded;
+mod kernels;
 mod limits;
 mod plain;
 mod random;
@@ -17,6 +18,7 @@ mod text;
 use faults::print_faults;
 use ffs_lib::Fs;
 use files::Files;
+use kernels::fresh_kernel;
 use limits::{print_directory, print_file};
 use random::print_random;
 use renames::print_rename;
@@ -64,12 +66,26 @@ fn run(
     }
 }
 
+/// Runs the rows over a kernel alone.
+fn run_rows(
+    rt: &(impl Threads + Print + Sync),
+    alloc: Global,
+    first: Fs,
+    second: Fs,
+) -> io::Result<()> {
+    let mut files = Files::new(fresh_kernel(rt, alloc, 32)?, first, second);
+    println!(rt; "over a kernel alone:")?;
+    print_rows(rt, alloc, &mut files, first)
+}
+
 fn main(rt: HostRuntime) -> io::Result<()> {
     let alloc = rt.alloc();
     let (Some(first), Some(second)) = (Fs::new(0), Fs::new(1)) else {
         return Ok(());
     };
-    for part in [Part::Rows, Part::File, Part::Faults] {
+    run(&rt, alloc, Part::Rows, first, second)?;
+    run_rows(&rt, alloc, first, second)?;
+    for part in [Part::File, Part::Faults] {
         run(&rt, alloc, part, first, second)?;
     }
     for writes in 0..6 {
