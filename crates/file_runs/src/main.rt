@@ -47,7 +47,7 @@ fn size(part: Part) -> u32 {
     }
 }
 
-/// Runs a part. No other function owns a world: each that did would prove anew how it is dropped.
+/// Runs a part on a fresh disk of its own.
 fn run(
     rt: &(impl Threads + Print + Sync),
     alloc: Global,

@@ -79,7 +79,7 @@ fn time_inodes<R: Threads + Clock + Print + Eprint + Sync>(
     Ok(())
 }
 
-/// Times calls on a fresh disk of so many blocks. No other function owns a kernel: each that did would prove anew how it is dropped.
+/// Times calls on a fresh disk of so many blocks.
 fn time_disk<R: Threads + Clock + Print + Eprint + Sync>(
     rt: &R,
     alloc: Global,
