@@ -20,7 +20,7 @@ use std::io;
 use std::thread::Threads;
 use tally::Tally;
 
-/// How many calls are made.
+/// How many calls are made, beside the finishes before drains.
 const CALLS: u32 = 200_000;
 
 /// Makes the calls. No other function owns a kernel but the one that makes it.

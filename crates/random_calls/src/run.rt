@@ -273,7 +273,8 @@ impl Run {
             52..=299 => self.propose(alloc, kernel, fs, block)?,
             300..=359 => self.forget(kernel, fs, block),
             360..=439 if self.writes.len() < WRITES => self.begin(kernel, block)?,
-            360..=510 => self.finish(kernel),
+            360..=510 if self.writes.len() > 0 => self.finish(kernel),
+            360..=510 => self.begin(kernel, block)?,
             _ => self.drain(kernel),
         }
         self.ask(kernel, fs, block);

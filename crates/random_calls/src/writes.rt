@@ -29,8 +29,8 @@ impl Write {
         self.ticket.block()
     }
 
-    /// Carries the write out. Where it may fail, one of eight does, and of those each second one leaves the old bytes; whether the new ones
-    /// are there.
+    /// Carries the write out, and answers whether the new bytes are there. Where it may fail, one of four does, and half of those leave
+    /// the old bytes.
     pub fn land(&mut self, numbers: &mut Numbers, may_fail: bool) -> bool {
         let stays = numbers.below(2) == 0;
         let fails = may_fail && numbers.below(4) == 0;
