@@ -23,7 +23,7 @@ use tally::Tally;
 /// How many calls are made, beside the finishes before drains.
 const CALLS: u32 = 200_000;
 
-/// Makes the calls. No other function owns a kernel but the one that makes it.
+/// Makes the calls.
 fn make_calls(rt: &(impl Threads + Sync), alloc: Global, run: &mut Run) -> Result<(), AllocError> {
     let mut kernel = fresh_kernel(rt, alloc, BLOCKS)?;
     for _ in 0..CALLS {
