@@ -1,10 +1,9 @@
 // Each fault of a volume's calls.
 
-use crate::disks::Disk;
-use crate::files::{Action, Answer, Files};
 use ffs_lib::{FfsFault, Fs};
 use std::alloc::Global;
 use std::io;
+use volume_pair::{Action, Answer, Disk, Files};
 use xn_model::Refusal;
 
 /// How many calls are refused.

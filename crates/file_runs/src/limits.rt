@@ -1,12 +1,11 @@
 // Sizes: of files, of directories, and of a volume.
 
-use crate::disks::Disk;
-use crate::files::{Action, Files};
 use crate::text::fault_name;
 use ffs_lib::{FfsFault, Fs};
 use std::alloc::Global;
 use std::io;
 use std::thread::Threads;
+use volume_pair::{Action, Disk, Files};
 use world::Running;
 
 /// How many bytes a write has, so that no block gets too many edits before it is written.

@@ -1,13 +1,12 @@
-// Runs the library file system on disks in memory: its calls with the writes that they take, its sizes, its faults, crashes after each
-// write of a rename, and random calls of two file systems beside each other.
+// Runs the library file system on disks in memory: its calls with the writes that they take, over a world, a kernel, and a kernel that
+// threads share; two threads at once; its sizes, its faults, crashes after each write of a rename, and random calls of two file systems
+// beside each other.
 #![tactic(auto)]
 
-mod disks;
+mod callers;
 mod faults;
-mod files;
-mod guarded;
-mod kernels;
 mod limits;
+mod locked;
 mod plain;
 mod random;
 mod renames;
@@ -17,15 +16,15 @@ mod text;
 
 use faults::print_faults;
 use ffs_lib::Fs;
-use files::Files;
-use kernels::fresh_kernel;
 use limits::{print_directory, print_file};
+use locked::print_shared;
 use random::print_random;
 use renames::print_rename;
 use rows::print_rows;
 use std::alloc::Global;
 use std::io;
 use std::thread::Threads;
+use volume_pair::{Files, fresh_kernel};
 
 /// What is run on a disk of its own.
 #[derive(Clone, Copy)]
@@ -85,6 +84,7 @@ fn main(rt: HostRuntime) -> io::Result<()> {
     };
     run(&rt, alloc, Part::Rows, first, second)?;
     run_rows(&rt, alloc, first, second)?;
+    print_shared(&rt, alloc, first, second)?;
     for part in [Part::File, Part::Faults] {
         run(&rt, alloc, part, first, second)?;
     }

@@ -1,8 +1,8 @@
 // A plain model of a volume: what its calls should answer and leave.
 
-use crate::files::{Action, Answer};
 use ffs_lib::FfsFault;
 use std::alloc::{AllocError, Global};
+use volume_pair::{Action, Answer};
 
 /// How many inodes there are.
 pub const INODES: usize = 128;

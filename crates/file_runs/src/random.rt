@@ -1,7 +1,6 @@
 // Pseudo-random calls of two file systems beside each other, with writes, device faults and crashes between, compared with a
 // plain model. The same in each run.
 
-use crate::files::{Action, Files};
 use crate::plain::{BAD_NAMES, BYTES, LAST_WRITTEN, NAMES, Plain};
 use crate::scan::scan;
 use ffs_lib::{FfsFault, Fs};
@@ -9,6 +8,7 @@ use pseudo_random::Numbers;
 use std::alloc::{AllocError, Global};
 use std::io;
 use std::thread::Threads;
+use volume_pair::{Action, Files};
 use world::Running;
 
 /// How many bytes a write has at most.

@@ -1,10 +1,10 @@
 // A rename from one directory to another, and a crash after each of its writes.
 
-use crate::files::{Action, Files};
 use ffs_lib::Fs;
 use std::alloc::{AllocError, Global};
 use std::io;
 use std::thread::Threads;
+use volume_pair::{Action, Files};
 use world::Running;
 
 /// The names in a directory, with a space before each.

@@ -1,19 +1,19 @@
 // The calls of a volume, one after another, with the writes that each takes.
 
-use crate::disks::Disk;
-use crate::files::{Action, Answer, Files};
+use crate::callers::Caller;
 use ffs_lib::{FfsFault, Fs};
 use std::alloc::Global;
 use std::io;
+use volume_pair::{Action, Answer};
 
 /// Prints what a call answered, and how many writes it takes.
-fn print_call<S: Disk + Drop>(
+fn print_call(
     rt: &impl Print,
-    files: &mut Files<S>,
+    caller: &mut impl Caller,
     name: &str,
     answer: Answer,
 ) -> io::Result<()> {
-    let writes = files.drain().unwrap_or(0);
+    let writes = caller.drain().unwrap_or(0);
     match answer {
         Ok(0) => println!(rt; "{name}: {writes} writes"),
         Ok(inode) => println!(rt; "{name}: inode {inode}, {writes} writes"),
@@ -22,26 +22,23 @@ fn print_call<S: Disk + Drop>(
 }
 
 /// Prints how many blocks are free, and the next entry's number.
-fn print_counts<S: Disk + Drop>(rt: &impl Print, files: &Files<S>, fs: Fs) -> io::Result<()> {
-    match files.store() {
-        Some(store) => {
-            let (free, next) = (store.free(), store.floor(fs));
-            println!(rt; "{free} blocks free, next entry {next}")
-        }
+fn print_counts(rt: &impl Print, caller: &mut impl Caller, fs: Fs) -> io::Result<()> {
+    match caller.counts(fs) {
+        Some((free, next)) => println!(rt; "{free} blocks free, next entry {next}"),
         None => Ok(()),
     }
 }
 
 /// Makes a volume and a file, writes into it, and takes it away again.
-pub fn print_rows<S: Disk + Drop>(
+pub fn print_rows(
     rt: &impl Print,
     alloc: Global,
-    files: &mut Files<S>,
+    caller: &mut impl Caller,
     fs: Fs,
 ) -> io::Result<()> {
-    let made = files.make(alloc, fs);
-    print_call(rt, files, "make", inode_of(made))?;
-    print_counts(rt, files, fs)?;
+    let made = caller.make(alloc, fs);
+    print_call(rt, caller, "make", inode_of(made))?;
+    print_counts(rt, caller, fs)?;
     let calls = [
         ("create a", Action::Create(1, b"a")),
         ("write hi", Action::Write(2, 0, b"hi")),
@@ -49,10 +46,10 @@ pub fn print_rows<S: Disk + Drop>(
         ("unlink b", Action::Unlink(1, b"b")),
     ];
     for (name, action) in &calls {
-        let answer = files.call(alloc, fs, action);
-        print_call(rt, files, name, answer)?;
+        let answer = caller.call(alloc, fs, action);
+        print_call(rt, caller, name, answer)?;
     }
-    print_counts(rt, files, fs)
+    print_counts(rt, caller, fs)
 }
 
 /// The answer of a call that makes no inode but the first.

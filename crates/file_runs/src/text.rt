@@ -1,7 +1,7 @@
 // What is printed of answers.
 
-use crate::files::Answer;
 use ffs_lib::FfsFault;
+use volume_pair::Answer;
 
 /// What a fault is called.
 pub fn fault_name(answer: Answer) -> &'static str {

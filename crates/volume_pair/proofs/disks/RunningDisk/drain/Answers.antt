@@ -1,0 +1,12 @@
+use Rattle.std.proofs.Common.{inr, refl}
+use Rattle.xn_model.specs.Worlds.{Client, Drain}
+use Rattle.world.specs.Events.{reply_of}
+use Rattle.world.specs.Worlds.{world_with}
+use Rattle.volume_pair.proofs.Kept.{event_stays}
+use Rattle.volume_pair.proofs.disks.RunningDisk.drain.Goals as goal
+
+pub returns-clause-types : goal.returns-clause-types
+returns-clause-types c = (event_stays (world_with c.args.self.now) (world_with c.step.new.self) (Client c.args.fs.number Drain) (reply_of c.step.result) c.args.fs.few c.rules.ensures c.step.ensures.step (λ fs. inr refl)).0
+
+pub returns-clause-stays : goal.returns-clause-stays
+returns-clause-stays c = (event_stays (world_with c.args.self.now) (world_with c.step.new.self) (Client c.args.fs.number Drain) (reply_of c.step.result) c.args.fs.few c.rules.ensures c.step.ensures.step (λ fs. inr refl)).1

@@ -1,0 +1,15 @@
+use Rattle.std.proofs.Common.{sym, subst}
+use Rattle.templates.specs.Tables.{types_of}
+use Rattle.world.specs.Events.{reply_of}
+use Rattle.world.specs.Worlds.{WorldValue, world_with}
+use Rattle.volume_pair.specs.Kept.{Recovers}
+use Rattle.volume_pair.proofs.Kept.{crash_recovers}
+use Rattle.volume_pair.proofs.guarded.crashed.Goals as goal
+
+pub returns-in-Mounted : goal.returns-in-Mounted
+returns-in-Mounted g c =
+    let old = c.into_world-world.result in
+    let new = c.step-reply.new.self in
+    let recovers = crash_recovers (world_with old) (world_with new) (reply_of c.step-reply.result) c.rules.ensures c.step-reply.ensures.step in
+    subst (λ (v : WorldValue). Recovers (types_of v.table) v.state (types_of c.in-Ok.running.table) c.in-Ok.running.state) c.into_world-world.ensures
+    (subst (λ (v : WorldValue). Recovers (types_of old.table) old.state (types_of v.table) v.state) (sym c.in-Ok.ensures.ok.0) recovers)

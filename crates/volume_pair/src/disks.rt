@@ -1,0 +1,54 @@
+// Stores whose blocks are written.
+
+ghost use Rattle.std.specs.Prelude.{◌≡◌};
+ghost use Rattle.xn_model.specs.Calls.{pending_of};
+ghost use Rattle.volume_pair.specs.Kept.{Stays};
+
+use world::{Answer, Call, Event, Reply, Running};
+use xn_state::{Fs, Store};
+
+/// A store on a disk.
+pub trait Disk: Store {
+    /// Writes all that is pending, and answers how many writes it took; `None` where it was refused.
+    fn drain(&mut self, fs: Fs) -> Option<u32>
+        ensures types { Self.types_of self.new ≡ Self.types_of self.old }
+        ensures stays { Stays (Self.types_of self.old) (Self.state_of self.old) (Self.state_of self.new) };
+
+    /// How many pending entries count for a file system.
+    fn pending(&self, fs: Fs) -> u32
+        ensures { result ≡ pending_of (Self.state_of self.now) fs.number };
+
+    /// The least pending entry of a file system, or the next number to be given.
+    fn floor(&self, fs: Fs) -> u64;
+
+    /// How many blocks are free.
+    fn free(&self) -> u32;
+}
+
+/// How many writes a drain took.
+fn writes_of(reply: Reply) -> Option<u32> {
+    match reply {
+        Reply::Answered(Answer::Drain(Ok(writes))) => Some(writes),
+        _ => None,
+    }
+}
+
+impl Disk for Running {
+    fn drain(&mut self, fs: Fs) -> Option<u32> {
+        self.rules();
+        let event = Event::Call(fs, Call::Drain);
+        writes_of(self.step(&event))
+    }
+
+    fn pending(&self, fs: Fs) -> u32 {
+        Running::pending(self, fs)
+    }
+
+    fn floor(&self, fs: Fs) -> u64 {
+        Running::floor(self, fs)
+    }
+
+    fn free(&self) -> u32 {
+        Running::free(self)
+    }
+}

@@ -1,0 +1,190 @@
+// A store on which one file system makes calls beside another one.
+
+ghost use Rattle.std.specs.Prelude.{◌≡◌, ◌≢◌, Some, None, IfSome, IsSomeAnd};
+ghost use Rattle.templates.specs.Tables.{types_of};
+ghost use Rattle.volume_pair.specs.Kept.{IsDevice, IsKept, Recovers, Stays};
+
+use crate::disks::Disk;
+use ffs_lib::{EditId, Fs, Volume};
+use std::marker::Model;
+use std::thread::Threads;
+use world::{Event, Reply, Running};
+use xn_model::Refusal;
+use xn_state::{Edit, Store};
+
+/// A file system that makes no calls meanwhile, with its volume where that is open.
+#[derive(Drop)]
+pub struct Other {
+    pub fs: Fs,
+    pub volume: Option<Volume>,
+}
+
+/// A store, and what is known of a file system beside the one that makes calls.
+pub struct Guarded<S: Disk> {
+    store: S,
+    other: Option<Other>,
+}
+
+impl<S: Disk> Model for Guarded<S> {
+    ghost use Rattle.std.specs.Prelude.{IfSome};
+    ghost use Rattle.volume_pair.specs.Kept.{IsKept};
+
+    ghost Value = { S };
+
+    ghost view = { λ a. a.store };
+
+    ghost invariant = { λ a. IfSome a.other (λ other. IsKept (S.types_of a.store) (S.state_of a.store) other.fs.number other.volume) };
+}
+
+impl<S: Disk + Drop> Drop for Guarded<S> {
+    fn drop(self) {
+        let Guarded { store: _, other: _ } = self;
+    }
+}
+
+impl<S: Disk> Guarded<S> {
+    /// The store, with this file system beside the one that makes calls.
+    pub fn new(store: S, other: Option<Other>) -> Guarded<S>
+        requires { IfSome other (λ other. IsKept (S.types_of store) (S.state_of store) other.fs.number other.volume) }
+        ensures { result ≡ store }
+    {
+        Guarded { store, other }
+    }
+
+    /// The store, and the other file system.
+    pub fn into_parts(self) -> (S, Option<Other>)
+        ensures store { result.0 ≡ self }
+        ensures other { IfSome result.1 (λ other. IsKept (S.types_of self) (S.state_of self) other.fs.number other.volume) }
+    {
+        let Guarded { store, other } = self;
+        (store, other)
+    }
+
+    /// Puts a file system in the other one's place, which may make calls from now on.
+    pub fn exchange(&mut self, other: Other) -> Option<Other>
+        requires { IsKept (S.types_of self.old) (S.state_of self.old) other.fs.number other.volume }
+        ensures store { self.new ≡ self.old }
+        ensures other { IfSome result (λ other. IsKept (S.types_of self.new) (S.state_of self.new) other.fs.number other.volume) }
+    {
+        self.other.replace(other)
+    }
+}
+
+/// The other file system, where it isn't the one that makes a call; else nothing is known of it from then on.
+fn beside(other: Option<Other>, fs: Fs) -> Option<Other>
+    ensures { IfSome result (λ o. (other ≡ Some o) × (o.fs.number ≢ fs.number)) }
+{
+    match other {
+        Some(other) if other.fs != fs => Some(other),
+        _ => None,
+    }
+}
+
+/// A file system whose volume is not open.
+fn closed(other: Option<Other>) -> Option<Other>
+    ensures { IfSome result (λ o. (o.volume ≡ None) × IsSomeAnd other (λ before. before.fs ≡ o.fs)) }
+{
+    let other = other?;
+    Some(Other {
+        fs: other.fs,
+        volume: None,
+    })
+}
+
+/// A world after a crash, with the counts of its mount.
+fn crashed(rt: &(impl Threads + Sync), running: Running) -> Option<(Running, u32, u32)>
+    ensures { IfSome result (λ r. Recovers (types_of running.table) running.state (types_of r.0.table) r.0.state) }
+{
+    let mut world = running.into_world();
+    world.rules();
+    let reply = world.step(rt, &Event::Crash);
+    let Ok(running) = world.into_running() else {
+        return None;
+    };
+    match reply {
+        Reply::Mounted { reached, free } => Some((running, reached, free)),
+        _ => None,
+    }
+}
+
+impl<S: Disk> Store for Guarded<S> {
+    ghost types_of = { S.types_of };
+
+    ghost state_of = { S.state_of };
+
+    fn init(&mut self, fs: Fs, ty: u32, bytes: &[u8; 512]) -> Result<(u32, EditId), Refusal> {
+        self.store.init(fs, ty, bytes)
+    }
+
+    fn propose(&mut self, fs: Fs, block: u32, edit: &Edit) -> Result<EditId, Refusal> {
+        self.other = beside(self.other.take(), fs);
+        self.store.propose(fs, block, edit)
+    }
+
+    fn make_root(&mut self, fs: Fs, block: u32) -> Result<EditId, Refusal> {
+        self.other = beside(self.other.take(), fs);
+        self.store.make_root(fs, block)
+    }
+
+    fn forget(&mut self, fs: Fs, block: u32) -> Result<(), Refusal> {
+        self.store.forget(fs, block)
+    }
+
+    fn read(&self, fs: Fs, block: u32) -> Result<&[u8; 512], Refusal> {
+        self.store.read(fs, block)
+    }
+
+    fn root(&self, fs: Fs) -> Option<u32> {
+        self.store.root(fs)
+    }
+
+    fn kind(&self, fs: Fs, block: u32) -> Result<u32, Refusal> {
+        self.store.kind(fs, block)
+    }
+}
+
+impl<S: Disk> Disk for Guarded<S> {
+    fn drain(&mut self, fs: Fs) -> Option<u32> {
+        self.store.drain(fs)
+    }
+
+    fn pending(&self, fs: Fs) -> u32 {
+        self.store.pending(fs)
+    }
+
+    fn floor(&self, fs: Fs) -> u64 {
+        self.store.floor(fs)
+    }
+
+    fn free(&self) -> u32 {
+        self.store.free()
+    }
+}
+
+impl Guarded<Running> {
+    /// One event that is of the device.
+    pub fn step(&mut self, event: &Event) -> Reply
+        requires { IsDevice event.now }
+        ensures types { types_of self.new.table ≡ types_of self.old.table }
+        ensures stays { Stays (types_of self.old.table) self.old.state self.new.state }
+    {
+        self.store.rules();
+        self.store.step(event)
+    }
+
+    /// All that isn't on the disk is lost, and the disk is mounted anew; no volume is open then. Answers beside the store how many
+    /// blocks the mount reached, and how many are free; `None` where it found no memory.
+    pub fn crash(self, rt: &(impl Threads + Sync)) -> Option<(Guarded<Running>, u32, u32)>
+        ensures { IfSome result (λ r. Recovers (types_of self.table) self.state (types_of r.0.table) r.0.state) }
+    {
+        let (running, other) = self.into_parts();
+        let (store, reached, free) = crashed(rt, running)?;
+        let other = closed(other);
+        Some((Guarded { store, other }, reached, free))
+    }
+
+    /// The least block that may be written.
+    pub fn pick(&self) -> Option<u32> {
+        self.store.pick()
+    }
+}
