@@ -1,14 +1,16 @@
 -- The blocks for which something is pending.
-use Rattle.std.proofs.Common.{◌≡◌, ℕ, zero, suc, ◌+◌, ◌<◌, ◌≤◌, Bool, true, false, List, [], ◌∷◌, length, map, get_or, Option, Some, None, refl, sym, ◌∙◌, ap, arith, inl, inr}
+use Rattle.std.proofs.Common.{take, ◌++◌, ◌≡◌, ℕ, zero, suc, ◌+◌, ◌<◌, ◌≤◌, Bool, true, false, List, [], ◌∷◌, length, map, get_or, Option, Some, None, refl, sym, ◌∙◌, ap, arith, inl, inr}
 use Rattle.std.specs.Prelude.{◌&&◌, ◌||◌, is_none, nat_lt, position, slice_index_or}
 use Rattle.std.specs.List.{list_any}
 use Rattle.std.proofs.lemmas.Bool.{cases_lt, false≢true, lt-ltb}
 use Rattle.std.proofs.lemmas.List.{length-map}
 use Rattle.std.proofs.lemmas.Option.{unwrap_or-slice_get}
-use Rattle.xn_model.specs.Lives.{BlockState, Life, Lives, has_entry, life_at, safe_count}
+use Rattle.xn_model.specs.Lives.{entries_at, entries_in, entries_of, BlockState, Life, Lives, has_entry, life_at, safe_count}
 use Rattle.xn_model.specs.Calls.{is_ready, life_pending}
 use Rattle.block_set.specs.Members.{HasNoneFrom, IsLeastFrom}
 use Rattle.dependencies.specs.Pending.{is_dirty, pends}
+use Rattle.xn_model.proofs.ForCallers.{entries_counted}
+use Rattle.dependencies.proofs.FirstEntries.{counted}
 use Rattle.dependencies.proofs.Places.{least_place, no_place}
 
 dirty_at : (lives : Lives) (k : ℕ) → slice_index_or (map is_dirty lives) k false ≡ is_dirty (life_at lives k)
@@ -100,3 +102,29 @@ none_of test [] n all none = refl
 none_of test (o ∷ os) zero all none = absurd (omega arith)
 none_of test (o ∷ os) (suc n) all none =
     ap (λ t. t || list_any test os) (none 0 (omega arith)) ∙ none_of test os n (omega (arith, all)) (λ k below. none (suc k) (omega (arith, below)))
+
+entries_none : (fs : ℕ) (o : Option Life) → life_pending o ≡ 0 → entries_at fs o ≡ []
+entries_none fs None none = refl
+entries_none fs (Some l) none = by l.pending none
+  where
+    by : (ps : List BlockState) → length ps ≡ 0 → entries_in fs ps ≡ []
+    by [] e = refl
+    by (p ∷ ps) e = absurd (omega arith)
+
+-- A walk passes over blocks with nothing pending
+
+pub entries_pass : (fs n m : ℕ) (lives : Lives) → n ≤ m → ((k : ℕ) → n ≤ k → k < m → life_pending (life_at lives k) ≡ 0) → entries_of fs (take m lives) ≡ entries_of fs (take n lives)
+entries_pass fs zero zero lives le none = refl
+entries_pass fs zero (suc m) [] le none = refl
+entries_pass fs zero (suc m) (o ∷ os) le none =
+    let rest = entries_pass fs zero m os (omega arith) (λ k past below. none (suc k) (omega arith) (omega (arith, below))) in
+    λ i. entries_none fs o (none 0 (omega arith) (omega arith)) i ++ rest i
+entries_pass fs (suc n) zero lives le none = absurd (omega arith)
+entries_pass fs (suc n) (suc m) [] le none = refl
+entries_pass fs (suc n) (suc m) (o ∷ os) le none =
+    ap (λ es. entries_at fs o ++ es) (entries_pass fs n m os (omega (arith, le)) (λ k past below. none (suc k) (omega (arith, past)) (omega (arith, below))))
+
+pub counts_pass : (fs n m : ℕ) (lives : Lives) → n ≤ m → ((k : ℕ) → n ≤ k → k < m → life_pending (life_at lives k) ≡ 0) → counted fs (take m lives) ≡ counted fs (take n lives)
+counts_pass fs n m lives le none =
+    sym (entries_counted fs (record { lives = take m lives; next = 0 }))
+    ∙ (ap (λ es. length es) (entries_pass fs n m lives le none) ∙ entries_counted fs (record { lives = take n lives; next = 0 }))

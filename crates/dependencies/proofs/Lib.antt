@@ -1,6 +1,7 @@
 pub mod Numbered
 pub mod Prefixes
 pub mod Places
+pub mod FirstEntries
 pub mod Dirty
 pub mod Accounts
 pub mod LifeChanges

@@ -3,6 +3,7 @@
 
 mod after;
 mod candidates;
+mod floors;
 mod homes;
 mod oldest;
 mod prefix;
@@ -11,6 +12,7 @@ mod safe;
 mod waiting;
 
 pub use candidates::Candidates;
+pub use floors::least_for;
 pub use homes::Homes;
 pub use oldest::{first_system, home_for, move_on, note_number};
 pub use prefix::{is_tainted, safe_prefix};

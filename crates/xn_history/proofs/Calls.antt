@@ -1,16 +1,14 @@
 -- What each client's call does to blocks and histories.
 use Rattle.std.proofs.Common.{◌≡◌, ◌≢◌, ◌^◌, ℕ, ◌+◌, ◌<◌, ◌≤◌, ◌&&◌, cond, not, List, [], ◌∷◌, ◌++◌, length, Option, Some, None, refl, sym, ◌∙◌, ap, inl, inr, subst, Result, Ok, arith}
-use Rattle.std.specs.Prelude.{Contains, option_map, ◌==◌, nat_lt, slice_set}
-use Rattle.std.specs.List.{list_all}
+use Rattle.std.specs.Prelude.{Contains, option_map, ◌==◌, slice_set}
 use Rattle.std.proofs.lemmas.Bool.{cases_eq, eq-eqb, ne_eqb, and_parts, not-false, eqb-true}
 use Rattle.std.proofs.lemmas.Option.{same_Some, none-some}
-use Rattle.xn_model.specs.Lists.{distinct, blocks_of}
-use Rattle.xn_model.specs.Types.{Types, claims, named_once, within_size}
+use Rattle.xn_model.specs.Types.{Types, claims, named_once}
 use Rattle.xn_model.specs.Root.{slot, with_slot}
 use Rattle.xn_model.specs.Lives.{BlockState, Life, Lives, StoreState, life_at, bytes_of, current, is_fresh, accepted_at, lowest_free}
 use Rattle.xn_model.specs.declared.refusal.Refusal.{Refusal}
-use Rattle.xn_model.specs.declared.refusal.Refusal.TheVariants.{NoSpace, TooManyPending, Exhausted, BadPatch, BadAfter, Unattached, NotFresh, NotOwned, NotEmpty, ClaimWrong, SizeWrong, RootTaken}
-use Rattle.xn_model.specs.Calls.{Edit, patched, first_state, new_life, init_at, init_refusal, init_of, accepts, edited, propose_of, propose_at, too_many, exhausted, within_limits, was_given, may_add, may_drop, is_empty, root_now, slot_now, life_bytes, root_state, life_pending, make_root_of, make_root_at, drop_root_of, forget_of, forget_at, forget_refusal}
+use Rattle.xn_model.specs.declared.refusal.Refusal.TheVariants.{NoSpace, TooManyPending, Exhausted, NotFresh, NotOwned, NotEmpty, RootTaken}
+use Rattle.xn_model.specs.Calls.{Edit, patched, first_state, new_life, init_at, init_refusal, init_of, accepts, edited, propose_of, propose_at, too_many, exhausted, is_empty, root_now, slot_now, life_bytes, root_state, life_pending, make_root_of, make_root_at, drop_root_of, forget_of, forget_at, forget_refusal, edit_tests}
 use Rattle.xn_model.specs.Rules.{IsConsistent}
 use Rattle.xn_model.proofs.ForCallers.{accepted, Contains-none, Contains-head, Contains-cons, last_of, accepted_is, each_back, set_same, set_other, freed_is, free_back, given_ok, own_then, same_ok, never_ok, unless_ok, lowest_is, claim_stays, in_newest, fresh_owned, slot_stays, in_range, forgets}
 use Rattle.xn_model.specs.Root.{owned_by_root}
@@ -92,18 +90,7 @@ module _ (T : Types) (state new : StoreState) (h : IsConsistent T state) (hs : H
       let own = own_then state fs b (propose_at T state fs b e) (entry, new) done in
       let l : Life = own.0 in
       let m = patched (current l) e.patches in
-      let u = unless_ok (
-      (too_many state fs (length l.pending), TooManyPending)
-      ∷ (exhausted state, Exhausted)
-      ∷ (not (within_limits e), BadPatch)
-      ∷ (not (was_given state e.after), BadAfter)
-      ∷ (is_fresh l.status && nat_lt 0 (length e.adds), Unattached)
-      ∷ (not (list_all (may_add state fs) e.adds && distinct (blocks_of e.adds)), NotFresh)
-      ∷ (not (list_all (may_drop state b) e.drops && distinct e.drops), NotOwned)
-      ∷ (not (list_all (is_empty T state) e.drops), NotEmpty)
-      ∷ (not (claims T l.ty (current l) m e.adds e.drops && named_once T l.ty m), ClaimWrong)
-      ∷ (not (within_size T l.ty m), SizeWrong)
-      ∷ []) (Ok (accepts state b (edited state.next fs e l))) (entry, new) own.2 in
+      let u = unless_ok (edit_tests T state fs b e l) (Ok (accepts state b (edited state.next fs e l))) (entry, new) own.2 in
       let claim = (and_parts (claims T l.ty (current l) m e.adds e.drops) (named_once T l.ty m) (not-false (claims T l.ty (current l) m e.adds e.drops && named_once T l.ty m) u.0.1.1.1.1.1.1.1.1.0)).0 in
       let x = matched (life_at state.lives b) (hs b) (known b) l own.1.alive in
       let bytes : bytes_in (hs b) ≡ current l = ap bytes_in x.1 ∙ sym (current_is l x.0 x.2) in

@@ -1,5 +1,5 @@
 -- An edit that every test passes may be accepted.
-use Rattle.std.proofs.Common.{◌≡◌, ℕ, ◌<◌, ◌≢◌, ◌⊎◌, true, false, not, ◌&&◌, List, [], ◌∷◌, ◌++◌, length, Option, Some, None, refl, sym, ◌∙◌, ap, inl, inr, arith, subst}
+use Rattle.std.proofs.Common.{◌≡◌, ℕ, ◌<◌, ◌≢◌, ◌⊎◌, true, false, not, ◌&&◌, List, ◌++◌, length, Option, Some, None, refl, sym, ◌∙◌, ap, inl, inr, arith, subst}
 use Rattle.std.specs.Prelude.{Contains, Ok, nat_lt, ◌==◌}
 use Rattle.std.specs.List.{list_all}
 use Rattle.std.proofs.lemmas.Bool.{false≢true, not-false, not-true, and_parts, and_from, eqb-true, lt-ltb, ltb-true, false_from_ne_true}
@@ -9,8 +9,7 @@ use Rattle.xn_model.proofs.Statuses.{names_none}
 use Rattle.xn_model.specs.Lists.{has_number, has_pair, blocks_of, distinct}
 use Rattle.xn_model.specs.Types.{Types, claims, named_once, within_size, without, inside}
 use Rattle.xn_model.specs.Lives.{Fresh, Life, Lives, life_at, newest, current, bytes_of, is_fresh, is_owned_by, is_dropped, is_for, StoreState}
-use Rattle.xn_model.specs.Results.{TooManyPending, Exhausted, BadPatch, BadAfter, Unattached, NotFresh, NotOwned, NotEmpty, ClaimWrong, SizeWrong}
-use Rattle.xn_model.specs.Calls.{propose_of, edited, Edit, may_add, may_drop, is_empty, propose_at, patched, too_many, exhausted, within_limits, was_given, accepts, owns_nothing}
+use Rattle.xn_model.specs.Calls.{propose_of, edited, Edit, may_add, may_drop, is_empty, propose_at, patched, was_given, accepts, owns_nothing, edit_tests}
 use Rattle.xn_model.specs.Rules.{Keeps, IsInFileSystem, IsOwnedBy, IsLinkedLife, IsConsistent, NamedIn}
 use Rattle.xn_model.proofs.Lists.{all_at, has_pair_at, has_number_from, filter_at, filter_from, has_number_at}
 use Rattle.xn_model.proofs.Tests.{alive_from, fresh_from, owned_from, fs_from, unless_ok, own_then, same_ok}
@@ -126,18 +125,7 @@ propose_keeps T state h fs b e entry new done =
     let own = own_then state fs b (propose_at T state fs b e) (entry, new) done in
     let l : Life = own.0 in
     let m = patched (current l) e.patches in
-    let u = unless_ok (
-    (too_many state fs (length l.pending), TooManyPending)
-    ∷ (exhausted state, Exhausted)
-    ∷ (not (within_limits e), BadPatch)
-    ∷ (not (was_given state e.after), BadAfter)
-    ∷ (is_fresh l.status && nat_lt 0 (length e.adds), Unattached)
-    ∷ (not (list_all (may_add state fs) e.adds && distinct (blocks_of e.adds)), NotFresh)
-    ∷ (not (list_all (may_drop state b) e.drops && distinct e.drops), NotOwned)
-    ∷ (not (list_all (is_empty T state) e.drops), NotEmpty)
-    ∷ (not (claims T l.ty (current l) m e.adds e.drops && named_once T l.ty m), ClaimWrong)
-    ∷ (not (within_size T l.ty m), SizeWrong)
-    ∷ []) (Ok (accepts state b (edited state.next fs e l))) (entry, new) own.2 in
+    let u = unless_ok (edit_tests T state fs b e l) (Ok (accepts state b (edited state.next fs e l))) (entry, new) own.2 in
     let t = u.0 in
     subst (λ (x : ℕ × StoreState). Keeps T state x.1) (same_ok (accepts state b (edited state.next fs e l)) (entry, new) u.1)
     (accepts_keeps T state h b l (edited state.next fs e l) own.1.alive

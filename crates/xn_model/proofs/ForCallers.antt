@@ -4,6 +4,7 @@
 pub use Rattle.xn_model.proofs.Lists.{Contains-cons, Contains-drop, Contains-head, Contains-none, Contains-tail, Contains-take, all_at, any_at, any_from, blocks_of_at, blocks_of_has, filter_at, filter_from, has_number_at, has_number_from, has_pair_at, has_pair_from, last_of}
 pub use Rattle.xn_model.proofs.Bytes.{blocks_read, length-joined}
 pub use Rattle.xn_model.proofs.Tests.{IsOwn, fresh_from, fs_from, given_ok, map_ok, never_ok, no_states_from, none_from, own_then, same_ok, then_ok, unless_ok, unless_passed}
+pub use Rattle.xn_model.proofs.Puts.{bytes_apart, bytes_within, length_put}
 -- block 0
 pub use Rattle.xn_model.proofs.RootBytes.{different_apart, not_empty, range_at, roots_from, slot_other, slot_same, slot_stays}
 -- lives and their changes

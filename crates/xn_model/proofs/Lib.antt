@@ -3,6 +3,7 @@ pub mod Lists
 pub mod Bytes
 pub mod Tests
 pub mod Least
+pub mod Puts
 -- block 0
 pub mod RootBytes
 -- lives and their changes

@@ -1,50 +1,26 @@
 -- What a change of one root slot leaves of block 0's bytes, and of what they name.
-use Rattle.std.proofs.Common.{◌≡◌, ℕ, zero, suc, ◌+◌, ◌-◌, ◌*◌, ◌^◌, ◌<◌, ◌≤◌, ◌≢◌, ◌⊎◌, true, cond, not, ◌&&◌, List, [], ◌∷◌, ◌++◌, map, length, get_or, set, take, drop, Option, Some, None, refl, sym, ◌∙◌, ap, inl, inr, arith, subst, append_assoc, length-append, add-zero}
+use Rattle.std.proofs.Common.{◌≡◌, ℕ, zero, suc, ◌+◌, ◌-◌, ◌*◌, ◌^◌, ◌<◌, ◌≤◌, ◌≢◌, ◌⊎◌, true, cond, not, ◌&&◌, List, [], ◌∷◌, ◌++◌, map, length, get_or, set, take, drop, Option, Some, None, refl, sym, ◌∙◌, ap, inl, inr, arith, subst, add-zero}
 use Rattle.std.specs.Prelude.{Contains, IsTrue, filter_map, ◌==◌, bytes_eq}
 use Rattle.std.specs.Int.{w32, to_le_bytes, from_le_bytes}
 use Rattle.std.specs.List.{range_with_len, cons_option}
 use Rattle.std.proofs.lemmas.Bool.{cases_eq, cases_Bool, false≢true, not-true, and_parts, and_from, eqb-false, eq-eqb, ne_eqb, false_from_ne_true}
 use Rattle.std.proofs.lemmas.Nat.{from_le_bytes-to_le_bytes_4}
 use Rattle.std.proofs.lemmas.Option.{same_Some, none-some}
-use Rattle.std.proofs.lemmas.List.{take-take, take-append-le, drop_at, drop-drop, length-take, length-drop, drop-take, map-append, get_or-append-add}
+use Rattle.std.proofs.lemmas.List.{take-take, drop-drop, drop-take, map-append, get_or-append-add}
 use Rattle.std.proofs.lemmas.List.FromFn.{get_or-map-range_with_len}
 use Rattle.std.proofs.lemmas.Bool.{cases_lt}
 use Rattle.std.proofs.lemmas.List.Elements.{Contains-append_cases, Contains-append_left, Contains-append_right}
 use Rattle.xn_model.specs.Lists.{has_number, blocks_of, distinct, put, blank}
 use Rattle.xn_model.specs.Types.{Types, fits, named_once, within_size}
 use Rattle.xn_model.specs.Root.{word_at, header, marked, pointer, slot, with_slot, unless_empty, templates_of, roots_of, owned_by_root, HasBuiltIns}
+use Rattle.xn_model.proofs.Puts.{bytes_apart, drop_past, drop_put, length_put, take_put}
 use Rattle.xn_model.proofs.Lists.{Contains-none, Contains-head, Contains-cons, Contains-tail, has_number_at, has_number_from, blocks_of_has}
 
 -- Bytes written at a place
 
-module _ (m : List ℕ) (at : ℕ) (bs : List ℕ) (fits : at + length bs ≤ length m) where
-  front_length : length (take at m) ≡ at
-  front_length = rw length-take (omega arith)
-
-  take_put : (n : ℕ) → n ≤ at → take n (put m at bs) ≡ take n m
-  take_put n le = ap (take n) (append_assoc (take at m) bs (drop (at + length bs) m)) ∙ (take-append-le n (take at m) (bs ++ drop (at + length bs) m) (rw front_length le) ∙ take-take n at m le)
-
-  drop_put : drop at (put m at bs) ≡ bs ++ drop (at + length bs) m
-  drop_put = ap (drop at) (append_assoc (take at m) bs (drop (at + length bs) m)) ∙ drop_at (take at m) (bs ++ drop (at + length bs) m) at front_length
-
-  drop_past : (n : ℕ) → at + length bs ≤ n → drop n (put m at bs) ≡ drop n m
-  drop_past n le =
-      let rest : ℕ = n - (at + length bs) in
-      let sum1 : n ≡ at + (length bs + rest) = omega arith in
-      let sum2 : n ≡ (at + length bs) + rest = omega arith in
-      ap (λ k. drop k (put m at bs)) sum1
-      ∙ (sym (drop-drop (length bs + rest) at (put m at bs))
-      ∙ (ap (drop (length bs + rest)) drop_put
-      ∙ (sym (drop-drop rest (length bs) (bs ++ drop (at + length bs) m))
-      ∙ (ap (drop rest) (drop_at bs (drop (at + length bs) m) (length bs) refl)
-      ∙ (drop-drop rest (at + length bs) m ∙ ap (λ k. drop k m) (sym sum2))))))
-
-  length_put : length (put m at bs) ≡ length m
-  length_put = rw (length-append, length-append, front_length, length-drop) (omega arith)
-
-  -- four bytes before the place
-  word_before : (j : ℕ) → j + 4 ≤ at → take 4 (drop j (put m at bs)) ≡ take 4 (drop j m)
-  word_before j le = sym (drop-take j 4 (put m at bs)) ∙ (ap (drop j) (take_put (j + 4) le) ∙ drop-take j 4 m)
+-- four bytes before the place
+word_before : (m : List ℕ) (at : ℕ) (bs : List ℕ) → at + length bs ≤ length m → (j : ℕ) → j + 4 ≤ at → take 4 (drop j (put m at bs)) ≡ take 4 (drop j m)
+word_before m at bs fits j le = bytes_apart m at bs fits 4 j (inl le)
 
 -- Numbers that are not 0
 

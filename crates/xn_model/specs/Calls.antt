@@ -113,8 +113,9 @@ may_drop state b c = alive_and (λ l. is_owned_by b l.status) (life_at state.liv
 abbrev pub edited : ℕ → ℕ → Edit → Life → BlockState
 edited next fs e l = record { bytes = patched (current l) e.patches; entry = next; adds = e.adds; drops = e.drops; after = e.after; fs = Some fs }
 
-abbrev pub propose_refusal : Types → StoreState → ℕ → ℕ → Edit → Life → Option Refusal
-propose_refusal T state fs b e l = first_refusal (
+-- the tests of an edit, in their order
+abbrev pub edit_tests : Types → StoreState → ℕ → ℕ → Edit → Life → List (Bool × Refusal)
+edit_tests T state fs b e l =
     (too_many state fs (length l.pending), TooManyPending)
     ∷ (exhausted state, Exhausted)
     ∷ (not (within_limits e), BadPatch)
@@ -125,7 +126,10 @@ propose_refusal T state fs b e l = first_refusal (
     ∷ (not (list_all (is_empty T state) e.drops), NotEmpty)
     ∷ (not (claims T l.ty (current l) (patched (current l) e.patches) e.adds e.drops && named_once T l.ty (patched (current l) e.patches)), ClaimWrong)
     ∷ (not (within_size T l.ty (patched (current l) e.patches)), SizeWrong)
-    ∷ [])
+    ∷ []
+
+abbrev pub propose_refusal : Types → StoreState → ℕ → ℕ → Edit → Life → Option Refusal
+propose_refusal T state fs b e l = first_refusal (edit_tests T state fs b e l)
 
 abbrev pub propose_at : Types → StoreState → ℕ → ℕ → Edit → Life → Result (ℕ × StoreState) Refusal
 propose_at T state fs b e l = unless (propose_refusal T state fs b e l) (Ok (accepts state b (edited state.next fs e l)))

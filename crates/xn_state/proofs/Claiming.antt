@@ -12,7 +12,7 @@ use Rattle.xn_model.specs.Types.{Types, claims, named_once, within_size}
 use Rattle.xn_model.specs.Root.{owned_by_root, templates_of, roots_of, with_slot}
 use Rattle.xn_model.specs.Lives.{Life, StoreState, life_at, alive_and, current, is_for, is_fresh, is_owned_by}
 use Rattle.xn_model.specs.Results.{first_refusal, unless, result_map, result_and_then}
-use Rattle.xn_model.specs.Calls.{Edit, own_life, too_many, exhausted, within_limits, was_given, may_add, may_drop, is_empty, is_untouched, owns_nothing, patched, life_bytes, life_pending, root_now, slot_now}
+use Rattle.xn_model.specs.Calls.{Edit, own_life, too_many, exhausted, within_limits, was_given, may_add, may_drop, is_empty, is_untouched, owns_nothing, patched, life_bytes, life_pending, root_now, slot_now, edit_tests}
 use Rattle.xn_model.specs.Rules.{IsConsistent}
 use Rattle.xn_model.proofs.ForCallers.{Contains-cons, Contains-none, all_at, blocks_of_at, fresh_from, own_then, roots_from, same_ok, unless_ok}
 use Rattle.owner_records.specs.Owners.{is_claimed, owned_count}
@@ -51,18 +51,7 @@ edit_claims T state fs b e bytes made =
     let own = own_then state fs b (proposed_at T state fs b e) bytes made in
     let l : Life = own.0 in
     let m = patched (current l) e.patches in
-    let tests = unless_ok (
-    (too_many state fs (length l.pending), TooManyPending)
-    ∷ (exhausted state, Exhausted)
-    ∷ (not (within_limits e), BadPatch)
-    ∷ (not (was_given state e.after), BadAfter)
-    ∷ (is_fresh l.status && nat_lt 0 (length e.adds), Unattached)
-    ∷ (not (list_all (may_add state fs) e.adds && distinct (blocks_of e.adds)), NotFresh)
-    ∷ (not (list_all (may_drop state b) e.drops && distinct e.drops), NotOwned)
-    ∷ (not (list_all (is_empty T state) e.drops), NotEmpty)
-    ∷ (not (claims T l.ty (current l) m e.adds e.drops && named_once T l.ty m), ClaimWrong)
-    ∷ (not (within_size T l.ty m), SizeWrong)
-    ∷ []) (Ok m) bytes own.2 in
+    let tests = unless_ok (edit_tests T state fs b e l) (Ok m) bytes own.2 in
     let t = tests.0 in
     may_claim state fs b e.adds e.drops
     (not-false (list_all (may_add state fs) e.adds && distinct (blocks_of e.adds)) t.1.1.1.1.1.0)

@@ -4,7 +4,7 @@ use Rattle.std.specs.Prelude.{sum_by, count_by, position, unwrap_or, slice_set, 
 use Rattle.std.specs.List.{sum, position_or_len}
 use Rattle.std.proofs.Math.Seq.{map-set_same}
 use Rattle.std.proofs.lemmas.Bool.{cases_eq, eq-eqb, ne_eqb, false≢true}
-use Rattle.std.proofs.lemmas.Option.{unwrap_or-slice_get, slice_get-get_or, slice_get_within}
+use Rattle.std.proofs.lemmas.Option.{slice_get-get_or, slice_get_within}
 use Rattle.std.proofs.lemmas.List.{get_or-set_same, get_or-set_other, length-map}
 use Rattle.std.proofs.lemmas.List.Sums.{sum-map, sum_by-cons, sum_by-set, sum_by_push, sum_by-take-drop}
 use Rattle.std.proofs.lemmas.List.Quantifiers.{position-Some}
@@ -14,16 +14,9 @@ use Rattle.xn_model.specs.Lives.{BlockState, Life, Lives, life_at, change_at, wi
 use Rattle.xn_model.specs.Calls.{first_pending, pending_in, new_life}
 use Rattle.xn_model.proofs.ForCallers.{place_from}
 use Rattle.block_set.specs.Members.{is_member}
+pub use Rattle.dependencies.proofs.FirstEntries.{counted, counts_for, place_is}
 use Rattle.xn_state.specs.Kept.{IsCounted}
 use Rattle.xn_state.specs.Counts.{given}
-
--- whether an entry counts for a file system
-abbrev pub counts_for : ℕ → BlockState → Bool
-counts_for fs s = is_for fs s.fs
-
--- how many pending entries count for a file system
-abbrev pub counted : ℕ → Lives → ℕ
-counted fs lives = sum_by (pending_in fs) lives
 
 -- Which blocks are free
 
@@ -88,9 +81,6 @@ sum_same f xs i y d e = sym (sum-map f (slice_set xs i y)) ∙ (ap sum (map-set_
 
 alive_within : (lives : Lives) (b : ℕ) (l : Life) → life_at lives b ≡ Some l → b < length lives
 alive_within lives b l e = slice_get_within lives b (Some l) (place_from lives b l e)
-
-pub place_is : (lives : Lives) (b : ℕ) → life_at lives b ≡ get_or lives b None
-place_is lives b = unwrap_or-slice_get lives b None
 
 -- a change of a life that leaves its pending entries
 changed_counted : (fs : ℕ) (lives : Lives) (b : ℕ) (g : Life → Life) → ((l : Life) → pending_in fs (Some (g l)) ≡ pending_in fs (Some l)) → counted fs (change_at lives b g) ≡ counted fs lives

@@ -1,5 +1,5 @@
 -- The blocks with something pending, where lives change.
-use Rattle.std.proofs.Common.{◌≡◌, ℕ, zero, suc, ◌-◌, ◌<◌, ◌≤◌, Bool, true, false, List, [], ◌∷◌, ◌++◌, length, map, take, replicate, Option, Some, None, refl, sym, ◌∙◌, ap, arith, length-append, length-drop}
+use Rattle.std.proofs.Common.{◌≡◌, ℕ, zero, suc, ◌-◌, Bool, true, false, List, [], ◌∷◌, ◌++◌, length, map, replicate, Option, Some, None, refl, sym, ◌∙◌, ap, arith, length-append, length-drop}
 use Rattle.std.specs.Prelude.{Contains, find, is_some, nat_lt, option_map, slice_set, IsTrue, ◌==◌}
 use Rattle.std.specs.List.{range_with_len}
 use Rattle.std.proofs.Math.Seq.{map-set_same}
@@ -7,13 +7,13 @@ use Rattle.std.proofs.lemmas.Bool.{false≢true, le-ltb, lt-ltb}
 use Rattle.std.proofs.lemmas.List.{map-set}
 use Rattle.std.proofs.lemmas.List.FromFn.{length-range_with_len}
 use Rattle.xn_model.specs.declared.status.Status.TheVariants.{Owned, Dropped}
-use Rattle.xn_model.specs.Lives.{BlockState, Life, Lives, entries_at, entries_in, entries_of, life_at, change_at, with_state, with_status, settle, settled_at, begun_at, owned_after, dropped_after, accepted_at, freed}
+use Rattle.xn_model.specs.Lives.{BlockState, Life, Lives, life_at, change_at, with_state, with_status, settle, settled_at, begun_at, owned_after, dropped_after, accepted_at, freed}
 use Rattle.xn_model.specs.Calls.{life_pending, new_life}
 use Rattle.xn_model.specs.Mounts as model
 use Rattle.xn_model.specs.Mounts.{found_life, life_found, lives_found}
-use Rattle.xn_model.proofs.ForCallers.{Contains-head, Contains-tail, entries_counted}
+use Rattle.xn_model.proofs.ForCallers.{Contains-head, Contains-tail}
 use Rattle.xn_state.specs.Kept.{is_dirty}
-use Rattle.xn_state.proofs.Counting.{counted, place_is}
+use Rattle.xn_state.proofs.Counting.{place_is}
 use Rattle.xn_state.proofs.Freeing.{still_none}
 
 abbrev pub dirt : Lives → List Bool
@@ -23,32 +23,6 @@ dirt lives = map is_dirty lives
 
 dirty_if : (o : Option Life) → life_pending o ≡ 0 → is_dirty o ≡ false
 dirty_if o none = le-ltb 0 (life_pending o) (omega (arith, none))
-
-entries_none : (fs : ℕ) (o : Option Life) → life_pending o ≡ 0 → entries_at fs o ≡ []
-entries_none fs None none = refl
-entries_none fs (Some l) none = by l.pending none
-  where
-    by : (ps : List BlockState) → length ps ≡ 0 → entries_in fs ps ≡ []
-    by [] e = refl
-    by (p ∷ ps) e = absurd (omega arith)
-
--- A walk passes over blocks with nothing pending
-
-pub entries_pass : (fs n m : ℕ) (lives : Lives) → n ≤ m → ((k : ℕ) → n ≤ k → k < m → life_pending (life_at lives k) ≡ 0) → entries_of fs (take m lives) ≡ entries_of fs (take n lives)
-entries_pass fs zero zero lives le none = refl
-entries_pass fs zero (suc m) [] le none = refl
-entries_pass fs zero (suc m) (o ∷ os) le none =
-    let rest = entries_pass fs zero m os (omega arith) (λ k past below. none (suc k) (omega arith) (omega (arith, below))) in
-    λ i. entries_none fs o (none 0 (omega arith) (omega arith)) i ++ rest i
-entries_pass fs (suc n) zero lives le none = absurd (omega arith)
-entries_pass fs (suc n) (suc m) [] le none = refl
-entries_pass fs (suc n) (suc m) (o ∷ os) le none =
-    ap (λ es. entries_at fs o ++ es) (entries_pass fs n m os (omega (arith, le)) (λ k past below. none (suc k) (omega (arith, past)) (omega (arith, below))))
-
-pub counts_pass : (fs n m : ℕ) (lives : Lives) → n ≤ m → ((k : ℕ) → n ≤ k → k < m → life_pending (life_at lives k) ≡ 0) → counted fs (take m lives) ≡ counted fs (take n lives)
-counts_pass fs n m lives le none =
-    sym (entries_counted fs (record { lives = take m lives; next = 0 }))
-    ∙ (ap (λ es. length es) (entries_pass fs n m lives le none) ∙ entries_counted fs (record { lives = take n lives; next = 0 }))
 
 -- Changes
 

@@ -4,7 +4,8 @@ ghost use Rattle.std.specs.Prelude.{◌≡◌, ℕ, ◌+◌, ◌<◌, ◌≤◌,
 ghost use Rattle.std.specs.Option.{option_copied};
 ghost use Rattle.xn_model.specs.Lives.{drops_of, is_for, life_at};
 ghost use Rattle.xn_model.specs.Calls.{first_pending, life_pending};
-ghost use Rattle.xn_state.specs.Counts.{claim_count, claim_drops, given};
+ghost use Rattle.dependencies.specs.Pending.{claim_count};
+ghost use Rattle.xn_state.specs.Counts.{claim_drops, given};
 
 use block_cache::{Cache, Claim};
 use block_set::BlockSet;

@@ -4,7 +4,6 @@
 mod answer;
 mod call;
 mod counts;
-mod floors;
 mod found;
 pub mod law;
 mod lives;

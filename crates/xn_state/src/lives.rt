@@ -16,12 +16,11 @@ ghost use Rattle.dependencies.specs.Pending.{pends};
 ghost use Rattle.xn_state.specs.Mounts.{lives_in};
 
 use crate::counts::mark;
-use crate::floors;
 use crate::found::Found;
 use block_cache::{Cache, Claim, Facts};
 use block_set::BlockSet;
 use claims::OwnedCounts;
-use dependencies::{Candidates, Homes, home_for, note_number};
+use dependencies::{Candidates, Homes, home_for, least_for, note_number};
 use edit_list::{EditId, Fs, Undo};
 use free_map::FreeMap;
 use std::alloc::{AllocError, Global};
@@ -185,7 +184,7 @@ impl Lives {
                 return oldest.min(most);
             }
         }
-        floors::least_for(&self.cache, &self.dirty, fs, most, pending)
+        least_for(&self.cache, &self.dirty, fs, most, pending)
     }
 
     /// The least free block.

@@ -1,8 +1,8 @@
 use Rattle.std.proofs.Common.{◌<◌, ap, arith}
 use Rattle.xn_model.specs.Lives.{life_at}
 use Rattle.xn_model.specs.Calls.{life_pending}
-use Rattle.xn_state.specs.Counts.{claim_count}
-use Rattle.xn_state.proofs.FirstEntries.{counts_more, counts_within}
+use Rattle.dependencies.specs.Pending.{claim_count}
+use Rattle.dependencies.proofs.FirstEntries.{counts_more, counts_within}
 use Rattle.xn_state.proofs.counts.discount.Goals as goal
 
 pub discount_one-requires : goal.discount_one-requires

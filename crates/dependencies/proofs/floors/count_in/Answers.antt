@@ -1,9 +1,9 @@
 use Rattle.std.proofs.Common.{◌<◌, ap, arith}
 use Rattle.xn_model.specs.Lives.{life_at}
 use Rattle.xn_model.specs.Calls.{life_pending}
-use Rattle.xn_state.specs.Counts.{claim_count}
-use Rattle.xn_state.proofs.FirstEntries.{counts_more}
-use Rattle.xn_state.proofs.floors.count_in.Goals as goal
+use Rattle.dependencies.specs.Pending.{claim_count}
+use Rattle.dependencies.proofs.FirstEntries.{counts_more}
+use Rattle.dependencies.proofs.floors.count_in.Goals as goal
 
 pub loop-place-preserved : goal.loop-place-preserved
 loop-place-preserved c =

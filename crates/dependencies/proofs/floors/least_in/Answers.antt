@@ -1,9 +1,9 @@
 use Rattle.std.proofs.Common.{◌<◌, ◌∙◌, sym, arith}
 use Rattle.xn_model.specs.Lives.{least_to, life_at}
 use Rattle.xn_model.specs.Calls.{life_pending}
-use Rattle.xn_state.specs.Counts.{claim_entries}
-use Rattle.xn_state.proofs.FirstEntries.{claims_more}
-use Rattle.xn_state.proofs.floors.least_in.Goals as goal
+use Rattle.dependencies.specs.Pending.{claim_entries}
+use Rattle.dependencies.proofs.FirstEntries.{claims_more}
+use Rattle.dependencies.proofs.floors.least_in.Goals as goal
 
 pub loop-place-preserved : goal.loop-place-preserved
 loop-place-preserved c =

@@ -4,12 +4,10 @@ ghost use Rattle.std.specs.Prelude.{◌≡◌, ◌≤◌, map, option_map, slice
 ghost use Rattle.std.specs.Option.{option_copied};
 ghost use Rattle.xn_model.specs.Lives.{entries_at, entries_of, least_to, life_at};
 ghost use Rattle.xn_model.specs.Calls.{pending_in};
-ghost use Rattle.xn_state.specs.Counts.{claim_count, claim_entries};
-ghost use Rattle.xn_state.specs.Kept.{is_dirty};
+ghost use Rattle.dependencies.specs.Pending.{claim_count, claim_entries, is_dirty};
 
-use block_cache::{Cache, Claim};
+use block_cache::{Cache, Claim, Fs};
 use block_set::BlockSet;
-use edit_list::Fs;
 
 /// The least of a number and the pending entries that count for a file system. The walk is over the blocks for which something
 /// is pending, and as there are `count` of these entries, it ends with the last of them.

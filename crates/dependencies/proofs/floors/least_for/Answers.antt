@@ -3,11 +3,9 @@ use Rattle.std.proofs.lemmas.List.{take_all}
 use Rattle.std.proofs.lemmas.List.Sums.{sum_by_more, sum_by_more_le}
 use Rattle.xn_model.specs.Lives.{entries_at, entries_of, least_to, life_at}
 use Rattle.xn_model.specs.Calls.{pending_in}
-use Rattle.dependencies.proofs.Dirty.{clean_before, clean_from, next_within}
-use Rattle.xn_state.proofs.Counting.{place_is}
-use Rattle.xn_state.proofs.Dirty.{counts_pass, entries_pass}
-use Rattle.xn_state.proofs.FirstEntries.{least_of_all, least_places, life_is}
-use Rattle.xn_state.proofs.floors.least_for.Goals as goal
+use Rattle.dependencies.proofs.Dirty.{clean_before, clean_from, counts_pass, entries_pass, next_within}
+use Rattle.dependencies.proofs.FirstEntries.{least_of_all, least_places, life_is, place_is}
+use Rattle.dependencies.proofs.floors.least_for.Goals as goal
 
 pub overflow_sub-left : goal.overflow_sub-left
 overflow_sub-left c =

@@ -1,7 +1,7 @@
 use Rattle.std.proofs.Common.{◌≡◌, ◌+◌, ◌-◌, take}
 use Rattle.xn_model.specs.Lives.{entries_of, least_to}
-use Rattle.xn_state.proofs.Counting.{counted}
-use Rattle.xn_state.proofs.floors.least_for.Given as goal
+use Rattle.dependencies.proofs.FirstEntries.{counted}
+use Rattle.dependencies.proofs.floors.least_for.Given as goal
 
 abbrev pub invariant-loop-from : goal.invariant-loop-from
 invariant-loop-from l =
