@@ -1,9 +1,9 @@
 -- What is counted of lives, where one place is written.
-use Rattle.std.proofs.Common.{◌≡◌, ℕ, zero, suc, ◌+◌, ◌-◌, ◌*◌, ◌<◌, ◌≤◌, Bool, true, false, cond, List, [], ◌∷◌, ◌++◌, length, take, drop, replicate, Option, Some, None, refl, sym, ◌∙◌, ap, arith, slice_get, length-drop}
+use Rattle.std.proofs.Common.{◌≡◌, ℕ, zero, suc, ◌+◌, ◌-◌, ◌*◌, ◌^◌, ◌<◌, ◌≤◌, Bool, true, false, cond, List, [], ◌∷◌, length, replicate, Option, Some, None, refl, sym, ◌∙◌, ap, arith, slice_get, length-drop}
 use Rattle.std.specs.Prelude.{is_some, option_map, slice_set, sum_by, nat_lt, ◌||◌}
 use Rattle.std.specs.List.{list_any}
 use Rattle.std.proofs.lemmas.Bool.{lt-ltb}
-use Rattle.std.proofs.lemmas.List.{length-set, drop_all, length_push}
+use Rattle.std.proofs.lemmas.List.{length-set, length_push}
 use Rattle.std.proofs.lemmas.List.Sums.{sum_by-cons}
 use Rattle.slab.specs.Slab.{Slab}
 use Rattle.xn_model.specs.declared.status.Status.{Status}
@@ -15,27 +15,8 @@ use Rattle.block_cache.specs.declared.totals.Totals.{Totals}
 use Rattle.block_cache.specs.Cached.{CachedLife}
 use Rattle.block_cache.specs.Undone.{life_of, lives_of}
 use Rattle.block_cache.specs.Kept.{AreKept, place_at, change_place, appended, settled, with_begun, with_status}
-use Rattle.block_cache.specs.Totals.{pending_of, in_flight_of, totals_of}
+use Rattle.block_cache.specs.Totals.{pending_of, in_flight_of, totals_of, totals_at}
 use Rattle.block_cache.proofs.Changes.{length-pending}
-
--- what is counted of the life of a block
-abbrev pub totals_at : List (Option CachedLife) → ℕ → Totals
-totals_at places b = record { pending = pending_of (place_at places b); in_flight = in_flight_of (place_at places b) }
-
--- a list after a call had all of it
-abbrev pub written_back : {X : Type 0} → ℕ → List X → List X → List X
-written_back len new old = take len (new ++ drop (length new) old)
-
-pub all_written : {X : Type 0} (len : ℕ) (new old : List X) → len ≡ length old → length new ≡ length old → written_back len new old ≡ new
-all_written len new old whole same =
-    let none : drop (length new) old ≡ [] = drop_all (length new) old (omega (arith, same)) in
-    ap (λ xs. take len (new ++ xs)) none ∙ (front new (len) (omega (arith, whole, same)))
-  where
-    front : {X : Type 0} (xs : List X) (k : ℕ) → length xs ≤ k → take k (xs ++ []) ≡ xs
-    front [] zero h = refl
-    front [] (suc k) h = refl
-    front (x ∷ xs) zero h = absurd (omega (arith, h))
-    front (x ∷ xs) (suc k) h = ap (λ ys. x ∷ ys) (front xs k (omega (arith, h)))
 
 -- A sum in which one summand changes
 
@@ -81,52 +62,59 @@ few_in_flight (o ∷ os) = omega (arith, sum_by-cons in_flight_of o os, one o, f
 pub totals_free : (n : ℕ) → record { pending = 0; in_flight = 0 } ≡ totals_of (replicate n None)
 totals_free n = λ i. record { pending = sym (sum-free pending_of refl n) i; in_flight = sym (sum-free in_flight_of refl n) i }
 
+-- what a change of the counts needs, and what it leaves
+pub record IsExchange (totals before after : Totals) (new : List (Option CachedLife)) : Type 0 where
+  pub pending : before.pending ≤ totals.pending
+  pub in_flight : before.in_flight ≤ totals.in_flight
+  pub few_pending : totals.pending - before.pending + after.pending < 2 ^ 64
+  pub few_in_flight : totals.in_flight - before.in_flight + after.in_flight < 2 ^ 64
+  pub counted : record { pending = totals.pending - before.pending + after.pending; in_flight = totals.in_flight - before.in_flight + after.in_flight } ≡ totals_of new
+
 -- a place is written, and what was counted of its life is exchanged for what is counted of it now
-module _ (places new : List (Option CachedLife)) (len b : ℕ) (x : Option CachedLife) (totals before after : Totals)
-    (whole : len ≡ length places) (written : new ≡ slice_set places b x) (kept : totals ≡ totals_of places)
-    (was : before ≡ totals_at places b) (is : after ≡ totals_at (written_back len new places) b) where
-  back : written_back len new places ≡ slice_set places b x
-  back = all_written len new places whole (ap (λ xs. length xs) written ∙ length-set places b x) ∙ written
+pub exchange : (places new : List (Option CachedLife)) (b : ℕ) (x : Option CachedLife) (totals before after : Totals) →
+    totals ≡ totals_of places → length places < 2 ^ 64 → sum_by pending_of places + pending_of x < 2 ^ 64 + pending_of (place_at places b) →
+    before ≡ totals_at places b → new ≡ slice_set places b x → after ≡ totals_at new b → IsExchange totals before after new
+exchange places new b x totals before after kept long few was written is = record {
+  pending = omega (arith, pending_kept, pending_was, sum-at pending_of refl places b);
+  in_flight = omega (arith, in_flight_kept, in_flight_was, sum-at in_flight_of refl places b);
+  few_pending = omega (arith, pending_now, sum-set pending_of refl places b x, sum-new pending_of refl places b x, few);
+  few_in_flight = omega (arith, in_flight_now, few_in_flight (slice_set places b x), length-set places b x, long);
+  counted = (λ i. record { pending = pending_now i; in_flight = in_flight_now i }) ∙ ap totals_of (sym written);
+}
+  where
+    now : after ≡ totals_at (slice_set places b x) b
+    now = is ∙ ap (λ xs. totals_at xs b) written
 
-  now : after ≡ totals_at (slice_set places b x) b
-  now = is ∙ ap (λ xs. totals_at xs b) back
+    pending_kept : totals.pending ≡ sum_by pending_of places
+    pending_kept = ap (λ (t : Totals). t.pending) kept
 
-  pub less_pending : before.pending ≤ totals.pending
-  less_pending = omega (arith, ap (λ (t : Totals). t.pending) kept, ap (λ (t : Totals). t.pending) was, sum-at pending_of refl places b)
+    in_flight_kept : totals.in_flight ≡ sum_by in_flight_of places
+    in_flight_kept = ap (λ (t : Totals). t.in_flight) kept
 
-  pub less_in_flight : before.in_flight ≤ totals.in_flight
-  less_in_flight = omega (arith, ap (λ (t : Totals). t.in_flight) kept, ap (λ (t : Totals). t.in_flight) was, sum-at in_flight_of refl places b)
+    pending_was : before.pending ≡ pending_of (place_at places b)
+    pending_was = ap (λ (t : Totals). t.pending) was
 
-  pending_now : totals.pending - before.pending + after.pending ≡ sum_by pending_of (slice_set places b x)
-  pending_now =
-      omega (arith, ap (λ (t : Totals). t.pending) kept, ap (λ (t : Totals). t.pending) was, ap (λ (t : Totals). t.pending) now, sum-at pending_of refl places b, sum-set pending_of refl places b x)
+    in_flight_was : before.in_flight ≡ in_flight_of (place_at places b)
+    in_flight_was = ap (λ (t : Totals). t.in_flight) was
 
-  in_flight_now : totals.in_flight - before.in_flight + after.in_flight ≡ sum_by in_flight_of (slice_set places b x)
-  in_flight_now =
-      omega (arith, ap (λ (t : Totals). t.in_flight) kept, ap (λ (t : Totals). t.in_flight) was, ap (λ (t : Totals). t.in_flight) now, sum-at in_flight_of refl places b, sum-set in_flight_of refl places b x)
+    pending_now : totals.pending - before.pending + after.pending ≡ sum_by pending_of (slice_set places b x)
+    pending_now =
+        omega (arith, pending_kept, pending_was, ap (λ (t : Totals). t.pending) now, sum-at pending_of refl places b, sum-set pending_of refl places b x)
 
-  pub few_pending : (n : ℕ) → sum_by pending_of places + pending_of x < n + pending_of (place_at places b) → totals.pending - before.pending + after.pending < n
-  few_pending n few = omega (arith, pending_now, sum-set pending_of refl places b x, sum-new pending_of refl places b x, few)
-
-  pub few_flights : (n : ℕ) → len < n → totals.in_flight - before.in_flight + after.in_flight < n
-  few_flights n few = omega (arith, in_flight_now, few_in_flight (slice_set places b x), length-set places b x, whole, few)
-
-  pub totals_changed : record { pending = totals.pending - before.pending + after.pending; in_flight = totals.in_flight - before.in_flight + after.in_flight } ≡ totals_of (written_back len new places)
-  totals_changed = (λ i. record { pending = pending_now i; in_flight = in_flight_now i }) ∙ ap totals_of (sym back)
+    in_flight_now : totals.in_flight - before.in_flight + after.in_flight ≡ sum_by in_flight_of (slice_set places b x)
+    in_flight_now =
+        omega (arith, in_flight_kept, in_flight_was, ap (λ (t : Totals). t.in_flight) now, sum-at in_flight_of refl places b, sum-set in_flight_of refl places b x)
 
 -- a status is written, which is not counted
-pub totals_kept : (places new : List (Option CachedLife)) (len b : ℕ) (status : Status) (totals : Totals) → len ≡ length places →
-    new ≡ change_place places b (with_status status) → totals ≡ totals_of places → totals ≡ totals_of (written_back len new places)
-totals_kept places new len b status totals whole written kept =
-    let x = option_map (with_status status) (place_at places b) in
-    let back = all_written len new places whole (ap (λ xs. length xs) written ∙ length-set places b x) ∙ written in
-    kept
-    ∙ ((λ i. record {
-      pending = sym (sum-same pending_of refl places b x (pending_same (place_at places b))) i;
-      in_flight = sym (sum-same in_flight_of refl places b x (in_flight_same (place_at places b))) i;
-    })
-    ∙ ap totals_of (sym back))
+pub totals_kept : (places : List (Option CachedLife)) (b : ℕ) (status : Status) → totals_of places ≡ totals_of (change_place places b (with_status status))
+totals_kept places b status = λ i. record {
+  pending = sym (sum-same pending_of refl places b x (pending_same (place_at places b))) i;
+  in_flight = sym (sum-same in_flight_of refl places b x (in_flight_same (place_at places b))) i;
+}
   where
+    x : Option CachedLife
+    x = option_map (with_status status) (place_at places b)
+
     pending_same : (o : Option CachedLife) → pending_of (option_map (with_status status) o) ≡ pending_of o
     pending_same None = refl
     pending_same (Some l) = refl

@@ -1,7 +1,9 @@
 -- What is counted of lives.
 --     totals_of places          how many entries are pending, and of how many lives a write is under way
+--     totals_at places b        the same of one block
 use Rattle.std.specs.Prelude.{ℕ, cond, List, length, Option, Some, None, is_some, sum_by}
 use Rattle.block_cache.specs.Cached.{CachedLife}
+use Rattle.block_cache.specs.Kept.{place_at}
 use Rattle.block_cache.specs.declared.totals.Totals.{Totals}
 
 -- how many entries of a life are pending
@@ -16,3 +18,6 @@ in_flight_of (Some l) = cond (is_some l.begun) 1 0
 
 abbrev pub totals_of : List (Option CachedLife) → Totals
 totals_of places = record { pending = sum_by pending_of places; in_flight = sum_by in_flight_of places }
+
+abbrev pub totals_at : List (Option CachedLife) → ℕ → Totals
+totals_at places b = record { pending = pending_of (place_at places b); in_flight = in_flight_of (place_at places b) }

@@ -99,7 +99,7 @@ impl Cache {
         let life = Life::start(alloc, key, fs, ty, bytes)?;
         self.entries.insert_reserved(Entry {
             block,
-            claim: Claim::first(alloc, number, fs),
+            claim: Claim::first(number, fs),
             undo: Undo::none(alloc),
         });
         self.places.set(block, Some(life));

@@ -2,50 +2,88 @@
 
 ghost use Rattle.std.specs.Prelude.{◌≡◌, ◌≤◌, Some, length, IfOk};
 ghost use Rattle.block_cache.specs.Claims.{first_claim};
+ghost use Rattle.block_cache.specs.Rest.{rest_adds, rest_drops, rest_after};
 
 use edit_list::{EditId, Fs};
+use smallvec::SmallVec;
 use std::alloc::{AllocError, Global};
 use std::marker::Model;
 
+/// What an entry says beside its number and its file system.
+#[derive(Drop)]
+enum Rest {
+    /// It adds and drops no block, and comes after no entry.
+    Nothing,
+    /// It adds and drops no block, and comes after this entry.
+    After(EditId),
+    /// Any other.
+    Lists(Box<Lists>),
+}
+
+/// The blocks that an entry adds and drops, and the entry that it comes after. Few blocks stay in place.
+struct Lists {
+    adds: SmallVec<(u32, u32), 2>,
+    drops: SmallVec<u32, 4>,
+    after: Option<EditId>,
+}
+
+/// Written by hand, so that a function that drops one calls this: a derived drop is proved anew in each such function.
+impl Drop for Lists {
+    fn drop(self) {
+        let Lists {
+            adds: _,
+            drops: _,
+            after: _,
+        } = self;
+    }
+}
+
 /// What an entry says beside the bytes that it leaves: its number, the blocks that it adds, each with its type, those that
 /// it drops, at most 128, the entry that it comes after, and the file system for which it counts.
-#[derive(Drop)]
 pub struct Claim {
     entry: EditId,
-    adds: Vec<(u32, u32)>,
-    drops: Vec<u32>,
-    after: Option<EditId>,
     fs: Fs,
+    rest: Rest,
 }
 
 impl Model for Claim {
     ghost use Rattle.std.specs.Prelude.{◌≤◌, length, Some};
     ghost use Rattle.block_cache.specs.Claims.{ClaimValue};
+    ghost use Rattle.block_cache.specs.Rest.{rest_adds, rest_drops, rest_after};
 
     ghost Value = { ClaimValue };
 
     ghost view = { λ a. record {
       entry = a.entry;
-      adds = a.adds.items;
-      drops = a.drops.items;
-      after = a.after;
+      adds = rest_adds a.rest;
+      drops = rest_drops a.rest;
+      after = rest_after a.rest;
       fs = Some a.fs.number;
     } };
 
-    ghost invariant = { λ a. length a.drops.items ≤ 128 };
+    ghost invariant = { λ a. length (rest_drops a.rest) ≤ 128 };
+}
+
+/// Written by hand, so that a function that drops one calls this: a derived drop is proved anew in each such function.
+impl Drop for Claim {
+    fn drop(self) {
+        let Claim {
+            entry: _,
+            fs: _,
+            rest: _,
+        } = self;
+    }
 }
 
 impl Claim {
     /// That of the first entry of a life, which adds, drops and waits for nothing.
-    pub fn first(alloc: Global, entry: EditId, fs: Fs) -> Claim
+    pub fn first(entry: EditId, fs: Fs) -> Claim
         ensures { result ≡ first_claim entry fs.number }
     {
         Claim {
             entry,
-            adds: Vec::new(alloc),
-            drops: Vec::new(alloc),
-            after: None,
             fs,
+            rest: Rest::Nothing,
         }
     }
 
@@ -61,15 +99,8 @@ impl Claim {
         requires { length drops.now ≤ 128 }
         ensures { IfOk result (λ claim. claim ≡ record { entry = entry; adds = adds.now; drops = drops.now; after = after; fs = Some fs.number }) }
     {
-        let adds = adds.to_vec(alloc)?;
-        let drops = drops.to_vec(alloc)?;
-        Ok(Claim {
-            entry,
-            adds,
-            drops,
-            after,
-            fs,
-        })
+        let rest = rest_of(alloc, adds, drops, after)?;
+        Ok(Claim { entry, fs, rest })
     }
 
     /// The entry's number.
@@ -83,7 +114,11 @@ impl Claim {
     pub fn adds(&self) -> &[(u32, u32)]
         ensures { result.now ≡ self.now.adds }
     {
-        self.adds.as_slice()
+        match &self.rest {
+            Rest::Nothing => &[],
+            Rest::After(_) => &[],
+            Rest::Lists(lists) => lists.adds.as_slice(),
+        }
     }
 
     /// The blocks that it drops, at most 128.
@@ -91,14 +126,22 @@ impl Claim {
         ensures drops { result.now ≡ self.now.drops }
         ensures few { length self.now.drops ≤ 128 }
     {
-        self.drops.as_slice()
+        match &self.rest {
+            Rest::Nothing => &[],
+            Rest::After(_) => &[],
+            Rest::Lists(lists) => lists.drops.as_slice(),
+        }
     }
 
     /// The entry that has to be durable before it.
     pub fn after(&self) -> Option<EditId>
         ensures { result ≡ self.now.after }
     {
-        self.after
+        match &self.rest {
+            Rest::Nothing => None,
+            Rest::After(entry) => Some(*entry),
+            Rest::Lists(lists) => lists.after,
+        }
     }
 
     /// The file system for which it counts.
@@ -107,4 +150,29 @@ impl Claim {
     {
         self.fs
     }
+}
+
+/// What an entry with these lists says, which are copied where there is any block.
+fn rest_of(
+    alloc: Global,
+    adds: &[(u32, u32)],
+    drops: &[u32],
+    after: Option<EditId>,
+) -> Result<Rest, AllocError>
+    ensures adds { IfOk result (λ rest. rest_adds rest ≡ adds.now) }
+    ensures drops { IfOk result (λ rest. rest_drops rest ≡ drops.now) }
+    ensures after { IfOk result (λ rest. rest_after rest ≡ after) }
+{
+    if adds.is_empty() && drops.is_empty() {
+        return Ok(match after {
+            None => Rest::Nothing,
+            Some(entry) => Rest::After(entry),
+        });
+    }
+    let lists = Lists {
+        adds: SmallVec::from_slice(alloc, adds)?,
+        drops: SmallVec::from_slice(alloc, drops)?,
+        after,
+    };
+    Ok(Rest::Lists(Box::new(alloc, lists)?))
 }

@@ -6,6 +6,7 @@ mod claim;
 mod entry;
 mod freeing;
 mod life;
+mod life_list;
 mod places;
 mod rollback;
 mod totals;

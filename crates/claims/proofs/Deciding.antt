@@ -1,50 +1,19 @@
 -- The chunks that decide what blocks own, where lives change.
-use Rattle.std.proofs.Common.{◌≡◌, ◌≢◌, ℕ, zero, suc, ◌+◌, ◌≤◌, true, List, [], ◌∷◌, ◌++◌, length, take, drop, get_or, replicate, Option, Some, None, refl, sym, ◌∙◌, ap, subst, arith, ◌⊎◌, inl, inr}
-use Rattle.std.specs.Prelude.{◌&&◌, ◌==◌, All, nat_le, nat_lt, option_map, slice_set, sum_by}
-use Rattle.std.specs.List.{last_or, list_all}
-use Rattle.std.proofs.lemmas.Bool.{and_parts, cases_eq, cases_lt, eqb-true, leb-true}
+use Rattle.std.proofs.Common.{◌≡◌, ◌≢◌, ℕ, zero, suc, List, [], ◌∷◌, ◌++◌, length, take, drop, get_or, replicate, Option, Some, None, refl, sym, ◌∙◌, ap, subst, arith, ◌⊎◌, inl, inr}
+use Rattle.std.specs.Prelude.{option_map, slice_set}
+use Rattle.std.specs.List.{last_or}
+use Rattle.std.proofs.lemmas.Bool.{cases_eq, cases_lt}
 use Rattle.std.proofs.lemmas.Option.{none-some, same_Some}
-use Rattle.std.proofs.lemmas.List.{get_or_past, get_or-set_other, get_or-set_same, nil_from_length, length-replicate, length-set}
+use Rattle.std.proofs.lemmas.List.{get_or_past, get_or-set_other, get_or-set_same, length-replicate, length-set}
 use Rattle.xn_model.specs.declared.status.Status.TheVariants.{Owned, Dropped}
 use Rattle.xn_model.specs.Types.{Types}
-use Rattle.xn_model.specs.Lists.{put}
 use Rattle.xn_model.specs.Lives.{BlockState, Life, Lives, bytes_of, life_at, change_at, with_state, with_status, settle, settled_at, begun_at, owned_after, dropped_after, durable_after, accepted_at, freed}
-use Rattle.xn_model.specs.Calls.{Edit, Patch, is_patch, new_life, patched, within_limits}
+use Rattle.xn_model.specs.Calls.{new_life}
 use Rattle.xn_model.proofs.ForCallers.{change_same, set_other, settled_last}
-use Rattle.edit_list.proofs.Puts.{length-put, put_outside}
-use Rattle.udf_run.specs.ReadSets.{AgreeOn}
 use Rattle.udf_run.specs.declared.reads.ReadSet.{ReadSet}
 use Rattle.templates.specs.Decided.{DecidesOwned}
 use Rattle.claims.proofs.Owners.{length_accepted, length_freed}
-use Rattle.claims.specs.Decided.{AreDecided, Decides, IsApart, Leaves, newest_at, newest_of}
-
--- An edit that writes into none of the chunks
-
-pub agree_patched : (chunks : ℕ) (patches : List Patch) → All (IsApart chunks) patches → list_all is_patch patches ≡ true → (m : List ℕ) → length m ≡ 512 → AgreeOn chunks m (patched m patches)
-agree_patched chunks [] apart are m long i noted = refl
-agree_patched chunks (p ∷ ps) apart are m long i noted =
-    let parts = and_parts (is_patch p) (list_all is_patch ps) are in
-    let fit = leb-true (p.offset + length p.bytes) 512 (and_parts (nat_lt 0 (length p.bytes)) (nat_le (p.offset + length p.bytes) 512) parts.0).1 in
-    let room : p.offset + length p.bytes ≤ length m = omega (arith, fit, long) in
-    let rest = agree_patched chunks ps (λ k d lt. apart (suc k) d (omega (arith, lt))) parts.1 (put m p.offset p.bytes) (length-put m p.offset p.bytes room ∙ long) i noted in
-    rest ∙ put_outside m p.offset p.bytes room i (elim (cases_lt i p.offset) [
-      | inl before ↦ inl before
-      | inr from ↦ elim (cases_lt i (p.offset + length p.bytes)) [
-        | inl inside ↦ absurd (let clear = apart 0 p (omega arith) i from inside in omega (arith, clear, noted))
-        | inr behind ↦ inr behind
-      ]
-    ])
-
-pub leaves_from : (chunks : ℕ) (e : Edit) → (length e.adds == 0) ≡ true → (length e.drops == 0) ≡ true → within_limits e ≡ true → All (IsApart chunks) e.patches → Leaves chunks e
-leaves_from chunks e adds drops limits apart =
-    let few = and_parts (nat_lt 0 (length e.patches) && nat_le (length e.patches) 8) _ limits in
-    let are = and_parts (list_all is_patch e.patches && nat_le (sum_by (λ p. length p.bytes) e.patches) 512) _ few.1 in
-    let patches = and_parts (list_all is_patch e.patches) _ are.0 in
-    record {
-      no_adds = nil_from_length e.adds (eqb-true (length e.adds) 0 adds);
-      no_drops = nil_from_length e.drops (eqb-true (length e.drops) 0 drops);
-      apart = λ m long. agree_patched chunks e.patches apart patches.0 m long;
-    }
+use Rattle.claims.specs.Decided.{AreDecided, Decides, newest_at, newest_of}
 
 -- What is kept, where lives change
 

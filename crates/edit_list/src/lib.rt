@@ -7,6 +7,8 @@ mod fs;
 pub mod law;
 mod patch;
 mod patches;
+mod piece_list;
+mod short_piece;
 mod undo;
 
 pub use edit::Edit;

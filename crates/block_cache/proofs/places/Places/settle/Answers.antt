@@ -1,51 +1,16 @@
-use Rattle.std.proofs.Common.{◌≡◌, ◌∙◌, ◌^◌, ap, arith, length}
+use Rattle.std.proofs.Common.{◌∙◌, ap, arith}
 use Rattle.std.specs.Prelude.{option_map}
 use Rattle.block_cache.specs.declared.totals.Totals.{Totals}
-use Rattle.block_cache.specs.Kept.{change_place, place_at, settled}
-use Rattle.block_cache.proofs.Counting.{few_flights, few_pending, less_in_flight, less_pending, totals_at, totals_changed, pending_settled}
+use Rattle.block_cache.specs.Kept.{place_at, settled}
+use Rattle.block_cache.proofs.Counting.{exchange, pending_settled}
 use Rattle.block_cache.proofs.places.Places.settle.Goals as goal
 
-pub change-requires-clause-pending : goal.change-requires-clause-pending
-change-requires-clause-pending c =
-    let places = c.self.inside.lives.items in
-    let whole : c.self.inside.lives.len ≡ length places = omega (arith, c.deref.ensures.len, ap (λ xs. length xs) c.deref.ensures.value) in
-    let written = c.settle_at.ensures ∙ ap (λ xs. change_place xs c.args.block (settled c.args.count)) c.deref_mut.ensures.value in
-    let was = c.totals_at-before.ensures ∙ ap (λ xs. totals_at xs c.args.block) c.deref.ensures.value in
-    let is = c.totals_at.ensures ∙ ap (λ xs. totals_at xs c.args.block) c.deref-2.ensures.value in
-    less_pending places c.settle_at.new.places c.self.inside.lives.len c.args.block (option_map (settled c.args.count) (place_at c.self.inside.lives.items c.args.block)) c.self.inside.totals c.totals_at-before.result c.totals_at.result whole written c.self.invariant was is
-
-pub change-requires-clause-in_flight : goal.change-requires-clause-in_flight
-change-requires-clause-in_flight c =
-    let places = c.self.inside.lives.items in
-    let whole : c.self.inside.lives.len ≡ length places = omega (arith, c.deref.ensures.len, ap (λ xs. length xs) c.deref.ensures.value) in
-    let written = c.settle_at.ensures ∙ ap (λ xs. change_place xs c.args.block (settled c.args.count)) c.deref_mut.ensures.value in
-    let was = c.totals_at-before.ensures ∙ ap (λ xs. totals_at xs c.args.block) c.deref.ensures.value in
-    let is = c.totals_at.ensures ∙ ap (λ xs. totals_at xs c.args.block) c.deref-2.ensures.value in
-    less_in_flight places c.settle_at.new.places c.self.inside.lives.len c.args.block (option_map (settled c.args.count) (place_at c.self.inside.lives.items c.args.block)) c.self.inside.totals c.totals_at-before.result c.totals_at.result whole written c.self.invariant was is
-
-pub change-requires-clause-few_pending : goal.change-requires-clause-few_pending
-change-requires-clause-few_pending c =
-    let places = c.self.inside.lives.items in
-    let whole : c.self.inside.lives.len ≡ length places = omega (arith, c.deref.ensures.len, ap (λ xs. length xs) c.deref.ensures.value) in
-    let written = c.settle_at.ensures ∙ ap (λ xs. change_place xs c.args.block (settled c.args.count)) c.deref_mut.ensures.value in
-    let was = c.totals_at-before.ensures ∙ ap (λ xs. totals_at xs c.args.block) c.deref.ensures.value in
-    let is = c.totals_at.ensures ∙ ap (λ xs. totals_at xs c.args.block) c.deref-2.ensures.value in
-    few_pending places c.settle_at.new.places c.self.inside.lives.len c.args.block (option_map (settled c.args.count) (place_at c.self.inside.lives.items c.args.block)) c.self.inside.totals c.totals_at-before.result c.totals_at.result whole written c.self.invariant was is (2 ^ 64) (omega (arith, pending_settled c.args.count (place_at c.self.inside.lives.items c.args.block), ap (λ (t : Totals). t.pending) c.self.invariant))
-
-pub change-requires-clause-few_in_flight : goal.change-requires-clause-few_in_flight
-change-requires-clause-few_in_flight c =
-    let places = c.self.inside.lives.items in
-    let whole : c.self.inside.lives.len ≡ length places = omega (arith, c.deref.ensures.len, ap (λ xs. length xs) c.deref.ensures.value) in
-    let written = c.settle_at.ensures ∙ ap (λ xs. change_place xs c.args.block (settled c.args.count)) c.deref_mut.ensures.value in
-    let was = c.totals_at-before.ensures ∙ ap (λ xs. totals_at xs c.args.block) c.deref.ensures.value in
-    let is = c.totals_at.ensures ∙ ap (λ xs. totals_at xs c.args.block) c.deref-2.ensures.value in
-    few_flights places c.settle_at.new.places c.self.inside.lives.len c.args.block (option_map (settled c.args.count) (place_at c.self.inside.lives.items c.args.block)) c.self.inside.totals c.totals_at-before.result c.totals_at.result whole written c.self.invariant was is (2 ^ 64) (omega arith)
+pub change-requires : goal.change-requires
+change-requires c =
+    let done = exchange c.self.inside.lives c.settle.new.self c.args.block (option_map (settled c.args.count) (place_at c.self.inside.lives c.args.block)) c.self.inside.totals c.totals-before.result c.totals.result c.self.invariant c.totals-before.ensures.few (omega (arith, pending_settled c.args.count (place_at c.self.inside.lives c.args.block), ap (λ (t : Totals). t.pending) c.self.invariant)) c.totals-before.ensures.totals c.settle.ensures c.totals.ensures.totals in
+    record { pending = done.pending; in_flight = done.in_flight; few_pending = done.few_pending; few_in_flight = done.few_in_flight }
 
 pub invariant_of-self : goal.invariant_of-self
 invariant_of-self c =
-    let places = c.self.inside.lives.items in
-    let whole : c.self.inside.lives.len ≡ length places = omega (arith, c.deref.ensures.len, ap (λ xs. length xs) c.deref.ensures.value) in
-    let written = c.settle_at.ensures ∙ ap (λ xs. change_place xs c.args.block (settled c.args.count)) c.deref_mut.ensures.value in
-    let was = c.totals_at-before.ensures ∙ ap (λ xs. totals_at xs c.args.block) c.deref.ensures.value in
-    let is = c.totals_at.ensures ∙ ap (λ xs. totals_at xs c.args.block) c.deref-2.ensures.value in
-    c.change.ensures ∙ totals_changed places c.settle_at.new.places c.self.inside.lives.len c.args.block (option_map (settled c.args.count) (place_at c.self.inside.lives.items c.args.block)) c.self.inside.totals c.totals_at-before.result c.totals_at.result whole written c.self.invariant was is
+    let done = exchange c.self.inside.lives c.settle.new.self c.args.block (option_map (settled c.args.count) (place_at c.self.inside.lives c.args.block)) c.self.inside.totals c.totals-before.result c.totals.result c.self.invariant c.totals-before.ensures.few (omega (arith, pending_settled c.args.count (place_at c.self.inside.lives c.args.block), ap (λ (t : Totals). t.pending) c.self.invariant)) c.totals-before.ensures.totals c.settle.ensures c.totals.ensures.totals in
+    c.change.ensures ∙ done.counted

@@ -1,0 +1,128 @@
+// The lives of all blocks, by block number.
+
+ghost use Rattle.std.specs.Prelude.{◌≡◌, ◌^◌, ◌<◌, ◌≤◌, length, replicate, Option, Some, None, IsTrue, IfOk, OnOk, OnErr, IfSome, is_some, slice_set};
+ghost use Rattle.std.specs.Option.{option_copied};
+ghost use Rattle.block_cache.specs.Kept.{place_at, change_place, appended, settled, with_status, with_begun};
+ghost use Rattle.block_cache.specs.Totals.{totals_at};
+
+use crate::life::Life;
+use crate::totals::Totals;
+use std::alloc::{AllocError, Global};
+use std::marker::Model;
+use xn_model::Status;
+
+/// The lives of all blocks, by block number.
+pub struct LifeList {
+    lives: Vec<Option<Life>>,
+}
+
+impl Model for LifeList {
+    ghost use Rattle.std.specs.Prelude.{List, Option};
+    ghost use Rattle.block_cache.specs.Cached.{CachedLife};
+
+    ghost Value = { List (Option CachedLife) };
+
+    ghost view = { λ a. a.lives.items };
+}
+
+/// Written by hand, so that a function that drops one calls this: a derived drop is proved anew in each such function.
+impl Drop for LifeList {
+    fn drop(self) {
+        let LifeList { lives: _ } = self;
+    }
+}
+
+impl LifeList {
+    /// So many free blocks.
+    pub fn new(alloc: Global, blocks: usize) -> Result<LifeList, AllocError>
+        ensures { IfOk result (λ list. list ≡ replicate blocks None) }
+    {
+        let mut lives = Vec::with_capacity(alloc, blocks)?;
+        for _block in 0..blocks {
+            lives.push_reserved(None);
+        }
+        Ok(LifeList { lives })
+    }
+
+    /// How many blocks there are.
+    pub fn count(&self) -> usize
+        ensures { result ≡ length self.now }
+    {
+        self.lives.len()
+    }
+
+    /// The life of a block, unless it is free or past the end.
+    pub fn life(&self, block: u32) -> Option<&Life>
+        ensures life { option_copied result ≡ place_at self.now block }
+        ensures few { length self.now < 2 ^ 64 }
+    {
+        match self.lives.get(block as usize) {
+            Some(Some(life)) => Some(life),
+            Some(None) => None,
+            None => None,
+        }
+    }
+
+    /// What is counted of the life of a block: nothing of one that is free or past the end.
+    pub fn totals(&self, block: u32) -> Totals
+        ensures totals { result ≡ totals_at self.now block }
+        ensures few { length self.now < 2 ^ 64 }
+    {
+        Totals::of(self.life(block))
+    }
+
+    /// Puts a life on a block, or frees it.
+    pub fn set(&mut self, block: u32, life: Option<Life>)
+        ensures { self.new ≡ slice_set self.old block life }
+    {
+        if (block as usize) < self.lives.len() {
+            self.lives[block as usize] = life;
+        }
+    }
+
+    /// Puts one more entry of a block behind the others.
+    pub fn append(&mut self, block: u32, key: usize, bytes: &[u8; 512]) -> Result<(), AllocError>
+        requires alive { IsTrue (is_some (place_at self.old block)) }
+        ensures ok { OnOk result (self.new ≡ change_place self.old block (appended key bytes.now)) }
+        ensures err { OnErr result (self.new ≡ self.old) }
+    {
+        match &mut self.lives[block as usize] {
+            Some(life) => life.append(key, bytes),
+            None => unreachable!(),
+        }
+    }
+
+    /// Makes the first entries of a block durable.
+    pub fn settle(&mut self, block: u32, count: u32)
+        requires { IfSome (place_at self.old block) (λ life. count ≤ length life.keys) }
+        ensures { self.new ≡ change_place self.old block (settled count) }
+    {
+        if (block as usize) < self.lives.len() {
+            if let Some(life) = &mut self.lives[block as usize] {
+                life.settle(count as usize);
+            }
+        }
+    }
+
+    /// Sets the status of a block in use; a free one, or one past the end, has none.
+    pub fn set_status(&mut self, block: u32, status: Status)
+        ensures { self.new ≡ change_place self.old block (with_status status) }
+    {
+        if (block as usize) < self.lives.len() {
+            if let Some(life) = &mut self.lives[block as usize] {
+                life.set_status(status);
+            }
+        }
+    }
+
+    /// Says how many entries the begun write of a block carries, or that none is under way.
+    pub fn set_begun(&mut self, block: u32, begun: Option<u32>)
+        ensures { self.new ≡ change_place self.old block (with_begun begun) }
+    {
+        if (block as usize) < self.lives.len() {
+            if let Some(life) = &mut self.lives[block as usize] {
+                life.set_begun(begun);
+            }
+        }
+    }
+}
