@@ -8,8 +8,7 @@ use Rattle.std.proofs.lemmas.List.{get_or-replicate, nil_from_length, length-rep
 use Rattle.std.proofs.lemmas.Nat.Bits.{bit_at-lt}
 use Rattle.xn_model.specs.Lists.{put}
 use Rattle.xn_model.specs.Calls.{Edit, Patch, is_patch, patched, within_limits}
-use Rattle.edit_list.proofs.Puts.{length-put, put_inside, put_outside}
-use Rattle.edit_list.proofs.Undoing.{patches_of_edit}
+use Rattle.edit_list.proofs.ForCallers.{length-put, patches_of_edit, put_inside, put_outside}
 use Rattle.udf_run.specs.ReadSets.{AgreeOn}
 use Rattle.claims.specs.Decided.{IsApart, Leaves}
 

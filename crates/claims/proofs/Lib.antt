@@ -3,3 +3,4 @@ pub mod Counted
 pub mod Numbers
 pub mod Leaving
 pub mod Deciding
+pub mod ForCallers

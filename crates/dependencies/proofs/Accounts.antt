@@ -13,7 +13,7 @@ use Rattle.block_cache.specs.Views.{facts_of}
 use Rattle.block_cache.specs.Claims.{ClaimValue, claim_of}
 use Rattle.block_set.specs.Members.{HasNoneFrom, IsLeastFrom}
 use Rattle.wait_lists.specs.Waiting.{at, Releases}
-use Rattle.wait_lists.proofs.Chains.{at_other, at_same, within}
+use Rattle.wait_lists.proofs.ForCallers.{at_other, at_same, within}
 use Rattle.dependencies.specs.Candidates.{AreCandidates, CandidatesValue, IsAccounted, Parks, Wakes, is_candidate, is_idle_with_entries}
 use Rattle.dependencies.specs.Pending.{pends}
 use Rattle.dependencies.specs.Safety.{is_claim_safe, is_safe_at}

@@ -1,3 +1,4 @@
 pub mod BlockAt
 pub mod Held
 pub mod SliceGet
+pub mod ForCallers

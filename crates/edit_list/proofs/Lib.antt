@@ -2,3 +2,4 @@ pub mod Puts
 pub mod Undoing
 pub mod PieceLists
 pub mod Totals
+pub mod ForCallers

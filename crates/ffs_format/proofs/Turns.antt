@@ -13,7 +13,7 @@ use Rattle.udf_run.specs.declared.pair.Pair.{Pair}
 use Rattle.udf_run.specs.Meaning.{Machine, machine, write, write_if, emit_if, number_at, step, turns, meaning, ◌>>=◌}
 use Rattle.xn_model.specs.Root.{word_at, unless_empty}
 use Rattle.templates.specs.Meaning.{pair_of}
-use Rattle.templates.proofs.Ranges.{range-more}
+use Rattle.templates.proofs.ForCallers.{range-more}
 
 -- a load is the number at its place
 pub number_is_word : (m : List ℕ) (at : ℕ) → number_at 4 m at ≡ word_at m at

@@ -8,7 +8,7 @@ use Rattle.std.proofs.lemmas.Nat.{from_le_bytes-to_le_bytes_2, from_le_bytes-to_
 use Rattle.xn_model.specs.Lists.{put}
 use Rattle.xn_model.specs.Root.{word_at}
 use Rattle.ffs_model.specs.Library.{half_at}
-use Rattle.ffs_model.proofs.Patches.{half_apart, word_apart, half_within, word_within}
+use Rattle.ffs_model.proofs.ForCallers.{half_apart, word_apart, half_within, word_within}
 use Rattle.ffs_format.specs.Fields.{Fields, direct_in, fields_of}
 
 same_fields : {x y : Fields} → x.mode ≡ y.mode → x.links ≡ y.links → x.size ≡ y.size → x.direct ≡ y.direct → x.indirect ≡ y.indirect → x ≡ y

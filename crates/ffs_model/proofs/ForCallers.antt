@@ -5,7 +5,7 @@ pub use Rattle.ffs_model.proofs.Chosen.{everything, everything_cut, everything_f
 pub use Rattle.ffs_model.proofs.Same.{under_direct, under_inodes}
 pub use Rattle.ffs_model.proofs.Newest.{data_owned, indirect_owned, indirect_reached, one_type, proposed_here, proposed_others, started_here, started_others}
 pub use Rattle.ffs_model.proofs.Found.{read_latest, root_found}
-pub use Rattle.ffs_model.proofs.Volumes.{latest_reached}
+pub use Rattle.ffs_model.proofs.Volumes.{latest_reached, volume_from}
 -- the layout
 pub use Rattle.ffs_model.proofs.Library.{is_not_empty, library_reads, pointed_at, pointed_from}
 pub use Rattle.ffs_model.proofs.Patches.{blocks_read, entry_written, half_apart, half_within, links_read, mode_read, pointer_written, word_apart, word_part, word_within}
@@ -16,3 +16,8 @@ pub use Rattle.ffs_model.proofs.Given.{started, rooted}
 pub use Rattle.ffs_model.proofs.Opened.{ended_keeps, nothing_pending, opened_keeps, remembers, root_made, started_frame, started_holds, started_keeps, started_names}
 pub use Rattle.ffs_model.proofs.Proposals.{directory_grown, entry_cleared, entry_made, inode_forgets, inode_freed, inode_kept, inode_made, inodes_set, inodes_stay, link_added, link_taken, pointer_set, root_stays}
 pub use Rattle.ffs_model.proofs.Quiet.{below_written, file_written, other_spare, other_written}
+pub use Rattle.ffs_model.proofs.Before.{cuts_same}
+pub use Rattle.ffs_model.proofs.Calls.{forget_cuts, init_cuts, make_root_cuts, propose_cuts}
+pub use Rattle.ffs_model.proofs.Events.{event_cuts}
+pub use Rattle.ffs_model.proofs.Mounted.{crash_keeps, mounted_keeps, no_root_keeps}
+pub use Rattle.ffs_model.proofs.Writes.{begin_cuts, settle_cuts}

@@ -1,6 +1,6 @@
 // Sizes: of files, of directories, and of a volume.
 
-use crate::text::fault_name;
+use crate::text::print_answer;
 use ffs_lib::{FfsFault, Fs};
 use std::alloc::Global;
 use std::io;
@@ -90,8 +90,7 @@ pub fn print_file<S: Disk + Drop>(
         "a file of {MOST} bytes: written {filled}, {blocks} blocks, read as written {same}"
     )?;
     let more = files.call(alloc, fs, &Action::Write(inode, MOST, b"x"));
-    let name = fault_name(more);
-    println!(rt; "one byte more: {name}")?;
+    print_answer(rt, "one byte more", more)?;
     let _ = files.call(alloc, fs, &Action::Unlink(1, b"large"));
     let left = before.wrapping_sub(free(files));
     println!(rt; "unlinked: {left} blocks more than before it was written")
@@ -188,10 +187,12 @@ fn print_full(
     files: &mut Files<Running>,
     fs: Fs,
 ) -> io::Result<()> {
-    let more = fault_name(files.call(alloc, fs, &Action::Create(2, b"more")));
+    let more = files.call(alloc, fs, &Action::Create(2, b"more"));
+    print_answer(rt, "a name more", more)?;
     let last = files
         .call(alloc, fs, &Action::Create(1, b"last"))
         .unwrap_or(0);
-    let none = fault_name(files.call(alloc, fs, &Action::Create(1, b"none")));
-    println!(rt; "a name more: {more}; elsewhere inode {last}, and then {none}")
+    println!(rt; "elsewhere: inode {last}")?;
+    let none = files.call(alloc, fs, &Action::Create(1, b"none"));
+    print_answer(rt, "and once more", none)
 }

@@ -1,20 +1,12 @@
 // What is printed of answers.
 
-use ffs_lib::FfsFault;
+use std::io;
 use volume_pair::Answer;
 
-/// What a fault is called.
-pub fn fault_name(answer: Answer) -> &'static str {
+/// Prints what a call answered.
+pub fn print_answer(rt: &impl Print, call: &str, answer: Answer) -> io::Result<()> {
     match answer {
-        Ok(_) => "done",
-        Err(FfsFault::NoEntry) => "NoEntry",
-        Err(FfsFault::Exists) => "Exists",
-        Err(FfsFault::NotDir) => "NotDir",
-        Err(FfsFault::IsDir) => "IsDir",
-        Err(FfsFault::DirNotEmpty) => "DirNotEmpty",
-        Err(FfsFault::BadName) => "BadName",
-        Err(FfsFault::TooLarge) => "TooLarge",
-        Err(FfsFault::NoInode) => "NoInode",
-        Err(FfsFault::Kernel(_)) => "Kernel",
+        Ok(_) => println!(rt; "{call}: done"),
+        Err(fault) => println!(rt; "{call}: {fault}"),
     }
 }

@@ -6,3 +6,4 @@ pub mod WordLists
 pub mod EditCuts
 pub mod EventWords
 pub mod PrintedBytes
+pub mod ForCallers

@@ -9,3 +9,4 @@ pub mod BuiltInTypes
 pub mod OneSpelling
 pub mod FreshRoots
 pub mod FreshDisks
+pub mod ForCallers

@@ -13,9 +13,7 @@ use Rattle.udf_code.specs.Bytes.{encoded, IsCode}
 use Rattle.udf_code.specs.Decoding.{decoded}
 use Rattle.udf_code.specs.Tree.{Spells}
 use Rattle.udf_code.specs.Reading.{tree_of}
-use Rattle.udf_code.proofs.Coding.{code_is_decoded, decoded_is_code}
-use Rattle.udf_code.proofs.Structures.{bind_ok}
-use Rattle.udf_code.proofs.Read.{one_tree}
+use Rattle.udf_code.proofs.ForCallers.{bind_ok, code_is_decoded, decoded_is_code, one_tree}
 use Rattle.udf_verify.specs.declared.fault.Role.{Role}
 use Rattle.udf_verify.specs.declared.fault.Role.TheVariants as role
 use Rattle.udf_verify.specs.declared.fault.VerifyFault.{VerifyFault}

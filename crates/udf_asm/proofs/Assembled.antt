@@ -9,7 +9,7 @@ use Rattle.udf_code.specs.declared.fault.CodeFault.{CodeFault}
 use Rattle.udf_code.specs.Words.{AllInRange}
 use Rattle.udf_code.specs.Codes.{op_of}
 use Rattle.udf_code.specs.Structure.{structure_of, ◌>>=◌}
-use Rattle.udf_code.proofs.Structures.{bind_ok, ok_some, programs_are_trees}
+use Rattle.udf_code.proofs.ForCallers.{bind_ok, ok_some, programs_are_trees}
 use Rattle.udf_asm.specs.declared.fault.AsmKind.{AsmKind}
 use Rattle.udf_asm.specs.declared.fault.AsmFault.{AsmFault}
 use Rattle.udf_asm.specs.Names.{name_of}

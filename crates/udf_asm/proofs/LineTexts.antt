@@ -13,7 +13,7 @@ use Rattle.udf_code.specs.declared.word.Word.{Word}
 use Rattle.udf_code.specs.Words.{InRange}
 use Rattle.udf_code.specs.Codes.{op_of}
 use Rattle.udf_code.specs.Structure.{◌>>=◌}
-use Rattle.udf_code.proofs.Structures.{bind_ok}
+use Rattle.udf_code.proofs.ForCallers.{bind_ok}
 use Rattle.udf_asm.specs.declared.fault.AsmKind.TheVariants.{BadName, BadCount, BadNumber}
 use Rattle.udf_asm.specs.Names.{name_of, op_named}
 use Rattle.udf_asm.specs.Numbers.{number_of, numbers_of}

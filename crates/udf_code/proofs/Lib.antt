@@ -4,3 +4,4 @@ pub mod WordBytes
 pub mod Coding
 pub mod Steps
 pub mod Faults
+pub mod ForCallers

@@ -6,8 +6,7 @@ use Rattle.udf_code.specs.declared.word.Word.{Word}
 use Rattle.udf_code.specs.Tree.{Tree, Spells}
 use Rattle.udf_code.specs.Reading.{tree_of}
 use Rattle.udf_code.specs.Structure.{structure_of}
-use Rattle.udf_code.proofs.Read.{one_tree}
-use Rattle.udf_code.proofs.Structures.{programs_are_trees}
+use Rattle.udf_code.proofs.ForCallers.{one_tree, programs_are_trees}
 use Rattle.udf_verify.specs.declared.fault.Role.{Role}
 use Rattle.udf_verify.specs.declared.fault.Role.TheVariants as role
 use Rattle.udf_verify.specs.declared.fault.FaultKind.TheVariants as kind

@@ -15,3 +15,4 @@ pub mod Surveying
 pub mod Whole
 pub mod Judged
 pub mod Accepted
+pub mod ForCallers

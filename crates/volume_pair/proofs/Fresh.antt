@@ -11,15 +11,13 @@ use Rattle.xn_model.proofs.ForCallers.{recovered_is, world_sound}
 use Rattle.templates.specs.Tables.{types_of}
 use Rattle.templates.specs.Formats.{format_fault, formatted, table_of}
 use Rattle.templates.specs.Templates.{IsTemplate, TemplateValue}
-use Rattle.templates.proofs.FreshDisks.{formatted_holds}
+use Rattle.templates.proofs.ForCallers.{formatted_holds, slot_blank}
 use Rattle.xn_state.specs.States.{types_in}
 use Rattle.xn_kernel.specs.Kernels.{KernelValue}
 use Rattle.crash_check.specs.Mounts.{kernel_of}
-use Rattle.world.proofs.Formats.{fresh_world, no_fault}
-use Rattle.templates.proofs.FreshRoots.{slot_blank}
+use Rattle.world.proofs.ForCallers.{fresh_world, no_fault}
 use Rattle.ffs_model.specs.Library.{library_layout, IsLibrary}
-use Rattle.ffs_model.proofs.ForCallers.{library_reads}
-use Rattle.ffs_model.proofs.Mounted.{mounted_keeps, no_root_keeps}
+use Rattle.ffs_model.proofs.ForCallers.{library_reads, mounted_keeps, no_root_keeps}
 use Rattle.volume_pair.specs.Kept.{IsKept}
 
 no_root : (count : ℕ) (ts : List TemplateValue) → length ts ≤ 16 → (fs : ℕ) → (slot (block_of (formatted count ts) 0) fs).0 ≡ 0

@@ -12,12 +12,7 @@ use Rattle.xn_model.proofs.ForCallers.{gives_keeps, gives_exactly_keeps, step_ke
 use Rattle.ffs_model.specs.Cuts.{CutsFrom}
 use Rattle.ffs_model.specs.Events.{IsForeign}
 use Rattle.ffs_model.specs.Library.{library_layout, IsLibrary}
-use Rattle.ffs_model.proofs.ForCallers.{library_reads}
-use Rattle.ffs_model.proofs.Before.{cuts_same}
-use Rattle.ffs_model.proofs.Calls.{init_cuts, propose_cuts, make_root_cuts, forget_cuts}
-use Rattle.ffs_model.proofs.Events.{event_cuts}
-use Rattle.ffs_model.proofs.Mounted.{crash_keeps}
-use Rattle.ffs_model.proofs.Volumes.{volume_from}
+use Rattle.ffs_model.proofs.ForCallers.{crash_keeps, cuts_same, event_cuts, forget_cuts, init_cuts, library_reads, make_root_cuts, propose_cuts, volume_from}
 use Rattle.ffs_lib.specs.declared.volume.Volume.{Volume}
 use Rattle.world.specs.declared.event.Event as world_event
 use Rattle.world.specs.declared.event.Event.TheVariants as event

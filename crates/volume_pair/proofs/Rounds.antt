@@ -10,9 +10,7 @@ use Rattle.xn_state.specs.States.{types_in}
 use Rattle.xn_kernel.specs.Kernels.{KernelValue, TicketValue}
 use Rattle.xn_kernel.specs.Drains.{Reads, Refuses, Round, Rounds, Stops, WritesTo}
 use Rattle.ffs_model.specs.Library.{library_layout}
-use Rattle.ffs_model.proofs.ForCallers.{library_reads}
-use Rattle.ffs_model.proofs.Writes.{begin_cuts, settle_cuts}
-use Rattle.ffs_model.proofs.Volumes.{volume_from}
+use Rattle.ffs_model.proofs.ForCallers.{begin_cuts, library_reads, settle_cuts, volume_from}
 use Rattle.volume_pair.specs.Kept.{Stays}
 
 begun_stays : (T : Types) (old new : StoreState) (b : ℕ) (given : List ℕ × ℕ) → begun_of old b ≡ Ok (given, new) → Stays T old new

@@ -17,8 +17,7 @@ use Rattle.xn_model.specs.Calls.{init_of, propose_of, make_root_of, drop_root_of
 use Rattle.xn_model.specs.Worlds.{World, Event, Client, Begin, Land, Fail, Finish, Crash, Call, Init, Propose, MakeRoot, DropRoot, Forget, Read, Root, Kind, Tainted, Pending, Floor, FreeCount, Pick, Drain, Reply, Started, Edited, Forgotten, Begun, Landed, Fault, Finished, Drained, Down, Refused, reply_and_world, begun_count, begun_bytes, with_ticket, write, act_up, is_crash, begin, land, fail, finish, call, write_out, drain_for, drain, all_pending, AfterCall, Step}
 use Rattle.xn_model.specs.Rules.{Holds, IsRootLife, IsTemplate}
 use Rattle.xn_model.proofs.ForCallers.{among_states, durable_in, last_of, begin_keeps, land_keeps, told_keeps, write_out_keeps}
-use Rattle.image_model.proofs.Whole.{member-range}
-use Rattle.image_model.proofs.Judged.{entry-names}
+use Rattle.image_model.proofs.ForCallers.{entry-names, member-range}
 use Rattle.templates.specs.Reading.{template_of_bytes}
 use Rattle.templates.specs.Tables.{template_named, table_of_image, types_of}
 use Rattle.world.specs.Worlds.{HasOwnTypes}

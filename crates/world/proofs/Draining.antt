@@ -21,7 +21,7 @@ use Rattle.xn_model.proofs.ForCallers as lemmas
 use Rattle.xn_state.specs.States.{types_in}
 use Rattle.xn_kernel.specs.Kernels.{KernelValue, TicketValue}
 use Rattle.xn_kernel.specs.Drains.{with_home, Round, Rounds, Unwritten, Unread, Refuses}
-use Rattle.xn_kernel.proofs.Draining.{set_twice}
+use Rattle.xn_kernel.proofs.ForCallers.{set_twice}
 use Rattle.world.specs.Disks.{image_of, IsCalm}
 use Rattle.world.specs.Worlds.{Tickets, world_of, IsWorld}
 use Rattle.world.proofs.Images.{image_of-home, length-image_of}

@@ -10,12 +10,12 @@ use Rattle.xn_model.specs.Worlds.{World}
 use Rattle.xn_model.proofs.ForCallers.{blocks_read, length-joined}
 use Rattle.image_model.specs.Walk.{verdict}
 use Rattle.image_model.specs.declared.fault.ImageFault.{ImageFault}
-use Rattle.image_model.proofs.Judged.{verdict-unsound}
+use Rattle.image_model.proofs.ForCallers.{verdict-unsound}
 use Rattle.templates.specs.declared.fault.FormatFault.TheVariants.{BadCount, TooManyTemplates}
 use Rattle.templates.specs.Templates.{TemplateValue, IsTemplate}
 use Rattle.templates.specs.Tables.{types_of}
 use Rattle.templates.specs.Formats.{formatted, format_fault, table_of}
-use Rattle.templates.proofs.FreshDisks.{formatted_has_its_blocks, formatted_has_its_templates, formatted_holds, formatted_is_sound}
+use Rattle.templates.proofs.ForCallers.{formatted_has_its_blocks, formatted_has_its_templates, formatted_holds, formatted_is_sound}
 use Rattle.crash_check.specs.Answers.{types_in}
 use Rattle.world.proofs.Openings.{whole_image}
 

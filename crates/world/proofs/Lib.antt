@@ -16,3 +16,4 @@ pub mod Crashes
 pub mod AtRest
 pub mod Formats
 pub mod Ticketing
+pub mod ForCallers

@@ -22,7 +22,7 @@ use Rattle.image_model.specs.Walk.{verdict}
 use Rattle.image_model.specs.Report.{IsSoundImage}
 use Rattle.image_model.specs.declared.fault.ImageFault.{ImageFault}
 use Rattle.image_model.specs.declared.fault.ImageFault.TheVariants.{NoMemory}
-use Rattle.image_model.proofs.Judged.{verdict-unsound}
+use Rattle.image_model.proofs.ForCallers.{verdict-unsound}
 use Rattle.xn_kernel.specs.Kernels.{KernelValue, TicketValue}
 use Rattle.crash_check.specs.Answers.{types_in}
 use Rattle.crash_check.specs.Reads.{Turn, IsTurn, IsTurnOf, is_failure, has_failed, is_missing, image_in}

@@ -9,7 +9,7 @@ use Rattle.std.proofs.lemmas.List.{take-append-drop, length-drop}
 use Rattle.std.proofs.lemmas.List.Elements.{All-from_get_or}
 use Rattle.std.proofs.Math.Seq.{drop-append-add}
 use Rattle.disk.specs.Images.{block_at}
-use Rattle.disk.proofs.BlockAt.{block_at-append_front, block_at-append_last}
+use Rattle.disk.proofs.ForCallers.{block_at-append_front, block_at-append_last}
 use Rattle.disk.specs.Mem.{MemoryLane, AreFreshLanes, fresh_lane}
 use Rattle.xn_model.specs.Types.{Types}
 use Rattle.xn_model.specs.Root.{word_at}
@@ -19,7 +19,7 @@ use Rattle.image_model.specs.Walk.{block_at as block_at_image}
 use Rattle.image_model.specs.Report.{IsSoundImage}
 use Rattle.image_model.specs.declared.fault.ImageFault.TheVariants.{BadCount, BadLength, BadMark}
 use Rattle.crash_check.specs.Answers.{types_in}
-use Rattle.image_model.proofs.Blocks.{length-blocks, block-long}
+use Rattle.image_model.proofs.ForCallers.{length-blocks, block-long}
 use Rattle.world.specs.Disks.{image_of, IsHome, IsUnmounted}
 use Rattle.world.specs.Worlds.{Tickets}
 

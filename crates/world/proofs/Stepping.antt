@@ -18,7 +18,7 @@ use Rattle.xn_state.specs.declared.call.Call.{Call}
 use Rattle.xn_state.specs.declared.call.Call.TheVariants.{Init, Propose, MakeRoot, DropRoot, Forget, Read, Root, Kind, Tainted, Pending, Floor, Free, Pick, Drain}
 use Rattle.xn_state.specs.declared.answer.Answer.{Answer}
 use Rattle.xn_state.specs.Answers.{Answers, call_of, reply_of_answer}
-use Rattle.xn_state.proofs.Answering.{answers_step}
+use Rattle.xn_state.proofs.ForCallers.{answers_step}
 use Rattle.xn_model.specs.Rules.{Holds}
 use Rattle.xn_model.proofs.ForCallers.{gives_keeps, gives_exactly_keeps, gives_exactly-ok, step_keeps}
 use Rattle.xn_model.proofs.ForCallers as lemmas
@@ -28,7 +28,7 @@ use Rattle.world.specs.Worlds.{Tickets, world_of, ticket_flight, IsTicketOf, IsW
 use Rattle.world.proofs.Images.{image_of-begun, image_of-landed, image_of-kept, image_of-finished, block_of-away}
 use Rattle.world.proofs.Places.{place_at, place_at-same, place_at-other, full_place, full_get}
 use Rattle.world.proofs.Flights.{IsFlying, flying, flying_count, flying_bytes, flying_test, not_flying, settled_well}
-use Rattle.xn_kernel.proofs.Homes.{away_in_flight}
+use Rattle.xn_kernel.proofs.ForCallers.{away_in_flight}
 
 module _ (kernel : KernelValue MemoryLane) (tickets : Tickets) (is : IsWorld kernel tickets) where
   now : World

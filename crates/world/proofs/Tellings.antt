@@ -11,12 +11,11 @@ use Rattle.xn_model.proofs.ForCallers.{recovered_is, world_sound}
 use Rattle.xn_history.specs.Histories.{Histories, first_histories}
 use Rattle.xn_history.specs.Moments.{RunWhere, Anything, IsMoment}
 use Rattle.xn_history.specs.Promises.{ImageHolds}
-use Rattle.xn_history.proofs.Moments.{run_heard, moment_knows, moment_after}
-use Rattle.xn_history.proofs.Laws.{image_holds}
+use Rattle.xn_history.proofs.ForCallers.{image_holds, moment_after, moment_knows, run_heard}
 use Rattle.templates.specs.Templates.{TemplateValue, IsTemplate}
 use Rattle.templates.specs.Tables.{types_of}
 use Rattle.templates.specs.Formats.{formatted, table_of}
-use Rattle.templates.proofs.FreshDisks.{mount_recovers, formatted_holds}
+use Rattle.templates.proofs.ForCallers.{mount_recovers, formatted_holds}
 use Rattle.crash_check.specs.Answers.{types_in}
 use Rattle.world.specs.declared.event.Event.{Event}
 use Rattle.world.specs.declared.event.Event.TheVariants as event

@@ -16,9 +16,7 @@ use Rattle.xn_model.specs.Calls.{Edit, own_life, too_many, exhausted, within_lim
 use Rattle.xn_model.specs.Rules.{IsConsistent}
 use Rattle.xn_model.proofs.ForCallers.{Contains-cons, Contains-none, all_at, blocks_of_at, fresh_from, own_then, roots_from, same_ok, unless_ok}
 use Rattle.owner_records.specs.Owners.{is_claimed, owned_count}
-use Rattle.owner_records.proofs.Claimed.{claimed_is}
-use Rattle.owner_records.proofs.OwnedCounts.{owned_counted}
-use Rattle.owner_records.proofs.OwnedPairs.{pair_owned}
+use Rattle.owner_records.proofs.ForCallers.{claimed_is, owned_counted, pair_owned}
 use Rattle.block_cache.specs.declared.life.Facts.{Facts}
 use Rattle.block_cache.specs.Views.{facts_of}
 use Rattle.claims.specs.Owned.{MayClaim}

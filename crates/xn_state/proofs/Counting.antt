@@ -14,7 +14,7 @@ use Rattle.xn_model.specs.Lives.{BlockState, Life, Lives, life_at, change_at, wi
 use Rattle.xn_model.specs.Calls.{first_pending, pending_in, new_life}
 use Rattle.xn_model.proofs.ForCallers.{place_from}
 use Rattle.block_set.specs.Members.{is_member}
-pub use Rattle.dependencies.proofs.FirstEntries.{counted, counts_for, place_is}
+pub use Rattle.dependencies.proofs.ForCallers.{counted, counts_for, place_is}
 use Rattle.xn_state.specs.Kept.{IsCounted}
 use Rattle.xn_state.specs.Counts.{given}
 

@@ -5,7 +5,7 @@ use Rattle.std.proofs.lemmas.List.Sums.{fold-append}
 use Rattle.xn_model.specs.Calls.{first_pending, life_pending}
 use Rattle.block_cache.specs.Claims.{claim_of}
 use Rattle.block_cache.specs.Views.{drops_in, pending_at}
-use Rattle.block_cache.proofs.Freed.{first_more}
+use Rattle.block_cache.proofs.ForCallers.{first_more}
 use Rattle.xn_state.specs.Counts.{claim_drops, given}
 use Rattle.xn_model.specs.Lives.{BlockState, Life, drops_of}
 

@@ -14,8 +14,7 @@ use Rattle.xn_model.proofs.ForCallers.{blocks_read}
 use Rattle.templates.specs.Templates.{TemplateValue, IsTemplate}
 use Rattle.templates.specs.Tables.{types_of}
 use Rattle.templates.specs.Formats.{formatted, template_found, fresh_found, table_of}
-use Rattle.templates.proofs.FreshRoots.{named, length-named, get_or-named, distinct_named}
-use Rattle.templates.proofs.FreshDisks.{mount_recovers, formatted_has_its_blocks, formatted_is_sound, formatted_is_found}
+use Rattle.templates.proofs.ForCallers.{distinct_named, formatted_has_its_blocks, formatted_is_found, formatted_is_sound, get_or-named, length-named, mount_recovers, named}
 use Rattle.xn_state.specs.declared.found.Found.{Found}
 use Rattle.xn_state.specs.Mounts.{found_of, AreFound}
 use Rattle.xn_state.proofs.Finding.{numbers}

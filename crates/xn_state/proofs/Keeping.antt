@@ -12,7 +12,7 @@ use Rattle.xn_model.specs.Mounts.{IsRecovered}
 use Rattle.xn_model.specs.Worlds.{World}
 use Rattle.xn_model.proofs.ForCallers.{mount_holds, given_ok, same_ok, never_ok, then_ok, init_keeps, make_root_keeps, drop_root_keeps, begun_keeps, settled_keeps}
 use Rattle.templates.specs.Tables.{TableValue, IsTable, types_of}
-use Rattle.templates.proofs.BuiltInTypes.{tables_have_built_ins}
+use Rattle.templates.proofs.ForCallers.{tables_have_built_ins}
 use Rattle.xn_state.specs.Plans.{make_root_plan, make_root_plan_at}
 use Rattle.xn_state.specs.Proposals.{drop_root_plan, entry_of}
 

@@ -14,3 +14,4 @@ pub mod Claiming
 pub mod Dirty
 pub mod Unclaimed
 pub mod Newest
+pub mod ForCallers

@@ -5,7 +5,7 @@ use Rattle.std.specs.Int.{w32, to_le_bytes}
 use Rattle.std.proofs.lemmas.Bool.{le-leb}
 use Rattle.xn_model.specs.Root.{with_slot}
 use Rattle.xn_model.specs.Calls.{patched}
-use Rattle.edit_list.proofs.Undoing.{undone}
+use Rattle.edit_list.proofs.ForCallers.{undone}
 
 slot_long : (p : ℕ × ℕ) → length (to_le_bytes w32 p.0 ++ to_le_bytes w32 p.1) ≡ 8
 slot_long p = refl

@@ -8,9 +8,7 @@ use Rattle.xn_model.specs.Lives.{Life, Lives, StoreState, current, life_at}
 use Rattle.xn_model.specs.Calls.{Edit, patched}
 use Rattle.xn_model.specs.Rules.{IsConsistent}
 use Rattle.owner_records.specs.Owners.{is_claimed, owned_count}
-use Rattle.owner_records.proofs.Claimed.{claimed_is, newest_once}
-use Rattle.owner_records.proofs.Counts.{inside_from}
-use Rattle.owner_records.proofs.OwnedCounts.{owned_counted}
+use Rattle.owner_records.proofs.ForCallers.{claimed_is, inside_from, newest_once, owned_counted}
 use Rattle.udf_run.specs.ReadSets.{AgreeOn}
 use Rattle.udf_run.specs.Safe.{IsBlock}
 use Rattle.templates.specs.Decided.{DecidesOwned}

@@ -12,7 +12,7 @@ use Rattle.xn_model.specs.Rules.{Holds}
 use Rattle.xn_model.specs.Worlds as model
 use Rattle.xn_model.specs.Worlds.{World, Step, act, act_up, begun_count, reply_and_world, reply_alone, with_ticket, asks_memory, is_crash, AfterCall, all_pending, drain_for, write_out}
 use Rattle.xn_model.proofs.ForCallers.{drain_ends, none_picked}
-use Rattle.xn_kernel.proofs.Draining.{idle_from}
+use Rattle.xn_kernel.proofs.ForCallers.{idle_from}
 use Rattle.world.specs.Worlds.{is_any_in_flight}
 use Rattle.xnsim_line.specs.Stops.{writes_of, is_drain, is_write, IsHeldBack}
 

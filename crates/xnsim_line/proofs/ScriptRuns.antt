@@ -11,7 +11,7 @@ use Rattle.world.specs.declared.event.Event.{Event}
 use Rattle.world.specs.Events.{event_of, reply_of}
 use Rattle.script.specs.Replies.{reply_line}
 use Rattle.script.specs.Scripts.{AllSpell, LineSpells}
-use Rattle.script.proofs.WordLists.{zip_all, zip_more}
+use Rattle.script.proofs.ForCallers.{zip_all, zip_more}
 use Rattle.xn_model.specs.Images.{joined}
 use Rattle.xnsim_line.specs.Runs.{IsPrintedRun, IsRun, IsRunLine, RunsLines}
 

@@ -15,7 +15,7 @@ use Rattle.world.specs.declared.event.Event.{Event}
 use Rattle.world.specs.Events.{event_of, reply_of}
 use Rattle.script.specs.Replies.{reply_line}
 use Rattle.script.specs.Scripts.{AllSpell, LineSpells, SpellEvents}
-use Rattle.script.proofs.WordLists.{zip_all, zip_more}
+use Rattle.script.proofs.ForCallers.{zip_all, zip_more}
 use Rattle.xnsim_line.specs.Stops.{writes_of, writes_in, end_line, IsAskedOn, IsAskedRun, IsHeldBack, IsLineHeldBack, IsLineWithin, IsStoppedRun}
 use Rattle.xnsim_line.specs.Runs.{opened_world, IsPrintedRun, IsRun, RunsLines}
 use Rattle.xnsim_line.proofs.SpelledLines.{rest_spelled}

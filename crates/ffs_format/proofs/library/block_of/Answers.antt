@@ -1,6 +1,6 @@
 use Rattle.std.proofs.Common.{◌++◌, length, drop, ap, ◌∙◌}
 use Rattle.xn_model.specs.BareDisks.{zeros}
-use Rattle.templates.proofs.WordsWritten.{drop-zeros}
+use Rattle.templates.proofs.ForCallers.{drop-zeros}
 use Rattle.ffs_format.proofs.library.block_of.Goals as goal
 
 pub returns : goal.returns

@@ -1,6 +1,6 @@
 use Rattle.std.proofs.Common.{◌≡◌, ◌∙◌, ap, arith}
 use Rattle.durable_floor.specs.Rules.{zeros}
-use Rattle.durable_floor.proofs.Lists.{zeros_at}
+use Rattle.durable_floor.proofs.ForCallers.{zeros_at}
 use Rattle.shared_scenes.proofs.sharing.share.Goals as goal
 
 pub new-hub-requires-clause-below : goal.new-hub-requires-clause-below

@@ -1,6 +1,5 @@
 use Rattle.std.proofs.Common.{◌∙◌, ap, sym, length}
-use Rattle.udf_code.proofs.Coding.{length-encoded}
-use Rattle.udf_code.proofs.Structures.{programs_are_trees}
+use Rattle.udf_code.proofs.ForCallers.{length-encoded, programs_are_trees}
 use Rattle.templates.proofs.code.read_words.Goals as goal
 
 pub returns-in-Ok-clause-program : goal.returns-in-Ok-clause-program

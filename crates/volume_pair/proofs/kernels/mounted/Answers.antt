@@ -3,8 +3,7 @@ use Rattle.disk.specs.Mem.{MemoryLane}
 use Rattle.xn_model.specs.Images.{blocks_in}
 use Rattle.xn_kernel.specs.Kernels.{KernelValue, TicketValue}
 use Rattle.crash_check.specs.Mounts.{kernel_of}
-use Rattle.world.proofs.Mounting.{held_image}
-use Rattle.world.proofs.Openings.{opened_disk, opened_image}
+use Rattle.world.proofs.ForCallers.{held_image, opened_disk, opened_image}
 use Rattle.volume_pair.proofs.kernels.mounted.Goals as goal
 
 pub mount_image-requires-after_bounds : goal.mount_image-requires-after_bounds

@@ -1,5 +1,5 @@
 use Rattle.xn_model.specs.Images.{blocks_in}
-use Rattle.crash_check.proofs.BuiltIns.{has-built-ins}
+use Rattle.crash_check.proofs.ForCallers.{has-built-ins}
 use Rattle.world.proofs.Tellings.{opened_moment}
 use Rattle.world.proofs.law.opened_disks_have_histories.Goals as goal
 

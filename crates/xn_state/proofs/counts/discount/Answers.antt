@@ -2,7 +2,7 @@ use Rattle.std.proofs.Common.{◌<◌, ap, arith}
 use Rattle.xn_model.specs.Lives.{life_at}
 use Rattle.xn_model.specs.Calls.{life_pending}
 use Rattle.dependencies.specs.Pending.{claim_count}
-use Rattle.dependencies.proofs.FirstEntries.{counts_more, counts_within}
+use Rattle.dependencies.proofs.ForCallers.{counts_more, counts_within}
 use Rattle.xn_state.proofs.counts.discount.Goals as goal
 
 pub discount_one-requires : goal.discount_one-requires

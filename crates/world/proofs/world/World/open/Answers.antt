@@ -5,7 +5,7 @@ use Rattle.xn_model.specs.Images.{block_of, blocks_in, joined, IsSound}
 use Rattle.image_model.specs.Walk.{verdict}
 use Rattle.image_model.specs.declared.fault.ImageFault.TheVariants.{NoMemory}
 use Rattle.crash_check.specs.Answers.{types_in}
-use Rattle.crash_check.proofs.BuiltIns.{has-built-ins}
+use Rattle.crash_check.proofs.ForCallers.{has-built-ins}
 use Rattle.world.specs.Worlds.{world_with, mounted_value}
 use Rattle.world.proofs.Openings.{bad_length, joined_blocks, whole_image}
 use Rattle.world.proofs.world.World.open.Goals as goal

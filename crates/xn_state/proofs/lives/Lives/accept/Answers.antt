@@ -3,15 +3,12 @@ use Rattle.std.specs.Prelude.{◌==◌, is_some, slice_index, slice_set, IsTrue}
 use Rattle.xn_model.specs.Lives.{Lives, dropped_after, life_at, owned_after}
 use Rattle.block_cache.specs.Claims.{state_of}
 use Rattle.claims.specs.Owned.{MayClaim}
-use Rattle.claims.proofs.Counted.{accepted_counts, few_owned, may_drop_all}
-use Rattle.claims.proofs.Owners.{alive_place}
+use Rattle.claims.proofs.ForCallers.{accepted_counts, alive_place, few_owned, may_drop_all}
 use Rattle.dependencies.specs.Candidates.{with_candidate}
 use Rattle.dependencies.specs.Homes.{with_home}
 use Rattle.dependencies.specs.Pending.{pends}
-use Rattle.dependencies.proofs.HomeChanges.{accepted_homes}
-use Rattle.dependencies.proofs.LifeChanges.{accepted_accounts}
+use Rattle.dependencies.proofs.ForCallers.{accepted_accounts, accepted_homes, accepted_oldest}
 use Rattle.dependencies.specs.Oldest.{with_entry}
-use Rattle.dependencies.proofs.OldestChanges.{accepted_oldest}
 use Rattle.xn_state.proofs.Counting.{accepted_counted}
 use Rattle.xn_state.proofs.Dirty.{accepted_dirty}
 use Rattle.xn_state.proofs.lives.Lives.accept.Goals as goal

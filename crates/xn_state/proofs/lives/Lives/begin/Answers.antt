@@ -1,12 +1,10 @@
 use Rattle.std.proofs.Common.{◌≡◌, map, sym, subst}
 use Rattle.xn_model.specs.Lives.{Lives}
 use Rattle.dependencies.specs.Homes.{AreHomes}
-use Rattle.dependencies.proofs.HomeChanges.{begun_homes}
-use Rattle.dependencies.proofs.LifeChanges.{begun_accounts}
+use Rattle.dependencies.proofs.ForCallers.{begun_accounts, begun_homes, begun_oldest}
 use Rattle.dependencies.specs.Oldest.{AreOldest}
-use Rattle.dependencies.proofs.OldestChanges.{begun_oldest}
 use Rattle.claims.specs.Owned.{AreOwnedCounts}
-use Rattle.claims.proofs.Counted.{begun_counts}
+use Rattle.claims.proofs.ForCallers.{begun_counts}
 use Rattle.xn_state.specs.Kept.{IsCounted, is_dirty}
 use Rattle.xn_state.proofs.Counting.{begun_counted}
 use Rattle.xn_state.proofs.Dirty.{begun_dirty}

@@ -1,10 +1,8 @@
 use Rattle.std.proofs.Common.{arith, sym, subst}
 use Rattle.xn_model.specs.Lives.{Lives, life_at}
-use Rattle.claims.proofs.Counted.{ended_counts}
-use Rattle.dependencies.proofs.HomeChanges.{forgotten_homes}
+use Rattle.claims.proofs.ForCallers.{ended_counts}
+use Rattle.dependencies.proofs.ForCallers.{forgotten_accounts, forgotten_homes, forgotten_oldest}
 use Rattle.dependencies.specs.Oldest.{AreOldest}
-use Rattle.dependencies.proofs.OldestChanges.{forgotten_oldest}
-use Rattle.dependencies.proofs.LifeChanges.{forgotten_accounts}
 use Rattle.xn_state.specs.Kept.{IsUnowned}
 use Rattle.xn_state.proofs.Dirty.{forgotten_dirty}
 use Rattle.xn_state.proofs.Forgetting.{few_forgotten, forgotten_counted}

@@ -5,9 +5,7 @@ use Rattle.xn_model.specs.Images.{blocks_in}
 use Rattle.xn_model.specs.Lives.{Lives}
 use Rattle.block_cache.specs.Views.{life_at_rest}
 use Rattle.edit_list.specs.declared.fs.Fs.{Fs}
-use Rattle.dependencies.proofs.HomeChanges.{clean_homes}
-use Rattle.dependencies.proofs.OldestChanges.{first_oldest}
-use Rattle.dependencies.proofs.LifeChanges.{clean_accounts}
+use Rattle.dependencies.proofs.ForCallers.{clean_accounts, clean_homes, first_oldest}
 use Rattle.xn_state.specs.Mounts.{found_of}
 use Rattle.xn_state.proofs.Counting.{marks}
 use Rattle.xn_state.proofs.Dirty.{found_dirty}

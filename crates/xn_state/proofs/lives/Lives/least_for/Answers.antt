@@ -2,7 +2,7 @@ use Rattle.std.proofs.Common.{◌≡◌, ◌∙◌, ◌≤◌, ℕ, true, ap, ar
 use Rattle.std.specs.Prelude.{slice_index}
 use Rattle.xn_model.specs.Lives.{Lives, entries_of, least_to, life_at}
 use Rattle.dependencies.specs.Oldest.{pends_for}
-use Rattle.dependencies.proofs.OldestEntries.{oldest_is_least}
+use Rattle.dependencies.proofs.ForCallers.{oldest_is_least}
 use Rattle.xn_state.proofs.lives.Lives.least_for.Goals as goal
 
 pub returns-in-Some : goal.returns-in-Some

@@ -3,12 +3,10 @@ use Rattle.std.specs.Prelude.{Contains, nat_lt, slice_set}
 use Rattle.xn_model.specs.Lives.{Lives, drops_of, life_at}
 use Rattle.xn_model.specs.Calls.{first_pending}
 use Rattle.dependencies.specs.Candidates.{AreCandidates, with_candidate}
-use Rattle.dependencies.proofs.HomeChanges.{settled_homes}
+use Rattle.dependencies.proofs.ForCallers.{settled_accounts, settled_homes, settled_oldest}
 use Rattle.dependencies.specs.Oldest.{AreOldest}
-use Rattle.dependencies.proofs.OldestChanges.{settled_oldest}
-use Rattle.dependencies.proofs.LifeChanges.{settled_accounts}
 use Rattle.xn_state.specs.Kept.{MayFree}
-use Rattle.claims.proofs.Counted.{settled_counts}
+use Rattle.claims.proofs.ForCallers.{settled_counts}
 use Rattle.xn_state.proofs.Counting.{settled_less}
 use Rattle.xn_state.proofs.Dirty.{settled_dirty}
 use Rattle.xn_state.proofs.Freeing.{apart_all, ended_counted, settled_none}

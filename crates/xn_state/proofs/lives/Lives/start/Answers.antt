@@ -1,13 +1,11 @@
 use Rattle.std.proofs.Common.{◌∙◌, ℕ, ◌%◌, ◌<◌, None, ap, arith, length, subst}
 use Rattle.std.specs.Prelude.{slice_index, unwrap_or}
 use Rattle.xn_model.specs.Lives.{Lives, life_at, lowest_free}
-use Rattle.claims.proofs.Counted.{started_counts}
+use Rattle.claims.proofs.ForCallers.{started_counts}
 use Rattle.dependencies.specs.Homes.{with_home}
 use Rattle.dependencies.specs.Pending.{pends}
-use Rattle.dependencies.proofs.HomeChanges.{started_homes}
-use Rattle.dependencies.proofs.LifeChanges.{started_accounts}
+use Rattle.dependencies.proofs.ForCallers.{started_accounts, started_homes, started_oldest}
 use Rattle.dependencies.specs.Oldest.{with_entry}
-use Rattle.dependencies.proofs.OldestChanges.{started_oldest}
 use Rattle.xn_state.proofs.Counting.{least_is_free, started_counted}
 use Rattle.xn_state.proofs.Dirty.{started_dirty}
 use Rattle.xn_state.proofs.lives.Lives.start.Goals as goal

@@ -8,8 +8,7 @@ use Rattle.block_cache.specs.Claims.{ClaimValue, state_of}
 use Rattle.xn_state.specs.Proposals.{entry_of}
 use Rattle.xn_state.specs.States.{StateValue, types_in}
 use Rattle.claims.specs.Decided.{Decides}
-use Rattle.claims.proofs.Owners.{alive_place}
-use Rattle.claims.proofs.Deciding.{accepted_decided}
+use Rattle.claims.proofs.ForCallers.{accepted_decided, alive_place}
 use Rattle.dependencies.specs.Pending.{pends}
 use Rattle.xn_state.proofs.Keeping as keeping
 use Rattle.xn_state.proofs.Newest.{none_next}

@@ -2,7 +2,7 @@ use Rattle.std.proofs.Common.{sym, subst}
 use Rattle.templates.specs.Tables.{types_of}
 use Rattle.xn_model.specs.Rules.{IsConsistent}
 use Rattle.claims.specs.Decided.{AreDecided}
-use Rattle.claims.proofs.Deciding.{begun_decided}
+use Rattle.claims.proofs.ForCallers.{begun_decided}
 use Rattle.xn_state.proofs.Keeping.{state_of, begun_consistent}
 use Rattle.xn_state.proofs.state.State.begun.Goals as goal
 

@@ -6,7 +6,7 @@ use Rattle.xn_model.specs.Rules.{IsConsistent}
 use Rattle.xn_state.specs.States.{StateValue, types_in}
 use Rattle.xn_state.specs.Forgets.{forget_plan}
 use Rattle.claims.specs.Decided.{AreDecided}
-use Rattle.claims.proofs.Deciding.{ended_decided}
+use Rattle.claims.proofs.ForCallers.{ended_decided}
 use Rattle.xn_state.proofs.Keeping.{state_of}
 use Rattle.xn_state.proofs.Forgetting.{forget_refused, forgotten_consistent}
 use Rattle.xn_state.proofs.state.State.forget.Goals as goal

@@ -4,7 +4,7 @@ use Rattle.xn_model.specs.Calls.{init_refusal}
 use Rattle.templates.specs.Tables.{types_of}
 use Rattle.xn_state.specs.States.{StateValue, types_in}
 use Rattle.xn_state.proofs.Counting.{least_is_free}
-use Rattle.claims.proofs.Deciding.{started_decided}
+use Rattle.claims.proofs.ForCallers.{started_decided}
 use Rattle.xn_state.proofs.Keeping.{started_consistent, state_of}
 use Rattle.xn_state.proofs.Newest.{none_next}
 use Rattle.xn_state.proofs.state.State.init.Goals as goal

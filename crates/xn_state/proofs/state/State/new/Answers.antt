@@ -1,7 +1,7 @@
 use Rattle.std.proofs.Common.{sym, subst}
 use Rattle.xn_model.specs.Images.{blocks_in}
 use Rattle.xn_state.specs.Mounts.{lives_in}
-use Rattle.claims.proofs.Deciding.{none_decided}
+use Rattle.claims.proofs.ForCallers.{none_decided}
 use Rattle.xn_state.proofs.Keeping.{mounted_consistent, state_of}
 use Rattle.xn_model.specs.Rules.{IsConsistent}
 use Rattle.templates.specs.Tables.{types_of}

@@ -4,7 +4,7 @@ use Rattle.xn_model.specs.Rules.{IsConsistent}
 use Rattle.xn_model.specs.Lives.{drops_of, life_at}
 use Rattle.xn_model.specs.Calls.{first_pending}
 use Rattle.claims.specs.Decided.{AreDecided}
-use Rattle.claims.proofs.Deciding.{settled_decided}
+use Rattle.claims.proofs.ForCallers.{settled_decided}
 use Rattle.xn_state.proofs.Keeping.{state_of, settled_consistent}
 use Rattle.xn_state.proofs.Freeing.{may_free}
 use Rattle.xn_state.proofs.state.State.settled.Goals as goal

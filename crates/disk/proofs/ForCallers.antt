@@ -1,0 +1,2 @@
+-- What crates above cite in their proofs. They import no other module of these proofs.
+pub use Rattle.disk.proofs.BlockAt.{block_at-append_front, block_at-append_last}

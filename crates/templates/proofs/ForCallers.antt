@@ -1,0 +1,8 @@
+-- What crates above cite in their proofs. They import no other module of these proofs.
+pub use Rattle.templates.proofs.BuiltInTypes.{tables_have_built_ins}
+pub use Rattle.templates.proofs.FreshDisks.{formatted_has_its_blocks, formatted_has_its_templates, formatted_holds, formatted_is_found, formatted_is_sound, mount_recovers}
+pub use Rattle.templates.proofs.FreshRoots.{distinct_named, get_or-named, length-named, named, slot_blank}
+pub use Rattle.templates.proofs.OneSpelling.{blocks_are_templates}
+pub use Rattle.templates.proofs.Ranges.{range-more}
+pub use Rattle.templates.proofs.TablePlaces.{at_place}
+pub use Rattle.templates.proofs.WordsWritten.{drop-zeros}

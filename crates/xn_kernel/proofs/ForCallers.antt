@@ -1,0 +1,3 @@
+-- What crates above cite in their proofs. They import no other module of these proofs.
+pub use Rattle.xn_kernel.proofs.Draining.{idle_from, set_twice}
+pub use Rattle.xn_kernel.proofs.Homes.{away_in_flight}
