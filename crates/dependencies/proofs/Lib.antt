@@ -7,3 +7,4 @@ pub mod LifeChanges
 pub mod HomeChanges
 pub mod OldestEntries
 pub mod OldestChanges
+pub mod Early
