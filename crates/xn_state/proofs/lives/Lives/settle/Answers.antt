@@ -73,5 +73,5 @@ invariant_of-self c =
       settled_dirty c.self.inside.dirty cache block count drops c.self.invariant.2 rest,
       subst (λ (xs : Lives). AreCandidates xs c.trim.new.self) c.settle_and_free-freed.ensures.lives c.trim.ensures,
       settled_homes cache c.self.inside.homes block count drops c.self.invariant.4,
-      subst (λ (xs : Lives). AreOldest xs c.move_on.new.oldest) c.settle_and_free-freed.ensures.lives c.move_on.ensures,
+      subst (λ (xs : Lives). AreOldest xs c.move_on.new.oldest) c.settle_and_free-freed.ensures.lives c.move_on.ensures.oldest,
     )
