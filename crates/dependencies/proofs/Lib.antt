@@ -8,3 +8,4 @@ pub mod HomeChanges
 pub mod OldestEntries
 pub mod OldestChanges
 pub mod Early
+pub mod Trimming
