@@ -8,4 +8,6 @@ pub mod LifeChanges
 pub mod HomeChanges
 pub mod OldestEntries
 pub mod OldestChanges
+pub mod Early
+pub mod Trimming
 pub mod ForCallers

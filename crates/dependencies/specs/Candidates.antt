@@ -1,6 +1,7 @@
 -- Blocks of which a write may begin, and what other ones wait for.
-use Rattle.std.specs.Prelude.{◌≡◌, ℕ, ◌<◌, Bool, true, false, not, ◌&&◌, ◌⊎◌, List, Option, Some, is_none, length, slice_index_or, slice_set}
+use Rattle.std.specs.Prelude.{◌≡◌, ℕ, ◌<◌, ◌≤◌, Bool, true, false, not, ◌&&◌, ◌⊎◌, List, Option, Some, IsTrue, is_none, is_some, length, position, slice_index_or, slice_set}
 use Rattle.xn_model.specs.Lives.{Life, Lives, alive_and, life_at, no_states}
+use Rattle.block_set.specs.Members.{is_member}
 use Rattle.wait_lists.specs.Waiting.{at}
 use Rattle.dependencies.specs.Waiting.{WaitsFor}
 
@@ -47,3 +48,10 @@ pub record Parks (old new : CandidatesValue) (b other : ℕ) : Type 0 where
   pub within : b < length old.waits
   pub blocks : new.blocks ≡ slice_set old.blocks b false
   pub waits : new.waits ≡ slice_set old.waits b (Some other)
+
+-- The least candidate waits for no block, or it can't be put on a list: it stands on one, or waits for a block that is none of these.
+abbrev pub IsTrimmed : Lives → CandidatesValue → Type 0
+IsTrimmed lives q = (b : ℕ) → position is_member q.blocks ≡ Some b →
+    ((c : ℕ) → WaitsFor lives b c → ⊥)
+    ⊎ (IsTrue (is_some (at q.waits b))
+    ⊎ ((c : ℕ) × (length q.blocks ≤ c) × WaitsFor lives b c))

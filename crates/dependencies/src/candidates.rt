@@ -1,9 +1,9 @@
 // The blocks of which a write may begin.
 
-ghost use Rattle.std.specs.Prelude.{◌≡◌, ◌≤◌, ◌⊎◌, true, false, cond, length, map, replicate, None, IfOk, IfSome, IfNone};
-ghost use Rattle.block_set.specs.Members.{IsLeastFrom, HasNoneFrom};
+ghost use Rattle.std.specs.Prelude.{◌≡◌, ◌<◌, ◌≤◌, ◌⊎◌, true, false, cond, count_by, is_some, length, map, replicate, None, IfOk, IfSome, IfNone, IsTrue};
+ghost use Rattle.block_set.specs.Members.{IsLeastFrom, HasNoneFrom, is_member};
 ghost use Rattle.wait_lists.specs.Waiting.{at};
-ghost use Rattle.dependencies.specs.Candidates.{AreCandidates, CandidatesValue, Parks, Wakes, with_candidate};
+ghost use Rattle.dependencies.specs.Candidates.{AreCandidates, CandidatesValue, IsTrimmed, Parks, Wakes, with_candidate};
 ghost use Rattle.dependencies.specs.Homes.{AreHomes};
 ghost use Rattle.dependencies.specs.Pending.{is_dirty};
 
@@ -82,12 +82,14 @@ impl Candidates {
         wake_all(&mut self.blocks, &mut self.waits, other);
     }
 
-    /// Puts a candidate on the list of another block, unless it stands on one.
+    /// Puts a candidate on the list of another block, unless it stands on one, or there is no such block.
     fn park(&mut self, block: u32, other: u32) -> bool
-        ensures { (self.new ≡ self.old) ⊎ Parks self.old self.new block other }
+        requires { block < length self.old.blocks }
+        ensures parks { IsTrue result → Parks self.old self.new block other }
+        ensures stays { result ≡ false → self.new ≡ self.old }
+        ensures refused { result ≡ false → (length self.old.blocks ≤ other) ⊎ IsTrue (is_some (at self.old.waits block)) }
     {
-        let bound = self.blocks.bound();
-        if block >= bound || other >= bound || self.waits.is_waiting(block) {
+        if other >= self.blocks.bound() || self.waits.is_waiting(block) {
             return false;
         }
         self.waits.push(other, block);
@@ -100,7 +102,9 @@ impl Candidates {
         requires dirty { dirty.now ≡ map is_dirty cache.now }
         requires homes { AreHomes cache.now homes.now }
         requires candidates { AreCandidates cache.now self.old }
-        ensures { AreCandidates cache.now self.new }
+        ensures kept { AreCandidates cache.now self.new }
+        ensures fewer { IsTrue result → count_by is_member self.new.blocks < count_by is_member self.old.blocks }
+        ensures trimmed { result ≡ false → IsTrimmed cache.now self.new }
     {
         let Some(block) = self.blocks.least() else {
             return false;
@@ -116,13 +120,10 @@ impl Candidates {
         requires dirty { dirty.now ≡ map is_dirty cache.now }
         requires homes { AreHomes cache.now homes.now }
         requires candidates { AreCandidates cache.now self.old }
-        ensures { AreCandidates cache.now self.new }
+        ensures kept { AreCandidates cache.now self.new }
+        ensures trimmed { IsTrimmed cache.now self.new }
     {
-        for _turn in 0..cache.blocks() {
-            if !self.park_least(cache, dirty, homes) {
-                return;
-            }
-        }
+        while self.park_least(cache, dirty, homes) {}
     }
 }
 

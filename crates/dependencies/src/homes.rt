@@ -1,6 +1,6 @@
 // In which block each of the newest entries is pending.
 
-ghost use Rattle.std.specs.Prelude.{◌≡◌, ◌%◌, ◌<◌, length, IfOk};
+ghost use Rattle.std.specs.Prelude.{◌≡◌, ◌+◌, ◌*◌, ◌%◌, ◌<◌, length, replicate, IfOk};
 ghost use Rattle.dependencies.specs.Homes.{home_of, with_home};
 
 use std::alloc::{AllocError, Global};
@@ -23,9 +23,9 @@ impl Model for Homes {
 }
 
 impl Homes {
-    /// Slots for some of the entries of so many blocks.
+    /// Slots for some of the entries of so many blocks: two for each, and 64 more.
     pub fn new(alloc: Global, blocks: u32) -> Result<Homes, AllocError>
-        ensures { IfOk result (λ homes. 0 < length homes) }
+        ensures { IfOk result (λ homes. homes ≡ replicate (blocks * 2 + 64) (0, 0)) }
     {
         let count = blocks as usize * 2 + 64;
         Ok(Homes {

@@ -1,11 +1,12 @@
 // From which number on the pending entries of a file system lie.
 
-ghost use Rattle.std.specs.Prelude.{◌≡◌, ◌≤◌, ℕ, true, false, option_map, slice_get, IfSome, IsTrue};
+ghost use Rattle.std.specs.Prelude.{◌≡◌, ◌+◌, ◌-◌, ◌^◌, ◌<◌, ◌≤◌, ℕ, length, min, true, false, Some, option_map, slice_get, IfSome, IfNone, IsTrue};
 ghost use Rattle.xn_model.specs.Lives.{life_at};
 ghost use Rattle.block_cache.specs.Claims.{claim_of};
 ghost use Rattle.block_cache.specs.Views.{pending_at};
-ghost use Rattle.dependencies.specs.Homes.{AreHomes};
-ghost use Rattle.dependencies.specs.Oldest.{AreOldest, is_number_for, pends_for, with_entry};
+ghost use Rattle.dependencies.specs.Homes.{AreHomes, home_of};
+ghost use Rattle.dependencies.specs.Oldest.{AreOldest, MayPend, MovesOn, is_number_for, pends_for, with_entry};
+ghost use Rattle.dependencies.specs.Waiting.{first_of};
 
 use crate::homes::Homes;
 use block_cache::{Cache, Fs};
@@ -35,7 +36,8 @@ fn is_pending_in(cache: &Cache, block: u32, fs: Fs, number: u64) -> bool
 /// Whether the entry of this number is known to be pending nowhere, or to count for another file system.
 fn is_past(cache: &Cache, homes: &Homes, fs: Fs, number: u64) -> bool
     requires { AreHomes cache.now homes.now }
-    ensures { IsTrue result → (b : ℕ) → pends_for fs.number number (life_at cache.now b) ≡ false }
+    ensures past { IsTrue result → (b : ℕ) → pends_for fs.number number (life_at cache.now b) ≡ false }
+    ensures may { result ≡ false → MayPend cache.now homes.now fs.number number }
 {
     match homes.home(number) {
         Some(block) => !is_pending_in(cache, block, fs, number),
@@ -47,7 +49,9 @@ fn is_past(cache: &Cache, homes: &Homes, fs: Fs, number: u64) -> bool
 /// later one has taken that is not known.
 fn next_pending(cache: &Cache, homes: &Homes, fs: Fs, from: u64) -> u64
     requires { AreHomes cache.now homes.now }
-    ensures { (n b : ℕ) → pends_for fs.number n (life_at cache.now b) ≡ true → from ≤ n → result ≤ n }
+    ensures least { (n b : ℕ) → pends_for fs.number n (life_at cache.now b) ≡ true → from ≤ n → result ≤ n }
+    ensures from { from ≤ result }
+    ensures stops { result < min (from + length homes.now) (2 ^ 64 - 1) → MayPend cache.now homes.now fs.number result }
 {
     let end = from.saturating_add(homes.slots() as u64);
     for number in from..end {
@@ -60,7 +64,8 @@ fn next_pending(cache: &Cache, homes: &Homes, fs: Fs, from: u64) -> u64
 
 /// The block in which the entry of this number is known to be pending for the file system.
 pub fn home_for(cache: &Cache, homes: &Homes, fs: Fs, number: u64) -> Option<u32>
-    ensures { IfSome result (λ block. pends_for fs.number number (life_at cache.now block) ≡ true) }
+    ensures some { IfSome result (λ block. pends_for fs.number number (life_at cache.now block) ≡ true) }
+    ensures none { IfNone result ((b : ℕ) → home_of homes.now number ≡ Some b → pends_for fs.number number (life_at cache.now b) ≡ false) }
 {
     let block = homes.home(number)?;
     if is_pending_in(cache, block, fs, number) {
@@ -86,7 +91,9 @@ pub fn note_number(oldest: &mut [u64; 32], fs: Fs, number: u64, pending: u32)
 pub fn move_on(oldest: &mut [u64; 32], cache: &Cache, homes: &Homes, fs: Option<Fs>)
     requires homes { AreHomes cache.now homes.now }
     requires oldest { AreOldest cache.now oldest.old }
-    ensures { AreOldest cache.now oldest.new }
+    ensures oldest { AreOldest cache.now oldest.new }
+    ensures some { IfSome fs (λ f. MovesOn cache.now homes.now f.number oldest.old oldest.new) }
+    ensures none { IfNone fs (oldest.new ≡ oldest.old) }
 {
     if let Some(fs) = fs {
         let place = fs.index();
@@ -95,7 +102,9 @@ pub fn move_on(oldest: &mut [u64; 32], cache: &Cache, homes: &Homes, fs: Option<
 }
 
 /// The file system of the oldest pending entry of a block.
-pub fn first_system(cache: &Cache, block: u32) -> Option<Fs> {
+pub fn first_system(cache: &Cache, block: u32) -> Option<Fs>
+    ensures { option_map (λ f. Some f.number) result ≡ option_map (λ c. c.fs) (first_of (life_at cache.now block)) }
+{
     let claim = cache.claim(block, 0)?;
     Some(claim.fs())
 }

@@ -1,6 +1,6 @@
 // Which block keeps the first pending entry of another one from the disk.
 
-ghost use Rattle.std.specs.Prelude.{◌≡◌, map, IfSome};
+ghost use Rattle.std.specs.Prelude.{◌≡◌, ℕ, map, IfSome, IfNone};
 ghost use Rattle.xn_model.specs.Lives.{life_at};
 ghost use Rattle.dependencies.specs.Homes.{AreHomes};
 ghost use Rattle.dependencies.specs.Pending.{is_dirty};
@@ -14,7 +14,8 @@ use block_set::BlockSet;
 
 /// The first of these blocks that has no state on the disk.
 fn added_early(cache: &Cache, adds: &[(u32, u32)]) -> Option<u32>
-    ensures { IfSome result (λ c. IsAddedEarly adds.now c (life_at cache.now c)) }
+    ensures some { IfSome result (λ c. IsAddedEarly adds.now c (life_at cache.now c)) }
+    ensures none { IfNone result ((c : ℕ) → IsAddedEarly adds.now c (life_at cache.now c) → ⊥) }
 {
     for add in adds {
         if !has_durable(cache, add.0) {
@@ -26,7 +27,8 @@ fn added_early(cache: &Cache, adds: &[(u32, u32)]) -> Option<u32>
 
 /// The first of these blocks whose newest state is not on the disk.
 fn dropped_early(cache: &Cache, drops: &[u32]) -> Option<u32>
-    ensures { IfSome result (λ c. IsDroppedEarly drops.now c (life_at cache.now c)) }
+    ensures some { IfSome result (λ c. IsDroppedEarly drops.now c (life_at cache.now c)) }
+    ensures none { IfNone result ((c : ℕ) → IsDroppedEarly drops.now c (life_at cache.now c) → ⊥) }
 {
     for block in drops {
         if !is_all_durable(cache, *block) {
@@ -40,7 +42,8 @@ fn dropped_early(cache: &Cache, drops: &[u32]) -> Option<u32>
 fn after_block(cache: &Cache, dirty: &BlockSet, homes: &Homes, after: Option<EditId>) -> Option<u32>
     requires dirty { dirty.now ≡ map is_dirty cache.now }
     requires homes { AreHomes cache.now homes.now }
-    ensures { IfSome result (λ c. ComesAfter after (life_at cache.now c)) }
+    ensures some { IfSome result (λ c. ComesAfter after (life_at cache.now c)) }
+    ensures none { IfNone result ((c : ℕ) → ComesAfter after (life_at cache.now c) → ⊥) }
 {
     match after {
         Some(other) => pending_block(cache, dirty, homes, other.number()),
@@ -52,7 +55,8 @@ fn after_block(cache: &Cache, dirty: &BlockSet, homes: &Homes, after: Option<Edi
 fn missed_by(cache: &Cache, dirty: &BlockSet, homes: &Homes, claim: &Claim) -> Option<u32>
     requires dirty { dirty.now ≡ map is_dirty cache.now }
     requires homes { AreHomes cache.now homes.now }
-    ensures { IfSome result (λ c. Misses claim.now c (life_at cache.now c)) }
+    ensures some { IfSome result (λ c. Misses claim.now c (life_at cache.now c)) }
+    ensures none { IfNone result ((c : ℕ) → Misses claim.now c (life_at cache.now c) → ⊥) }
 {
     if let Some(block) = added_early(cache, claim.adds()) {
         return Some(block);
@@ -67,7 +71,8 @@ fn missed_by(cache: &Cache, dirty: &BlockSet, homes: &Homes, claim: &Claim) -> O
 pub fn waits_for(cache: &Cache, dirty: &BlockSet, homes: &Homes, block: u32) -> Option<u32>
     requires dirty { dirty.now ≡ map is_dirty cache.now }
     requires homes { AreHomes cache.now homes.now }
-    ensures { IfSome result (WaitsFor cache.now block) }
+    ensures some { IfSome result (WaitsFor cache.now block) }
+    ensures none { IfNone result ((c : ℕ) → WaitsFor cache.now block c → ⊥) }
 {
     let claim = cache.claim(block, 0)?;
     missed_by(cache, dirty, homes, claim)

@@ -8,6 +8,6 @@ fails : (t : Bool) → not t ≡ true → t ≡ false
 fails true e = absurd (false≢true e)
 fails false e = refl
 
-pub returns-in-Some : goal.returns-in-Some
-returns-in-Some c past =
+pub returns-in-Some-clause-past : goal.returns-in-Some-clause-past
+returns-in-Some-clause-past c past =
     past_home c.args.cache.now c.args.homes.now c.args.fs.number c.args.number c.in-Some.block c.requires (sym c.in-Some.ensures) (sym c.is_pending_in.ensures ∙ fails c.is_pending_in.result past)

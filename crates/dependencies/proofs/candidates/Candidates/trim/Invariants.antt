@@ -1,5 +1,11 @@
+use Rattle.std.specs.Prelude.{count_by}
+use Rattle.block_set.specs.Members.{is_member}
 use Rattle.dependencies.specs.Candidates.{AreCandidates}
 use Rattle.dependencies.proofs.candidates.Candidates.trim.Given as goal
 
-abbrev pub invariant-loop-turn : goal.invariant-loop-turn
-invariant-loop-turn l = AreCandidates l.cache l.self
+abbrev pub invariant-loop : goal.invariant-loop
+invariant-loop l = AreCandidates l.cache l.self
+
+-- each turn takes one out
+abbrev pub decreases-loop : goal.decreases-loop
+decreases-loop l = count_by is_member l.self.blocks

@@ -29,4 +29,4 @@ invariant_of-self c =
     ) in
     let homes = subst (λ (xs : Lives). AreHomes xs c.self.inside.homes) (sym c.begin.ensures) (begun_homes cache c.self.inside.homes c.args.block c.args.count c.self.invariant.4) in
     let oldest = subst (λ (xs : Lives). AreOldest xs c.self.inside.oldest) (sym c.begin.ensures) (begun_oldest cache c.self.inside.oldest c.args.block c.args.count c.self.invariant.5) in
-    (kept.0, kept.1, kept.2, c.trim.ensures, homes, oldest)
+    (kept.0, kept.1, kept.2, c.trim.ensures.kept, homes, oldest)

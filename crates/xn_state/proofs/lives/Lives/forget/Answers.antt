@@ -28,5 +28,5 @@ invariant_of-self c =
       forgotten_dirty c.self.inside.dirty cache c.args.block c.self.invariant.2,
       forgotten_accounts cache c.self.inside.candidates c.wake.new.self c.args.block c.self.invariant.3 c.wake.ensures,
       forgotten_homes cache c.self.inside.homes c.args.block c.self.invariant.4,
-      subst (λ (xs : Lives). AreOldest xs c.move_on.new.oldest) c.end.ensures c.move_on.ensures,
+      subst (λ (xs : Lives). AreOldest xs c.move_on.new.oldest) c.end.ensures c.move_on.ensures.oldest,
     )

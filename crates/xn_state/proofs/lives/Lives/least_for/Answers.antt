@@ -12,5 +12,5 @@ returns-in-Some c =
     let place = c.index-then-pending-gt0.result in
     let at = ap (slice_index c.self.inside.oldest) c.index-then-pending-gt0.ensures.value in
     let none_below = λ (n b : ℕ) (here : pends_for fs n (life_at cache b) ≡ true). let le = c.self.invariant.5 fs n b (omega arith) here in let P : ℕ → Type 0 = λ x. x ≤ n in subst P (sym at) le in
-    c.min.ensures ∙ (oldest_is_least fs c.args.most (slice_index c.self.inside.oldest place) c.in-Some._block cache none_below c.in-Some.ensures
+    c.min.ensures ∙ (oldest_is_least fs c.args.most (slice_index c.self.inside.oldest place) c.in-Some._block cache none_below c.in-Some.ensures.some
     ∙ ap (λ (ls : Lives). least_to c.args.most (entries_of fs ls)) c.self.view_is)

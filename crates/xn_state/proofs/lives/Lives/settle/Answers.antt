@@ -69,7 +69,7 @@ invariant_of-self c =
       ended_counted cache c.self.inside.free c.self.inside.pending c.discount.new.pending block count c.self.invariant.0 c.discount.ensures may,
       settled_counts c.self.inside.owned cache block count drops c.self.invariant.1 may.unowned,
       settled_dirty c.self.inside.dirty cache block count drops c.self.invariant.2 rest,
-      subst (λ (xs : Lives). AreCandidates xs c.trim.new.self) c.settle_and_free-freed.ensures.lives c.trim.ensures,
+      subst (λ (xs : Lives). AreCandidates xs c.trim.new.self) c.settle_and_free-freed.ensures.lives c.trim.ensures.kept,
       settled_homes cache c.self.inside.homes block count drops c.self.invariant.4,
-      subst (λ (xs : Lives). AreOldest xs c.move_on.new.oldest) c.settle_and_free-freed.ensures.lives c.move_on.ensures,
+      subst (λ (xs : Lives). AreOldest xs c.move_on.new.oldest) c.settle_and_free-freed.ensures.lives c.move_on.ensures.oldest,
     )
