@@ -14,3 +14,5 @@ pub mod Frames
 pub mod Listed
 pub mod Rooms
 pub mod Creating
+pub mod Owners
+pub mod Same

@@ -30,7 +30,7 @@ module _ (T : Types) (lib : IsLibrary T) (state new : StoreState) (h : IsConsist
       under_direct T library_layout (library_reads T lib) (latest state.lives) fs (library_layout.home d).0 found.block found.place b dir.is.stands.inodes
       (subst (λ xs. Contains xs b) (sym (blocks_read m found.place dir.is.stands.few)) (subst (λ bytes. Contains (inode_blocks bytes) b) dir.is.bytes i))
 
-  fits_newest : (c u : ℕ) → Under T (latest state.lives) fs c u → IsTrue (fits T u (latest state.lives c))
+  pub fits_newest : (c u : ℕ) → Under T (latest state.lives) fs c u → IsTrue (fits T u (latest state.lives c))
   fits_newest c u at =
       let x = latest_reached T state h fs few c u at in
       let k = h.linked c x.life x.alive in
