@@ -16,3 +16,5 @@ pub mod Rooms
 pub mod Creating
 pub mod Owners
 pub mod Same
+pub mod More
+pub mod Entering

@@ -10,14 +10,14 @@ use Rattle.xn_model.proofs.ForCallers.{last_of}
 use Rattle.xn_model.specs.Rules.{IsConsistent}
 use Rattle.ffs_model.specs.Cuts.{Under, root, latest}
 use Rattle.ffs_model.specs.Library.{IsLibrary, inode_at, inode_blocks, library_layout}
-use Rattle.ffs_model.proofs.ForCallers.{blocks_read, latest_reached, library_reads, proposed_here, proposed_others, under_direct, under_inodes}
+use Rattle.ffs_model.proofs.ForCallers.{blocks_read, bytes_apart, latest_reached, library_reads, proposed_here, proposed_others, under_direct, under_inodes}
 use Rattle.ffs_lib.specs.declared.places.Found.{Found}
 use Rattle.ffs_lib.specs.declared.places.Slot.{Slot}
 use Rattle.ffs_lib.specs.Edits.{edit_at}
 use Rattle.ffs_lib.specs.Places.{IsDirectory, IsPlace, IsSlot}
 use Rattle.ffs_lib.specs.Newest.{listing, without_entry}
 use Rattle.ffs_lib.proofs.Edited.{same_root}
-use Rattle.ffs_lib.proofs.Frames.{bytes_apart, directory_kept, length_put, listing_same, listing_without, other_type}
+use Rattle.ffs_lib.proofs.Frames.{directory_kept, length_put, listing_same, listing_without, other_type}
 
 module _ (T : Types) (lib : IsLibrary T) (state new : StoreState) (h : IsConsistent T state) (fs : ℕ) (few : fs < 32) where
   -- a directory's own blocks, and the block of its inode

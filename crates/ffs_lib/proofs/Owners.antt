@@ -108,6 +108,9 @@ stands_to content fs n inode s =
     ∙ in_inode_block content fs n (good_number n s.some s.low) ((n - 1) / 8) ((n - 1) % 8) s.block (content s.block) refl refl (block_again content fs ((n - 1) / 8) s.block s.inodes) refl)
 
 -- Where a block of a file is pointed to
+pub direct_block : (content : ℕ → List ℕ) (inode : List ℕ) (i : ℕ) → i < 12 → file_block content inode i ≡ direct_in inode i
+direct_block content inode i lt = ap (λ (t : Bool). if t then direct_in inode i else if word_at inode 56 == 0 then 0 else pointer_word (content (word_at inode 56)) (i - 12)) (lt-ltb i 12 lt)
+
 pub where_block : (content : ℕ → List ℕ) (inode : List ℕ) (i b : ℕ) → file_block content inode i ≡ b → b ≢ 0 →
     ((i < 12) × (direct_in inode i ≡ b)) ⊎ ((12 ≤ i) × (word_at inode 56 ≢ 0) × (pointer_word (content (word_at inode 56)) (i - 12) ≡ b))
 where_block content inode i b e ne = elim (cases_lt i 12) [
@@ -155,7 +158,7 @@ module _ (T : Types) (lib : IsLibrary T) (state : StoreState) (h : IsConsistent 
     direct_owned : (i b : ℕ) → i < 12 → direct_in x i ≡ b → b ≢ 0 → Contains (T.owned 4 (v s.block)) (b, 2)
     direct_owned i b low e ne =
         (library_reads T lib).blocks (v s.block) ((n - 1) % 8) b
-        (subst (λ xs. Contains xs b) (sym (blocks_read (v s.block) ((n - 1) % 8) place_low) ) (direct_has (inode_at (v s.block) ((n - 1) % 8)) i b low (ap (λ m. direct_in m i) (sym s.bytes) ∙ e) ne))
+        (subst (λ xs. Contains xs b) (sym (blocks_read (v s.block) ((n - 1) % 8) place_low)) (direct_has (inode_at (v s.block) ((n - 1) % 8)) i b low (ap (λ m. direct_in m i) (sym s.bytes) ∙ e) ne))
 
     last_owned : (b : ℕ) → word_at x 56 ≡ b → b ≢ 0 → Contains (T.owned 4 (v s.block)) (b, 5)
     last_owned b e ne = indirect_owned T lib (v s.block) ((n - 1) % 8) b place_low (last_here ∙ e) ne

@@ -1,7 +1,9 @@
 -- What a change of one block leaves of the inodes that it does not touch.
-use Rattle.std.proofs.Common.{◌≡◌, ◌≢◌, ℕ, ◌+◌, ◌-◌, ◌*◌, ◌/◌, ◌%◌, ◌<◌, ◌≤◌, ◌⊎◌, Bool, true, false, List, length, get_or, Some, Ok, Err, refl, sym, ◌∙◌, ap, inl, inr, arith, subst, eq-eqb}
+use Rattle.std.proofs.Common.{◌≡◌, ◌≢◌, ℕ, ◌+◌, ◌-◌, ◌*◌, ◌/◌, ◌%◌, ◌^◌, ◌<◌, ◌≤◌, ◌⊎◌, Bool, true, false, List, [], ◌∷◌, length, get_or, Some, None, Ok, Err, refl, sym, ◌∙◌, ap, inl, inr, arith, subst, eq-eqb}
 use Rattle.std.specs.Prelude.{Contains, Result, ◌==◌, ◌||◌, nat_lt, if◌then◌else◌}
-use Rattle.std.proofs.lemmas.Bool.{cases_eq, cases_lt, lt-ltb}
+use Rattle.std.specs.Int.{w32, to_le_bytes}
+use Rattle.std.proofs.lemmas.Nat.{from_le_bytes-to_le_bytes_4}
+use Rattle.std.proofs.lemmas.Bool.{cases_eq, cases_lt}
 use Rattle.std.proofs.lemmas.Option.{none-some, same_Some}
 use Rattle.xn_model.specs.Types.{Types}
 use Rattle.xn_model.specs.Lists.{put}
@@ -12,18 +14,20 @@ use Rattle.xn_model.specs.Rules.{IsConsistent}
 use Rattle.ffs_model.specs.Cuts.{Under, latest, root}
 use Rattle.ffs_model.specs.Names.{IsInodes, IsRoot}
 use Rattle.ffs_model.specs.Volumes.{Reads}
-use Rattle.ffs_model.specs.Library.{IsLibrary, inode_at, inode_blocks, library_layout, pointer_word}
-use Rattle.ffs_model.proofs.ForCallers.{direct_where, latest_reached, library_reads, one_type, proposed_others, started, started_others, under_inodes}
+use Rattle.ffs_model.specs.Library.{IsLibrary, inode_at, inode_blocks, inode_mode, library_layout, pointer_word, zeros}
+use Rattle.ffs_model.proofs.ForCallers.{bytes_apart, direct_where, latest_reached, library_reads, mode_read, one_type, proposed_here, proposed_others, started, started_others, under_inodes, word_apart, word_within, zeros_mode}
 use Rattle.ffs_format.specs.Fields.{direct_in}
 use Rattle.ffs_lib.specs.declared.fault.FfsFault.{FfsFault}
 use Rattle.ffs_lib.specs.declared.fault.FfsFault.TheVariants.{NoEntry}
 use Rattle.ffs_lib.specs.Newest.{and_then, byte_in, byte_of, file_block, inode_block_in, inode_in, listing, root_in, root_of_type, unless_unused, unless_zero}
 use Rattle.ffs_lib.specs.Places.{IsPlace}
 use Rattle.ffs_lib.specs.Results.{SameContents, SameInode}
+use Rattle.ffs_lib.specs.Edits.{edit_at}
 use Rattle.ffs_lib.proofs.Edited.{same_root}
+use Rattle.ffs_lib.proofs.Newest.{in_root_block, not_zero, root_again, unused_is, zero_is}
 use Rattle.ffs_lib.proofs.Listed.{fits_newest}
-use Rattle.ffs_lib.proofs.Frames.{bytes_apart, listing_same}
-use Rattle.ffs_lib.proofs.Owners.{Stands, block_at, block_from, number_from, one_number, passed, pointers_apart, pointers_at, root_from, stands_from, two_blocks, two_pointers}
+use Rattle.ffs_lib.proofs.Frames.{listing_same}
+use Rattle.ffs_lib.proofs.Owners.{Stands, block_at, block_from, direct_block, number_from, one_number, passed, pointers_apart, pointers_at, root_from, stands_from, two_blocks, two_pointers}
 
 -- Among what is reached only a block of one type changes.
 pub record Touches (T : Types) (v w : ℕ → List ℕ) (fs block ty : ℕ) : Type 0 where
@@ -58,6 +62,18 @@ module _ (T : Types) (state new : StoreState) (h : IsConsistent T state) (fs : �
             none-some x.life (sym r.free ∙ (ap (life_at state.lives) (sym e) ∙ x.alive));
       }
 
+-- an inode is read from its block
+inode_by : (v w : ℕ → List ℕ) (fs d : ℕ) → (d ≢ 0 → d ≤ 128 → and_then (inode_block_in w fs ((d - 1) / 8)) (λ b. unless_unused (inode_at (w b) ((d - 1) % 8))) ≡ and_then (inode_block_in v fs ((d - 1) / 8)) (λ b. unless_unused (inode_at (v b) ((d - 1) % 8)))) →
+    inode_in w fs d ≡ inode_in v fs d
+unfolding inode_in
+inode_by v w fs d same = numbered ((d == 0) || nat_lt 128 d) refl
+  where
+    numbered : (s : Bool) → ((d == 0) || nat_lt 128 d) ≡ s →
+        (if s then Err NoEntry else and_then (inode_block_in w fs ((d - 1) / 8)) (λ b. unless_unused (inode_at (w b) ((d - 1) % 8))))
+        ≡ (if s then Err NoEntry else and_then (inode_block_in v fs ((d - 1) / 8)) (λ b. unless_unused (inode_at (v b) ((d - 1) % 8))))
+    numbered true e = refl
+    numbered false e = let n = number_from d e in same n.0 n.1
+
 module _ (T : Types) (lib : IsLibrary T) (v w : ℕ → List ℕ) (fs block ty : ℕ) (t : Touches T v w fs block ty) where
   pub root_same : root_in w fs ≡ root_in v fs
   unfolding root_in
@@ -78,21 +94,13 @@ module _ (T : Types) (lib : IsLibrary T) (v w : ℕ → List ℕ) (fs block ty :
 
   -- an inode whose bytes stay
   pub inode_same : ty ≢ 3 → (d : ℕ) → ((b : ℕ) → d ≢ 0 → d ≤ 128 → IsInodes library_layout v fs ((d - 1) / 8) b → inode_at (w b) ((d - 1) % 8) ≡ inode_at (v b) ((d - 1) % 8)) → inode_in w fs d ≡ inode_in v fs d
-  unfolding inode_in
-  inode_same not d stays = numbered ((d == 0) || nat_lt 128 d) refl
+  inode_same not d stays =
+      inode_by v w fs d (λ some low. ap (λ (r : Result ℕ FfsFault). and_then r (λ b. unless_unused (inode_at (w b) ((d - 1) % 8)))) (block_same not ((d - 1) / 8)) ∙ go some low (inode_block_in v fs ((d - 1) / 8)) refl)
     where
       go : d ≢ 0 → d ≤ 128 → (r : Result ℕ FfsFault) → r ≡ inode_block_in v fs ((d - 1) / 8) →
           and_then r (λ b. unless_unused (inode_at (w b) ((d - 1) % 8))) ≡ and_then r (λ b. unless_unused (inode_at (v b) ((d - 1) % 8)))
       go some low (Err fault) e = refl
       go some low (Ok b) e = ap unless_unused (stays b some low (block_from v fs ((d - 1) / 8) b (omega (arith, low)) e))
-
-      numbered : (s : Bool) → ((d == 0) || nat_lt 128 d) ≡ s →
-          (if s then Err NoEntry else and_then (inode_block_in w fs ((d - 1) / 8)) (λ b. unless_unused (inode_at (w b) ((d - 1) % 8))))
-          ≡ (if s then Err NoEntry else and_then (inode_block_in v fs ((d - 1) / 8)) (λ b. unless_unused (inode_at (v b) ((d - 1) % 8))))
-      numbered true e = refl
-      numbered false e =
-          let n = number_from d e in
-          ap (λ (r : Result ℕ FfsFault). and_then r (λ b. unless_unused (inode_at (w b) ((d - 1) % 8)))) (block_same not ((d - 1) / 8)) ∙ go n.0 n.1 (inode_block_in v fs ((d - 1) / 8)) refl
 
   -- no block of inodes changes
   pub inodes_same : ty ≢ 3 → ty ≢ 4 → (d : ℕ) → inode_in w fs d ≡ inode_in v fs d
@@ -144,14 +152,11 @@ module _ (T : Types) (lib : IsLibrary T) (state : StoreState) (h : IsConsistent 
       pub contents_same : SameContents v w inode
       contents_same = (
         listing_same w v inode (λ b i.
-        let x = direct_where inode b i in
-        let lt = x.1 in
-        t.others b 2 (block_at T lib state h fs few d inode s x.0 b (omega (arith, lt)) (direct_block x.0 b lt x.2) x.3) (λ e. a.blocks x.0 (omega (arith, lt)) (λ z. x.3 (sym (direct_block x.0 b lt x.2) ∙ z)) (direct_block x.0 b lt x.2 ∙ e))),
+            let x = direct_where inode b i in
+            let lt = x.1 in
+            t.others b 2 (block_at T lib state h fs few d inode s x.0 b (omega (arith, lt)) (direct_block v inode x.0 lt ∙ x.2) x.3) (λ e. a.blocks x.0 (omega (arith, lt)) (λ z. x.3 (sym (direct_block v inode x.0 lt ∙ x.2) ∙ z)) (direct_block v inode x.0 lt ∙ (x.2 ∙ e)))),
         λ at low. ap (λ b. byte_in w b (at % 512)) (file_block_same (at / 512)) ∙ block_bytes (at / 512) (at % 512) (omega (arith, low)),
       )
-        where
-          direct_block : (i b : ℕ) → i < 12 → direct_in inode i ≡ b → file_block v inode i ≡ b
-          direct_block i b lt e = ap (λ (x : Bool). if x then direct_in inode i else if word_at inode 56 == 0 then 0 else pointer_word (v (word_at inode 56)) (i - 12)) (lt-ltb i 12 lt) ∙ e
 
   same_by : (d : ℕ) → inode_in w fs d ≡ inode_in v fs d → ((inode : List ℕ) → Stands v fs d inode → Avoids v inode block) → SameInode v w fs d
   same_by d e a = (e, λ inode is. let s = stands_from v fs d inode is in contents_same d inode s (a inode s))
@@ -204,6 +209,88 @@ module _ (T : Types) (lib : IsLibrary T) (state : StoreState) (h : IsConsistent 
         pointers = λ some e. ne (two_pointers T lib state h fs few d n inode own r s block e is there);
         blocks = λ j high some e. pointers_apart T lib state h fs few d n inode own r s j block high e is there;
       })
+
+word_read : (b : ℕ) → b < 2 ^ 32 → word_at (to_le_bytes w32 b) 0 ≡ b
+unfolding word_at
+word_read b small = from_le_bytes-to_le_bytes_4 b small
+
+-- A pointer of the root block is set to a block of zeros, in which no inode is in use
+pub pointer_touched : (T : Types) (lib : IsLibrary T) (state new : StoreState) (h : IsConsistent T state) (fs : ℕ) (few : fs < 32) (top index b entry : ℕ) → IsRoot (latest state.lives) fs top → index < 16 → pointer_word (latest state.lives top) index ≡ 0 →
+    length (latest state.lives top) ≡ 512 → b < 2 ^ 32 → b ≢ 0 → latest state.lives b ≡ zeros → b ≢ top →
+    propose_of T state fs top (edit_at (4 * index) (to_le_bytes w32 b) ((b, 4) ∷ []) [] None) ≡ Ok (entry, new) → (d : ℕ) → SameInode (latest state.lives) (latest new.lives) fs d
+pointer_touched T lib state new h fs few top index b entry is_root low empty long small there bare apart done d =
+    same_by T lib state h fs few w top 3 t d (inode_by v w fs d by_index) (λ inode s. avoids T lib state h fs few w top 3 t d inode s (λ z. omega (arith, z)) (λ z. omega (arith, z)))
+  where
+    v : ℕ → List ℕ
+    v = latest state.lives
+
+    w : ℕ → List ℕ
+    w = latest new.lives
+
+    edit : Edit
+    edit = edit_at (4 * index) (to_le_bytes w32 b) ((b, 4) ∷ []) [] None
+
+    t : Touches T v w fs top 3
+    t = edited T state new h fs few top 3 edit entry done (root is_root.at is_root.there)
+
+    others : (c : ℕ) → c ≢ top → w c ≡ v c
+    others = proposed_others T state new h fs top edit entry done
+
+    here : w top ≡ put (v top) (4 * index) (to_le_bytes w32 b)
+    here = proposed_here T state new h fs top edit entry done
+
+    four : length (to_le_bytes w32 b) ≡ 4
+    four = refl
+
+    fit : 4 * index + length (to_le_bytes w32 b) ≤ length (v top)
+    fit = omega (arith, four, low, long)
+
+    read : (content : ℕ → List ℕ) (j : ℕ) → Ok top ≡ root_in content fs → inode_block_in content fs j ≡ unless_zero (pointer_word (content top) j)
+    read content j e = sym (in_root_block content fs j top (content top) e refl)
+
+    old_root : Ok top ≡ root_in v fs
+    old_root = root_again v fs top is_root
+
+    new_root : Ok top ≡ root_in w fs
+    new_root = old_root ∙ sym (root_same T lib v w fs top 3 t)
+
+    new_word : pointer_word (w top) index ≡ b
+    new_word = ap (λ m. pointer_word m index) here ∙ (word_within (v top) (4 * index) (to_le_bytes w32 b) fit (4 * index) 0 (omega arith) (omega (arith, four)) ∙ word_read b small)
+
+    no_mode : (p : ℕ) → p < 8 → inode_mode (inode_at (w b) p) ≡ 0
+    no_mode p lt = ap (λ m. inode_mode (inode_at m p)) (others b apart ∙ bare) ∙ (sym (mode_read zeros p lt) ∙ zeros_mode p)
+
+    by_index : d ≢ 0 → d ≤ 128 → and_then (inode_block_in w fs ((d - 1) / 8)) (λ c. unless_unused (inode_at (w c) ((d - 1) % 8))) ≡ and_then (inode_block_in v fs ((d - 1) / 8)) (λ c. unless_unused (inode_at (v c) ((d - 1) % 8)))
+    by_index some few' = elim (cases_eq ((d - 1) / 8) index) [
+      | inl e ↦
+          let j : ℕ = (d - 1) / 8 in
+          let p : ℕ = (d - 1) % 8 in
+          let found : inode_block_in w fs j ≡ Ok b = read w j new_root ∙ (ap unless_zero (ap (pointer_word (w top)) e ∙ new_word) ∙ sym (not_zero b there)) in
+          let none : inode_block_in v fs j ≡ Err NoEntry = read v j old_root ∙ (ap unless_zero (ap (pointer_word (v top)) e ∙ empty) ∙ sym (zero_is 0 refl)) in
+          ap (λ (r : Result ℕ FfsFault). and_then r (λ c. unless_unused (inode_at (w c) p))) found
+          ∙ (sym (unused_is (inode_at (w b) p) (no_mode p (omega arith))) ∙ sym (ap (λ (r : Result ℕ FfsFault). and_then r (λ c. unless_unused (inode_at (v c) p))) none))
+      | inr ne ↦
+          let j : ℕ = (d - 1) / 8 in
+          let p : ℕ = (d - 1) % 8 in
+          let away : (4 * j + 4 ≤ 4 * index) ⊎ (4 * index + length (to_le_bytes w32 b) ≤ 4 * j) = elim (cases_lt j index) [ inl lt ↦ inl (omega (arith, lt)) | inr ge ↦ inr (omega (arith, ge, ne, four)) ] in
+          let word : pointer_word (w top) j ≡ pointer_word (v top) j = ap (λ m. pointer_word m j) here ∙ word_apart (v top) (4 * index) (to_le_bytes w32 b) fit (4 * j) away in
+          let same : inode_block_in w fs j ≡ inode_block_in v fs j = read w j new_root ∙ (ap unless_zero word ∙ sym (read v j old_root)) in
+          ap (λ (r : Result ℕ FfsFault). and_then r (λ c. unless_unused (inode_at (w c) p))) same ∙ go j p few' refl (inode_block_in v fs j) refl
+    ]
+      where
+        go : (j p : ℕ) → d ≤ 128 → j ≡ (d - 1) / 8 → (r : Result ℕ FfsFault) → r ≡ inode_block_in v fs j → and_then r (λ c. unless_unused (inode_at (w c) p)) ≡ and_then r (λ c. unless_unused (inode_at (v c) p))
+        go j p few' e (Err fault) f = refl
+        go j p few' e (Ok c) f =
+            let is = block_from v fs j c (omega (arith, few', e)) f in
+            let at = under_inodes T library_layout (library_reads T lib) v fs j c is in
+            ap (λ m. unless_unused (inode_at m p)) (t.others c 4 at (t.apart c 4 at (λ z. omega (arith, z))))
+
+-- A new block is not block 0
+pub begun_some : (T : Types) (state new : StoreState) → IsConsistent T state → (fs ty : ℕ) (bytes : List ℕ) (made : ℕ × ℕ) → init_of T state fs ty bytes ≡ Ok (made, new) → made.0 ≢ 0
+begun_some T state new h fs ty bytes made done e =
+    let r = started T state new fs ty bytes made done in
+    let zeroth = h.lives_sound.root in
+    none-some zeroth.life (sym r.free ∙ (ap (life_at state.lives) e ∙ zeroth.alive))
 
 -- One after another
 pub contents_on : (u v w : ℕ → List ℕ) (inode : List ℕ) → SameContents u v inode → SameContents v w inode → SameContents u w inode

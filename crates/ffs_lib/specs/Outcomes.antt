@@ -1,7 +1,7 @@
 -- What the edits of a volume leave, each for every array of numbers for which a volume's rules held before.
 --     Keeps T fs old new      a volume's rules hold on
 --     IsMade, ..              and what may come next
-use Rattle.std.specs.Prelude.{◌≡◌, ◌≢◌, ℕ, List, Option, None, Contains}
+use Rattle.std.specs.Prelude.{◌≡◌, ◌≢◌, ℕ, ◌-◌, ◌/◌, List, Option, None, Ok, Contains, slice_set}
 use Rattle.xn_model.specs.Types.{Types}
 use Rattle.xn_model.specs.Lives.{StoreState}
 use Rattle.ffs_model.specs.Cuts.{latest}
@@ -12,7 +12,9 @@ use Rattle.ffs_model.specs.Library.{library_layout, IsLibrary, zeros}
 use Rattle.xn_model.specs.Rules.{IsConsistent}
 use Rattle.ffs_lib.specs.declared.places.Found.{Found}
 use Rattle.ffs_lib.specs.declared.places.Slot.{Slot}
-use Rattle.ffs_lib.specs.Newest.{listing, without_entry}
+use Rattle.ffs_format.specs.Fields.{fields_of}
+use Rattle.ffs_lib.specs.Newest.{directory_in, inode_in, listing, without_entry}
+use Rattle.ffs_lib.specs.Results.{HasMore, SameInode}
 use Rattle.ffs_lib.specs.Places.{IsDirectory}
 
 abbrev pub Keeps : Types → ℕ → StoreState → StoreState → Type 0
@@ -87,3 +89,34 @@ StaysListed T fs n old new = IsLibrary T → IsConsistent T old → (d : ℕ) (f
 abbrev pub LosesEntry : Types → ℕ → Slot → StoreState → StoreState → Type 0
 LosesEntry T fs entry old new = IsLibrary T → IsConsistent T old → (d : ℕ) (found : Found) → IsDirectory old fs d found →
     IsDirectory new fs d found × (listing (latest new.lives) found.inode ≡ without_entry entry (listing (latest old.lives) found.inode))
+
+-- What stands in the newest bytes
+--     Stays, StaysBut    all inodes are as before; all but one are
+--     PutsInode          one is these bytes
+--     Enters             a directory has one entry more
+
+abbrev pub Stays : Types → ℕ → StoreState → StoreState → Type 0
+Stays T fs old new = IsLibrary T → IsConsistent T old → (d : ℕ) → SameInode (latest old.lives) (latest new.lives) fs d
+
+abbrev pub StaysBut : Types → ℕ → ℕ → StoreState → StoreState → Type 0
+StaysBut T fs n old new = IsLibrary T → IsConsistent T old → (d : ℕ) → d ≢ n → SameInode (latest old.lives) (latest new.lives) fs d
+
+abbrev pub PutsInode : Types → ℕ → ℕ → List ℕ → StoreState → StoreState → Type 0
+PutsInode T fs n bytes old new = IsLibrary T → IsConsistent T old → (inode_in (latest new.lives) fs n ≡ Ok bytes) × ((d : ℕ) → d ≢ n → SameInode (latest old.lives) (latest new.lives) fs d)
+
+-- the directory's inode points to a block more, and no block changes but its own
+pub record IsGrown (old new : ℕ → List ℕ) (fs d : ℕ) (inode : List ℕ) (index block : ℕ) : Type 0 where
+  pub after : List ℕ
+  pub directory : Ok after ≡ directory_in new fs d
+  pub direct : (fields_of after).direct ≡ slice_set (fields_of inode).direct index block
+  pub bytes : (c : ℕ) → (IsInodes library_layout old fs ((d - 1) / 8) c → ⊥) → new c ≡ old c
+  pub others : (e : ℕ) → e ≢ d → SameInode old new fs e
+
+abbrev pub GrowsDirectory : Types → ℕ → ℕ → ℕ → ℕ → StoreState → StoreState → Type 0
+GrowsDirectory T fs d index block old new = IsLibrary T → IsConsistent T old →
+    (inode : List ℕ) × (Ok inode ≡ directory_in (latest old.lives) fs d) × IsGrown (latest old.lives) (latest new.lives) fs d inode index block
+
+abbrev pub Enters : Types → ℕ → ℕ → List ℕ → ℕ → StoreState → StoreState → Type 0
+Enters T fs d name n old new = IsLibrary T → IsConsistent T old → n ≢ 0 →
+    ((inode : List ℕ) → Ok inode ≡ directory_in (latest old.lives) fs d → HasMore (latest old.lives) (latest new.lives) fs d inode name n)
+    × ((e : ℕ) → e ≢ d → SameInode (latest old.lives) (latest new.lives) fs e)

@@ -1,6 +1,6 @@
 // A volume: the files and directories of a file system.
 
-ghost use Rattle.std.specs.Prelude.{◌≡◌, ◌≢◌, ◌<◌, ◌≤◌, ◌+◌, ◌++◌, true, false, ◌⊎◌, ℕ, length, map, Contains, Ok, Err, IfOk, IfErr, OnOk, OnErr, IfSome, IsOk, IsTrue, MatchResult};
+ghost use Rattle.std.specs.Prelude.{◌≡◌, ◌≢◌, ◌<◌, ◌≤◌, ◌+◌, ◌++◌, true, false, ◌⊎◌, ℕ, List, length, map, Contains, Ok, Err, IfOk, IfErr, OnOk, OnErr, IfSome, IsOk, IsTrue, MatchResult};
 ghost use Rattle.std.specs.List.{range_with_len};
 ghost use Rattle.ffs_format.specs.Entries.{is_name};
 ghost use Rattle.ffs_model.specs.Cuts.{latest};
@@ -11,7 +11,8 @@ ghost use Rattle.ffs_lib.specs.declared.places.Found.{Found};
 ghost use Rattle.ffs_lib.specs.declared.places.Slot.{Slot};
 ghost use Rattle.ffs_model.specs.Volumes.{VolumeKeeps, no_edits};
 ghost use Rattle.ffs_lib.specs.Places.{IsDirectory, IsFree, IsSlot};
-ghost use Rattle.ffs_lib.specs.Outcomes.{Keeps, Leaves, Roots, Starts};
+ghost use Rattle.ffs_lib.specs.Outcomes.{Keeps, Leaves, Roots, Starts, Stays};
+ghost use Rattle.ffs_lib.specs.Results.{MadeEntry};
 
 use crate::data::{BLOCK_LEN, FILE_BLOCKS, raise_size, read_part, write_block};
 use crate::edits;
@@ -245,6 +246,7 @@ impl Volume {
         ensures types { S.types_of store.new ≡ S.types_of store.old }
         ensures fs { self.new.fs ≡ self.old.fs }
         ensures faults { RefusesAs (create_in (latest (S.state_of store.old).lives) self.old.fs.number directory name.now) (S.state_of store.old) (S.state_of store.new) result }
+        ensures made { IfOk result (λ n. MadeEntry (latest (S.state_of store.old).lives) (latest (S.state_of store.new).lives) self.old.fs.number directory name.now FILE n) }
         ensures keeps { IsVolume (S.types_of store.old) (S.state_of store.new) self.new }
     {
         self.make_entry(alloc, store, directory, name, FILE)
@@ -262,6 +264,7 @@ impl Volume {
         ensures types { S.types_of store.new ≡ S.types_of store.old }
         ensures fs { self.new.fs ≡ self.old.fs }
         ensures faults { RefusesAs (create_in (latest (S.state_of store.old).lives) self.old.fs.number directory name.now) (S.state_of store.old) (S.state_of store.new) result }
+        ensures made { IfOk result (λ n. MadeEntry (latest (S.state_of store.old).lives) (latest (S.state_of store.new).lives) self.old.fs.number directory name.now DIRECTORY n) }
         ensures keeps { IsVolume (S.types_of store.old) (S.state_of store.new) self.new }
     {
         self.make_entry(alloc, store, directory, name, DIRECTORY)
@@ -281,6 +284,7 @@ impl Volume {
         ensures types { S.types_of store.new ≡ S.types_of store.old }
         ensures fs { self.new.fs ≡ self.old.fs }
         ensures faults { RefusesAs (create_in (latest (S.state_of store.old).lives) self.old.fs.number directory name.now) (S.state_of store.old) (S.state_of store.new) result }
+        ensures made { IfOk result (λ n. MadeEntry (latest (S.state_of store.old).lives) (latest (S.state_of store.new).lives) self.old.fs.number directory name.now mode n) }
         ensures keeps { IsVolume (S.types_of store.old) (S.state_of store.new) self.new }
     {
         let free = look_up_new(store, self.fs, directory, name)?;
@@ -303,6 +307,8 @@ impl Volume {
         requires used { mode ≢ 0 }
         ensures types { S.types_of store.new ≡ S.types_of store.old }
         ensures fs { self.new.fs ≡ self.old.fs }
+        ensures made { IfOk result (λ n. (inode : List ℕ) → Ok inode ≡ directory_in (latest (S.state_of store.old).lives) self.old.fs.number directory →
+            MadeEntry (latest (S.state_of store.old).lives) (latest (S.state_of store.new).lives) self.old.fs.number directory name.now mode n) }
         ensures keeps { IsVolume (S.types_of store.old) (S.state_of store.new) self.new }
     {
         let free = self.take_free(alloc, store, found)?;
@@ -322,6 +328,7 @@ impl Volume {
         ensures types { S.types_of store.new ≡ S.types_of store.old }
         ensures fs { self.new.fs ≡ self.old.fs }
         ensures keeps { IsVolume (S.types_of store.old) (S.state_of store.new) self.new }
+        ensures stays { OnOk result (Stays (S.types_of store.old) self.old.fs.number (S.state_of store.old) (S.state_of store.new)) }
         ensures free { IfOk result (λ free. IsFree (S.state_of store.new) self.old.fs.number free) }
     {
         match found {
@@ -346,6 +353,8 @@ impl Volume {
         requires used { mode ≢ 0 }
         ensures types { S.types_of store.new ≡ S.types_of store.old }
         ensures fs { self.new.fs ≡ self.old.fs }
+        ensures made { OnOk result ((inode : List ℕ) → Ok inode ≡ directory_in (latest (S.state_of store.old).lives) self.old.fs.number directory →
+            MadeEntry (latest (S.state_of store.old).lives) (latest (S.state_of store.new).lives) self.old.fs.number directory name.now mode free.number) }
         ensures keeps { IsVolume (S.types_of store.old) (S.state_of store.new) self.new }
     {
         has_places(&self.added);
@@ -362,6 +371,7 @@ impl Volume {
         ensures types { S.types_of store.new ≡ S.types_of store.old }
         ensures fs { self.new.fs ≡ self.old.fs }
         ensures keeps { IsVolume (S.types_of store.old) (S.state_of store.new) self.new }
+        ensures stays { OnOk result (Stays (S.types_of store.old) self.old.fs.number (S.state_of store.old) (S.state_of store.new)) }
         ensures free { IfOk result (λ free. IsFree (S.state_of store.new) self.old.fs.number free) }
     {
         has_places(&self.added);
