@@ -124,7 +124,7 @@ module _ (T : Types) (lib : IsLibrary T) (state new : StoreState) (h : IsConsist
 
 -- A new block with one entry is attached
 
-get_mapped : (f : ℕ → ℕ) (n a k : ℕ) → k < n → get_or (map f (range_with_len a n)) k 0 ≡ f (a + k)
+pub get_mapped : (f : ℕ → ℕ) (n a k : ℕ) → k < n → get_or (map f (range_with_len a n)) k 0 ≡ f (a + k)
 get_mapped f zero a k lt = absurd (omega (arith, lt))
 get_mapped f (suc n) a zero lt = let z : a ≡ a + 0 = omega arith in ap f z
 get_mapped f (suc n) a (suc k) lt = let z : a + 1 + k ≡ a + suc k = omega arith in get_mapped f n (a + 1) k (omega (arith, lt)) ∙ ap f z

@@ -18,3 +18,4 @@ pub mod Owners
 pub mod Same
 pub mod More
 pub mod Entering
+pub mod Writing

@@ -11,7 +11,7 @@ use Rattle.xn_model.specs.Root.{slot, word_at}
 use Rattle.xn_model.specs.Lives.{Life, StoreState, life_at}
 use Rattle.xn_model.specs.Calls.{Edit, init_of, propose_of}
 use Rattle.xn_model.specs.Rules.{IsConsistent}
-use Rattle.ffs_model.specs.Cuts.{Under, latest, root}
+use Rattle.ffs_model.specs.Cuts.{Under, latest, root, step}
 use Rattle.ffs_model.specs.Names.{IsInodes, IsRoot}
 use Rattle.ffs_model.specs.Volumes.{Reads}
 use Rattle.ffs_model.specs.Library.{IsLibrary, inode_at, inode_blocks, inode_mode, library_layout, pointer_word, zeros}
@@ -108,6 +108,26 @@ module _ (T : Types) (lib : IsLibrary T) (v w : ℕ → List ℕ) (fs block ty :
       let at = under_inodes T library_layout (library_reads T lib) v fs ((d - 1) / 8) b is in
       ap (λ m. inode_at m ((d - 1) % 8)) (t.others b 4 at (t.apart b 4 at (λ z. other (sym z)))))
 
+-- what is reached after a new block was begun was so before
+pub reached_before : (T : Types) (v w : ℕ → List ℕ) (fs block ty : ℕ) → Touches T v w fs block ty → ((c u : ℕ) → Under T v fs c u → c ≢ block) → (c u : ℕ) → Under T w fs c u → Under T v fs c u
+reached_before T v w fs block ty t apart c u (root e ne) = root (ap (λ m. slot m fs) (sym t.top) ∙ e) ne
+reached_before T v w fs block ty t apart c u (step {b = b} {t = k} r i) =
+    let before = reached_before T v w fs block ty t apart b k r in
+    step before (subst (λ m. Contains (T.owned k m) (c, u)) (t.others b k before (apart b k before)) i)
+
+-- where the block of pointers stays, so do the blocks of a file
+pub file_block_by : (v w : ℕ → List ℕ) (inode : List ℕ) → (word_at inode 56 ≢ 0 → w (word_at inode 56) ≡ v (word_at inode 56)) → (i : ℕ) → file_block w inode i ≡ file_block v inode i
+file_block_by v w inode same i = go (nat_lt i 12) (cases_eq (word_at inode 56) 0)
+  where
+    go : (b : Bool) → (word_at inode 56 ≡ 0) ⊎ (word_at inode 56 ≢ 0) →
+        (if b then direct_in inode i else if word_at inode 56 == 0 then 0 else pointer_word (w (word_at inode 56)) (i - 12))
+        ≡ (if b then direct_in inode i else if word_at inode 56 == 0 then 0 else pointer_word (v (word_at inode 56)) (i - 12))
+    go true c = refl
+    go false (inl e) =
+        ap (λ (x : Bool). if x then 0 else pointer_word (w (word_at inode 56)) (i - 12)) (eq-eqb (word_at inode 56) 0 e)
+        ∙ sym (ap (λ (x : Bool). if x then 0 else pointer_word (v (word_at inode 56)) (i - 12)) (eq-eqb (word_at inode 56) 0 e))
+    go false (inr ne) = ap (λ m. if word_at inode 56 == 0 then 0 else pointer_word m (i - 12)) (same ne)
+
 -- The block is none of an inode's.
 pub record Avoids (v : ℕ → List ℕ) (inode : List ℕ) (block : ℕ) : Type 0 where
   pub pointers : word_at inode 56 ≢ 0 → word_at inode 56 ≢ block
@@ -130,16 +150,7 @@ module _ (T : Types) (lib : IsLibrary T) (state : StoreState) (h : IsConsistent 
       pointers_same ne = t.others (word_at inode 56) 5 (pointers_at T lib state h fs few d inode s (word_at inode 56) refl ne) (a.pointers ne)
 
       pub file_block_same : (i : ℕ) → file_block w inode i ≡ file_block v inode i
-      file_block_same i = go (nat_lt i 12) (cases_eq (word_at inode 56) 0)
-        where
-          go : (b : Bool) → (word_at inode 56 ≡ 0) ⊎ (word_at inode 56 ≢ 0) →
-              (if b then direct_in inode i else if word_at inode 56 == 0 then 0 else pointer_word (w (word_at inode 56)) (i - 12))
-              ≡ (if b then direct_in inode i else if word_at inode 56 == 0 then 0 else pointer_word (v (word_at inode 56)) (i - 12))
-          go true c = refl
-          go false (inl e) =
-              ap (λ (x : Bool). if x then 0 else pointer_word (w (word_at inode 56)) (i - 12)) (eq-eqb (word_at inode 56) 0 e)
-              ∙ sym (ap (λ (x : Bool). if x then 0 else pointer_word (v (word_at inode 56)) (i - 12)) (eq-eqb (word_at inode 56) 0 e))
-          go false (inr ne) = ap (λ m. if word_at inode 56 == 0 then 0 else pointer_word m (i - 12)) (pointers_same ne)
+      file_block_same = file_block_by v w inode pointers_same
 
       pub block_bytes : (i k : ℕ) → i < 140 → byte_in w (file_block v inode i) k ≡ byte_in v (file_block v inode i) k
       block_bytes i k low = elim (cases_eq (file_block v inode i) 0) [
@@ -210,7 +221,7 @@ module _ (T : Types) (lib : IsLibrary T) (state : StoreState) (h : IsConsistent 
         blocks = λ j high some e. pointers_apart T lib state h fs few d n inode own r s j block high e is there;
       })
 
-word_read : (b : ℕ) → b < 2 ^ 32 → word_at (to_le_bytes w32 b) 0 ≡ b
+pub word_read : (b : ℕ) → b < 2 ^ 32 → word_at (to_le_bytes w32 b) 0 ≡ b
 unfolding word_at
 word_read b small = from_le_bytes-to_le_bytes_4 b small
 

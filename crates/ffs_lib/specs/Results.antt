@@ -1,6 +1,6 @@
 -- What a call leaves of files and directories, in the newest bytes before it and after it.
 --     SameContents, SameInode    the entries and the bytes of an inode are as before; the inode with a number is, with all it has
---     OthersSame                 so are all inodes but those with two numbers
+--     OthersSame, OnlyChanges    so are all inodes but those with two numbers; but that with one
 --     new_inode                  an inode with one link, size 0 and no block
 --     HasMore, MadeEntry         a directory has one entry more; it names a new inode
 --     byte_written, WritesFile   the bytes of a file after a write
@@ -20,6 +20,9 @@ SameInode old new fs n = (inode_in new fs n ≡ inode_in old fs n) × ((inode : 
 
 abbrev pub OthersSame : (ℕ → List ℕ) → (ℕ → List ℕ) → ℕ → ℕ → ℕ → Type 0
 OthersSame old new fs n m = (d : ℕ) → d ≢ n → d ≢ m → SameInode old new fs d
+
+abbrev pub OnlyChanges : (ℕ → List ℕ) → (ℕ → List ℕ) → ℕ → ℕ → Type 0
+OnlyChanges old new fs n = (d : ℕ) → d ≢ n → SameInode old new fs d
 
 -- Inodes and entries that are made
 

@@ -167,13 +167,13 @@ fn attach_entries<S: Store>(
     Ok(store.propose(fs, home, &edit)?)
 }
 
-/// A block that begins with these bytes.
-pub fn block_with(bytes: &[u8]) -> [u8; 512]
-    requires { length bytes.now ≤ 512 }
-    ensures { result ≡ put zeros 0 bytes.now }
+/// A block of zeros with bytes written at a place.
+pub fn block_with(at: usize, bytes: &[u8]) -> [u8; 512]
+    requires { at + length bytes.now ≤ 512 }
+    ensures { result ≡ put zeros at bytes.now }
 {
     let mut block = [0; 512];
-    block[..bytes.len()].copy_from_slice(bytes);
+    block[at..at + bytes.len()].copy_from_slice(bytes);
     block
 }
 
@@ -200,7 +200,7 @@ pub fn enter<S: Store>(
             Ok(store.propose(fs, block, &edit)?)
         }
         Room::Pointer(index) => {
-            let (block, _) = store.init(fs, DATA, &block_with(&entry))?;
+            let (block, _) = store.init(fs, DATA, &block_with(0, &entry))?;
             let attached = attach_entries(alloc, store, fs, number, index, block, after);
             forgotten(store, fs, block, attached)
         }

@@ -12,7 +12,7 @@ ghost use Rattle.ffs_lib.specs.declared.places.Slot.{Slot};
 ghost use Rattle.ffs_model.specs.Volumes.{VolumeKeeps, no_edits};
 ghost use Rattle.ffs_lib.specs.Places.{IsDirectory, IsFree, IsSlot};
 ghost use Rattle.ffs_lib.specs.Outcomes.{Keeps, Leaves, Roots, Starts, Stays};
-ghost use Rattle.ffs_lib.specs.Results.{MadeEntry};
+ghost use Rattle.ffs_lib.specs.Results.{IsWritten, MadeEntry, OnlyChanges};
 
 use crate::data::{BLOCK_LEN, FILE_BLOCKS, raise_size, read_part, write_block};
 use crate::edits;
@@ -73,7 +73,7 @@ fn first_inodes() -> [u8; 512]
     let mut inode = Inode::free();
     inode.set_mode(DIRECTORY);
     inode.set_links(1);
-    block_with(inode.bytes())
+    block_with(0, inode.bytes())
 }
 
 /// Sets the root slot to a root block without pointers.
@@ -398,6 +398,9 @@ impl Volume {
         requires volume { IsVolume (S.types_of store.old) (S.state_of store.old) self.now }
         ensures types { S.types_of store.new ≡ S.types_of store.old }
         ensures faults { RefusesAs (write_in (latest (S.state_of store.old).lives) self.now.fs.number inode (offset + length bytes.now)) (S.state_of store.old) (S.state_of store.new) result }
+        ensures written { OnOk result ((file : List ℕ) → Ok file ≡ file_in (latest (S.state_of store.old).lives) self.now.fs.number inode →
+            IsWritten (latest (S.state_of store.old).lives) (latest (S.state_of store.new).lives) self.now.fs.number inode file offset bytes.now) }
+        ensures others { OnOk result (OnlyChanges (latest (S.state_of store.old).lives) (latest (S.state_of store.new).lives) self.now.fs.number inode) }
         ensures keeps { IsVolume (S.types_of store.old) (S.state_of store.new) self.now }
     {
         let _ = find_file(store, self.fs, inode)?;
@@ -420,6 +423,9 @@ impl Volume {
         requires volume { IsVolume (S.types_of store.old) (S.state_of store.old) self.now }
         requires within { start + length bytes.now ≤ 71680 }
         ensures types { S.types_of store.new ≡ S.types_of store.old }
+        ensures written { OnOk result ((file : List ℕ) → Ok file ≡ file_in (latest (S.state_of store.old).lives) self.now.fs.number inode →
+            IsWritten (latest (S.state_of store.old).lives) (latest (S.state_of store.new).lives) self.now.fs.number inode file start bytes.now) }
+        ensures others { OnOk result (OnlyChanges (latest (S.state_of store.old).lives) (latest (S.state_of store.new).lives) self.now.fs.number inode) }
         ensures keeps { IsVolume (S.types_of store.old) (S.state_of store.new) self.now }
     {
         let mut at = start;
