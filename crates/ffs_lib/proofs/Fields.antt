@@ -11,14 +11,14 @@ use Rattle.ffs_format.specs.Entries.{entry_of}
 use Rattle.ffs_format.specs.Fields.{fields_of, direct_in}
 
 -- the words that are not 0
-abbrev set_words : List ℕ → List ℕ
+abbrev pub set_words : List ℕ → List ℕ
 set_words ws = blocks_of (filter_map (λ w. unless_empty (w, 2)) ws)
 
 words_of : (f : ℕ → ℕ) (xs : List ℕ) → filter_map (λ i. unless_empty (f i, 2)) xs ≡ filter_map (λ w. unless_empty (w, 2)) (map f xs)
 words_of f [] = refl
 words_of f (x ∷ xs) = ap (cons_option (unless_empty (f x, 2))) (words_of f xs)
 
-blocks_are : (bytes : List ℕ) → inode_blocks bytes ≡ set_words (fields_of bytes).direct
+pub blocks_are : (bytes : List ℕ) → inode_blocks bytes ≡ set_words (fields_of bytes).direct
 blocks_are bytes = ap blocks_of (words_of (direct_in bytes) (range_with_len 0 12))
 
 pub same_blocks : (a b : List ℕ) → (fields_of b).direct ≡ (fields_of a).direct → inode_blocks b ≡ inode_blocks a

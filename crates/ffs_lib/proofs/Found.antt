@@ -35,8 +35,8 @@ module _ (state : StoreState) (fs n : ℕ) (found : Found) (is : IsFound state f
   found_mode = mode_read (latest state.lives found.block) found.place is.stands.few ∙ ap inode_mode (sym is.bytes)
 
 module _ (state : StoreState) (fs n : ℕ) (found : Found) (dir : IsDirectory state fs n found) (i b : ℕ) (few : i < 12) (e : word_at found.inode (8 + 4 * i) ≡ b) (ne : b ≢ 0) (bytes : List ℕ) (are : latest state.lives b ≡ bytes) (whole : length bytes ≡ 512) where
-  pub gap_is : (place : ℕ) → place < 16 → IsGap state found b place
-  gap_is place low = record { has = found_has state fs n found dir.is i b few e ne; few = low; long = ap length are ∙ whole }
+  pub gap_is : (place : ℕ) → place < 16 → half_at bytes (32 * place) ≡ 0 → IsGap state found b place
+  gap_is place low empty = record { has = found_has state fs n found dir.is i b few e ne; few = low; empty = ap (λ m. half_at m (32 * place)) are ∙ empty; long = ap length are ∙ whole }
 
   pub slot_is : (place inode : ℕ) → place < 16 → half_at bytes (32 * place) ≢ 0 → inode ≡ half_at bytes (32 * place) → IsSlot state fs (record { block = b; place = place; inode = inode })
   slot_is place inode low some is = record {

@@ -1,9 +1,9 @@
 -- What an edit leaves of the directories that it does not touch, and what it takes from the one that it does.
-use Rattle.std.proofs.Common.{◌≡◌, ℕ, ◌+◌, ◌-◌, ◌*◌, ◌<◌, ◌≤◌, ◌≢◌, ◌⊎◌, Bool, true, false, cond, List, [], ◌∷◌, ◌++◌, map, length, take, drop, replicate, get_or, Option, Some, None, Ok, refl, sym, ◌∙◌, ap, inl, inr, arith, subst, append_assoc, eq-eqb, length-append, get_or-take, get_or-drop}
+use Rattle.std.proofs.Common.{◌≡◌, ℕ, ◌+◌, ◌-◌, ◌*◌, ◌<◌, ◌≤◌, ◌≢◌, ◌⊎◌, Bool, true, false, cond, List, [], ◌∷◌, ◌++◌, map, length, take, drop, replicate, get_or, Option, Some, None, Ok, refl, sym, ◌∙◌, ap, inl, inr, arith, subst, eq-eqb, get_or-take, get_or-drop}
 use Rattle.std.specs.Prelude.{Contains, ◌==◌, ◌&&◌, not, min, filter, filter_map, flat_map, if◌then◌else◌}
 use Rattle.std.specs.List.{range_with_len, cons_option}
 use Rattle.std.proofs.lemmas.Bool.{cases_eq, cases_lt, ne_eqb}
-use Rattle.std.proofs.lemmas.List.{drop-drop, drop-take, drop_at, length-take, length-drop, map-append, take-append-le, take-take}
+use Rattle.std.proofs.lemmas.List.{map-append}
 use Rattle.std.proofs.lemmas.List.Elements.{filter-append}
 use Rattle.std.proofs.lemmas.Option.{none-some, same_Some}
 use Rattle.xn_model.specs.Types.{Types}
@@ -16,7 +16,7 @@ use Rattle.xn_model.proofs.ForCallers.{Contains-head, Contains-tail}
 use Rattle.ffs_model.specs.Cuts.{Under, root, latest}
 use Rattle.ffs_model.specs.Names.{IsInodes, IsRoot}
 use Rattle.ffs_model.specs.Library.{IsLibrary, half_at, inode_at, inode_blocks, library_layout}
-use Rattle.ffs_model.proofs.ForCallers.{half_apart, half_within, latest_reached, one_type, proposed_others}
+use Rattle.ffs_model.proofs.ForCallers.{bytes_apart, bytes_within, half_apart, half_within, latest_reached, one_type, proposed_others}
 use Rattle.ffs_format.specs.Entries.{name_in}
 use Rattle.ffs_lib.specs.declared.places.Found.{Found}
 use Rattle.ffs_lib.specs.declared.places.Slot.{Slot}
@@ -26,46 +26,20 @@ use Rattle.ffs_lib.specs.Places.{IsDirectory}
 -- Bytes written at a place, and those apart from it
 
 module _ (m : List ℕ) (at : ℕ) (bs : List ℕ) (within : at + length bs ≤ length m) where
-  front_length : length (take at m) ≡ at
-  front_length = rw length-take (omega arith)
-
-  take_put : (n : ℕ) → n ≤ at → take n (put m at bs) ≡ take n m
-  take_put n le = ap (take n) (append_assoc (take at m) bs (drop (at + length bs) m)) ∙ (take-append-le n (take at m) (bs ++ drop (at + length bs) m) (rw front_length le) ∙ take-take n at m le)
-
-  drop_put : drop at (put m at bs) ≡ bs ++ drop (at + length bs) m
-  drop_put = ap (drop at) (append_assoc (take at m) bs (drop (at + length bs) m)) ∙ drop_at (take at m) (bs ++ drop (at + length bs) m) at front_length
-
-  drop_past : (n : ℕ) → at + length bs ≤ n → drop n (put m at bs) ≡ drop n m
-  drop_past n le =
-      let rest : ℕ = n - (at + length bs) in
-      let sum1 : n ≡ at + (length bs + rest) = omega arith in
-      let sum2 : n ≡ (at + length bs) + rest = omega arith in
-      ap (λ k. drop k (put m at bs)) sum1
-      ∙ (sym (drop-drop (length bs + rest) at (put m at bs))
-      ∙ (ap (drop (length bs + rest)) drop_put
-      ∙ (sym (drop-drop rest (length bs) (bs ++ drop (at + length bs) m))
-      ∙ (ap (drop rest) (drop_at bs (drop (at + length bs) m) (length bs) refl)
-      ∙ (drop-drop rest (at + length bs) m ∙ ap (λ k. drop k m) (sym sum2))))))
-
-  pub bytes_apart : (n j : ℕ) → (j + n ≤ at) ⊎ (at + length bs ≤ j) → take n (drop j (put m at bs)) ≡ take n (drop j m)
-  bytes_apart n j h = elim h [
-    | inl before ↦ sym (drop-take j n (put m at bs)) ∙ (ap (drop j) (take_put (j + n) before) ∙ drop-take j n m)
-    | inr past ↦ ap (take n) (drop_past j past)
-  ]
-
-  pub length_put : length (put m at bs) ≡ length m
-  length_put =
-      let a = length-append (take at m ++ bs) (drop (at + length bs) m) in
-      let b = length-append (take at m) bs in
-      let c = length-drop (at + length bs) m in
-      let d = front_length in
-      omega (arith, a, b, c, d)
-
-  byte_apart : (j : ℕ) → (j + 1 ≤ at) ⊎ (at + length bs ≤ j) → get_or (put m at bs) j 0 ≡ get_or m j 0
+  pub byte_apart : (j : ℕ) → (j + 1 ≤ at) ⊎ (at + length bs ≤ j) → get_or (put m at bs) j 0 ≡ get_or m j 0
   byte_apart j h =
       let z : j + 0 ≡ j = omega arith in
       let one = λ (xs : List ℕ). get_or-take 1 (drop j xs) 0 0 (omega arith) ∙ (get_or-drop j xs 0 0 ∙ ap (λ k. get_or xs k 0) z) in
-      sym (one (put m at bs)) ∙ (ap (λ xs. get_or xs 0 0) (bytes_apart 1 j h) ∙ one m)
+      sym (one (put m at bs)) ∙ (ap (λ xs. get_or xs 0 0) (bytes_apart m at bs within 1 j h) ∙ one m)
+
+  -- a byte of what is written
+  pub byte_within : (j : ℕ) → j < length bs → get_or (put m at bs) (at + j) 0 ≡ get_or bs j 0
+  byte_within j low =
+      let z : at + j + 0 ≡ at + j = omega arith in
+      let y : j + 0 ≡ j = omega arith in
+      let one = λ (xs : List ℕ) (k : ℕ). get_or-take 1 (drop k xs) 0 0 (omega arith) ∙ get_or-drop k xs 0 0 in
+      ap (λ k. get_or (put m at bs) k 0) (sym z)
+      ∙ (sym (one (put m at bs) (at + j)) ∙ (ap (λ xs. get_or xs 0 0) (bytes_within m at bs within 1 j (omega (arith, low))) ∙ (one bs j ∙ ap (λ k. get_or bs k 0) y)))
 
 -- Entries that another one is written beside
 
@@ -87,10 +61,10 @@ module _ (m : List ℕ) (long : length m ≡ 512) (p : ℕ) (few : p < 16) (bs :
 
 -- Listings, block by block
 
-abbrev listed_at : ℕ → List ℕ → ℕ → Option (Slot × List ℕ)
+abbrev pub listed_at : ℕ → List ℕ → ℕ → Option (Slot × List ℕ)
 listed_at b m place = if half_at m (32 * place) == 0 then None else Some (record { block = b; place = place; inode = half_at m (32 * place) }, name_in m (32 * place))
 
-abbrev listed_in : (ℕ → List ℕ) → ℕ → List (Slot × List ℕ)
+abbrev pub listed_in : (ℕ → List ℕ) → ℕ → List (Slot × List ℕ)
 listed_in content b = filter_map (listed_at b (content b)) (range_with_len 0 16)
 
 listed_step : (content : ℕ → List ℕ) (b x : ℕ) (rest : List Slot) (empty : Bool) →
@@ -105,14 +79,14 @@ listed_places content b [] = refl
 listed_places content b (x ∷ xs) =
     listed_step content b x (filter_map (λ place. used_entry (entry_at content b place)) xs) (half_at (content b) (32 * x) == 0) ∙ ap (cons_option (listed_at b (content b) x)) (listed_places content b xs)
 
-listed_blocks : (content : ℕ → List ℕ) (bs : List ℕ) → map {B = Slot × List ℕ} (λ (e : Slot). (e, name_at content e)) (flat_map (entries_in content) bs) ≡ flat_map (listed_in content) bs
+pub listed_blocks : (content : ℕ → List ℕ) (bs : List ℕ) → map {B = Slot × List ℕ} (λ (e : Slot). (e, name_at content e)) (flat_map (entries_in content) bs) ≡ flat_map (listed_in content) bs
 listed_blocks content [] = refl
 listed_blocks content (b ∷ bs) =
     map-append (λ (e : Slot). (e, name_at content e)) (entries_in content b) (flat_map (entries_in content) bs)
     ∙ (ap (λ xs. xs ++ map {B = Slot × List ℕ} (λ (e : Slot). (e, name_at content e)) (flat_map (entries_in content) bs)) (listed_places content b (range_with_len 0 16))
     ∙ ap (λ xs. listed_in content b ++ xs) (listed_blocks content bs))
 
-same_listed : (v w : ℕ → List ℕ) (bs : List ℕ) → ((b : ℕ) → Contains bs b → v b ≡ w b) → flat_map (listed_in v) bs ≡ flat_map (listed_in w) bs
+pub same_listed : (v w : ℕ → List ℕ) (bs : List ℕ) → ((b : ℕ) → Contains bs b → v b ≡ w b) → flat_map (listed_in v) bs ≡ flat_map (listed_in w) bs
 same_listed v w [] h = refl
 same_listed v w (b ∷ bs) h =
     ap (λ m. filter_map (listed_at b m) (range_with_len 0 16) ++ flat_map (listed_in v) bs) (h b (Contains-head b bs)) ∙ ap (λ xs. listed_in w b ++ xs) (same_listed v w bs (λ c i. h c (Contains-tail b bs c i)))

@@ -13,7 +13,7 @@ use Rattle.ffs_model.specs.Volumes.{VolumeKeeps, CanName}
 use Rattle.ffs_model.specs.Library.{library_layout, IsLibrary, zeros}
 use Rattle.ffs_model.proofs.ForCallers.{ended_keeps, library_reads, started, started_here, started_holds, started_keeps, started_names}
 use Rattle.ffs_lib.specs.declared.fault.FfsFault.{FfsFault}
-use Rattle.ffs_lib.specs.Outcomes.{Keeps, Adds, Attaches, Grows, IsAdded, Names}
+use Rattle.ffs_lib.specs.Outcomes.{Keeps, Adds, Attaches, Clears, Grows, IsAdded, Lets, Names, Unlinks}
 use Rattle.ffs_lib.proofs.Stores.{gives_err, gives_ok}
 
 pub refused : {A : Type 0} (T : Types) (fs : ℕ) (array : ℕ → Option ℕ) (r : Result (A × StoreState) Refusal) (old new : StoreState) (refusal : Refusal) → Gives r old new (Err refusal) →
@@ -93,3 +93,16 @@ on_ok (Err e) p = tt
 pub handed_on : {A E : Type 0} (P : Type 0) (answer result : Result A E) → IfOk result (λ value. answer ≡ Ok value) → OnOk answer P → OnOk result P
 handed_on P answer (Err e) is h = tt
 handed_on {A} {E} P answer (Ok x) is h = subst (λ (r : Result A E). OnOk r P) is h
+
+pub handed_with : {A E : Type 0} (P : A → Type 0) (answer result : Result A E) → IfOk result (λ value. answer ≡ Ok value) → IfOk answer P → IfOk result P
+handed_with P answer (Err e) is h = tt
+handed_with {A} {E} P answer (Ok x) is h = subst (λ (r : Result A E). IfOk r P) is h
+
+-- a name more, and a name less
+pub named_again : (T : Types) (fs : ℕ) (array : ℕ → Option ℕ) (n entry : ℕ) (zeroth first second : StoreState) → IsLibrary T → n ≢ 0 → VolumeKeeps T library_layout fs array zeroth → Lets T fs zeroth first n entry → Names T fs first second n entry →
+    VolumeKeeps T library_layout fs array second
+named_again T fs array n entry zeroth first second lib some v lets names = let x = lets lib array v in names lib array x.0 some x.1
+
+pub named_less : (T : Types) (fs : ℕ) (array : ℕ → Option ℕ) (n entry : ℕ) (zeroth first second : StoreState) → IsLibrary T → n ≢ 0 → VolumeKeeps T library_layout fs array zeroth → Clears T fs zeroth first n entry → Unlinks T fs first second n entry →
+    VolumeKeeps T library_layout fs array second
+named_less T fs array n entry zeroth first second lib some v clears unlinks = let x = clears lib array v in unlinks lib array x.0 some x.1

@@ -14,3 +14,8 @@ pub mod Frames
 pub mod Listed
 pub mod Rooms
 pub mod Creating
+pub mod Owners
+pub mod Same
+pub mod More
+pub mod Entering
+pub mod Writing

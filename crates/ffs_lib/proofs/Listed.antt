@@ -6,18 +6,18 @@ use Rattle.xn_model.specs.Types.{Types, fits}
 use Rattle.xn_model.specs.Lists.{put}
 use Rattle.xn_model.specs.Lives.{StoreState, bytes_of}
 use Rattle.xn_model.specs.Calls.{Edit, life_bytes, propose_of}
-use Rattle.xn_model.proofs.ForCallers.{last_of}
+use Rattle.xn_model.proofs.ForCallers.{last_of, length_put}
 use Rattle.xn_model.specs.Rules.{IsConsistent}
 use Rattle.ffs_model.specs.Cuts.{Under, root, latest}
 use Rattle.ffs_model.specs.Library.{IsLibrary, inode_at, inode_blocks, library_layout}
-use Rattle.ffs_model.proofs.ForCallers.{blocks_read, latest_reached, library_reads, proposed_here, proposed_others, under_direct, under_inodes}
+use Rattle.ffs_model.proofs.ForCallers.{blocks_read, bytes_apart, latest_reached, library_reads, proposed_here, proposed_others, under_direct, under_inodes}
 use Rattle.ffs_lib.specs.declared.places.Found.{Found}
 use Rattle.ffs_lib.specs.declared.places.Slot.{Slot}
 use Rattle.ffs_lib.specs.Edits.{edit_at}
 use Rattle.ffs_lib.specs.Places.{IsDirectory, IsPlace, IsSlot}
 use Rattle.ffs_lib.specs.Newest.{listing, without_entry}
 use Rattle.ffs_lib.proofs.Edited.{same_root}
-use Rattle.ffs_lib.proofs.Frames.{bytes_apart, directory_kept, length_put, listing_same, listing_without, other_type}
+use Rattle.ffs_lib.proofs.Frames.{directory_kept, listing_same, listing_without, other_type}
 
 module _ (T : Types) (lib : IsLibrary T) (state new : StoreState) (h : IsConsistent T state) (fs : ℕ) (few : fs < 32) where
   -- a directory's own blocks, and the block of its inode
@@ -30,7 +30,7 @@ module _ (T : Types) (lib : IsLibrary T) (state new : StoreState) (h : IsConsist
       under_direct T library_layout (library_reads T lib) (latest state.lives) fs (library_layout.home d).0 found.block found.place b dir.is.stands.inodes
       (subst (λ xs. Contains xs b) (sym (blocks_read m found.place dir.is.stands.few)) (subst (λ bytes. Contains (inode_blocks bytes) b) dir.is.bytes i))
 
-  fits_newest : (c u : ℕ) → Under T (latest state.lives) fs c u → IsTrue (fits T u (latest state.lives c))
+  pub fits_newest : (c u : ℕ) → Under T (latest state.lives) fs c u → IsTrue (fits T u (latest state.lives c))
   fits_newest c u at =
       let x = latest_reached T state h fs few c u at in
       let k = h.linked c x.life x.alive in

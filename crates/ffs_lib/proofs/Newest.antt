@@ -170,7 +170,7 @@ pointer_from m j b e ne = go (nat_lt j 16) e
     go true e = e
     go false e = absurd (ne (sym e))
 
-block_again : (content : ℕ → List ℕ) (fs j b : ℕ) → IsInodes library_layout content fs j b → Ok b ≡ inode_block_in content fs j
+pub block_again : (content : ℕ → List ℕ) (fs j b : ℕ) → IsInodes library_layout content fs j b → Ok b ≡ inode_block_in content fs j
 block_again content fs j b x =
     not_zero b x.there ∙ (ap unless_zero (sym (pointer_from (content x.root) j b x.points x.there)) ∙ in_root_block content fs j x.root (content x.root) (root_again content fs x.root x.is_root) refl)
 

@@ -27,7 +27,7 @@ pub record IsReadable (state : StoreState) (fs c u : ℕ) : Type 0 where
   pub kind : kind_of state fs c ≡ Ok u
 
 module _ (T : Types) (state : StoreState) (h : IsConsistent T state) (fs : ℕ) (few : fs < 32) where
-  owner_of : (b t c u : ℕ) (l : Life) → life_at state.lives b ≡ Some l → l.ty ≡ t → Contains (T.owned t (latest state.lives b)) (c, u) → IsOwnedBy state.lives b c
+  pub owner_of : (b t c u : ℕ) (l : Life) → life_at state.lives b ≡ Some l → l.ty ≡ t → Contains (T.owned t (latest state.lives b)) (c, u) → IsOwnedBy state.lives b c
   owner_of b t c u l alive ty i =
       let k = h.linked b l alive in
       let bytes : latest state.lives b ≡ k.last.bytes = ap life_bytes alive ∙ ap bytes_of k.is_last in

@@ -1,10 +1,11 @@
 -- What the edits of a volume leave, each for every array of numbers for which a volume's rules held before.
 --     Keeps T fs old new      a volume's rules hold on
 --     IsMade, ..              and what may come next
-use Rattle.std.specs.Prelude.{◌≡◌, ◌≢◌, ℕ, List, Option, None, Contains}
+use Rattle.std.specs.Prelude.{◌≡◌, ◌≢◌, ℕ, ◌-◌, ◌/◌, ◌<◌, List, [], Option, None, Ok, Contains, length, max, ◌+◌, slice_set}
 use Rattle.xn_model.specs.Types.{Types}
+use Rattle.xn_model.specs.Root.{word_at}
 use Rattle.xn_model.specs.Lives.{StoreState}
-use Rattle.ffs_model.specs.Cuts.{latest}
+use Rattle.ffs_model.specs.Cuts.{Under, latest}
 use Rattle.ffs_model.specs.Names.{IsInodes}
 use Rattle.ffs_model.specs.Edits.{HoldsOnly, OneEntry}
 use Rattle.ffs_model.specs.Volumes.{VolumeKeeps, CanName, CanUnlink, with_edit, without_edit}
@@ -12,7 +13,9 @@ use Rattle.ffs_model.specs.Library.{library_layout, IsLibrary, zeros}
 use Rattle.xn_model.specs.Rules.{IsConsistent}
 use Rattle.ffs_lib.specs.declared.places.Found.{Found}
 use Rattle.ffs_lib.specs.declared.places.Slot.{Slot}
-use Rattle.ffs_lib.specs.Newest.{listing, without_entry}
+use Rattle.ffs_format.specs.Fields.{fields_of}
+use Rattle.ffs_lib.specs.Newest.{byte_of, directory_in, file_block, file_in, inode_in, listing, without_entry}
+use Rattle.ffs_lib.specs.Results.{HasMore, SameInode, byte_written}
 use Rattle.ffs_lib.specs.Places.{IsDirectory}
 
 abbrev pub Keeps : Types → ℕ → StoreState → StoreState → Type 0
@@ -87,3 +90,90 @@ StaysListed T fs n old new = IsLibrary T → IsConsistent T old → (d : ℕ) (f
 abbrev pub LosesEntry : Types → ℕ → Slot → StoreState → StoreState → Type 0
 LosesEntry T fs entry old new = IsLibrary T → IsConsistent T old → (d : ℕ) (found : Found) → IsDirectory old fs d found →
     IsDirectory new fs d found × (listing (latest new.lives) found.inode ≡ without_entry entry (listing (latest old.lives) found.inode))
+
+-- What stands in the newest bytes
+--     Stays, StaysBut    all inodes are as before; all but one are
+--     PutsInode          one is these bytes
+--     Enters             a directory has one entry more
+
+abbrev pub Stays : Types → ℕ → StoreState → StoreState → Type 0
+Stays T fs old new = IsLibrary T → IsConsistent T old → (d : ℕ) → SameInode (latest old.lives) (latest new.lives) fs d
+
+abbrev pub StaysBut : Types → ℕ → ℕ → StoreState → StoreState → Type 0
+StaysBut T fs n old new = IsLibrary T → IsConsistent T old → (d : ℕ) → d ≢ n → SameInode (latest old.lives) (latest new.lives) fs d
+
+abbrev pub PutsInode : Types → ℕ → ℕ → List ℕ → StoreState → StoreState → Type 0
+PutsInode T fs n bytes old new = IsLibrary T → IsConsistent T old → (inode_in (latest new.lives) fs n ≡ Ok bytes) × ((d : ℕ) → d ≢ n → SameInode (latest old.lives) (latest new.lives) fs d)
+
+-- the directory's inode points to a block more, and no block changes but its own
+pub record IsGrown (old new : ℕ → List ℕ) (fs d : ℕ) (inode : List ℕ) (index block : ℕ) : Type 0 where
+  pub after : List ℕ
+  pub directory : Ok after ≡ directory_in new fs d
+  pub direct : (fields_of after).direct ≡ slice_set (fields_of inode).direct index block
+  pub bytes : (c : ℕ) → (IsInodes library_layout old fs ((d - 1) / 8) c → ⊥) → new c ≡ old c
+  pub others : (e : ℕ) → e ≢ d → SameInode old new fs e
+
+abbrev pub GrowsDirectory : Types → ℕ → ℕ → ℕ → ℕ → StoreState → StoreState → Type 0
+GrowsDirectory T fs d index block old new = IsLibrary T → IsConsistent T old →
+    (inode : List ℕ) × (Ok inode ≡ directory_in (latest old.lives) fs d) × IsGrown (latest old.lives) (latest new.lives) fs d inode index block
+
+abbrev pub Enters : Types → ℕ → ℕ → List ℕ → ℕ → StoreState → StoreState → Type 0
+Enters T fs d name n old new = IsLibrary T → IsConsistent T old → n ≢ 0 →
+    ((inode : List ℕ) → Ok inode ≡ directory_in (latest old.lives) fs d → HasMore (latest old.lives) (latest new.lives) fs d inode name n)
+    × ((e : ℕ) → e ≢ d → SameInode (latest old.lives) (latest new.lives) fs e)
+
+-- What stands in the bytes of a file
+--     WritesBytes      bytes are written into it, and its size stays
+--     AttachesBlock    it has a new block, where it had none
+--     RaisesSize       its size is raised
+
+pub record WroteBytes (old new : ℕ → List ℕ) (fs n : ℕ) (inode : List ℕ) (start : ℕ) (bytes : List ℕ) : Type 0 where
+  pub after : List ℕ
+  pub file : Ok after ≡ file_in new fs n
+  pub size : word_at after 4 ≡ word_at inode 4
+  pub each : (at : ℕ) → at < 71680 → byte_of new after at ≡ byte_written (byte_of old inode) start bytes at
+
+abbrev pub WritesBytes : Types → ℕ → ℕ → ℕ → List ℕ → StoreState → StoreState → Type 0
+WritesBytes T fs n start bytes old new = IsLibrary T → (array : ℕ → Option ℕ) → VolumeKeeps T library_layout fs array old →
+    ((inode : List ℕ) → Ok inode ≡ file_in (latest old.lives) fs n → WroteBytes (latest old.lives) (latest new.lives) fs n inode start bytes)
+    × ((d : ℕ) → d ≢ n → SameInode (latest old.lives) (latest new.lives) fs d)
+
+-- one block that is no data changed
+pub record HasBlock (T : Types) (old new : ℕ → List ℕ) (fs n : ℕ) (inode : List ℕ) (index block : ℕ) : Type 0 where
+  pub after : List ℕ
+  pub file : Ok after ≡ file_in new fs n
+  pub size : word_at after 4 ≡ word_at inode 4
+  pub here : file_block new after index ≡ block
+  pub elsewhere : (i : ℕ) → i < 140 → i ≢ index → file_block new after i ≡ file_block old inode i
+  pub home : ℕ
+  pub type_of : ℕ
+  pub reached : Under T old fs home type_of
+  pub no_data : type_of ≢ 2
+  pub bytes : (c : ℕ) → c ≢ home → new c ≡ old c
+  pub others : (d : ℕ) → d ≢ n → SameInode old new fs d
+
+abbrev pub AttachesBlock : Types → ℕ → ℕ → ℕ → ℕ → StoreState → StoreState → Type 0
+AttachesBlock T fs n index block old new = IsLibrary T → IsConsistent T old →
+    (inode : List ℕ) × (Ok inode ≡ file_in (latest old.lives) fs n) × HasBlock T (latest old.lives) (latest new.lives) fs n inode index block
+
+-- the same at one of the places of its block of pointers, which is a whole block
+abbrev pub AttachesData : Types → ℕ → ℕ → ℕ → ℕ → StoreState → StoreState → Type 0
+AttachesData T fs n place block old new = IsLibrary T → IsConsistent T old → ((inode : List ℕ) → Ok inode ≡ file_in (latest old.lives) fs n → length (latest old.lives (word_at inode 56)) ≡ 512) →
+    (inode : List ℕ) × (Ok inode ≡ file_in (latest old.lives) fs n) × HasBlock T (latest old.lives) (latest new.lives) fs n inode (12 + place) block
+
+-- a block of pointers that are all 0
+abbrev pub AttachesPointers : Types → ℕ → ℕ → ℕ → StoreState → StoreState → Type 0
+AttachesPointers T fs n block old new = IsLibrary T → IsConsistent T old → latest old.lives block ≡ zeros → ((c u : ℕ) → Under T (latest old.lives) fs c u → c ≢ block) →
+    ((inode : List ℕ) → Ok inode ≡ file_in (latest old.lives) fs n → word_at inode 56 ≡ 0 → WroteBytes (latest old.lives) (latest new.lives) fs n inode 0 [])
+    × ((d : ℕ) → d ≢ n → SameInode (latest old.lives) (latest new.lives) fs d)
+
+pub record IsRaised (old new : ℕ → List ℕ) (fs n : ℕ) (inode : List ℕ) (size : ℕ) : Type 0 where
+  pub after : List ℕ
+  pub file : Ok after ≡ file_in new fs n
+  pub sized : word_at after 4 ≡ max (word_at inode 4) size
+  pub each : (at : ℕ) → at < 71680 → byte_of new after at ≡ byte_of old inode at
+
+abbrev pub RaisesSize : Types → ℕ → ℕ → ℕ → StoreState → StoreState → Type 0
+RaisesSize T fs n size old new = IsLibrary T → (array : ℕ → Option ℕ) → VolumeKeeps T library_layout fs array old →
+    ((inode : List ℕ) → Ok inode ≡ file_in (latest old.lives) fs n → IsRaised (latest old.lives) (latest new.lives) fs n inode size)
+    × ((d : ℕ) → d ≢ n → SameInode (latest old.lives) (latest new.lives) fs d)

@@ -3,11 +3,12 @@
 --     IsFound, IsDirectory, IsFile       it does, and is in use, is a directory, is none
 --     IsFree, IsEmptyPointer             a free inode; an empty pointer of the root block
 --     IsSlot, IsRoom                     an entry of a directory; where one has room for an entry
-use Rattle.std.specs.Prelude.{◌≡◌, ◌≢◌, ℕ, ◌<◌, ◌≤◌, length, Contains}
+use Rattle.std.specs.Prelude.{◌≡◌, ◌≢◌, ℕ, ◌<◌, ◌≤◌, ◌*◌, length, Contains}
 use Rattle.xn_model.specs.Lives.{StoreState}
 use Rattle.ffs_model.specs.Cuts.{latest}
 use Rattle.ffs_model.specs.Names.{IsRoot, IsInodes, Names}
-use Rattle.ffs_model.specs.Library.{library_layout, inode_at, inode_mode, pointer_word}
+use Rattle.ffs_model.specs.Library.{library_layout, half_at, inode_at, inode_mode, pointer_word}
+use Rattle.ffs_format.specs.Fields.{direct_in}
 use Rattle.ffs_lib.specs.declared.places.Found.{Found}
 use Rattle.ffs_lib.specs.declared.places.Free.{Free}
 use Rattle.ffs_lib.specs.declared.places.Slot.{Slot}
@@ -52,12 +53,13 @@ pub record IsSlot (state : StoreState) (fs : ℕ) (slot : Slot) : Type 0 where
   pub few : slot.place < 16
   pub long : length (latest state.lives slot.block) ≡ 512
 
--- a place of a block that the directory points to
+-- a place without an entry in a block that the directory points to
 pub record IsGap (state : StoreState) (directory : Found) (block place : ℕ) : Type 0 where
   pub has : Contains (library_layout.direct (latest state.lives directory.block) directory.place) block
   pub few : place < 16
+  pub empty : half_at (latest state.lives block) (32 * place) ≡ 0
   pub long : length (latest state.lives block) ≡ 512
 
 abbrev pub IsRoom : StoreState → Found → Room → Type 0
 IsRoom state directory (Entry block place) = IsGap state directory block place
-IsRoom state directory (Pointer index) = index < 12
+IsRoom state directory (Pointer index) = (index < 12) × (direct_in directory.inode index ≡ 0)

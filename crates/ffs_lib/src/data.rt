@@ -1,17 +1,17 @@
 // The bytes of files.
 
-ghost use Rattle.std.specs.Prelude.{◌≡◌, ◌≢◌, ◌<◌, ◌≤◌, ◌+◌, ◌/◌, ◌%◌, length, map, Ok, IfOk, IsOk, OnOk};
+ghost use Rattle.std.specs.Prelude.{◌≡◌, ◌≢◌, ◌<◌, ◌≤◌, ◌+◌, ◌*◌, ◌/◌, ◌%◌, [], length, map, Ok, IfOk, IsOk, OnOk};
 ghost use Rattle.std.specs.List.{range_with_len};
 ghost use Rattle.ffs_model.specs.Cuts.{Under, latest};
 ghost use Rattle.ffs_model.specs.Library.{IsLibrary};
 ghost use Rattle.ffs_lib.specs.Newest.{byte_in, byte_of, file_block};
-ghost use Rattle.ffs_lib.specs.Outcomes.{Keeps};
+ghost use Rattle.ffs_lib.specs.Outcomes.{Keeps, AttachesBlock, AttachesData, AttachesPointers, RaisesSize, WritesBytes};
 ghost use Rattle.ffs_lib.specs.Places.{IsFile};
 
 use crate::edits;
 use crate::fault::FfsFault;
 use crate::places::{Found, find_file, read_block};
-use crate::steps::{DATA, POINTER_BLOCK, POINTERS, forgotten};
+use crate::steps::{DATA, POINTER_BLOCK, POINTERS, block_with, forgotten};
 use edit_list::{EditId, Fs};
 use ffs_format::inodes::{DIRECT_POINTERS, INODE_LEN};
 use ffs_format::{pointer, pointer_bytes};
@@ -24,15 +24,6 @@ pub const BLOCK_LEN: usize = 512;
 /// How many blocks a file has at most.
 pub const FILE_BLOCKS: usize = DIRECT_POINTERS + POINTERS;
 
-/// A block of zeros with bytes written at a place.
-fn block_with(at: usize, bytes: &[u8]) -> [u8; 512]
-    requires { at + length bytes.now ≤ 512 }
-{
-    let mut block = [0; 512];
-    block[at..at + bytes.len()].copy_from_slice(bytes);
-    block
-}
-
 /// Lets a file's inode point to a new block of data.
 fn attach_direct<S: Store>(
     alloc: Global,
@@ -44,6 +35,7 @@ fn attach_direct<S: Store>(
 ) -> Result<EditId, FfsFault>
     requires { index < 12 }
     ensures types { S.types_of store.new ≡ S.types_of store.old }
+    ensures attached { OnOk result (AttachesBlock (S.types_of store.old) fs.number number index block (S.state_of store.old) (S.state_of store.new)) }
     ensures keeps { Keeps (S.types_of store.old) fs.number (S.state_of store.old) (S.state_of store.new) }
 {
     let Found {
@@ -70,6 +62,7 @@ fn write_direct<S: Store>(
     requires within { at + length bytes.now ≤ 512 }
     requires some { 0 < length bytes.now }
     ensures types { S.types_of store.new ≡ S.types_of store.old }
+    ensures written { OnOk result (WritesBytes (S.types_of store.old) fs.number number (512 * index + at) bytes.now (S.state_of store.old) (S.state_of store.new)) }
     ensures keeps { Keeps (S.types_of store.old) fs.number (S.state_of store.old) (S.state_of store.new) }
 {
     let block = find_file(store, fs, number)?.inode.direct(index);
@@ -78,6 +71,7 @@ fn write_direct<S: Store>(
         let attached = attach_direct(alloc, store, fs, number, index, block);
         return forgotten(store, fs, block, attached);
     }
+    let _ = read_block(store, fs, block)?;
     let edit = edits::change(alloc, at, bytes, None)?;
     Ok(store.propose(fs, block, &edit)?)
 }
@@ -91,6 +85,7 @@ fn attach_pointers<S: Store>(
     block: u32,
 ) -> Result<EditId, FfsFault>
     ensures types { S.types_of store.new ≡ S.types_of store.old }
+    ensures attached { OnOk result (AttachesPointers (S.types_of store.old) fs.number number block (S.state_of store.old) (S.state_of store.new)) }
     ensures keeps { Keeps (S.types_of store.old) fs.number (S.state_of store.old) (S.state_of store.new) }
 {
     let Found {
@@ -112,6 +107,7 @@ fn attach_pointers<S: Store>(
 /// Sees to it that a file has a block of pointers.
 fn add_pointers<S: Store>(alloc: Global, store: &mut S, fs: Fs, number: u16) -> Result<(), FfsFault>
     ensures types { S.types_of store.new ≡ S.types_of store.old }
+    ensures same { OnOk result (WritesBytes (S.types_of store.old) fs.number number 0 [] (S.state_of store.old) (S.state_of store.new)) }
     ensures keeps { Keeps (S.types_of store.old) fs.number (S.state_of store.old) (S.state_of store.new) }
 {
     if find_file(store, fs, number)?.inode.indirect() == 0 {
@@ -133,6 +129,7 @@ fn attach_data<S: Store>(
 ) -> Result<EditId, FfsFault>
     requires { place < 128 }
     ensures types { S.types_of store.new ≡ S.types_of store.old }
+    ensures attached { OnOk result (AttachesData (S.types_of store.old) fs.number number place block (S.state_of store.old) (S.state_of store.new)) }
     ensures keeps { Keeps (S.types_of store.old) fs.number (S.state_of store.old) (S.state_of store.new) }
 {
     let indirect = find_file(store, fs, number)?.inode.indirect();
@@ -157,6 +154,7 @@ fn write_indirect<S: Store>(
     requires within { at + length bytes.now ≤ 512 }
     requires some { 0 < length bytes.now }
     ensures types { S.types_of store.new ≡ S.types_of store.old }
+    ensures written { OnOk result (WritesBytes (S.types_of store.old) fs.number number (512 * (12 + place) + at) bytes.now (S.state_of store.old) (S.state_of store.new)) }
     ensures keeps { Keeps (S.types_of store.old) fs.number (S.state_of store.old) (S.state_of store.new) }
 {
     add_pointers(alloc, store, fs, number)?;
@@ -170,6 +168,7 @@ fn write_indirect<S: Store>(
         let attached = attach_data(alloc, store, fs, number, place, block);
         return forgotten(store, fs, block, attached);
     }
+    let _ = read_block(store, fs, block)?;
     let edit = edits::change(alloc, at, bytes, None)?;
     Ok(store.propose(fs, block, &edit)?)
 }
@@ -188,6 +187,7 @@ pub fn write_block<S: Store>(
     requires within { at + length bytes.now ≤ 512 }
     requires some { 0 < length bytes.now }
     ensures types { S.types_of store.new ≡ S.types_of store.old }
+    ensures written { OnOk result (WritesBytes (S.types_of store.old) fs.number number (512 * index + at) bytes.now (S.state_of store.old) (S.state_of store.new)) }
     ensures keeps { Keeps (S.types_of store.old) fs.number (S.state_of store.old) (S.state_of store.new) }
 {
     if index < DIRECT_POINTERS {
@@ -207,6 +207,7 @@ pub fn raise_size<S: Store>(
     after: EditId,
 ) -> Result<(), FfsFault>
     ensures types { S.types_of store.new ≡ S.types_of store.old }
+    ensures raised { OnOk result (RaisesSize (S.types_of store.old) fs.number number size (S.state_of store.old) (S.state_of store.new)) }
     ensures keeps { Keeps (S.types_of store.old) fs.number (S.state_of store.old) (S.state_of store.new) }
 {
     let Found {

@@ -166,7 +166,7 @@ fn entry_in(block: &[u8; 512], name: &[u8]) -> Option<usize>
 
 /// The first place without an entry in a directory's block.
 fn gap_in(block: &[u8; 512]) -> Option<usize>
-    ensures few { IfSome result (λ place. place < 16) }
+    ensures gap { IfSome result (λ place. (place < 16) × (half_at block.now (32 * place) ≡ 0)) }
     ensures exact { result ≡ find (λ place. half_at block.now (32 * place) == 0) (range_with_len 0 16) }
 {
     (0..ENTRIES).find(|place| entry_inode(block, *place) == 0)
@@ -204,7 +204,7 @@ pub fn find_entry<S: Store>(
 
 /// The first empty pointer of an inode to a block of its own.
 fn empty_direct(inode: &Inode) -> Option<usize>
-    ensures few { IfSome result (λ index. index < 12) }
+    ensures empty { IfSome result (λ index. (index < 12) × (direct_in inode.now index ≡ 0)) }
     ensures exact { result ≡ find (λ index. direct_in inode.now index == 0) (range_with_len 0 12) }
 {
     (0..DIRECT_POINTERS).find(|index| inode.direct(*index) == 0)

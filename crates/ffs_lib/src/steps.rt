@@ -5,7 +5,9 @@ ghost use Rattle.xn_model.specs.Lists.{put};
 ghost use Rattle.ffs_model.specs.Library.{zeros};
 ghost use Rattle.ffs_format.specs.Entries.{is_name};
 ghost use Rattle.ffs_lib.specs.Places.{IsFree, IsSlot};
-ghost use Rattle.ffs_lib.specs.Outcomes.{Keeps, Makes, Attaches, Adds, Names, Grows, Lets, Clears, Unlinks, Drops, StaysListed, LosesEntry};
+ghost use Rattle.ffs_model.specs.Cuts.{latest};
+ghost use Rattle.ffs_lib.specs.Results.{new_inode};
+ghost use Rattle.ffs_lib.specs.Outcomes.{Keeps, Makes, Attaches, Adds, Names, Grows, Lets, Clears, Unlinks, Drops, StaysListed, LosesEntry, Stays, PutsInode, GrowsDirectory, Enters};
 
 use crate::edits;
 use crate::fault::FfsFault;
@@ -63,6 +65,7 @@ pub fn make_inode<S: Store>(
     requires used { mode ≢ 0 }
     ensures types { S.types_of store.new ≡ S.types_of store.old }
     ensures ok { IfOk result (λ entry. Makes (S.types_of store.old) fs.number (S.state_of store.old) (S.state_of store.new) free.number after entry) }
+    ensures made { OnOk result (PutsInode (S.types_of store.old) fs.number free.number (new_inode mode) (S.state_of store.old) (S.state_of store.new)) }
     ensures err { OnErr result (S.state_of store.new ≡ S.state_of store.old) }
 {
     let mut inode = Inode::free();
@@ -82,6 +85,7 @@ fn attach_inodes<S: Store>(
     ensures types { S.types_of store.new ≡ S.types_of store.old }
     ensures few { IfOk result (λ added. added.0 < 16) }
     ensures ok { IfOk result (λ added. Attaches (S.types_of store.old) fs.number (S.state_of store.old) (S.state_of store.new) added.0 block added.1) }
+    ensures stays { OnOk result (latest (S.state_of store.old).lives block ≡ zeros → block ≢ 0 → Stays (S.types_of store.old) fs.number (S.state_of store.old) (S.state_of store.new)) }
     ensures err { OnErr result (S.state_of store.new ≡ S.state_of store.old) }
 {
     let _ = inode_block(store, fs, 0)?;
@@ -107,6 +111,7 @@ pub fn add_inodes<S: Store>(
     ensures types { S.types_of store.new ≡ S.types_of store.old }
     ensures few { IfOk result (λ added. added.0 < 16) }
     ensures ok { IfOk result (λ added. Adds (S.types_of store.old) fs.number (S.state_of store.old) (S.state_of store.new) added.0 added.1 added.2) }
+    ensures stays { OnOk result (Stays (S.types_of store.old) fs.number (S.state_of store.old) (S.state_of store.new)) }
     ensures err { OnErr result (Keeps (S.types_of store.old) fs.number (S.state_of store.old) (S.state_of store.new)) }
 {
     let (block, _) = store.init(fs, INODE_BLOCK, &[0; 512])?;
@@ -141,6 +146,7 @@ fn attach_entries<S: Store>(
     requires { index < 12 }
     ensures types { S.types_of store.new ≡ S.types_of store.old }
     ensures ok { OnOk result (Grows (S.types_of store.old) fs.number (S.state_of store.old) (S.state_of store.new) block after) }
+    ensures grown { OnOk result (GrowsDirectory (S.types_of store.old) fs.number number index block (S.state_of store.old) (S.state_of store.new)) }
     ensures err { OnErr result (S.state_of store.new ≡ S.state_of store.old) }
 {
     let Found {
@@ -161,13 +167,13 @@ fn attach_entries<S: Store>(
     Ok(store.propose(fs, home, &edit)?)
 }
 
-/// A block that begins with these bytes.
-pub fn block_with(bytes: &[u8]) -> [u8; 512]
-    requires { length bytes.now ≤ 512 }
-    ensures { result ≡ put zeros 0 bytes.now }
+/// A block of zeros with bytes written at a place.
+pub fn block_with(at: usize, bytes: &[u8]) -> [u8; 512]
+    requires { at + length bytes.now ≤ 512 }
+    ensures { result ≡ put zeros at bytes.now }
 {
     let mut block = [0; 512];
-    block[..bytes.len()].copy_from_slice(bytes);
+    block[at..at + bytes.len()].copy_from_slice(bytes);
     block
 }
 
@@ -184,6 +190,7 @@ pub fn enter<S: Store>(
     requires { IsTrue (is_name name.now) }
     ensures types { S.types_of store.new ≡ S.types_of store.old }
     ensures keeps { Names (S.types_of store.old) fs.number (S.state_of store.old) (S.state_of store.new) inode after }
+    ensures entered { OnOk result (Enters (S.types_of store.old) fs.number number name.now inode (S.state_of store.old) (S.state_of store.new)) }
 {
     let entry = entry_bytes(inode, name);
     let directory = find_directory(store, fs, number)?;
@@ -193,7 +200,7 @@ pub fn enter<S: Store>(
             Ok(store.propose(fs, block, &edit)?)
         }
         Room::Pointer(index) => {
-            let (block, _) = store.init(fs, DATA, &block_with(&entry))?;
+            let (block, _) = store.init(fs, DATA, &block_with(0, &entry))?;
             let attached = attach_entries(alloc, store, fs, number, index, block, after);
             forgotten(store, fs, block, attached)
         }

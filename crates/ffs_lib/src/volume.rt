@@ -1,6 +1,6 @@
 // A volume: the files and directories of a file system.
 
-ghost use Rattle.std.specs.Prelude.{◌≡◌, ◌≢◌, ◌<◌, ◌≤◌, ◌+◌, ◌++◌, true, false, ◌⊎◌, ℕ, length, map, Contains, Ok, Err, IfOk, IfErr, OnOk, OnErr, IfSome, IsOk, IsTrue, MatchResult};
+ghost use Rattle.std.specs.Prelude.{◌≡◌, ◌≢◌, ◌<◌, ◌≤◌, ◌+◌, ◌++◌, true, false, ◌⊎◌, ℕ, List, length, map, Contains, Ok, Err, IfOk, IfErr, OnOk, OnErr, IfSome, IsOk, IsTrue, MatchResult};
 ghost use Rattle.std.specs.List.{range_with_len};
 ghost use Rattle.ffs_format.specs.Entries.{is_name};
 ghost use Rattle.ffs_model.specs.Cuts.{latest};
@@ -11,7 +11,8 @@ ghost use Rattle.ffs_lib.specs.declared.places.Found.{Found};
 ghost use Rattle.ffs_lib.specs.declared.places.Slot.{Slot};
 ghost use Rattle.ffs_model.specs.Volumes.{VolumeKeeps, no_edits};
 ghost use Rattle.ffs_lib.specs.Places.{IsDirectory, IsFree, IsSlot};
-ghost use Rattle.ffs_lib.specs.Outcomes.{Keeps, Leaves, Roots, Starts};
+ghost use Rattle.ffs_lib.specs.Outcomes.{Keeps, Leaves, Roots, Starts, Stays};
+ghost use Rattle.ffs_lib.specs.Results.{IsWritten, MadeEntry, OnlyChanges};
 
 use crate::data::{BLOCK_LEN, FILE_BLOCKS, raise_size, read_part, write_block};
 use crate::edits;
@@ -72,7 +73,7 @@ fn first_inodes() -> [u8; 512]
     let mut inode = Inode::free();
     inode.set_mode(DIRECTORY);
     inode.set_links(1);
-    block_with(inode.bytes())
+    block_with(0, inode.bytes())
 }
 
 /// Sets the root slot to a root block without pointers.
@@ -245,6 +246,7 @@ impl Volume {
         ensures types { S.types_of store.new ≡ S.types_of store.old }
         ensures fs { self.new.fs ≡ self.old.fs }
         ensures faults { RefusesAs (create_in (latest (S.state_of store.old).lives) self.old.fs.number directory name.now) (S.state_of store.old) (S.state_of store.new) result }
+        ensures made { IfOk result (λ n. MadeEntry (latest (S.state_of store.old).lives) (latest (S.state_of store.new).lives) self.old.fs.number directory name.now FILE n) }
         ensures keeps { IsVolume (S.types_of store.old) (S.state_of store.new) self.new }
     {
         self.make_entry(alloc, store, directory, name, FILE)
@@ -262,6 +264,7 @@ impl Volume {
         ensures types { S.types_of store.new ≡ S.types_of store.old }
         ensures fs { self.new.fs ≡ self.old.fs }
         ensures faults { RefusesAs (create_in (latest (S.state_of store.old).lives) self.old.fs.number directory name.now) (S.state_of store.old) (S.state_of store.new) result }
+        ensures made { IfOk result (λ n. MadeEntry (latest (S.state_of store.old).lives) (latest (S.state_of store.new).lives) self.old.fs.number directory name.now DIRECTORY n) }
         ensures keeps { IsVolume (S.types_of store.old) (S.state_of store.new) self.new }
     {
         self.make_entry(alloc, store, directory, name, DIRECTORY)
@@ -281,6 +284,7 @@ impl Volume {
         ensures types { S.types_of store.new ≡ S.types_of store.old }
         ensures fs { self.new.fs ≡ self.old.fs }
         ensures faults { RefusesAs (create_in (latest (S.state_of store.old).lives) self.old.fs.number directory name.now) (S.state_of store.old) (S.state_of store.new) result }
+        ensures made { IfOk result (λ n. MadeEntry (latest (S.state_of store.old).lives) (latest (S.state_of store.new).lives) self.old.fs.number directory name.now mode n) }
         ensures keeps { IsVolume (S.types_of store.old) (S.state_of store.new) self.new }
     {
         let free = look_up_new(store, self.fs, directory, name)?;
@@ -303,6 +307,8 @@ impl Volume {
         requires used { mode ≢ 0 }
         ensures types { S.types_of store.new ≡ S.types_of store.old }
         ensures fs { self.new.fs ≡ self.old.fs }
+        ensures made { IfOk result (λ n. (inode : List ℕ) → Ok inode ≡ directory_in (latest (S.state_of store.old).lives) self.old.fs.number directory →
+            MadeEntry (latest (S.state_of store.old).lives) (latest (S.state_of store.new).lives) self.old.fs.number directory name.now mode n) }
         ensures keeps { IsVolume (S.types_of store.old) (S.state_of store.new) self.new }
     {
         let free = self.take_free(alloc, store, found)?;
@@ -322,6 +328,7 @@ impl Volume {
         ensures types { S.types_of store.new ≡ S.types_of store.old }
         ensures fs { self.new.fs ≡ self.old.fs }
         ensures keeps { IsVolume (S.types_of store.old) (S.state_of store.new) self.new }
+        ensures stays { OnOk result (Stays (S.types_of store.old) self.old.fs.number (S.state_of store.old) (S.state_of store.new)) }
         ensures free { IfOk result (λ free. IsFree (S.state_of store.new) self.old.fs.number free) }
     {
         match found {
@@ -346,6 +353,8 @@ impl Volume {
         requires used { mode ≢ 0 }
         ensures types { S.types_of store.new ≡ S.types_of store.old }
         ensures fs { self.new.fs ≡ self.old.fs }
+        ensures made { OnOk result ((inode : List ℕ) → Ok inode ≡ directory_in (latest (S.state_of store.old).lives) self.old.fs.number directory →
+            MadeEntry (latest (S.state_of store.old).lives) (latest (S.state_of store.new).lives) self.old.fs.number directory name.now mode free.number) }
         ensures keeps { IsVolume (S.types_of store.old) (S.state_of store.new) self.new }
     {
         has_places(&self.added);
@@ -362,6 +371,7 @@ impl Volume {
         ensures types { S.types_of store.new ≡ S.types_of store.old }
         ensures fs { self.new.fs ≡ self.old.fs }
         ensures keeps { IsVolume (S.types_of store.old) (S.state_of store.new) self.new }
+        ensures stays { OnOk result (Stays (S.types_of store.old) self.old.fs.number (S.state_of store.old) (S.state_of store.new)) }
         ensures free { IfOk result (λ free. IsFree (S.state_of store.new) self.old.fs.number free) }
     {
         has_places(&self.added);
@@ -388,6 +398,9 @@ impl Volume {
         requires volume { IsVolume (S.types_of store.old) (S.state_of store.old) self.now }
         ensures types { S.types_of store.new ≡ S.types_of store.old }
         ensures faults { RefusesAs (write_in (latest (S.state_of store.old).lives) self.now.fs.number inode (offset + length bytes.now)) (S.state_of store.old) (S.state_of store.new) result }
+        ensures written { OnOk result ((file : List ℕ) → Ok file ≡ file_in (latest (S.state_of store.old).lives) self.now.fs.number inode →
+            IsWritten (latest (S.state_of store.old).lives) (latest (S.state_of store.new).lives) self.now.fs.number inode file offset bytes.now) }
+        ensures others { OnOk result (OnlyChanges (latest (S.state_of store.old).lives) (latest (S.state_of store.new).lives) self.now.fs.number inode) }
         ensures keeps { IsVolume (S.types_of store.old) (S.state_of store.new) self.now }
     {
         let _ = find_file(store, self.fs, inode)?;
@@ -410,6 +423,9 @@ impl Volume {
         requires volume { IsVolume (S.types_of store.old) (S.state_of store.old) self.now }
         requires within { start + length bytes.now ≤ 71680 }
         ensures types { S.types_of store.new ≡ S.types_of store.old }
+        ensures written { OnOk result ((file : List ℕ) → Ok file ≡ file_in (latest (S.state_of store.old).lives) self.now.fs.number inode →
+            IsWritten (latest (S.state_of store.old).lives) (latest (S.state_of store.new).lives) self.now.fs.number inode file start bytes.now) }
+        ensures others { OnOk result (OnlyChanges (latest (S.state_of store.old).lives) (latest (S.state_of store.new).lives) self.now.fs.number inode) }
         ensures keeps { IsVolume (S.types_of store.old) (S.state_of store.new) self.now }
     {
         let mut at = start;

@@ -1,7 +1,9 @@
-use Rattle.std.proofs.Common.{[], ◌∷◌, None, ◌*◌, sym}
+use Rattle.std.proofs.Common.{[], ◌∷◌, None, ◌*◌, sym, List, ℕ, ap, length, ◌∙◌}
 use Rattle.ffs_lib.specs.Edits.{edit_at}
 use Rattle.ffs_lib.proofs.Edited.{done_by, pointed, pointers_reached}
 use Rattle.ffs_lib.proofs.Kept.{refused}
+use Rattle.ffs_model.specs.Cuts.{latest}
+use Rattle.ffs_lib.proofs.Writing.{data_attached}
 use Rattle.ffs_lib.proofs.data.attach_data.Goals as goal
 
 pub returns-in_err-propose-clause-keeps : goal.returns-in_err-propose-clause-keeps
@@ -18,3 +20,20 @@ returns-clause-keeps g c = λ lib array v.
     pointed T lib c.args.fs.number c.args.fs.few array state new v indirect entry (edit_at (4 * c.args.place) c.pointer_bytes.result ((c.args.block, 2) ∷ []) [] None)
     (pointers_reached T lib state c.args.fs.number c.args.number c.in_ok-find_file.field-0 c.in_ok-find_file.ensures.found.is indirect (sym c.indirect-indirect.ensures) c.if-indirect-eq0.false)
     (done_by T state new c.args.fs.number indirect _ _ entry c.in_ok-edit.ensures c.in_ok-propose.ensures.state)
+
+pub returns-clause-attached : goal.returns-clause-attached
+returns-clause-attached g c = λ lib h whole.
+    let T = g.S.Store.types_of c.args.store.now in
+    let state = g.S.Store.state_of c.args.store.now in
+    let new = g.S.Store.state_of c.propose.new.self in
+    let fs = c.args.fs.number in
+    let indirect = c.indirect-indirect.result in
+    let entry = c.in_ok-propose.field-0 in
+    let block = c.args.block in
+    let inode = c.in_ok-find_file.field-0.inode in
+    let exact = c.in_ok-find_file.ensures.exact lib in (
+      inode,
+      exact,
+      data_attached T lib state new h fs c.args.fs.few c.args.number inode exact indirect c.args.place block entry (sym c.indirect-indirect.ensures) c.if-indirect-eq0.false c.requires (ap (λ b. length (latest state.lives b)) c.indirect-indirect.ensures ∙ whole inode exact) c.ranges.block.fits
+          (done_by T state new fs indirect _ _ entry (c.in_ok-edit.ensures ∙ ap (λ (bs : List ℕ). edit_at (4 * c.args.place) bs ((block, 2) ∷ []) [] None) c.pointer_bytes.ensures.bytes) c.in_ok-propose.ensures.state),
+    )

@@ -1,11 +1,13 @@
-use Rattle.std.proofs.Common.{ℕ, List, [], ◌∷◌, length, None, ap, sym, ◌∙◌, subst, inl, inr}
+use Rattle.std.proofs.Common.{◌*◌, ℕ, List, [], ◌∷◌, length, None, ap, sym, ◌∙◌, subst, inl, inr}
 use Rattle.std.specs.Prelude.{Contains}
 use Rattle.xn_model.proofs.ForCallers.{Contains-head}
 use Rattle.ffs_model.specs.Library.{inode_blocks, inode_links, inode_mode}
-use Rattle.ffs_format.specs.Fields.{Fields}
+use Rattle.ffs_format.specs.Fields.{Fields, fields_of}
 use Rattle.ffs_lib.proofs.Edited.{done_by, kept}
 use Rattle.ffs_lib.proofs.Fields.{one_more}
 use Rattle.ffs_lib.proofs.Kept.{refused}
+use Rattle.ffs_lib.specs.Edits.{edit_at}
+use Rattle.ffs_lib.proofs.Writing.{direct_attached}
 use Rattle.ffs_lib.proofs.data.attach_direct.Goals as goal
 
 pub returns-in_err-propose-clause-keeps : goal.returns-in_err-propose-clause-keeps
@@ -32,3 +34,22 @@ returns-clause-keeps g c = λ lib array v.
       | inl j ↦ inl (subst (λ (x : List ℕ). Contains (inode_blocks x) b) file.is.bytes j)
       | inr e ↦ inr (λ z. file.file (sym mode ∙ z), subst (λ (x : ℕ). Contains {X = ℕ × ℕ} ((block, 2) ∷ []) (x, 2)) (sym e) (Contains-head (block, 2) []))
     ])
+
+pub returns-clause-attached : goal.returns-clause-attached
+returns-clause-attached g c = λ lib h.
+    let T = g.S.Store.types_of c.args.store.now in
+    let state = g.S.Store.state_of c.args.store.now in
+    let new = g.S.Store.state_of c.propose.new.self in
+    let found = c.in_ok-home.field-0 in
+    let exact = c.in_ok-home.ensures.exact lib in
+    let block = c.args.block in
+    let bytes = c.bytes.result.now in
+    let is = c.bytes.ensures.bytes in
+    let f = c.set_direct.ensures.fields in (
+      found.inode,
+      exact,
+      direct_attached T lib state new h c.args.fs.number c.args.fs.few c.args.number found c.in_ok-home.ensures.found exact bytes (ap length is ∙ c.bytes.ensures.whole) (ap inode_mode is ∙ ap (λ (x : Fields). x.mode) f) ((block, 2) ∷ []) None c.in_ok-propose.field-0
+          (done_by T state new c.args.fs.number found.block _ (edit_at (64 * found.place) bytes ((block, 2) ∷ []) [] None) c.in_ok-propose.field-0 c.in_ok-edit.ensures c.in_ok-propose.ensures.state)
+          c.args.index block c.requires (ap (λ (b : List ℕ). (fields_of b).direct) is ∙ ap (λ (x : Fields). x.direct) f) (ap (λ (b : List ℕ). (fields_of b).indirect) is ∙ ap (λ (x : Fields). x.indirect) f)
+          (ap (λ (b : List ℕ). (fields_of b).size) is ∙ ap (λ (x : Fields). x.size) f),
+    )

@@ -1,10 +1,18 @@
-use Rattle.std.proofs.Common.{[], ◌∷◌, length, None, ap, ◌∙◌, subst, inl}
+use Rattle.std.proofs.Common.{ℕ, List, sym, ◌*◌, [], ◌∷◌, length, None, ap, ◌∙◌, subst, inl}
 use Rattle.std.specs.Prelude.{Contains}
-use Rattle.ffs_model.specs.Library.{inode_blocks, inode_links, inode_mode}
-use Rattle.ffs_format.specs.Fields.{Fields}
+use Rattle.ffs_model.specs.Library.{inode_blocks, inode_links, inode_mode, library_layout}
+use Rattle.xn_model.specs.Root.{word_at}
+use Rattle.ffs_format.specs.Fields.{Fields, fields_of}
 use Rattle.ffs_lib.proofs.Edited.{done_by, kept}
 use Rattle.ffs_lib.proofs.Fields.{same_blocks}
 use Rattle.ffs_lib.proofs.Kept.{refused}
+use Rattle.ffs_model.specs.Cuts.{latest}
+use Rattle.ffs_model.proofs.ForCallers.{library_reads, under_inodes}
+use Rattle.ffs_lib.specs.Edits.{edit_at}
+use Rattle.ffs_lib.specs.Results.{SameInode}
+use Rattle.ffs_lib.specs.Outcomes.{WroteBytes}
+use Rattle.ffs_lib.proofs.Walks.{same_ok}
+use Rattle.ffs_lib.proofs.Writing.{file_others, pointers_attached}
 use Rattle.ffs_lib.proofs.data.attach_pointers.Goals as goal
 
 pub returns-in_err-propose-clause-keeps : goal.returns-in_err-propose-clause-keeps
@@ -26,3 +34,29 @@ returns-clause-keeps g c = λ lib array v.
     (ap inode_mode is ∙ (ap (λ (x : Fields). x.mode) f ∙ ap inode_mode file.is.bytes))
     (ap inode_links is ∙ (ap (λ (x : Fields). x.links) f ∙ ap inode_links file.is.bytes))
     (λ b m. inl (subst (λ xs. Contains xs b) (ap inode_blocks is ∙ (same_blocks found.inode c.set_indirect.new.self (ap (λ (x : Fields). x.direct) f) ∙ ap inode_blocks file.is.bytes)) m))
+
+pub returns-clause-attached : goal.returns-clause-attached
+returns-clause-attached g c = λ lib h bare apart.
+    let T = g.S.Store.types_of c.args.store.now in
+    let state = g.S.Store.state_of c.args.store.now in
+    let new = g.S.Store.state_of c.propose.new.self in
+    let fs = c.args.fs.number in
+    let found = c.in_ok-home.field-0 in
+    let file = c.in_ok-home.ensures.found in
+    let exact = c.in_ok-home.ensures.exact lib in
+    let block = c.args.block in
+    let bytes = c.bytes.result.now in
+    let is = c.bytes.ensures.bytes in
+    let f = c.set_indirect.ensures.fields in
+    let whole = ap length is ∙ c.bytes.ensures.whole in
+    let mode = ap inode_mode is ∙ ap (λ (x : Fields). x.mode) f in
+    let done = done_by T state new fs found.block _ (edit_at (64 * found.place) bytes ((block, 5) ∷ []) [] None) c.in_ok-propose.field-0 c.in_ok-edit.ensures c.in_ok-propose.ensures.state in
+    let home = apart found.block 4 (under_inodes T library_layout (library_reads T lib) (latest state.lives) fs (library_layout.home c.args.number).0 found.block file.is.stands.inodes) in (
+      λ inode i none.
+          let same = same_ok found.inode inode (exact ∙ sym i) in
+          subst (λ (x : List ℕ). WroteBytes (latest state.lives) (latest new.lives) fs c.args.number x 0 []) same
+          (pointers_attached T lib state new h fs c.args.fs.few c.args.number found file exact bytes whole mode ((block, 5) ∷ []) None c.in_ok-propose.field-0 done block
+          (ap (λ (b : List ℕ). (fields_of b).direct) is ∙ ap (λ (x : Fields). x.direct) f) (ap (λ (b : List ℕ). (fields_of b).indirect) is ∙ ap (λ (x : Fields). x.indirect) f)
+          (ap (λ (b : List ℕ). (fields_of b).size) is ∙ ap (λ (x : Fields). x.size) f) bare home (ap (λ (x : List ℕ). word_at x 56) same ∙ none)),
+      file_others T lib state new h fs c.args.fs.few c.args.number found file exact bytes whole mode ((block, 5) ∷ []) None c.in_ok-propose.field-0 done,
+    )

@@ -1,9 +1,16 @@
-use Rattle.std.proofs.Common.{[], None, sym, ◌∙◌, subst}
+use Rattle.std.proofs.Common.{ℕ, List, ◌+◌, ◌*◌, length, ap, arith, [], None, sym, ◌∙◌, subst}
+use Rattle.std.specs.Prelude.{OnOk}
 use Rattle.ffs_lib.specs.Edits.{edit_at}
 use Rattle.ffs_lib.specs.Outcomes.{Keeps}
 use Rattle.ffs_lib.proofs.Edited.{done_by, file_data}
 use Rattle.ffs_lib.proofs.Found.{found_has}
 use Rattle.ffs_lib.proofs.Kept.{data_then, refused}
+use Rattle.xn_model.specs.Rules.{IsConsistent}
+use Rattle.ffs_model.specs.Cuts.{latest}
+use Rattle.ffs_lib.specs.Outcomes.{AttachesBlock, WroteBytes}
+use Rattle.ffs_lib.proofs.Owners.{direct_block}
+use Rattle.ffs_lib.proofs.Walks.{same_ok}
+use Rattle.ffs_lib.proofs.Writing.{data_written, file_grown}
 use Rattle.ffs_lib.proofs.data.write_direct.Goals as goal
 
 pub returns-then-block-eq0-clause-keeps : goal.returns-then-block-eq0-clause-keeps
@@ -32,3 +39,37 @@ returns-clause-keeps g c = λ lib array v.
     file_data T lib c.args.fs.number c.args.fs.few array state new v c.args.number block entry found (edit_at c.args.at c.args.bytes.now [] [] None) file
     (found_has state c.args.fs.number c.args.number found file.is c.args.index block c.requires.few (sym c.direct-block.ensures) c.if-block-eq0.false)
     (done_by T state new c.args.fs.number block _ _ entry c.in_ok-edit.ensures c.in_ok-propose.ensures.state)
+
+pub returns-then-block-eq0-clause-written : goal.returns-then-block-eq0-clause-written
+returns-then-block-eq0-clause-written g c =
+    let fs = c.args.fs.number in
+    let few = c.requires.few in
+    let state = g.S.Store.state_of c.args.store.now in
+    let first = g.S.Store.state_of c.init.new.self in
+    let second = g.S.Store.state_of c.attach_direct-attached.new.store in
+    let third = g.S.Store.state_of c.forgotten.new.store in
+    let attached = c.attach_direct-attached in
+    let block = c.in_ok-block.block in
+    let inode = c.in_ok-find_file.field-0.inode in
+    file_grown (g.S.Store.types_of c.args.store.now) fs c.args.fs.few block c.in_ok-block.field-0-1 state first second third (subst (λ t. IsConsistent t first) c.init.ensures.types c.init.ensures.rules)
+    c.args.number c.args.index c.args.at c.args.bytes.now c.block_with.result inode c.block_with.ensures c.in_ok-block.ensures.state attached.result c.forgotten.result c.forgotten.ensures.same
+    (λ h. subst (λ t. OnOk attached.result (AttachesBlock t fs c.args.number c.args.index block first second)) c.init.ensures.types attached.ensures.attached) c.forgotten.ensures.ok c.in_ok-find_file.ensures.exact (omega arith)
+    (direct_block (latest state.lives) inode c.args.index few ∙ (sym c.direct-block.ensures ∙ c.if-block-eq0.true)) c.requires.within
+
+pub returns-clause-written : goal.returns-clause-written
+returns-clause-written g c = λ lib array v.
+    let T = g.S.Store.types_of c.args.store.now in
+    let state = g.S.Store.state_of c.args.store.now in
+    let new = g.S.Store.state_of c.propose.new.self in
+    let fs = c.args.fs.number in
+    let few = c.requires.few in
+    let block = c.direct-block.result in
+    let entry = c.in_ok-propose.field-0 in
+    let bytes = c.args.bytes.now in
+    let inode = c.in_ok-find_file.field-0.inode in
+    let exact = c.in_ok-find_file.ensures.exact lib in
+    let start = 512 * c.args.index + c.args.at in
+    let r = data_written T lib state new v.consistent fs c.args.fs.few c.args.number inode exact c.args.index block c.args.at bytes (omega arith) (direct_block (latest state.lives) inode c.args.index few ∙ sym c.direct-block.ensures) c.if-block-eq0.false
+    (ap length c.in_ok-read_block.ensures.bytes ∙ c.in_ok-read_block.ensures.whole) c.requires.within entry
+    (done_by T state new fs block _ (edit_at c.args.at bytes [] [] None) entry c.in_ok-edit.ensures c.in_ok-propose.ensures.state) in
+    (λ other is. subst (λ (x : List ℕ). WroteBytes (latest state.lives) (latest new.lives) fs c.args.number x start bytes) (same_ok inode other (exact ∙ sym is)) r.0, r.1)

@@ -1,9 +1,16 @@
-use Rattle.std.proofs.Common.{ℕ, List, [], None, ap, sym, ◌∙◌, subst}
+use Rattle.std.proofs.Common.{ℕ, List, ◌+◌, ◌*◌, length, arith, [], None, ap, sym, ◌∙◌, subst}
 use Rattle.ffs_model.specs.Library.{pointer_word}
 use Rattle.ffs_lib.specs.Edits.{edit_at}
 use Rattle.ffs_lib.specs.Outcomes.{Keeps}
 use Rattle.ffs_lib.proofs.Edited.{done_by, pointed_data, pointers_reached}
 use Rattle.ffs_lib.proofs.Kept.{data_then, refused}
+use Rattle.std.specs.Prelude.{OnOk}
+use Rattle.std.proofs.lemmas.Result.{on_ok_weaker}
+use Rattle.xn_model.specs.Rules.{IsConsistent}
+use Rattle.ffs_model.specs.Cuts.{latest}
+use Rattle.ffs_lib.specs.Outcomes.{AttachesBlock, AttachesData, WritesBytes, WroteBytes}
+use Rattle.ffs_lib.proofs.Walks.{same_ok}
+use Rattle.ffs_lib.proofs.Writing.{attaches_data, data_written, file_grown, indirect_block, writes_after}
 use Rattle.ffs_lib.proofs.data.write_indirect.Goals as goal
 
 pub returns-in_err-block-clause-keeps : goal.returns-in_err-block-clause-keeps
@@ -51,3 +58,57 @@ returns-clause-keeps g c =
     (ap (λ (m : List ℕ). pointer_word m c.args.place) c.in_ok-read_block.ensures.bytes ∙ sym c.pointer-block.ensures) c.if-block-eq0.false
     (done_by T1 state new fs block _ _ entry c.in_ok-edit.ensures c.in_ok-propose.ensures.state) in
     λ lib array v. subst (λ t. Keeps t fs state new) more.types last lib array (more.keeps lib array v)
+
+pub returns-then-block-eq0-clause-written : goal.returns-then-block-eq0-clause-written
+returns-then-block-eq0-clause-written g c =
+    let T = g.S.Store.types_of c.args.store.now in
+    let T1 = g.S.Store.types_of c.add_pointers.new.store in
+    let fs = c.args.fs.number in
+    let few = c.requires.few in
+    let n = c.args.number in
+    let index = 12 + c.args.place in
+    let more = c.in_ok-add_pointers.ensures in
+    let old = g.S.Store.state_of c.args.store.now in
+    let zeroth = g.S.Store.state_of c.add_pointers.new.store in
+    let first = g.S.Store.state_of c.init.new.self in
+    let second = g.S.Store.state_of c.attach_data-attached.new.store in
+    let third = g.S.Store.state_of c.forgotten.new.store in
+    let attached = c.attach_data-attached in
+    let block = c.in_ok-block.block in
+    let inode = c.in_ok-find_file.field-0.inode in
+    let indirect = c.indirect-indirect.result in
+    let h1 = subst (λ t. IsConsistent t first) c.init.ensures.types c.init.ensures.rules in
+    let attaches = subst (λ t. OnOk attached.result (AttachesData t fs n c.args.place block first second)) c.init.ensures.types attached.ensures.attached in
+    let one = λ (h : IsConsistent T1 zeroth). attaches_data T1 fs c.args.fs.few n c.args.place block c.in_ok-block.field-0-1 indirect zeroth first second attached.result inode c.block_with.result c.in_ok-block.ensures.state c.in_ok-find_file.ensures.exact (sym c.indirect-indirect.ensures) c.if-indirect-eq0.false
+    (ap length c.in_ok-read_block.ensures.bytes ∙ c.in_ok-read_block.ensures.whole) h attaches in
+    let grown = file_grown T1 fs c.args.fs.few block c.in_ok-block.field-0-1 zeroth first second third h1 n index c.args.at c.args.bytes.now c.block_with.result inode c.block_with.ensures c.in_ok-block.ensures.state attached.result c.forgotten.result c.forgotten.ensures.same
+    one c.forgotten.ensures.ok c.in_ok-find_file.ensures.exact (omega arith)
+    (indirect_block (latest zeroth.lives) inode indirect c.args.place (sym c.indirect-indirect.ensures) c.if-indirect-eq0.false ∙ (ap (λ (m : List ℕ). pointer_word m c.args.place) c.in_ok-read_block.ensures.bytes ∙ (sym c.pointer-block.ensures ∙ c.if-block-eq0.true))) c.requires.within in
+    on_ok_weaker c.forgotten.result (λ w. writes_after T fs n (512 * index + c.args.at) c.args.bytes.now old zeroth third more.keeps more.same (subst (λ t. WritesBytes t fs n (512 * index + c.args.at) c.args.bytes.now zeroth third) more.types w)) grown
+
+pub returns-clause-written : goal.returns-clause-written
+returns-clause-written g c =
+    let T = g.S.Store.types_of c.args.store.now in
+    let fs = c.args.fs.number in
+    let few = c.requires.few in
+    let n = c.args.number in
+    let index = 12 + c.args.place in
+    let more = c.in_ok-add_pointers.ensures in
+    let old = g.S.Store.state_of c.args.store.now in
+    let T1 = g.S.Store.types_of c.add_pointers.new.store in
+    let state = g.S.Store.state_of c.add_pointers.new.store in
+    let new = g.S.Store.state_of c.propose.new.self in
+    let block = c.pointer-block.result in
+    let indirect = c.indirect-indirect.result in
+    let entry = c.in_ok-propose.field-0 in
+    let bytes = c.args.bytes.now in
+    let inode = c.in_ok-find_file.field-0.inode in
+    let start = 512 * index + c.args.at in
+    let last : WritesBytes T1 fs n start bytes state new = λ lib array v.
+    let exact = c.in_ok-find_file.ensures.exact lib in
+    let points = indirect_block (latest state.lives) inode indirect c.args.place (sym c.indirect-indirect.ensures) c.if-indirect-eq0.false ∙ (ap (λ (m : List ℕ). pointer_word m c.args.place) c.in_ok-read_block.ensures.bytes ∙ sym c.pointer-block.ensures) in
+    let r = data_written T1 lib state new v.consistent fs c.args.fs.few n inode exact index block c.args.at bytes (omega arith) points c.if-block-eq0.false
+    (ap length c.in_ok-read_block-2.ensures.bytes ∙ c.in_ok-read_block-2.ensures.whole) c.requires.within entry
+    (done_by T1 state new fs block _ (edit_at c.args.at bytes [] [] None) entry c.in_ok-edit.ensures c.in_ok-propose.ensures.state) in
+    (λ other is. subst (λ (x : List ℕ). WroteBytes (latest state.lives) (latest new.lives) fs n x start bytes) (same_ok inode other (exact ∙ sym is)) r.0, r.1) in
+    writes_after T fs n start bytes old state new more.keeps more.same (subst (λ t. WritesBytes t fs n start bytes state new) more.types last)

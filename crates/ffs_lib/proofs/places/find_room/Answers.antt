@@ -11,7 +11,7 @@ pub returns-in-Some-clause-room : goal.returns-in-Some-clause-room
 returns-in-Some-clause-room g c =
     let block = c.direct-block in
     gap_is (g.S.Store.state_of c.args.store.now) c.args.fs.number c.args.number c.args.directory.now c.requires c.loop-i.i block.result (omega arith) (sym block.ensures) c.if-block-eq0.false
-    c.in_ok-read_block.field-0.now c.in_ok-read_block.ensures.bytes c.in_ok-read_block.ensures.whole c.in-Some.place c.in-Some.ensures.few
+    c.in_ok-read_block.field-0.now c.in_ok-read_block.ensures.bytes c.in_ok-read_block.ensures.whole c.in-Some.place c.in-Some.ensures.gap.0 c.in-Some.ensures.gap.1
 
 pub returns-in-Some-clause-exact : goal.returns-in-Some-clause-exact
 returns-in-Some-clause-exact g c = λ lib.

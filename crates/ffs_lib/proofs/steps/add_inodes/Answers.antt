@@ -1,6 +1,10 @@
-use Rattle.std.proofs.Common.{ℕ, sym, ◌∙◌, subst}
-use Rattle.std.specs.Prelude.{IfOk}
-use Rattle.ffs_lib.specs.Outcomes.{Attaches, Keeps}
+use Rattle.std.proofs.Common.{◌≡◌, ◌≢◌, ℕ, Result, sym, ◌∙◌, subst}
+use Rattle.std.specs.Prelude.{IfOk, OnOk}
+use Rattle.xn_model.specs.Rules.{IsConsistent}
+use Rattle.ffs_model.specs.Cuts.{latest}
+use Rattle.ffs_model.specs.Library.{zeros}
+use Rattle.ffs_lib.specs.Outcomes.{Attaches, Keeps, Stays}
+use Rattle.ffs_lib.proofs.Entering.{stays_then}
 use Rattle.ffs_lib.proofs.Kept.{gone_then, inodes_then, on_err, refused}
 use Rattle.ffs_lib.proofs.steps.add_inodes.Goals as goal
 
@@ -30,3 +34,16 @@ returns-clause-ok g c =
     inodes_then (g.S.Store.types_of c.args.store.now) fs c.args.fs.few block c.in_ok-block.field-0-1 (g.S.Store.state_of c.args.store.now) first second third attached.result c.in_ok-index.index c.in_ok-index.entry
     c.in_ok-block.ensures.state (sym c.in_ok-index.ensures.same)
     (subst (λ t. IfOk attached.result (λ (added : ℕ × ℕ). Attaches t fs first second added.0 block added.1)) c.init.ensures.types attached.ensures.ok) c.in_ok-index.ensures.ok
+
+pub returns-clause-stays : goal.returns-clause-stays
+returns-clause-stays g c =
+    let fs = c.args.fs.number in
+    let T = g.S.Store.types_of c.args.store.now in
+    let first = g.S.Store.state_of c.init.new.self in
+    let second = g.S.Store.state_of c.attach_inodes-attached.new.store in
+    let third = g.S.Store.state_of c.forgotten.new.store in
+    let attached = c.attach_inodes-attached in
+    let block = c.in_ok-block.block in
+    stays_then T fs c.args.fs.few block c.in_ok-block.field-0-1 (g.S.Store.state_of c.args.store.now) first second third (subst (λ t. IsConsistent t first) c.init.ensures.types c.init.ensures.rules) c.in_ok-block.ensures.state
+    attached.result (c.in_ok-index.index, c.in_ok-index.entry) (sym c.in_ok-index.ensures.same)
+    (subst (λ t. OnOk attached.result (latest first.lives block ≡ zeros → block ≢ 0 → Stays t fs first second)) c.init.ensures.types attached.ensures.stays) c.in_ok-index.ensures.ok

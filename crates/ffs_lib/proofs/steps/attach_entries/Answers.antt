@@ -1,9 +1,17 @@
-use Rattle.std.proofs.Common.{ℕ, List, [], ◌∷◌, length, Some, ap, sym, ◌∙◌, refl, subst, inl, inr}
+use Rattle.std.proofs.Common.{◌≡◌, Ok, ◌-◌, ◌*◌, ◌/◌, ℕ, List, [], ◌∷◌, length, Some, ap, sym, ◌∙◌, refl, subst, inl, inr}
 use Rattle.std.specs.Prelude.{Contains}
 use Rattle.xn_model.proofs.ForCallers.{Contains-head}
 use Rattle.ffs_model.specs.Library.{inode_blocks, inode_links, inode_mode}
-use Rattle.ffs_format.specs.Fields.{Fields}
+use Rattle.ffs_format.specs.Fields.{Fields, fields_of}
+use Rattle.ffs_model.specs.Cuts.{latest}
+use Rattle.ffs_model.specs.Names.{IsInodes}
+use Rattle.ffs_model.specs.Library.{library_layout}
+use Rattle.ffs_model.proofs.ForCallers.{proposed_others}
+use Rattle.ffs_lib.specs.Edits.{edit_at}
 use Rattle.ffs_lib.proofs.Edited.{done_by, grown}
+use Rattle.ffs_lib.proofs.Entering.{directory_from, inode_put}
+use Rattle.ffs_lib.proofs.Newest.{directory_is, in_directory}
+use Rattle.ffs_lib.proofs.Owners.{stands_from}
 use Rattle.ffs_lib.proofs.Fields.{one_more}
 use Rattle.ffs_lib.proofs.steps.attach_entries.Goals as goal
 
@@ -30,3 +38,34 @@ returns-clause-ok g c = λ lib array i data_bytes v some only one can.
       | inr e ↦ inr e
     ])
     some only one (Contains-head (block, 2) []) can refl
+
+pub returns-clause-grown : goal.returns-clause-grown
+returns-clause-grown g c = λ lib consistent.
+    let T = g.S.Store.types_of c.args.store.now in
+    let state = g.S.Store.state_of c.args.store.now in
+    let new = g.S.Store.state_of c.propose.new.self in
+    let fs = c.args.fs.number in
+    let n = c.args.number in
+    let found = c.in_ok-home.field-0 in
+    let dir = c.in_ok-home.ensures.found in
+    let exact = c.in_ok-home.ensures.exact lib in
+    let own = stands_from (latest state.lives) fs n found.inode (directory_from (latest state.lives) fs n found.inode exact).0 in
+    let block = c.args.block in
+    let bytes = c.bytes.result.now in
+    let is = c.bytes.ensures.bytes in
+    let f = c.set_size.ensures.fields in
+    let h = c.set_direct.ensures.fields in
+    let edit = edit_at (64 * found.place) bytes ((block, 2) ∷ []) [] (Some c.args.after) in
+    let done = done_by T state new fs found.block _ edit c.in_ok-propose.field-0 c.in_ok-edit.ensures c.in_ok-propose.ensures.state in
+    let mode : inode_mode bytes ≡ 2 = ap inode_mode is ∙ (ap (λ (x : Fields). x.mode) f ∙ (ap (λ (x : Fields). x.mode) h ∙ dir.directory)) in
+    let p = inode_put T lib state new consistent fs c.args.fs.few n found.block found.place dir.is.stands own.low bytes (ap length is ∙ c.bytes.ensures.whole) (λ z. dir.is.used (dir.directory ∙ (sym mode ∙ z))) ((block, 2) ∷ []) [] (Some c.args.after) c.in_ok-propose.field-0 done in (
+      found.inode,
+      exact,
+      record {
+        after = bytes;
+        directory = directory_is bytes mode ∙ in_directory (latest new.lives) fs n (Ok bytes) (sym p.0);
+        direct = ap (λ (b : List ℕ). (fields_of b).direct) is ∙ (ap (λ (x : Fields). x.direct) f ∙ ap (λ (x : Fields). x.direct) h);
+        bytes = λ b none. proposed_others T state new consistent fs found.block edit c.in_ok-propose.field-0 done b (λ e. none (subst (λ x. IsInodes library_layout (latest state.lives) fs ((n - 1) / 8) x) (sym e) dir.is.stands.inodes));
+        others = p.1;
+      },
+    )

@@ -1,14 +1,20 @@
-use Rattle.std.proofs.Common.{ℕ, List, ap, sym, ◌∙◌, subst}
-use Rattle.std.specs.Prelude.{OnOk}
+use Rattle.std.proofs.Common.{◌*◌, [], Some, ℕ, List, ap, sym, ◌∙◌, subst}
+use Rattle.std.specs.Prelude.{Contains, OnOk}
 use Rattle.xn_model.specs.Lists.{put}
+use Rattle.xn_model.specs.Rules.{IsConsistent}
+use Rattle.ffs_model.specs.Cuts.{latest}
 use Rattle.ffs_model.specs.Edits.{OneEntry}
-use Rattle.ffs_model.specs.Library.{half_at, library_layout, zeros}
-use Rattle.ffs_model.proofs.ForCallers.{one_entry}
-use Rattle.ffs_lib.specs.Outcomes.{Grows, Keeps}
+use Rattle.ffs_model.specs.Library.{half_at, inode_blocks, library_layout, zeros}
+use Rattle.ffs_model.proofs.ForCallers.{blocks_read, one_entry}
+use Rattle.ffs_lib.specs.Edits.{edit_at}
+use Rattle.ffs_lib.specs.Outcomes.{Grows, GrowsDirectory, Keeps}
 use Rattle.ffs_lib.specs.Places.{IsRoom}
+use Rattle.ffs_lib.specs.Results.{HasMore}
 use Rattle.ffs_lib.proofs.Edited.{done_by, entered}
+use Rattle.ffs_lib.proofs.Entering.{entered_then, gap_entered}
 use Rattle.ffs_lib.proofs.Fields.{entry_names}
 use Rattle.ffs_lib.proofs.Kept.{begun_then, refused}
+use Rattle.ffs_lib.proofs.Walks.{same_ok}
 use Rattle.ffs_lib.proofs.steps.enter.Goals as goal
 
 pub returns-in_err-propose-in-Entry-clause-keeps : goal.returns-in_err-propose-in-Entry-clause-keeps
@@ -50,3 +56,43 @@ returns-in_ok-block-in-Pointer-clause-keeps g c =
 pub returns-in_err-block-in-Pointer-clause-keeps : goal.returns-in_err-block-in-Pointer-clause-keeps
 returns-in_err-block-in-Pointer-clause-keeps g c = λ lib array v some can.
     refused (g.S.Store.types_of c.args.store.now) c.args.fs.number array _ (g.S.Store.state_of c.args.store.now) (g.S.Store.state_of c.init.new.self) _ c.in_err-block-in-Pointer.ensures.state v
+
+pub returns-in_ok-propose-in-Entry-clause-entered : goal.returns-in_ok-propose-in-Entry-clause-entered
+returns-in_ok-propose-in-Entry-clause-entered g c = λ lib h some.
+    let T = g.S.Store.types_of c.args.store.now in
+    let state = g.S.Store.state_of c.args.store.now in
+    let new = g.S.Store.state_of c.propose.new.self in
+    let fs = c.args.fs.number in
+    let d = c.args.number in
+    let room = c.in-Entry in
+    let found = c.in_ok-directory.directory in
+    let dir = c.in_ok-directory.ensures.found in
+    let exact = c.in_ok-directory.ensures.exact lib in
+    let bytes = c.entry_bytes-entry.result in
+    let entry = c.in_ok-propose-in-Entry.field-0 in
+    let gap = subst (IsRoom state found) room.is c.in_ok-block.ensures.room in
+    let has = subst (λ (m : List ℕ). Contains (inode_blocks m) room.block) (sym dir.is.bytes) (subst (λ xs. Contains xs room.block) (blocks_read (latest state.lives found.block) found.place dir.is.stands.few) gap.has) in
+    let done = done_by T state new fs room.block _ (edit_at (32 * room.place) bytes [] [] (Some c.args.after)) entry c.in_ok-edit-in-Entry.ensures c.in_ok-propose-in-Entry.ensures.state in
+    let r = gap_entered T lib state new h fs c.args.fs.few d found.inode exact room.block room.place has gap.few gap.long gap.empty c.args.inode c.args.name.now bytes c.entry_bytes-entry.ensures.bytes c.entry_bytes-entry.ensures.whole
+    c.requires (ap (λ (b : List ℕ). half_at b 0) c.entry_bytes-entry.ensures.bytes ∙ entry_names c.args.inode c.args.name.now c.ranges.inode.fits) some (Some c.args.after) entry done in
+    (λ other is. subst (λ (i : List ℕ). HasMore (latest state.lives) (latest new.lives) fs d i c.args.name.now c.args.inode) (same_ok found.inode other (exact ∙ sym is)) r.0, r.1)
+
+pub returns-in_ok-block-in-Pointer-clause-entered : goal.returns-in_ok-block-in-Pointer-clause-entered
+returns-in_ok-block-in-Pointer-clause-entered g c =
+    let fs = c.args.fs.number in
+    let first = g.S.Store.state_of c.init.new.self in
+    let second = g.S.Store.state_of c.attach_entries-attached.new.store in
+    let third = g.S.Store.state_of c.forgotten.new.store in
+    let state = g.S.Store.state_of c.args.store.now in
+    let bytes = c.entry_bytes-entry.result in
+    let begun = c.in_ok-block-in-Pointer in
+    let attached = c.attach_entries-attached in
+    let room = c.in-Pointer in
+    let found = c.in_ok-directory.directory in
+    let index = room.index in
+    let gap = subst (IsRoom state found) room.is c.in_ok-block.ensures.room in
+    entered_then (g.S.Store.types_of c.args.store.now) fs c.args.fs.few begun.block begun.field-0-1 state first second third (subst (λ t. IsConsistent t first) c.init.ensures.types c.init.ensures.rules)
+    c.args.number index c.args.inode c.args.name.now bytes c.block_with.result found.inode c.block_with.ensures begun.ensures.state attached.result c.forgotten.result c.forgotten.ensures.same
+    (subst (λ t. OnOk attached.result (GrowsDirectory t fs c.args.number index begun.block first second)) c.init.ensures.types attached.ensures.grown) c.forgotten.ensures.ok
+    c.in_ok-directory.ensures.exact gap.0 gap.1 c.entry_bytes-entry.ensures.bytes c.entry_bytes-entry.ensures.whole c.requires
+    (ap (λ (b : List ℕ). half_at b 0) c.entry_bytes-entry.ensures.bytes ∙ entry_names c.args.inode c.args.name.now c.ranges.inode.fits)

@@ -1,7 +1,11 @@
-use Rattle.std.proofs.Common.{[], length, ap, sym, ◌∙◌}
+use Rattle.std.proofs.Common.{◌≡◌, List, ℕ, [], length, Ok, ap, sym, ◌∙◌}
+use Rattle.std.specs.Int.{w16, to_le_bytes}
+use Rattle.xn_model.specs.Lists.{put}
 use Rattle.ffs_model.specs.Library.{inode_blocks, inode_links, inode_mode}
 use Rattle.ffs_format.specs.Fields.{Fields}
+use Rattle.ffs_lib.specs.Results.{new_inode}
 use Rattle.ffs_lib.proofs.Edited.{done_by, made}
+use Rattle.ffs_lib.proofs.Entering.{inode_put}
 use Rattle.ffs_lib.proofs.Fields.{free_blocks, same_blocks}
 use Rattle.ffs_lib.proofs.steps.make_inode.Goals as goal
 
@@ -22,3 +26,19 @@ returns-clause-ok g c = λ lib array v comes.
     (ap inode_links is ∙ ap (λ (f : Fields). f.links) one)
     (ap inode_blocks is ∙ (same_blocks c.free-inode.result c.set_links.new.self (ap (λ (f : Fields). f.direct) one ∙ ap (λ (f : Fields). f.direct) two) ∙ (ap inode_blocks c.free-inode.ensures ∙ free_blocks)))
     comes
+
+pub returns-clause-made : goal.returns-clause-made
+returns-clause-made g c = λ lib h.
+    let T = g.S.Store.types_of c.args.store.now in
+    let state = g.S.Store.state_of c.args.store.now in
+    let new = g.S.Store.state_of c.propose.new.self in
+    let free = c.args.free in
+    let entry = c.in_ok-propose.field-0 in
+    let bytes = c.bytes.result.now in
+    let is = c.bytes.ensures.bytes in
+    let all : bytes ≡ new_inode c.args.mode =
+    is ∙ (c.set_links.ensures.bytes ∙ ap (λ (b : List ℕ). put b 2 (to_le_bytes w16 1)) (c.set_mode.ensures.bytes ∙ ap (λ (b : List ℕ). put b 0 (to_le_bytes w16 c.args.mode)) c.free-inode.ensures)) in
+    let p = inode_put T lib state new h c.args.fs.number c.args.fs.few free.number free.block free.place c.requires.free.stands c.requires.free.low bytes (ap length is ∙ c.bytes.ensures.whole)
+    (λ e. c.requires.used (sym (ap inode_mode is ∙ (ap (λ (f : Fields). f.mode) c.set_links.ensures.fields ∙ ap (λ (f : Fields). f.mode) c.set_mode.ensures.fields)) ∙ e)) [] [] c.args.after entry
+    (done_by T state new c.args.fs.number free.block _ _ entry c.in_ok-edit.ensures c.in_ok-propose.ensures.state) in
+    (p.0 ∙ ap (λ (b : List ℕ). Ok b) all, p.1)

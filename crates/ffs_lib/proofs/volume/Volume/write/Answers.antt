@@ -2,6 +2,7 @@ use Rattle.std.proofs.Common.{◌+◌, ◌<◌, arith, length, refl}
 use Rattle.std.proofs.lemmas.Result.{err_from_is_err_and}
 use Rattle.ffs_model.specs.Cuts.{latest}
 use Rattle.ffs_lib.specs.Newest.{write_in}
+use Rattle.ffs_lib.proofs.Kept.{handed_on}
 use Rattle.ffs_lib.proofs.Refusals.{fits_file, goes_on, refuses, too_large, write_nothing}
 use Rattle.ffs_lib.proofs.volume.Volume.write.Goals as goal
 use Rattle.ffs_lib.proofs.volume.Volume.write.Goals.{then-start-gt-MOST_BYTES-via-then-start-gt-MOST_BYTES, then-start-gt-MOST_BYTES-via-else-start-gt-MOST_BYTES+then-bytes-start}
@@ -35,3 +36,9 @@ returns-clause-faults g c =
     let inode = c.in_ok-find_file.field-0.inode in
     goes_on (write_in content fs c.args.inode size) c.once_edited.result inode (g.S.Store.state_of c.args.store.now) (g.S.Store.state_of c.write_all.new.store)
     (fits_file content fs c.args.inode size inode (c.in_ok-find_file.ensures.exact c.requires.volume.library) (omega arith)) c.once_edited.ensures.err
+
+pub returns-clause-written : goal.returns-clause-written
+returns-clause-written g c = handed_on _ c.write_all.result c.once_edited.result c.once_edited.ensures.ok c.write_all.ensures.written
+
+pub returns-clause-others : goal.returns-clause-others
+returns-clause-others g c = handed_on _ c.write_all.result c.once_edited.result c.once_edited.ensures.ok c.write_all.ensures.others

@@ -1,0 +1,254 @@
+-- What an edit of an inode, or of a directory's entries, leaves in the newest bytes.
+use Rattle.std.proofs.Common.{◌≡◌, ◌≢◌, ℕ, zero, suc, ◌+◌, ◌-◌, ◌*◌, ◌/◌, ◌%◌, ◌^◌, ◌<◌, ◌≤◌, ◌⊎◌, Bool, true, false, List, [], ◌∷◌, length, take, drop, get_or, map, Option, None, Ok, Err, refl, sym, ◌∙◌, ap, inl, inr, arith, subst}
+use Rattle.std.specs.Prelude.{Contains, OnOk, Result, ◌==◌, ◌||◌, filter_map, nat_lt, if◌then◌else◌, IsTrue, slice_set}
+use Rattle.std.specs.Int.{w32, to_le_bytes}
+use Rattle.std.specs.List.{range_with_len}
+use Rattle.std.proofs.Math.Seq.{take-length}
+use Rattle.std.proofs.lemmas.Bool.{cases_eq, eqb-true, lt-ltb}
+use Rattle.xn_model.specs.Types.{Types}
+use Rattle.xn_model.specs.Lists.{blocks_of, distinct, put}
+use Rattle.xn_model.specs.Lives.{StoreState}
+use Rattle.xn_model.specs.Calls.{init_of, propose_of}
+use Rattle.xn_model.specs.Results.{Gives}
+use Rattle.xn_model.specs.Rules.{IsConsistent}
+use Rattle.ffs_model.specs.Cuts.{Under, latest}
+use Rattle.ffs_model.specs.Names.{IsInodes}
+use Rattle.ffs_model.specs.Library.{IsLibrary, direct_word, half_at, inode_at, inode_blocks, inode_mode, library_layout, pointed, zeros}
+use Rattle.ffs_model.proofs.ForCallers.{blocks_read, bytes_within, direct_distinct, direct_where, library_reads, one_type, proposed_here, started_here, under_inodes}
+use Rattle.ffs_format.specs.Entries.{entry_of, is_name}
+use Rattle.ffs_format.specs.Fields.{direct_in, fields_of}
+use Rattle.ffs_lib.specs.declared.fault.FfsFault.{FfsFault}
+use Rattle.ffs_lib.specs.declared.fault.FfsFault.TheVariants.{NoEntry, NotDir}
+use Rattle.ffs_lib.specs.declared.places.Free.{Free}
+use Rattle.ffs_lib.specs.declared.places.Slot.{Slot}
+use Rattle.ffs_lib.specs.Edits.{edit_at}
+use Rattle.ffs_lib.specs.Newest.{and_then, directory_in, file_block, if_directory, inode_block_in, inode_in, listing, unless_unused}
+use Rattle.ffs_lib.specs.Outcomes.{Enters, GrowsDirectory, IsGrown, Stays}
+use Rattle.ffs_lib.specs.Places.{IsFree, IsPlace}
+use Rattle.ffs_lib.specs.Results.{HasMore, MadeEntry, SameInode, new_inode}
+use Rattle.ffs_lib.proofs.Fields.{blocks_are, set_words}
+use Rattle.ffs_lib.proofs.Frames.{listed_at, listed_blocks, listed_in, listing_same}
+use Rattle.ffs_lib.proofs.Listed.{fits_newest}
+use Rattle.ffs_lib.proofs.More.{OneMore, block_more, blocks_more, lists_more, more_by, one_listed, words_more}
+use Rattle.ffs_lib.proofs.Newest.{block_again, good_number, in_directory, in_inode_block, unused_is, used_is}
+use Rattle.ffs_lib.proofs.Owners.{Stands, block_at, block_from, direct_block, only_first, passed, stands_from}
+use Rattle.ffs_lib.proofs.Same.{Touches, begun, begun_some, block_same, data_touched, edited, inode_touched, inodes_same, none_touched, same_on}
+use Rattle.ffs_lib.proofs.Stores.{gives_ok}
+use Rattle.ffs_lib.proofs.Walks.{same_ok}
+
+-- A directory is an inode in use
+
+pub directory_from : (content : ℕ → List ℕ) (fs d : ℕ) (inode : List ℕ) → Ok inode ≡ directory_in content fs d → (Ok inode ≡ inode_in content fs d) × (inode_mode inode ≡ 2)
+unfolding directory_in
+directory_from content fs d inode e =
+    let r = passed (inode_in content fs d) if_directory inode e in
+    let x = only_first (inode_mode r.0 == 2) r.0 inode NotDir r.2 in
+    (ap (λ z. Ok z) (sym x.1) ∙ r.1, ap inode_mode (sym x.1) ∙ eqb-true (inode_mode r.0) 2 x.0)
+
+pub directory_same : (v w : ℕ → List ℕ) (fs d : ℕ) → inode_in w fs d ≡ inode_in v fs d → directory_in w fs d ≡ directory_in v fs d
+unfolding directory_in
+directory_same v w fs d e = ap (λ (r : Result (List ℕ) FfsFault). and_then r if_directory) e
+
+-- The bytes of an inode are written
+
+pub inode_put : (T : Types) (lib : IsLibrary T) (state new : StoreState) (h : IsConsistent T state) (fs : ℕ) (few : fs < 32) (n block place : ℕ) → IsPlace state fs n block place → n ≤ 128 →
+    (bytes : List ℕ) → length bytes ≡ 64 → inode_mode bytes ≢ 0 → (adds : List (ℕ × ℕ)) (drops : List ℕ) (after : Option ℕ) (entry : ℕ) →
+    propose_of T state fs block (edit_at (64 * place) bytes adds drops after) ≡ Ok (entry, new) →
+    (inode_in (latest new.lives) fs n ≡ Ok bytes) × ((d : ℕ) → d ≢ n → SameInode (latest state.lives) (latest new.lives) fs d)
+inode_put T lib state new h fs few n block place stands low bytes whole used adds drops after entry done =
+    let v = latest state.lives in
+    let w = latest new.lives in
+    let j : ℕ = (n - 1) / 8 in
+    let at = under_inodes T library_layout (library_reads T lib) v fs j block stands.inodes in
+    let t = edited T state new h fs few block 4 (edit_at (64 * place) bytes adds drops after) entry done at in
+    let here : w block ≡ put (v block) (64 * place) bytes = proposed_here T state new h fs block (edit_at (64 * place) bytes adds drops after) entry done in
+    let long = stands.long in
+    let little = stands.few in
+    let fit : 64 * place + length bytes ≤ length (v block) = omega (arith, long, little, whole) in
+    let z : 64 * place ≡ 64 * place + 0 = omega arith in
+    let written : inode_at (w block) place ≡ bytes =
+    ap (λ m. inode_at m place) here ∙ (ap (λ k. take 64 (drop k (put (v block) (64 * place) bytes))) z
+    ∙ (bytes_within (v block) (64 * place) bytes fit 64 0 (omega (arith, whole)) ∙ (ap (λ k. take k bytes) (sym whole) ∙ take-length bytes))) in
+    let found : Ok block ≡ inode_block_in w fs j = block_again v fs j block stands.inodes ∙ sym (block_same T lib v w fs block 4 t (λ z. omega (arith, z)) j) in (
+      sym (used_is bytes used ∙ (ap unless_unused (sym written) ∙ in_inode_block w fs n (good_number n stands.some low) j place block (w block) refl stands.at found refl)),
+      inode_touched T lib state h fs few w block 4 t refl n place bytes stands whole here,
+    )
+
+-- An entry is written into a gap
+
+module _ (T : Types) (lib : IsLibrary T) (state new : StoreState) (h : IsConsistent T state) (fs : ℕ) (few : fs < 32) (d : ℕ) (inode : List ℕ) (dir : Ok inode ≡ directory_in (latest state.lives) fs d) where
+  abbrev v : ℕ → List ℕ
+  v = latest state.lives
+
+  abbrev w : ℕ → List ℕ
+  w = latest new.lives
+
+  own : Stands v fs d inode
+  own = stands_from v fs d inode (directory_from v fs d inode dir).0
+
+  own_distinct : distinct (inode_blocks inode) ≡ true
+  own_distinct =
+      let p : ℕ = (d - 1) % 8 in
+      ap (λ m. distinct (inode_blocks m)) own.bytes
+      ∙ (ap distinct (sym (blocks_read (v own.block) p (omega arith))) ∙ (ap (λ (t : Bool). distinct (if t then blocks_of (pointed (direct_word (v own.block) p) 12 2) else [])) (lt-ltb p 8 (omega arith)) ∙ direct_distinct T lib (v own.block) p (fits_newest T lib state state h fs few own.block 4 (under_inodes T library_layout (library_reads T lib) v fs ((d - 1) / 8) own.block own.inodes)) (omega arith)))
+
+  pub gap_entered : (b p : ℕ) → Contains (inode_blocks inode) b → p < 16 → length (v b) ≡ 512 → half_at (v b) (32 * p) ≡ 0 → (n : ℕ) (name bytes : List ℕ) → bytes ≡ entry_of n name → length bytes ≡ 32 → IsTrue (is_name name) →
+      half_at bytes 0 ≡ n → n ≢ 0 → (after : Option ℕ) (entry : ℕ) → propose_of T state fs b (edit_at (32 * p) bytes [] [] after) ≡ Ok (entry, new) →
+      HasMore v w fs d inode name n × ((e : ℕ) → e ≢ d → SameInode v w fs e)
+  gap_entered b p has low long empty n name bytes is whole named half some after entry done =
+      let x = direct_where inode b has in
+      let lt = x.1 in
+      let block : file_block v inode x.0 ≡ b = direct_block v inode x.0 lt ∙ x.2 in
+      let at = block_at T lib state h fs few d inode own x.0 b (omega (arith, lt)) block x.3 in
+      let t = edited T state new h fs few b 2 (edit_at (32 * p) bytes [] [] after) entry done at in
+      let here : w b ≡ put (v b) (32 * p) bytes = proposed_here T state new h fs b (edit_at (32 * p) bytes [] [] after) entry done in
+      let one : Slot = record { block = b; place = p; inode = n } in
+      let more = block_more (v b) long p low n name bytes is whole named half some b empty in
+      let filled : OneMore (listed_in v b) (listed_in w b) (one, name) = more_by _ _ _ _ (one, name) refl (ap (λ m. filter_map (listed_at b m) (range_with_len 0 16)) here) more in
+      let all = blocks_more (listed_in v) (listed_in w) b (one, name) filled (inode_blocks inode) has own_distinct (λ c i ne.
+      let y = direct_where inode c i in
+      let first = y.1 in
+      ap (λ m. filter_map (listed_at c m) (range_with_len 0 16)) (t.others c 2 (block_at T lib state h fs few d inode own y.0 c (omega (arith, first)) (direct_block v inode y.0 first ∙ y.2) y.3) ne)) in (
+        record {
+          after = inode;
+          directory = dir ∙ sym (directory_same v w fs d (inodes_same T lib v w fs b 2 t (λ z. omega (arith, z)) (λ z. omega (arith, z)) d));
+          entry = one;
+          inode_named = refl;
+          front = all.front;
+          back = all.back;
+          was = listed_blocks v (inode_blocks inode) ∙ all.was;
+          is = listed_blocks w (inode_blocks inode) ∙ all.is;
+        },
+        data_touched T lib state h fs few w b 2 t refl d inode own x.0 (omega (arith, lt)) block x.3,
+      )
+
+-- A new block with one entry is attached
+
+pub get_mapped : (f : ℕ → ℕ) (n a k : ℕ) → k < n → get_or (map f (range_with_len a n)) k 0 ≡ f (a + k)
+get_mapped f zero a k lt = absurd (omega (arith, lt))
+get_mapped f (suc n) a zero lt = let z : a ≡ a + 0 = omega arith in ap f z
+get_mapped f (suc n) a (suc k) lt = let z : a + 1 + k ≡ a + suc k = omega arith in get_mapped f n (a + 1) k (omega (arith, lt)) ∙ ap f z
+
+module _ (T : Types) (lib : IsLibrary T) (zeroth first second : StoreState) (h : IsConsistent T zeroth) (h1 : IsConsistent T first) (fs : ℕ) (few : fs < 32) (b number : ℕ) (bytes : List ℕ)
+    (done : init_of T zeroth fs 2 (put zeros 0 bytes) ≡ Ok ((b, number), first)) where
+  abbrev v0 : ℕ → List ℕ
+  v0 = latest zeroth.lives
+
+  abbrev v1 : ℕ → List ℕ
+  v1 = latest first.lives
+
+  abbrev v2 : ℕ → List ℕ
+  v2 = latest second.lives
+
+  new_block : Touches T v0 v1 fs b 9
+  new_block = begun T zeroth first h fs few 2 9 (put zeros 0 bytes) (b, number) done
+
+  pub begun_same : (e : ℕ) → SameInode v0 v1 fs e
+  begun_same = none_touched T lib zeroth h fs few v1 b 9 new_block (λ z. omega (arith, z)) (λ z. omega (arith, z)) (λ z. omega (arith, z)) (λ z. omega (arith, z))
+
+  -- the new block is no block of inodes
+  no_inodes : (j : ℕ) → j < 16 → IsInodes library_layout v1 fs j b → ⊥
+  no_inodes j low is =
+      let old = block_from v0 fs j b low (block_again v1 fs j b is ∙ block_same T lib v0 v1 fs b 9 new_block (λ z. omega (arith, z)) j) in
+      new_block.apart b 4 (under_inodes T library_layout (library_reads T lib) v0 fs j b old) (λ z. omega (arith, z)) refl
+
+  pub block_entered : (d index n : ℕ) (name inode0 : List ℕ) → Ok inode0 ≡ directory_in v0 fs d → index < 12 → direct_in inode0 index ≡ 0 → b ≢ 0 → (inode : List ℕ) → Ok inode ≡ directory_in v1 fs d → IsGrown v1 v2 fs d inode index b →
+      bytes ≡ entry_of n name → length bytes ≡ 32 → IsTrue (is_name name) → half_at bytes 0 ≡ n → n ≢ 0 →
+      HasMore v0 v2 fs d inode0 name n
+  block_entered d index n name inode0 dir low gap there inode again g is whole named half some =
+      let same = begun_same d in
+      let one : inode ≡ inode0 = same_ok inode inode0 (again ∙ (directory_same v0 v1 fs d same.0 ∙ sym dir)) in
+      let kept = same.1 inode0 (directory_from v0 fs d inode0 dir).0 in
+      let own = stands_from v1 fs d inode (directory_from v1 fs d inode again).0 in
+      let number_low = own.low in
+      let own_bytes : (c : ℕ) → Contains (inode_blocks inode) c → v2 c ≡ v1 c =
+      λ c i.
+      let y = direct_where inode c i in
+      let lt = y.1 in
+      let at = block_at T lib first h1 fs few d inode own y.0 c (omega (arith, lt)) (direct_block v1 inode y.0 lt ∙ y.2) y.3 in
+      g.bytes c (λ z.
+      let four : 2 ≡ 4 = one_type T first h1 fs c 2 4 few at (under_inodes T library_layout (library_reads T lib) v1 fs ((d - 1) / 8) c z) in
+      omega (arith, four)) in
+      let new_bytes : v2 b ≡ put zeros 0 bytes = g.bytes b (no_inodes ((d - 1) / 8) (omega (arith, number_low))) ∙ started_here T zeroth first fs 2 (put zeros 0 bytes) (b, number) done in
+      let entry : Slot = record { block = b; place = 0; inode = n } in
+      let ws = (fields_of inode).direct in
+      let words = words_more ws index b low (get_mapped (direct_in inode) 12 0 index low ∙ (ap (λ k. direct_in inode k) (let z : 0 + index ≡ index = omega arith in z) ∙ (ap (λ m. direct_in m index) one ∙ gap))) there in
+      let blocks = more_by _ _ (inode_blocks inode) (inode_blocks g.after) b (blocks_are inode) (blocks_are g.after ∙ ap set_words g.direct) words in
+      let single : listed_in v2 b ≡ (entry, name) ∷ [] = ap (λ m. filter_map (listed_at b m) (range_with_len 0 16)) new_bytes ∙ one_listed n name bytes is whole named half some b in
+      let all = lists_more (listed_in v2) (inode_blocks inode) (inode_blocks g.after) b (entry, name) blocks single in
+      let before : listing v2 inode ≡ listing v0 inode0 = listing_same v2 v1 inode own_bytes ∙ (ap (listing v1) one ∙ kept.0) in
+      record {
+        after = g.after;
+        directory = g.directory;
+        entry = entry;
+        inode_named = refl;
+        front = all.front;
+        back = all.back;
+        was = sym before ∙ (listed_blocks v2 (inode_blocks inode) ∙ all.was);
+        is = listed_blocks v2 (inode_blocks g.after) ∙ all.is;
+      }
+
+-- A block of inodes: begun and attached
+pub stays_then : {A : Type 0} (T : Types) (fs : ℕ) → fs < 32 → (block number : ℕ) (zeroth first second third : StoreState) → IsConsistent T first → Gives (init_of T zeroth fs 4 zeros) zeroth first (Ok (block, number)) →
+    (attached : Result A FfsFault) (x : A) → attached ≡ Ok x → OnOk attached (latest first.lives block ≡ zeros → block ≢ 0 → Stays T fs first second) → third ≡ second → Stays T fs zeroth third
+stays_then {A} T fs few block number zeroth first second third h1 given attached x is ok same lib h d =
+    let done = gives_ok (init_of T zeroth fs 4 zeros) zeroth first (block, number) given in
+    let t = begun T zeroth first h fs few 4 9 zeros (block, number) done in
+    let stays = subst (λ (r : Result A FfsFault). OnOk r (latest first.lives block ≡ zeros → block ≢ 0 → Stays T fs first second)) is ok in
+    let before = none_touched T lib zeroth h fs few (latest first.lives) block 9 t (λ z. omega (arith, z)) (λ z. omega (arith, z)) (λ z. omega (arith, z)) (λ z. omega (arith, z)) d in
+    let after = stays (started_here T zeroth first fs 4 zeros (block, number) done) (begun_some T zeroth first h fs 4 zeros (block, number) done) lib h1 d in
+    subst (λ (s : StoreState). SameInode (latest zeroth.lives) (latest s.lives) fs d) (sym same) (same_on (latest zeroth.lives) (latest first.lives) (latest second.lives) fs d before after)
+
+-- A directory's block: begun with an entry, and attached
+pub entered_then : {A : Type 0} (T : Types) (fs : ℕ) → fs < 32 → (block number : ℕ) (zeroth first second third : StoreState) → IsConsistent T first → (d index n : ℕ) (name bytes all inode : List ℕ) → all ≡ put zeros 0 bytes →
+    Gives (init_of T zeroth fs 2 all) zeroth first (Ok (block, number)) → (attached result : Result A FfsFault) → result ≡ attached → OnOk attached (GrowsDirectory T fs d index block first second) → OnOk result (third ≡ second) →
+    (IsLibrary T → Ok inode ≡ directory_in (latest zeroth.lives) fs d) → index < 12 → direct_in inode index ≡ 0 → bytes ≡ entry_of n name → length bytes ≡ 32 → IsTrue (is_name name) → half_at bytes 0 ≡ n →
+    OnOk result (Enters T fs d name n zeroth third)
+entered_then T fs few block number zeroth first second third h1 d index n name bytes all inode e given attached (Err fault) is grows same dir low gap spelled whole named half = tt
+entered_then {A} T fs few block number zeroth first second third h1 d index n name bytes all inode e given attached (Ok x) is grows same dir low gap spelled whole named half = λ lib h some.
+    let done = subst (λ m. init_of T zeroth fs 2 m ≡ Ok ((block, number), first)) e (gives_ok (init_of T zeroth fs 2 all) zeroth first (block, number) given) in
+    let grown = subst (λ (r : Result A FfsFault). OnOk r (GrowsDirectory T fs d index block first second)) (sym is) grows lib h1 in
+    let more = block_entered T lib zeroth first second h h1 fs few block number bytes done d index n name inode (dir lib) low gap (begun_some T zeroth first h fs 2 (put zeros 0 bytes) (block, number) done) grown.0 grown.1 grown.2 spelled whole named half some in
+    let begun = begun_same T lib zeroth first second h h1 fs few block number bytes done in (
+      λ other is_other. subst (λ (s : StoreState). HasMore (latest zeroth.lives) (latest s.lives) fs d other name n) (sym same)
+          (subst (λ i. HasMore (latest zeroth.lives) (latest second.lives) fs d i name n) (same_ok inode other (dir lib ∙ sym is_other)) more),
+      λ o ne. subst (λ (s : StoreState). SameInode (latest zeroth.lives) (latest s.lives) fs o) (sym same)
+          (same_on (latest zeroth.lives) (latest first.lives) (latest second.lives) fs o (begun o) (grown.2.others o ne)),
+    )
+
+-- An inode is made, and named
+
+pub free_none : (state : StoreState) (fs : ℕ) (free : Free) → IsFree state fs free → inode_in (latest state.lives) fs free.number ≡ Err NoEntry
+free_none state fs free is =
+    let content = latest state.lives in
+    let n = free.number in
+    let stands = is.stands in
+    sym (unused_is (inode_at (content free.block) free.place) is.unused
+    ∙ in_inode_block content fs n (good_number n stands.some is.low) ((n - 1) / 8) free.place free.block (content free.block) refl stands.at (block_again content fs ((n - 1) / 8) free.block stands.inodes) refl)
+
+module _ (u v w : ℕ → List ℕ) (fs d : ℕ) (name : List ℕ) (mode n : ℕ) where
+  more_before : (inode : List ℕ) → listing v inode ≡ listing u inode → HasMore v w fs d inode name n → HasMore u w fs d inode name n
+  more_before inode same m = record { after = m.after; directory = m.directory; entry = m.entry; inode_named = m.inode_named; front = m.front; back = m.back; was = sym same ∙ m.was; is = m.is }
+
+  pub made_then : inode_in u fs n ≡ Err NoEntry → inode_in v fs n ≡ Ok (new_inode mode) → ((e : ℕ) → e ≢ n → SameInode u v fs e) →
+      ((inode : List ℕ) → Ok inode ≡ directory_in v fs d → HasMore v w fs d inode name n) × ((e : ℕ) → e ≢ d → SameInode v w fs e) → (inode : List ℕ) → Ok inode ≡ directory_in u fs d → MadeEntry u w fs d name mode n
+  made_then free made first enters inode dir =
+      let apart : d ≢ n = λ e. not_both_ways inode ((directory_from u fs d inode dir).0 ∙ (ap (inode_in u fs) e ∙ free)) in
+      let same = first d apart in
+      record {
+        free = free;
+        made = (enters.1 n (λ e. apart (sym e))).0 ∙ made;
+        entry = λ other is. more_before other (same.1 other (directory_from u fs d other is).0).0 (enters.0 other (is ∙ sym (directory_same u v fs d same.0)));
+        others = λ e ne ne'. same_on u v w fs e (first e ne') (enters.1 e ne);
+      }
+    where
+      not_both_ways : (x : List ℕ) → ◌≡◌ {A = Result (List ℕ) FfsFault} (Ok x) (Err NoEntry) → ⊥
+      not_both_ways x e = cc
+
+  pub stays_made : ((e : ℕ) → SameInode u v fs e) → MadeEntry v w fs d name mode n → MadeEntry u w fs d name mode n
+  stays_made stays m = record {
+    free = sym (stays n).0 ∙ m.free;
+    made = m.made;
+    entry = λ inode is. more_before inode ((stays d).1 inode (directory_from u fs d inode is).0).0 (m.entry inode (is ∙ sym (directory_same u v fs d (stays d).0)));
+    others = λ e ne ne'. same_on u v w fs e (stays e) (m.others e ne ne');
+  }

@@ -1,0 +1,311 @@
+-- What a change of one block leaves of the inodes that it does not touch.
+use Rattle.std.proofs.Common.{◌≡◌, ◌≢◌, ℕ, ◌+◌, ◌-◌, ◌*◌, ◌/◌, ◌%◌, ◌^◌, ◌<◌, ◌≤◌, ◌⊎◌, Bool, true, false, List, [], ◌∷◌, length, get_or, Some, None, Ok, Err, refl, sym, ◌∙◌, ap, inl, inr, arith, subst, eq-eqb}
+use Rattle.std.specs.Prelude.{Contains, Result, ◌==◌, ◌||◌, nat_lt, if◌then◌else◌}
+use Rattle.std.specs.Int.{w32, to_le_bytes}
+use Rattle.std.proofs.lemmas.Nat.{from_le_bytes-to_le_bytes_4}
+use Rattle.std.proofs.lemmas.Bool.{cases_eq, cases_lt}
+use Rattle.std.proofs.lemmas.Option.{none-some, same_Some}
+use Rattle.xn_model.specs.Types.{Types}
+use Rattle.xn_model.specs.Lists.{put}
+use Rattle.xn_model.specs.Root.{slot, word_at}
+use Rattle.xn_model.specs.Lives.{Life, StoreState, life_at}
+use Rattle.xn_model.specs.Calls.{Edit, init_of, propose_of}
+use Rattle.xn_model.specs.Rules.{IsConsistent}
+use Rattle.ffs_model.specs.Cuts.{Under, latest, root, step}
+use Rattle.ffs_model.specs.Names.{IsInodes, IsRoot}
+use Rattle.ffs_model.specs.Volumes.{Reads}
+use Rattle.ffs_model.specs.Library.{IsLibrary, inode_at, inode_blocks, inode_mode, library_layout, pointer_word, zeros}
+use Rattle.ffs_model.proofs.ForCallers.{bytes_apart, direct_where, latest_reached, library_reads, mode_read, one_type, proposed_here, proposed_others, started, started_others, under_inodes, word_apart, word_within, zeros_mode}
+use Rattle.ffs_format.specs.Fields.{direct_in}
+use Rattle.ffs_lib.specs.declared.fault.FfsFault.{FfsFault}
+use Rattle.ffs_lib.specs.declared.fault.FfsFault.TheVariants.{NoEntry}
+use Rattle.ffs_lib.specs.Newest.{and_then, byte_in, byte_of, file_block, inode_block_in, inode_in, listing, root_in, root_of_type, unless_unused, unless_zero}
+use Rattle.ffs_lib.specs.Places.{IsPlace}
+use Rattle.ffs_lib.specs.Results.{SameContents, SameInode}
+use Rattle.ffs_lib.specs.Edits.{edit_at}
+use Rattle.ffs_lib.proofs.Edited.{same_root}
+use Rattle.ffs_lib.proofs.Newest.{in_root_block, not_zero, root_again, unused_is, zero_is}
+use Rattle.ffs_lib.proofs.Listed.{fits_newest}
+use Rattle.ffs_lib.proofs.Frames.{listing_same}
+use Rattle.ffs_lib.proofs.Owners.{Stands, block_at, block_from, direct_block, number_from, one_number, passed, pointers_apart, pointers_at, root_from, stands_from, two_blocks, two_pointers}
+
+-- Among what is reached only a block of one type changes.
+pub record Touches (T : Types) (v w : ℕ → List ℕ) (fs block ty : ℕ) : Type 0 where
+  pub top : w 0 ≡ v 0
+  pub others : (c u : ℕ) → Under T v fs c u → c ≢ block → w c ≡ v c
+  pub apart : (c u : ℕ) → Under T v fs c u → u ≢ ty → c ≢ block
+
+module _ (T : Types) (state new : StoreState) (h : IsConsistent T state) (fs : ℕ) (few : fs < 32) where
+  pub edited : (block ty : ℕ) (edit : Edit) (entry : ℕ) → propose_of T state fs block edit ≡ Ok (entry, new) → Under T (latest state.lives) fs block ty → Touches T (latest state.lives) (latest new.lives) fs block ty
+  edited block ty edit entry done at =
+      let others = proposed_others T state new h fs block edit entry done in
+      let x = latest_reached T state h fs few block ty at in
+      let zeroth = h.lives_sound.root in
+      record {
+        top = others 0 (λ e.
+            let same : zeroth.life ≡ x.life = same_Some zeroth.life x.life (sym zeroth.alive ∙ (ap (life_at state.lives) e ∙ x.alive)) in
+            none-some fs (sym zeroth.nobody ∙ (ap (λ (l : Life). l.fs) same ∙ x.system)));
+        others = λ c u r ne. others c ne;
+        apart = λ c u r ne e. ne (one_type T state h fs c u ty few r (subst (λ b. Under T (latest state.lives) fs b ty) (sym e) at));
+      }
+
+  pub begun : (ty kind : ℕ) (bytes : List ℕ) (made : ℕ × ℕ) → init_of T state fs ty bytes ≡ Ok (made, new) → Touches T (latest state.lives) (latest new.lives) fs made.0 kind
+  begun ty kind bytes made done =
+      let r = started T state new fs ty bytes made done in
+      let others = started_others T state new fs ty bytes made done in
+      let zeroth = h.lives_sound.root in
+      record {
+        top = others 0 (λ e. none-some zeroth.life (sym r.free ∙ (ap (life_at state.lives) (sym e) ∙ zeroth.alive)));
+        others = λ c u at ne. others c ne;
+        apart = λ c u at ne e.
+            let x = latest_reached T state h fs few c u at in
+            none-some x.life (sym r.free ∙ (ap (life_at state.lives) (sym e) ∙ x.alive));
+      }
+
+-- an inode is read from its block
+inode_by : (v w : ℕ → List ℕ) (fs d : ℕ) → (d ≢ 0 → d ≤ 128 → and_then (inode_block_in w fs ((d - 1) / 8)) (λ b. unless_unused (inode_at (w b) ((d - 1) % 8))) ≡ and_then (inode_block_in v fs ((d - 1) / 8)) (λ b. unless_unused (inode_at (v b) ((d - 1) % 8)))) →
+    inode_in w fs d ≡ inode_in v fs d
+unfolding inode_in
+inode_by v w fs d same = numbered ((d == 0) || nat_lt 128 d) refl
+  where
+    numbered : (s : Bool) → ((d == 0) || nat_lt 128 d) ≡ s →
+        (if s then Err NoEntry else and_then (inode_block_in w fs ((d - 1) / 8)) (λ b. unless_unused (inode_at (w b) ((d - 1) % 8))))
+        ≡ (if s then Err NoEntry else and_then (inode_block_in v fs ((d - 1) / 8)) (λ b. unless_unused (inode_at (v b) ((d - 1) % 8))))
+    numbered true e = refl
+    numbered false e = let n = number_from d e in same n.0 n.1
+
+module _ (T : Types) (lib : IsLibrary T) (v w : ℕ → List ℕ) (fs block ty : ℕ) (t : Touches T v w fs block ty) where
+  pub root_same : root_in w fs ≡ root_in v fs
+  unfolding root_in
+  root_same = ap (λ m. root_of_type (slot m fs)) t.top
+
+  root_bytes : ty ≢ 3 → (r : ℕ) → Ok r ≡ root_in v fs → w r ≡ v r
+  root_bytes not r e = let is = root_from v fs r e in let at = root is.at is.there in t.others r 3 at (t.apart r 3 at (λ z. not (sym z)))
+
+  pub block_same : ty ≢ 3 → (j : ℕ) → inode_block_in w fs j ≡ inode_block_in v fs j
+  unfolding inode_block_in
+  block_same not j =
+      ap (λ (r : Result ℕ FfsFault). and_then r (λ root. unless_zero (pointer_word (w root) j))) root_same
+      ∙ go (root_in v fs) refl
+    where
+      go : (r : Result ℕ FfsFault) → r ≡ root_in v fs → and_then r (λ root. unless_zero (pointer_word (w root) j)) ≡ and_then r (λ root. unless_zero (pointer_word (v root) j))
+      go (Err fault) e = refl
+      go (Ok r) e = ap (λ m. unless_zero (pointer_word m j)) (root_bytes not r e)
+
+  -- an inode whose bytes stay
+  pub inode_same : ty ≢ 3 → (d : ℕ) → ((b : ℕ) → d ≢ 0 → d ≤ 128 → IsInodes library_layout v fs ((d - 1) / 8) b → inode_at (w b) ((d - 1) % 8) ≡ inode_at (v b) ((d - 1) % 8)) → inode_in w fs d ≡ inode_in v fs d
+  inode_same not d stays =
+      inode_by v w fs d (λ some low. ap (λ (r : Result ℕ FfsFault). and_then r (λ b. unless_unused (inode_at (w b) ((d - 1) % 8)))) (block_same not ((d - 1) / 8)) ∙ go some low (inode_block_in v fs ((d - 1) / 8)) refl)
+    where
+      go : d ≢ 0 → d ≤ 128 → (r : Result ℕ FfsFault) → r ≡ inode_block_in v fs ((d - 1) / 8) →
+          and_then r (λ b. unless_unused (inode_at (w b) ((d - 1) % 8))) ≡ and_then r (λ b. unless_unused (inode_at (v b) ((d - 1) % 8)))
+      go some low (Err fault) e = refl
+      go some low (Ok b) e = ap unless_unused (stays b some low (block_from v fs ((d - 1) / 8) b (omega (arith, low)) e))
+
+  -- no block of inodes changes
+  pub inodes_same : ty ≢ 3 → ty ≢ 4 → (d : ℕ) → inode_in w fs d ≡ inode_in v fs d
+  inodes_same not other d = inode_same not d (λ b some low is.
+      let at = under_inodes T library_layout (library_reads T lib) v fs ((d - 1) / 8) b is in
+      ap (λ m. inode_at m ((d - 1) % 8)) (t.others b 4 at (t.apart b 4 at (λ z. other (sym z)))))
+
+-- what is reached after a new block was begun was so before
+pub reached_before : (T : Types) (v w : ℕ → List ℕ) (fs block ty : ℕ) → Touches T v w fs block ty → ((c u : ℕ) → Under T v fs c u → c ≢ block) → (c u : ℕ) → Under T w fs c u → Under T v fs c u
+reached_before T v w fs block ty t apart c u (root e ne) = root (ap (λ m. slot m fs) (sym t.top) ∙ e) ne
+reached_before T v w fs block ty t apart c u (step {b = b} {t = k} r i) =
+    let before = reached_before T v w fs block ty t apart b k r in
+    step before (subst (λ m. Contains (T.owned k m) (c, u)) (t.others b k before (apart b k before)) i)
+
+-- where the block of pointers stays, so do the blocks of a file
+pub file_block_by : (v w : ℕ → List ℕ) (inode : List ℕ) → (word_at inode 56 ≢ 0 → w (word_at inode 56) ≡ v (word_at inode 56)) → (i : ℕ) → file_block w inode i ≡ file_block v inode i
+file_block_by v w inode same i = go (nat_lt i 12) (cases_eq (word_at inode 56) 0)
+  where
+    go : (b : Bool) → (word_at inode 56 ≡ 0) ⊎ (word_at inode 56 ≢ 0) →
+        (if b then direct_in inode i else if word_at inode 56 == 0 then 0 else pointer_word (w (word_at inode 56)) (i - 12))
+        ≡ (if b then direct_in inode i else if word_at inode 56 == 0 then 0 else pointer_word (v (word_at inode 56)) (i - 12))
+    go true c = refl
+    go false (inl e) =
+        ap (λ (x : Bool). if x then 0 else pointer_word (w (word_at inode 56)) (i - 12)) (eq-eqb (word_at inode 56) 0 e)
+        ∙ sym (ap (λ (x : Bool). if x then 0 else pointer_word (v (word_at inode 56)) (i - 12)) (eq-eqb (word_at inode 56) 0 e))
+    go false (inr ne) = ap (λ m. if word_at inode 56 == 0 then 0 else pointer_word m (i - 12)) (same ne)
+
+-- The block is none of an inode's.
+pub record Avoids (v : ℕ → List ℕ) (inode : List ℕ) (block : ℕ) : Type 0 where
+  pub pointers : word_at inode 56 ≢ 0 → word_at inode 56 ≢ block
+  pub blocks : (i : ℕ) → i < 140 → file_block v inode i ≢ 0 → file_block v inode i ≢ block
+
+module _ (T : Types) (lib : IsLibrary T) (state : StoreState) (h : IsConsistent T state) (fs : ℕ) (few : fs < 32) (w : ℕ → List ℕ) (block ty : ℕ) (t : Touches T (latest state.lives) w fs block ty) where
+  abbrev v : ℕ → List ℕ
+  v = latest state.lives
+
+  module _ (d : ℕ) (inode : List ℕ) (s : Stands v fs d inode) where
+    -- where the blocks are of other types
+    pub avoids : ty ≢ 2 → ty ≢ 5 → Avoids v inode block
+    avoids two five = record {
+      pointers = λ ne. t.apart (word_at inode 56) 5 (pointers_at T lib state h fs few d inode s (word_at inode 56) refl ne) (λ z. five (sym z));
+      blocks = λ i low ne. t.apart (file_block v inode i) 2 (block_at T lib state h fs few d inode s i (file_block v inode i) low refl ne) (λ z. two (sym z));
+    }
+
+    module _ (a : Avoids v inode block) where
+      pointers_same : word_at inode 56 ≢ 0 → w (word_at inode 56) ≡ v (word_at inode 56)
+      pointers_same ne = t.others (word_at inode 56) 5 (pointers_at T lib state h fs few d inode s (word_at inode 56) refl ne) (a.pointers ne)
+
+      pub file_block_same : (i : ℕ) → file_block w inode i ≡ file_block v inode i
+      file_block_same = file_block_by v w inode pointers_same
+
+      pub block_bytes : (i k : ℕ) → i < 140 → byte_in w (file_block v inode i) k ≡ byte_in v (file_block v inode i) k
+      block_bytes i k low = elim (cases_eq (file_block v inode i) 0) [
+        | inl e ↦ ap (λ b. byte_in w b k) e ∙ sym (ap (λ b. byte_in v b k) e)
+        | inr ne ↦
+            let same = t.others (file_block v inode i) 2 (block_at T lib state h fs few d inode s i (file_block v inode i) low refl ne) (a.blocks i low ne) in
+            ap (λ m. if file_block v inode i == 0 then 0 else get_or m k 0) same
+      ]
+
+      pub contents_same : SameContents v w inode
+      contents_same = (
+        listing_same w v inode (λ b i.
+            let x = direct_where inode b i in
+            let lt = x.1 in
+            t.others b 2 (block_at T lib state h fs few d inode s x.0 b (omega (arith, lt)) (direct_block v inode x.0 lt ∙ x.2) x.3) (λ e. a.blocks x.0 (omega (arith, lt)) (λ z. x.3 (sym (direct_block v inode x.0 lt ∙ x.2) ∙ z)) (direct_block v inode x.0 lt ∙ (x.2 ∙ e)))),
+        λ at low. ap (λ b. byte_in w b (at % 512)) (file_block_same (at / 512)) ∙ block_bytes (at / 512) (at % 512) (omega (arith, low)),
+      )
+
+  same_by : (d : ℕ) → inode_in w fs d ≡ inode_in v fs d → ((inode : List ℕ) → Stands v fs d inode → Avoids v inode block) → SameInode v w fs d
+  same_by d e a = (e, λ inode is. let s = stands_from v fs d inode is in contents_same d inode s (a inode s))
+
+  -- a new block, or the root block: no inode has it
+  pub none_touched : ty ≢ 2 → ty ≢ 3 → ty ≢ 4 → ty ≢ 5 → (d : ℕ) → SameInode v w fs d
+  none_touched two three four five d = same_by d (inodes_same T lib v w fs block ty t three four d) (λ inode s. avoids d inode s two five)
+
+  -- a block of inodes, in which another one was written
+  pub inode_touched : ty ≡ 4 → (n place : ℕ) (bytes : List ℕ) → IsPlace state fs n block place → length bytes ≡ 64 → w block ≡ put (v block) (64 * place) bytes → (d : ℕ) → d ≢ n → SameInode v w fs d
+  inode_touched four n place bytes stands whole here d ne =
+      same_by d (inode_same T lib v w fs block ty t (λ z. omega (arith, four, z)) d by_place) (λ inode s. avoids d inode s (λ z. omega (arith, four, z)) (λ z. omega (arith, four, z)))
+    where
+      reads : Reads T library_layout
+      reads = library_reads T lib
+
+      in_place : (b : ℕ) → d ≢ 0 → IsInodes library_layout v fs ((d - 1) / 8) b → b ≡ block → (d - 1) % 8 ≡ place → ⊥
+      in_place b some is e p =
+          let top = is.root in
+          let one : stands.inodes.root ≡ top = same_root v fs stands.inodes.root top stands.inodes.is_root is.is_root in
+          let points : library_layout.pointer (v top) ((n - 1) / 8) ≡ b = ap (λ r. library_layout.pointer (v r) ((n - 1) / 8)) (sym one) ∙ (stands.inodes.points ∙ sym e) in
+          let index : (d - 1) / 8 ≡ (n - 1) / 8 =
+          reads.apart (v top) ((d - 1) / 8) ((n - 1) / 8) b (fits_newest T lib state state h fs few top 3 (root is.is_root.at is.is_root.there)) is.points points is.there in
+          ne (reads.homes d n some stands.some index (p ∙ stands.at))
+
+      by_place : (b : ℕ) → d ≢ 0 → d ≤ 128 → IsInodes library_layout v fs ((d - 1) / 8) b → inode_at (w b) ((d - 1) % 8) ≡ inode_at (v b) ((d - 1) % 8)
+      by_place b some low is = elim (cases_eq b block) [
+        | inr apart ↦ ap (λ m. inode_at m ((d - 1) % 8)) (t.others b 4 (under_inodes T library_layout reads v fs ((d - 1) / 8) b is) apart)
+        | inl e ↦
+            let q = (d - 1) % 8 in
+            let m = v block in
+            let fit : 64 * place + length bytes ≤ length m = let long = stands.long in let few = stands.few in omega (arith, long, few, whole) in
+            let other : q ≢ place = in_place b some is e in
+            let away : (64 * q + 64 ≤ 64 * place) ⊎ (64 * place + length bytes ≤ 64 * q) = elim (cases_lt q place) [ inl lt ↦ inl (omega (arith, lt)) | inr ge ↦ inr (omega (arith, ge, other, whole)) ] in
+            ap (λ c. inode_at (w c) q) e ∙ (ap (λ x. inode_at x q) here ∙ (bytes_apart m (64 * place) bytes fit 64 (64 * q) away ∙ ap (λ c. inode_at (v c) q) (sym e)))
+      ]
+
+  -- a block of a file or directory
+  pub data_touched : ty ≡ 2 → (n : ℕ) (own : List ℕ) (s : Stands v fs n own) (i : ℕ) → i < 140 → file_block v own i ≡ block → block ≢ 0 → (d : ℕ) → d ≢ n → SameInode v w fs d
+  data_touched two n own s i low is there d ne =
+      same_by d (inodes_same T lib v w fs block ty t (λ z. omega (arith, two, z)) (λ z. omega (arith, two, z)) d) (λ inode r. record {
+        pointers = λ some e. pointers_apart T lib state h fs few n d own inode s r i block low is e there;
+        blocks = λ j high some e. ne (two_blocks T lib state h fs few d n inode own r s j i block high low e is there).0;
+      })
+
+  -- a file's block of pointers
+  pub pointers_touched : ty ≡ 5 → (n : ℕ) (own : List ℕ) (s : Stands v fs n own) → word_at own 56 ≡ block → block ≢ 0 → (d : ℕ) → d ≢ n → SameInode v w fs d
+  pointers_touched five n own s is there d ne =
+      same_by d (inodes_same T lib v w fs block ty t (λ z. omega (arith, five, z)) (λ z. omega (arith, five, z)) d) (λ inode r. record {
+        pointers = λ some e. ne (two_pointers T lib state h fs few d n inode own r s block e is there);
+        blocks = λ j high some e. pointers_apart T lib state h fs few d n inode own r s j block high e is there;
+      })
+
+pub word_read : (b : ℕ) → b < 2 ^ 32 → word_at (to_le_bytes w32 b) 0 ≡ b
+unfolding word_at
+word_read b small = from_le_bytes-to_le_bytes_4 b small
+
+-- A pointer of the root block is set to a block of zeros, in which no inode is in use
+pub pointer_touched : (T : Types) (lib : IsLibrary T) (state new : StoreState) (h : IsConsistent T state) (fs : ℕ) (few : fs < 32) (top index b entry : ℕ) → IsRoot (latest state.lives) fs top → index < 16 → pointer_word (latest state.lives top) index ≡ 0 →
+    length (latest state.lives top) ≡ 512 → b < 2 ^ 32 → b ≢ 0 → latest state.lives b ≡ zeros → b ≢ top →
+    propose_of T state fs top (edit_at (4 * index) (to_le_bytes w32 b) ((b, 4) ∷ []) [] None) ≡ Ok (entry, new) → (d : ℕ) → SameInode (latest state.lives) (latest new.lives) fs d
+pointer_touched T lib state new h fs few top index b entry is_root low empty long small there bare apart done d =
+    same_by T lib state h fs few w top 3 t d (inode_by v w fs d by_index) (λ inode s. avoids T lib state h fs few w top 3 t d inode s (λ z. omega (arith, z)) (λ z. omega (arith, z)))
+  where
+    v : ℕ → List ℕ
+    v = latest state.lives
+
+    w : ℕ → List ℕ
+    w = latest new.lives
+
+    edit : Edit
+    edit = edit_at (4 * index) (to_le_bytes w32 b) ((b, 4) ∷ []) [] None
+
+    t : Touches T v w fs top 3
+    t = edited T state new h fs few top 3 edit entry done (root is_root.at is_root.there)
+
+    others : (c : ℕ) → c ≢ top → w c ≡ v c
+    others = proposed_others T state new h fs top edit entry done
+
+    here : w top ≡ put (v top) (4 * index) (to_le_bytes w32 b)
+    here = proposed_here T state new h fs top edit entry done
+
+    four : length (to_le_bytes w32 b) ≡ 4
+    four = refl
+
+    fit : 4 * index + length (to_le_bytes w32 b) ≤ length (v top)
+    fit = omega (arith, four, low, long)
+
+    read : (content : ℕ → List ℕ) (j : ℕ) → Ok top ≡ root_in content fs → inode_block_in content fs j ≡ unless_zero (pointer_word (content top) j)
+    read content j e = sym (in_root_block content fs j top (content top) e refl)
+
+    old_root : Ok top ≡ root_in v fs
+    old_root = root_again v fs top is_root
+
+    new_root : Ok top ≡ root_in w fs
+    new_root = old_root ∙ sym (root_same T lib v w fs top 3 t)
+
+    new_word : pointer_word (w top) index ≡ b
+    new_word = ap (λ m. pointer_word m index) here ∙ (word_within (v top) (4 * index) (to_le_bytes w32 b) fit (4 * index) 0 (omega arith) (omega (arith, four)) ∙ word_read b small)
+
+    no_mode : (p : ℕ) → p < 8 → inode_mode (inode_at (w b) p) ≡ 0
+    no_mode p lt = ap (λ m. inode_mode (inode_at m p)) (others b apart ∙ bare) ∙ (sym (mode_read zeros p lt) ∙ zeros_mode p)
+
+    by_index : d ≢ 0 → d ≤ 128 → and_then (inode_block_in w fs ((d - 1) / 8)) (λ c. unless_unused (inode_at (w c) ((d - 1) % 8))) ≡ and_then (inode_block_in v fs ((d - 1) / 8)) (λ c. unless_unused (inode_at (v c) ((d - 1) % 8)))
+    by_index some few' = elim (cases_eq ((d - 1) / 8) index) [
+      | inl e ↦
+          let j : ℕ = (d - 1) / 8 in
+          let p : ℕ = (d - 1) % 8 in
+          let found : inode_block_in w fs j ≡ Ok b = read w j new_root ∙ (ap unless_zero (ap (pointer_word (w top)) e ∙ new_word) ∙ sym (not_zero b there)) in
+          let none : inode_block_in v fs j ≡ Err NoEntry = read v j old_root ∙ (ap unless_zero (ap (pointer_word (v top)) e ∙ empty) ∙ sym (zero_is 0 refl)) in
+          ap (λ (r : Result ℕ FfsFault). and_then r (λ c. unless_unused (inode_at (w c) p))) found
+          ∙ (sym (unused_is (inode_at (w b) p) (no_mode p (omega arith))) ∙ sym (ap (λ (r : Result ℕ FfsFault). and_then r (λ c. unless_unused (inode_at (v c) p))) none))
+      | inr ne ↦
+          let j : ℕ = (d - 1) / 8 in
+          let p : ℕ = (d - 1) % 8 in
+          let away : (4 * j + 4 ≤ 4 * index) ⊎ (4 * index + length (to_le_bytes w32 b) ≤ 4 * j) = elim (cases_lt j index) [ inl lt ↦ inl (omega (arith, lt)) | inr ge ↦ inr (omega (arith, ge, ne, four)) ] in
+          let word : pointer_word (w top) j ≡ pointer_word (v top) j = ap (λ m. pointer_word m j) here ∙ word_apart (v top) (4 * index) (to_le_bytes w32 b) fit (4 * j) away in
+          let same : inode_block_in w fs j ≡ inode_block_in v fs j = read w j new_root ∙ (ap unless_zero word ∙ sym (read v j old_root)) in
+          ap (λ (r : Result ℕ FfsFault). and_then r (λ c. unless_unused (inode_at (w c) p))) same ∙ go j p few' refl (inode_block_in v fs j) refl
+    ]
+      where
+        go : (j p : ℕ) → d ≤ 128 → j ≡ (d - 1) / 8 → (r : Result ℕ FfsFault) → r ≡ inode_block_in v fs j → and_then r (λ c. unless_unused (inode_at (w c) p)) ≡ and_then r (λ c. unless_unused (inode_at (v c) p))
+        go j p few' e (Err fault) f = refl
+        go j p few' e (Ok c) f =
+            let is = block_from v fs j c (omega (arith, few', e)) f in
+            let at = under_inodes T library_layout (library_reads T lib) v fs j c is in
+            ap (λ m. unless_unused (inode_at m p)) (t.others c 4 at (t.apart c 4 at (λ z. omega (arith, z))))
+
+-- A new block is not block 0
+pub begun_some : (T : Types) (state new : StoreState) → IsConsistent T state → (fs ty : ℕ) (bytes : List ℕ) (made : ℕ × ℕ) → init_of T state fs ty bytes ≡ Ok (made, new) → made.0 ≢ 0
+begun_some T state new h fs ty bytes made done e =
+    let r = started T state new fs ty bytes made done in
+    let zeroth = h.lives_sound.root in
+    none-some zeroth.life (sym r.free ∙ (ap (life_at state.lives) e ∙ zeroth.alive))
+
+-- One after another
+pub contents_on : (u v w : ℕ → List ℕ) (inode : List ℕ) → SameContents u v inode → SameContents v w inode → SameContents u w inode
+contents_on u v w inode a b = (b.0 ∙ a.0, λ at low. b.1 at low ∙ a.1 at low)
+
+pub same_on : (u v w : ℕ → List ℕ) (fs d : ℕ) → SameInode u v fs d → SameInode v w fs d → SameInode u w fs d
+same_on u v w fs d a b = (b.0 ∙ a.0, λ inode e. contents_on u v w inode (a.1 inode e) (b.1 inode (e ∙ sym a.0)))

@@ -1,0 +1,64 @@
+-- What a call leaves of files and directories, in the newest bytes before it and after it.
+--     SameContents, SameInode    the entries and the bytes of an inode are as before; the inode with a number is, with all it has
+--     OthersSame, OnlyChanges    so are all inodes but those with two numbers; but that with one
+--     new_inode                  an inode with one link, size 0 and no block
+--     HasMore, MadeEntry         a directory has one entry more; it names a new inode
+--     byte_written, WritesFile   the bytes of a file after a write
+use Rattle.std.specs.Prelude.{◌≡◌, ◌≢◌, ℕ, ◌+◌, ◌-◌, ◌<◌, ◌&&◌, List, [], ◌∷◌, ◌++◌, length, max, nat_le, nat_lt, get_or, replicate, Some, Ok, Err, if◌then◌else◌, ◌==◌}
+use Rattle.std.specs.Int.{w16, to_le_bytes}
+use Rattle.ffs_lib.specs.declared.fault.FfsFault.TheVariants.{NoEntry}
+use Rattle.ffs_lib.specs.declared.places.Slot.{Slot}
+use Rattle.ffs_lib.specs.Newest.{byte_of, directory_in, file_end, file_in, first_named, inode_in, listing}
+
+-- Inodes that stay
+
+abbrev pub SameContents : (ℕ → List ℕ) → (ℕ → List ℕ) → List ℕ → Type 0
+SameContents old new inode = (listing new inode ≡ listing old inode) × ((at : ℕ) → at < 71680 → byte_of new inode at ≡ byte_of old inode at)
+
+abbrev pub SameInode : (ℕ → List ℕ) → (ℕ → List ℕ) → ℕ → ℕ → Type 0
+SameInode old new fs n = (inode_in new fs n ≡ inode_in old fs n) × ((inode : List ℕ) → Ok inode ≡ inode_in old fs n → SameContents old new inode)
+
+abbrev pub OthersSame : (ℕ → List ℕ) → (ℕ → List ℕ) → ℕ → ℕ → ℕ → Type 0
+OthersSame old new fs n m = (d : ℕ) → d ≢ n → d ≢ m → SameInode old new fs d
+
+abbrev pub OnlyChanges : (ℕ → List ℕ) → (ℕ → List ℕ) → ℕ → ℕ → Type 0
+OnlyChanges old new fs n = (d : ℕ) → d ≢ n → SameInode old new fs d
+
+-- Inodes and entries that are made
+
+-- its mode and its one link, then zeros
+abbrev pub new_inode : ℕ → List ℕ
+new_inode mode = to_le_bytes w16 mode ++ to_le_bytes w16 1 ++ replicate 60 0
+
+-- The directory with a number, whose inode was this one, has its old entries in their order and one more, the first of its name.
+pub record HasMore (old new : ℕ → List ℕ) (fs d : ℕ) (inode name : List ℕ) (n : ℕ) : Type 0 where
+  pub after : List ℕ
+  pub directory : Ok after ≡ directory_in new fs d
+  pub entry : Slot
+  pub inode_named : entry.inode ≡ n
+  pub front : List (Slot × List ℕ)
+  pub back : List (Slot × List ℕ)
+  pub was : listing old inode ≡ front ++ back
+  pub is : listing new after ≡ front ++ (entry, name) ∷ back
+
+-- A free inode came into use, and the directory with number d names it.
+pub record MadeEntry (old new : ℕ → List ℕ) (fs d : ℕ) (name : List ℕ) (mode n : ℕ) : Type 0 where
+  pub free : inode_in old fs n ≡ Err NoEntry
+  pub made : inode_in new fs n ≡ Ok (new_inode mode)
+  pub entry : (inode : List ℕ) → Ok inode ≡ directory_in old fs d → HasMore old new fs d inode name n
+  pub others : OthersSame old new fs d n
+
+-- Bytes that are written
+
+-- the data from an offset on, and the old bytes elsewhere
+abbrev pub byte_written : (ℕ → ℕ) → ℕ → List ℕ → ℕ → ℕ
+byte_written old offset bytes at = if nat_le offset at && nat_lt at (offset + length bytes) then get_or bytes (at - offset) 0 else old at
+
+abbrev pub end_after : List ℕ → ℕ → ℕ → ℕ
+end_after inode offset count = if count == 0 then file_end inode else max (file_end inode) (offset + count)
+
+pub record IsWritten (old new : ℕ → List ℕ) (fs n : ℕ) (inode : List ℕ) (offset : ℕ) (bytes : List ℕ) : Type 0 where
+  pub after : List ℕ
+  pub file : Ok after ≡ file_in new fs n
+  pub ends : file_end after ≡ end_after inode offset (length bytes)
+  pub each : (at : ℕ) → at < 71680 → byte_of new after at ≡ byte_written (byte_of old inode) offset bytes at
