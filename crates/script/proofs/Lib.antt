@@ -5,4 +5,5 @@ pub mod EditWords
 pub mod WordLists
 pub mod EditCuts
 pub mod EventWords
+pub mod ToldLines
 pub mod PrintedBytes
