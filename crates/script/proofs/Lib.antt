@@ -5,5 +5,6 @@ pub mod EditWords
 pub mod WordLists
 pub mod EditCuts
 pub mod EventWords
+pub mod ToldLines
 pub mod PrintedBytes
 pub mod ForCallers

@@ -9,6 +9,7 @@ mod hex;
 mod number;
 mod print;
 mod script;
+mod told;
 
 pub use hex::parse_block;
 pub use number::parse_number;

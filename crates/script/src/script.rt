@@ -1,12 +1,15 @@
-ghost use Rattle.std.specs.Prelude.{◌≡◌, ◌≢◌, ◌<◌, ◌==◌, ℕ, IfOk, IfErr, IfSome, IfNone, IsSome, [], ◌∷◌, codes, map, option_copied, MatchBool};
+ghost use Rattle.std.specs.Prelude.{◌≡◌, ◌↔◌, ◌≢◌, ◌<◌, ◌==◌, ℕ, List, IfOk, IfErr, IfSome, IfNone, IsSome, [], ◌∷◌, codes, map, option_copied, MatchBool};
 ghost use Rattle.std.specs.Fmt.{decimal};
 ghost use Rattle.std.specs.List.{slice_split};
 ghost use Rattle.script.specs.Events.{Spells, SpellNothing};
+ghost use Rattle.script.specs.Told.{Tells};
+ghost use Rattle.world.specs.declared.event.Event.{Event};
 ghost use Rattle.script.specs.Scripts.{event_lines, is_passed_over, words_in, words_of, IsScriptFault, LineSpells, SpellEvents, SpellsSome};
 
 use crate::edit::parse_edit;
 use crate::hex::parse_block;
 use crate::number::{parse_number, parse_u32};
+use crate::told::LineEvent;
 use std::alloc::{AllocError, AllocFailed, Global};
 use world::Event;
 use xn_state::{Call, Fs};
@@ -51,27 +54,24 @@ fn parse_fs(word: &str) -> Option<Fs>
 }
 
 /// The event of the words `init`, these two and the words behind them.
-fn parse_init(fs: &str, ty: &str, words: &[&str]) -> Option<Event>
-    ensures some { IfSome result (Spells (codes "init" ∷ fs.now ∷ ty.now ∷ map (λ word. word.now) words.now)) }
+fn parse_init<'a>(fs: &str, ty: &str, words: &[&'a str]) -> Option<LineEvent<'a>>
+    ensures some { IfSome result (Tells (codes "init" ∷ fs.now ∷ ty.now ∷ map (λ word. word.now) words.now)) }
     ensures none { IfNone result (SpellNothing (codes "init" ∷ fs.now ∷ ty.now ∷ map (λ word. word.now) words.now)) }
 {
     let [bytes] = words else {
         return None;
     };
-    let (Some(fs), Some(ty), Some(bytes)) = (parse_fs(fs), parse_u32(ty), parse_block(bytes)) else {
-        return None;
-    };
-    Some(Event::Call(fs, Call::Init { ty, bytes }))
+    Some(LineEvent::Init(parse_fs(fs)?, parse_u32(ty)?, bytes))
 }
 
 /// The event of the words `edit`, these two and the words behind them.
-fn parse_edit_event(
+fn parse_edit_event<'a>(
     alloc: Global,
     fs: &str,
     block: &str,
     words: &[&str],
-) -> Result<Option<Event>, AllocError>
-    ensures some { IfOk result (λ read. IfSome read (Spells (codes "edit" ∷ fs.now ∷ block.now ∷ map (λ word. word.now) words.now))) }
+) -> Result<Option<LineEvent<'a>>, AllocError>
+    ensures some { IfOk result (λ read. IfSome read (Tells (codes "edit" ∷ fs.now ∷ block.now ∷ map (λ word. word.now) words.now))) }
     ensures none { IfOk result (λ read. IfNone read (SpellNothing (codes "edit" ∷ fs.now ∷ block.now ∷ map (λ word. word.now) words.now))) }
 {
     let (Some(fs), Some(block)) = (parse_fs(fs), parse_u32(block)) else {
@@ -80,40 +80,40 @@ fn parse_edit_event(
     let Some(edit) = parse_edit(alloc, words)? else {
         return Ok(None);
     };
-    Ok(Some(Event::Call(fs, Call::Propose { block, edit })))
+    Ok(Some(LineEvent::Edit(fs, block, edit)))
 }
 
 /// The event of a name and two words behind it, a file system and a block.
-fn parse_place(name: &str, fs: &str, block: &str) -> Option<Event>
-    ensures some { IfSome result (Spells (name.now ∷ fs.now ∷ block.now ∷ [])) }
+fn parse_place<'a>(name: &str, fs: &str, block: &str) -> Option<LineEvent<'a>>
+    ensures some { IfSome result (Tells (name.now ∷ fs.now ∷ block.now ∷ [])) }
     ensures none { IfNone result (name.now ≢ codes "edit" → name.now ≢ codes "fail" → SpellNothing (name.now ∷ fs.now ∷ block.now ∷ [])) }
 {
     let fs = parse_fs(fs)?;
     let block = parse_u32(block)?;
     match name {
-        "root" => Some(Event::Call(fs, Call::MakeRoot { block })),
-        "forget" => Some(Event::Call(fs, Call::Forget { block })),
-        "read" => Some(Event::Call(fs, Call::Read { block })),
+        "root" => Some(LineEvent::MakeRoot(fs, block)),
+        "forget" => Some(LineEvent::Forget(fs, block)),
+        "read" => Some(LineEvent::Read(fs, block)),
         _ => None,
     }
 }
 
 /// The event of the word `fail` and two words behind it, a block and which bytes stay.
-fn parse_fail(block: &str, bytes: &str) -> Option<Event>
-    ensures some { IfSome result (Spells (codes "fail" ∷ block.now ∷ bytes.now ∷ [])) }
+fn parse_fail<'a>(block: &str, bytes: &str) -> Option<LineEvent<'a>>
+    ensures some { IfSome result (Tells (codes "fail" ∷ block.now ∷ bytes.now ∷ [])) }
     ensures none { IfNone result (SpellNothing (codes "fail" ∷ block.now ∷ bytes.now ∷ [])) }
 {
     let block = parse_u32(block)?;
     match bytes {
-        "old" => Some(Event::Fail(block, false)),
-        "new" => Some(Event::Fail(block, true)),
+        "old" => Some(LineEvent::Fail(block, false)),
+        "new" => Some(LineEvent::Fail(block, true)),
         _ => None,
     }
 }
 
 /// The event of a name and two words behind it.
-fn parse_triple(name: &str, first: &str, second: &str) -> Option<Event>
-    ensures some { IfSome result (Spells (name.now ∷ first.now ∷ second.now ∷ [])) }
+fn parse_triple<'a>(name: &str, first: &str, second: &str) -> Option<LineEvent<'a>>
+    ensures some { IfSome result (Tells (name.now ∷ first.now ∷ second.now ∷ [])) }
     ensures none { IfNone result (name.now ≢ codes "edit" → SpellNothing (name.now ∷ first.now ∷ second.now ∷ [])) }
 {
     if name == "fail" {
@@ -124,55 +124,55 @@ fn parse_triple(name: &str, first: &str, second: &str) -> Option<Event>
 }
 
 /// The event of a name and one word behind it, a file system.
-fn parse_system(name: &str, word: &str) -> Option<Event>
-    ensures some { IfSome result (Spells (name.now ∷ word.now ∷ [])) }
+fn parse_system<'a>(name: &str, word: &str) -> Option<LineEvent<'a>>
+    ensures some { IfSome result (Tells (name.now ∷ word.now ∷ [])) }
     ensures none { IfNone result (name.now ≢ codes "begin" → name.now ≢ codes "land" → name.now ≢ codes "finish" → SpellNothing (name.now ∷ word.now ∷ [])) }
 {
     let fs = parse_fs(word)?;
     match name {
-        "unroot" => Some(Event::Call(fs, Call::DropRoot)),
-        "floor" => Some(Event::Call(fs, Call::Floor)),
-        "pending" => Some(Event::Call(fs, Call::Pending)),
+        "unroot" => Some(LineEvent::DropRoot(fs)),
+        "floor" => Some(LineEvent::Floor(fs)),
+        "pending" => Some(LineEvent::Pending(fs)),
         _ => None,
     }
 }
 
 /// The event of a name and one word behind it.
-fn parse_short(name: &str, word: &str) -> Option<Event>
-    ensures some { IfSome result (Spells (name.now ∷ word.now ∷ [])) }
+fn parse_short<'a>(name: &str, word: &str) -> Option<LineEvent<'a>>
+    ensures some { IfSome result (Tells (name.now ∷ word.now ∷ [])) }
     ensures none { IfNone result (SpellNothing (name.now ∷ word.now ∷ [])) }
 {
     match name {
-        "begin" => Some(Event::Begin(parse_u32(word)?)),
-        "land" => Some(Event::Land(parse_u32(word)?)),
-        "finish" => Some(Event::Finish(parse_u32(word)?)),
+        "begin" => Some(LineEvent::Begin(parse_u32(word)?)),
+        "land" => Some(LineEvent::Land(parse_u32(word)?)),
+        "finish" => Some(LineEvent::Finish(parse_u32(word)?)),
         _ => parse_system(name, word),
     }
 }
 
 /// The event of a name alone: a crash, or a call of file system 0.
-fn parse_name(name: &str) -> Option<Event>
-    ensures some { IfSome result (Spells (name.now ∷ [])) }
+fn parse_name<'a>(name: &str) -> Option<LineEvent<'a>>
+    ensures some { IfSome result (Tells (name.now ∷ [])) }
     ensures none { IfNone result (SpellNothing (name.now ∷ [])) }
 {
     let Some(fs) = Fs::new(0) else { unreachable!() };
     match name {
-        "pick" => Some(Event::Call(fs, Call::Pick)),
-        "drain" => Some(Event::Call(fs, Call::Drain)),
-        "crash" => Some(Event::Crash),
+        "pick" => Some(LineEvent::Pick(fs)),
+        "drain" => Some(LineEvent::Drain(fs)),
+        "crash" => Some(LineEvent::Crash),
         _ => None,
     }
 }
 
 /// The event of a name, two words behind it and the words behind those.
-fn parse_long(
+fn parse_long<'a>(
     alloc: Global,
     name: &str,
     first: &str,
     second: &str,
-    rest: &[&str],
-) -> Result<Option<Event>, AllocError>
-    ensures some { IfOk result (λ read. IfSome read (Spells (name.now ∷ first.now ∷ second.now ∷ map (λ word. word.now) rest.now))) }
+    rest: &[&'a str],
+) -> Result<Option<LineEvent<'a>>, AllocError>
+    ensures some { IfOk result (λ read. IfSome read (Tells (name.now ∷ first.now ∷ second.now ∷ map (λ word. word.now) rest.now))) }
     ensures none { IfOk result (λ read. IfNone read (SpellNothing (name.now ∷ first.now ∷ second.now ∷ map (λ word. word.now) rest.now))) }
 {
     match name {
@@ -221,9 +221,9 @@ fn is_passed_over(line: &str) -> bool
     }
 }
 
-/// The event of a line, or `None` where it is none.
-pub fn parse_line(alloc: Global, line: &str) -> Result<Option<Event>, AllocError>
-    ensures some { IfOk result (λ read. IfSome read (LineSpells line.now)) }
+/// The event of a line as it tells it, or `None` where it tells none.
+fn read_line(alloc: Global, line: &str) -> Result<Option<LineEvent>, AllocError>
+    ensures some { IfOk result (λ read. IfSome read (Tells (words_of line.now))) }
     ensures none { IfOk result (λ read. IfNone read (SpellNothing (words_of line.now))) }
 {
     let (name, rest) = first_word(line);
@@ -239,15 +239,61 @@ pub fn parse_line(alloc: Global, line: &str) -> Result<Option<Event>, AllocError
     parse_long(alloc, name, first, second, words.as_slice())
 }
 
+/// The event of a line, or `None` where it is none.
+pub fn parse_line(alloc: Global, line: &str) -> Result<Option<Event>, AllocError>
+    ensures some { IfOk result (λ read. IfSome read (LineSpells line.now)) }
+    ensures none { IfOk result (λ read. IfNone read (SpellNothing (words_of line.now))) }
+{
+    let Some(told) = read_line(alloc, line)? else {
+        return Ok(None);
+    };
+    match told {
+        LineEvent::Init(fs, ty, text) => match parse_block(text) {
+            Some(bytes) => Ok(Some(Event::Call(fs, Call::Init { ty, bytes }))),
+            None => Ok(None),
+        },
+        LineEvent::Edit(fs, block, edit) => Ok(Some(Event::Call(
+            fs,
+            Call::Propose { block, edit },
+        ))),
+        LineEvent::MakeRoot(fs, block) => Ok(Some(Event::Call(fs, Call::MakeRoot { block }))),
+        LineEvent::DropRoot(fs) => Ok(Some(Event::Call(fs, Call::DropRoot))),
+        LineEvent::Forget(fs, block) => Ok(Some(Event::Call(fs, Call::Forget { block }))),
+        LineEvent::Read(fs, block) => Ok(Some(Event::Call(fs, Call::Read { block }))),
+        LineEvent::Pending(fs) => Ok(Some(Event::Call(fs, Call::Pending))),
+        LineEvent::Floor(fs) => Ok(Some(Event::Call(fs, Call::Floor))),
+        LineEvent::Pick(fs) => Ok(Some(Event::Call(fs, Call::Pick))),
+        LineEvent::Drain(fs) => Ok(Some(Event::Call(fs, Call::Drain))),
+        LineEvent::Begin(block) => Ok(Some(Event::Begin(block))),
+        LineEvent::Land(block) => Ok(Some(Event::Land(block))),
+        LineEvent::Fail(block, new_bytes_stay) => Ok(Some(Event::Fail(block, new_bytes_stay))),
+        LineEvent::Finish(block) => Ok(Some(Event::Finish(block))),
+        LineEvent::Crash => Ok(Some(Event::Crash)),
+    }
+}
+
+/// Whether what a line tells is an event: the text of a fresh block's bytes has to spell them.
+fn is_event(told: &LineEvent) -> bool
+    ensures { MatchBool result
+        ((words : List (List ℕ)) → Tells words told.now → (event : Event) × Spells words event)
+        ((words : List (List ℕ)) → Tells words told.now → SpellNothing words) }
+{
+    match told {
+        LineEvent::Init(_, _, text) => match parse_block(text) {
+            Some(_block) => true,
+            None => false,
+        },
+        _ => true,
+    }
+}
+
 /// Whether a line spells an event.
 fn spells_event(alloc: Global, line: &str) -> Result<bool, AllocError>
     ensures { IfOk result (λ spells. MatchBool spells (SpellsSome line.now) (SpellNothing (words_of line.now))) }
 {
-    let read = parse_line(alloc, line);
-    match &read {
-        Ok(Some(_event)) => Ok(true),
-        Ok(None) => Ok(false),
-        Err(_) => Err(AllocError),
+    match read_line(alloc, line)? {
+        None => Ok(false),
+        Some(told) => Ok(is_event(&told)),
     }
 }
 

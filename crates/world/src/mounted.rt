@@ -57,20 +57,20 @@ impl MountedDisk {
         MountedDisk { kernel, tickets }
     }
 
-    /// One event, any but a crash.
+    /// One event, any but a crash, whose reply is left in `reply`.
     #[inline(always)]
-    pub fn step(&mut self, event: &Event) -> Reply
+    pub fn step(&mut self, event: &Event, reply: &mut Reply)
         requires { event.now ≢ Event.Crash }
-        ensures step { model.Step (world_with self.old) (event_of event.now) (reply_of result) (world_with self.new) }
+        ensures step { model.Step (world_with self.old) (event_of event.now) (reply_of reply.new) (world_with self.new) }
         ensures rules { Holds (world_with self.old) }
     {
         self.rules();
         match event {
-            Event::Call(fs, call) => self.call(*fs, call),
-            Event::Begin(block) => self.begin(*block),
-            Event::Land(block) => self.land(*block),
-            Event::Fail(block, new_bytes_stay) => self.fail(*block, *new_bytes_stay),
-            Event::Finish(block) => self.finish(*block),
+            Event::Call(fs, call) => self.call(*fs, call, reply),
+            Event::Begin(block) => self.begin(*block, reply),
+            Event::Land(block) => self.land(*block, reply),
+            Event::Fail(block, new_bytes_stay) => self.fail(*block, *new_bytes_stay, reply),
+            Event::Finish(block) => self.finish(*block, reply),
             Event::Crash => unreachable!(),
         }
     }

@@ -78,7 +78,8 @@ impl Running {
         ensures step { model.Step (world_with self.old) (event_of event.now) (reply_of result) (world_with self.new) }
         ensures rules { Holds (world_with self.new) }
     {
-        let reply = self.disk.step(event);
+        let mut reply = Reply::Down;
+        self.disk.step(event, &mut reply);
         self.disk.rules();
         reply
     }

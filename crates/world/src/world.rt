@@ -131,12 +131,30 @@ impl World {
         ensures image { (fs : ℕ) → fs < 32 → (k : Choice) × IsCut self.new.state.lives k × IsCutImage self.new.state.lives k (block_of self.new.image) ×
             SameUnder (types_of self.new.table) (seen self.new.state.lives k) (block_of self.new.image) fs }
     {
+        let mut reply = Reply::Down;
+        self.step_into(rt, event, &mut reply);
+        reply
+    }
+
+    /// One event, whose reply is left in `reply`. The reply and the world after it are a step of the model; and each block that the
+    /// root reaches in the image holds a state of its life, from the durable to the begun one, and has
+    /// one owner. After any event but a crash, or an edit by a file system, each cut of the lives reaches from that file system's
+    /// root slot the same blocks and bytes as some cut before; and so does the image, as some cut now.
+    #[inline(always)]
+    pub fn step_into(&mut self, rt: &(impl Threads + Sync), event: &Event, reply: &mut Reply)
+        ensures step { model.Step (world_with self.old) (event_of event.now) (reply_of reply.new) (world_with self.new) }
+        ensures rules { Holds (world_with self.new) }
+        ensures agrees { Agrees (types_of self.new.table) (length self.new.state.lives) (block_of self.new.image) self.new.state.lives }
+        ensures cuts { (fs : ℕ) → fs < 32 → IsForeign fs (event_of event.now) → (k : Choice) → IsCut self.new.state.lives k →
+            (j : Choice) × IsCut self.old.state.lives j × SameUnder (types_of self.old.table) (seen self.new.state.lives k) (seen self.old.state.lives j) fs }
+        ensures image { (fs : ℕ) → fs < 32 → (k : Choice) × IsCut self.new.state.lives k × IsCutImage self.new.state.lives k (block_of self.new.image) ×
+            SameUnder (types_of self.new.table) (seen self.new.state.lives k) (block_of self.new.image) fs }
+    {
         self.rules();
         events_keep_cuts();
         image_is_cut();
-        let reply = self.take(rt, event);
+        self.take(rt, event, reply);
         self.rules();
-        reply
     }
 
     /// Events in their order, and their replies. After all of them the rules hold, the image is sound, and
@@ -247,24 +265,24 @@ impl World {
 
     /// One event.
     #[inline(always)]
-    fn take(&mut self, rt: &(impl Threads + Sync), event: &Event) -> Reply
-        ensures { model.Step (world_with self.old) (event_of event.now) (reply_of result) (world_with self.new) }
+    fn take(&mut self, rt: &(impl Threads + Sync), event: &Event, reply: &mut Reply)
+        ensures { model.Step (world_with self.old) (event_of event.now) (reply_of reply.new) (world_with self.new) }
     {
         match event {
-            Event::Crash => self.crash(rt),
-            _ => self.go_on(event),
+            Event::Crash => *reply = self.crash(rt),
+            _ => self.go_on(event, reply),
         }
     }
 
     /// One event, any but a crash.
     #[inline(always)]
-    fn go_on(&mut self, event: &Event) -> Reply
+    fn go_on(&mut self, event: &Event, reply: &mut Reply)
         requires { event.now ≢ Event.Crash }
-        ensures { model.Step (world_with self.old) (event_of event.now) (reply_of result) (world_with self.new) }
+        ensures { model.Step (world_with self.old) (event_of event.now) (reply_of reply.new) (world_with self.new) }
     {
         match &mut self.mounted {
-            None => Reply::Down,
-            Some(disk) => disk.step(event),
+            None => *reply = Reply::Down,
+            Some(disk) => disk.step(event, reply),
         }
     }
 

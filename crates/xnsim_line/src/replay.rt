@@ -15,7 +15,7 @@ use std::alloc::{AllocError, Global};
 use std::io::Write;
 use std::thread::Threads;
 use templates::{FormatFault, Template};
-use world::World;
+use world::{Reply, World};
 
 /// The first mount of a fresh disk.
 fn fresh_world(
@@ -50,7 +50,8 @@ fn run_line<'a, W: Write>(
     let read = parse_line(alloc, line);
     match &read {
         Ok(Some(event)) => {
-            let reply = world.step(rt, event);
+            let mut reply = Reply::Down;
+            world.step_into(rt, event, &mut reply);
             print_reply(out, &reply)?;
             Ok(())
         }

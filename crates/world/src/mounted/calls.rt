@@ -13,12 +13,12 @@ use xn_state::{Answer, Call, Fs, Stopped};
 impl MountedDisk {
     /// A client's call.
     #[inline(always)]
-    pub(crate) fn call(&mut self, fs: Fs, call: &Call) -> Reply
-        ensures { model.Step (world_with self.old) (model.Client fs.number (call_of call.now)) (reply_of result) (world_with self.new) }
+    pub(crate) fn call(&mut self, fs: Fs, call: &Call, reply: &mut Reply)
+        ensures { model.Step (world_with self.old) (model.Client fs.number (call_of call.now)) (reply_of reply.new) (world_with self.new) }
     {
         match call {
-            Call::Drain => self.drain(fs),
-            _ => Reply::Answered(self.kernel.call(fs, call)),
+            Call::Drain => *reply = self.drain(fs),
+            _ => *reply = Reply::Answered(self.kernel.call(fs, call)),
         }
     }
 

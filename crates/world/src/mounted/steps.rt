@@ -12,53 +12,54 @@ use crate::ticket::DroppableTicket;
 impl MountedDisk {
     /// A write of a block begins, and its ticket is kept.
     #[inline(always)]
-    pub(crate) fn begin(&mut self, block: u32) -> Reply
-        ensures { model.Step (world_with self.old) (model.Begin block) (reply_of result) (world_with self.new) }
+    pub(crate) fn begin(&mut self, block: u32, reply: &mut Reply)
+        ensures { model.Step (world_with self.old) (model.Begin block) (reply_of reply.new) (world_with self.new) }
     {
         match self.kernel.begin(block) {
-            Err(refusal) => Reply::Refused(refusal),
+            Err(refusal) => *reply = Reply::Refused(refusal),
             Ok(ticket) => {
                 let entries = ticket.count();
                 self.tickets.put(block, DroppableTicket::new(ticket));
-                Reply::Begun { entries }
+                *reply = Reply::Begun { entries };
             }
         }
     }
 
     /// The begun write of a block is carried out.
     #[inline(always)]
-    pub(crate) fn land(&mut self, block: u32) -> Reply
-        ensures { model.Step (world_with self.old) (model.Land block) (reply_of result) (world_with self.new) }
+    pub(crate) fn land(&mut self, block: u32, reply: &mut Reply)
+        ensures { model.Step (world_with self.old) (model.Land block) (reply_of reply.new) (world_with self.new) }
     {
         match self.tickets.land(block) {
-            None => Reply::NoTicket,
-            Some(Ok(())) => Reply::Landed,
+            None => *reply = Reply::NoTicket,
+            Some(Ok(())) => *reply = Reply::Landed,
             Some(Err(_fault)) => unreachable!(),
         }
     }
 
     /// The begun write of a block fails.
     #[inline(always)]
-    pub(crate) fn fail(&mut self, block: u32, new_bytes_stay: bool) -> Reply
-        ensures { model.Step (world_with self.old) (model.Fail block new_bytes_stay) (reply_of result) (world_with self.new) }
+    pub(crate) fn fail(&mut self, block: u32, new_bytes_stay: bool, reply: &mut Reply)
+        ensures { model.Step (world_with self.old) (model.Fail block new_bytes_stay) (reply_of reply.new) (world_with self.new) }
     {
         match self.tickets.fail(block, new_bytes_stay) {
-            None => Reply::NoTicket,
+            None => *reply = Reply::NoTicket,
             Some(Ok(())) => unreachable!(),
-            Some(Err(_fault)) => Reply::Fault,
+            Some(Err(_fault)) => *reply = Reply::Fault,
         }
     }
 
     /// A block is read back, and its write ends.
     #[inline(always)]
-    pub(crate) fn finish(&mut self, block: u32) -> Reply
-        ensures { model.Step (world_with self.old) (model.Finish block) (reply_of result) (world_with self.new) }
+    pub(crate) fn finish(&mut self, block: u32, reply: &mut Reply)
+        ensures { model.Step (world_with self.old) (model.Finish block) (reply_of reply.new) (world_with self.new) }
     {
         let Some(ticket) = self.tickets.take(block) else {
-            return Reply::NoTicket;
+            *reply = Reply::NoTicket;
+            return;
         };
         match self.kernel.finish(ticket.into_ticket()) {
-            Ok(landed) => Reply::Finished(landed),
+            Ok(landed) => *reply = Reply::Finished(landed),
             Err((_ticket, _refusal)) => unreachable!(),
         }
     }

@@ -10,7 +10,7 @@ returns-in-Ok-Some-clause-run g c =
     record {
       event = c.in-Ok-Some.event;
       spells = subst (λ read. IfSome read (LineSpells c.args.line.now)) is some;
-      reply = c.step-reply.result;
-      step = c.step-reply.ensures.step;
+      reply = c.step_into.new.reply;
+      step = c.step_into.ensures.step;
       printed = c.in_ok-print_reply-in-Ok-Some.ensures;
     }

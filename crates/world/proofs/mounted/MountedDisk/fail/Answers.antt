@@ -21,13 +21,13 @@ invariant_of-self c = elim c.match-fail.branch [
 pub returns : goal.returns
 returns c = elim c.match-fail.branch [
   | in-None w ↦
-      seen (value_of c.self.inside.kernel c.self.inside.tickets) c.args.self.now c.self.view_is (model.Fail c.args.block c.args.new_bytes_stay) (reply_of c.match-fail.result) _
-      (rw (w.result-is) (subst (λ (ts : Tickets). model.AfterCall (world_of c.self.inside.kernel c.self.inside.tickets) (model.Fail c.args.block c.args.new_bytes_stay) model.NoTicket (world_of c.self.inside.kernel ts)) (sym w.in-None.ensures.1)
+      seen (value_of c.self.inside.kernel c.self.inside.tickets) c.args.self.now c.self.view_is (model.Fail c.args.block c.args.new_bytes_stay) (reply_of c.match-fail.reply) _
+      (rw (w.reply-is) (subst (λ (ts : Tickets). model.AfterCall (world_of c.self.inside.kernel c.self.inside.tickets) (model.Fail c.args.block c.args.new_bytes_stay) model.NoTicket (world_of c.self.inside.kernel ts)) (sym w.in-None.ensures.1)
       (fail_without c.self.inside.kernel c.self.inside.tickets c.self.invariant c.args.block c.args.new_bytes_stay w.in-None.ensures.0)))
   | in-Some-Err w ↦
       let h = w.in-Some-Err.ensures in
       let gave = subst (λ (r : Result (Unit {0}) DeviceFault). memory_write (record h.0.lane { write_fault = Some c.args.new_bytes_stay }) h.0.bytes r h.1) w.in-Some-Err.field-0-is h.3 in
       let step = fail_step c.self.inside.kernel c.self.inside.tickets c.self.invariant c.args.block h.0 h.2 h.1 c.args.new_bytes_stay gave.1 in
-      seen (value_of c.self.inside.kernel c.self.inside.tickets) c.args.self.now c.self.view_is (model.Fail c.args.block c.args.new_bytes_stay) (reply_of c.match-fail.result) _
-      (rw (w.result-is, h.4) step)
+      seen (value_of c.self.inside.kernel c.self.inside.tickets) c.args.self.now c.self.view_is (model.Fail c.args.block c.args.new_bytes_stay) (reply_of c.match-fail.reply) _
+      (rw (w.reply-is, h.4) step)
 ]

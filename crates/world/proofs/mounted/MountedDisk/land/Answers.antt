@@ -21,13 +21,13 @@ invariant_of-self c = elim c.match-land.branch [
 pub returns : goal.returns
 returns c = elim c.match-land.branch [
   | in-None w ↦
-      seen (value_of c.self.inside.kernel c.self.inside.tickets) c.args.self.now c.self.view_is (model.Land c.args.block) (reply_of c.match-land.result) _
-      (rw (w.result-is) (subst (λ (ts : Tickets). model.AfterCall (world_of c.self.inside.kernel c.self.inside.tickets) (model.Land c.args.block) model.NoTicket (world_of c.self.inside.kernel ts)) (sym w.in-None.ensures.1)
+      seen (value_of c.self.inside.kernel c.self.inside.tickets) c.args.self.now c.self.view_is (model.Land c.args.block) (reply_of c.match-land.reply) _
+      (rw (w.reply-is) (subst (λ (ts : Tickets). model.AfterCall (world_of c.self.inside.kernel c.self.inside.tickets) (model.Land c.args.block) model.NoTicket (world_of c.self.inside.kernel ts)) (sym w.in-None.ensures.1)
       (land_without c.self.inside.kernel c.self.inside.tickets c.self.invariant c.args.block w.in-None.ensures.0)))
   | in-Some-Ok w ↦
       let h = w.in-Some-Ok.ensures in
       let gave = subst (λ (r : Result (Unit {0}) DeviceFault). memory_write h.0.lane h.0.bytes r h.1) w.in-Some-Ok.field-0-is h.3 in
       let step = land_step c.self.inside.kernel c.self.inside.tickets c.self.invariant c.args.block h.0 h.2 h.1 gave.1 in
-      seen (value_of c.self.inside.kernel c.self.inside.tickets) c.args.self.now c.self.view_is (model.Land c.args.block) (reply_of c.match-land.result) _
-      (rw (w.result-is, h.4) step)
+      seen (value_of c.self.inside.kernel c.self.inside.tickets) c.args.self.now c.self.view_is (model.Land c.args.block) (reply_of c.match-land.reply) _
+      (rw (w.reply-is, h.4) step)
 ]

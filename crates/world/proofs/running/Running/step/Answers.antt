@@ -6,4 +6,4 @@ use Rattle.world.proofs.running.Running.step.Goals as goal
 
 pub invariant_of-self : goal.invariant_of-self
 invariant_of-self c =
-    step_own (world_with c.self.inside.disk) (event_of c.args.event.now) (reply_of c.step-reply.result) (world_with c.step-reply.new.self) c.step-reply.ensures.rules c.self.invariant c.step-reply.ensures.step
+    step_own (world_with c.self.inside.disk) (event_of c.args.event.now) (reply_of c.step.new.reply) (world_with c.step.new.self) c.step.ensures.rules c.self.invariant c.step.ensures.step

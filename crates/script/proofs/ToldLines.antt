@@ -1,0 +1,32 @@
+-- What a line tells is an event.
+use Rattle.std.proofs.Common.{◌≡◌, ℕ, Bool, true, false, MatchBool, List, refl}
+use Rattle.xn_state.specs.declared.call.Call.TheVariants.{Init, Propose, MakeRoot, DropRoot, Forget, Read, Pending, Floor, Pick, Drain}
+use Rattle.world.specs.declared.event.Event.{Event}
+use Rattle.world.specs.declared.event.Event.TheVariants as event
+use Rattle.script.specs.declared.told.LineEvent.{LineEvent}
+use Rattle.script.specs.declared.told.LineEvent.TheVariants as line
+use Rattle.script.specs.Events.{Spells}
+use Rattle.script.specs.Told.{Tells}
+
+-- any but a fresh block
+pub told_event : (words : List (List ℕ)) (told : LineEvent) → ((fs : _) (ty : _) (text : _) → told ≡ line.Init fs ty text → ⊥) → Tells words told → (e : Event) × Spells words e
+told_event words (line.Init fs ty text) other tells = absurd (other fs ty text refl)
+told_event words (line.Edit fs block edit) other tells = (event.Call fs (Propose block edit), tells)
+told_event words (line.MakeRoot fs block) other tells = (event.Call fs (MakeRoot block), tells)
+told_event words (line.DropRoot fs) other tells = (event.Call fs DropRoot, tells)
+told_event words (line.Forget fs block) other tells = (event.Call fs (Forget block), tells)
+told_event words (line.Read fs block) other tells = (event.Call fs (Read block), tells)
+told_event words (line.Pending fs) other tells = (event.Call fs Pending, tells)
+told_event words (line.Floor fs) other tells = (event.Call fs Floor, tells)
+told_event words (line.Pick fs) other tells = (event.Call fs Pick, tells)
+told_event words (line.Drain fs) other tells = (event.Call fs Drain, tells)
+told_event words (line.Begin block) other tells = (event.Begin block, tells)
+told_event words (line.Land block) other tells = (event.Land block, tells)
+told_event words (line.Fail block stays) other tells = (event.Fail block stays, tells)
+told_event words (line.Finish block) other tells = (event.Finish block, tells)
+told_event words line.Crash other tells = (event.Crash, tells)
+
+-- from what each answer says follows something else
+pub match_then : {A B C D : Type 0} (b : Bool) → (A → C) → (B → D) → MatchBool b A B → MatchBool b C D
+match_then true f g h = f h
+match_then false f g h = g h

@@ -1,0 +1,14 @@
+use Rattle.std.proofs.Common.{refl, subst}
+use Rattle.xn_state.specs.declared.call.Call.TheVariants.{Init}
+use Rattle.world.specs.declared.event.Event.TheVariants as event
+use Rattle.script.specs.Told.{Tells}
+use Rattle.script.proofs.ToldLines.{told_event}
+use Rattle.script.proofs.script.is_event.Goals as goal
+
+pub returns-in-Some : goal.returns-in-Some
+returns-in-Some c = λ words tells.
+    let told = subst (λ t. Tells words t) c.in-Init.is tells in
+    (event.Call c.in-Init.field-0 (Init c.in-Init.field-1 c.in-Some._block), told.0 c.in-Some._block (c.in-Some.ensures.readable.0 refl) c.in-Some.ensures.block)
+
+pub returns-in_default : goal.returns-in_default
+returns-in_default c = λ words tells. told_event words c.args.told.now c.in_default.not-Init tells

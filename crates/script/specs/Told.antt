@@ -1,0 +1,28 @@
+-- Events as lines tell them.
+use Rattle.std.specs.Prelude.{ℕ, List}
+use Rattle.xn_state.specs.declared.call.Call.TheVariants.{Init, Propose, MakeRoot, DropRoot, Forget, Read, Pending, Floor, Pick, Drain}
+use Rattle.world.specs.declared.event.Event.TheVariants as event
+use Rattle.script.specs.declared.told.LineEvent.{LineEvent}
+use Rattle.script.specs.declared.told.LineEvent.TheVariants as line
+use Rattle.script.specs.Hex.{IsBlockText, SpellsBlock}
+use Rattle.script.specs.Events.{Spells, SpellNothing}
+
+-- The words tell this: they spell its event. Of a fresh block they do where the text spells its bytes; where it spells none, they spell nothing.
+abbrev pub Tells : List (List ℕ) → LineEvent → Type 0
+Tells words (line.Init fs ty text) =
+    ((bytes : List ℕ) → IsBlockText text.now → SpellsBlock text.now bytes → Spells words (event.Call fs (Init ty bytes)))
+    × (¬ IsBlockText text.now → SpellNothing words)
+Tells words (line.Edit fs block edit) = Spells words (event.Call fs (Propose block edit))
+Tells words (line.MakeRoot fs block) = Spells words (event.Call fs (MakeRoot block))
+Tells words (line.DropRoot fs) = Spells words (event.Call fs DropRoot)
+Tells words (line.Forget fs block) = Spells words (event.Call fs (Forget block))
+Tells words (line.Read fs block) = Spells words (event.Call fs (Read block))
+Tells words (line.Pending fs) = Spells words (event.Call fs Pending)
+Tells words (line.Floor fs) = Spells words (event.Call fs Floor)
+Tells words (line.Pick fs) = Spells words (event.Call fs Pick)
+Tells words (line.Drain fs) = Spells words (event.Call fs Drain)
+Tells words (line.Begin block) = Spells words (event.Begin block)
+Tells words (line.Land block) = Spells words (event.Land block)
+Tells words (line.Fail block stays) = Spells words (event.Fail block stays)
+Tells words (line.Finish block) = Spells words (event.Finish block)
+Tells words line.Crash = Spells words event.Crash

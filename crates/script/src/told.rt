@@ -1,0 +1,23 @@
+use edit_list::Edit;
+use xn_state::Fs;
+
+/// An event as its line tells it: the bytes of a fresh block are still the text that spells them, or that spells none. It takes few bytes, where
+/// an `Event` has room for a block and is long to copy.
+#[derive(Drop)]
+pub enum LineEvent<'a> {
+    Init(Fs, u32, &'a str),
+    Edit(Fs, u32, Edit),
+    MakeRoot(Fs, u32),
+    DropRoot(Fs),
+    Forget(Fs, u32),
+    Read(Fs, u32),
+    Pending(Fs),
+    Floor(Fs),
+    Pick(Fs),
+    Drain(Fs),
+    Begin(u32),
+    Land(u32),
+    Fail(u32, bool),
+    Finish(u32),
+    Crash,
+}
