@@ -20,3 +20,4 @@ pub mod More
 pub mod Entering
 pub mod Writing
 pub mod Renaming
+pub mod Moving

@@ -6,13 +6,13 @@ ghost use Rattle.ffs_format.specs.Entries.{is_name};
 ghost use Rattle.ffs_model.specs.Cuts.{latest};
 ghost use Rattle.ffs_model.specs.Names.{IsInodes};
 ghost use Rattle.ffs_model.specs.Library.{library_layout, inode_mode, IsLibrary};
-ghost use Rattle.ffs_lib.specs.Newest.{RefusesAs, TakesEntry, create_in, directory_in, has_inode, root_in, file_in, is_own, listing, named_in, names_at, names_in, read_count, read_into, rename_in, rmdir_in, unlink_in, without_entry, write_in};
+ghost use Rattle.ffs_lib.specs.Newest.{RefusesAs, TakesEntry, create_in, directory_in, first_named, has_inode, root_in, file_in, is_own, listing, named_in, names_at, names_in, read_count, read_into, rename_in, rmdir_in, unlink_in, without_entry, write_in};
 ghost use Rattle.ffs_lib.specs.declared.places.Found.{Found};
 ghost use Rattle.ffs_lib.specs.declared.places.Slot.{Slot};
 ghost use Rattle.ffs_model.specs.Volumes.{VolumeKeeps, no_edits};
 ghost use Rattle.ffs_lib.specs.Places.{IsDirectory, IsFree, IsSlot};
 ghost use Rattle.ffs_lib.specs.Outcomes.{Keeps, Leaves, Roots, Starts, Stays};
-ghost use Rattle.ffs_lib.specs.Results.{IsWritten, MadeEntry, OnlyChanges};
+ghost use Rattle.ffs_lib.specs.Results.{IsWritten, MadeEntry, MovedEntry, OnlyChanges};
 
 use crate::data::{BLOCK_LEN, FILE_BLOCKS, raise_size, read_part, write_block};
 use crate::edits;
@@ -632,6 +632,8 @@ impl Volume {
         requires volume { IsVolume (S.types_of store.old) (S.state_of store.old) self.now }
         ensures types { S.types_of store.new ≡ S.types_of store.old }
         ensures faults { RefusesAs (rename_in (latest (S.state_of store.old).lives) self.now.fs.number directory name.now other new_name.now) (S.state_of store.old) (S.state_of store.new) result }
+        ensures moved { OnOk result ((entry : Slot) → Ok entry ≡ rename_in (latest (S.state_of store.old).lives) self.now.fs.number directory name.now other new_name.now →
+            MovedEntry (latest (S.state_of store.old).lives) (latest (S.state_of store.new).lives) self.now.fs.number directory entry other new_name.now) }
         ensures keeps { IsVolume (S.types_of store.old) (S.state_of store.new) self.now }
     {
         let slot = self.look_up_move(store, directory, name, other, new_name)?;
@@ -653,6 +655,9 @@ impl Volume {
         requires name { IsTrue (is_name new_name.now) }
         requires some { inode ≢ 0 }
         ensures types { S.types_of store.new ≡ S.types_of store.old }
+        ensures moved { OnOk result ((from to : List ℕ) (slot : Slot) → Ok from ≡ directory_in (latest (S.state_of store.old).lives) self.now.fs.number directory → Ok to ≡ directory_in (latest (S.state_of store.old).lives) self.now.fs.number other →
+            slot.inode ≡ inode → Some slot ≡ first_named (latest (S.state_of store.old).lives) from name.now → None ≡ first_named (latest (S.state_of store.old).lives) to new_name.now →
+            MovedEntry (latest (S.state_of store.old).lives) (latest (S.state_of store.new).lives) self.now.fs.number directory slot other new_name.now) }
         ensures keeps { IsVolume (S.types_of store.old) (S.state_of store.new) self.now }
     {
         let added = add_link(alloc, store, self.fs, inode)?;
