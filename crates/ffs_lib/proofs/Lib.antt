@@ -19,3 +19,5 @@ pub mod Same
 pub mod More
 pub mod Entering
 pub mod Writing
+pub mod Renaming
+pub mod Moving

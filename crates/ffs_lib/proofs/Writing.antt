@@ -138,7 +138,7 @@ written_same f g start bs x e = ap (λ y. if nat_le start x && nat_lt x (start +
 byte_there : (content : ℕ → List ℕ) (b k : ℕ) → b ≢ 0 → byte_in content b k ≡ get_or (content b) k 0
 byte_there content b k ne = ap (λ (t : Bool). if t then 0 else get_or (content b) k 0) (ne_eqb b 0 ne)
 
-byte_same : (v w : ℕ → List ℕ) (b k : ℕ) → (b ≢ 0 → w b ≡ v b) → byte_in w b k ≡ byte_in v b k
+pub byte_same : (v w : ℕ → List ℕ) (b k : ℕ) → (b ≢ 0 → w b ≡ v b) → byte_in w b k ≡ byte_in v b k
 byte_same v w b k e = elim (cases_eq b 0) [
   | inl z ↦ ap (λ c. byte_in w c k) z ∙ sym (ap (λ c. byte_in v c k) z)
   | inr ne ↦ ap (λ m. if b == 0 then 0 else get_or m k 0) (e ne)
@@ -245,11 +245,11 @@ get_apart (w ∷ ws) zero b (suc j) ne = refl
 get_apart (w ∷ ws) (suc k) b zero ne = refl
 get_apart (w ∷ ws) (suc k) b (suc j) ne = get_apart ws k b j (λ e. ne (ap suc e))
 
-direct_get : (bytes : List ℕ) (i : ℕ) → i < 12 → direct_in bytes i ≡ get_or (fields_of bytes).direct i 0
+pub direct_get : (bytes : List ℕ) (i : ℕ) → i < 12 → direct_in bytes i ≡ get_or (fields_of bytes).direct i 0
 direct_get bytes i lt = let z : 0 + i ≡ i = omega arith in ap (λ k. direct_in bytes k) (sym z) ∙ sym (get_mapped (direct_in bytes) 12 0 i lt)
 
 -- the blocks of a file by its own pointers and that to its block of pointers
-blocks_agree : (content : ℕ → List ℕ) (a b : List ℕ) (i : ℕ) → (i < 12 → direct_in a i ≡ direct_in b i) → word_at a 56 ≡ word_at b 56 → file_block content a i ≡ file_block content b i
+pub blocks_agree : (content : ℕ → List ℕ) (a b : List ℕ) (i : ℕ) → (i < 12 → direct_in a i ≡ direct_in b i) → word_at a 56 ≡ word_at b 56 → file_block content a i ≡ file_block content b i
 blocks_agree content a b i direct last = elim (cases_lt i 12) [
   | inl lt ↦ direct_block content a i lt ∙ (direct lt ∙ sym (direct_block content b i lt))
   | inr ge ↦

@@ -8,14 +8,14 @@
 --     names_of, names_in                          the names of a directory and the inodes that they name
 --     file_end, byte_of, bytes_from               where a file ends; its byte at an offset, 0 in a hole; its bytes from an offset on, up to its end
 --     read_count, read_into                       how many bytes a read answers, and what it leaves of those that it was given
---     create_in, write_in, unlink_in, rmdir_in    what a call looks up before it edits
+--     create_in, write_in, unlink_in, rmdir_in, rename_in    what a call looks up before it edits
 --     is_own, RefusesAs                           a fault of the library's own; what is answered where a look-up fails
 use Rattle.std.specs.Prelude.{ℕ, ◌*◌, ◌-◌, ◌/◌, ◌%◌, Bool, true, false, not, ◌&&◌, ◌||◌, ◌==◌, nat_lt, min, List, ◌++◌, length, drop, map, find, Option, Some, None, Result, Ok, Err, ◌≡◌, IfErr, get_or, is_some, bytes_eq, filter, filter_map, flat_map, if◌then◌else◌}
 use Rattle.std.specs.List.{list_any, range_with_len}
 use Rattle.std.specs.Option.{ok_or}
 use Rattle.xn_model.specs.Root.{slot, word_at}
 use Rattle.xn_model.specs.Lives.{StoreState}
-use Rattle.ffs_model.specs.Library.{half_at, pointer_word, inode_at, inode_mode, inode_blocks}
+use Rattle.ffs_model.specs.Library.{half_at, pointer_word, inode_at, inode_mode, inode_links, inode_blocks}
 use Rattle.ffs_format.specs.Entries.{is_name, name_in}
 use Rattle.ffs_format.specs.Fields.{direct_in}
 use Rattle.ffs_lib.specs.declared.fault.FfsFault.{FfsFault}
@@ -202,6 +202,28 @@ if_new content fs name inode =
 -- of `create` and `mkdir`
 unfoldable pub create_in : (ℕ → List ℕ) → ℕ → ℕ → List ℕ → Result (List ℕ) FfsFault
 create_in content fs n name = and_then (directory_in content fs n) (if_new content fs name)
+
+-- of `rename`: whether the inode may be named again, from the directory with an inode to that with another, which may be the same
+abbrev pub if_linkable : (ℕ → List ℕ) → Bool → List ℕ → Slot → List ℕ → Result Slot FfsFault
+if_linkable content same to entry inode =
+    if (inode_mode inode == 2) && not same then Err IsDir
+    else if inode_links inode == 65535 then Err TooLarge
+    else if has_room content to then Ok entry else Err TooLarge
+
+abbrev pub if_unnamed : (ℕ → List ℕ) → ℕ → Bool → List ℕ → List ℕ → Slot → Result Slot FfsFault
+if_unnamed content fs same to new_name entry =
+    if is_some (first_named content to new_name) then Err Exists else and_then (inode_in content fs entry.inode) (if_linkable content same to entry)
+
+abbrev pub if_movable : (ℕ → List ℕ) → ℕ → Bool → List ℕ → List ℕ → List ℕ → List ℕ → Result Slot FfsFault
+if_movable content fs same name new_name from to =
+    if (inode_mode from == 2) && (inode_mode to == 2) then
+    (if is_name name && is_name new_name then and_then (ok_or (first_named content from name) NoEntry) (if_unnamed content fs same to new_name) else Err BadName)
+    else Err NotDir
+
+-- the entry that is moved
+unfoldable pub rename_in : (ℕ → List ℕ) → ℕ → ℕ → List ℕ → ℕ → List ℕ → Result Slot FfsFault
+rename_in content fs d name other new_name =
+    and_then (inode_in content fs d) (λ from. and_then (inode_in content fs other) (λ to. if_movable content fs (d == other) name new_name from to))
 
 -- neither the store's nor for want of memory
 abbrev pub is_own : FfsFault → Bool

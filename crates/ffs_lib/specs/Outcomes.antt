@@ -9,13 +9,13 @@ use Rattle.ffs_model.specs.Cuts.{Under, latest}
 use Rattle.ffs_model.specs.Names.{IsInodes}
 use Rattle.ffs_model.specs.Edits.{HoldsOnly, OneEntry}
 use Rattle.ffs_model.specs.Volumes.{VolumeKeeps, CanName, CanUnlink, with_edit, without_edit}
-use Rattle.ffs_model.specs.Library.{library_layout, IsLibrary, zeros}
+use Rattle.ffs_model.specs.Library.{inode_blocks, library_layout, IsLibrary, zeros}
 use Rattle.xn_model.specs.Rules.{IsConsistent}
 use Rattle.ffs_lib.specs.declared.places.Found.{Found}
 use Rattle.ffs_lib.specs.declared.places.Slot.{Slot}
 use Rattle.ffs_format.specs.Fields.{fields_of}
 use Rattle.ffs_lib.specs.Newest.{byte_of, directory_in, file_block, file_in, inode_in, listing, without_entry}
-use Rattle.ffs_lib.specs.Results.{HasMore, SameInode, byte_written}
+use Rattle.ffs_lib.specs.Results.{AsBefore, HasMore, SameInode, byte_written}
 use Rattle.ffs_lib.specs.Places.{IsDirectory}
 
 abbrev pub Keeps : Types → ℕ → StoreState → StoreState → Type 0
@@ -177,3 +177,15 @@ abbrev pub RaisesSize : Types → ℕ → ℕ → ℕ → StoreState → StoreSt
 RaisesSize T fs n size old new = IsLibrary T → (array : ℕ → Option ℕ) → VolumeKeeps T library_layout fs array old →
     ((inode : List ℕ) → Ok inode ≡ file_in (latest old.lives) fs n → IsRaised (latest old.lives) (latest new.lives) fs n inode size)
     × ((d : ℕ) → d ≢ n → SameInode (latest old.lives) (latest new.lives) fs d)
+
+-- What stands after other edits of a name
+--     Relinks       an inode's links changed
+--     LosesName     an entry is cleared, in the directory that has its block
+
+abbrev pub Relinks : Types → ℕ → StoreState → StoreState → Type 0
+Relinks T fs old new = IsLibrary T → IsConsistent T old → (d : ℕ) → AsBefore (latest old.lives) (latest new.lives) fs d
+
+abbrev pub LosesName : Types → ℕ → Slot → StoreState → StoreState → Type 0
+LosesName T fs entry old new = IsLibrary T → IsConsistent T old →
+    ((d : ℕ) → inode_in (latest new.lives) fs d ≡ inode_in (latest old.lives) fs d) × ((inode : List ℕ) → listing (latest new.lives) inode ≡ without_entry entry (listing (latest old.lives) inode))
+    × ((n : ℕ) (own : List ℕ) → Ok own ≡ inode_in (latest old.lives) fs n → Contains (inode_blocks own) entry.block → (d : ℕ) → d ≢ n → SameInode (latest old.lives) (latest new.lives) fs d)

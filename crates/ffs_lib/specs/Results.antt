@@ -3,12 +3,16 @@
 --     OthersSame, OnlyChanges    so are all inodes but those with two numbers; but that with one
 --     new_inode                  an inode with one link, size 0 and no block
 --     HasMore, MadeEntry         a directory has one entry more; it names a new inode
---     byte_written, WritesFile   the bytes of a file after a write
+--     byte_written, IsWritten    the bytes of a file after a write
+--     IsAs, AsBefore             an inode is as before but for its links
+--     MovedEntry                 an entry went to another directory, or got another name
 use Rattle.std.specs.Prelude.{◌≡◌, ◌≢◌, ℕ, ◌+◌, ◌-◌, ◌<◌, ◌&&◌, List, [], ◌∷◌, ◌++◌, length, max, nat_le, nat_lt, get_or, replicate, Some, Ok, Err, if◌then◌else◌, ◌==◌}
 use Rattle.std.specs.Int.{w16, to_le_bytes}
+use Rattle.xn_model.specs.Root.{word_at}
+use Rattle.ffs_model.specs.Library.{inode_mode}
 use Rattle.ffs_lib.specs.declared.fault.FfsFault.TheVariants.{NoEntry}
 use Rattle.ffs_lib.specs.declared.places.Slot.{Slot}
-use Rattle.ffs_lib.specs.Newest.{byte_of, directory_in, file_end, file_in, first_named, inode_in, listing}
+use Rattle.ffs_lib.specs.Newest.{byte_of, directory_in, file_end, file_in, inode_in, listing, without_entry}
 
 -- Inodes that stay
 
@@ -62,3 +66,43 @@ pub record IsWritten (old new : ℕ → List ℕ) (fs n : ℕ) (inode : List ℕ
   pub file : Ok after ≡ file_in new fs n
   pub ends : file_end after ≡ end_after inode offset (length bytes)
   pub each : (at : ℕ) → at < 71680 → byte_of new after at ≡ byte_written (byte_of old inode) offset bytes at
+
+-- Inodes that are as before but for their links
+
+pub record IsAs (old new : ℕ → List ℕ) (fs d : ℕ) (inode : List ℕ) : Type 0 where
+  pub after : List ℕ
+  pub found : Ok after ≡ inode_in new fs d
+  pub mode : inode_mode after ≡ inode_mode inode
+  pub size : word_at after 4 ≡ word_at inode 4
+  pub entries : listing new after ≡ listing old inode
+  pub each : (at : ℕ) → at < 71680 → byte_of new after at ≡ byte_of old inode at
+
+abbrev pub AsBefore : (ℕ → List ℕ) → (ℕ → List ℕ) → ℕ → ℕ → Type 0
+AsBefore old new fs d = (inode : List ℕ) → Ok inode ≡ inode_in old fs d → IsAs old new fs d inode
+
+-- An entry that is moved
+
+-- the directory with a number has lost an entry
+pub record HasLost (old new : ℕ → List ℕ) (fs d : ℕ) (inode : List ℕ) (entry : Slot) : Type 0 where
+  pub after : List ℕ
+  pub directory : Ok after ≡ directory_in new fs d
+  pub is : listing new after ≡ without_entry entry (listing old inode)
+
+-- it has lost one and got another, with a new name for the same inode
+pub record HasRenamed (old new : ℕ → List ℕ) (fs d : ℕ) (inode : List ℕ) (entry : Slot) (name : List ℕ) : Type 0 where
+  pub after : List ℕ
+  pub directory : Ok after ≡ directory_in new fs d
+  pub place : Slot
+  pub inode_named : place.inode ≡ entry.inode
+  pub front : List (Slot × List ℕ)
+  pub back : List (Slot × List ℕ)
+  pub was : listing old inode ≡ front ++ back
+  pub is : listing new after ≡ without_entry entry (front ++ (place, name) ∷ back)
+
+-- An entry went from the directory with a number to that with another, which may be the same; all inodes but those two are as before,
+-- but for links.
+pub record MovedEntry (old new : ℕ → List ℕ) (fs d : ℕ) (entry : Slot) (other : ℕ) (name : List ℕ) : Type 0 where
+  pub lost : d ≢ other → (inode : List ℕ) → Ok inode ≡ directory_in old fs d → HasLost old new fs d inode entry
+  pub more : d ≢ other → (inode : List ℕ) → Ok inode ≡ directory_in old fs other → HasMore old new fs other inode name entry.inode
+  pub renamed : d ≡ other → (inode : List ℕ) → Ok inode ≡ directory_in old fs d → HasRenamed old new fs d inode entry name
+  pub others : (x : ℕ) → x ≢ d → x ≢ other → AsBefore old new fs x

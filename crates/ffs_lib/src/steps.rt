@@ -7,7 +7,7 @@ ghost use Rattle.ffs_format.specs.Entries.{is_name};
 ghost use Rattle.ffs_lib.specs.Places.{IsFree, IsSlot};
 ghost use Rattle.ffs_model.specs.Cuts.{latest};
 ghost use Rattle.ffs_lib.specs.Results.{new_inode};
-ghost use Rattle.ffs_lib.specs.Outcomes.{Keeps, Makes, Attaches, Adds, Names, Grows, Lets, Clears, Unlinks, Drops, StaysListed, LosesEntry, Stays, PutsInode, GrowsDirectory, Enters};
+ghost use Rattle.ffs_lib.specs.Outcomes.{Keeps, Makes, Attaches, Adds, Names, Grows, Lets, Clears, Unlinks, Drops, StaysListed, LosesEntry, Stays, PutsInode, GrowsDirectory, Enters, LosesName, Relinks};
 
 use crate::edits;
 use crate::fault::FfsFault;
@@ -219,6 +219,7 @@ pub fn clear_entry<S: Store>(
     ensures types { S.types_of store.new ≡ S.types_of store.old }
     ensures ok { IfOk result (λ entry. Clears (S.types_of store.old) fs.number (S.state_of store.old) (S.state_of store.new) slot.inode entry) }
     ensures cleared { OnOk result (LosesEntry (S.types_of store.old) fs.number slot (S.state_of store.old) (S.state_of store.new)) }
+    ensures lost { OnOk result (LosesName (S.types_of store.old) fs.number slot (S.state_of store.old) (S.state_of store.new)) }
     ensures err { OnErr result (S.state_of store.new ≡ S.state_of store.old) }
 {
     let edit = edits::change(alloc, ENTRY_LEN * slot.place, &[0; ENTRY_LEN], after)?;
@@ -234,6 +235,7 @@ pub fn add_link<S: Store>(
 ) -> Result<EditId, FfsFault>
     ensures types { S.types_of store.new ≡ S.types_of store.old }
     ensures ok { IfOk result (λ entry. Lets (S.types_of store.old) fs.number (S.state_of store.old) (S.state_of store.new) number entry) }
+    ensures relinked { OnOk result (Relinks (S.types_of store.old) fs.number (S.state_of store.old) (S.state_of store.new)) }
     ensures err { OnErr result (S.state_of store.new ≡ S.state_of store.old) }
 {
     let Found {
@@ -261,6 +263,7 @@ pub fn take_link<S: Store>(
     ensures types { S.types_of store.new ≡ S.types_of store.old }
     ensures keeps { Unlinks (S.types_of store.old) fs.number (S.state_of store.old) (S.state_of store.new) number after }
     ensures listed { OnOk result (StaysListed (S.types_of store.old) fs.number number (S.state_of store.old) (S.state_of store.new)) }
+    ensures relinked { OnOk result (Relinks (S.types_of store.old) fs.number (S.state_of store.old) (S.state_of store.new)) }
 {
     let Found {
         block,

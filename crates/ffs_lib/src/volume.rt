@@ -1,18 +1,18 @@
 // A volume: the files and directories of a file system.
 
-ghost use Rattle.std.specs.Prelude.{◌≡◌, ◌≢◌, ◌<◌, ◌≤◌, ◌+◌, ◌++◌, true, false, ◌⊎◌, ℕ, List, length, map, Contains, Ok, Err, IfOk, IfErr, OnOk, OnErr, IfSome, IsOk, IsTrue, MatchResult};
+ghost use Rattle.std.specs.Prelude.{◌≡◌, ◌≢◌, ◌<◌, ◌≤◌, ◌+◌, ◌++◌, ◌==◌, ◌&&◌, not, true, false, ◌⊎◌, ℕ, List, length, map, Contains, Ok, Err, IfOk, IfErr, OnOk, OnErr, IfSome, IsOk, IsTrue, MatchResult};
 ghost use Rattle.std.specs.List.{range_with_len};
 ghost use Rattle.ffs_format.specs.Entries.{is_name};
 ghost use Rattle.ffs_model.specs.Cuts.{latest};
 ghost use Rattle.ffs_model.specs.Names.{IsInodes};
-ghost use Rattle.ffs_model.specs.Library.{library_layout, IsLibrary};
-ghost use Rattle.ffs_lib.specs.Newest.{RefusesAs, TakesEntry, create_in, directory_in, has_inode, root_in, file_in, is_own, listing, named_in, names_at, names_in, read_count, read_into, rmdir_in, unlink_in, without_entry, write_in};
+ghost use Rattle.ffs_model.specs.Library.{library_layout, inode_mode, IsLibrary};
+ghost use Rattle.ffs_lib.specs.Newest.{RefusesAs, TakesEntry, create_in, directory_in, first_named, has_inode, root_in, file_in, is_own, listing, named_in, names_at, names_in, read_count, read_into, rename_in, rmdir_in, unlink_in, without_entry, write_in};
 ghost use Rattle.ffs_lib.specs.declared.places.Found.{Found};
 ghost use Rattle.ffs_lib.specs.declared.places.Slot.{Slot};
 ghost use Rattle.ffs_model.specs.Volumes.{VolumeKeeps, no_edits};
 ghost use Rattle.ffs_lib.specs.Places.{IsDirectory, IsFree, IsSlot};
 ghost use Rattle.ffs_lib.specs.Outcomes.{Keeps, Leaves, Roots, Starts, Stays};
-ghost use Rattle.ffs_lib.specs.Results.{IsWritten, MadeEntry, OnlyChanges};
+ghost use Rattle.ffs_lib.specs.Results.{IsWritten, MadeEntry, MovedEntry, OnlyChanges};
 
 use crate::data::{BLOCK_LEN, FILE_BLOCKS, raise_size, read_part, write_block};
 use crate::edits;
@@ -177,6 +177,27 @@ fn look_up_new<S: Store>(
     let free = look_up_free(store, fs)?;
     let _ = find_room(store, fs, &found, directory)?;
     Ok(free)
+}
+
+/// Whether both inodes are directories.
+fn are_directories(inode: &Inode, other: &Inode) -> bool
+    ensures { result ≡ (inode_mode inode.now == 2) && (inode_mode other.now == 2) }
+{
+    inode.mode() == DIRECTORY && other.mode() == DIRECTORY
+}
+
+/// Whether both are names.
+fn are_names(name: &[u8], other: &[u8]) -> bool
+    ensures { result ≡ is_name name.now && is_name other.now }
+{
+    is_name(name) && is_name(other)
+}
+
+/// Whether an inode is a directory that would go from one to another.
+fn moves_directory(inode: &Inode, from: u16, to: u16) -> bool
+    ensures { result ≡ (inode_mode inode.now == 2) && not (from == to) }
+{
+    inode.mode() == DIRECTORY && from != to
 }
 
 /// What a call answers once it may have edited. A look-up that fails then is told as the store's refusal, so that a fault of the
@@ -559,6 +580,42 @@ impl Volume {
         Ok(())
     }
 
+    /// Looks up the entry that is to be moved, and what its new name needs.
+    fn look_up_move<S: Store>(
+        &self,
+        store: &S,
+        directory: u16,
+        name: &[u8],
+        other: u16,
+        new_name: &[u8],
+    ) -> Result<Slot, FfsFault>
+        ensures slot { IfOk result (λ slot. IsSlot (S.state_of store.now) self.now.fs.number slot) }
+        ensures name { OnOk result (IsTrue (is_name new_name.now)) }
+        ensures exact { IsLibrary (S.types_of store.now) → result ≡ rename_in (latest (S.state_of store.now).lives) self.now.fs.number directory name.now other new_name.now }
+    {
+        let from = find_inode(store, self.fs, directory)?;
+        let to = find_inode(store, self.fs, other)?;
+        if !are_directories(&from.inode, &to.inode) {
+            return Err(FfsFault::NotDir);
+        }
+        if !are_names(name, new_name) {
+            return Err(FfsFault::BadName);
+        }
+        let slot = find_entry(store, self.fs, &from, directory, name)?.ok_or(FfsFault::NoEntry)?;
+        if find_entry(store, self.fs, &to, other, new_name)?.is_some() {
+            return Err(FfsFault::Exists);
+        }
+        let found = find_inode(store, self.fs, slot.inode)?;
+        if moves_directory(&found.inode, directory, other) {
+            return Err(FfsFault::IsDir);
+        }
+        if found.inode.links() == u16::MAX {
+            return Err(FfsFault::TooLarge);
+        }
+        let _ = find_room(store, self.fs, &to, other)?;
+        Ok(slot)
+    }
+
     /// Gives a file another name, or a directory another in the directory where it is. Before any edit it answers, in this order,
     /// `NoEntry` or `NotDir` of either directory, `BadName` of either name, `NoEntry` of the old name, `Exists` of the new one, `IsDir` for a
     /// directory that would go elsewhere, `TooLarge` where the inode has 65,535 links or the other directory no room. Any refusal of the
@@ -574,29 +631,12 @@ impl Volume {
     ) -> Result<(), FfsFault>
         requires volume { IsVolume (S.types_of store.old) (S.state_of store.old) self.now }
         ensures types { S.types_of store.new ≡ S.types_of store.old }
-        ensures unchanged { IfErr result (λ fault. is_own fault ≡ true → S.state_of store.new ≡ S.state_of store.old) }
+        ensures faults { RefusesAs (rename_in (latest (S.state_of store.old).lives) self.now.fs.number directory name.now other new_name.now) (S.state_of store.old) (S.state_of store.new) result }
+        ensures moved { OnOk result ((entry : Slot) → Ok entry ≡ rename_in (latest (S.state_of store.old).lives) self.now.fs.number directory name.now other new_name.now →
+            MovedEntry (latest (S.state_of store.old).lives) (latest (S.state_of store.new).lives) self.now.fs.number directory entry other new_name.now) }
         ensures keeps { IsVolume (S.types_of store.old) (S.state_of store.new) self.now }
     {
-        let from = find_inode(store, self.fs, directory)?;
-        let to = find_inode(store, self.fs, other)?;
-        if from.inode.mode() != DIRECTORY || to.inode.mode() != DIRECTORY {
-            return Err(FfsFault::NotDir);
-        }
-        if !is_name(name) || !is_name(new_name) {
-            return Err(FfsFault::BadName);
-        }
-        let slot = find_entry(store, self.fs, &from, directory, name)?.ok_or(FfsFault::NoEntry)?;
-        if find_entry(store, self.fs, &to, other, new_name)?.is_some() {
-            return Err(FfsFault::Exists);
-        }
-        let found = find_inode(store, self.fs, slot.inode)?;
-        if found.inode.mode() == DIRECTORY && directory != other {
-            return Err(FfsFault::IsDir);
-        }
-        if found.inode.links() == u16::MAX {
-            return Err(FfsFault::TooLarge);
-        }
-        let _ = find_room(store, self.fs, &to, other)?;
+        let slot = self.look_up_move(store, directory, name, other, new_name)?;
         once_edited(self.move_entry(alloc, store, directory, name, slot.inode, other, new_name))
     }
 
@@ -615,6 +655,9 @@ impl Volume {
         requires name { IsTrue (is_name new_name.now) }
         requires some { inode ≢ 0 }
         ensures types { S.types_of store.new ≡ S.types_of store.old }
+        ensures moved { OnOk result ((from to : List ℕ) (slot : Slot) → Ok from ≡ directory_in (latest (S.state_of store.old).lives) self.now.fs.number directory → Ok to ≡ directory_in (latest (S.state_of store.old).lives) self.now.fs.number other →
+            slot.inode ≡ inode → Some slot ≡ first_named (latest (S.state_of store.old).lives) from name.now → None ≡ first_named (latest (S.state_of store.old).lives) to new_name.now →
+            MovedEntry (latest (S.state_of store.old).lives) (latest (S.state_of store.new).lives) self.now.fs.number directory slot other new_name.now) }
         ensures keeps { IsVolume (S.types_of store.old) (S.state_of store.new) self.now }
     {
         let added = add_link(alloc, store, self.fs, inode)?;

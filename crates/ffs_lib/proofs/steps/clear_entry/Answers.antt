@@ -2,6 +2,7 @@ use Rattle.std.proofs.Common.{◌*◌, replicate, []}
 use Rattle.ffs_lib.specs.Edits.{edit_at}
 use Rattle.ffs_lib.proofs.Edited.{cleared, done_by}
 use Rattle.ffs_lib.proofs.Listed.{entry_lost}
+use Rattle.ffs_lib.proofs.Moving.{name_lost}
 use Rattle.ffs_lib.proofs.steps.clear_entry.Goals as goal
 
 pub returns-clause-ok : goal.returns-clause-ok
@@ -19,4 +20,13 @@ returns-clause-cleared g c = λ lib h.
     let new = g.S.Store.state_of c.propose.new.self in
     let slot = c.args.slot in
     entry_lost T lib state new h c.args.fs.number c.args.fs.few slot c.requires c.args.after c.in_ok-propose.field-0
+    (done_by T state new c.args.fs.number slot.block _ (edit_at (32 * slot.place) (replicate 32 0) [] [] c.args.after) c.in_ok-propose.field-0 c.in_ok-edit.ensures c.in_ok-propose.ensures.state)
+
+pub returns-clause-lost : goal.returns-clause-lost
+returns-clause-lost g c = λ lib h.
+    let T = g.S.Store.types_of c.args.store.now in
+    let state = g.S.Store.state_of c.args.store.now in
+    let new = g.S.Store.state_of c.propose.new.self in
+    let slot = c.args.slot in
+    name_lost T lib state new h c.args.fs.number c.args.fs.few slot c.requires c.args.after c.in_ok-propose.field-0
     (done_by T state new c.args.fs.number slot.block _ (edit_at (32 * slot.place) (replicate 32 0) [] [] c.args.after) c.in_ok-propose.field-0 c.in_ok-edit.ensures c.in_ok-propose.ensures.state)

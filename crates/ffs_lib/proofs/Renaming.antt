@@ -1,0 +1,149 @@
+-- What is looked up before a name is moved, in the order of the tests.
+use Rattle.std.proofs.Common.{◌≡◌, ◌≢◌, ◌⊎◌, ℕ, Bool, true, false, List, Option, Some, None, refl, sym, ◌∙◌, ap, inl, inr, eq-eqb}
+use Rattle.std.specs.Prelude.{Result, Ok, Err, ◌==◌, ◌&&◌, not, is_some, if◌then◌else◌}
+use Rattle.std.specs.Option.{ok_or}
+use Rattle.std.proofs.lemmas.Bool.{and_parts, eqb-true, ne_eqb}
+use Rattle.ffs_model.specs.Library.{inode_links, inode_mode}
+use Rattle.ffs_format.specs.Entries.{is_name}
+use Rattle.ffs_lib.specs.declared.fault.FfsFault.{FfsFault}
+use Rattle.ffs_lib.specs.declared.fault.FfsFault.TheVariants.{BadName, Exists, IsDir, NoEntry, NotDir, TooLarge}
+use Rattle.ffs_lib.specs.declared.places.Slot.{Slot}
+use Rattle.ffs_lib.specs.Newest.{and_then, directory_in, first_named, has_room, if_linkable, if_movable, if_unnamed, inode_in, rename_in}
+use Rattle.ffs_lib.proofs.Newest.{directory_is, in_directory}
+use Rattle.ffs_lib.proofs.Owners.{not_first, only_first, passed}
+
+-- an option that was there, or was not
+pub is_some_ok : {A : Type 0} (o : Option A) (x : A) → ◌≡◌ {A = Result A FfsFault} (Ok x) (ok_or o NoEntry) → Some x ≡ o
+is_some_ok None x e = absurd (cc e)
+is_some_ok (Some y) x e = cc
+
+pub none_is_none : {A : Type 0} (o : Option A) (fault : FfsFault) → ◌≡◌ {A = Result A FfsFault} (Err fault) (ok_or o NoEntry) → (o ≡ None) × (fault ≡ NoEntry)
+none_is_none None fault e = (refl, cc)
+none_is_none (Some y) fault e = absurd (cc e)
+
+module _ (content : ℕ → List ℕ) (fs d : ℕ) (name : List ℕ) (other : ℕ) (new_name : List ℕ) where
+  abbrev all : Result Slot FfsFault
+  all = rename_in content fs d name other new_name
+
+  pub no_first : (fault : FfsFault) → Err fault ≡ inode_in content fs d → Err fault ≡ all
+  unfolding rename_in
+  no_first fault e = ap (λ (r : Result (List ℕ) FfsFault). and_then r (λ from. and_then (inode_in content fs other) (λ to. if_movable content fs (d == other) name new_name from to))) e
+
+  module _ (from : List ℕ) (e : Ok from ≡ inode_in content fs d) where
+    at_first : and_then (inode_in content fs other) (λ to. if_movable content fs (d == other) name new_name from to) ≡ all
+    unfolding rename_in
+    at_first = ap (λ (r : Result (List ℕ) FfsFault). and_then r (λ x. and_then (inode_in content fs other) (λ to. if_movable content fs (d == other) name new_name x to))) e
+
+    pub no_second : (fault : FfsFault) → Err fault ≡ inode_in content fs other → Err fault ≡ all
+    no_second fault f = ap (λ (r : Result (List ℕ) FfsFault). and_then r (λ to. if_movable content fs (d == other) name new_name from to)) f ∙ at_first
+
+    module _ (to : List ℕ) (f : Ok to ≡ inode_in content fs other) where
+      at_both : if_movable content fs (d == other) name new_name from to ≡ all
+      at_both = ap (λ (r : Result (List ℕ) FfsFault). and_then r (λ x. if_movable content fs (d == other) name new_name from x)) f ∙ at_first
+
+      abbrev named : Result Slot FfsFault
+      named = and_then (ok_or (first_named content from name) NoEntry) (if_unnamed content fs (d == other) to new_name)
+
+      pub no_directory : (inode_mode from == 2) && (inode_mode to == 2) ≡ false → Err NotDir ≡ all
+      no_directory t = sym (ap (λ (x : Bool). if x then (if is_name name && is_name new_name then named else Err BadName) else Err NotDir) t) ∙ at_both
+
+      module _ (dirs : (inode_mode from == 2) && (inode_mode to == 2) ≡ true) where
+        at_dirs : (if is_name name && is_name new_name then named else Err BadName) ≡ all
+        at_dirs = sym (ap (λ (x : Bool). if x then (if is_name name && is_name new_name then named else Err BadName) else Err NotDir) dirs) ∙ at_both
+
+        pub bad_names : is_name name && is_name new_name ≡ false → Err BadName ≡ all
+        bad_names t = sym (ap (λ (x : Bool). if x then named else Err BadName) t) ∙ at_dirs
+
+        module _ (good : is_name name && is_name new_name ≡ true) where
+          at_names : named ≡ all
+          at_names = sym (ap (λ (x : Bool). if x then named else Err BadName) good) ∙ at_dirs
+
+          pub no_name : None ≡ first_named content from name → Err NoEntry ≡ all
+          no_name n = ap (λ (o : Option Slot). and_then (ok_or o NoEntry) (if_unnamed content fs (d == other) to new_name)) n ∙ at_names
+
+          module _ (entry : Slot) (first : Some entry ≡ first_named content from name) where
+            at_entry : if_unnamed content fs (d == other) to new_name entry ≡ all
+            at_entry = ap (λ (o : Option Slot). and_then (ok_or o NoEntry) (if_unnamed content fs (d == other) to new_name)) first ∙ at_names
+
+            pub new_taken : is_some (first_named content to new_name) ≡ true → Err Exists ≡ all
+            new_taken t = sym (ap (λ (x : Bool). if x then Err Exists else and_then (inode_in content fs entry.inode) (if_linkable content (d == other) to entry)) t) ∙ at_entry
+
+            module _ (free : is_some (first_named content to new_name) ≡ false) where
+              at_free : and_then (inode_in content fs entry.inode) (if_linkable content (d == other) to entry) ≡ all
+              at_free = sym (ap (λ (x : Bool). if x then Err Exists else and_then (inode_in content fs entry.inode) (if_linkable content (d == other) to entry)) free) ∙ at_entry
+
+              pub no_inode_named : (fault : FfsFault) → Err fault ≡ inode_in content fs entry.inode → Err fault ≡ all
+              no_inode_named fault i = ap (λ (r : Result (List ℕ) FfsFault). and_then r (if_linkable content (d == other) to entry)) i ∙ at_free
+
+              module _ (inode : List ℕ) (i : Ok inode ≡ inode_in content fs entry.inode) where
+                at_inode : if_linkable content (d == other) to entry inode ≡ all
+                at_inode = ap (λ (r : Result (List ℕ) FfsFault). and_then r (if_linkable content (d == other) to entry)) i ∙ at_free
+
+                abbrev linked : Result Slot FfsFault
+                linked = if inode_links inode == 65535 then Err TooLarge else if has_room content to then Ok entry else Err TooLarge
+
+                pub other_directory : (inode_mode inode == 2) && not (d == other) ≡ true → Err IsDir ≡ all
+                other_directory t = sym (ap (λ (x : Bool). if x then Err IsDir else linked) t) ∙ at_inode
+
+                module _ (may : (inode_mode inode == 2) && not (d == other) ≡ false) where
+                  at_may : linked ≡ all
+                  at_may = sym (ap (λ (x : Bool). if x then Err IsDir else linked) may) ∙ at_inode
+
+                  pub most_links : inode_links inode ≡ 65535 → Err TooLarge ≡ all
+                  most_links l = sym (ap (λ (x : Bool). if x then Err TooLarge else if has_room content to then Ok entry else Err TooLarge) (eq-eqb (inode_links inode) 65535 l)) ∙ at_may
+
+                  module _ (fewer : inode_links inode ≢ 65535) where
+                    at_links : (if has_room content to then Ok entry else Err TooLarge) ≡ all
+                    at_links = sym (ap (λ (x : Bool). if x then Err TooLarge else if has_room content to then Ok entry else Err TooLarge) (ne_eqb (inode_links inode) 65535 fewer)) ∙ at_may
+
+                    pub no_room_there : has_room content to ≡ false → Err TooLarge ≡ all
+                    no_room_there t = sym (ap (λ (x : Bool). if x then Ok entry else Err TooLarge) t) ∙ at_links
+
+                    pub may_move : has_room content to ≡ true → Ok entry ≡ all
+                    may_move t = sym (ap (λ (x : Bool). if x then Ok entry else Err TooLarge) t) ∙ at_links
+
+-- What was found where all of it passed
+pub record CanMove (content : ℕ → List ℕ) (fs d : ℕ) (name : List ℕ) (other : ℕ) (new_name : List ℕ) (entry : Slot) : Type 0 where
+  pub from : List ℕ
+  pub is_from : Ok from ≡ directory_in content fs d
+  pub to : List ℕ
+  pub is_to : Ok to ≡ directory_in content fs other
+  pub first : Some entry ≡ first_named content from name
+  pub free : None ≡ first_named content to new_name
+
+then_first : {A : Type 0} (t : Bool) (r : Result A FfsFault) (fault : FfsFault) (y : A) → Ok y ≡ (if t then r else Err fault) → (t ≡ true) × (Ok y ≡ r)
+then_first true r fault y e = (refl, e)
+then_first false r fault y e = absurd (cc e)
+
+none_from : {A : Type 0} (o : Option A) → is_some o ≡ false → None ≡ o
+none_from None e = refl
+none_from (Some x) e = absurd (cc e)
+
+linkable_is : (content : ℕ → List ℕ) (same : Bool) (to : List ℕ) (entry found : Slot) (inode : List ℕ) → Ok found ≡ if_linkable content same to entry inode → entry ≡ found
+linkable_is content same to entry found inode e =
+    let a = not_first ((inode_mode inode == 2) && not same) IsDir (if inode_links inode == 65535 then Err TooLarge else if has_room content to then Ok entry else Err TooLarge) found e in
+    let b = not_first (inode_links inode == 65535) TooLarge (if has_room content to then Ok entry else Err TooLarge) found a.1 in
+    (only_first (has_room content to) entry found TooLarge b.1).1
+
+pub can_move : (content : ℕ → List ℕ) (fs d : ℕ) (name : List ℕ) (other : ℕ) (new_name : List ℕ) (entry : Slot) → Ok entry ≡ rename_in content fs d name other new_name → CanMove content fs d name other new_name entry
+unfolding rename_in
+can_move content fs d name other new_name entry e =
+    let same = d == other in
+    let a = passed (inode_in content fs d) (λ from. and_then (inode_in content fs other) (λ to. if_movable content fs same name new_name from to)) entry e in
+    let b = passed (inode_in content fs other) (λ to. if_movable content fs same name new_name a.0 to) entry a.2 in
+    let named = and_then (ok_or (first_named content a.0 name) NoEntry) (if_unnamed content fs same b.0 new_name) in
+    let c = then_first ((inode_mode a.0 == 2) && (inode_mode b.0 == 2)) (if is_name name && is_name new_name then named else Err BadName) NotDir entry b.2 in
+    let n = then_first (is_name name && is_name new_name) named BadName entry c.1 in
+    let o = passed (ok_or (first_named content a.0 name) NoEntry) (if_unnamed content fs same b.0 new_name) entry n.1 in
+    let f = not_first (is_some (first_named content b.0 new_name)) Exists (and_then (inode_in content fs o.0.inode) (if_linkable content same b.0 o.0)) entry o.2 in
+    let i = passed (inode_in content fs o.0.inode) (if_linkable content same b.0 o.0) entry f.1 in
+    let one : o.0 ≡ entry = linkable_is content same b.0 o.0 entry i.0 i.2 in
+    let modes = and_parts (inode_mode a.0 == 2) (inode_mode b.0 == 2) c.0 in
+    record {
+      from = a.0;
+      is_from = directory_is a.0 (eqb-true (inode_mode a.0) 2 modes.0) ∙ in_directory content fs d (Ok a.0) a.1;
+      to = b.0;
+      is_to = directory_is b.0 (eqb-true (inode_mode b.0) 2 modes.1) ∙ in_directory content fs other (Ok b.0) b.1;
+      first = ap (λ s. Some s) (sym one) ∙ is_some_ok (first_named content a.0 name) o.0 o.1;
+      free = none_from (first_named content b.0 new_name) f.0;
+    }
