@@ -136,10 +136,7 @@ impl World {
         reply
     }
 
-    /// One event, whose reply is left in `reply`. The reply and the world after it are a step of the model; and each block that the
-    /// root reaches in the image holds a state of its life, from the durable to the begun one, and has
-    /// one owner. After any event but a crash, or an edit by a file system, each cut of the lives reaches from that file system's
-    /// root slot the same blocks and bytes as some cut before; and so does the image, as some cut now.
+    /// One event, as `step` takes it, with its reply left in `reply`. A reply has room for a block, and this one is not copied.
     #[inline(always)]
     pub fn step_into(&mut self, rt: &(impl Threads + Sync), event: &Event, reply: &mut Reply)
         ensures step { model.Step (world_with self.old) (event_of event.now) (reply_of reply.new) (world_with self.new) }
