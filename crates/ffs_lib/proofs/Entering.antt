@@ -1,17 +1,16 @@
 -- What an edit of an inode, or of a directory's entries, leaves in the newest bytes.
-use Rattle.std.proofs.Common.{◌≡◌, ◌≢◌, ℕ, zero, suc, ◌+◌, ◌-◌, ◌*◌, ◌/◌, ◌%◌, ◌^◌, ◌<◌, ◌≤◌, ◌⊎◌, Bool, true, false, List, [], ◌∷◌, length, take, drop, get_or, map, Option, None, Ok, Err, refl, sym, ◌∙◌, ap, inl, inr, arith, subst}
-use Rattle.std.specs.Prelude.{Contains, OnOk, Result, ◌==◌, ◌||◌, filter_map, nat_lt, if◌then◌else◌, IsTrue, slice_set}
-use Rattle.std.specs.Int.{w32, to_le_bytes}
+use Rattle.std.proofs.Common.{◌≡◌, ◌≢◌, ℕ, zero, suc, ◌+◌, ◌-◌, ◌*◌, ◌/◌, ◌%◌, ◌<◌, ◌≤◌, Bool, true, List, [], ◌∷◌, length, take, drop, get_or, map, Option, Ok, Err, refl, sym, ◌∙◌, ap, arith, subst}
+use Rattle.std.specs.Prelude.{Contains, OnOk, Result, ◌==◌, filter_map, if◌then◌else◌, IsTrue}
 use Rattle.std.specs.List.{range_with_len}
 use Rattle.std.proofs.Math.Seq.{take-length}
-use Rattle.std.proofs.lemmas.Bool.{cases_eq, eqb-true, lt-ltb}
+use Rattle.std.proofs.lemmas.Bool.{eqb-true, lt-ltb}
 use Rattle.xn_model.specs.Types.{Types}
 use Rattle.xn_model.specs.Lists.{blocks_of, distinct, put}
 use Rattle.xn_model.specs.Lives.{StoreState}
 use Rattle.xn_model.specs.Calls.{init_of, propose_of}
 use Rattle.xn_model.specs.Results.{Gives}
 use Rattle.xn_model.specs.Rules.{IsConsistent}
-use Rattle.ffs_model.specs.Cuts.{Under, latest}
+use Rattle.ffs_model.specs.Cuts.{latest}
 use Rattle.ffs_model.specs.Names.{IsInodes}
 use Rattle.ffs_model.specs.Library.{IsLibrary, direct_word, half_at, inode_at, inode_blocks, inode_mode, library_layout, pointed, zeros}
 use Rattle.ffs_model.proofs.ForCallers.{blocks_read, bytes_within, direct_distinct, direct_where, library_reads, one_type, proposed_here, started_here, under_inodes}
@@ -30,7 +29,7 @@ use Rattle.ffs_lib.proofs.Fields.{blocks_are, set_words}
 use Rattle.ffs_lib.proofs.Frames.{listed_at, listed_blocks, listed_in, listing_same}
 use Rattle.ffs_lib.proofs.Listed.{fits_newest}
 use Rattle.ffs_lib.proofs.More.{OneMore, block_more, blocks_more, lists_more, more_by, one_listed, words_more}
-use Rattle.ffs_lib.proofs.Newest.{block_again, good_number, in_directory, in_inode_block, unused_is, used_is}
+use Rattle.ffs_lib.proofs.Newest.{block_again, good_number, in_inode_block, unused_is, used_is}
 use Rattle.ffs_lib.proofs.Owners.{Stands, block_at, block_from, direct_block, only_first, passed, stands_from}
 use Rattle.ffs_lib.proofs.Same.{Touches, begun, begun_some, block_same, data_touched, edited, inode_touched, inodes_same, none_touched, same_on}
 use Rattle.ffs_lib.proofs.Stores.{gives_ok}

@@ -1,9 +1,9 @@
 -- What an edit leaves of the directories that it does not touch, and what it takes from the one that it does.
-use Rattle.std.proofs.Common.{◌≡◌, ℕ, ◌+◌, ◌-◌, ◌*◌, ◌<◌, ◌≤◌, ◌≢◌, ◌⊎◌, Bool, true, false, cond, List, [], ◌∷◌, ◌++◌, map, length, take, drop, replicate, get_or, Option, Some, None, Ok, refl, sym, ◌∙◌, ap, inl, inr, arith, subst, append_assoc, eq-eqb, length-append, get_or-take, get_or-drop}
+use Rattle.std.proofs.Common.{◌≡◌, ℕ, ◌+◌, ◌*◌, ◌<◌, ◌≤◌, ◌≢◌, ◌⊎◌, Bool, true, false, cond, List, [], ◌∷◌, ◌++◌, map, length, take, drop, replicate, get_or, Option, Some, None, Ok, refl, sym, ◌∙◌, ap, inl, inr, arith, subst, eq-eqb, length-append, get_or-take, get_or-drop}
 use Rattle.std.specs.Prelude.{Contains, ◌==◌, ◌&&◌, not, min, filter, filter_map, flat_map, if◌then◌else◌}
 use Rattle.std.specs.List.{range_with_len, cons_option}
 use Rattle.std.proofs.lemmas.Bool.{cases_eq, cases_lt, ne_eqb}
-use Rattle.std.proofs.lemmas.List.{drop-drop, drop-take, drop_at, length-take, length-drop, map-append, take-append-le, take-take}
+use Rattle.std.proofs.lemmas.List.{length-take, length-drop, map-append}
 use Rattle.std.proofs.lemmas.List.Elements.{filter-append}
 use Rattle.std.proofs.lemmas.Option.{none-some, same_Some}
 use Rattle.xn_model.specs.Types.{Types}

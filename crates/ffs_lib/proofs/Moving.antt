@@ -1,5 +1,5 @@
 -- What is left of names and files where a name is moved.
-use Rattle.std.proofs.Common.{◌≡◌, ◌≢◌, ℕ, ◌+◌, ◌*◌, ◌/◌, ◌%◌, ◌<◌, Bool, true, false, cond, List, [], ◌∷◌, ◌++◌, length, map, get_or, replicate, Option, Some, None, Ok, refl, sym, ◌∙◌, ap, inl, inr, arith, subst}
+use Rattle.std.proofs.Common.{◌≡◌, ◌≢◌, ℕ, ◌*◌, ◌/◌, ◌%◌, ◌<◌, Bool, true, false, cond, List, [], ◌∷◌, ◌++◌, length, map, get_or, replicate, Option, Some, None, Ok, refl, sym, ◌∙◌, ap, inl, inr, arith, subst}
 use Rattle.std.specs.Prelude.{Contains, Result, Err, ◌==◌, filter_map, find, bytes_eq, option_map, flat_map, if◌then◌else◌}
 use Rattle.std.specs.List.{cons_option, range_with_len}
 use Rattle.std.specs.Option.{ok_or, option_or}
@@ -9,7 +9,6 @@ use Rattle.std.proofs.lemmas.Option.{none-some, same_Some}
 use Rattle.std.proofs.lemmas.Slice.Eq.{bytes_eq-Decides}
 use Rattle.xn_model.specs.Types.{Types}
 use Rattle.xn_model.specs.Root.{word_at}
-use Rattle.xn_model.specs.Lists.{put}
 use Rattle.xn_model.specs.Lives.{StoreState}
 use Rattle.xn_model.specs.Calls.{propose_of}
 use Rattle.xn_model.specs.Rules.{IsConsistent}
@@ -24,8 +23,7 @@ use Rattle.ffs_lib.specs.declared.fault.FfsFault.TheVariants.{BadName, NoEntry}
 use Rattle.ffs_lib.specs.declared.places.Found.{Found}
 use Rattle.ffs_lib.specs.declared.places.Slot.{Slot}
 use Rattle.ffs_lib.specs.Edits.{edit_at}
-use Rattle.ffs_lib.specs.Newest.{byte_in, byte_of, directory_in, file_block, entries_in, entry_at, entry_named, named_in, used_entry, entries_of, first_named, has_name, inode_in, listing, name_at, without_entry}
-use Rattle.ffs_lib.specs.Outcomes.{LosesName, Relinks}
+use Rattle.ffs_lib.specs.Newest.{byte_in, directory_in, file_block, entries_in, entry_at, entry_named, named_in, used_entry, entries_of, first_named, has_name, inode_in, listing, name_at, without_entry}
 use Rattle.ffs_lib.specs.Places.{IsFound, IsSlot}
 use Rattle.ffs_lib.specs.Results.{AsBefore, HasLost, HasMore, HasRenamed, IsAs, MovedEntry, SameInode}
 use Rattle.ffs_lib.proofs.Entering.{directory_from, directory_same, inode_put}

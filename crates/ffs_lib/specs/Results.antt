@@ -6,7 +6,7 @@
 --     byte_written, IsWritten    the bytes of a file after a write
 --     IsAs, AsBefore             an inode is as before but for its links
 --     MovedEntry                 an entry went to another directory, or got another name
-use Rattle.std.specs.Prelude.{◌≡◌, ◌≢◌, ℕ, ◌+◌, ◌-◌, ◌<◌, ◌&&◌, List, [], ◌∷◌, ◌++◌, length, max, nat_le, nat_lt, get_or, replicate, Some, Ok, Err, if◌then◌else◌, ◌==◌}
+use Rattle.std.specs.Prelude.{◌≡◌, ◌≢◌, ℕ, ◌+◌, ◌-◌, ◌<◌, ◌&&◌, List, ◌∷◌, ◌++◌, length, max, nat_le, nat_lt, get_or, replicate, Ok, Err, if◌then◌else◌, ◌==◌}
 use Rattle.std.specs.Int.{w16, to_le_bytes}
 use Rattle.xn_model.specs.Root.{word_at}
 use Rattle.ffs_model.specs.Library.{inode_mode}
