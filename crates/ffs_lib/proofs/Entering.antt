@@ -26,6 +26,7 @@ use Rattle.ffs_lib.specs.Outcomes.{Enters, GrowsDirectory, IsGrown, Stays}
 use Rattle.ffs_lib.specs.Places.{IsFree, IsPlace}
 use Rattle.ffs_lib.specs.Results.{HasMore, MadeEntry, SameInode, new_inode}
 use Rattle.ffs_lib.proofs.Fields.{blocks_are, set_words}
+use Rattle.ffs_lib.proofs.Firsts.{first_more}
 use Rattle.ffs_lib.proofs.Frames.{listed_at, listed_blocks, listed_in, listing_same}
 use Rattle.ffs_lib.proofs.Listed.{fits_newest}
 use Rattle.ffs_lib.proofs.More.{OneMore, block_more, blocks_more, lists_more, more_by, one_listed, words_more}
@@ -117,6 +118,7 @@ module _ (T : Types) (lib : IsLibrary T) (state new : StoreState) (h : IsConsist
           back = all.back;
           was = listed_blocks v (inode_blocks inode) ∙ all.was;
           is = listed_blocks w (inode_blocks inode) ∙ all.is;
+          first = first_more v w inode inode name one all.front all.back (listed_blocks v (inode_blocks inode) ∙ all.was) (listed_blocks w (inode_blocks inode) ∙ all.is);
         },
         data_touched T lib state h fs few w b 2 t refl d inode own x.0 (omega (arith, lt)) block x.3,
       )
@@ -185,6 +187,7 @@ module _ (T : Types) (lib : IsLibrary T) (zeroth first second : StoreState) (h :
         back = all.back;
         was = sym before ∙ (listed_blocks v2 (inode_blocks inode) ∙ all.was);
         is = listed_blocks v2 (inode_blocks g.after) ∙ all.is;
+        first = first_more v0 v2 inode0 g.after name entry all.front all.back (sym before ∙ (listed_blocks v2 (inode_blocks inode) ∙ all.was)) (listed_blocks v2 (inode_blocks g.after) ∙ all.is);
       }
 
 -- A block of inodes: begun and attached
@@ -227,7 +230,7 @@ free_none state fs free is =
 
 module _ (u v w : ℕ → List ℕ) (fs d : ℕ) (name : List ℕ) (mode n : ℕ) where
   more_before : (inode : List ℕ) → listing v inode ≡ listing u inode → HasMore v w fs d inode name n → HasMore u w fs d inode name n
-  more_before inode same m = record { after = m.after; directory = m.directory; entry = m.entry; inode_named = m.inode_named; front = m.front; back = m.back; was = sym same ∙ m.was; is = m.is }
+  more_before inode same m = record { after = m.after; directory = m.directory; entry = m.entry; inode_named = m.inode_named; front = m.front; back = m.back; was = sym same ∙ m.was; is = m.is; first = first_more u w inode m.after name m.entry m.front m.back (sym same ∙ m.was) m.is }
 
   pub made_then : inode_in u fs n ≡ Err NoEntry → inode_in v fs n ≡ Ok (new_inode mode) → ((e : ℕ) → e ≢ n → SameInode u v fs e) →
       ((inode : List ℕ) → Ok inode ≡ directory_in v fs d → HasMore v w fs d inode name n) × ((e : ℕ) → e ≢ d → SameInode v w fs e) → (inode : List ℕ) → Ok inode ≡ directory_in u fs d → MadeEntry u w fs d name mode n
