@@ -1,17 +1,16 @@
 -- What an edit of an inode, or of a directory's entries, leaves in the newest bytes.
-use Rattle.std.proofs.Common.{◌≡◌, ◌≢◌, ℕ, zero, suc, ◌+◌, ◌-◌, ◌*◌, ◌/◌, ◌%◌, ◌^◌, ◌<◌, ◌≤◌, ◌⊎◌, Bool, true, false, List, [], ◌∷◌, length, take, drop, get_or, map, Option, None, Ok, Err, refl, sym, ◌∙◌, ap, inl, inr, arith, subst}
-use Rattle.std.specs.Prelude.{Contains, OnOk, Result, ◌==◌, ◌||◌, filter_map, nat_lt, if◌then◌else◌, IsTrue, slice_set}
-use Rattle.std.specs.Int.{w32, to_le_bytes}
+use Rattle.std.proofs.Common.{◌≡◌, ◌≢◌, ℕ, zero, suc, ◌+◌, ◌-◌, ◌*◌, ◌/◌, ◌%◌, ◌<◌, ◌≤◌, Bool, true, List, [], ◌∷◌, length, take, drop, get_or, map, Option, Ok, Err, refl, sym, ◌∙◌, ap, arith, subst}
+use Rattle.std.specs.Prelude.{Contains, OnOk, Result, ◌==◌, filter_map, if◌then◌else◌, IsTrue}
 use Rattle.std.specs.List.{range_with_len}
 use Rattle.std.proofs.Math.Seq.{take-length}
-use Rattle.std.proofs.lemmas.Bool.{cases_eq, eqb-true, lt-ltb}
+use Rattle.std.proofs.lemmas.Bool.{eqb-true, lt-ltb}
 use Rattle.xn_model.specs.Types.{Types}
 use Rattle.xn_model.specs.Lists.{blocks_of, distinct, put}
 use Rattle.xn_model.specs.Lives.{StoreState}
 use Rattle.xn_model.specs.Calls.{init_of, propose_of}
 use Rattle.xn_model.specs.Results.{Gives}
 use Rattle.xn_model.specs.Rules.{IsConsistent}
-use Rattle.ffs_model.specs.Cuts.{Under, latest}
+use Rattle.ffs_model.specs.Cuts.{latest}
 use Rattle.ffs_model.specs.Names.{IsInodes}
 use Rattle.ffs_model.specs.Library.{IsLibrary, direct_word, half_at, inode_at, inode_blocks, inode_mode, library_layout, pointed, zeros}
 use Rattle.ffs_model.proofs.ForCallers.{blocks_read, bytes_within, direct_distinct, direct_where, library_reads, one_type, proposed_here, started_here, under_inodes}
@@ -27,10 +26,11 @@ use Rattle.ffs_lib.specs.Outcomes.{Enters, GrowsDirectory, IsGrown, Stays}
 use Rattle.ffs_lib.specs.Places.{IsFree, IsPlace}
 use Rattle.ffs_lib.specs.Results.{HasMore, MadeEntry, SameInode, new_inode}
 use Rattle.ffs_lib.proofs.Fields.{blocks_are, set_words}
+use Rattle.ffs_lib.proofs.Firsts.{first_more}
 use Rattle.ffs_lib.proofs.Frames.{listed_at, listed_blocks, listed_in, listing_same}
 use Rattle.ffs_lib.proofs.Listed.{fits_newest}
 use Rattle.ffs_lib.proofs.More.{OneMore, block_more, blocks_more, lists_more, more_by, one_listed, words_more}
-use Rattle.ffs_lib.proofs.Newest.{block_again, good_number, in_directory, in_inode_block, unused_is, used_is}
+use Rattle.ffs_lib.proofs.Newest.{block_again, good_number, in_inode_block, unused_is, used_is}
 use Rattle.ffs_lib.proofs.Owners.{Stands, block_at, block_from, direct_block, only_first, passed, stands_from}
 use Rattle.ffs_lib.proofs.Same.{Touches, begun, begun_some, block_same, data_touched, edited, inode_touched, inodes_same, none_touched, same_on}
 use Rattle.ffs_lib.proofs.Stores.{gives_ok}
@@ -118,6 +118,7 @@ module _ (T : Types) (lib : IsLibrary T) (state new : StoreState) (h : IsConsist
           back = all.back;
           was = listed_blocks v (inode_blocks inode) ∙ all.was;
           is = listed_blocks w (inode_blocks inode) ∙ all.is;
+          first = first_more v w inode inode name one all.front all.back (listed_blocks v (inode_blocks inode) ∙ all.was) (listed_blocks w (inode_blocks inode) ∙ all.is);
         },
         data_touched T lib state h fs few w b 2 t refl d inode own x.0 (omega (arith, lt)) block x.3,
       )
@@ -186,6 +187,7 @@ module _ (T : Types) (lib : IsLibrary T) (zeroth first second : StoreState) (h :
         back = all.back;
         was = sym before ∙ (listed_blocks v2 (inode_blocks inode) ∙ all.was);
         is = listed_blocks v2 (inode_blocks g.after) ∙ all.is;
+        first = first_more v0 v2 inode0 g.after name entry all.front all.back (sym before ∙ (listed_blocks v2 (inode_blocks inode) ∙ all.was)) (listed_blocks v2 (inode_blocks g.after) ∙ all.is);
       }
 
 -- A block of inodes: begun and attached
@@ -228,7 +230,7 @@ free_none state fs free is =
 
 module _ (u v w : ℕ → List ℕ) (fs d : ℕ) (name : List ℕ) (mode n : ℕ) where
   more_before : (inode : List ℕ) → listing v inode ≡ listing u inode → HasMore v w fs d inode name n → HasMore u w fs d inode name n
-  more_before inode same m = record { after = m.after; directory = m.directory; entry = m.entry; inode_named = m.inode_named; front = m.front; back = m.back; was = sym same ∙ m.was; is = m.is }
+  more_before inode same m = record { after = m.after; directory = m.directory; entry = m.entry; inode_named = m.inode_named; front = m.front; back = m.back; was = sym same ∙ m.was; is = m.is; first = first_more u w inode m.after name m.entry m.front m.back (sym same ∙ m.was) m.is }
 
   pub made_then : inode_in u fs n ≡ Err NoEntry → inode_in v fs n ≡ Ok (new_inode mode) → ((e : ℕ) → e ≢ n → SameInode u v fs e) →
       ((inode : List ℕ) → Ok inode ≡ directory_in v fs d → HasMore v w fs d inode name n) × ((e : ℕ) → e ≢ d → SameInode v w fs e) → (inode : List ℕ) → Ok inode ≡ directory_in u fs d → MadeEntry u w fs d name mode n

@@ -17,6 +17,7 @@ pub mod Creating
 pub mod Owners
 pub mod Same
 pub mod More
+pub mod Firsts
 pub mod Entering
 pub mod Writing
 pub mod Renaming

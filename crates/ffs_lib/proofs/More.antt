@@ -1,5 +1,5 @@
 -- A list with one element more, and a directory with one entry more.
-use Rattle.std.proofs.Common.{◌≡◌, ◌≢◌, ℕ, zero, suc, ◌+◌, ◌-◌, ◌*◌, ◌<◌, ◌≤◌, ◌⊎◌, Bool, true, false, cond, not, ◌&&◌, List, [], ◌∷◌, ◌++◌, length, take, drop, get_or, replicate, Option, Some, None, refl, sym, ◌∙◌, ap, inl, inr, arith, subst, append_assoc, eq-eqb}
+use Rattle.std.proofs.Common.{◌≡◌, ◌≢◌, ℕ, zero, suc, ◌+◌, ◌-◌, ◌*◌, ◌<◌, ◌≤◌, Bool, true, false, cond, not, ◌&&◌, List, [], ◌∷◌, ◌++◌, length, take, drop, get_or, replicate, Option, Some, None, refl, sym, ◌∙◌, ap, inl, inr, arith, subst, append_assoc, eq-eqb}
 use Rattle.std.specs.Prelude.{Contains, ◌==◌, min, nat_le, filter_map, flat_map, slice_set, if◌then◌else◌, IsTrue}
 use Rattle.std.specs.List.{range_with_len, cons_option, list_all}
 use Rattle.std.proofs.Math.Nat.{min-eq_left}
@@ -9,13 +9,11 @@ use Rattle.std.proofs.lemmas.List.Concat.{flat_map-append}
 use Rattle.xn_model.specs.Lists.{blocks_of, distinct, has_number, put}
 use Rattle.xn_model.specs.Root.{unless_empty}
 use Rattle.xn_model.proofs.ForCallers.{Contains-cons, Contains-head, Contains-none, Contains-tail, has_number_from}
-use Rattle.ffs_model.specs.Library.{half_at, inode_blocks, zeros}
+use Rattle.ffs_model.specs.Library.{half_at, zeros}
 use Rattle.ffs_model.proofs.ForCallers.{bytes_within, half_within, zero_half}
 use Rattle.ffs_format.specs.Entries.{entry_of, is_dots, is_name, is_name_byte, is_name_length, name_in}
-use Rattle.ffs_lib.specs.declared.places.Slot.{Slot}
-use Rattle.ffs_lib.specs.Newest.{listing}
 use Rattle.ffs_lib.proofs.Fields.{set_words}
-use Rattle.ffs_lib.proofs.Frames.{byte_within, half_stays, listed_at, listed_blocks, listed_in, name_stays, same_listed}
+use Rattle.ffs_lib.proofs.Frames.{byte_within, half_stays, listed_at, name_stays}
 
 -- The second list is the first one with an element more.
 pub record OneMore {A : Type 0} (old new : List A) (y : A) : Type 0 where

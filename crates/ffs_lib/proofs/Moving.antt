@@ -1,15 +1,13 @@
 -- What is left of names and files where a name is moved.
-use Rattle.std.proofs.Common.{◌≡◌, ◌≢◌, ℕ, ◌+◌, ◌*◌, ◌/◌, ◌%◌, ◌<◌, Bool, true, false, cond, List, [], ◌∷◌, ◌++◌, length, map, get_or, replicate, Option, Some, None, Ok, refl, sym, ◌∙◌, ap, inl, inr, arith, subst}
+use Rattle.std.proofs.Common.{◌≡◌, ◌≢◌, ℕ, ◌*◌, ◌/◌, ◌%◌, ◌<◌, Bool, true, false, cond, List, [], ◌∷◌, ◌++◌, length, map, get_or, replicate, Option, Some, None, Ok, refl, sym, ◌∙◌, ap, inl, inr, arith, subst}
 use Rattle.std.specs.Prelude.{Contains, Result, Err, ◌==◌, filter_map, find, bytes_eq, option_map, flat_map, if◌then◌else◌}
 use Rattle.std.specs.List.{cons_option, range_with_len}
 use Rattle.std.specs.Option.{ok_or, option_or}
 use Rattle.std.proofs.lemmas.Bool.{cases_eq}
 use Rattle.std.proofs.lemmas.List.Folds.{find-append}
 use Rattle.std.proofs.lemmas.Option.{none-some, same_Some}
-use Rattle.std.proofs.lemmas.Slice.Eq.{bytes_eq-Decides}
 use Rattle.xn_model.specs.Types.{Types}
 use Rattle.xn_model.specs.Root.{word_at}
-use Rattle.xn_model.specs.Lists.{put}
 use Rattle.xn_model.specs.Lives.{StoreState}
 use Rattle.xn_model.specs.Calls.{propose_of}
 use Rattle.xn_model.specs.Rules.{IsConsistent}
@@ -24,12 +22,12 @@ use Rattle.ffs_lib.specs.declared.fault.FfsFault.TheVariants.{BadName, NoEntry}
 use Rattle.ffs_lib.specs.declared.places.Found.{Found}
 use Rattle.ffs_lib.specs.declared.places.Slot.{Slot}
 use Rattle.ffs_lib.specs.Edits.{edit_at}
-use Rattle.ffs_lib.specs.Newest.{byte_in, byte_of, directory_in, file_block, entries_in, entry_at, entry_named, named_in, used_entry, entries_of, first_named, has_name, inode_in, listing, name_at, without_entry}
-use Rattle.ffs_lib.specs.Outcomes.{LosesName, Relinks}
+use Rattle.ffs_lib.specs.Newest.{byte_in, directory_in, file_block, entries_in, entry_at, entry_named, named_in, used_entry, entries_of, first_named, has_name, inode_in, listing, name_at, without_entry}
 use Rattle.ffs_lib.specs.Places.{IsFound, IsSlot}
 use Rattle.ffs_lib.specs.Results.{AsBefore, HasLost, HasMore, HasRenamed, IsAs, MovedEntry, SameInode}
 use Rattle.ffs_lib.proofs.Entering.{directory_from, directory_same, inode_put}
 use Rattle.ffs_lib.proofs.Fields.{same_blocks}
+use Rattle.ffs_lib.proofs.Firsts.{find_listed, find_skip, first_more, named_among, same_bytes}
 use Rattle.ffs_lib.proofs.Frames.{listing_same, listing_without}
 use Rattle.ffs_lib.proofs.Newest.{directory_is, in_directory}
 use Rattle.ffs_lib.proofs.Owners.{Stands, block_at, direct_block, passed, pointers_at, stands_from}
@@ -123,25 +121,6 @@ name_lost T lib state new h fs few slot is after entry done =
           data_touched T lib state h fs few w slot.block 2 t refl n own (stands_from v fs n own e) x.0 (omega (arith, lt)) (direct_block v own x.0 lt ∙ x.2) x.3 d ne,
     )
 
--- The first entry with a name, by the listing
-
-step_listed : (content : ℕ → List ℕ) (name : List ℕ) (e : Slot) (o : Option Slot) (r : Option (Slot × List ℕ)) (t : Bool) → o ≡ option_map (λ (p : Slot × List ℕ). p.0) r → cond t (Some e) o ≡ option_map (λ (p : Slot × List ℕ). p.0) (cond t (Some (e, name_at content e)) r)
-step_listed content name e o r true h = refl
-step_listed content name e o r false h = h
-
-find_listed : (content : ℕ → List ℕ) (name : List ℕ) (es : List Slot) →
-    find (has_name content name) es ≡ option_map (λ (p : Slot × List ℕ). p.0) (find (λ (p : Slot × List ℕ). bytes_eq p.1 name) (map {B = Slot × List ℕ} (λ (e : Slot). (e, name_at content e)) es))
-find_listed content name [] = refl
-find_listed content name (e ∷ es) =
-    step_listed content name e (find (has_name content name) es) (find (λ (p : Slot × List ℕ). bytes_eq p.1 name) (map {B = Slot × List ℕ} (λ (x : Slot). (x, name_at content x)) es)) (bytes_eq (name_at content e) name) (find_listed content name es)
-
-abbrev named_among : List ℕ → List (Slot × List ℕ) → Option Slot
-named_among name entries = option_map (λ (p : Slot × List ℕ). p.0) (find (λ (p : Slot × List ℕ). bytes_eq p.1 name) entries)
-
-find_skip : {A : Type 0} (p : A → Bool) (front back : List A) (y : A) → p y ≡ false → find p (front ++ y ∷ back) ≡ find p (front ++ back)
-find_skip p [] back y e = ap (λ t. cond t (Some y) (find p back)) e
-find_skip p (x ∷ front) back y e = ap (cond (p x) (Some x)) (find_skip p front back y e)
-
 -- it stands in a block of its directory
 entry_stands : (content : ℕ → List ℕ) (p : Slot → Bool) (b : ℕ) (s : Slot) (xs : List ℕ) → Some s ≡ find p (filter_map (λ place. used_entry (entry_at content b place)) xs) → s.block ≡ b
 entry_stands content p b s [] e = absurd (none-some s (sym e))
@@ -176,9 +155,6 @@ named_from content fs d name entry e =
 
 directory_to : (content : ℕ → List ℕ) (fs d : ℕ) (inode : List ℕ) → Ok inode ≡ inode_in content fs d → inode_mode inode ≡ 2 → Ok inode ≡ directory_in content fs d
 directory_to content fs d inode e mode = directory_is inode mode ∙ in_directory content fs d (Ok inode) e
-
-same_bytes : (a b : List ℕ) → bytes_eq a b ≡ true → a ≡ b
-same_bytes a b e = (bytes_eq-Decides a b).0 e
 
 -- All of it
 
@@ -243,6 +219,7 @@ module _ (u0 u1 u2 u3 u4 : ℕ → List ℕ) (fs d : ℕ) (name : List ℕ) (oth
           back = more1.back;
           was = sym x_to.entries ∙ more1.was;
           is = y.entries ∙ (kept.0 ∙ more1.is);
+          first = first_more u0 u4 to y.after new_name more1.entry more1.front more1.back (sym x_to.entries ∙ more1.was) (y.entries ∙ (kept.0 ∙ more1.is));
         }
 
   -- within one

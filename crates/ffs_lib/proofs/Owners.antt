@@ -1,10 +1,10 @@
 -- Where the inode in use with a number stands, and that no block is in two of them.
-use Rattle.std.proofs.Common.{◌≡◌, ◌≢◌, ℕ, ◌+◌, ◌-◌, ◌*◌, ◌/◌, ◌%◌, ◌<◌, ◌≤◌, ◌⊎◌, Bool, true, false, List, Some, Ok, Err, refl, sym, ◌∙◌, ap, inl, inr, arith, subst}
-use Rattle.std.specs.Prelude.{Contains, Result, ◌==◌, ◌||◌, nat_lt, if◌then◌else◌, IsTrue}
-use Rattle.std.proofs.lemmas.Bool.{cases_eq, cases_lt, eqb-false, eqb-true, lt-ltb, le-ltb}
+use Rattle.std.proofs.Common.{◌≡◌, ◌≢◌, ℕ, ◌+◌, ◌-◌, ◌*◌, ◌/◌, ◌%◌, ◌<◌, ◌≤◌, ◌⊎◌, Bool, true, false, List, Ok, Err, refl, sym, ◌∙◌, ap, inl, inr, arith, subst}
+use Rattle.std.specs.Prelude.{Contains, Result, ◌==◌, ◌||◌, nat_lt, if◌then◌else◌}
+use Rattle.std.proofs.lemmas.Bool.{cases_lt, eqb-false, eqb-true, lt-ltb, le-ltb}
 use Rattle.std.proofs.lemmas.Option.{same_Some}
 use Rattle.xn_model.specs.declared.status.Status.TheVariants.{Owned}
-use Rattle.xn_model.specs.Types.{Types, fits}
+use Rattle.xn_model.specs.Types.{Types}
 use Rattle.xn_model.specs.Root.{slot, word_at}
 use Rattle.xn_model.specs.Lives.{Life, StoreState}
 use Rattle.xn_model.specs.Rules.{IsConsistent}
@@ -15,7 +15,7 @@ use Rattle.ffs_model.proofs.ForCallers.{blocks_read, data_once, data_owned, dire
 use Rattle.ffs_format.specs.Fields.{direct_in}
 use Rattle.ffs_lib.specs.declared.fault.FfsFault.{FfsFault}
 use Rattle.ffs_lib.specs.declared.fault.FfsFault.TheVariants.{NoEntry}
-use Rattle.ffs_lib.specs.Newest.{and_then, file_block, inode_block_in, inode_in, root_in, root_of_type, unless_unused, unless_zero}
+use Rattle.ffs_lib.specs.Newest.{and_then, file_block, inode_block_in, inode_in, root_in, unless_unused, unless_zero}
 use Rattle.ffs_lib.proofs.Edited.{same_root}
 use Rattle.ffs_lib.proofs.Found.{direct_has, pointer_is}
 use Rattle.ffs_lib.proofs.Listed.{fits_newest}

@@ -1,5 +1,5 @@
 -- What a change of one block leaves of the inodes that it does not touch.
-use Rattle.std.proofs.Common.{◌≡◌, ◌≢◌, ℕ, ◌+◌, ◌-◌, ◌*◌, ◌/◌, ◌%◌, ◌^◌, ◌<◌, ◌≤◌, ◌⊎◌, Bool, true, false, List, [], ◌∷◌, length, get_or, Some, None, Ok, Err, refl, sym, ◌∙◌, ap, inl, inr, arith, subst, eq-eqb}
+use Rattle.std.proofs.Common.{◌≡◌, ◌≢◌, ℕ, ◌+◌, ◌-◌, ◌*◌, ◌/◌, ◌%◌, ◌^◌, ◌<◌, ◌≤◌, ◌⊎◌, Bool, true, false, List, [], ◌∷◌, length, get_or, None, Ok, Err, refl, sym, ◌∙◌, ap, inl, inr, arith, subst, eq-eqb}
 use Rattle.std.specs.Prelude.{Contains, Result, ◌==◌, ◌||◌, nat_lt, if◌then◌else◌}
 use Rattle.std.specs.Int.{w32, to_le_bytes}
 use Rattle.std.proofs.lemmas.Nat.{from_le_bytes-to_le_bytes_4}
@@ -14,12 +14,12 @@ use Rattle.xn_model.specs.Rules.{IsConsistent}
 use Rattle.ffs_model.specs.Cuts.{Under, latest, root, step}
 use Rattle.ffs_model.specs.Names.{IsInodes, IsRoot}
 use Rattle.ffs_model.specs.Volumes.{Reads}
-use Rattle.ffs_model.specs.Library.{IsLibrary, inode_at, inode_blocks, inode_mode, library_layout, pointer_word, zeros}
+use Rattle.ffs_model.specs.Library.{IsLibrary, inode_at, inode_mode, library_layout, pointer_word, zeros}
 use Rattle.ffs_model.proofs.ForCallers.{bytes_apart, direct_where, latest_reached, library_reads, mode_read, one_type, proposed_here, proposed_others, started, started_others, under_inodes, word_apart, word_within, zeros_mode}
 use Rattle.ffs_format.specs.Fields.{direct_in}
 use Rattle.ffs_lib.specs.declared.fault.FfsFault.{FfsFault}
 use Rattle.ffs_lib.specs.declared.fault.FfsFault.TheVariants.{NoEntry}
-use Rattle.ffs_lib.specs.Newest.{and_then, byte_in, byte_of, file_block, inode_block_in, inode_in, listing, root_in, root_of_type, unless_unused, unless_zero}
+use Rattle.ffs_lib.specs.Newest.{and_then, byte_in, file_block, inode_block_in, inode_in, root_in, root_of_type, unless_unused, unless_zero}
 use Rattle.ffs_lib.specs.Places.{IsPlace}
 use Rattle.ffs_lib.specs.Results.{SameContents, SameInode}
 use Rattle.ffs_lib.specs.Edits.{edit_at}
@@ -27,7 +27,7 @@ use Rattle.ffs_lib.proofs.Edited.{same_root}
 use Rattle.ffs_lib.proofs.Newest.{in_root_block, not_zero, root_again, unused_is, zero_is}
 use Rattle.ffs_lib.proofs.Listed.{fits_newest}
 use Rattle.ffs_lib.proofs.Frames.{listing_same}
-use Rattle.ffs_lib.proofs.Owners.{Stands, block_at, block_from, direct_block, number_from, one_number, passed, pointers_apart, pointers_at, root_from, stands_from, two_blocks, two_pointers}
+use Rattle.ffs_lib.proofs.Owners.{Stands, block_at, block_from, direct_block, number_from, pointers_apart, pointers_at, root_from, stands_from, two_blocks, two_pointers}
 
 -- Among what is reached only a block of one type changes.
 pub record Touches (T : Types) (v w : ℕ → List ℕ) (fs block ty : ℕ) : Type 0 where

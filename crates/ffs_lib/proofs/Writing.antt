@@ -1,6 +1,6 @@
 -- What an edit of a file's blocks leaves of its bytes.
-use Rattle.std.proofs.Common.{◌≡◌, ◌≢◌, ℕ, zero, suc, ◌+◌, ◌-◌, ◌*◌, ◌/◌, ◌%◌, ◌^◌, ◌<◌, ◌≤◌, ◌⊎◌, Bool, true, false, List, [], ◌∷◌, ◌++◌, length, get_or, map, replicate, Option, None, Ok, Err, refl, sym, ◌∙◌, ap, inl, inr, arith, subst, eq-eqb, length-append}
-use Rattle.std.specs.Prelude.{Contains, OnOk, Result, ◌==◌, ◌&&◌, max, min, nat_le, nat_lt, if◌then◌else◌, slice_set}
+use Rattle.std.proofs.Common.{◌≡◌, ◌≢◌, ℕ, zero, suc, ◌+◌, ◌-◌, ◌*◌, ◌/◌, ◌%◌, ◌^◌, ◌<◌, ◌≤◌, ◌⊎◌, Bool, List, [], ◌∷◌, ◌++◌, length, get_or, Option, None, Ok, Err, refl, sym, ◌∙◌, ap, inl, inr, arith, subst, eq-eqb, length-append}
+use Rattle.std.specs.Prelude.{OnOk, Result, ◌==◌, ◌&&◌, max, min, nat_le, nat_lt, if◌then◌else◌, slice_set}
 use Rattle.std.specs.Int.{w32, to_le_bytes}
 use Rattle.std.proofs.lemmas.Bool.{cases_eq, cases_lt, le-leb, le-ltb, lt-leb, lt-ltb, ne_eqb}
 use Rattle.std.proofs.lemmas.List.{get_or-append-add, get_or-replicate, get_or_append_left}
@@ -15,7 +15,6 @@ use Rattle.xn_model.specs.Calls.{Edit, init_of, propose_of}
 use Rattle.xn_model.specs.Results.{Gives}
 use Rattle.xn_model.specs.Rules.{IsConsistent}
 use Rattle.ffs_model.specs.Cuts.{Under, latest}
-use Rattle.ffs_model.specs.Names.{IsInodes}
 use Rattle.ffs_model.specs.Library.{IsLibrary, inode_mode, library_layout, pointer_word, zeros}
 use Rattle.ffs_model.proofs.ForCallers.{latest_reached, library_reads, one_type, started, proposed_here, proposed_others, started_here, under_inodes, word_apart, word_within, zero_word}
 use Rattle.ffs_format.specs.Fields.{direct_in, fields_of}
@@ -26,7 +25,7 @@ use Rattle.ffs_lib.specs.declared.fault.FfsFault.TheVariants.{IsDir}
 use Rattle.ffs_lib.specs.Edits.{edit_at}
 use Rattle.ffs_lib.specs.Newest.{and_then, byte_in, byte_of, file_block, file_end, file_in, if_file, inode_in}
 use Rattle.ffs_lib.specs.Outcomes.{AttachesBlock, AttachesData, AttachesPointers, HasBlock, Keeps, IsRaised, WritesBytes, WroteBytes}
-use Rattle.ffs_lib.specs.Results.{IsWritten, SameInode, byte_written, end_after}
+use Rattle.ffs_lib.specs.Results.{IsWritten, SameInode, byte_written}
 use Rattle.ffs_lib.proofs.Frames.{byte_apart, byte_within}
 use Rattle.ffs_lib.proofs.Owners.{Stands, block_at, direct_block, not_first, passed, pointers_apart, pointers_at, stands_from, two_blocks}
 use Rattle.ffs_lib.proofs.Newest.{file_is, in_file}

@@ -6,13 +6,13 @@
 --     byte_written, IsWritten    the bytes of a file after a write
 --     IsAs, AsBefore             an inode is as before but for its links
 --     MovedEntry                 an entry went to another directory, or got another name
-use Rattle.std.specs.Prelude.{◌≡◌, ◌≢◌, ℕ, ◌+◌, ◌-◌, ◌<◌, ◌&&◌, List, [], ◌∷◌, ◌++◌, length, max, nat_le, nat_lt, get_or, replicate, Some, Ok, Err, if◌then◌else◌, ◌==◌}
+use Rattle.std.specs.Prelude.{◌≡◌, ◌≢◌, ℕ, ◌+◌, ◌-◌, ◌<◌, ◌&&◌, List, ◌∷◌, ◌++◌, length, max, nat_le, nat_lt, get_or, replicate, Ok, Err, if◌then◌else◌, ◌==◌, Some, None}
 use Rattle.std.specs.Int.{w16, to_le_bytes}
 use Rattle.xn_model.specs.Root.{word_at}
 use Rattle.ffs_model.specs.Library.{inode_mode}
 use Rattle.ffs_lib.specs.declared.fault.FfsFault.TheVariants.{NoEntry}
 use Rattle.ffs_lib.specs.declared.places.Slot.{Slot}
-use Rattle.ffs_lib.specs.Newest.{byte_of, directory_in, file_end, file_in, inode_in, listing, without_entry}
+use Rattle.ffs_lib.specs.Newest.{byte_of, directory_in, file_end, file_in, first_named, inode_in, listing, without_entry}
 
 -- Inodes that stay
 
@@ -34,7 +34,8 @@ OnlyChanges old new fs n = (d : ℕ) → d ≢ n → SameInode old new fs d
 abbrev pub new_inode : ℕ → List ℕ
 new_inode mode = to_le_bytes w16 mode ++ to_le_bytes w16 1 ++ replicate 60 0
 
--- The directory with a number, whose inode was this one, has its old entries in their order and one more, the first of its name.
+-- The directory with a number, whose inode was this one, has its old entries in their order and one more, which is the first with its
+-- name where none had it before.
 pub record HasMore (old new : ℕ → List ℕ) (fs d : ℕ) (inode name : List ℕ) (n : ℕ) : Type 0 where
   pub after : List ℕ
   pub directory : Ok after ≡ directory_in new fs d
@@ -44,6 +45,7 @@ pub record HasMore (old new : ℕ → List ℕ) (fs d : ℕ) (inode name : List 
   pub back : List (Slot × List ℕ)
   pub was : listing old inode ≡ front ++ back
   pub is : listing new after ≡ front ++ (entry, name) ∷ back
+  pub first : None ≡ first_named old inode name → Some entry ≡ first_named new after name
 
 -- A free inode came into use, and the directory with number d names it.
 pub record MadeEntry (old new : ℕ → List ℕ) (fs d : ℕ) (name : List ℕ) (mode n : ℕ) : Type 0 where

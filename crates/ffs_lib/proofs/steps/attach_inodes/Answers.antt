@@ -1,7 +1,6 @@
-use Rattle.std.proofs.Common.{◌≡◌, ◌≢◌, ℕ, ◌*◌, List, [], ◌∷◌, length, None, ap, sym, ◌∙◌}
-use Rattle.std.specs.Int.{w32, to_le_bytes}
+use Rattle.std.proofs.Common.{◌≢◌, ℕ, ◌*◌, List, [], ◌∷◌, length, None, ap, sym, ◌∙◌}
 use Rattle.ffs_model.specs.Cuts.{latest}
-use Rattle.ffs_model.specs.Library.{library_layout, pointer_word, zeros}
+use Rattle.ffs_model.specs.Library.{library_layout, pointer_word}
 use Rattle.ffs_model.proofs.ForCallers.{zeros_pointer}
 use Rattle.ffs_lib.specs.Edits.{edit_at}
 use Rattle.ffs_lib.proofs.Edited.{attached, done_by, same_root}

@@ -4,9 +4,7 @@ use Rattle.ffs_model.specs.Volumes.{VolumeKeeps}
 use Rattle.ffs_lib.specs.Outcomes.{Clears, Enters, LosesName, Names, Relinks, Unlinks}
 use Rattle.ffs_lib.specs.Volumes.{edits_of}
 use Rattle.ffs_lib.proofs.Kept.{named_again, named_less}
-use Rattle.xn_model.specs.Rules.{IsConsistent}
 use Rattle.ffs_model.specs.Cuts.{latest}
-use Rattle.ffs_lib.specs.Results.{MovedEntry}
 use Rattle.ffs_lib.proofs.Moving.{moved}
 use Rattle.ffs_lib.proofs.volume.Volume.move_entry.Goals as goal
 

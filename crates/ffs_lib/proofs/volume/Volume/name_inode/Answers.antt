@@ -1,7 +1,6 @@
 use Rattle.std.proofs.Common.{◌∙◌, ◌≡◌, ◌<◌, ◌-◌, ◌/◌, length, ap, arith, subst}
 use Rattle.ffs_model.specs.Cuts.{latest}
 use Rattle.ffs_lib.specs.Outcomes.{Enters, Names}
-use Rattle.ffs_lib.specs.Results.{new_inode}
 use Rattle.ffs_lib.specs.Volumes.{edits_of}
 use Rattle.ffs_lib.proofs.Entering.{free_none, made_then}
 use Rattle.ffs_lib.proofs.Numbers.{named_then, same_read}
