@@ -3,9 +3,9 @@ use Rattle.std.proofs.Common.{◌≡◌, ℕ, Bool, true, false, List, Option, r
 use Rattle.std.specs.Prelude.{Result, Ok, Err, IfErr, IsOk, ◌||◌, is_some, if◌then◌else◌}
 use Rattle.xn_model.specs.Lives.{StoreState}
 use Rattle.ffs_format.specs.Entries.{is_name}
-use Rattle.ffs_lib.specs.declared.fault.FfsFault.{FfsFault}
-use Rattle.ffs_lib.specs.declared.fault.FfsFault.TheVariants.{BadName, Exists, NoInode, TooLarge}
-use Rattle.ffs_lib.specs.Newest.{RefusesAs, and_then, create_in, directory_in, first_named, has_empty_pointer, has_free_inode, has_inode, has_room, if_new, if_room, is_own, root_in}
+use Rattle.ffs_lookup.specs.declared.fault.FfsFault.{FfsFault}
+use Rattle.ffs_lookup.specs.declared.fault.FfsFault.TheVariants.{BadName, Exists, NoInode, TooLarge}
+use Rattle.ffs_lookup.specs.Newest.{RefusesAs, and_then, create_in, directory_in, first_named, has_empty_pointer, has_free_inode, has_inode, has_room, if_new, if_room, is_own, root_in}
 
 -- a free inode, or a pointer for a new block of them
 

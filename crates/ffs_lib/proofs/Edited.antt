@@ -16,13 +16,12 @@ use Rattle.ffs_model.specs.Volumes.{Reads, VolumeKeeps, CanName, CanUnlink, with
 use Rattle.ffs_model.specs.Library.{library_layout, IsLibrary, half_at, inode_at, inode_blocks, inode_links, inode_mode, pointer_word, with_inode, zeros}
 use Rattle.ffs_model.proofs.ForCallers.{below_written, data_owned, directory_grown, entry_cleared, entry_made, entry_written, file_written, indirect_owned, indirect_reached, inode_forgets, inode_freed, inode_kept, inode_made, inodes_set, library_reads, link_added, link_taken, links_read, mode_read, other_spare, other_written, pointer_set, pointer_written, proposed_others, under_direct, word_part, zeros_direct, zeros_mode, zeros_pointer}
 use Rattle.ffs_model.proofs.Rewritten as rewritten
-use Rattle.ffs_lib.specs.declared.places.Found.{Found}
-use Rattle.ffs_lib.specs.declared.places.Slot.{Slot}
+use Rattle.ffs_lookup.specs.declared.places.Found.{Found}
+use Rattle.ffs_lookup.specs.declared.places.Slot.{Slot}
 use Rattle.ffs_lib.specs.Edits.{edit_at}
-use Rattle.ffs_lib.specs.Places.{IsPlace, IsFound, IsDirectory, IsFile, IsEmptyPointer, IsGap, IsSlot}
+use Rattle.ffs_lookup.specs.Places.{IsPlace, IsFound, IsDirectory, IsFile, IsEmptyPointer, IsGap, IsSlot}
 use Rattle.ffs_lib.specs.Outcomes.{IsMade, IsAdded}
-use Rattle.ffs_lib.proofs.Stores.{gives_ok}
-use Rattle.ffs_lib.proofs.Found.{found_mode, pointer_is}
+use Rattle.ffs_lookup.proofs.ForCallers.{found_mode, gives_ok, pointer_is}
 
 -- an edit that was made, by what is known of it
 pub done_by : (T : Types) (old new : StoreState) (fs b : ℕ) (edit same : Edit) (entry : ℕ) → edit ≡ same → Gives (propose_of T old fs b edit) old new (Ok entry) → propose_of T old fs b same ≡ Ok (entry, new)

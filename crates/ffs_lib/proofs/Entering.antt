@@ -16,25 +16,23 @@ use Rattle.ffs_model.specs.Library.{IsLibrary, direct_word, half_at, inode_at, i
 use Rattle.ffs_model.proofs.ForCallers.{blocks_read, bytes_within, direct_distinct, direct_where, library_reads, one_type, proposed_here, started_here, under_inodes}
 use Rattle.ffs_format.specs.Entries.{entry_of, is_name}
 use Rattle.ffs_format.specs.Fields.{direct_in, fields_of}
-use Rattle.ffs_lib.specs.declared.fault.FfsFault.{FfsFault}
-use Rattle.ffs_lib.specs.declared.fault.FfsFault.TheVariants.{NoEntry, NotDir}
-use Rattle.ffs_lib.specs.declared.places.Free.{Free}
-use Rattle.ffs_lib.specs.declared.places.Slot.{Slot}
+use Rattle.ffs_lookup.specs.declared.fault.FfsFault.{FfsFault}
+use Rattle.ffs_lookup.specs.declared.fault.FfsFault.TheVariants.{NoEntry, NotDir}
+use Rattle.ffs_lookup.specs.declared.places.Free.{Free}
+use Rattle.ffs_lookup.specs.declared.places.Slot.{Slot}
 use Rattle.ffs_lib.specs.Edits.{edit_at}
-use Rattle.ffs_lib.specs.Newest.{and_then, directory_in, file_block, if_directory, inode_block_in, inode_in, listing, unless_unused}
+use Rattle.ffs_lookup.specs.Newest.{and_then, directory_in, file_block, if_directory, inode_block_in, inode_in, listing, unless_unused}
 use Rattle.ffs_lib.specs.Outcomes.{Enters, GrowsDirectory, IsGrown, Stays}
-use Rattle.ffs_lib.specs.Places.{IsFree, IsPlace}
+use Rattle.ffs_lookup.specs.Places.{IsFree, IsPlace}
 use Rattle.ffs_lib.specs.Results.{HasMore, MadeEntry, SameInode, new_inode}
 use Rattle.ffs_lib.proofs.Fields.{blocks_are, set_words}
 use Rattle.ffs_lib.proofs.Firsts.{first_more}
 use Rattle.ffs_lib.proofs.Frames.{listed_at, listed_blocks, listed_in, listing_same}
 use Rattle.ffs_lib.proofs.Listed.{fits_newest}
 use Rattle.ffs_lib.proofs.More.{OneMore, block_more, blocks_more, lists_more, more_by, one_listed, words_more}
-use Rattle.ffs_lib.proofs.Newest.{block_again, good_number, in_inode_block, unused_is, used_is}
+use Rattle.ffs_lookup.proofs.ForCallers.{block_again, gives_ok, good_number, in_inode_block, same_ok, unused_is, used_is}
 use Rattle.ffs_lib.proofs.Owners.{Stands, block_at, block_from, direct_block, only_first, passed, stands_from}
 use Rattle.ffs_lib.proofs.Same.{Touches, begun, begun_some, block_same, data_touched, edited, inode_touched, inodes_same, none_touched, same_on}
-use Rattle.ffs_lib.proofs.Stores.{gives_ok}
-use Rattle.ffs_lib.proofs.Walks.{same_ok}
 
 -- A directory is an inode in use
 

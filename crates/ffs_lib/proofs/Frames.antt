@@ -18,10 +18,10 @@ use Rattle.ffs_model.specs.Names.{IsInodes, IsRoot}
 use Rattle.ffs_model.specs.Library.{IsLibrary, half_at, inode_at, inode_blocks, library_layout}
 use Rattle.ffs_model.proofs.ForCallers.{bytes_apart, bytes_within, half_apart, half_within, latest_reached, one_type, proposed_others}
 use Rattle.ffs_format.specs.Entries.{name_in}
-use Rattle.ffs_lib.specs.declared.places.Found.{Found}
-use Rattle.ffs_lib.specs.declared.places.Slot.{Slot}
-use Rattle.ffs_lib.specs.Newest.{entries_in, entry_at, is_at, listing, name_at, used_entry, without_entry}
-use Rattle.ffs_lib.specs.Places.{IsDirectory}
+use Rattle.ffs_lookup.specs.declared.places.Found.{Found}
+use Rattle.ffs_lookup.specs.declared.places.Slot.{Slot}
+use Rattle.ffs_lookup.specs.Newest.{entries_in, entry_at, is_at, listing, name_at, used_entry, without_entry}
+use Rattle.ffs_lookup.specs.Places.{IsDirectory}
 
 -- Bytes written at a place, and those apart from it
 

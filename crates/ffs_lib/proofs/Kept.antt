@@ -12,9 +12,9 @@ use Rattle.ffs_model.specs.Edits.{HoldsOnly, OneEntry}
 use Rattle.ffs_model.specs.Volumes.{VolumeKeeps, CanName}
 use Rattle.ffs_model.specs.Library.{library_layout, IsLibrary, zeros}
 use Rattle.ffs_model.proofs.ForCallers.{ended_keeps, library_reads, started, started_here, started_holds, started_keeps, started_names}
-use Rattle.ffs_lib.specs.declared.fault.FfsFault.{FfsFault}
+use Rattle.ffs_lookup.specs.declared.fault.FfsFault.{FfsFault}
 use Rattle.ffs_lib.specs.Outcomes.{Keeps, Adds, Attaches, Clears, Grows, IsAdded, Lets, Names, Unlinks}
-use Rattle.ffs_lib.proofs.Stores.{gives_err, gives_ok}
+use Rattle.ffs_lookup.proofs.ForCallers.{gives_err, gives_ok}
 
 pub refused : {A : Type 0} (T : Types) (fs : ℕ) (array : ℕ → Option ℕ) (r : Result (A × StoreState) Refusal) (old new : StoreState) (refusal : Refusal) → Gives r old new (Err refusal) →
     VolumeKeeps T library_layout fs array old → VolumeKeeps T library_layout fs array new

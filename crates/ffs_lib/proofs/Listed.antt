@@ -11,11 +11,11 @@ use Rattle.xn_model.specs.Rules.{IsConsistent}
 use Rattle.ffs_model.specs.Cuts.{Under, root, latest}
 use Rattle.ffs_model.specs.Library.{IsLibrary, inode_at, inode_blocks, library_layout}
 use Rattle.ffs_model.proofs.ForCallers.{blocks_read, bytes_apart, latest_reached, library_reads, proposed_here, proposed_others, under_direct, under_inodes}
-use Rattle.ffs_lib.specs.declared.places.Found.{Found}
-use Rattle.ffs_lib.specs.declared.places.Slot.{Slot}
+use Rattle.ffs_lookup.specs.declared.places.Found.{Found}
+use Rattle.ffs_lookup.specs.declared.places.Slot.{Slot}
 use Rattle.ffs_lib.specs.Edits.{edit_at}
-use Rattle.ffs_lib.specs.Places.{IsDirectory, IsPlace, IsSlot}
-use Rattle.ffs_lib.specs.Newest.{listing, without_entry}
+use Rattle.ffs_lookup.specs.Places.{IsDirectory, IsPlace, IsSlot}
+use Rattle.ffs_lookup.specs.Newest.{listing, without_entry}
 use Rattle.ffs_lib.proofs.Edited.{same_root}
 use Rattle.ffs_lib.proofs.Frames.{directory_kept, listing_same, listing_without, other_type}
 

@@ -14,13 +14,12 @@ use Rattle.ffs_model.specs.Edits.{HoldsOnly}
 use Rattle.ffs_model.specs.Volumes.{VolumeKeeps, no_edits}
 use Rattle.ffs_model.specs.Library.{library_layout, IsLibrary, pointer_word, zeros}
 use Rattle.ffs_model.proofs.ForCallers.{library_reads, nothing_pending, opened_keeps, pointer_set, pointer_written, root_made, rooted, started, started_holds, started_keeps, zeros_pointer}
-use Rattle.ffs_lib.specs.declared.fault.FfsFault.{FfsFault}
+use Rattle.ffs_lookup.specs.declared.fault.FfsFault.{FfsFault}
 use Rattle.ffs_lib.specs.Edits.{edit_at}
 use Rattle.ffs_lib.specs.Outcomes.{Keeps, Leaves, Roots, Starts}
 use Rattle.ffs_lib.specs.Volumes.{MayOpen, edits_of}
-use Rattle.ffs_lib.proofs.Found.{pointer_is}
+use Rattle.ffs_lookup.proofs.ForCallers.{gives_ok, pointer_is}
 use Rattle.ffs_lib.proofs.Kept.{begun_there}
-use Rattle.ffs_lib.proofs.Stores.{gives_ok}
 
 -- a volume that was opened keeps no number
 none_at : (n j : ℕ) → get_or {A = Option ℕ} (replicate n None) j None ≡ None

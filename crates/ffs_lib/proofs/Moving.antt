@@ -17,23 +17,22 @@ use Rattle.ffs_model.specs.Library.{IsLibrary, half_at, inode_blocks, inode_mode
 use Rattle.ffs_model.proofs.ForCallers.{direct_where, library_reads, proposed_here, proposed_others, under_direct, under_inodes}
 use Rattle.ffs_format.specs.Fields.{fields_of}
 use Rattle.ffs_format.specs.Entries.{is_name}
-use Rattle.ffs_lib.specs.declared.fault.FfsFault.{FfsFault}
-use Rattle.ffs_lib.specs.declared.fault.FfsFault.TheVariants.{BadName, NoEntry}
-use Rattle.ffs_lib.specs.declared.places.Found.{Found}
-use Rattle.ffs_lib.specs.declared.places.Slot.{Slot}
+use Rattle.ffs_lookup.specs.declared.fault.FfsFault.{FfsFault}
+use Rattle.ffs_lookup.specs.declared.fault.FfsFault.TheVariants.{BadName, NoEntry}
+use Rattle.ffs_lookup.specs.declared.places.Found.{Found}
+use Rattle.ffs_lookup.specs.declared.places.Slot.{Slot}
 use Rattle.ffs_lib.specs.Edits.{edit_at}
-use Rattle.ffs_lib.specs.Newest.{byte_in, directory_in, file_block, entries_in, entry_at, entry_named, named_in, used_entry, entries_of, first_named, has_name, inode_in, listing, name_at, without_entry}
-use Rattle.ffs_lib.specs.Places.{IsFound, IsSlot}
+use Rattle.ffs_lookup.specs.Newest.{byte_in, directory_in, file_block, entries_in, entry_at, entry_named, named_in, used_entry, entries_of, first_named, has_name, inode_in, listing, name_at, without_entry}
+use Rattle.ffs_lookup.specs.Places.{IsFound, IsSlot}
 use Rattle.ffs_lib.specs.Results.{AsBefore, HasLost, HasMore, HasRenamed, IsAs, MovedEntry, SameInode}
 use Rattle.ffs_lib.proofs.Entering.{directory_from, directory_same, inode_put}
 use Rattle.ffs_lib.proofs.Fields.{same_blocks}
 use Rattle.ffs_lib.proofs.Firsts.{find_listed, find_skip, first_more, named_among, same_bytes}
 use Rattle.ffs_lib.proofs.Frames.{listing_same, listing_without}
-use Rattle.ffs_lib.proofs.Newest.{directory_is, in_directory}
+use Rattle.ffs_lookup.proofs.ForCallers.{directory_is, in_directory, same_ok}
 use Rattle.ffs_lib.proofs.Owners.{Stands, block_at, direct_block, passed, pointers_at, stands_from}
 use Rattle.ffs_lib.proofs.Renaming.{is_some_ok}
 use Rattle.ffs_lib.proofs.Same.{data_touched, edited, file_block_by, inodes_same}
-use Rattle.ffs_lib.proofs.Walks.{same_ok}
 use Rattle.ffs_lib.proofs.Writing.{blocks_agree, byte_same, direct_get}
 
 -- As before, in every way

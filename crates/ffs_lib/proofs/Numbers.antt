@@ -13,7 +13,7 @@ use Rattle.ffs_model.specs.Volumes.{VolumeKeeps, with_edit, without_edit}
 use Rattle.ffs_model.specs.Library.{library_layout, inode_at, inode_mode, IsLibrary}
 use Rattle.ffs_model.proofs.ForCallers.{mode_read, zeros_mode}
 use Rattle.ffs_lib.specs.Outcomes.{IsAdded, Makes, Names}
-use Rattle.ffs_lib.specs.Places.{IsFree}
+use Rattle.ffs_lookup.specs.Places.{IsFree}
 use Rattle.ffs_lib.specs.Volumes.{edits_of}
 
 module _ (added : List (Option ℕ)) (index : ℕ) (low : index < length added) where

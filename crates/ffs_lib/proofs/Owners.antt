@@ -13,14 +13,12 @@ use Rattle.ffs_model.specs.Names.{IsInodes, IsRoot}
 use Rattle.ffs_model.specs.Library.{IsLibrary, direct_word, inode_at, inode_mode, library_layout, pointer_word}
 use Rattle.ffs_model.proofs.ForCallers.{blocks_read, data_once, data_owned, direct_once, indirect_once, indirect_owned, latest_reached, library_reads, one_type, under_inodes, word_part}
 use Rattle.ffs_format.specs.Fields.{direct_in}
-use Rattle.ffs_lib.specs.declared.fault.FfsFault.{FfsFault}
-use Rattle.ffs_lib.specs.declared.fault.FfsFault.TheVariants.{NoEntry}
-use Rattle.ffs_lib.specs.Newest.{and_then, file_block, inode_block_in, inode_in, root_in, unless_unused, unless_zero}
+use Rattle.ffs_lookup.specs.declared.fault.FfsFault.{FfsFault}
+use Rattle.ffs_lookup.specs.declared.fault.FfsFault.TheVariants.{NoEntry}
+use Rattle.ffs_lookup.specs.Newest.{and_then, file_block, inode_block_in, inode_in, root_in, unless_unused, unless_zero}
 use Rattle.ffs_lib.proofs.Edited.{same_root}
-use Rattle.ffs_lib.proofs.Found.{direct_has, pointer_is}
+use Rattle.ffs_lookup.proofs.ForCallers.{block_again, direct_has, good_number, in_inode_block, owner_of, pointer_is, used_is}
 use Rattle.ffs_lib.proofs.Listed.{fits_newest}
-use Rattle.ffs_lib.proofs.Newest.{block_again, good_number, in_inode_block, used_is}
-use Rattle.ffs_lib.proofs.Readable.{owner_of}
 
 -- Look-ups that pass
 

@@ -8,7 +8,7 @@ use Rattle.std.proofs.lemmas.List.{drop-drop, take-append-drop}
 use Rattle.std.proofs.lemmas.List.FromFn.{length-map-range_with_len}
 use Rattle.std.proofs.lemmas.Slice.{drop-put_mid, take-put_mid}
 use borrow.Rule.Slice.PartMut.{put_mid}
-use Rattle.ffs_lib.specs.Newest.{byte_in, byte_of, file_block, file_end, read_into}
+use Rattle.ffs_lookup.specs.Newest.{byte_in, byte_of, file_block, file_end, read_into}
 
 -- a list by its elements
 pub from_each : (f : ℕ → ℕ) (xs : List ℕ) (a : ℕ) → ((k : ℕ) → k < length xs → get_or xs k 0 ≡ f (a + k)) → xs ≡ map f (range_with_len a (length xs))

@@ -5,10 +5,10 @@ use Rattle.std.proofs.lemmas.Bool.{le-ltb, lt-ltb, ne_eqb}
 use Rattle.std.specs.Option.{ok_or}
 use Rattle.xn_model.specs.Lives.{StoreState}
 use Rattle.ffs_format.specs.Entries.{is_name}
-use Rattle.ffs_lib.specs.declared.fault.FfsFault.{FfsFault}
-use Rattle.ffs_lib.specs.declared.fault.FfsFault.TheVariants.{BadName, DirNotEmpty, NoEntry, TooLarge}
-use Rattle.ffs_lib.specs.declared.places.Slot.{Slot}
-use Rattle.ffs_lib.specs.Newest.{RefusesAs, and_then, directory_in, entries_of, entry_named, file_in, has_name, if_empty, is_own, mapped, named_in, rmdir_in, unlink_in, write_in}
+use Rattle.ffs_lookup.specs.declared.fault.FfsFault.{FfsFault}
+use Rattle.ffs_lookup.specs.declared.fault.FfsFault.TheVariants.{BadName, DirNotEmpty, NoEntry, TooLarge}
+use Rattle.ffs_lookup.specs.declared.places.Slot.{Slot}
+use Rattle.ffs_lookup.specs.Newest.{RefusesAs, and_then, directory_in, entries_of, entry_named, file_in, has_name, if_empty, is_own, mapped, named_in, rmdir_in, unlink_in, write_in}
 
 module _ {A B : Type 0} (looked : Result A FfsFault) (result : Result B FfsFault) where
   pub refuses : (fault : FfsFault) (state : StoreState) → Err fault ≡ looked → result ≡ Err fault → RefusesAs looked state state result

@@ -5,11 +5,11 @@ use Rattle.std.specs.Option.{ok_or}
 use Rattle.std.proofs.lemmas.Bool.{and_parts, eqb-true, ne_eqb}
 use Rattle.ffs_model.specs.Library.{inode_links, inode_mode}
 use Rattle.ffs_format.specs.Entries.{is_name}
-use Rattle.ffs_lib.specs.declared.fault.FfsFault.{FfsFault}
-use Rattle.ffs_lib.specs.declared.fault.FfsFault.TheVariants.{BadName, Exists, IsDir, NoEntry, NotDir, TooLarge}
-use Rattle.ffs_lib.specs.declared.places.Slot.{Slot}
-use Rattle.ffs_lib.specs.Newest.{and_then, directory_in, first_named, has_room, if_linkable, if_movable, if_unnamed, inode_in, rename_in}
-use Rattle.ffs_lib.proofs.Newest.{directory_is, in_directory}
+use Rattle.ffs_lookup.specs.declared.fault.FfsFault.{FfsFault}
+use Rattle.ffs_lookup.specs.declared.fault.FfsFault.TheVariants.{BadName, Exists, IsDir, NoEntry, NotDir, TooLarge}
+use Rattle.ffs_lookup.specs.declared.places.Slot.{Slot}
+use Rattle.ffs_lookup.specs.Newest.{and_then, directory_in, first_named, has_room, if_linkable, if_movable, if_unnamed, inode_in, rename_in}
+use Rattle.ffs_lookup.proofs.ForCallers.{directory_is, in_directory}
 use Rattle.ffs_lib.proofs.Owners.{not_first, only_first, passed}
 
 -- an option that was there, or was not

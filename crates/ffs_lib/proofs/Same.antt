@@ -17,14 +17,14 @@ use Rattle.ffs_model.specs.Volumes.{Reads}
 use Rattle.ffs_model.specs.Library.{IsLibrary, inode_at, inode_mode, library_layout, pointer_word, zeros}
 use Rattle.ffs_model.proofs.ForCallers.{bytes_apart, direct_where, latest_reached, library_reads, mode_read, one_type, proposed_here, proposed_others, started, started_others, under_inodes, word_apart, word_within, zeros_mode}
 use Rattle.ffs_format.specs.Fields.{direct_in}
-use Rattle.ffs_lib.specs.declared.fault.FfsFault.{FfsFault}
-use Rattle.ffs_lib.specs.declared.fault.FfsFault.TheVariants.{NoEntry}
-use Rattle.ffs_lib.specs.Newest.{and_then, byte_in, file_block, inode_block_in, inode_in, root_in, root_of_type, unless_unused, unless_zero}
-use Rattle.ffs_lib.specs.Places.{IsPlace}
+use Rattle.ffs_lookup.specs.declared.fault.FfsFault.{FfsFault}
+use Rattle.ffs_lookup.specs.declared.fault.FfsFault.TheVariants.{NoEntry}
+use Rattle.ffs_lookup.specs.Newest.{and_then, byte_in, file_block, inode_block_in, inode_in, root_in, root_of_type, unless_unused, unless_zero}
+use Rattle.ffs_lookup.specs.Places.{IsPlace}
 use Rattle.ffs_lib.specs.Results.{SameContents, SameInode}
 use Rattle.ffs_lib.specs.Edits.{edit_at}
 use Rattle.ffs_lib.proofs.Edited.{same_root}
-use Rattle.ffs_lib.proofs.Newest.{in_root_block, not_zero, root_again, unused_is, zero_is}
+use Rattle.ffs_lookup.proofs.ForCallers.{in_root_block, not_zero, root_again, unused_is, zero_is}
 use Rattle.ffs_lib.proofs.Listed.{fits_newest}
 use Rattle.ffs_lib.proofs.Frames.{listing_same}
 use Rattle.ffs_lib.proofs.Owners.{Stands, block_at, block_from, direct_block, number_from, pointers_apart, pointers_at, root_from, stands_from, two_blocks, two_pointers}

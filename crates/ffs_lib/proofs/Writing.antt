@@ -18,21 +18,19 @@ use Rattle.ffs_model.specs.Cuts.{Under, latest}
 use Rattle.ffs_model.specs.Library.{IsLibrary, inode_mode, library_layout, pointer_word, zeros}
 use Rattle.ffs_model.proofs.ForCallers.{latest_reached, library_reads, one_type, started, proposed_here, proposed_others, started_here, under_inodes, word_apart, word_within, zero_word}
 use Rattle.ffs_format.specs.Fields.{direct_in, fields_of}
-use Rattle.ffs_lib.specs.declared.places.Found.{Found}
-use Rattle.ffs_lib.specs.Places.{IsFile}
-use Rattle.ffs_lib.specs.declared.fault.FfsFault.{FfsFault}
-use Rattle.ffs_lib.specs.declared.fault.FfsFault.TheVariants.{IsDir}
+use Rattle.ffs_lookup.specs.declared.places.Found.{Found}
+use Rattle.ffs_lookup.specs.Places.{IsFile}
+use Rattle.ffs_lookup.specs.declared.fault.FfsFault.{FfsFault}
+use Rattle.ffs_lookup.specs.declared.fault.FfsFault.TheVariants.{IsDir}
 use Rattle.ffs_lib.specs.Edits.{edit_at}
-use Rattle.ffs_lib.specs.Newest.{and_then, byte_in, byte_of, file_block, file_end, file_in, if_file, inode_in}
+use Rattle.ffs_lookup.specs.Newest.{and_then, byte_in, byte_of, file_block, file_end, file_in, if_file, inode_in}
 use Rattle.ffs_lib.specs.Outcomes.{AttachesBlock, AttachesData, AttachesPointers, HasBlock, Keeps, IsRaised, WritesBytes, WroteBytes}
 use Rattle.ffs_lib.specs.Results.{IsWritten, SameInode, byte_written}
 use Rattle.ffs_lib.proofs.Frames.{byte_apart, byte_within}
 use Rattle.ffs_lib.proofs.Owners.{Stands, block_at, direct_block, not_first, passed, pointers_apart, pointers_at, stands_from, two_blocks}
-use Rattle.ffs_lib.proofs.Newest.{file_is, in_file}
+use Rattle.ffs_lookup.proofs.ForCallers.{file_is, gives_ok, in_file, same_ok}
 use Rattle.ffs_lib.proofs.Entering.{get_mapped, inode_put}
 use Rattle.ffs_lib.proofs.Same.{Touches, avoids, begun, begun_some, data_touched, edited, file_block_by, file_block_same, none_touched, pointers_touched, reached_before, inodes_same, same_on, word_read}
-use Rattle.ffs_lib.proofs.Stores.{gives_ok}
-use Rattle.ffs_lib.proofs.Walks.{same_ok}
 
 -- A file is an inode in use
 

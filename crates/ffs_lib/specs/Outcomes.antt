@@ -11,12 +11,12 @@ use Rattle.ffs_model.specs.Edits.{HoldsOnly, OneEntry}
 use Rattle.ffs_model.specs.Volumes.{VolumeKeeps, CanName, CanUnlink, with_edit, without_edit}
 use Rattle.ffs_model.specs.Library.{inode_blocks, library_layout, IsLibrary, zeros}
 use Rattle.xn_model.specs.Rules.{IsConsistent}
-use Rattle.ffs_lib.specs.declared.places.Found.{Found}
-use Rattle.ffs_lib.specs.declared.places.Slot.{Slot}
+use Rattle.ffs_lookup.specs.declared.places.Found.{Found}
+use Rattle.ffs_lookup.specs.declared.places.Slot.{Slot}
 use Rattle.ffs_format.specs.Fields.{fields_of}
-use Rattle.ffs_lib.specs.Newest.{byte_of, directory_in, file_block, file_in, inode_in, listing, without_entry}
+use Rattle.ffs_lookup.specs.Newest.{byte_of, directory_in, file_block, file_in, inode_in, listing, without_entry}
 use Rattle.ffs_lib.specs.Results.{AsBefore, HasMore, SameInode, byte_written}
-use Rattle.ffs_lib.specs.Places.{IsDirectory}
+use Rattle.ffs_lookup.specs.Places.{IsDirectory}
 
 abbrev pub Keeps : Types → ℕ → StoreState → StoreState → Type 0
 Keeps T fs old new = IsLibrary T → (array : ℕ → Option ℕ) → VolumeKeeps T library_layout fs array old → VolumeKeeps T library_layout fs array new

@@ -10,9 +10,9 @@ use Rattle.std.specs.Prelude.{◌≡◌, ◌≢◌, ℕ, ◌+◌, ◌-◌, ◌<�
 use Rattle.std.specs.Int.{w16, to_le_bytes}
 use Rattle.xn_model.specs.Root.{word_at}
 use Rattle.ffs_model.specs.Library.{inode_mode}
-use Rattle.ffs_lib.specs.declared.fault.FfsFault.TheVariants.{NoEntry}
-use Rattle.ffs_lib.specs.declared.places.Slot.{Slot}
-use Rattle.ffs_lib.specs.Newest.{byte_of, directory_in, file_end, file_in, first_named, inode_in, listing, without_entry}
+use Rattle.ffs_lookup.specs.declared.fault.FfsFault.TheVariants.{NoEntry}
+use Rattle.ffs_lookup.specs.declared.places.Slot.{Slot}
+use Rattle.ffs_lookup.specs.Newest.{byte_of, directory_in, file_end, file_in, first_named, inode_in, listing, without_entry}
 
 -- Inodes that stay
 

@@ -4,17 +4,16 @@ ghost use Rattle.std.specs.Prelude.{◌≡◌, ◌≢◌, ◌<◌, ◌≤◌, �
 ghost use Rattle.std.specs.List.{range_with_len};
 ghost use Rattle.ffs_model.specs.Cuts.{Under, latest};
 ghost use Rattle.ffs_model.specs.Library.{IsLibrary};
-ghost use Rattle.ffs_lib.specs.Newest.{byte_in, byte_of, file_block};
+ghost use Rattle.ffs_lookup.specs.Newest.{byte_in, byte_of, file_block};
 ghost use Rattle.ffs_lib.specs.Outcomes.{Keeps, AttachesBlock, AttachesData, AttachesPointers, RaisesSize, WritesBytes};
-ghost use Rattle.ffs_lib.specs.Places.{IsFile};
+ghost use Rattle.ffs_lookup.specs.Places.{IsFile};
 
 use crate::edits;
-use crate::fault::FfsFault;
-use crate::places::{Found, find_file, read_block};
 use crate::steps::{DATA, POINTER_BLOCK, POINTERS, block_with, forgotten};
 use edit_list::{EditId, Fs};
 use ffs_format::inodes::{DIRECT_POINTERS, INODE_LEN};
 use ffs_format::{pointer, pointer_bytes};
+use ffs_lookup::{FfsFault, Found, find_file, read_block};
 use std::alloc::Global;
 use xn_state::Store;
 

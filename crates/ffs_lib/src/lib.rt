@@ -4,11 +4,9 @@
 
 mod data;
 mod edits;
-mod fault;
-mod places;
 mod steps;
 mod volume;
 
 pub use edit_list::{EditId, Fs};
-pub use fault::FfsFault;
+pub use ffs_lookup::FfsFault;
 pub use volume::Volume;

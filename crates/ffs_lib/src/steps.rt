@@ -4,21 +4,20 @@ ghost use Rattle.std.specs.Prelude.{◌≡◌, ◌≢◌, ◌<◌, ◌≤◌, �
 ghost use Rattle.xn_model.specs.Lists.{put};
 ghost use Rattle.ffs_model.specs.Library.{zeros};
 ghost use Rattle.ffs_format.specs.Entries.{is_name};
-ghost use Rattle.ffs_lib.specs.Places.{IsFree, IsSlot};
+ghost use Rattle.ffs_lookup.specs.Places.{IsFree, IsSlot};
 ghost use Rattle.ffs_model.specs.Cuts.{latest};
 ghost use Rattle.ffs_lib.specs.Results.{new_inode};
 ghost use Rattle.ffs_lib.specs.Outcomes.{Keeps, Makes, Attaches, Adds, Names, Grows, Lets, Clears, Unlinks, Drops, StaysListed, LosesEntry, Stays, PutsInode, GrowsDirectory, Enters, LosesName, Relinks};
 
 use crate::edits;
-use crate::fault::FfsFault;
-use crate::places::{
-    DIRECTORY, Found, Free, Room, Slot, find_directory, find_file, find_inode, find_pointer,
-    find_room, inode_block, read_block, root_block,
-};
 use edit_list::{EditId, Fs};
 use ffs_format::entries::ENTRY_LEN;
 use ffs_format::inodes::{DIRECT_POINTERS, INODE_LEN};
 use ffs_format::{Inode, entry_bytes, pointer, pointer_bytes};
+use ffs_lookup::{
+    DIRECTORY, FfsFault, Found, Free, Room, Slot, find_directory, find_file, find_inode,
+    find_pointer, find_room, inode_block, read_block, root_block,
+};
 use std::alloc::{AllocError, Global};
 use xn_state::Store;
 

@@ -6,21 +6,16 @@ ghost use Rattle.ffs_format.specs.Entries.{is_name};
 ghost use Rattle.ffs_model.specs.Cuts.{latest};
 ghost use Rattle.ffs_model.specs.Names.{IsInodes};
 ghost use Rattle.ffs_model.specs.Library.{library_layout, inode_mode, IsLibrary};
-ghost use Rattle.ffs_lib.specs.Newest.{RefusesAs, TakesEntry, create_in, directory_in, first_named, has_inode, root_in, file_in, is_own, listing, named_in, names_at, names_in, read_count, read_into, rename_in, rmdir_in, unlink_in, without_entry, write_in};
-ghost use Rattle.ffs_lib.specs.declared.places.Found.{Found};
-ghost use Rattle.ffs_lib.specs.declared.places.Slot.{Slot};
+ghost use Rattle.ffs_lookup.specs.Newest.{RefusesAs, TakesEntry, create_in, directory_in, first_named, has_inode, root_in, file_in, is_own, listing, named_in, names_at, names_in, read_count, read_into, rename_in, rmdir_in, unlink_in, without_entry, write_in};
+ghost use Rattle.ffs_lookup.specs.declared.places.Found.{Found};
+ghost use Rattle.ffs_lookup.specs.declared.places.Slot.{Slot};
 ghost use Rattle.ffs_model.specs.Volumes.{VolumeKeeps, no_edits};
-ghost use Rattle.ffs_lib.specs.Places.{IsDirectory, IsFree, IsSlot};
+ghost use Rattle.ffs_lookup.specs.Places.{IsDirectory, IsFree, IsSlot};
 ghost use Rattle.ffs_lib.specs.Outcomes.{Keeps, Leaves, Roots, Starts, Stays};
 ghost use Rattle.ffs_lib.specs.Results.{IsWritten, MadeEntry, MovedEntry, OnlyChanges};
 
 use crate::data::{BLOCK_LEN, FILE_BLOCKS, raise_size, read_part, write_block};
 use crate::edits;
-use crate::fault::FfsFault;
-use crate::places::{
-    DIRECTORY, Free, INODE_BLOCKS, ROOT, Slot, find_directory, find_entry, find_file, find_free,
-    find_inode, find_pointer, find_room, inode_block, is_empty, read_block, root_block,
-};
 use crate::steps::{
     INODE_BLOCK, add_inodes, add_link, block_with, clear_entry, drop_data, enter, forgotten,
     free_inode, make_inode, take_link,
@@ -28,6 +23,10 @@ use crate::steps::{
 use edit_list::{EditId, Fs};
 use ffs_format::inodes::{DIRECT_POINTERS, INODES};
 use ffs_format::{ENTRIES, Inode, entry_inode, entry_name, is_name, pointer, pointer_bytes};
+use ffs_lookup::{
+    DIRECTORY, FfsFault, Free, INODE_BLOCKS, ROOT, Slot, find_directory, find_entry, find_file,
+    find_free, find_inode, find_pointer, find_room, inode_block, is_empty, read_block, root_block,
+};
 use std::alloc::{AllocError, Global};
 use xn_model::Refusal;
 use xn_state::Store;

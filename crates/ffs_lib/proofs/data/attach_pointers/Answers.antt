@@ -10,7 +10,7 @@ use Rattle.ffs_model.specs.Cuts.{latest}
 use Rattle.ffs_model.proofs.ForCallers.{library_reads, under_inodes}
 use Rattle.ffs_lib.specs.Edits.{edit_at}
 use Rattle.ffs_lib.specs.Outcomes.{WroteBytes}
-use Rattle.ffs_lib.proofs.Walks.{same_ok}
+use Rattle.ffs_lookup.proofs.ForCallers.{same_ok}
 use Rattle.ffs_lib.proofs.Writing.{file_others, pointers_attached}
 use Rattle.ffs_lib.proofs.data.attach_pointers.Goals as goal
 

@@ -3,8 +3,7 @@ use Rattle.ffs_model.specs.Cuts.{latest, step}
 use Rattle.ffs_model.specs.Library.{library_layout, pointer_word}
 use Rattle.ffs_model.proofs.ForCallers.{data_owned, library_reads, under_direct}
 use Rattle.ffs_lib.proofs.Edited.{pointers_reached}
-use Rattle.ffs_lib.proofs.Found.{found_has}
-use Rattle.ffs_lib.proofs.Newest.{not_ok}
+use Rattle.ffs_lookup.proofs.ForCallers.{found_has, not_ok}
 use Rattle.ffs_lib.proofs.data.file_block.Goals as goal
 
 pub returns-then-index-lt-DIRECT_POINTERS-clause-reached : goal.returns-then-index-lt-DIRECT_POINTERS-clause-reached

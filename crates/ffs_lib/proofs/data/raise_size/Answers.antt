@@ -8,7 +8,7 @@ use Rattle.ffs_lib.proofs.Kept.{refused}
 use Rattle.ffs_model.specs.Cuts.{latest}
 use Rattle.ffs_lib.specs.Edits.{edit_at}
 use Rattle.ffs_lib.specs.Outcomes.{IsRaised}
-use Rattle.ffs_lib.proofs.Walks.{same_ok}
+use Rattle.ffs_lookup.proofs.ForCallers.{same_ok}
 use Rattle.ffs_lib.proofs.Writing.{file_others, size_raised}
 use Rattle.ffs_lib.proofs.data.raise_size.Goals as goal
 

@@ -3,13 +3,12 @@ use Rattle.std.specs.Prelude.{OnOk}
 use Rattle.ffs_lib.specs.Edits.{edit_at}
 use Rattle.ffs_lib.specs.Outcomes.{Keeps}
 use Rattle.ffs_lib.proofs.Edited.{done_by, file_data}
-use Rattle.ffs_lib.proofs.Found.{found_has}
+use Rattle.ffs_lookup.proofs.ForCallers.{found_has, same_ok}
 use Rattle.ffs_lib.proofs.Kept.{data_then, refused}
 use Rattle.xn_model.specs.Rules.{IsConsistent}
 use Rattle.ffs_model.specs.Cuts.{latest}
 use Rattle.ffs_lib.specs.Outcomes.{AttachesBlock, WroteBytes}
 use Rattle.ffs_lib.proofs.Owners.{direct_block}
-use Rattle.ffs_lib.proofs.Walks.{same_ok}
 use Rattle.ffs_lib.proofs.Writing.{data_written, file_grown}
 use Rattle.ffs_lib.proofs.data.write_direct.Goals as goal
 

@@ -9,7 +9,7 @@ use Rattle.std.proofs.lemmas.Result.{on_ok_weaker}
 use Rattle.xn_model.specs.Rules.{IsConsistent}
 use Rattle.ffs_model.specs.Cuts.{latest}
 use Rattle.ffs_lib.specs.Outcomes.{AttachesData, WritesBytes, WroteBytes}
-use Rattle.ffs_lib.proofs.Walks.{same_ok}
+use Rattle.ffs_lookup.proofs.ForCallers.{same_ok}
 use Rattle.ffs_lib.proofs.Writing.{attaches_data, data_written, file_grown, indirect_block, writes_after}
 use Rattle.ffs_lib.proofs.data.write_indirect.Goals as goal
 

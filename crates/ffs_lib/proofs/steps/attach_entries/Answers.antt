@@ -10,7 +10,7 @@ use Rattle.ffs_model.proofs.ForCallers.{proposed_others}
 use Rattle.ffs_lib.specs.Edits.{edit_at}
 use Rattle.ffs_lib.proofs.Edited.{done_by, grown}
 use Rattle.ffs_lib.proofs.Entering.{directory_from, inode_put}
-use Rattle.ffs_lib.proofs.Newest.{directory_is, in_directory}
+use Rattle.ffs_lookup.proofs.ForCallers.{directory_is, in_directory}
 use Rattle.ffs_lib.proofs.Owners.{stands_from}
 use Rattle.ffs_lib.proofs.Fields.{one_more}
 use Rattle.ffs_lib.proofs.steps.attach_entries.Goals as goal

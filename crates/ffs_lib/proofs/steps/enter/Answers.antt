@@ -8,13 +8,13 @@ use Rattle.ffs_model.specs.Library.{half_at, inode_blocks, library_layout, zeros
 use Rattle.ffs_model.proofs.ForCallers.{blocks_read, one_entry}
 use Rattle.ffs_lib.specs.Edits.{edit_at}
 use Rattle.ffs_lib.specs.Outcomes.{Grows, GrowsDirectory, Keeps}
-use Rattle.ffs_lib.specs.Places.{IsRoom}
+use Rattle.ffs_lookup.specs.Places.{IsRoom}
 use Rattle.ffs_lib.specs.Results.{HasMore}
 use Rattle.ffs_lib.proofs.Edited.{done_by, entered}
 use Rattle.ffs_lib.proofs.Entering.{entered_then, gap_entered}
 use Rattle.ffs_lib.proofs.Fields.{entry_names}
 use Rattle.ffs_lib.proofs.Kept.{begun_then, refused}
-use Rattle.ffs_lib.proofs.Walks.{same_ok}
+use Rattle.ffs_lookup.proofs.ForCallers.{same_ok}
 use Rattle.ffs_lib.proofs.steps.enter.Goals as goal
 
 pub returns-in_err-propose-in-Entry-clause-keeps : goal.returns-in_err-propose-in-Entry-clause-keeps

@@ -2,8 +2,8 @@ use Rattle.std.proofs.Common.{◌≡◌, ℕ, ◌+◌, ◌++◌, ◌∙◌, List
 use Rattle.std.specs.List.{range_with_len}
 use Rattle.std.proofs.lemmas.List.{map-append}
 use Rattle.std.proofs.lemmas.Result.{IfOk-from_err}
-use Rattle.ffs_lib.specs.Newest.{names_at}
-use Rattle.ffs_lib.proofs.Walks.{place_more, place_past}
+use Rattle.ffs_lookup.specs.Newest.{names_at}
+use Rattle.ffs_lookup.proofs.ForCallers.{place_more, place_past}
 use Rattle.ffs_lib.proofs.volume.add_names.Goals as goal
 
 pub returns-in_err-push : goal.returns-in_err-push

@@ -2,10 +2,9 @@ use Rattle.std.proofs.Common.{◌≡◌, ◌∙◌, ap, false, sym}
 use Rattle.std.specs.Prelude.{is_some}
 use Rattle.std.proofs.lemmas.Result.{err_from_is_err_and}
 use Rattle.ffs_model.specs.Cuts.{latest}
-use Rattle.ffs_lib.specs.Newest.{create_in, first_named}
+use Rattle.ffs_lookup.specs.Newest.{create_in, first_named}
 use Rattle.ffs_lib.proofs.Creating.{bad_name, create_nothing, is_found, may_create, no_inode, no_room, taken}
-use Rattle.ffs_lib.proofs.Newest.{root_again}
-use Rattle.ffs_lib.proofs.Walks.{same_ok}
+use Rattle.ffs_lookup.proofs.ForCallers.{root_again, same_ok}
 use Rattle.ffs_lib.proofs.volume.look_up_new.Goals as goal
 
 pub returns-in_err-found-clause-exact : goal.returns-in_err-found-clause-exact

@@ -4,10 +4,8 @@ use Rattle.std.proofs.lemmas.Result.{err_from_is_err_and}
 use Rattle.ffs_model.specs.Cuts.{latest}
 use Rattle.ffs_model.specs.Library.{library_layout}
 use Rattle.ffs_model.proofs.ForCallers.{library_reads, under_direct}
-use Rattle.ffs_lib.specs.Newest.{names_at}
-use Rattle.ffs_lib.proofs.Found.{found_has}
-use Rattle.ffs_lib.proofs.Newest.{not_ok}
-use Rattle.ffs_lib.proofs.Walks.{names_are, names_more, names_past, no_names}
+use Rattle.ffs_lookup.specs.Newest.{names_at}
+use Rattle.ffs_lookup.proofs.ForCallers.{found_has, names_are, names_more, names_past, no_names, not_ok}
 use Rattle.ffs_lib.proofs.volume.Volume.list.Goals as goal
 
 pub returns-in_err-found-clause-faults : goal.returns-in_err-found-clause-faults

@@ -1,6 +1,6 @@
 use Rattle.std.proofs.Common.{◌≡◌, map}
 use Rattle.ffs_model.specs.Cuts.{latest}
-use Rattle.ffs_lib.proofs.Walks.{first_names}
+use Rattle.ffs_lookup.proofs.ForCallers.{first_names}
 use Rattle.ffs_lib.proofs.volume.Volume.list.Given as goal
 
 abbrev pub invariant-loop-i : goal.invariant-loop-i

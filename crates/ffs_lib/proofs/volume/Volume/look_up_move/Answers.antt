@@ -5,9 +5,9 @@ use Rattle.std.proofs.lemmas.Result.{err_from_is_err_and}
 use Rattle.ffs_model.specs.Cuts.{latest}
 use Rattle.ffs_model.specs.Library.{inode_links, inode_mode}
 use Rattle.ffs_format.specs.Entries.{is_name}
-use Rattle.ffs_lib.specs.Newest.{first_named}
+use Rattle.ffs_lookup.specs.Newest.{first_named}
 use Rattle.ffs_lib.proofs.Renaming.{bad_names, is_some_ok, may_move, most_links, new_taken, no_directory, no_first, no_inode_named, no_name, no_room_there, no_second, none_is_none, other_directory}
-use Rattle.ffs_lib.proofs.Walks.{same_ok}
+use Rattle.ffs_lookup.proofs.ForCallers.{same_ok}
 use Rattle.ffs_lib.proofs.volume.Volume.look_up_move.Goals as goal
 
 pub returns-in_err-from-clause-exact : goal.returns-in_err-from-clause-exact

@@ -1,7 +1,7 @@
 use Rattle.std.proofs.Common.{◌≡◌, ℕ, List, Ok, refl}
 use Rattle.std.proofs.lemmas.Result.{IfOk-weaker, err_from_is_err_and}
 use Rattle.ffs_model.specs.Cuts.{latest}
-use Rattle.ffs_lib.specs.Newest.{create_in, directory_in}
+use Rattle.ffs_lookup.specs.Newest.{create_in, directory_in}
 use Rattle.ffs_lib.specs.Results.{MadeEntry}
 use Rattle.ffs_lib.proofs.Creating.{in_a_directory, passes}
 use Rattle.ffs_lib.proofs.Kept.{handed_with}

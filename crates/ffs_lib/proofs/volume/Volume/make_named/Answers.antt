@@ -1,6 +1,6 @@
 use Rattle.std.proofs.Common.{◌≡◌, ℕ, List, Ok, sym, ◌∙◌, subst}
 use Rattle.ffs_model.specs.Cuts.{latest}
-use Rattle.ffs_lib.specs.Newest.{directory_in}
+use Rattle.ffs_lookup.specs.Newest.{directory_in}
 use Rattle.ffs_lib.specs.Results.{MadeEntry}
 use Rattle.ffs_lib.proofs.Entering.{directory_same, stays_made}
 use Rattle.ffs_lib.proofs.volume.Volume.make_named.Goals as goal

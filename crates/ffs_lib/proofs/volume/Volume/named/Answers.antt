@@ -1,10 +1,10 @@
 use Rattle.std.proofs.Common.{sym, ◌∙◌}
 use Rattle.std.proofs.lemmas.Result.{err_from_is_err_and}
 use Rattle.ffs_model.specs.Cuts.{latest}
-use Rattle.ffs_lib.specs.Newest.{first_named}
-use Rattle.ffs_lib.specs.Places.{IsSlot}
+use Rattle.ffs_lookup.specs.Newest.{first_named}
+use Rattle.ffs_lookup.specs.Places.{IsSlot}
 use Rattle.ffs_lib.proofs.Kept.{on_ok}
-use Rattle.ffs_lib.proofs.Walks.{badly_named, if_some_ok, named_is, nothing_named, same_ok}
+use Rattle.ffs_lookup.proofs.ForCallers.{badly_named, if_some_ok, named_is, nothing_named, same_ok}
 use Rattle.ffs_lib.proofs.volume.Volume.named.Goals as goal
 
 pub returns-in_err-found-clause-exact : goal.returns-in_err-found-clause-exact

@@ -1,6 +1,6 @@
 use Rattle.std.proofs.Common.{◌≡◌, ◌+◌, ◌-◌, ◌∙◌, ap, arith, length, min}
 use Rattle.ffs_model.specs.Cuts.{latest}
-use Rattle.ffs_lib.specs.Newest.{byte_of, file_end, read_into}
+use Rattle.ffs_lookup.specs.Newest.{byte_of, file_end, read_into}
 use Rattle.ffs_lib.proofs.Parts.{read_done, read_step}
 use Rattle.ffs_lib.proofs.volume.Volume.read.Goals as goal
 

@@ -1,7 +1,7 @@
 use Rattle.std.proofs.Common.{◌≡◌, ◌++◌, ◌-◌, ◌≤◌, drop, map}
 use Rattle.std.specs.List.{range_with_len}
 use Rattle.ffs_model.specs.Cuts.{latest}
-use Rattle.ffs_lib.specs.Newest.{byte_of}
+use Rattle.ffs_lookup.specs.Newest.{byte_of}
 use Rattle.ffs_lib.proofs.volume.Volume.read.Given as goal
 
 abbrev pub invariant-loop-done : goal.invariant-loop-done

@@ -1,13 +1,13 @@
 use Rattle.std.proofs.Common.{◌∙◌, refl, subst, sym}
 use Rattle.std.proofs.lemmas.Result.{err_from_is_err_and, on_ok_weaker}
 use Rattle.ffs_model.specs.Cuts.{latest}
-use Rattle.ffs_lib.specs.Newest.{rename_in}
+use Rattle.ffs_lookup.specs.Newest.{rename_in}
 use Rattle.ffs_lib.proofs.Refusals.{goes_on, refuses}
-use Rattle.ffs_lib.specs.declared.places.Slot.{Slot}
+use Rattle.ffs_lookup.specs.declared.places.Slot.{Slot}
 use Rattle.ffs_lib.specs.Results.{MovedEntry}
 use Rattle.ffs_lib.proofs.Kept.{handed_on}
 use Rattle.ffs_lib.proofs.Renaming.{can_move}
-use Rattle.ffs_lib.proofs.Walks.{same_ok}
+use Rattle.ffs_lookup.proofs.ForCallers.{same_ok}
 use Rattle.ffs_lib.proofs.volume.Volume.rename.Goals as goal
 
 pub returns-in_err-slot-clause-faults : goal.returns-in_err-slot-clause-faults

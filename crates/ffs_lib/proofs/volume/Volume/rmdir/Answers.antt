@@ -2,11 +2,10 @@ use Rattle.std.proofs.Common.{◌≡◌, ◌≢◌, ◌∙◌, ℕ, true, List, 
 use Rattle.std.specs.Prelude.{◌==◌}
 use Rattle.std.proofs.lemmas.Result.{err_from_is_err_and, on_ok_weaker}
 use Rattle.ffs_model.specs.Cuts.{latest}
-use Rattle.ffs_lib.specs.Newest.{TakesEntry, directory_in, entries_of, listing, rmdir_in, without_entry}
-use Rattle.ffs_lib.specs.declared.places.Slot.{Slot}
+use Rattle.ffs_lookup.specs.Newest.{TakesEntry, directory_in, entries_of, listing, rmdir_in, without_entry}
+use Rattle.ffs_lookup.specs.declared.places.Slot.{Slot}
 use Rattle.ffs_lib.proofs.Kept.{handed_on}
-use Rattle.ffs_lib.proofs.Newest.{directory_again, is_numbered}
-use Rattle.ffs_lib.proofs.Walks.{same_ok}
+use Rattle.ffs_lookup.proofs.ForCallers.{directory_again, is_numbered, same_ok}
 use Rattle.ffs_lib.proofs.Refusals.{entries_left, goes_on, none_left, not_bare, refuses, rmdir_is, rmdir_nothing}
 use Rattle.ffs_lib.proofs.volume.Volume.rmdir.Goals as goal
 

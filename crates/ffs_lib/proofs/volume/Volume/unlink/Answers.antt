@@ -1,11 +1,10 @@
 use Rattle.std.proofs.Common.{◌≡◌, ◌≢◌, ◌∙◌, ℕ, List, Err, Ok, ap, refl, subst, sym}
 use Rattle.std.proofs.lemmas.Result.{err_from_is_err_and, on_ok_weaker}
 use Rattle.ffs_model.specs.Cuts.{latest}
-use Rattle.ffs_lib.specs.Newest.{TakesEntry, directory_in, listing, unlink_in, without_entry}
-use Rattle.ffs_lib.specs.declared.places.Slot.{Slot}
+use Rattle.ffs_lookup.specs.Newest.{TakesEntry, directory_in, listing, unlink_in, without_entry}
+use Rattle.ffs_lookup.specs.declared.places.Slot.{Slot}
 use Rattle.ffs_lib.proofs.Kept.{handed_on}
-use Rattle.ffs_lib.proofs.Newest.{directory_again, is_numbered, not_both}
-use Rattle.ffs_lib.proofs.Walks.{same_ok}
+use Rattle.ffs_lookup.proofs.ForCallers.{directory_again, is_numbered, not_both, same_ok}
 use Rattle.ffs_lib.proofs.Refusals.{goes_on, refuses, unlink_is, unlink_nothing}
 use Rattle.ffs_lib.proofs.volume.Volume.unlink.Goals as goal
 

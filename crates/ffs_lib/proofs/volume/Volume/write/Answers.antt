@@ -1,7 +1,7 @@
 use Rattle.std.proofs.Common.{◌+◌, ◌<◌, arith, length, refl}
 use Rattle.std.proofs.lemmas.Result.{err_from_is_err_and}
 use Rattle.ffs_model.specs.Cuts.{latest}
-use Rattle.ffs_lib.specs.Newest.{write_in}
+use Rattle.ffs_lookup.specs.Newest.{write_in}
 use Rattle.ffs_lib.proofs.Kept.{handed_on}
 use Rattle.ffs_lib.proofs.Refusals.{fits_file, goes_on, refuses, too_large, write_nothing}
 use Rattle.ffs_lib.proofs.volume.Volume.write.Goals as goal

@@ -1,7 +1,7 @@
 use Rattle.std.proofs.Common.{◌≡◌, ◌≢◌, ◌+◌, ◌≤◌, ◌++◌, ℕ, List, length}
 use Rattle.std.specs.Prelude.{MatchOption, Ok}
 use Rattle.ffs_model.specs.Cuts.{latest}
-use Rattle.ffs_lib.specs.Newest.{file_in}
+use Rattle.ffs_lookup.specs.Newest.{file_in}
 use Rattle.ffs_lib.specs.Outcomes.{WroteBytes}
 use Rattle.ffs_lib.specs.Results.{OnlyChanges}
 use Rattle.ffs_lib.specs.Volumes.{IsVolume}

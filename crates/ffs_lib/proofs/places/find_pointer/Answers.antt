@@ -1,6 +1,0 @@
-use Rattle.ffs_model.specs.Cuts.{root}
-use Rattle.ffs_lib.proofs.Newest.{not_ok}
-use Rattle.ffs_lib.proofs.places.find_pointer.Goals as goal
-
-pub returns-in_err-read_block-clause-exact : goal.returns-in_err-read_block-clause-exact
-returns-in_err-read_block-clause-exact g c = λ top e. absurd (not_ok (c.in_err-read_block.ensures.reached 3 (root c.in_ok-root.ensures.root.at c.in_ok-root.ensures.root.there)))

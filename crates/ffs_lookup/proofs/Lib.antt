@@ -1,0 +1,7 @@
+pub mod Stores
+pub mod Finding
+pub mod Readable
+pub mod Newest
+pub mod Walks
+pub mod Rooms
+pub mod ForCallers

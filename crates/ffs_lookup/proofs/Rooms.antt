@@ -1,0 +1,125 @@
+-- Where there is room for an entry, or a free inode.
+use Rattle.std.proofs.Common.{◌≡◌, ℕ, zero, suc, ◌+◌, ◌*◌, ◌<◌, ◌≤◌, ◌≢◌, Bool, true, false, cond, List, [], ◌∷◌, ◌++◌, Option, Some, None, refl, sym, ◌∙◌, ap, arith, eq-eqb}
+use Rattle.std.specs.Prelude.{◌==◌, ◌&&◌, ◌||◌, not, find}
+use Rattle.std.specs.List.{list_any, range_with_len}
+use Rattle.std.proofs.lemmas.Bool.{ne_eqb}
+use Rattle.std.proofs.lemmas.Option.{none-some}
+use Rattle.ffs_model.specs.Library.{half_at, inode_at, inode_blocks, inode_mode, pointer_word}
+use Rattle.ffs_format.specs.Fields.{direct_in}
+use Rattle.ffs_lookup.specs.Newest.{has_free_at, has_free_inode, has_gap, has_room}
+use Rattle.ffs_lookup.proofs.Walks.{blocks_front, blocks_one, blocks_past, first_blocks, range_more}
+
+-- Tests of lists
+
+or_true : (t : Bool) → t || true ≡ true
+or_true true = refl
+or_true false = refl
+
+or_false : (t : Bool) → t || false ≡ t
+or_false true = refl
+or_false false = refl
+
+found_step : {A : Type 0} (x y : A) (t any : Bool) (rest : Option A) → (Some x ≡ rest → any ≡ true) → Some x ≡ cond t (Some y) rest → t || any ≡ true
+found_step x y true any rest f e = refl
+found_step x y false any rest f e = f e
+
+none_step : {A : Type 0} (y : A) (t any : Bool) (rest : Option A) → (None ≡ rest → any ≡ false) → None ≡ cond t (Some y) rest → t || any ≡ false
+none_step y true any rest f e = absurd (none-some y e)
+none_step y false any rest f e = f e
+
+append_step : (t a b c : Bool) → a ≡ b || c → t || a ≡ (t || b) || c
+append_step true a b c e = refl
+append_step false a b c e = e
+
+pub any_found : {A : Type 0} (p : A → Bool) (x : A) (xs : List A) → Some x ≡ find p xs → list_any p xs ≡ true
+any_found p x [] e = absurd (none-some x (sym e))
+any_found p x (y ∷ ys) e = found_step x y (p y) (list_any p ys) (find p ys) (any_found p x ys) e
+
+pub any_none : {A : Type 0} (p : A → Bool) (xs : List A) → None ≡ find p xs → list_any p xs ≡ false
+any_none p [] e = refl
+any_none p (y ∷ ys) e = none_step y (p y) (list_any p ys) (find p ys) (any_none p ys) e
+
+any_append : {A : Type 0} (p : A → Bool) (xs ys : List A) → list_any p (xs ++ ys) ≡ list_any p xs || list_any p ys
+any_append p [] ys = refl
+any_append p (x ∷ xs) ys = append_step (p x) (list_any p (xs ++ ys)) (list_any p xs) (list_any p ys) (any_append p xs ys)
+
+pub any_range : (p : ℕ → Bool) (a n k : ℕ) → k < n → p (a + k) ≡ true → list_any p (range_with_len a n) ≡ true
+any_range p a zero k low e = absurd (omega arith)
+any_range p a (suc n) zero low e = let z : a + 0 ≡ a = omega arith in ap (λ t. t || list_any p (range_with_len (a + 1) n)) (ap p (sym z) ∙ e)
+any_range p a (suc n) (suc k) low e =
+    let s : a + 1 + k ≡ a + suc k = omega arith in
+    ap (λ t. p a || t) (any_range p (a + 1) n k (omega arith) (ap p s ∙ e)) ∙ or_true (p a)
+
+pub none_in_range : (p : ℕ → Bool) (n m : ℕ) → n + 1 ≡ m → list_any p (range_with_len 0 n) ≡ false → p n ≡ false → list_any p (range_with_len 0 m) ≡ false
+none_in_range p n m s none e =
+    let up : m ≡ suc n = omega arith in
+    let z : 0 + n ≡ n = omega arith in
+    ap (λ x. list_any p (range_with_len 0 x)) up ∙ (ap (list_any p) (range_more 0 n ∙ ap (λ x. range_with_len 0 n ++ x ∷ []) z) ∙ (any_append p (range_with_len 0 n) (n ∷ []) ∙ (ap (λ t. t || (p n || false)) none ∙ (or_false (p n) ∙ e))))
+
+-- Gaps in a directory's blocks
+
+abbrev pub gap_in_first : (ℕ → List ℕ) → List ℕ → ℕ → Bool
+gap_in_first content inode n = list_any (λ block. has_gap (content block)) (first_blocks inode n)
+
+module _ (content : ℕ → List ℕ) (inode : List ℕ) (n m : ℕ) (s : n + 1 ≡ m) where
+  pub gap_past : gap_in_first content inode n ≡ false → direct_in inode n ≡ 0 → gap_in_first content inode m ≡ false
+  gap_past none e = ap (list_any (λ block. has_gap (content block))) (blocks_past inode n m s e) ∙ none
+
+  module _ (b : ℕ) (bytes : List ℕ) (e : direct_in inode n ≡ b) (there : b ≢ 0) (are : content b ≡ bytes) where
+    more : gap_in_first content inode m ≡ gap_in_first content inode n || (has_gap bytes || false)
+    more =
+        ap (list_any (λ block. has_gap (content block))) (blocks_one inode n m b s e there)
+        ∙ (any_append (λ block. has_gap (content block)) (first_blocks inode n) (b ∷ []) ∙ ap (λ x. gap_in_first content inode n || (has_gap x || false)) are)
+
+    pub gap_none : gap_in_first content inode n ≡ false → None ≡ find (λ place. half_at bytes (32 * place) == 0) (range_with_len 0 16) → gap_in_first content inode m ≡ false
+    gap_none none f = more ∙ (ap (λ t. t || (has_gap bytes || false)) none ∙ (or_false (has_gap bytes) ∙ any_none (λ place. half_at bytes (32 * place) == 0) (range_with_len 0 16) f))
+
+    pub gap_found : m ≤ 12 → (place : ℕ) → Some place ≡ find (λ place. half_at bytes (32 * place) == 0) (range_with_len 0 16) → has_room content inode ≡ true
+    gap_found few place f =
+        let rest = blocks_front inode m few in
+        let here : gap_in_first content inode m ≡ true =
+        more ∙ (ap (λ t. gap_in_first content inode n || (t || false)) (any_found (λ place. half_at bytes (32 * place) == 0) place (range_with_len 0 16) f) ∙ or_true (gap_in_first content inode n)) in
+        ap (λ bs. list_any (λ block. has_gap (content block)) bs || list_any (λ index. direct_in inode index == 0) (range_with_len 0 12)) rest.1
+        ∙ ap (λ t. t || list_any (λ index. direct_in inode index == 0) (range_with_len 0 12)) (any_append (λ block. has_gap (content block)) (first_blocks inode m) rest.0
+        ∙ ap (λ t. t || list_any (λ block. has_gap (content block)) rest.0) here)
+
+module _ (content : ℕ → List ℕ) (inode : List ℕ) (n : ℕ) (all : n ≡ 12) (none : gap_in_first content inode n ≡ false) where
+  pub pointer_left : (index : ℕ) → Some index ≡ find (λ index. direct_in inode index == 0) (range_with_len 0 12) → has_room content inode ≡ true
+  pointer_left index f =
+      ap (λ t. list_any (λ block. has_gap (content block)) (inode_blocks inode) || t) (any_found (λ index. direct_in inode index == 0) index (range_with_len 0 12) f)
+      ∙ or_true (list_any (λ block. has_gap (content block)) (inode_blocks inode))
+
+  pub no_room : None ≡ find (λ index. direct_in inode index == 0) (range_with_len 0 12) → has_room content inode ≡ false
+  no_room f =
+      ap (λ t. t || list_any (λ index. direct_in inode index == 0) (range_with_len 0 12)) (ap (gap_in_first content inode) (sym all) ∙ none)
+      ∙ any_none (λ index. direct_in inode index == 0) (range_with_len 0 12) f
+
+-- Free inodes
+
+module _ (content : ℕ → List ℕ) (b : ℕ) (bytes : List ℕ) (are : content b ≡ bytes) where
+  pub free_at_none : b ≡ 0 → has_free_at content b ≡ false
+  free_at_none e = ap (λ t. not t && list_any (λ place. inode_mode (inode_at (content b) place) == 0) (range_with_len 0 8)) (eq-eqb b 0 e)
+
+  at_block : b ≢ 0 → has_free_at content b ≡ list_any (λ place. inode_mode (inode_at bytes place) == 0) (range_with_len 0 8)
+  at_block ne =
+      ap (λ t. not t && list_any (λ place. inode_mode (inode_at (content b) place) == 0) (range_with_len 0 8)) (ne_eqb b 0 ne)
+      ∙ ap (λ m. list_any (λ place. inode_mode (inode_at m place) == 0) (range_with_len 0 8)) are
+
+  pub free_at_found : b ≢ 0 → (place : ℕ) → Some place ≡ find (λ place. inode_mode (inode_at bytes place) == 0) (range_with_len 0 8) → has_free_at content b ≡ true
+  free_at_found ne place f = at_block ne ∙ any_found (λ place. inode_mode (inode_at bytes place) == 0) place (range_with_len 0 8) f
+
+  pub free_at_full : b ≢ 0 → None ≡ find (λ place. inode_mode (inode_at bytes place) == 0) (range_with_len 0 8) → has_free_at content b ≡ false
+  free_at_full ne f = at_block ne ∙ any_none (λ place. inode_mode (inode_at bytes place) == 0) (range_with_len 0 8) f
+
+module _ (content : ℕ → List ℕ) (root index b : ℕ) (top : List ℕ) (are : content root ≡ top) (points : b ≡ pointer_word top index) where
+  same_word : pointer_word (content root) index ≡ b
+  same_word = ap (λ m. pointer_word m index) are ∙ sym points
+
+  pub free_more : (m : ℕ) → index + 1 ≡ m → list_any (λ i. has_free_at content (pointer_word (content root) i)) (range_with_len 0 index) ≡ false → has_free_at content b ≡ false →
+      list_any (λ i. has_free_at content (pointer_word (content root) i)) (range_with_len 0 m) ≡ false
+  free_more m s none e = none_in_range (λ i. has_free_at content (pointer_word (content root) i)) index m s none (ap (has_free_at content) same_word ∙ e)
+
+  pub free_here : index < 16 → has_free_at content b ≡ true → true ≡ has_free_inode content root
+  free_here low e =
+      let z : 0 + index ≡ index = omega arith in
+      sym (any_range (λ i. has_free_at content (pointer_word (content root) i)) 0 16 index low (ap (λ i. has_free_at content (pointer_word (content root) i)) z ∙ (ap (has_free_at content) same_word ∙ e)))
