@@ -1,4 +1,4 @@
--- What the owns programs of the three templates mean, on all bytes.
+-- What the programs of the three templates mean, on all bytes.
 use Rattle.std.proofs.Common.{◌≡◌, ℕ, suc, ◌+◌, ◌-◌, ◌*◌, ◌^◌, ◌≤◌, ◌<◌, ◌∙◌, ap, refl, List, [], ◌∷◌, ◌++◌, map, length, append_assoc, length-append, arith}
 use Rattle.std.specs.Prelude.{nat_lt, nat_le, flat_map}
 use Rattle.std.specs.List.{range_with_len}
@@ -10,7 +10,7 @@ use Rattle.udf_code.specs.Tree.{Tree, Stop, Plain, If, Loop, Less}
 use Rattle.udf_run.specs.declared.pair.Pair.{Pair}
 use Rattle.udf_run.specs.Meaning.{machine, reset, write, number_at, meaning}
 use Rattle.xn_model.specs.Root.{word_at, unless_empty}
-use Rattle.templates.specs.Meaning.{pair_of, pairs_after, owned_by}
+use Rattle.templates.specs.Meaning.{answer_of, pair_of, pairs_after, owned_by}
 use Rattle.ffs_model.specs.Library.{pointed, pointer_word, direct_word, inode_pairs}
 use Rattle.ffs_format.specs.Library.{root_template, inode_template, pointer_template}
 use Rattle.ffs_format.proofs.Turns.{number_is_word, written, plain, looped, named, named_pairs, length-named, emitted, Turned, all_turns, one_by_one}
@@ -257,3 +257,17 @@ inode_program_owns m q n e f = inodes_pairs m q n (omega arith) f ∙ (λ i. fla
 pub inodes_own : (m : List ℕ) → owned_by inode_template.owns m ≡ flat_map (inode_pairs m) (range_with_len 0 8)
 unfolding owned_by inode_template
 inodes_own m = inode_program_owns m 8 12 refl refl
+
+-- From which byte on a block is 0
+
+pub root_sized : (m : List ℕ) → answer_of root_template.size m ≡ 64
+unfolding answer_of root_template
+root_sized m = refl
+
+pub inodes_sized : (m : List ℕ) → answer_of inode_template.size m ≡ 512
+unfolding answer_of inode_template
+inodes_sized m = refl
+
+pub pointers_sized : (m : List ℕ) → answer_of pointer_template.size m ≡ 512
+unfolding answer_of pointer_template
+pointers_sized m = refl

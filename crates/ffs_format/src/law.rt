@@ -15,7 +15,8 @@ pub fn entries_are_read_back()
 {}
 
 /// In a table that begins with the library's three templates, types 3, 4 and 5 own what the library's layout reads: a root block
-/// its 16 pointers, a block of inodes the 12 pointers and then the last one of each of its 8, and a block of pointers its 128.
+/// its 16 pointers, a block of inodes the 12 pointers and then the last one of each of its 8, and a block of pointers its 128. They use
+/// 64, 512 and 512 bytes of their blocks.
 /// So it is on a disk that is formatted with these three first.
 pub fn templates_are_the_librarys()
     ensures table { (table : TableValue) → take 3 table ≡ map Some file_system_templates → IsLibrary (types_of table) }

@@ -1,21 +1,42 @@
-use Rattle.std.proofs.Common.{◌≡◌, ◌++◌, ◌∙◌, ap, sym, get_or, take, refl, lit<}
-use Rattle.std.specs.Prelude.{Some, None, map}
+use Rattle.std.proofs.Common.{◌≡◌, ℕ, ◌<◌, ◌≤◌, ◌++◌, ◌∙◌, ap, sym, get_or, take, refl, lit<, inl, inr, arith, subst}
+use Rattle.std.specs.Prelude.{Some, None, map, is_some, IsTrue}
+use Rattle.std.proofs.lemmas.Bool.{cases_eq}
 use Rattle.std.proofs.lemmas.List.{get_or-take}
 use Rattle.templates.specs.Formats.{table_of}
-use Rattle.templates.specs.Tables.{TableValue, owned_under, template_of, types_of}
+use Rattle.templates.specs.Tables.{TableValue, owned_under, size_under, template_of, types_of}
 use Rattle.ffs_model.specs.Library.{IsLibrary}
 use Rattle.ffs_format.specs.Library.{file_system_templates}
-use Rattle.ffs_format.proofs.OwnedPairs.{root_owns, inodes_own, pointers_own}
+use Rattle.ffs_format.proofs.OwnedPairs.{root_owns, inodes_own, pointers_own, root_sized, inodes_sized, pointers_sized}
 use Rattle.ffs_format.proofs.law.templates_are_the_librarys.Goals as goal
+
+-- the place of a type in the catalogue
+named : (table : TableValue) → take 3 table ≡ map Some file_system_templates → (i : ℕ) → i < 3 → get_or table i None ≡ get_or (map Some file_system_templates) i None
+named table begins i few = sym (get_or-take 3 table i None few) ∙ ap (λ l. get_or l i None) begins
 
 first_three : (table : TableValue) → take 3 table ≡ map Some file_system_templates → IsLibrary (types_of table)
 unfolding types_of template_of
 first_three table begins =
+    let root = named table begins 0 (lit< tt) in
+    let inodes = named table begins 1 (lit< tt) in
+    let pointers = named table begins 2 (lit< tt) in
     record {
-      root = λ m. ap (λ t. owned_under t m) (sym (get_or-take 3 table 0 None (lit< tt)) ∙ ap (λ l. get_or l 0 None) begins) ∙ root_owns m;
-      inodes = λ m. ap (λ t. owned_under t m) (sym (get_or-take 3 table 1 None (lit< tt)) ∙ ap (λ l. get_or l 1 None) begins) ∙ inodes_own m;
-      indirect = λ m. ap (λ t. owned_under t m) (sym (get_or-take 3 table 2 None (lit< tt)) ∙ ap (λ l. get_or l 2 None) begins) ∙ pointers_own m;
+      installed = λ t low high. installed_there t low high;
+      root = λ m. ap (λ t. owned_under t m) root ∙ root_owns m;
+      inodes = λ m. ap (λ t. owned_under t m) inodes ∙ inodes_own m;
+      indirect = λ m. ap (λ t. owned_under t m) pointers ∙ pointers_own m;
+      root_size = λ m. ap (λ t. size_under t m) root ∙ root_sized m;
+      inodes_size = λ m. ap (λ t. size_under t m) inodes ∙ inodes_sized m;
+      indirect_size = λ m. ap (λ t. size_under t m) pointers ∙ pointers_sized m;
     }
+  where
+    installed_there : (t : ℕ) → 3 ≤ t → t ≤ 5 → IsTrue (is_some (template_of table t))
+    installed_there t low high = elim (cases_eq t 3) [
+      | inl e ↦ subst (λ n. IsTrue (is_some (template_of table n))) (sym e) (ap is_some (named table begins 0 (lit< tt)))
+      | inr ne ↦ elim (cases_eq t 4) [
+        | inl e ↦ subst (λ n. IsTrue (is_some (template_of table n))) (sym e) (ap is_some (named table begins 1 (lit< tt)))
+        | inr ne' ↦ let e : t ≡ 5 = omega arith in subst (λ n. IsTrue (is_some (template_of table n))) (sym e) (ap is_some (named table begins 2 (lit< tt)))
+      ]
+    ]
 
 pub returns-clause-table : goal.returns-clause-table
 returns-clause-table c = first_three
