@@ -1,20 +1,22 @@
 -- What the edits of a volume leave, each for every array of numbers for which a volume's rules held before.
 --     Keeps T fs old new      a volume's rules hold on
 --     IsMade, ..              and what may come next
-use Rattle.std.specs.Prelude.{◌≡◌, ◌≢◌, ℕ, ◌-◌, ◌/◌, ◌<◌, List, [], Option, None, Ok, Contains, length, max, ◌+◌, slice_set}
+use Rattle.std.specs.Prelude.{◌≡◌, ◌≢◌, ℕ, ◌-◌, ◌/◌, ◌<◌, List, [], Option, None, Ok, Contains, length, max, ◌+◌, slice_set, true, IfErr, IsTrue, Result}
 use Rattle.xn_model.specs.Types.{Types}
 use Rattle.xn_model.specs.Root.{word_at}
 use Rattle.xn_model.specs.Lives.{StoreState}
+use Rattle.xn_model.specs.Calls.{was_given}
 use Rattle.ffs_model.specs.Cuts.{Under, latest}
 use Rattle.ffs_model.specs.Names.{IsInodes}
 use Rattle.ffs_model.specs.Edits.{HoldsOnly, OneEntry}
 use Rattle.ffs_model.specs.Volumes.{VolumeKeeps, CanName, CanUnlink, with_edit, without_edit}
 use Rattle.ffs_model.specs.Library.{inode_blocks, library_layout, IsLibrary, zeros}
 use Rattle.xn_model.specs.Rules.{IsConsistent}
+use Rattle.ffs_lookup.specs.declared.fault.FfsFault.{FfsFault}
 use Rattle.ffs_lookup.specs.declared.places.Found.{Found}
 use Rattle.ffs_lookup.specs.declared.places.Slot.{Slot}
 use Rattle.ffs_format.specs.Fields.{fields_of}
-use Rattle.ffs_lookup.specs.Newest.{byte_of, directory_in, file_block, file_in, inode_in, listing, without_entry}
+use Rattle.ffs_lookup.specs.Newest.{byte_of, directory_in, file_block, file_in, inode_in, is_short, listing, without_entry}
 use Rattle.ffs_lib.specs.Results.{AsBefore, HasMore, SameInode, byte_written}
 use Rattle.ffs_lookup.specs.Places.{IsDirectory}
 
@@ -189,3 +191,15 @@ abbrev pub LosesName : Types → ℕ → Slot → StoreState → StoreState → 
 LosesName T fs entry old new = IsLibrary T → IsConsistent T old →
     ((d : ℕ) → inode_in (latest new.lives) fs d ≡ inode_in (latest old.lives) fs d) × ((inode : List ℕ) → listing (latest new.lives) inode ≡ without_entry entry (listing (latest old.lives) inode))
     × ((n : ℕ) (own : List ℕ) → Ok own ≡ inode_in (latest old.lives) fs n → Contains (inode_blocks own) entry.block → (d : ℕ) → d ≢ n → SameInode (latest old.lives) (latest new.lives) fs d)
+
+-- Which edits are refused for want of something alone
+--     CanEdit     a call may propose an edit that comes after this one
+--     OnlyShort   what is answered is no fault but for want of something
+
+pub record CanEdit (T : Types) (state : StoreState) (after : Option ℕ) : Type 0 where
+  pub library : IsLibrary T
+  pub consistent : IsConsistent T state
+  pub given : IsTrue (was_given state after)
+
+abbrev pub OnlyShort : {A : Type 0} → Result A FfsFault → Type 0
+OnlyShort result = IfErr result (λ fault. is_short fault ≡ true)

@@ -9,12 +9,13 @@
 --     file_end, byte_of, bytes_from               where a file ends; its byte at an offset, 0 in a hole; its bytes from an offset on, up to its end
 --     read_count, read_into                       how many bytes a read answers, and what it leaves of those that it was given
 --     create_in, write_in, unlink_in, rmdir_in, rename_in    what a call looks up before it edits
---     is_own, RefusesAs                           a fault of the library's own; what is answered where a look-up fails
+--     is_short, is_own, RefusesAs                 a fault for want of something; one of the library's own; what is answered where a look-up fails
 use Rattle.std.specs.Prelude.{ℕ, ◌*◌, ◌-◌, ◌/◌, ◌%◌, Bool, true, false, not, ◌&&◌, ◌||◌, ◌==◌, nat_lt, min, List, ◌++◌, length, drop, map, find, Option, Some, None, Result, Ok, Err, ◌≡◌, IfErr, get_or, is_some, bytes_eq, filter, filter_map, flat_map, if◌then◌else◌}
 use Rattle.std.specs.List.{list_any, range_with_len}
 use Rattle.std.specs.Option.{ok_or}
 use Rattle.xn_model.specs.Root.{slot, word_at}
 use Rattle.xn_model.specs.Lives.{StoreState}
+use Rattle.ffs_model.specs.Shortages.{is_shortage}
 use Rattle.ffs_model.specs.Library.{half_at, pointer_word, inode_at, inode_mode, inode_links, inode_blocks}
 use Rattle.ffs_format.specs.Entries.{is_name, name_in}
 use Rattle.ffs_format.specs.Fields.{direct_in}
@@ -224,6 +225,11 @@ if_movable content fs same name new_name from to =
 unfoldable pub rename_in : (ℕ → List ℕ) → ℕ → ℕ → List ℕ → ℕ → List ℕ → Result Slot FfsFault
 rename_in content fs d name other new_name =
     and_then (inode_in content fs d) (λ from. and_then (inode_in content fs other) (λ to. if_movable content fs (d == other) name new_name from to))
+
+-- the store is short of something
+abbrev pub is_short : FfsFault → Bool
+is_short (Kernel refusal) = is_shortage refusal
+is_short fault = false
 
 -- neither the store's nor for want of memory
 abbrev pub is_own : FfsFault → Bool
