@@ -1,6 +1,6 @@
 // Inodes, of which an inode block has eight.
 
-ghost use Rattle.std.specs.Prelude.{◌≡◌, ◌+◌, ◌*◌, ◌-◌, ◌/◌, ◌%◌, ◌<◌, ◌≤◌, length, replicate, slice_set};
+ghost use Rattle.std.specs.Prelude.{◌≡◌, ◌+◌, ◌*◌, ◌-◌, ◌/◌, ◌%◌, ◌<◌, ◌≤◌, bytes_eq, length, replicate, slice_set};
 ghost use Rattle.std.specs.Int.{w16, w32, to_le_bytes};
 ghost use Rattle.xn_model.specs.Lists.{put};
 ghost use Rattle.xn_model.specs.Root.{word_at};
@@ -60,6 +60,13 @@ impl Inode {
         ensures { result ≡ replicate 64 0 }
     {
         Inode { bytes: [0; 64] }
+    }
+
+    /// Whether it is free: all zeros.
+    pub fn is_free(&self) -> bool
+        ensures { result ≡ bytes_eq self.now (replicate 64 0) }
+    {
+        self.bytes == [0; 64]
     }
 
     /// The inode at a place of an inode block, 0 to 7.

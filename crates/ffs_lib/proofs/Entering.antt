@@ -12,7 +12,7 @@ use Rattle.xn_model.specs.Results.{Gives}
 use Rattle.xn_model.specs.Rules.{IsConsistent}
 use Rattle.ffs_model.specs.Cuts.{latest}
 use Rattle.ffs_model.specs.Names.{IsInodes}
-use Rattle.ffs_model.specs.Library.{IsLibrary, direct_word, half_at, inode_at, inode_blocks, inode_mode, library_layout, pointed, zeros}
+use Rattle.ffs_model.specs.Library.{IsLibrary, direct_word, half_at, inode_at, inode_blocks, inode_links, inode_mode, library_layout, pointed, zeros}
 use Rattle.ffs_model.proofs.ForCallers.{blocks_read, bytes_within, direct_distinct, direct_where, library_reads, one_type, proposed_here, started_here, under_inodes}
 use Rattle.ffs_format.specs.Entries.{entry_of, is_name}
 use Rattle.ffs_format.specs.Fields.{direct_in, fields_of}
@@ -30,7 +30,7 @@ use Rattle.ffs_lib.proofs.Firsts.{first_more}
 use Rattle.ffs_lib.proofs.Frames.{listed_at, listed_blocks, listed_in, listing_same}
 use Rattle.ffs_lib.proofs.Listed.{fits_newest}
 use Rattle.ffs_lib.proofs.More.{OneMore, block_more, blocks_more, lists_more, more_by, one_listed, words_more}
-use Rattle.ffs_lookup.proofs.ForCallers.{block_again, gives_ok, good_number, in_inode_block, same_ok, unused_is, used_is}
+use Rattle.ffs_lookup.proofs.ForCallers.{block_again, free_mode, gives_ok, good_number, in_inode_block, same_ok, unused_is, used_is}
 use Rattle.ffs_lib.proofs.Owners.{Stands, block_at, block_from, direct_block, only_first, passed, stands_from}
 use Rattle.ffs_lib.proofs.Same.{Touches, begun, begun_some, block_same, data_touched, edited, inode_touched, inodes_same, none_touched, same_on}
 
@@ -49,28 +49,49 @@ directory_same v w fs d e = ap (λ (r : Result (List ℕ) FfsFault). and_then r 
 
 -- The bytes of an inode are written
 
+module _ (T : Types) (lib : IsLibrary T) (state new : StoreState) (h : IsConsistent T state) (fs : ℕ) (few : fs < 32) (n block place : ℕ) (stands : IsPlace state fs n block place)
+    (bytes : List ℕ) (whole : length bytes ≡ 64) (adds : List (ℕ × ℕ)) (drops : List ℕ) (after : Option ℕ) (entry : ℕ) (done : propose_of T state fs block (edit_at (64 * place) bytes adds drops after) ≡ Ok (entry, new)) where
+  home_touched : Touches T (latest state.lives) (latest new.lives) fs block 4
+  home_touched = edited T state new h fs few block 4 (edit_at (64 * place) bytes adds drops after) entry done (under_inodes T library_layout (library_reads T lib) (latest state.lives) fs ((n - 1) / 8) block stands.inodes)
+
+  home_bytes : latest new.lives block ≡ put (latest state.lives block) (64 * place) bytes
+  home_bytes = proposed_here T state new h fs block (edit_at (64 * place) bytes adds drops after) entry done
+
+  written : inode_at (latest new.lives block) place ≡ bytes
+  written =
+      let m = latest state.lives block in
+      let long = stands.long in
+      let little = stands.few in
+      let fit : 64 * place + length bytes ≤ length m = omega (arith, long, little, whole) in
+      let z : 64 * place ≡ 64 * place + 0 = omega arith in
+      ap (λ x. inode_at x place) home_bytes ∙ (ap (λ k. take 64 (drop k (put m (64 * place) bytes))) z
+      ∙ (bytes_within m (64 * place) bytes fit 64 0 (omega (arith, whole)) ∙ (ap (λ k. take k bytes) (sym whole) ∙ take-length bytes)))
+
+  read_again : n ≤ 128 → unless_unused bytes ≡ inode_in (latest new.lives) fs n
+  read_again low =
+      let w = latest new.lives in
+      let j : ℕ = (n - 1) / 8 in
+      let found : Ok block ≡ inode_block_in w fs j = block_again (latest state.lives) fs j block stands.inodes ∙ sym (block_same T lib (latest state.lives) w fs block 4 home_touched (λ z. omega (arith, z)) j) in
+      ap unless_unused (sym written) ∙ in_inode_block w fs n (good_number n stands.some low) j place block (w block) refl stands.at found refl
+
+  -- the others
+  pub others_put : (d : ℕ) → d ≢ n → SameInode (latest state.lives) (latest new.lives) fs d
+  others_put = inode_touched T lib state h fs few (latest new.lives) block 4 home_touched refl n place bytes stands whole home_bytes
+
+  inode_used : n ≤ 128 → inode_mode bytes ≢ 0 → inode_in (latest new.lives) fs n ≡ Ok bytes
+  inode_used low used = sym (used_is bytes used ∙ read_again low)
+
+  pub inode_gone : n ≤ 128 → inode_mode bytes ≡ 0 → inode_in (latest new.lives) fs n ≡ Err NoEntry
+  inode_gone low unused = sym (unused_is bytes unused ∙ read_again low)
+
 pub inode_put : (T : Types) (lib : IsLibrary T) (state new : StoreState) (h : IsConsistent T state) (fs : ℕ) (few : fs < 32) (n block place : ℕ) → IsPlace state fs n block place → n ≤ 128 →
     (bytes : List ℕ) → length bytes ≡ 64 → inode_mode bytes ≢ 0 → (adds : List (ℕ × ℕ)) (drops : List ℕ) (after : Option ℕ) (entry : ℕ) →
     propose_of T state fs block (edit_at (64 * place) bytes adds drops after) ≡ Ok (entry, new) →
     (inode_in (latest new.lives) fs n ≡ Ok bytes) × ((d : ℕ) → d ≢ n → SameInode (latest state.lives) (latest new.lives) fs d)
-inode_put T lib state new h fs few n block place stands low bytes whole used adds drops after entry done =
-    let v = latest state.lives in
-    let w = latest new.lives in
-    let j : ℕ = (n - 1) / 8 in
-    let at = under_inodes T library_layout (library_reads T lib) v fs j block stands.inodes in
-    let t = edited T state new h fs few block 4 (edit_at (64 * place) bytes adds drops after) entry done at in
-    let here : w block ≡ put (v block) (64 * place) bytes = proposed_here T state new h fs block (edit_at (64 * place) bytes adds drops after) entry done in
-    let long = stands.long in
-    let little = stands.few in
-    let fit : 64 * place + length bytes ≤ length (v block) = omega (arith, long, little, whole) in
-    let z : 64 * place ≡ 64 * place + 0 = omega arith in
-    let written : inode_at (w block) place ≡ bytes =
-    ap (λ m. inode_at m place) here ∙ (ap (λ k. take 64 (drop k (put (v block) (64 * place) bytes))) z
-    ∙ (bytes_within (v block) (64 * place) bytes fit 64 0 (omega (arith, whole)) ∙ (ap (λ k. take k bytes) (sym whole) ∙ take-length bytes))) in
-    let found : Ok block ≡ inode_block_in w fs j = block_again v fs j block stands.inodes ∙ sym (block_same T lib v w fs block 4 t (λ z. omega (arith, z)) j) in (
-      sym (used_is bytes used ∙ (ap unless_unused (sym written) ∙ in_inode_block w fs n (good_number n stands.some low) j place block (w block) refl stands.at found refl)),
-      inode_touched T lib state h fs few w block 4 t refl n place bytes stands whole here,
-    )
+inode_put T lib state new h fs few n block place stands low bytes whole used adds drops after entry done = (
+  inode_used T lib state new h fs few n block place stands bytes whole adds drops after entry done low used,
+  others_put T lib state new h fs few n block place stands bytes whole adds drops after entry done,
+)
 
 -- An entry is written into a gap
 
@@ -109,6 +130,7 @@ module _ (T : Types) (lib : IsLibrary T) (state new : StoreState) (h : IsConsist
       ap (λ m. filter_map (listed_at c m) (range_with_len 0 16)) (t.others c 2 (block_at T lib state h fs few d inode own y.0 c (omega (arith, first)) (direct_block v inode y.0 first ∙ y.2) y.3) ne)) in (
         record {
           after = inode;
+          links = refl;
           directory = dir ∙ sym (directory_same v w fs d (inodes_same T lib v w fs b 2 t (λ z. omega (arith, z)) (λ z. omega (arith, z)) d));
           entry = one;
           inode_named = refl;
@@ -179,6 +201,7 @@ module _ (T : Types) (lib : IsLibrary T) (zeroth first second : StoreState) (h :
       record {
         after = g.after;
         directory = g.directory;
+        links = g.links ∙ ap inode_links one;
         entry = entry;
         inode_named = refl;
         front = all.front;
@@ -223,12 +246,12 @@ free_none state fs free is =
     let content = latest state.lives in
     let n = free.number in
     let stands = is.stands in
-    sym (unused_is (inode_at (content free.block) free.place) is.unused
+    sym (unused_is (inode_at (content free.block) free.place) (free_mode (inode_at (content free.block) free.place) is.bare)
     ∙ in_inode_block content fs n (good_number n stands.some is.low) ((n - 1) / 8) free.place free.block (content free.block) refl stands.at (block_again content fs ((n - 1) / 8) free.block stands.inodes) refl)
 
 module _ (u v w : ℕ → List ℕ) (fs d : ℕ) (name : List ℕ) (mode n : ℕ) where
   more_before : (inode : List ℕ) → listing v inode ≡ listing u inode → HasMore v w fs d inode name n → HasMore u w fs d inode name n
-  more_before inode same m = record { after = m.after; directory = m.directory; entry = m.entry; inode_named = m.inode_named; front = m.front; back = m.back; was = sym same ∙ m.was; is = m.is; first = first_more u w inode m.after name m.entry m.front m.back (sym same ∙ m.was) m.is }
+  more_before inode same m = record { after = m.after; directory = m.directory; links = m.links; entry = m.entry; inode_named = m.inode_named; front = m.front; back = m.back; was = sym same ∙ m.was; is = m.is; first = first_more u w inode m.after name m.entry m.front m.back (sym same ∙ m.was) m.is }
 
   pub made_then : inode_in u fs n ≡ Err NoEntry → inode_in v fs n ≡ Ok (new_inode mode) → ((e : ℕ) → e ≢ n → SameInode u v fs e) →
       ((inode : List ℕ) → Ok inode ≡ directory_in v fs d → HasMore v w fs d inode name n) × ((e : ℕ) → e ≢ d → SameInode v w fs e) → (inode : List ℕ) → Ok inode ≡ directory_in u fs d → MadeEntry u w fs d name mode n

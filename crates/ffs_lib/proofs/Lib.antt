@@ -3,6 +3,8 @@ pub mod Edited
 pub mod Kept
 pub mod Numbers
 pub mod Making
+pub mod Tops
+pub mod Linked
 pub mod Parts
 pub mod Refusals
 pub mod Frames
@@ -14,5 +16,10 @@ pub mod More
 pub mod Firsts
 pub mod Entering
 pub mod Writing
+pub mod Rooms
+pub mod DataShort
 pub mod Renaming
+pub mod StillNamed
 pub mod Moving
+pub mod Short
+pub mod Dropping

@@ -1,5 +1,5 @@
 -- What is left of names and files where a name is moved.
-use Rattle.std.proofs.Common.{◌≡◌, ◌≢◌, ℕ, ◌*◌, ◌/◌, ◌%◌, ◌<◌, Bool, true, false, cond, List, [], ◌∷◌, ◌++◌, length, map, get_or, replicate, Option, Some, None, Ok, refl, sym, ◌∙◌, ap, inl, inr, arith, subst}
+use Rattle.std.proofs.Common.{◌≡◌, ◌≢◌, ℕ, ◌+◌, ◌*◌, ◌/◌, ◌%◌, ◌<◌, ◌≤◌, Bool, true, false, cond, List, [], ◌∷◌, ◌++◌, length, map, get_or, replicate, Option, Some, None, Ok, refl, sym, ◌∙◌, ap, inl, inr, arith, subst}
 use Rattle.std.specs.Prelude.{Contains, Result, Err, ◌==◌, filter_map, find, bytes_eq, option_map, flat_map, if◌then◌else◌}
 use Rattle.std.specs.List.{cons_option, range_with_len}
 use Rattle.std.specs.Option.{ok_or, option_or}
@@ -13,7 +13,7 @@ use Rattle.xn_model.specs.Calls.{propose_of}
 use Rattle.xn_model.specs.Rules.{IsConsistent}
 use Rattle.xn_model.proofs.ForCallers.{Contains-head, Contains-tail}
 use Rattle.ffs_model.specs.Cuts.{Under, latest}
-use Rattle.ffs_model.specs.Library.{IsLibrary, half_at, inode_blocks, inode_mode, library_layout}
+use Rattle.ffs_model.specs.Library.{IsLibrary, half_at, inode_blocks, inode_links, inode_mode, library_layout}
 use Rattle.ffs_model.proofs.ForCallers.{direct_where, library_reads, proposed_here, proposed_others, under_direct, under_inodes}
 use Rattle.ffs_format.specs.Fields.{fields_of}
 use Rattle.ffs_format.specs.Entries.{is_name}
@@ -22,9 +22,9 @@ use Rattle.ffs_lookup.specs.declared.fault.FfsFault.TheVariants.{BadName, NoEntr
 use Rattle.ffs_lookup.specs.declared.places.Found.{Found}
 use Rattle.ffs_lookup.specs.declared.places.Slot.{Slot}
 use Rattle.ffs_lib.specs.Edits.{edit_at}
-use Rattle.ffs_lookup.specs.Newest.{byte_in, directory_in, file_block, entries_in, entry_at, entry_named, named_in, used_entry, entries_of, first_named, has_name, inode_in, listing, name_at, without_entry}
+use Rattle.ffs_lookup.specs.Newest.{byte_in, byte_of, directory_in, file_block, entries_in, entry_at, entry_named, named_in, used_entry, entries_of, first_named, has_name, inode_in, listing, name_at, without_entry}
 use Rattle.ffs_lookup.specs.Places.{IsFound, IsSlot}
-use Rattle.ffs_lib.specs.Results.{AsBefore, HasLost, HasMore, HasRenamed, IsAs, MovedEntry, SameInode}
+use Rattle.ffs_lib.specs.Results.{AsBefore, HasLost, HasMore, HasRenamed, IsAs, IsLinked, MovedEntry, OthersSame, SameInode, TookLink}
 use Rattle.ffs_lib.proofs.Entering.{directory_from, directory_same, inode_put}
 use Rattle.ffs_lib.proofs.Fields.{same_blocks}
 use Rattle.ffs_lib.proofs.Firsts.{find_listed, find_skip, first_more, named_among, same_bytes}
@@ -32,19 +32,20 @@ use Rattle.ffs_lib.proofs.Frames.{listing_same, listing_without}
 use Rattle.ffs_lookup.proofs.ForCallers.{directory_is, in_directory, same_ok}
 use Rattle.ffs_lib.proofs.Owners.{Stands, block_at, direct_block, passed, pointers_at, stands_from}
 use Rattle.ffs_lib.proofs.Renaming.{is_some_ok}
-use Rattle.ffs_lib.proofs.Same.{data_touched, edited, file_block_by, inodes_same}
+use Rattle.ffs_lib.proofs.Rooms.{room_by}
+use Rattle.ffs_lib.proofs.Same.{data_touched, edited, file_block_by, inodes_same, same_on}
 use Rattle.ffs_lib.proofs.Writing.{blocks_agree, byte_same, direct_get}
 
 -- As before, in every way
 
 pub same_as : (v w : ℕ → List ℕ) (fs d : ℕ) → SameInode v w fs d → AsBefore v w fs d
-same_as v w fs d s inode e = let x = s.1 inode e in record { after = inode; found = e ∙ sym s.0; mode = refl; size = refl; entries = x.0; each = x.1 }
+same_as v w fs d s inode e = let x = s.1 inode e in record { after = inode; found = e ∙ sym s.0; mode = refl; size = refl; entries = x.0; each = x.1; room = room_by v w inode inode refl x.1 }
 
 pub as_on : (u v w : ℕ → List ℕ) (fs d : ℕ) → AsBefore u v fs d → AsBefore v w fs d → AsBefore u w fs d
 as_on u v w fs d a b inode e =
     let x = a inode e in
     let y = b x.after x.found in
-    record { after = y.after; found = y.found; mode = y.mode ∙ x.mode; size = y.size ∙ x.size; entries = y.entries ∙ x.entries; each = λ at low. y.each at low ∙ x.each at low }
+    record { after = y.after; found = y.found; mode = y.mode ∙ x.mode; size = y.size ∙ x.size; entries = y.entries ∙ x.entries; each = λ at low. y.each at low ∙ x.each at low; room = y.room ∙ x.room }
 
 -- An inode's links are written
 pub relinked : (T : Types) (lib : IsLibrary T) (state new : StoreState) (h : IsConsistent T state) (fs : ℕ) (few : fs < 32) (n : ℕ) (found : Found) → IsFound state fs n found → Ok found.inode ≡ inode_in (latest state.lives) fs n →
@@ -80,6 +81,13 @@ relinked T lib state new h fs few n found is exact bytes whole mode direct last 
     pointers : word_at found.inode 56 ≢ 0 → w (word_at found.inode 56) ≡ v (word_at found.inode 56)
     pointers ne = away (word_at found.inode 56) 5 (pointers_at T lib state h fs few n found.inode stands (word_at found.inode 56) refl ne) (λ z. omega (arith, z))
 
+    each : (at : ℕ) → at < 71680 → byte_of w bytes at ≡ byte_of v found.inode at
+    each at low =
+        let i : ℕ = at / 512 in
+        let same = blocks_agree w bytes found.inode i (λ lt. direct_get bytes i lt ∙ (ap (λ ws. get_or ws i 0) direct ∙ sym (direct_get found.inode i lt))) last ∙ file_block_by v w found.inode pointers i in
+        ap (λ b. byte_in w b (at % 512)) same
+        ∙ byte_same v w (file_block v found.inode i) (at % 512) (λ some. away (file_block v found.inode i) 2 (block_at T lib state h fs few n found.inode stands i (file_block v found.inode i) (omega (arith, low)) refl some) (λ z. omega (arith, z)))
+
     own : IsAs v w fs n found.inode
     own = record {
       after = bytes;
@@ -90,15 +98,16 @@ relinked T lib state new h fs few n found is exact bytes whole mode direct last 
           let x = direct_where found.inode b i in
           let lt = x.1 in
           away b 2 (block_at T lib state h fs few n found.inode stands x.0 b (omega (arith, lt)) (direct_block v found.inode x.0 lt ∙ x.2) x.3) (λ z. omega (arith, z)));
-      each = λ at low.
-          let i : ℕ = at / 512 in
-          let same = blocks_agree w bytes found.inode i (λ lt. direct_get bytes i lt ∙ (ap (λ ws. get_or ws i 0) direct ∙ sym (direct_get found.inode i lt))) last ∙ file_block_by v w found.inode pointers i in
-          ap (λ b. byte_in w b (at % 512)) same
-          ∙ byte_same v w (file_block v found.inode i) (at % 512) (λ some. away (file_block v found.inode i) 2 (block_at T lib state h fs few n found.inode stands i (file_block v found.inode i) (omega (arith, low)) refl some) (λ z. omega (arith, z)));
+      each = each;
+      room = room_by v w found.inode bytes direct each;
     }
       where
         listing_of : (ℕ → List ℕ) → List ℕ → List (Slot × List ℕ)
         listing_of content bs = map {B = Slot × List ℕ} (λ (e : Slot). (e, name_at content e)) (flat_map (entries_in content) bs)
+
+-- what an inode was before and is now
+pub was_and_is : (v w : ℕ → List ℕ) (fs n : ℕ) (old new inode after : List ℕ) → Ok old ≡ inode_in v fs n → inode_in w fs n ≡ Ok new → Ok inode ≡ inode_in v fs n → Ok after ≡ inode_in w fs n → (inode ≡ old) × (after ≡ new)
+was_and_is v w fs n old new inode after was is i a = (same_ok inode old (i ∙ sym was), same_ok after new (a ∙ is))
 
 -- An entry is cleared
 pub name_lost : (T : Types) (lib : IsLibrary T) (state new : StoreState) (h : IsConsistent T state) (fs : ℕ) (few : fs < 32) (slot : Slot) → IsSlot state fs slot → (after : Option ℕ) (entry : ℕ) →
@@ -152,8 +161,39 @@ named_from content fs d name entry e =
     second_first true x y fault f = f
     second_first false x y fault f = absurd (cc f)
 
-directory_to : (content : ℕ → List ℕ) (fs d : ℕ) (inode : List ℕ) → Ok inode ≡ inode_in content fs d → inode_mode inode ≡ 2 → Ok inode ≡ directory_in content fs d
+-- the entry that has a name stands in a block of its directory
+pub named_block : (content : ℕ → List ℕ) (fs d : ℕ) (name : List ℕ) (entry : Slot) → Ok entry ≡ named_in content fs d name → (own : List ℕ) × (Ok own ≡ inode_in content fs d) × Contains (inode_blocks own) entry.block
+named_block content fs d name entry e =
+    let x = named_from content fs d name entry e in
+    (x.0, (directory_from content fs d x.0 x.1).0, block_stands content (has_name content name) entry (inode_blocks x.0) x.2)
+
+pub directory_to : (content : ℕ → List ℕ) (fs d : ℕ) (inode : List ℕ) → Ok inode ≡ inode_in content fs d → inode_mode inode ≡ 2 → Ok inode ≡ directory_in content fs d
 directory_to content fs d inode e mode = directory_is inode mode ∙ in_directory content fs d (Ok inode) e
+
+-- A name and its link are taken
+
+module _ (u0 u1 u2 : ℕ → List ℕ) (fs d n : ℕ) (own : List ℕ) (slot : Slot) (is : Ok own ≡ inode_in u0 fs d) (has : Contains (inode_blocks own) slot.block)
+    (lost : ((x : ℕ) → inode_in u1 fs x ≡ inode_in u0 fs x) × ((inode : List ℕ) → listing u1 inode ≡ without_entry slot (listing u0 inode))
+    × ((m : ℕ) (mine : List ℕ) → Ok mine ≡ inode_in u0 fs m → Contains (inode_blocks mine) slot.block → (x : ℕ) → x ≢ m → SameInode u0 u1 fs x)) where
+  pub others_lost : ((x : ℕ) → x ≢ n → SameInode u1 u2 fs x) → OthersSame u0 u2 fs d n
+  others_lost rest x ne ne' = same_on u0 u1 u2 fs x (lost.2 d own is has x ne) (rest x ne')
+
+  module _ (apart : d ≢ n) (inode : List ℕ) (at : Ok inode ≡ inode_in u0 fs n) (found : List ℕ) (again : Ok found ≡ inode_in u1 fs n) where
+    cleared : SameInode u0 u1 fs n
+    cleared = lost.2 d own is has n (λ e. apart (sym e))
+
+    same_links : inode_links found ≡ inode_links inode
+    same_links = ap inode_links (same_ok found inode (again ∙ (cleared.0 ∙ sym at)))
+
+    pub link_taken : AsBefore u1 u2 fs n → ((x after : List ℕ) → Ok x ≡ inode_in u1 fs n → Ok after ≡ inode_in u2 fs n → inode_links after + 1 ≡ inode_links x) → 1 < inode_links found → TookLink u0 u2 fs n inode
+    link_taken kept less more =
+        let y = as_on u0 u1 u2 fs n (same_as u0 u1 fs n cleared) kept inode at in
+        let one = less inode y.after (at ∙ sym cleared.0) y.found in
+        let same = same_links in
+        record { kept = λ lt. (y, omega (arith, one)); freed = λ le. absurd (omega (arith, le, more, same)) }
+
+    pub inode_freed : inode_in u2 fs n ≡ Err NoEntry → inode_links found ≤ 1 → TookLink u0 u2 fs n inode
+    inode_freed free few = let same = same_links in record { kept = λ lt. absurd (omega (arith, lt, few, same)); freed = λ le. free }
 
 -- All of it
 
@@ -163,7 +203,10 @@ module _ (u0 u1 u2 u3 u4 : ℕ → List ℕ) (fs d : ℕ) (name : List ℕ) (oth
     (slot2 : Slot) (again : Ok slot2 ≡ named_in u2 fs d name)
     (lost : ((x : ℕ) → inode_in u3 fs x ≡ inode_in u2 fs x) × ((inode : List ℕ) → listing u3 inode ≡ without_entry slot2 (listing u2 inode))
     × ((n : ℕ) (own : List ℕ) → Ok own ≡ inode_in u2 fs n → Contains (inode_blocks own) slot2.block → (x : ℕ) → x ≢ n → SameInode u2 u3 fs x))
-    (less : (x : ℕ) → AsBefore u3 u4 fs x) where
+    (less : (x : ℕ) → AsBefore u3 u4 fs x)
+    (stays : (x : ℕ) → x ≢ slot.inode → SameInode u0 u1 fs x) (rest : (x : ℕ) → x ≢ slot2.inode → SameInode u3 u4 fs x)
+    (one_more : (x after : List ℕ) → Ok x ≡ inode_in u0 fs slot.inode → Ok after ≡ inode_in u1 fs slot.inode → inode_links after ≡ inode_links x + 1)
+    (one_less : (x after : List ℕ) → Ok x ≡ inode_in u3 fs slot2.inode → Ok after ≡ inode_in u4 fs slot2.inode → inode_links after + 1 ≡ inode_links x) where
   x_from : IsAs u0 u1 fs d from
   x_from = linked d from (directory_from u0 fs d from is_from).0
 
@@ -185,6 +228,22 @@ module _ (u0 u1 u2 u3 u4 : ℕ → List ℕ) (fs d : ℕ) (name : List ℕ) (oth
   by_listing : listing u2 held.0 ≡ listing u0 from → slot2 ≡ slot
   by_listing e = same_Some slot2 slot (held.2 ∙ (find_listed u2 name (entries_of u2 held.0) ∙ (ap (named_among name) e ∙ (sym (find_listed u0 name (entries_of u0 from)) ∙ sym first))))
 
+  -- an inode whose links stay between the two edits has as many
+  links_again : slot2 ≡ slot → (x : ℕ) (i0 i1 i3 i4 : List ℕ) → Ok i0 ≡ inode_in u0 fs x → Ok i1 ≡ inode_in u1 fs x → Ok i3 ≡ inode_in u3 fs x → Ok i4 ≡ inode_in u4 fs x → inode_links i3 ≡ inode_links i1 → inode_links i4 ≡ inode_links i0
+  links_again one x i0 i1 i3 i4 e0 e1 e3 e4 between =
+      let number : slot2.inode ≡ slot.inode = ap (λ (s : Slot). s.inode) one in
+      elim (cases_eq x slot.inode) [
+        | inl e ↦
+            let f : x ≡ slot2.inode = e ∙ sym number in
+            let up = one_more i0 i1 (e0 ∙ ap (inode_in u0 fs) e) (e1 ∙ ap (inode_in u1 fs) e) in
+            let down = one_less i3 i4 (e3 ∙ ap (inode_in u3 fs) f) (e4 ∙ ap (inode_in u4 fs) f) in
+            omega (arith, up, down, between)
+        | inr ne ↦
+            let first : i1 ≡ i0 = same_ok i1 i0 (e1 ∙ ((stays x ne).0 ∙ sym e0)) in
+            let last : i4 ≡ i3 = same_ok i4 i3 (e4 ∙ ((rest x (λ z. ne (z ∙ number))).0 ∙ sym e3)) in
+            ap inode_links last ∙ (between ∙ ap inode_links first)
+      ]
+
   -- to another directory
   module _ (ne : d ≢ other) where
     same_inode : x_from.after ≡ held.0
@@ -200,6 +259,7 @@ module _ (u0 u1 u2 u3 u4 : ℕ → List ℕ) (fs d : ℕ) (name : List ℕ) (oth
         record {
           after = y.after;
           directory = directory_to u4 fs d y.after y.found (y.mode ∙ (directory_from u2 fs d held.0 held.1).1);
+          links = links_again (by_listing same_listing) d from x_from.after held.0 y.after (directory_from u0 fs d from is_from).0 x_from.found at3 y.found (ap inode_links (sym same_inode));
           is = y.entries ∙ (lost.1 held.0 ∙ (ap (λ s. without_entry s (listing u2 held.0)) (by_listing same_listing) ∙ ap (without_entry slot) same_listing));
         }
 
@@ -212,6 +272,7 @@ module _ (u0 u1 u2 u3 u4 : ℕ → List ℕ) (fs d : ℕ) (name : List ℕ) (oth
         record {
           after = y.after;
           directory = directory_to u4 fs other y.after y.found (y.mode ∙ at2.1);
+          links = links_again (by_listing same_listing) other to x_to.after more1.after y.after (directory_from u0 fs other to is_to).0 x_to.found (at2.0 ∙ sym s.0) y.found more1.links;
           entry = more1.entry;
           inode_named = more1.inode_named;
           front = more1.front;
@@ -252,6 +313,8 @@ module _ (u0 u1 u2 u3 u4 : ℕ → List ℕ) (fs d : ℕ) (name : List ℕ) (oth
         record {
           after = y.after;
           directory = directory_to u4 fs d y.after y.found (y.mode ∙ at2.1);
+          links = links_again same_slot d from x_from.after held.0 y.after (directory_from u0 fs d from is_from).0 x_from.found (at2.0 ∙ sym (lost.0 d)) y.found
+              (ap inode_links (sym after_same) ∙ (more1.links ∙ ap inode_links (same_ok x_to.after x_from.after (x_to.found ∙ (ap (inode_in u1 fs) (sym e) ∙ sym x_from.found)))));
           place = more1.entry;
           inode_named = more1.inode_named;
           front = more1.front;
@@ -260,10 +323,33 @@ module _ (u0 u1 u2 u3 u4 : ℕ → List ℕ) (fs d : ℕ) (name : List ℕ) (oth
           is = y.entries ∙ (lost.1 held.0 ∙ (ap (λ s. without_entry s (listing u2 held.0)) same_slot ∙ ap (without_entry slot) (ap (listing u2) (sym after_same) ∙ more1.is)));
         }
 
+  one_slot : slot2 ≡ slot
+  one_slot = elim (cases_eq d other) [ inl e ↦ same_slot e | inr ne ↦ by_listing (same_listing ne) ]
+
+  same_after : (x : ℕ) → x ≢ slot.inode → SameInode u3 u4 fs x
+  same_after x ne = rest x (λ e. ne (e ∙ ap (λ (s : Slot). s.inode) one_slot))
+
+  other_inodes : (x : ℕ) → x ≢ d → x ≢ other → AsBefore u0 u4 fs x
+  other_inodes x ne ne' = as_on u0 u1 u4 fs x (linked x) (as_on u1 u2 u4 fs x (same_as u1 u2 fs x (enters.1 x ne')) (as_on u2 u3 u4 fs x (same_as u2 u3 fs x (own x ne)) (less x)))
+
+  linked_again : slot.inode ≢ d → slot.inode ≢ other → (inode : List ℕ) → Ok inode ≡ inode_in u0 fs slot.inode → IsLinked u0 u4 fs slot.inode inode (inode_links inode)
+  linked_again ne ne' inode at =
+      let n = slot.inode in
+      let a = linked n inode at in
+      let y = other_inodes n ne ne' inode at in
+      let between : Ok a.after ≡ inode_in u3 fs n = a.found ∙ (sym (enters.1 n ne').0 ∙ sym (own n ne).0) in
+      let number : slot2.inode ≡ n = ap (λ (s : Slot). s.inode) one_slot in
+      let up = one_more inode a.after at a.found in
+      let down = one_less a.after y.after (between ∙ sym (ap (inode_in u3 fs) number)) (y.found ∙ sym (ap (inode_in u4 fs) number)) in
+      (y, omega (arith, up, down))
+
   pub moved : MovedEntry u0 u4 fs d slot other new_name
   moved = record {
     lost = λ ne inode i. subst (λ x. HasLost u0 u4 fs d x slot) (same_ok from inode (is_from ∙ sym i)) (went ne);
     more = λ ne inode i. subst (λ x. HasMore u0 u4 fs other x new_name slot.inode) (same_ok to inode (is_to ∙ sym i)) (came ne);
     renamed = λ e inode i. subst (λ x. HasRenamed u0 u4 fs d x slot new_name) (same_ok from inode (is_from ∙ sym i)) (turned e);
-    others = λ x ne ne'. as_on u0 u1 u4 fs x (linked x) (as_on u1 u2 u4 fs x (same_as u1 u2 fs x (enters.1 x ne')) (as_on u2 u3 u4 fs x (same_as u2 u3 fs x (own x ne)) (less x)));
+    others = other_inodes;
+    same = λ x ne ne' away. same_on u0 u1 u4 fs x (stays x away) (same_on u1 u2 u4 fs x (enters.1 x ne') (same_on u2 u3 u4 fs x (own x ne) (same_after x away)));
+    linked = linked_again;
+    kept = λ ne away. (same_after d away).0 ∙ (lost.0 d ∙ ((enters.1 d ne).0 ∙ (stays d away).0));
   }

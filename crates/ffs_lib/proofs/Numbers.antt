@@ -10,8 +10,7 @@ use Rattle.xn_model.specs.Lives.{StoreState}
 use Rattle.ffs_model.specs.Cuts.{latest}
 use Rattle.ffs_model.specs.Names.{IsInodes}
 use Rattle.ffs_model.specs.Volumes.{VolumeKeeps, with_edit, without_edit}
-use Rattle.ffs_model.specs.Library.{library_layout, inode_at, inode_mode, IsLibrary}
-use Rattle.ffs_model.proofs.ForCallers.{mode_read, zeros_mode}
+use Rattle.ffs_model.specs.Library.{library_layout, inode_at, IsLibrary}
 use Rattle.ffs_lib.specs.Outcomes.{IsAdded, Makes, Names}
 use Rattle.ffs_lookup.specs.Places.{IsFree}
 use Rattle.ffs_lib.specs.Volumes.{edits_of}
@@ -54,7 +53,7 @@ first_free T state fs array index block entry low added =
         few = omega arith;
         long = ap length added.empty;
       };
-      unused = ap (λ m. inode_mode (inode_at m 0)) added.empty ∙ (sym (mode_read _ 0 (omega arith)) ∙ zeros_mode 0);
+      bare = ap (λ m. inode_at m 0) added.empty;
       low = omega arith;
     }
 

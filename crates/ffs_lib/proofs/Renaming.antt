@@ -1,8 +1,8 @@
 -- What is looked up before a name is moved, in the order of the tests.
 use Rattle.std.proofs.Common.{◌≡◌, ◌≢◌, ℕ, Bool, true, false, List, Option, Some, None, refl, sym, ◌∙◌, ap, eq-eqb}
-use Rattle.std.specs.Prelude.{Result, Ok, Err, ◌==◌, ◌&&◌, not, is_some, if◌then◌else◌}
+use Rattle.std.specs.Prelude.{IsTrue, Result, Ok, Err, ◌==◌, ◌&&◌, not, is_some, if◌then◌else◌}
 use Rattle.std.specs.Option.{ok_or}
-use Rattle.std.proofs.lemmas.Bool.{and_parts, eqb-true, ne_eqb}
+use Rattle.std.proofs.lemmas.Bool.{and_parts, eqb-false, eqb-true, ne_eqb}
 use Rattle.ffs_model.specs.Library.{inode_links, inode_mode}
 use Rattle.ffs_format.specs.Entries.{is_name}
 use Rattle.ffs_lookup.specs.declared.fault.FfsFault.{FfsFault}
@@ -110,6 +110,11 @@ pub record CanMove (content : ℕ → List ℕ) (fs d : ℕ) (name : List ℕ) (
   pub is_to : Ok to ≡ directory_in content fs other
   pub first : Some entry ≡ first_named content from name
   pub free : None ≡ first_named content to new_name
+  pub good : IsTrue (is_name name)
+  pub own : List ℕ
+  pub is_own : Ok own ≡ inode_in content fs entry.inode
+  pub few : inode_links own ≢ 65535
+  pub room : has_room content to ≡ true
 
 then_first : {A : Type 0} (t : Bool) (r : Result A FfsFault) (fault : FfsFault) (y : A) → Ok y ≡ (if t then r else Err fault) → (t ≡ true) × (Ok y ≡ r)
 then_first true r fault y e = (refl, e)
@@ -119,11 +124,12 @@ none_from : {A : Type 0} (o : Option A) → is_some o ≡ false → None ≡ o
 none_from None e = refl
 none_from (Some x) e = absurd (cc e)
 
-linkable_is : (content : ℕ → List ℕ) (same : Bool) (to : List ℕ) (entry found : Slot) (inode : List ℕ) → Ok found ≡ if_linkable content same to entry inode → entry ≡ found
+linkable_is : (content : ℕ → List ℕ) (same : Bool) (to : List ℕ) (entry found : Slot) (inode : List ℕ) → Ok found ≡ if_linkable content same to entry inode → (entry ≡ found) × (inode_links inode ≢ 65535) × (has_room content to ≡ true)
 linkable_is content same to entry found inode e =
     let a = not_first ((inode_mode inode == 2) && not same) IsDir (if inode_links inode == 65535 then Err TooLarge else if has_room content to then Ok entry else Err TooLarge) found e in
     let b = not_first (inode_links inode == 65535) TooLarge (if has_room content to then Ok entry else Err TooLarge) found a.1 in
-    (only_first (has_room content to) entry found TooLarge b.1).1
+    let c = only_first (has_room content to) entry found TooLarge b.1 in
+    (c.1, eqb-false (inode_links inode) 65535 b.0, c.0)
 
 pub can_move : (content : ℕ → List ℕ) (fs d : ℕ) (name : List ℕ) (other : ℕ) (new_name : List ℕ) (entry : Slot) → Ok entry ≡ rename_in content fs d name other new_name → CanMove content fs d name other new_name entry
 unfolding rename_in
@@ -137,7 +143,9 @@ can_move content fs d name other new_name entry e =
     let o = passed (ok_or (first_named content a.0 name) NoEntry) (if_unnamed content fs same b.0 new_name) entry n.1 in
     let f = not_first (is_some (first_named content b.0 new_name)) Exists (and_then (inode_in content fs o.0.inode) (if_linkable content same b.0 o.0)) entry o.2 in
     let i = passed (inode_in content fs o.0.inode) (if_linkable content same b.0 o.0) entry f.1 in
-    let one : o.0 ≡ entry = linkable_is content same b.0 o.0 entry i.0 i.2 in
+    let linkable = linkable_is content same b.0 o.0 entry i.0 i.2 in
+    let one : o.0 ≡ entry = linkable.0 in
+    let names = and_parts (is_name name) (is_name new_name) n.0 in
     let modes = and_parts (inode_mode a.0 == 2) (inode_mode b.0 == 2) c.0 in
     record {
       from = a.0;
@@ -146,4 +154,9 @@ can_move content fs d name other new_name entry e =
       is_to = directory_is b.0 (eqb-true (inode_mode b.0) 2 modes.1) ∙ in_directory content fs other (Ok b.0) b.1;
       first = ap (λ s. Some s) (sym one) ∙ is_some_ok (first_named content a.0 name) o.0 o.1;
       free = none_from (first_named content b.0 new_name) f.0;
+      good = names.0;
+      own = i.0;
+      is_own = i.1 ∙ ap (λ (s : Slot). inode_in content fs s.inode) one;
+      few = linkable.1;
+      room = linkable.2;
     }

@@ -14,8 +14,8 @@ use Rattle.xn_model.specs.Rules.{IsConsistent}
 use Rattle.ffs_model.specs.Cuts.{Under, latest, root, step}
 use Rattle.ffs_model.specs.Names.{IsInodes, IsRoot}
 use Rattle.ffs_model.specs.Volumes.{Reads}
-use Rattle.ffs_model.specs.Library.{IsLibrary, inode_at, inode_mode, library_layout, pointer_word, zeros}
-use Rattle.ffs_model.proofs.ForCallers.{bytes_apart, direct_where, latest_reached, library_reads, mode_read, one_type, proposed_here, proposed_others, started, started_others, under_inodes, word_apart, word_within, zeros_mode}
+use Rattle.ffs_model.specs.Library.{IsLibrary, inode_at, inode_mode, library_layout, pointer_word}
+use Rattle.ffs_model.proofs.ForCallers.{bytes_apart, direct_where, latest_reached, library_reads, one_type, proposed_here, proposed_others, started, started_others, under_inodes, word_apart, word_within}
 use Rattle.ffs_format.specs.Fields.{direct_in}
 use Rattle.ffs_lookup.specs.declared.fault.FfsFault.{FfsFault}
 use Rattle.ffs_lookup.specs.declared.fault.FfsFault.TheVariants.{NoEntry}
@@ -79,7 +79,7 @@ module _ (T : Types) (lib : IsLibrary T) (v w : ℕ → List ℕ) (fs block ty :
   unfolding root_in
   root_same = ap (λ m. root_of_type (slot m fs)) t.top
 
-  root_bytes : ty ≢ 3 → (r : ℕ) → Ok r ≡ root_in v fs → w r ≡ v r
+  pub root_bytes : ty ≢ 3 → (r : ℕ) → Ok r ≡ root_in v fs → w r ≡ v r
   root_bytes not r e = let is = root_from v fs r e in let at = root is.at is.there in t.others r 3 at (t.apart r 3 at (λ z. not (sym z)))
 
   pub block_same : ty ≢ 3 → (j : ℕ) → inode_block_in w fs j ≡ inode_block_in v fs j
@@ -225,76 +225,79 @@ pub word_read : (b : ℕ) → b < 2 ^ 32 → word_at (to_le_bytes w32 b) 0 ≡ b
 unfolding word_at
 word_read b small = from_le_bytes-to_le_bytes_4 b small
 
--- A pointer of the root block is set to a block of zeros, in which no inode is in use
-pub pointer_touched : (T : Types) (lib : IsLibrary T) (state new : StoreState) (h : IsConsistent T state) (fs : ℕ) (few : fs < 32) (top index b entry : ℕ) → IsRoot (latest state.lives) fs top → index < 16 → pointer_word (latest state.lives top) index ≡ 0 →
-    length (latest state.lives top) ≡ 512 → b < 2 ^ 32 → b ≢ 0 → latest state.lives b ≡ zeros → b ≢ top →
-    propose_of T state fs top (edit_at (4 * index) (to_le_bytes w32 b) ((b, 4) ∷ []) [] None) ≡ Ok (entry, new) → (d : ℕ) → SameInode (latest state.lives) (latest new.lives) fs d
-pointer_touched T lib state new h fs few top index b entry is_root low empty long small there bare apart done d =
-    same_by T lib state h fs few w top 3 t d (inode_by v w fs d by_index) (λ inode s. avoids T lib state h fs few w top 3 t d inode s (λ z. omega (arith, z)) (λ z. omega (arith, z)))
-  where
-    v : ℕ → List ℕ
-    v = latest state.lives
+-- A pointer of the root block is set
+module _ (T : Types) (lib : IsLibrary T) (state new : StoreState) (h : IsConsistent T state) (fs : ℕ) (few : fs < 32) (top index b entry : ℕ) (is_root : IsRoot (latest state.lives) fs top) (low : index < 16) (empty : pointer_word (latest state.lives top) index ≡ 0)
+    (long : length (latest state.lives top) ≡ 512) (small : b < 2 ^ 32) (there : b ≢ 0) (done : propose_of T state fs top (edit_at (4 * index) (to_le_bytes w32 b) ((b, 4) ∷ []) [] None) ≡ Ok (entry, new)) where
+  abbrev old_bytes : ℕ → List ℕ
+  old_bytes = latest state.lives
 
-    w : ℕ → List ℕ
-    w = latest new.lives
+  abbrev new_bytes : ℕ → List ℕ
+  new_bytes = latest new.lives
 
-    edit : Edit
-    edit = edit_at (4 * index) (to_le_bytes w32 b) ((b, 4) ∷ []) [] None
+  abbrev edit : Edit
+  edit = edit_at (4 * index) (to_le_bytes w32 b) ((b, 4) ∷ []) [] None
 
-    t : Touches T v w fs top 3
-    t = edited T state new h fs few top 3 edit entry done (root is_root.at is_root.there)
+  touched : Touches T old_bytes new_bytes fs top 3
+  touched = edited T state new h fs few top 3 edit entry done (root is_root.at is_root.there)
 
-    others : (c : ℕ) → c ≢ top → w c ≡ v c
-    others = proposed_others T state new h fs top edit entry done
+  others : (c : ℕ) → c ≢ top → new_bytes c ≡ old_bytes c
+  others = proposed_others T state new h fs top edit entry done
 
-    here : w top ≡ put (v top) (4 * index) (to_le_bytes w32 b)
-    here = proposed_here T state new h fs top edit entry done
+  here : new_bytes top ≡ put (old_bytes top) (4 * index) (to_le_bytes w32 b)
+  here = proposed_here T state new h fs top edit entry done
 
-    four : length (to_le_bytes w32 b) ≡ 4
-    four = refl
+  fit : 4 * index + length (to_le_bytes w32 b) ≤ length (old_bytes top)
+  fit = let four : length (to_le_bytes w32 b) ≡ 4 = refl in omega (arith, four, low, long)
 
-    fit : 4 * index + length (to_le_bytes w32 b) ≤ length (v top)
-    fit = omega (arith, four, low, long)
+  read : (content : ℕ → List ℕ) (j : ℕ) → Ok top ≡ root_in content fs → inode_block_in content fs j ≡ unless_zero (pointer_word (content top) j)
+  read content j e = sym (in_root_block content fs j top (content top) e refl)
 
-    read : (content : ℕ → List ℕ) (j : ℕ) → Ok top ≡ root_in content fs → inode_block_in content fs j ≡ unless_zero (pointer_word (content top) j)
-    read content j e = sym (in_root_block content fs j top (content top) e refl)
+  old_root : Ok top ≡ root_in old_bytes fs
+  old_root = root_again old_bytes fs top is_root
 
-    old_root : Ok top ≡ root_in v fs
-    old_root = root_again v fs top is_root
+  new_root : Ok top ≡ root_in new_bytes fs
+  new_root = old_root ∙ sym (root_same T lib old_bytes new_bytes fs top 3 touched)
 
-    new_root : Ok top ≡ root_in w fs
-    new_root = old_root ∙ sym (root_same T lib v w fs top 3 t)
+  new_word : pointer_word (new_bytes top) index ≡ b
+  new_word =
+      let four : length (to_le_bytes w32 b) ≡ 4 = refl in
+      ap (λ m. pointer_word m index) here ∙ (word_within (old_bytes top) (4 * index) (to_le_bytes w32 b) fit (4 * index) 0 (omega arith) (omega (arith, four)) ∙ word_read b small)
 
-    new_word : pointer_word (w top) index ≡ b
-    new_word = ap (λ m. pointer_word m index) here ∙ (word_within (v top) (4 * index) (to_le_bytes w32 b) fit (4 * index) 0 (omega arith) (omega (arith, four)) ∙ word_read b small)
+  -- there was no block of inodes at its index, and now there is
+  pub none_pointed : inode_block_in old_bytes fs index ≡ Err NoEntry
+  none_pointed = read old_bytes index old_root ∙ (ap unless_zero empty ∙ sym (zero_is 0 refl))
 
-    no_mode : (p : ℕ) → p < 8 → inode_mode (inode_at (w b) p) ≡ 0
-    no_mode p lt = ap (λ m. inode_mode (inode_at m p)) (others b apart ∙ bare) ∙ (sym (mode_read zeros p lt) ∙ zeros_mode p)
+  pub now_pointed : inode_block_in new_bytes fs index ≡ Ok b
+  now_pointed = read new_bytes index new_root ∙ (ap unless_zero new_word ∙ sym (not_zero b there))
 
-    by_index : d ≢ 0 → d ≤ 128 → and_then (inode_block_in w fs ((d - 1) / 8)) (λ c. unless_unused (inode_at (w c) ((d - 1) % 8))) ≡ and_then (inode_block_in v fs ((d - 1) / 8)) (λ c. unless_unused (inode_at (v c) ((d - 1) % 8)))
-    by_index some few' = elim (cases_eq ((d - 1) / 8) index) [
-      | inl e ↦
-          let j : ℕ = (d - 1) / 8 in
-          let p : ℕ = (d - 1) % 8 in
-          let found : inode_block_in w fs j ≡ Ok b = read w j new_root ∙ (ap unless_zero (ap (pointer_word (w top)) e ∙ new_word) ∙ sym (not_zero b there)) in
-          let none : inode_block_in v fs j ≡ Err NoEntry = read v j old_root ∙ (ap unless_zero (ap (pointer_word (v top)) e ∙ empty) ∙ sym (zero_is 0 refl)) in
-          ap (λ (r : Result ℕ FfsFault). and_then r (λ c. unless_unused (inode_at (w c) p))) found
-          ∙ (sym (unused_is (inode_at (w b) p) (no_mode p (omega arith))) ∙ sym (ap (λ (r : Result ℕ FfsFault). and_then r (λ c. unless_unused (inode_at (v c) p))) none))
-      | inr ne ↦
-          let j : ℕ = (d - 1) / 8 in
-          let p : ℕ = (d - 1) % 8 in
-          let away : (4 * j + 4 ≤ 4 * index) ⊎ (4 * index + length (to_le_bytes w32 b) ≤ 4 * j) = elim (cases_lt j index) [ inl lt ↦ inl (omega (arith, lt)) | inr ge ↦ inr (omega (arith, ge, ne, four)) ] in
-          let word : pointer_word (w top) j ≡ pointer_word (v top) j = ap (λ m. pointer_word m j) here ∙ word_apart (v top) (4 * index) (to_le_bytes w32 b) fit (4 * j) away in
-          let same : inode_block_in w fs j ≡ inode_block_in v fs j = read w j new_root ∙ (ap unless_zero word ∙ sym (read v j old_root)) in
-          ap (λ (r : Result ℕ FfsFault). and_then r (λ c. unless_unused (inode_at (w c) p))) same ∙ go j p few' refl (inode_block_in v fs j) refl
-    ]
-      where
-        go : (j p : ℕ) → d ≤ 128 → j ≡ (d - 1) / 8 → (r : Result ℕ FfsFault) → r ≡ inode_block_in v fs j → and_then r (λ c. unless_unused (inode_at (w c) p)) ≡ and_then r (λ c. unless_unused (inode_at (v c) p))
-        go j p few' e (Err fault) f = refl
-        go j p few' e (Ok c) f =
-            let is = block_from v fs j c (omega (arith, few', e)) f in
-            let at = under_inodes T library_layout (library_reads T lib) v fs j c is in
-            ap (λ m. unless_unused (inode_at m p)) (t.others c 4 at (t.apart c 4 at (λ z. omega (arith, z))))
+  -- an inode that isn't in use in that block is as before
+  pub pointer_touched : b ≢ top → (d : ℕ) → (d ≢ 0 → (d - 1) / 8 ≡ index → inode_mode (inode_at (old_bytes b) ((d - 1) % 8)) ≡ 0) → SameInode old_bytes new_bytes fs d
+  pointer_touched apart d unused =
+      same_by T lib state h fs few new_bytes top 3 touched d (inode_by old_bytes new_bytes fs d by_index) (λ inode s. avoids T lib state h fs few new_bytes top 3 touched d inode s (λ z. omega (arith, z)) (λ z. omega (arith, z)))
+    where
+      by_index : d ≢ 0 → d ≤ 128 → and_then (inode_block_in new_bytes fs ((d - 1) / 8)) (λ c. unless_unused (inode_at (new_bytes c) ((d - 1) % 8))) ≡ and_then (inode_block_in old_bytes fs ((d - 1) / 8)) (λ c. unless_unused (inode_at (old_bytes c) ((d - 1) % 8)))
+      by_index some few' = elim (cases_eq ((d - 1) / 8) index) [
+        | inl e ↦
+            let p : ℕ = (d - 1) % 8 in
+            let no_mode : inode_mode (inode_at (new_bytes b) p) ≡ 0 = ap (λ m. inode_mode (inode_at m p)) (others b apart) ∙ unused some e in
+            ap (λ (r : Result ℕ FfsFault). and_then r (λ c. unless_unused (inode_at (new_bytes c) p))) (ap (inode_block_in new_bytes fs) e ∙ now_pointed)
+            ∙ (sym (unused_is (inode_at (new_bytes b) p) no_mode) ∙ sym (ap (λ (r : Result ℕ FfsFault). and_then r (λ c. unless_unused (inode_at (old_bytes c) p))) (ap (inode_block_in old_bytes fs) e ∙ none_pointed)))
+        | inr ne ↦
+            let j : ℕ = (d - 1) / 8 in
+            let p : ℕ = (d - 1) % 8 in
+            let four : length (to_le_bytes w32 b) ≡ 4 = refl in
+            let away : (4 * j + 4 ≤ 4 * index) ⊎ (4 * index + length (to_le_bytes w32 b) ≤ 4 * j) = elim (cases_lt j index) [ inl lt ↦ inl (omega (arith, lt)) | inr ge ↦ inr (omega (arith, ge, ne, four)) ] in
+            let word : pointer_word (new_bytes top) j ≡ pointer_word (old_bytes top) j = ap (λ m. pointer_word m j) here ∙ word_apart (old_bytes top) (4 * index) (to_le_bytes w32 b) fit (4 * j) away in
+            let same : inode_block_in new_bytes fs j ≡ inode_block_in old_bytes fs j = read new_bytes j new_root ∙ (ap unless_zero word ∙ sym (read old_bytes j old_root)) in
+            ap (λ (r : Result ℕ FfsFault). and_then r (λ c. unless_unused (inode_at (new_bytes c) p))) same ∙ go j p few' refl (inode_block_in old_bytes fs j) refl
+      ]
+        where
+          go : (j p : ℕ) → d ≤ 128 → j ≡ (d - 1) / 8 → (r : Result ℕ FfsFault) → r ≡ inode_block_in old_bytes fs j → and_then r (λ c. unless_unused (inode_at (new_bytes c) p)) ≡ and_then r (λ c. unless_unused (inode_at (old_bytes c) p))
+          go j p few' e (Err fault) f = refl
+          go j p few' e (Ok c) f =
+              let is = block_from old_bytes fs j c (omega (arith, few', e)) f in
+              let at = under_inodes T library_layout (library_reads T lib) old_bytes fs j c is in
+              ap (λ m. unless_unused (inode_at m p)) (touched.others c 4 at (touched.apart c 4 at (λ z. omega (arith, z))))
 
 -- A new block is not block 0
 pub begun_some : (T : Types) (state new : StoreState) → IsConsistent T state → (fs ty : ℕ) (bytes : List ℕ) (made : ℕ × ℕ) → init_of T state fs ty bytes ≡ Ok (made, new) → made.0 ≢ 0

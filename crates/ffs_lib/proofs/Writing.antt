@@ -230,12 +230,12 @@ module _ (T : Types) (lib : IsLibrary T) (zeroth first second : StoreState) (h :
 
 -- A file's inode is written
 
-get_here : (ws : List ℕ) (k b : ℕ) → k < length ws → get_or (slice_set ws k b) k 0 ≡ b
+pub get_here : (ws : List ℕ) (k b : ℕ) → k < length ws → get_or (slice_set ws k b) k 0 ≡ b
 get_here [] k b lt = absurd (omega (arith, lt))
 get_here (w ∷ ws) zero b lt = refl
 get_here (w ∷ ws) (suc k) b lt = get_here ws k b (omega (arith, lt))
 
-get_apart : (ws : List ℕ) (k b j : ℕ) → j ≢ k → get_or (slice_set ws k b) j 0 ≡ get_or ws j 0
+pub get_apart : (ws : List ℕ) (k b j : ℕ) → j ≢ k → get_or (slice_set ws k b) j 0 ≡ get_or ws j 0
 get_apart [] k b j ne = refl
 get_apart (w ∷ ws) zero b zero ne = absurd (ne refl)
 get_apart (w ∷ ws) zero b (suc j) ne = refl
@@ -291,7 +291,7 @@ module _ (T : Types) (lib : IsLibrary T) (state new : StoreState) (h : IsConsist
   pub file_others : (d : ℕ) → d ≢ n → SameInode v3 v4 fs d
   file_others = put_file.1
 
-  file_now : Ok bytes ≡ file_in v4 fs n
+  pub file_now : Ok bytes ≡ file_in v4 fs n
   file_now = file_is bytes (λ z. file.file (sym mode ∙ z)) ∙ in_file v4 fs n (Ok bytes) (sym put_file.0)
 
   pointers_stay : word_at found.inode 56 ≢ 0 → v4 (word_at found.inode 56) ≡ v3 (word_at found.inode 56)

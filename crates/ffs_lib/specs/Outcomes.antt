@@ -1,23 +1,25 @@
 -- What the edits of a volume leave, each for every array of numbers for which a volume's rules held before.
 --     Keeps T fs old new      a volume's rules hold on
 --     IsMade, ..              and what may come next
-use Rattle.std.specs.Prelude.{◌≡◌, ◌≢◌, ℕ, ◌-◌, ◌/◌, ◌<◌, List, [], Option, None, Ok, Contains, length, max, ◌+◌, slice_set, true, IfErr, IsTrue, Result}
+use Rattle.std.specs.Prelude.{◌≡◌, ◌≢◌, ℕ, ◌-◌, ◌/◌, ◌<◌, List, [], Option, None, Ok, Contains, length, max, ◌+◌, slice_set, Some, Bool, true, IfErr, IsTrue, Result, Err}
 use Rattle.xn_model.specs.Types.{Types}
-use Rattle.xn_model.specs.Root.{word_at}
-use Rattle.xn_model.specs.Lives.{StoreState}
-use Rattle.xn_model.specs.Calls.{was_given}
+use Rattle.xn_model.specs.Lists.{put}
+use Rattle.xn_model.specs.Root.{slot, word_at}
+use Rattle.xn_model.specs.Lives.{Life, StoreState, life_at}
+use Rattle.xn_model.specs.Calls.{may_add, was_given}
 use Rattle.ffs_model.specs.Cuts.{Under, latest}
 use Rattle.ffs_model.specs.Names.{IsInodes}
 use Rattle.ffs_model.specs.Edits.{HoldsOnly, OneEntry}
 use Rattle.ffs_model.specs.Volumes.{VolumeKeeps, CanName, CanUnlink, with_edit, without_edit}
-use Rattle.ffs_model.specs.Library.{inode_blocks, library_layout, IsLibrary, zeros}
+use Rattle.ffs_model.specs.Library.{inode_blocks, inode_links, library_layout, IsLibrary, zeros}
 use Rattle.xn_model.specs.Rules.{IsConsistent}
 use Rattle.ffs_lookup.specs.declared.fault.FfsFault.{FfsFault}
+use Rattle.ffs_lookup.specs.declared.fault.FfsFault.TheVariants.{NoEntry}
 use Rattle.ffs_lookup.specs.declared.places.Found.{Found}
 use Rattle.ffs_lookup.specs.declared.places.Slot.{Slot}
 use Rattle.ffs_format.specs.Fields.{fields_of}
-use Rattle.ffs_lookup.specs.Newest.{byte_of, directory_in, file_block, file_in, inode_in, is_short, listing, without_entry}
-use Rattle.ffs_lib.specs.Results.{AsBefore, HasMore, SameInode, byte_written}
+use Rattle.ffs_lookup.specs.Newest.{byte_of, directory_in, file_block, file_in, inode_in, is_short, listing, make_in, without_entry, has_empty_pointer, inode_block_in, root_in}
+use Rattle.ffs_lib.specs.Results.{AsBefore, HasMore, MadeVolume, SameInode, byte_written, new_inode}
 use Rattle.ffs_lookup.specs.Places.{IsDirectory}
 
 abbrev pub Keeps : Types → ℕ → StoreState → StoreState → Type 0
@@ -111,6 +113,7 @@ PutsInode T fs n bytes old new = IsLibrary T → IsConsistent T old → (inode_i
 pub record IsGrown (old new : ℕ → List ℕ) (fs d : ℕ) (inode : List ℕ) (index block : ℕ) : Type 0 where
   pub after : List ℕ
   pub directory : Ok after ≡ directory_in new fs d
+  pub links : inode_links after ≡ inode_links inode
   pub direct : (fields_of after).direct ≡ slice_set (fields_of inode).direct index block
   pub bytes : (c : ℕ) → (IsInodes library_layout old fs ((d - 1) / 8) c → ⊥) → new c ≡ old c
   pub others : (e : ℕ) → e ≢ d → SameInode old new fs e
@@ -127,6 +130,7 @@ Enters T fs d name n old new = IsLibrary T → IsConsistent T old → n ≢ 0 �
 -- What stands in the bytes of a file
 --     WritesBytes      bytes are written into it, and its size stays
 --     AttachesBlock    it has a new block, where it had none
+--     HasPointers      it has a block of pointers
 --     RaisesSize       its size is raised
 
 pub record WroteBytes (old new : ℕ → List ℕ) (fs n : ℕ) (inode : List ℕ) (start : ℕ) (bytes : List ℕ) : Type 0 where
@@ -169,6 +173,13 @@ AttachesPointers T fs n block old new = IsLibrary T → IsConsistent T old → l
     ((inode : List ℕ) → Ok inode ≡ file_in (latest old.lives) fs n → word_at inode 56 ≡ 0 → WroteBytes (latest old.lives) (latest new.lives) fs n inode 0 [])
     × ((d : ℕ) → d ≢ n → SameInode (latest old.lives) (latest new.lives) fs d)
 
+-- a file has a block of pointers
+pub record HasPointers (T : Types) (state : StoreState) (fs n : ℕ) : Type 0 where
+  pub consistent : IsConsistent T state
+  pub inode : List ℕ
+  pub file : Ok inode ≡ file_in (latest state.lives) fs n
+  pub there : word_at inode 56 ≢ 0
+
 pub record IsRaised (old new : ℕ → List ℕ) (fs n : ℕ) (inode : List ℕ) (size : ℕ) : Type 0 where
   pub after : List ℕ
   pub file : Ok after ≡ file_in new fs n
@@ -181,16 +192,48 @@ RaisesSize T fs n size old new = IsLibrary T → (array : ℕ → Option ℕ) �
     × ((d : ℕ) → d ≢ n → SameInode (latest old.lives) (latest new.lives) fs d)
 
 -- What stands after other edits of a name
---     Relinks       an inode's links changed
---     LosesName     an entry is cleared, in the directory that has its block
+--     Relinks                  an inode's links changed
+--     MoreLinks, LessLinks     it has one more; it has one less
+--     Frees                    it is free
+--     LosesName                an entry is cleared, in the directory that has its block
 
 abbrev pub Relinks : Types → ℕ → StoreState → StoreState → Type 0
 Relinks T fs old new = IsLibrary T → IsConsistent T old → (d : ℕ) → AsBefore (latest old.lives) (latest new.lives) fs d
+
+abbrev pub MoreLinks : Types → ℕ → ℕ → StoreState → StoreState → Type 0
+MoreLinks T fs n old new = IsLibrary T → IsConsistent T old → (inode after : List ℕ) → Ok inode ≡ inode_in (latest old.lives) fs n → Ok after ≡ inode_in (latest new.lives) fs n → inode_links after ≡ inode_links inode + 1
+
+abbrev pub LessLinks : Types → ℕ → ℕ → StoreState → StoreState → Type 0
+LessLinks T fs n old new = IsLibrary T → IsConsistent T old → (inode after : List ℕ) → Ok inode ≡ inode_in (latest old.lives) fs n → Ok after ≡ inode_in (latest new.lives) fs n → inode_links after + 1 ≡ inode_links inode
+
+abbrev pub Frees : Types → ℕ → ℕ → StoreState → StoreState → Type 0
+Frees T fs n old new = IsLibrary T → IsConsistent T old → inode_in (latest new.lives) fs n ≡ Err NoEntry
 
 abbrev pub LosesName : Types → ℕ → Slot → StoreState → StoreState → Type 0
 LosesName T fs entry old new = IsLibrary T → IsConsistent T old →
     ((d : ℕ) → inode_in (latest new.lives) fs d ≡ inode_in (latest old.lives) fs d) × ((inode : List ℕ) → listing (latest new.lives) inode ≡ without_entry entry (listing (latest old.lives) inode))
     × ((n : ℕ) (own : List ℕ) → Ok own ≡ inode_in (latest old.lives) fs n → Contains (inode_blocks own) entry.block → (d : ℕ) → d ≢ n → SameInode (latest old.lives) (latest new.lives) fs d)
+
+-- What stands after the edits that make a volume
+--     SetsRoot          the root slot names a block, and no other changes
+--     IsReady           a root block without a first block of inodes is there, and all inodes are as before
+--     GetsRoot, MakesTop    there was none before; inode 1 is that of a block that was attached
+
+abbrev pub SetsRoot : Types → ℕ → ℕ → StoreState → StoreState → Type 0
+SetsRoot T fs block old new = IsConsistent T old → (l : Life) → life_at old.lives block ≡ Some l →
+    (slot (latest new.lives 0) fs ≡ (block, l.ty)) × ((c : ℕ) → c ≢ 0 → latest new.lives c ≡ latest old.lives c) × ((p : ℕ × ℕ) → p.0 ≢ block → may_add new fs p ≡ may_add old fs p)
+
+pub record IsReady (old new : StoreState) (fs : ℕ) : Type 0 where
+  pub ready : Ok true ≡ make_in (latest new.lives) fs
+  pub stays : (d : ℕ) → SameInode (latest old.lives) (latest new.lives) fs d
+  pub kept : (c : ℕ) (l : Life) → c ≢ 0 → life_at old.lives c ≡ Some l → latest new.lives c ≡ latest old.lives c
+  pub addable : (p : ℕ × ℕ) → may_add old fs p ≡ true → may_add new fs p ≡ true
+
+abbrev pub GetsRoot : Types → ℕ → Bool → StoreState → StoreState → Type 0
+GetsRoot T fs begun old new = IsLibrary T → IsConsistent T old → Ok begun ≡ make_in (latest old.lives) fs → IsReady old new fs
+
+abbrev pub MakesTop : Types → ℕ → ℕ → StoreState → StoreState → Type 0
+MakesTop T fs block old new = IsLibrary T → IsConsistent T old → latest old.lives block ≡ put zeros 0 (new_inode 2) → block ≢ 0 → MadeVolume (latest old.lives) (latest new.lives) fs
 
 -- Which edits are refused for want of something alone
 --     CanEdit     a call may propose an edit that comes after this one
@@ -203,3 +246,22 @@ pub record CanEdit (T : Types) (state : StoreState) (after : Option ℕ) : Type 
 
 abbrev pub OnlyShort : {A : Type 0} → Result A FfsFault → Type 0
 OnlyShort result = IfErr result (λ fault. is_short fault ≡ true)
+
+-- What an edit wants of the newest bytes, and leaves for the next
+--     HasFreePointer    the root block has an empty pointer, and one to a block of inodes at index 0
+--     HasNoData         an inode's block of pointers, if it has one, owns nothing
+--     DropsData         an inode is as before, and has no data there
+
+pub record HasFreePointer (content : ℕ → List ℕ) (fs : ℕ) : Type 0 where
+  pub first : ℕ
+  pub inodes : Ok first ≡ inode_block_in content fs 0
+  pub root : ℕ
+  pub is_root : Ok root ≡ root_in content fs
+  pub empty : has_empty_pointer content root ≡ true
+
+abbrev pub HasNoData : Types → (ℕ → List ℕ) → List ℕ → Type 0
+HasNoData T content inode = word_at inode 56 ≢ 0 → T.owned 5 (content (word_at inode 56)) ≡ []
+
+abbrev pub DropsData : Types → ℕ → ℕ → StoreState → StoreState → Type 0
+DropsData T fs n old new = IsLibrary T → IsConsistent T old → (inode : List ℕ) → Ok inode ≡ inode_in (latest old.lives) fs n →
+    (Ok inode ≡ inode_in (latest new.lives) fs n) × HasNoData T (latest new.lives) inode

@@ -3,16 +3,18 @@
 --     OthersSame, OnlyChanges    so are all inodes but those with two numbers; but that with one
 --     new_inode                  an inode with one link, size 0 and no block
 --     HasMore, MadeEntry         a directory has one entry more; it names a new inode
+--     MadeVolume                 a file system has a top directory
 --     byte_written, IsWritten    the bytes of a file after a write
 --     IsAs, AsBefore             an inode is as before but for its links
+--     IsLinked, TookLink         it is, with so many links; it lost one, or is free
 --     MovedEntry                 an entry went to another directory, or got another name
-use Rattle.std.specs.Prelude.{◌≡◌, ◌≢◌, ℕ, ◌+◌, ◌-◌, ◌<◌, ◌&&◌, List, ◌∷◌, ◌++◌, length, max, nat_le, nat_lt, get_or, replicate, Ok, Err, if◌then◌else◌, ◌==◌, Some, None}
+use Rattle.std.specs.Prelude.{◌≡◌, ◌≢◌, ℕ, ◌+◌, ◌-◌, ◌<◌, ◌≤◌, ◌&&◌, List, ◌∷◌, ◌++◌, length, max, nat_le, nat_lt, get_or, replicate, Ok, Err, if◌then◌else◌, ◌==◌, Some, None}
 use Rattle.std.specs.Int.{w16, to_le_bytes}
 use Rattle.xn_model.specs.Root.{word_at}
-use Rattle.ffs_model.specs.Library.{inode_mode}
+use Rattle.ffs_model.specs.Library.{inode_links, inode_mode}
 use Rattle.ffs_lookup.specs.declared.fault.FfsFault.TheVariants.{NoEntry}
 use Rattle.ffs_lookup.specs.declared.places.Slot.{Slot}
-use Rattle.ffs_lookup.specs.Newest.{byte_of, directory_in, file_end, file_in, first_named, inode_in, listing, without_entry}
+use Rattle.ffs_lookup.specs.Newest.{byte_of, directory_in, file_end, file_in, first_named, has_room, inode_in, listing, without_entry}
 
 -- Inodes that stay
 
@@ -35,10 +37,11 @@ abbrev pub new_inode : ℕ → List ℕ
 new_inode mode = to_le_bytes w16 mode ++ to_le_bytes w16 1 ++ replicate 60 0
 
 -- The directory with a number, whose inode was this one, has its old entries in their order and one more, which is the first with its
--- name where none had it before.
+-- name where none had it before. It has as many links.
 pub record HasMore (old new : ℕ → List ℕ) (fs d : ℕ) (inode name : List ℕ) (n : ℕ) : Type 0 where
   pub after : List ℕ
   pub directory : Ok after ≡ directory_in new fs d
+  pub links : inode_links after ≡ inode_links inode
   pub entry : Slot
   pub inode_named : entry.inode ≡ n
   pub front : List (Slot × List ℕ)
@@ -53,6 +56,12 @@ pub record MadeEntry (old new : ℕ → List ℕ) (fs d : ℕ) (name : List ℕ)
   pub made : inode_in new fs n ≡ Ok (new_inode mode)
   pub entry : (inode : List ℕ) → Ok inode ≡ directory_in old fs d → HasMore old new fs d inode name n
   pub others : OthersSame old new fs d n
+
+-- Inode 1, which was free, is a directory without entries, and all others are as before.
+pub record MadeVolume (old new : ℕ → List ℕ) (fs : ℕ) : Type 0 where
+  pub free : inode_in old fs 1 ≡ Err NoEntry
+  pub top : inode_in new fs 1 ≡ Ok (new_inode 2)
+  pub others : OnlyChanges old new fs 1
 
 -- Bytes that are written
 
@@ -78,22 +87,34 @@ pub record IsAs (old new : ℕ → List ℕ) (fs d : ℕ) (inode : List ℕ) : T
   pub size : word_at after 4 ≡ word_at inode 4
   pub entries : listing new after ≡ listing old inode
   pub each : (at : ℕ) → at < 71680 → byte_of new after at ≡ byte_of old inode at
+  pub room : has_room new after ≡ has_room old inode
 
 abbrev pub AsBefore : (ℕ → List ℕ) → (ℕ → List ℕ) → ℕ → ℕ → Type 0
 AsBefore old new fs d = (inode : List ℕ) → Ok inode ≡ inode_in old fs d → IsAs old new fs d inode
 
+-- as before, with so many links
+abbrev pub IsLinked : (ℕ → List ℕ) → (ℕ → List ℕ) → ℕ → ℕ → List ℕ → ℕ → Type 0
+IsLinked old new fs d inode links = (is : IsAs old new fs d inode) × (inode_links is.after ≡ links)
+
+-- The inode with number n lost a link: where it had more it is as before but for that, and else it is free.
+pub record TookLink (old new : ℕ → List ℕ) (fs n : ℕ) (inode : List ℕ) : Type 0 where
+  pub kept : 1 < inode_links inode → IsLinked old new fs n inode (inode_links inode - 1)
+  pub freed : inode_links inode ≤ 1 → inode_in new fs n ≡ Err NoEntry
+
 -- An entry that is moved
 
--- the directory with a number has lost an entry
+-- the directory with a number has lost an entry, and has as many links
 pub record HasLost (old new : ℕ → List ℕ) (fs d : ℕ) (inode : List ℕ) (entry : Slot) : Type 0 where
   pub after : List ℕ
   pub directory : Ok after ≡ directory_in new fs d
+  pub links : inode_links after ≡ inode_links inode
   pub is : listing new after ≡ without_entry entry (listing old inode)
 
--- it has lost one and got another, with a new name for the same inode
+-- it has lost one and got another, with a new name for the same inode, and has as many links
 pub record HasRenamed (old new : ℕ → List ℕ) (fs d : ℕ) (inode : List ℕ) (entry : Slot) (name : List ℕ) : Type 0 where
   pub after : List ℕ
   pub directory : Ok after ≡ directory_in new fs d
+  pub links : inode_links after ≡ inode_links inode
   pub place : Slot
   pub inode_named : place.inode ≡ entry.inode
   pub front : List (Slot × List ℕ)
@@ -101,10 +122,14 @@ pub record HasRenamed (old new : ℕ → List ℕ) (fs d : ℕ) (inode : List �
   pub was : listing old inode ≡ front ++ back
   pub is : listing new after ≡ without_entry entry (front ++ (place, name) ∷ back)
 
--- An entry went from the directory with a number to that with another, which may be the same; all inodes but those two are as before,
--- but for links.
+-- An entry went from the directory with a number to that with another, which may be the same. All inodes but those two and the one that
+-- it names are as before; that one is too, with as many links, where it is neither of the two. The first keeps its inode where it is
+-- another than both.
 pub record MovedEntry (old new : ℕ → List ℕ) (fs d : ℕ) (entry : Slot) (other : ℕ) (name : List ℕ) : Type 0 where
   pub lost : d ≢ other → (inode : List ℕ) → Ok inode ≡ directory_in old fs d → HasLost old new fs d inode entry
   pub more : d ≢ other → (inode : List ℕ) → Ok inode ≡ directory_in old fs other → HasMore old new fs other inode name entry.inode
   pub renamed : d ≡ other → (inode : List ℕ) → Ok inode ≡ directory_in old fs d → HasRenamed old new fs d inode entry name
   pub others : (x : ℕ) → x ≢ d → x ≢ other → AsBefore old new fs x
+  pub same : (x : ℕ) → x ≢ d → x ≢ other → x ≢ entry.inode → SameInode old new fs x
+  pub linked : entry.inode ≢ d → entry.inode ≢ other → (inode : List ℕ) → Ok inode ≡ inode_in old fs entry.inode → IsLinked old new fs entry.inode inode (inode_links inode)
+  pub kept : d ≢ other → d ≢ entry.inode → inode_in new fs d ≡ inode_in old fs d

@@ -1,11 +1,14 @@
 // The bytes of files.
 
-ghost use Rattle.std.specs.Prelude.{◌≡◌, ◌≢◌, ◌<◌, ◌≤◌, ◌+◌, ◌*◌, ◌/◌, ◌%◌, [], length, map, Ok, IfOk, IsOk, OnOk};
+ghost use Rattle.std.specs.Prelude.{◌≡◌, ◌≢◌, ℕ, ◌<◌, ◌≤◌, ◌+◌, ◌*◌, ◌/◌, ◌%◌, List, [], length, map, None, Some, Ok, IfOk, IsOk, IsTrue, OnOk};
 ghost use Rattle.std.specs.List.{range_with_len};
+ghost use Rattle.xn_model.specs.Root.{word_at};
+ghost use Rattle.xn_model.specs.Calls.{may_add, was_given};
 ghost use Rattle.ffs_model.specs.Cuts.{Under, latest};
-ghost use Rattle.ffs_model.specs.Library.{IsLibrary};
-ghost use Rattle.ffs_lookup.specs.Newest.{byte_in, byte_of, file_block};
-ghost use Rattle.ffs_lib.specs.Outcomes.{Keeps, AttachesBlock, AttachesData, AttachesPointers, RaisesSize, WritesBytes};
+ghost use Rattle.ffs_model.specs.Library.{IsLibrary, pointer_word};
+ghost use Rattle.ffs_format.specs.Fields.{direct_in};
+ghost use Rattle.ffs_lookup.specs.Newest.{byte_in, byte_of, file_block, file_in};
+ghost use Rattle.ffs_lib.specs.Outcomes.{CanEdit, Keeps, AttachesBlock, AttachesData, AttachesPointers, HasPointers, OnlyShort, RaisesSize, WritesBytes};
 ghost use Rattle.ffs_lookup.specs.Places.{IsFile};
 
 use crate::edits;
@@ -36,6 +39,9 @@ fn attach_direct<S: Store>(
     ensures types { S.types_of store.new ≡ S.types_of store.old }
     ensures attached { OnOk result (AttachesBlock (S.types_of store.old) fs.number number index block (S.state_of store.old) (S.state_of store.new)) }
     ensures keeps { Keeps (S.types_of store.old) fs.number (S.state_of store.old) (S.state_of store.new) }
+    ensures short { CanEdit (S.types_of store.old) (S.state_of store.old) None → (inode : List ℕ) → Ok inode ≡ file_in (latest (S.state_of store.old).lives) fs.number number → direct_in inode index ≡ 0 →
+        IsTrue (may_add (S.state_of store.old) fs.number (block, 2)) → OnlyShort result }
+    ensures given { IfOk result (λ entry. IsTrue (was_given (S.state_of store.new) (Some entry))) }
 {
     let Found {
         block: home,
@@ -63,6 +69,8 @@ fn write_direct<S: Store>(
     ensures types { S.types_of store.new ≡ S.types_of store.old }
     ensures written { OnOk result (WritesBytes (S.types_of store.old) fs.number number (512 * index + at) bytes.now (S.state_of store.old) (S.state_of store.new)) }
     ensures keeps { Keeps (S.types_of store.old) fs.number (S.state_of store.old) (S.state_of store.new) }
+    ensures short { CanEdit (S.types_of store.old) (S.state_of store.old) None → (inode : List ℕ) → Ok inode ≡ file_in (latest (S.state_of store.old).lives) fs.number number → OnlyShort result }
+    ensures given { IfOk result (λ entry. IsTrue (was_given (S.state_of store.new) (Some entry))) }
 {
     let block = find_file(store, fs, number)?.inode.direct(index);
     if block == 0 {
@@ -86,6 +94,10 @@ fn attach_pointers<S: Store>(
     ensures types { S.types_of store.new ≡ S.types_of store.old }
     ensures attached { OnOk result (AttachesPointers (S.types_of store.old) fs.number number block (S.state_of store.old) (S.state_of store.new)) }
     ensures keeps { Keeps (S.types_of store.old) fs.number (S.state_of store.old) (S.state_of store.new) }
+    ensures short { CanEdit (S.types_of store.old) (S.state_of store.old) None → (inode : List ℕ) → Ok inode ≡ file_in (latest (S.state_of store.old).lives) fs.number number → word_at inode 56 ≡ 0 →
+        IsTrue (may_add (S.state_of store.old) fs.number (block, 5)) → OnlyShort result }
+    ensures pointed { OnOk result (CanEdit (S.types_of store.old) (S.state_of store.old) None → block ≢ 0 → HasPointers (S.types_of store.old) (S.state_of store.new) fs.number number) }
+    ensures given { IfOk result (λ entry. IsTrue (was_given (S.state_of store.new) (Some entry))) }
 {
     let Found {
         block: home,
@@ -108,6 +120,8 @@ fn add_pointers<S: Store>(alloc: Global, store: &mut S, fs: Fs, number: u16) -> 
     ensures types { S.types_of store.new ≡ S.types_of store.old }
     ensures same { OnOk result (WritesBytes (S.types_of store.old) fs.number number 0 [] (S.state_of store.old) (S.state_of store.new)) }
     ensures keeps { Keeps (S.types_of store.old) fs.number (S.state_of store.old) (S.state_of store.new) }
+    ensures short { CanEdit (S.types_of store.old) (S.state_of store.old) None → (inode : List ℕ) → Ok inode ≡ file_in (latest (S.state_of store.old).lives) fs.number number → OnlyShort result }
+    ensures pointed { OnOk result (CanEdit (S.types_of store.old) (S.state_of store.old) None → (inode : List ℕ) → Ok inode ≡ file_in (latest (S.state_of store.old).lives) fs.number number → HasPointers (S.types_of store.old) (S.state_of store.new) fs.number number) }
 {
     if find_file(store, fs, number)?.inode.indirect() == 0 {
         let (block, _) = store.init(fs, POINTER_BLOCK, &[0; 512])?;
@@ -130,6 +144,10 @@ fn attach_data<S: Store>(
     ensures types { S.types_of store.new ≡ S.types_of store.old }
     ensures attached { OnOk result (AttachesData (S.types_of store.old) fs.number number place block (S.state_of store.old) (S.state_of store.new)) }
     ensures keeps { Keeps (S.types_of store.old) fs.number (S.state_of store.old) (S.state_of store.new) }
+    ensures short { CanEdit (S.types_of store.old) (S.state_of store.old) None → (inode : List ℕ) → Ok inode ≡ file_in (latest (S.state_of store.old).lives) fs.number number → word_at inode 56 ≢ 0 →
+        pointer_word (latest (S.state_of store.old).lives (word_at inode 56)) place ≡ 0 → length (latest (S.state_of store.old).lives (word_at inode 56)) ≡ 512 →
+        IsTrue (may_add (S.state_of store.old) fs.number (block, 2)) → OnlyShort result }
+    ensures given { IfOk result (λ entry. IsTrue (was_given (S.state_of store.new) (Some entry))) }
 {
     let indirect = find_file(store, fs, number)?.inode.indirect();
     if indirect == 0 {
@@ -155,6 +173,8 @@ fn write_indirect<S: Store>(
     ensures types { S.types_of store.new ≡ S.types_of store.old }
     ensures written { OnOk result (WritesBytes (S.types_of store.old) fs.number number (512 * (12 + place) + at) bytes.now (S.state_of store.old) (S.state_of store.new)) }
     ensures keeps { Keeps (S.types_of store.old) fs.number (S.state_of store.old) (S.state_of store.new) }
+    ensures short { CanEdit (S.types_of store.old) (S.state_of store.old) None → (inode : List ℕ) → Ok inode ≡ file_in (latest (S.state_of store.old).lives) fs.number number → OnlyShort result }
+    ensures given { IfOk result (λ entry. IsTrue (was_given (S.state_of store.new) (Some entry))) }
 {
     add_pointers(alloc, store, fs, number)?;
     let indirect = find_file(store, fs, number)?.inode.indirect();
@@ -188,6 +208,8 @@ pub fn write_block<S: Store>(
     ensures types { S.types_of store.new ≡ S.types_of store.old }
     ensures written { OnOk result (WritesBytes (S.types_of store.old) fs.number number (512 * index + at) bytes.now (S.state_of store.old) (S.state_of store.new)) }
     ensures keeps { Keeps (S.types_of store.old) fs.number (S.state_of store.old) (S.state_of store.new) }
+    ensures short { CanEdit (S.types_of store.old) (S.state_of store.old) None → (inode : List ℕ) → Ok inode ≡ file_in (latest (S.state_of store.old).lives) fs.number number → OnlyShort result }
+    ensures given { IfOk result (λ entry. IsTrue (was_given (S.state_of store.new) (Some entry))) }
 {
     if index < DIRECT_POINTERS {
         write_direct(alloc, store, fs, number, index, at, bytes)
@@ -208,6 +230,7 @@ pub fn raise_size<S: Store>(
     ensures types { S.types_of store.new ≡ S.types_of store.old }
     ensures raised { OnOk result (RaisesSize (S.types_of store.old) fs.number number size (S.state_of store.old) (S.state_of store.new)) }
     ensures keeps { Keeps (S.types_of store.old) fs.number (S.state_of store.old) (S.state_of store.new) }
+    ensures short { CanEdit (S.types_of store.old) (S.state_of store.old) (Some after) → (inode : List ℕ) → Ok inode ≡ file_in (latest (S.state_of store.old).lives) fs.number number → OnlyShort result }
 {
     let Found {
         block,

@@ -4,6 +4,7 @@
 
 mod data;
 mod edits;
+mod setup;
 mod steps;
 mod volume;
 

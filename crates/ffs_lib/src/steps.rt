@@ -1,13 +1,17 @@
 // The edits of a volume. Each looks up afresh what it edits, and leaves a volume's rules whatever the store answers.
 
-ghost use Rattle.std.specs.Prelude.{◌≡◌, ◌≢◌, ◌<◌, ◌≤◌, ◌+◌, IfOk, OnOk, OnErr, IsTrue, length};
+ghost use Rattle.std.specs.Prelude.{◌≡◌, ◌≢◌, ◌<◌, ◌≤◌, ◌+◌, ℕ, List, [], true, Some, None, Ok, IfOk, OnOk, OnErr, IsTrue, length};
 ghost use Rattle.xn_model.specs.Lists.{put};
-ghost use Rattle.ffs_model.specs.Library.{zeros};
+ghost use Rattle.xn_model.specs.Calls.{may_add, was_given};
+ghost use Rattle.ffs_model.specs.Library.{inode_at, inode_links, inode_pairs, zeros};
+ghost use Rattle.ffs_format.specs.Fields.{direct_in};
 ghost use Rattle.ffs_format.specs.Entries.{is_name};
 ghost use Rattle.ffs_lookup.specs.Places.{IsFree, IsSlot};
 ghost use Rattle.ffs_model.specs.Cuts.{latest};
+ghost use Rattle.ffs_lookup.specs.Newest.{directory_in, has_room, inode_in};
+ghost use Rattle.ffs_lib.specs.Edits.{data_of_inode, data_of_pointers};
 ghost use Rattle.ffs_lib.specs.Results.{new_inode};
-ghost use Rattle.ffs_lib.specs.Outcomes.{Keeps, Makes, Attaches, Adds, Names, Grows, Lets, Clears, Unlinks, Drops, StaysListed, LosesEntry, Stays, PutsInode, GrowsDirectory, Enters, LosesName, Relinks};
+ghost use Rattle.ffs_lib.specs.Outcomes.{Keeps, Makes, Attaches, Adds, Names, Grows, Lets, Clears, Unlinks, Drops, StaysListed, LosesEntry, Stays, PutsInode, GrowsDirectory, Enters, Frees, LessLinks, LosesName, MoreLinks, Relinks, StaysBut, CanEdit, OnlyShort, HasFreePointer, HasNoData, DropsData};
 
 use crate::edits;
 use edit_list::{EditId, Fs};
@@ -66,6 +70,8 @@ pub fn make_inode<S: Store>(
     ensures ok { IfOk result (λ entry. Makes (S.types_of store.old) fs.number (S.state_of store.old) (S.state_of store.new) free.number after entry) }
     ensures made { OnOk result (PutsInode (S.types_of store.old) fs.number free.number (new_inode mode) (S.state_of store.old) (S.state_of store.new)) }
     ensures err { OnErr result (S.state_of store.new ≡ S.state_of store.old) }
+    ensures short { CanEdit (S.types_of store.old) (S.state_of store.old) after → OnlyShort result }
+    ensures given { CanEdit (S.types_of store.old) (S.state_of store.old) after → IfOk result (λ entry. IsTrue (was_given (S.state_of store.new) (Some entry))) }
 {
     let mut inode = Inode::free();
     inode.set_mode(mode);
@@ -86,6 +92,8 @@ fn attach_inodes<S: Store>(
     ensures ok { IfOk result (λ added. Attaches (S.types_of store.old) fs.number (S.state_of store.old) (S.state_of store.new) added.0 block added.1) }
     ensures stays { OnOk result (latest (S.state_of store.old).lives block ≡ zeros → block ≢ 0 → Stays (S.types_of store.old) fs.number (S.state_of store.old) (S.state_of store.new)) }
     ensures err { OnErr result (S.state_of store.new ≡ S.state_of store.old) }
+    ensures short { CanEdit (S.types_of store.old) (S.state_of store.old) None → HasFreePointer (latest (S.state_of store.old).lives) fs.number → may_add (S.state_of store.old) fs.number (block, 4) ≡ true → OnlyShort result }
+    ensures given { CanEdit (S.types_of store.old) (S.state_of store.old) None → IfOk result (λ added. IsTrue (was_given (S.state_of store.new) (Some added.1))) }
 {
     let _ = inode_block(store, fs, 0)?;
     let index = find_pointer(store, fs)?;
@@ -112,6 +120,8 @@ pub fn add_inodes<S: Store>(
     ensures ok { IfOk result (λ added. Adds (S.types_of store.old) fs.number (S.state_of store.old) (S.state_of store.new) added.0 added.1 added.2) }
     ensures stays { OnOk result (Stays (S.types_of store.old) fs.number (S.state_of store.old) (S.state_of store.new)) }
     ensures err { OnErr result (Keeps (S.types_of store.old) fs.number (S.state_of store.old) (S.state_of store.new)) }
+    ensures short { CanEdit (S.types_of store.old) (S.state_of store.old) None → HasFreePointer (latest (S.state_of store.old).lives) fs.number → OnlyShort result }
+    ensures given { CanEdit (S.types_of store.old) (S.state_of store.old) None → IfOk result (λ added. IsTrue (was_given (S.state_of store.new) (Some added.2))) }
 {
     let (block, _) = store.init(fs, INODE_BLOCK, &[0; 512])?;
     let attached = attach_inodes(alloc, store, fs, block);
@@ -147,6 +157,8 @@ fn attach_entries<S: Store>(
     ensures ok { OnOk result (Grows (S.types_of store.old) fs.number (S.state_of store.old) (S.state_of store.new) block after) }
     ensures grown { OnOk result (GrowsDirectory (S.types_of store.old) fs.number number index block (S.state_of store.old) (S.state_of store.new)) }
     ensures err { OnErr result (S.state_of store.new ≡ S.state_of store.old) }
+    ensures short { (inode : List ℕ) → CanEdit (S.types_of store.old) (S.state_of store.old) (Some after) → Ok inode ≡ directory_in (latest (S.state_of store.old).lives) fs.number number → direct_in inode index ≡ 0 → may_add (S.state_of store.old) fs.number (block, 2) ≡ true → OnlyShort result }
+    ensures given { CanEdit (S.types_of store.old) (S.state_of store.old) (Some after) → IfOk result (λ entry. IsTrue (was_given (S.state_of store.new) (Some entry))) }
 {
     let Found {
         block: home,
@@ -190,6 +202,8 @@ pub fn enter<S: Store>(
     ensures types { S.types_of store.new ≡ S.types_of store.old }
     ensures keeps { Names (S.types_of store.old) fs.number (S.state_of store.old) (S.state_of store.new) inode after }
     ensures entered { OnOk result (Enters (S.types_of store.old) fs.number number name.now inode (S.state_of store.old) (S.state_of store.new)) }
+    ensures short { (directory : List ℕ) → CanEdit (S.types_of store.old) (S.state_of store.old) (Some after) → Ok directory ≡ directory_in (latest (S.state_of store.old).lives) fs.number number → has_room (latest (S.state_of store.old).lives) directory ≡ true → OnlyShort result }
+    ensures given { CanEdit (S.types_of store.old) (S.state_of store.old) (Some after) → IfOk result (λ entry. IsTrue (was_given (S.state_of store.new) (Some entry))) }
 {
     let entry = entry_bytes(inode, name);
     let directory = find_directory(store, fs, number)?;
@@ -220,6 +234,8 @@ pub fn clear_entry<S: Store>(
     ensures cleared { OnOk result (LosesEntry (S.types_of store.old) fs.number slot (S.state_of store.old) (S.state_of store.new)) }
     ensures lost { OnOk result (LosesName (S.types_of store.old) fs.number slot (S.state_of store.old) (S.state_of store.new)) }
     ensures err { OnErr result (S.state_of store.new ≡ S.state_of store.old) }
+    ensures short { CanEdit (S.types_of store.old) (S.state_of store.old) after → OnlyShort result }
+    ensures given { CanEdit (S.types_of store.old) (S.state_of store.old) after → IfOk result (λ entry. IsTrue (was_given (S.state_of store.new) (Some entry))) }
 {
     let edit = edits::change(alloc, ENTRY_LEN * slot.place, &[0; ENTRY_LEN], after)?;
     Ok(store.propose(fs, slot.block, &edit)?)
@@ -235,7 +251,11 @@ pub fn add_link<S: Store>(
     ensures types { S.types_of store.new ≡ S.types_of store.old }
     ensures ok { IfOk result (λ entry. Lets (S.types_of store.old) fs.number (S.state_of store.old) (S.state_of store.new) number entry) }
     ensures relinked { OnOk result (Relinks (S.types_of store.old) fs.number (S.state_of store.old) (S.state_of store.new)) }
+    ensures others { OnOk result (StaysBut (S.types_of store.old) fs.number number (S.state_of store.old) (S.state_of store.new)) }
+    ensures links { OnOk result (MoreLinks (S.types_of store.old) fs.number number (S.state_of store.old) (S.state_of store.new)) }
     ensures err { OnErr result (S.state_of store.new ≡ S.state_of store.old) }
+    ensures short { (inode : List ℕ) → CanEdit (S.types_of store.old) (S.state_of store.old) None → Ok inode ≡ inode_in (latest (S.state_of store.old).lives) fs.number number → inode_links inode ≢ 65535 → OnlyShort result }
+    ensures given { CanEdit (S.types_of store.old) (S.state_of store.old) None → IfOk result (λ entry. IsTrue (was_given (S.state_of store.new) (Some entry))) }
 {
     let Found {
         block,
@@ -263,6 +283,10 @@ pub fn take_link<S: Store>(
     ensures keeps { Unlinks (S.types_of store.old) fs.number (S.state_of store.old) (S.state_of store.new) number after }
     ensures listed { OnOk result (StaysListed (S.types_of store.old) fs.number number (S.state_of store.old) (S.state_of store.new)) }
     ensures relinked { OnOk result (Relinks (S.types_of store.old) fs.number (S.state_of store.old) (S.state_of store.new)) }
+    ensures others { OnOk result (StaysBut (S.types_of store.old) fs.number number (S.state_of store.old) (S.state_of store.new)) }
+    ensures links { OnOk result (LessLinks (S.types_of store.old) fs.number number (S.state_of store.old) (S.state_of store.new)) }
+    ensures short { (inode : List ℕ) → CanEdit (S.types_of store.old) (S.state_of store.old) (Some after) → Ok inode ≡ inode_in (latest (S.state_of store.old).lives) fs.number number → inode_links inode ≢ 0 → OnlyShort result }
+    ensures given { CanEdit (S.types_of store.old) (S.state_of store.old) (Some after) → IfOk result (λ entry. IsTrue (was_given (S.state_of store.new) (Some entry))) }
 {
     let Found {
         block,
@@ -279,7 +303,9 @@ pub fn take_link<S: Store>(
 }
 
 /// The blocks that a block of pointers points to.
-fn blocks_in(alloc: Global, bytes: &[u8; 512]) -> Result<Vec<u32>, AllocError> {
+fn blocks_in(alloc: Global, bytes: &[u8; 512]) -> Result<Vec<u32>, AllocError>
+    ensures { IfOk result (λ blocks. blocks.items ≡ data_of_pointers bytes.now) }
+{
     let mut blocks = Vec::new(alloc);
     for place in 0..POINTERS {
         let block = pointer(bytes, place);
@@ -291,7 +317,9 @@ fn blocks_in(alloc: Global, bytes: &[u8; 512]) -> Result<Vec<u32>, AllocError> {
 }
 
 /// The blocks that an inode points to.
-fn blocks_of(alloc: Global, inode: &Inode) -> Result<Vec<u32>, AllocError> {
+fn blocks_of(alloc: Global, inode: &Inode) -> Result<Vec<u32>, AllocError>
+    ensures { IfOk result (λ blocks. blocks.items ≡ data_of_inode inode.now) }
+{
     let mut blocks = Vec::new(alloc);
     for i in 0..DIRECT_POINTERS {
         let block = inode.direct(i);
@@ -316,7 +344,11 @@ pub fn drop_data<S: Store>(
     ensures types { S.types_of store.new ≡ S.types_of store.old }
     ensures ok { IfOk result (λ entry. Drops (S.types_of store.old) fs.number (S.state_of store.old) (S.state_of store.new) number after entry) }
     ensures listed { OnOk result (StaysListed (S.types_of store.old) fs.number number (S.state_of store.old) (S.state_of store.new)) }
+    ensures others { OnOk result (StaysBut (S.types_of store.old) fs.number number (S.state_of store.old) (S.state_of store.new)) }
     ensures err { OnErr result (S.state_of store.new ≡ S.state_of store.old) }
+    ensures short { (inode : List ℕ) → CanEdit (S.types_of store.old) (S.state_of store.old) (Some after) → Ok inode ≡ inode_in (latest (S.state_of store.old).lives) fs.number number → OnlyShort result }
+    ensures dropped { OnOk result (DropsData (S.types_of store.old) fs.number number (S.state_of store.old) (S.state_of store.new)) }
+    ensures given { CanEdit (S.types_of store.old) (S.state_of store.old) (Some after) → IfOk result (λ entry. IsTrue (was_given (S.state_of store.new) (Some entry))) }
 {
     let found = find_inode(store, fs, number)?;
     let indirect = found.inode.indirect();
@@ -342,6 +374,10 @@ pub fn free_inode<S: Store>(
     ensures types { S.types_of store.new ≡ S.types_of store.old }
     ensures keeps { Unlinks (S.types_of store.old) fs.number (S.state_of store.old) (S.state_of store.new) number after }
     ensures listed { OnOk result (StaysListed (S.types_of store.old) fs.number number (S.state_of store.old) (S.state_of store.new)) }
+    ensures others { OnOk result (StaysBut (S.types_of store.old) fs.number number (S.state_of store.old) (S.state_of store.new)) }
+    ensures freed { OnOk result (Frees (S.types_of store.old) fs.number number (S.state_of store.old) (S.state_of store.new)) }
+    ensures short { (inode : List ℕ) → CanEdit (S.types_of store.old) (S.state_of store.old) (Some after) → Ok inode ≡ inode_in (latest (S.state_of store.old).lives) fs.number number → inode_links inode ≡ 1 → HasNoData (S.types_of store.old) (latest (S.state_of store.old).lives) inode → OnlyShort result }
+    ensures given { CanEdit (S.types_of store.old) (S.state_of store.old) (Some after) → IfOk result (λ entry. IsTrue (was_given (S.state_of store.new) (Some entry))) }
 {
     let found = find_inode(store, fs, number)?;
     if found.inode.links() != 1 {

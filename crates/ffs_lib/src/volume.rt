@@ -1,31 +1,31 @@
 // A volume: the files and directories of a file system.
 
-ghost use Rattle.std.specs.Prelude.{◌≡◌, ◌≢◌, ◌<◌, ◌≤◌, ◌+◌, ◌++◌, ◌==◌, ◌&&◌, not, true, false, ◌⊎◌, ℕ, List, length, map, Contains, Ok, Err, IfOk, IfErr, OnOk, OnErr, IfSome, IsOk, IsTrue, MatchResult};
+ghost use Rattle.std.specs.Prelude.{◌≡◌, ◌≢◌, ◌<◌, ◌≤◌, ◌+◌, ◌++◌, ◌==◌, ◌&&◌, not, true, false, ◌⊎◌, Bool, ℕ, List, length, map, Contains, None, Some, Ok, Err, IfOk, IfErr, OnOk, OnErr, IfSome, IsOk, IsTrue, MatchResult};
 ghost use Rattle.std.specs.List.{range_with_len};
 ghost use Rattle.ffs_format.specs.Entries.{is_name};
 ghost use Rattle.ffs_model.specs.Cuts.{latest};
 ghost use Rattle.ffs_model.specs.Names.{IsInodes};
-ghost use Rattle.ffs_model.specs.Library.{library_layout, inode_mode, IsLibrary};
-ghost use Rattle.ffs_lookup.specs.Newest.{RefusesAs, TakesEntry, create_in, directory_in, first_named, has_inode, root_in, file_in, is_own, listing, named_in, names_at, names_in, read_count, read_into, rename_in, rmdir_in, unlink_in, without_entry, write_in};
+ghost use Rattle.ffs_model.specs.Library.{library_layout, inode_mode, IsLibrary, inode_blocks, inode_links};
+ghost use Rattle.ffs_lookup.specs.Newest.{RefusesAs, TakesEntry, create_in, directory_in, first_named, has_empty_pointer, has_inode, has_room, inode_block_in, make_in, root_in, file_in, is_own, listing, named_in, names_at, names_in, read_count, read_into, rename_in, rmdir_in, unlink_in, without_entry, write_in, inode_in};
 ghost use Rattle.ffs_lookup.specs.declared.places.Found.{Found};
 ghost use Rattle.ffs_lookup.specs.declared.places.Slot.{Slot};
 ghost use Rattle.ffs_model.specs.Volumes.{VolumeKeeps, no_edits};
 ghost use Rattle.ffs_lookup.specs.Places.{IsDirectory, IsFree, IsSlot};
-ghost use Rattle.ffs_lib.specs.Outcomes.{Keeps, Leaves, Roots, Starts, Stays};
-ghost use Rattle.ffs_lib.specs.Results.{IsWritten, MadeEntry, MovedEntry, OnlyChanges};
+ghost use Rattle.ffs_lib.specs.Outcomes.{OnlyShort, Stays};
+ghost use Rattle.ffs_lib.specs.Results.{IsWritten, MadeEntry, MadeVolume, MovedEntry, OnlyChanges, OthersSame, TookLink};
 
 use crate::data::{BLOCK_LEN, FILE_BLOCKS, raise_size, read_part, write_block};
-use crate::edits;
+use crate::setup::{attach_first, first_inodes, is_begun, prepare_root};
 use crate::steps::{
-    INODE_BLOCK, add_inodes, add_link, block_with, clear_entry, drop_data, enter, forgotten,
-    free_inode, make_inode, take_link,
+    INODE_BLOCK, add_inodes, add_link, clear_entry, drop_data, enter, forgotten, free_inode,
+    make_inode, take_link,
 };
 use edit_list::{EditId, Fs};
 use ffs_format::inodes::{DIRECT_POINTERS, INODES};
-use ffs_format::{ENTRIES, Inode, entry_inode, entry_name, is_name, pointer, pointer_bytes};
+use ffs_format::{ENTRIES, Inode, entry_inode, entry_name, is_name};
 use ffs_lookup::{
-    DIRECTORY, FfsFault, Free, INODE_BLOCKS, ROOT, Slot, find_directory, find_entry, find_file,
-    find_free, find_inode, find_pointer, find_room, inode_block, is_empty, read_block, root_block,
+    DIRECTORY, FfsFault, Free, INODE_BLOCKS, Slot, find_directory, find_entry, find_file,
+    find_free, find_inode, find_pointer, find_room, inode_block, is_empty, read_block,
 };
 use std::alloc::{AllocError, Global};
 use xn_model::Refusal;
@@ -51,75 +51,6 @@ fn has_places(added: &[Option<EditId>; 16])
     let _ = added;
 }
 
-/// Whether a root block is there, without any inode block.
-fn is_begun<S: Store>(store: &S, fs: Fs) -> Result<bool, FfsFault> {
-    let Some(root) = store.root(fs) else {
-        return Ok(false);
-    };
-    if store.kind(fs, root)? != ROOT {
-        return Err(FfsFault::Kernel(Refusal::RootTaken));
-    }
-    if pointer(store.read(fs, root)?, 0) != 0 {
-        return Err(FfsFault::Exists);
-    }
-    Ok(true)
-}
-
-/// The first inode block, with the top directory, which has no block yet.
-fn first_inodes() -> [u8; 512]
-    ensures { (p block : ℕ) → Contains (library_layout.direct result p) block → ⊥ }
-{
-    let mut inode = Inode::free();
-    inode.set_mode(DIRECTORY);
-    inode.set_links(1);
-    block_with(0, inode.bytes())
-}
-
-/// Sets the root slot to a root block without pointers.
-fn set_root<S: Store>(store: &mut S, fs: Fs, block: u32) -> Result<(), FfsFault>
-    ensures types { S.types_of store.new ≡ S.types_of store.old }
-    ensures ok { OnOk result (Roots (S.types_of store.old) fs.number (S.state_of store.old) (S.state_of store.new) block) }
-    ensures err { OnErr result (S.state_of store.new ≡ S.state_of store.old) }
-{
-    let _ = store.make_root(fs, block)?;
-    Ok(())
-}
-
-/// Makes a root block without pointers, and sets the root slot to it.
-fn make_root<S: Store>(store: &mut S, fs: Fs) -> Result<(), FfsFault>
-    ensures types { S.types_of store.new ≡ S.types_of store.old }
-    ensures keeps { Keeps (S.types_of store.old) fs.number (S.state_of store.old) (S.state_of store.new) }
-    ensures ok { OnOk result (Leaves (S.types_of store.old) fs.number (S.state_of store.old) (S.state_of store.new)) }
-{
-    let (block, _) = store.init(fs, ROOT, &[0; 512])?;
-    let made = set_root(store, fs, block);
-    forgotten(store, fs, block, made)
-}
-
-/// Sees to it that there is a root block.
-fn prepare_root<S: Store>(store: &mut S, fs: Fs, begun: bool) -> Result<(), FfsFault>
-    ensures types { S.types_of store.new ≡ S.types_of store.old }
-    ensures keeps { Keeps (S.types_of store.old) fs.number (S.state_of store.old) (S.state_of store.new) }
-    ensures ok { OnOk result (Leaves (S.types_of store.old) fs.number (S.state_of store.old) (S.state_of store.new)) }
-{
-    if begun { Ok(()) } else { make_root(store, fs) }
-}
-
-/// Sets the first pointer of the root block, which is empty.
-fn attach_first<S: Store>(alloc: Global, store: &mut S, fs: Fs, block: u32) -> Result<(), FfsFault>
-    ensures types { S.types_of store.new ≡ S.types_of store.old }
-    ensures ok { OnOk result (Starts (S.types_of store.old) fs.number (S.state_of store.old) (S.state_of store.new) block) }
-    ensures err { OnErr result (S.state_of store.new ≡ S.state_of store.old) }
-{
-    let root = root_block(store, fs)?;
-    if pointer(read_block(store, fs, root)?, 0) != 0 {
-        return Err(FfsFault::Exists);
-    }
-    let edit = edits::addition(alloc, 0, &pointer_bytes(block), (block, INODE_BLOCK), None)?;
-    let _ = store.propose(fs, root, &edit)?;
-    Ok(())
-}
-
 /// Adds the names of a directory's block and their inodes, by place.
 fn add_names(
     alloc: Global,
@@ -142,6 +73,7 @@ fn add_names(
 /// A free inode, if there is one; else there is room for another block of inodes.
 fn look_up_free<S: Store>(store: &S, fs: Fs) -> Result<Option<Free>, FfsFault>
     ensures free { IfOk result (λ found. IfSome found (λ free. IsFree (S.state_of store.now) fs.number free)) }
+    ensures pointer { IfOk result (λ found. found ≡ None → (root : ℕ) → Ok root ≡ root_in (latest (S.state_of store.now).lives) fs.number → has_empty_pointer (latest (S.state_of store.now).lives) root ≡ true) }
     ensures exact { IsLibrary (S.types_of store.now) → (root : ℕ) → Ok root ≡ root_in (latest (S.state_of store.now).lives) fs.number → MatchResult result
         (λ _. has_inode (latest (S.state_of store.now).lives) root ≡ true)
         (λ fault. (fault ≡ FfsFault.NoInode) × (has_inode (latest (S.state_of store.now).lives) root ≡ false)) }
@@ -161,6 +93,8 @@ fn look_up_new<S: Store>(
     name: &[u8],
 ) -> Result<Option<Free>, FfsFault>
     ensures free { IfOk result (λ found. IfSome found (λ free. IsFree (S.state_of store.now) fs.number free)) }
+    ensures pointer { IfOk result (λ found. found ≡ None → (root : ℕ) → Ok root ≡ root_in (latest (S.state_of store.now).lives) fs.number → has_empty_pointer (latest (S.state_of store.now).lives) root ≡ true) }
+    ensures room { OnOk result (IsLibrary (S.types_of store.now) → (inode : List ℕ) × (Ok inode ≡ directory_in (latest (S.state_of store.now).lives) fs.number directory) × (has_room (latest (S.state_of store.now).lives) inode ≡ true)) }
     ensures name { OnOk result (IsTrue (is_name name.now)) }
     ensures exact { IsLibrary (S.types_of store.now) → MatchResult result
         (λ _. IsOk (create_in (latest (S.state_of store.now).lives) fs.number directory name.now))
@@ -205,6 +139,7 @@ fn once_edited<A>(answer: Result<A, FfsFault>) -> Result<A, FfsFault>
     ensures ok { IfOk result (λ value. answer ≡ Ok value) }
     ensures err { IfErr result (λ fault. is_own fault ≡ false) }
     ensures same { IfErr answer (λ fault. is_own fault ≡ false → result ≡ Err fault) }
+    ensures short { OnlyShort answer → OnlyShort result }
 {
     match answer {
         Ok(value) => Ok(value),
@@ -225,6 +160,9 @@ impl Volume {
         ensures types { S.types_of store.new ≡ S.types_of store.old }
         ensures ok { IfOk result (λ volume. IsVolume (S.types_of store.old) (S.state_of store.new) volume) }
         ensures fs { IfOk result (λ volume. volume.fs ≡ fs) }
+        ensures faults { RefusesAs (make_in (latest (S.state_of store.old).lives) fs.number) (S.state_of store.old) (S.state_of store.new) result }
+        ensures short { (begun : Bool) → Ok begun ≡ make_in (latest (S.state_of store.old).lives) fs.number → OnlyShort result }
+        ensures made { OnOk result (MadeVolume (latest (S.state_of store.old).lives) (latest (S.state_of store.new).lives) fs.number) }
         ensures err { OnErr result (VolumeKeeps (S.types_of store.old) library_layout fs.number no_edits (S.state_of store.new)) }
     {
         let begun = is_begun(store, fs)?;
@@ -244,6 +182,8 @@ impl Volume {
         ensures ok { IfOk result (λ volume. IsVolume (S.types_of store.now) (S.state_of store.now) volume) }
         ensures fs { IfOk result (λ volume. volume.fs ≡ fs) }
         ensures found { OnOk result ((block : ℕ) × IsInodes library_layout (latest (S.state_of store.now).lives) fs.number 0 block) }
+        ensures exact { MatchResult result (λ _. IsOk (inode_block_in (latest (S.state_of store.now).lives) fs.number 0))
+            (λ fault. Err fault ≡ inode_block_in (latest (S.state_of store.now).lives) fs.number 0) }
     {
         let _ = inode_block(store, fs, 0)?;
         Ok(Volume {
@@ -266,6 +206,7 @@ impl Volume {
         ensures types { S.types_of store.new ≡ S.types_of store.old }
         ensures fs { self.new.fs ≡ self.old.fs }
         ensures faults { RefusesAs (create_in (latest (S.state_of store.old).lives) self.old.fs.number directory name.now) (S.state_of store.old) (S.state_of store.new) result }
+        ensures short { (inode : List ℕ) → Ok inode ≡ create_in (latest (S.state_of store.old).lives) self.old.fs.number directory name.now → OnlyShort result }
         ensures made { IfOk result (λ n. MadeEntry (latest (S.state_of store.old).lives) (latest (S.state_of store.new).lives) self.old.fs.number directory name.now FILE n) }
         ensures keeps { IsVolume (S.types_of store.old) (S.state_of store.new) self.new }
     {
@@ -284,6 +225,7 @@ impl Volume {
         ensures types { S.types_of store.new ≡ S.types_of store.old }
         ensures fs { self.new.fs ≡ self.old.fs }
         ensures faults { RefusesAs (create_in (latest (S.state_of store.old).lives) self.old.fs.number directory name.now) (S.state_of store.old) (S.state_of store.new) result }
+        ensures short { (inode : List ℕ) → Ok inode ≡ create_in (latest (S.state_of store.old).lives) self.old.fs.number directory name.now → OnlyShort result }
         ensures made { IfOk result (λ n. MadeEntry (latest (S.state_of store.old).lives) (latest (S.state_of store.new).lives) self.old.fs.number directory name.now DIRECTORY n) }
         ensures keeps { IsVolume (S.types_of store.old) (S.state_of store.new) self.new }
     {
@@ -304,6 +246,7 @@ impl Volume {
         ensures types { S.types_of store.new ≡ S.types_of store.old }
         ensures fs { self.new.fs ≡ self.old.fs }
         ensures faults { RefusesAs (create_in (latest (S.state_of store.old).lives) self.old.fs.number directory name.now) (S.state_of store.old) (S.state_of store.new) result }
+        ensures short { (inode : List ℕ) → Ok inode ≡ create_in (latest (S.state_of store.old).lives) self.old.fs.number directory name.now → OnlyShort result }
         ensures made { IfOk result (λ n. MadeEntry (latest (S.state_of store.old).lives) (latest (S.state_of store.new).lives) self.old.fs.number directory name.now mode n) }
         ensures keeps { IsVolume (S.types_of store.old) (S.state_of store.new) self.new }
     {
@@ -327,6 +270,7 @@ impl Volume {
         requires used { mode ≢ 0 }
         ensures types { S.types_of store.new ≡ S.types_of store.old }
         ensures fs { self.new.fs ≡ self.old.fs }
+        ensures short { (inode : List ℕ) → Ok inode ≡ directory_in (latest (S.state_of store.old).lives) self.old.fs.number directory → has_room (latest (S.state_of store.old).lives) inode ≡ true → (found ≡ None → (root : ℕ) → Ok root ≡ root_in (latest (S.state_of store.old).lives) self.old.fs.number → has_empty_pointer (latest (S.state_of store.old).lives) root ≡ true) → OnlyShort result }
         ensures made { IfOk result (λ n. (inode : List ℕ) → Ok inode ≡ directory_in (latest (S.state_of store.old).lives) self.old.fs.number directory →
             MadeEntry (latest (S.state_of store.old).lives) (latest (S.state_of store.new).lives) self.old.fs.number directory name.now mode n) }
         ensures keeps { IsVolume (S.types_of store.old) (S.state_of store.new) self.new }
@@ -347,6 +291,7 @@ impl Volume {
         requires free { IfSome found (λ free. IsFree (S.state_of store.old) self.old.fs.number free) }
         ensures types { S.types_of store.new ≡ S.types_of store.old }
         ensures fs { self.new.fs ≡ self.old.fs }
+        ensures short { (n : ℕ) (inode : List ℕ) → Ok inode ≡ inode_in (latest (S.state_of store.old).lives) self.old.fs.number n → (found ≡ None → (root : ℕ) → Ok root ≡ root_in (latest (S.state_of store.old).lives) self.old.fs.number → has_empty_pointer (latest (S.state_of store.old).lives) root ≡ true) → OnlyShort result }
         ensures keeps { IsVolume (S.types_of store.old) (S.state_of store.new) self.new }
         ensures stays { OnOk result (Stays (S.types_of store.old) self.old.fs.number (S.state_of store.old) (S.state_of store.new)) }
         ensures free { IfOk result (λ free. IsFree (S.state_of store.new) self.old.fs.number free) }
@@ -373,6 +318,7 @@ impl Volume {
         requires used { mode ≢ 0 }
         ensures types { S.types_of store.new ≡ S.types_of store.old }
         ensures fs { self.new.fs ≡ self.old.fs }
+        ensures short { (inode : List ℕ) → Ok inode ≡ directory_in (latest (S.state_of store.old).lives) self.old.fs.number directory → has_room (latest (S.state_of store.old).lives) inode ≡ true → OnlyShort result }
         ensures made { OnOk result ((inode : List ℕ) → Ok inode ≡ directory_in (latest (S.state_of store.old).lives) self.old.fs.number directory →
             MadeEntry (latest (S.state_of store.old).lives) (latest (S.state_of store.new).lives) self.old.fs.number directory name.now mode free.number) }
         ensures keeps { IsVolume (S.types_of store.old) (S.state_of store.new) self.new }
@@ -390,6 +336,7 @@ impl Volume {
         requires { IsVolume (S.types_of store.old) (S.state_of store.old) self.old }
         ensures types { S.types_of store.new ≡ S.types_of store.old }
         ensures fs { self.new.fs ≡ self.old.fs }
+        ensures short { (n : ℕ) (inode : List ℕ) → Ok inode ≡ inode_in (latest (S.state_of store.old).lives) self.old.fs.number n → ((root : ℕ) → Ok root ≡ root_in (latest (S.state_of store.old).lives) self.old.fs.number → has_empty_pointer (latest (S.state_of store.old).lives) root ≡ true) → OnlyShort result }
         ensures keeps { IsVolume (S.types_of store.old) (S.state_of store.new) self.new }
         ensures stays { OnOk result (Stays (S.types_of store.old) self.old.fs.number (S.state_of store.old) (S.state_of store.new)) }
         ensures free { IfOk result (λ free. IsFree (S.state_of store.new) self.old.fs.number free) }
@@ -418,6 +365,7 @@ impl Volume {
         requires volume { IsVolume (S.types_of store.old) (S.state_of store.old) self.now }
         ensures types { S.types_of store.new ≡ S.types_of store.old }
         ensures faults { RefusesAs (write_in (latest (S.state_of store.old).lives) self.now.fs.number inode (offset + length bytes.now)) (S.state_of store.old) (S.state_of store.new) result }
+        ensures short { (file : List ℕ) → Ok file ≡ write_in (latest (S.state_of store.old).lives) self.now.fs.number inode (offset + length bytes.now) → OnlyShort result }
         ensures written { OnOk result ((file : List ℕ) → Ok file ≡ file_in (latest (S.state_of store.old).lives) self.now.fs.number inode →
             IsWritten (latest (S.state_of store.old).lives) (latest (S.state_of store.new).lives) self.now.fs.number inode file offset bytes.now) }
         ensures others { OnOk result (OnlyChanges (latest (S.state_of store.old).lives) (latest (S.state_of store.new).lives) self.now.fs.number inode) }
@@ -443,6 +391,7 @@ impl Volume {
         requires volume { IsVolume (S.types_of store.old) (S.state_of store.old) self.now }
         requires within { start + length bytes.now ≤ 71680 }
         ensures types { S.types_of store.new ≡ S.types_of store.old }
+        ensures short { (file : List ℕ) → Ok file ≡ file_in (latest (S.state_of store.old).lives) self.now.fs.number inode → OnlyShort result }
         ensures written { OnOk result ((file : List ℕ) → Ok file ≡ file_in (latest (S.state_of store.old).lives) self.now.fs.number inode →
             IsWritten (latest (S.state_of store.old).lives) (latest (S.state_of store.new).lives) self.now.fs.number inode file start bytes.now) }
         ensures others { OnOk result (OnlyChanges (latest (S.state_of store.old).lives) (latest (S.state_of store.new).lives) self.now.fs.number inode) }
@@ -526,9 +475,14 @@ impl Volume {
         requires volume { IsVolume (S.types_of store.old) (S.state_of store.old) self.now }
         ensures types { S.types_of store.new ≡ S.types_of store.old }
         ensures faults { RefusesAs (unlink_in (latest (S.state_of store.old).lives) self.now.fs.number directory name.now) (S.state_of store.old) (S.state_of store.new) result }
+        ensures short { (entry : Slot) → Ok entry ≡ unlink_in (latest (S.state_of store.old).lives) self.now.fs.number directory name.now → OnlyShort result }
         ensures keeps { IsVolume (S.types_of store.old) (S.state_of store.new) self.now }
         ensures gone { OnOk result ((entry : Slot) → Ok entry ≡ unlink_in (latest (S.state_of store.old).lives) self.now.fs.number directory name.now →
             TakesEntry (latest (S.state_of store.old).lives) (latest (S.state_of store.new).lives) self.now.fs.number directory entry) }
+        ensures others { OnOk result ((entry : Slot) → Ok entry ≡ unlink_in (latest (S.state_of store.old).lives) self.now.fs.number directory name.now →
+            OthersSame (latest (S.state_of store.old).lives) (latest (S.state_of store.new).lives) self.now.fs.number directory entry.inode) }
+        ensures unlinked { OnOk result ((entry : Slot) (inode : List ℕ) → Ok entry ≡ unlink_in (latest (S.state_of store.old).lives) self.now.fs.number directory name.now → Ok inode ≡ inode_in (latest (S.state_of store.old).lives) self.now.fs.number entry.inode →
+            TookLink (latest (S.state_of store.old).lives) (latest (S.state_of store.new).lives) self.now.fs.number entry.inode inode) }
     {
         let slot = self.named(store, directory, name)?;
         let _ = find_file(store, self.fs, slot.inode)?;
@@ -547,9 +501,14 @@ impl Volume {
         requires volume { IsVolume (S.types_of store.old) (S.state_of store.old) self.now }
         ensures types { S.types_of store.new ≡ S.types_of store.old }
         ensures faults { RefusesAs (rmdir_in (latest (S.state_of store.old).lives) self.now.fs.number directory name.now) (S.state_of store.old) (S.state_of store.new) result }
+        ensures short { (entry : Slot) → Ok entry ≡ rmdir_in (latest (S.state_of store.old).lives) self.now.fs.number directory name.now → OnlyShort result }
         ensures keeps { IsVolume (S.types_of store.old) (S.state_of store.new) self.now }
         ensures gone { OnOk result ((entry : Slot) → Ok entry ≡ rmdir_in (latest (S.state_of store.old).lives) self.now.fs.number directory name.now →
             TakesEntry (latest (S.state_of store.old).lives) (latest (S.state_of store.new).lives) self.now.fs.number directory entry) }
+        ensures others { OnOk result ((entry : Slot) → Ok entry ≡ rmdir_in (latest (S.state_of store.old).lives) self.now.fs.number directory name.now →
+            OthersSame (latest (S.state_of store.old).lives) (latest (S.state_of store.new).lives) self.now.fs.number directory entry.inode) }
+        ensures unlinked { OnOk result ((entry : Slot) (inode : List ℕ) → Ok entry ≡ rmdir_in (latest (S.state_of store.old).lives) self.now.fs.number directory name.now → Ok inode ≡ inode_in (latest (S.state_of store.old).lives) self.now.fs.number entry.inode →
+            TookLink (latest (S.state_of store.old).lives) (latest (S.state_of store.new).lives) self.now.fs.number entry.inode inode) }
     {
         let slot = self.named(store, directory, name)?;
         let found = find_directory(store, self.fs, slot.inode)?;
@@ -564,9 +523,14 @@ impl Volume {
         requires volume { IsVolume (S.types_of store.old) (S.state_of store.old) self.now }
         requires entry { IsSlot (S.state_of store.old) self.now.fs.number slot }
         ensures types { S.types_of store.new ≡ S.types_of store.old }
+        ensures short { OnlyShort result }
         ensures keeps { IsVolume (S.types_of store.old) (S.state_of store.new) self.now }
         ensures gone { OnOk result ((n : ℕ) (found : Found) → n ≢ slot.inode → IsDirectory (S.state_of store.old) self.now.fs.number n found → IsDirectory (S.state_of store.new) self.now.fs.number n found
             × (listing (latest (S.state_of store.new).lives) found.inode ≡ without_entry slot (listing (latest (S.state_of store.old).lives) found.inode))) }
+        ensures others { OnOk result ((d : ℕ) (own : List ℕ) → Ok own ≡ inode_in (latest (S.state_of store.old).lives) self.now.fs.number d → Contains (inode_blocks own) slot.block →
+            OthersSame (latest (S.state_of store.old).lives) (latest (S.state_of store.new).lives) self.now.fs.number d slot.inode) }
+        ensures unlinked { OnOk result ((d : ℕ) (own inode : List ℕ) → Ok own ≡ inode_in (latest (S.state_of store.old).lives) self.now.fs.number d → Contains (inode_blocks own) slot.block → d ≢ slot.inode →
+            Ok inode ≡ inode_in (latest (S.state_of store.old).lives) self.now.fs.number slot.inode → TookLink (latest (S.state_of store.old).lives) (latest (S.state_of store.new).lives) self.now.fs.number slot.inode inode) }
     {
         let cleared = clear_entry(alloc, store, self.fs, slot, None)?;
         let links = find_inode(store, self.fs, slot.inode)?.inode.links();
@@ -631,6 +595,7 @@ impl Volume {
         requires volume { IsVolume (S.types_of store.old) (S.state_of store.old) self.now }
         ensures types { S.types_of store.new ≡ S.types_of store.old }
         ensures faults { RefusesAs (rename_in (latest (S.state_of store.old).lives) self.now.fs.number directory name.now other new_name.now) (S.state_of store.old) (S.state_of store.new) result }
+        ensures short { (entry : Slot) → Ok entry ≡ rename_in (latest (S.state_of store.old).lives) self.now.fs.number directory name.now other new_name.now → OnlyShort result }
         ensures moved { OnOk result ((entry : Slot) → Ok entry ≡ rename_in (latest (S.state_of store.old).lives) self.now.fs.number directory name.now other new_name.now →
             MovedEntry (latest (S.state_of store.old).lives) (latest (S.state_of store.new).lives) self.now.fs.number directory entry other new_name.now) }
         ensures keeps { IsVolume (S.types_of store.old) (S.state_of store.new) self.now }
@@ -654,6 +619,9 @@ impl Volume {
         requires name { IsTrue (is_name new_name.now) }
         requires some { inode ≢ 0 }
         ensures types { S.types_of store.new ≡ S.types_of store.old }
+        ensures short { (from to own : List ℕ) (slot : Slot) → Ok from ≡ directory_in (latest (S.state_of store.old).lives) self.now.fs.number directory → Ok to ≡ directory_in (latest (S.state_of store.old).lives) self.now.fs.number other →
+            Some slot ≡ first_named (latest (S.state_of store.old).lives) from name.now → None ≡ first_named (latest (S.state_of store.old).lives) to new_name.now → IsTrue (is_name name.now) → has_room (latest (S.state_of store.old).lives) to ≡ true →
+            Ok own ≡ inode_in (latest (S.state_of store.old).lives) self.now.fs.number inode → inode_links own ≢ 65535 → OnlyShort result }
         ensures moved { OnOk result ((from to : List ℕ) (slot : Slot) → Ok from ≡ directory_in (latest (S.state_of store.old).lives) self.now.fs.number directory → Ok to ≡ directory_in (latest (S.state_of store.old).lives) self.now.fs.number other →
             slot.inode ≡ inode → Some slot ≡ first_named (latest (S.state_of store.old).lives) from name.now → None ≡ first_named (latest (S.state_of store.old).lives) to new_name.now →
             MovedEntry (latest (S.state_of store.old).lives) (latest (S.state_of store.new).lives) self.now.fs.number directory slot other new_name.now) }

@@ -1,6 +1,7 @@
 -- Where inodes and entries stand, from what was read.
 use Rattle.std.proofs.Common.{◌≡◌, ℕ, ◌+◌, ◌-◌, ◌*◌, ◌/◌, ◌<◌, ◌≢◌, List, length, ap, sym, ◌∙◌, arith, subst}
-use Rattle.std.specs.Prelude.{Contains, if◌then◌else◌}
+use Rattle.std.specs.Prelude.{Contains, replicate, true, if◌then◌else◌}
+use Rattle.std.proofs.lemmas.Slice.Eq.{bytes_eq-Decides}
 use Rattle.std.proofs.lemmas.Bool.{lt-ltb}
 use Rattle.xn_model.specs.Lives.{StoreState}
 use Rattle.xn_model.specs.Root.{word_at}
@@ -10,6 +11,7 @@ use Rattle.ffs_model.specs.Names.{IsRoot, IsInodes}
 use Rattle.ffs_model.specs.Library.{library_layout, half_at, inode_at, inode_mode, inode_blocks, pointed, pointer_word}
 use Rattle.ffs_model.proofs.ForCallers.{blocks_read, mode_read, pointed_from}
 use Rattle.ffs_lookup.specs.declared.places.Found.{Found}
+use Rattle.ffs_lookup.specs.Newest.{is_free_inode}
 use Rattle.ffs_lookup.specs.Places.{IsFound, IsDirectory, IsFree, IsGap, IsSlot}
 
 -- how the layout reads within range
@@ -54,11 +56,16 @@ module _ (state : StoreState) (fs n : ℕ) (found : Found) (dir : IsDirectory st
     long = ap length are ∙ whole;
   }
 
+-- a free inode has mode 0
+pub free_mode : (m : List ℕ) → m ≡ replicate 64 0 → inode_mode m ≡ 0
+unfolding half_at
+free_mode m e = ap inode_mode e
+
 -- a free inode
 pub free_is : (state : StoreState) (fs root index place block number : ℕ) (top bytes : List ℕ) → IsRoot (latest state.lives) fs root → latest state.lives root ≡ top → index < 16 → pointer_word top index ≡ block → block ≢ 0 →
-    latest state.lives block ≡ bytes → length bytes ≡ 512 → place < 8 → inode_mode (inode_at bytes place) ≡ 0 → number ≡ 8 * index + place + 1 →
+    latest state.lives block ≡ bytes → length bytes ≡ 512 → place < 8 → is_free_inode (inode_at bytes place) ≡ true → number ≡ 8 * index + place + 1 →
     IsFree state fs (record { number = number; block = block; place = place })
-free_is state fs root index place block number top bytes is_root are few points there is whole low unused numbered =
+free_is state fs root index place block number top bytes is_root are few points there is whole low free numbered =
     let home : (number - 1) / 8 ≡ index = omega arith in
     record {
       stands = record {
@@ -69,6 +76,6 @@ free_is state fs root index place block number top bytes is_root are few points 
         few = low;
         long = ap length is ∙ whole;
       };
-      unused = ap (λ m. inode_mode (inode_at m place)) is ∙ unused;
+      bare = ap (λ m. inode_at m place) is ∙ (bytes_eq-Decides (inode_at bytes place) (replicate 64 0)).0 free;
       low = omega arith;
     }

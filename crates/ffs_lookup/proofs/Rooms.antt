@@ -6,7 +6,7 @@ use Rattle.std.proofs.lemmas.Bool.{ne_eqb}
 use Rattle.std.proofs.lemmas.Option.{none-some}
 use Rattle.ffs_model.specs.Library.{half_at, inode_at, inode_blocks, inode_mode, pointer_word}
 use Rattle.ffs_format.specs.Fields.{direct_in}
-use Rattle.ffs_lookup.specs.Newest.{has_free_at, has_free_inode, has_gap, has_room}
+use Rattle.ffs_lookup.specs.Newest.{has_free_at, has_free_inode, has_gap, has_room, is_free_inode}
 use Rattle.ffs_lookup.proofs.Walks.{blocks_front, blocks_one, blocks_past, first_blocks, range_more}
 
 -- Tests of lists
@@ -98,18 +98,18 @@ module _ (content : ℕ → List ℕ) (inode : List ℕ) (n : ℕ) (all : n ≡ 
 
 module _ (content : ℕ → List ℕ) (b : ℕ) (bytes : List ℕ) (are : content b ≡ bytes) where
   pub free_at_none : b ≡ 0 → has_free_at content b ≡ false
-  free_at_none e = ap (λ t. not t && list_any (λ place. inode_mode (inode_at (content b) place) == 0) (range_with_len 0 8)) (eq-eqb b 0 e)
+  free_at_none e = ap (λ t. not t && list_any (λ place. is_free_inode (inode_at (content b) place)) (range_with_len 0 8)) (eq-eqb b 0 e)
 
-  at_block : b ≢ 0 → has_free_at content b ≡ list_any (λ place. inode_mode (inode_at bytes place) == 0) (range_with_len 0 8)
+  at_block : b ≢ 0 → has_free_at content b ≡ list_any (λ place. is_free_inode (inode_at bytes place)) (range_with_len 0 8)
   at_block ne =
-      ap (λ t. not t && list_any (λ place. inode_mode (inode_at (content b) place) == 0) (range_with_len 0 8)) (ne_eqb b 0 ne)
-      ∙ ap (λ m. list_any (λ place. inode_mode (inode_at m place) == 0) (range_with_len 0 8)) are
+      ap (λ t. not t && list_any (λ place. is_free_inode (inode_at (content b) place)) (range_with_len 0 8)) (ne_eqb b 0 ne)
+      ∙ ap (λ m. list_any (λ place. is_free_inode (inode_at m place)) (range_with_len 0 8)) are
 
-  pub free_at_found : b ≢ 0 → (place : ℕ) → Some place ≡ find (λ place. inode_mode (inode_at bytes place) == 0) (range_with_len 0 8) → has_free_at content b ≡ true
-  free_at_found ne place f = at_block ne ∙ any_found (λ place. inode_mode (inode_at bytes place) == 0) place (range_with_len 0 8) f
+  pub free_at_found : b ≢ 0 → (place : ℕ) → Some place ≡ find (λ place. is_free_inode (inode_at bytes place)) (range_with_len 0 8) → has_free_at content b ≡ true
+  free_at_found ne place f = at_block ne ∙ any_found (λ place. is_free_inode (inode_at bytes place)) place (range_with_len 0 8) f
 
-  pub free_at_full : b ≢ 0 → None ≡ find (λ place. inode_mode (inode_at bytes place) == 0) (range_with_len 0 8) → has_free_at content b ≡ false
-  free_at_full ne f = at_block ne ∙ any_none (λ place. inode_mode (inode_at bytes place) == 0) (range_with_len 0 8) f
+  pub free_at_full : b ≢ 0 → None ≡ find (λ place. is_free_inode (inode_at bytes place)) (range_with_len 0 8) → has_free_at content b ≡ false
+  free_at_full ne f = at_block ne ∙ any_none (λ place. is_free_inode (inode_at bytes place)) (range_with_len 0 8) f
 
 module _ (content : ℕ → List ℕ) (root index b : ℕ) (top : List ℕ) (are : content root ≡ top) (points : b ≡ pointer_word top index) where
   same_word : pointer_word (content root) index ≡ b

@@ -8,11 +8,12 @@
 --     names_of, names_in                          the names of a directory and the inodes that they name
 --     file_end, byte_of, bytes_from               where a file ends; its byte at an offset, 0 in a hole; its bytes from an offset on, up to its end
 --     read_count, read_into                       how many bytes a read answers, and what it leaves of those that it was given
---     create_in, write_in, unlink_in, rmdir_in, rename_in    what a call looks up before it edits
+--     make_in, create_in, write_in, unlink_in, rmdir_in, rename_in    what a call looks up before it edits
 --     is_short, is_own, RefusesAs                 a fault for want of something; one of the library's own; what is answered where a look-up fails
-use Rattle.std.specs.Prelude.{ℕ, ◌*◌, ◌-◌, ◌/◌, ◌%◌, Bool, true, false, not, ◌&&◌, ◌||◌, ◌==◌, nat_lt, min, List, ◌++◌, length, drop, map, find, Option, Some, None, Result, Ok, Err, ◌≡◌, IfErr, get_or, is_some, bytes_eq, filter, filter_map, flat_map, if◌then◌else◌}
+use Rattle.std.specs.Prelude.{ℕ, ◌*◌, ◌-◌, ◌/◌, ◌%◌, Bool, true, false, not, ◌&&◌, ◌||◌, ◌==◌, nat_lt, min, List, ◌++◌, length, drop, map, find, replicate, Option, Some, None, Result, Ok, Err, ◌≡◌, IfErr, get_or, is_some, bytes_eq, filter, filter_map, flat_map, if◌then◌else◌}
 use Rattle.std.specs.List.{list_any, range_with_len}
 use Rattle.std.specs.Option.{ok_or}
+use Rattle.xn_model.specs.declared.refusal.Refusal.TheVariants.{RootTaken}
 use Rattle.xn_model.specs.Root.{slot, word_at}
 use Rattle.xn_model.specs.Lives.{StoreState}
 use Rattle.ffs_model.specs.Shortages.{is_shortage}
@@ -159,6 +160,16 @@ read_into content old offset (Err fault) = old
 
 -- What a call looks up before it edits
 
+-- of `make`: whether a root block is there, without a first block of inodes
+abbrev pub if_bare : List ℕ → Result Bool FfsFault
+if_bare root = if pointer_word root 0 == 0 then Ok true else Err Exists
+
+abbrev pub if_makeable : (ℕ → List ℕ) → ℕ × ℕ → Result Bool FfsFault
+if_makeable content s = if s.0 == 0 then Ok false else if s.1 == 3 then if_bare (content s.0) else Err (Kernel RootTaken)
+
+unfoldable pub make_in : (ℕ → List ℕ) → ℕ → Result Bool FfsFault
+make_in content fs = if_makeable content (slot (content 0) fs)
+
 unfoldable pub write_in : (ℕ → List ℕ) → ℕ → ℕ → ℕ → Result (List ℕ) FfsFault
 write_in content fs n size = and_then (file_in content fs n) (λ inode. if nat_lt 71680 size then Err TooLarge else Ok inode)
 
@@ -179,9 +190,13 @@ has_gap m = list_any (λ place. half_at m (32 * place) == 0) (range_with_len 0 1
 abbrev pub has_room : (ℕ → List ℕ) → List ℕ → Bool
 has_room content inode = list_any (λ block. has_gap (content block)) (inode_blocks inode) || list_any (λ index. direct_in inode index == 0) (range_with_len 0 12)
 
--- a free inode in the block to which a pointer leads, 0 to none
+-- a free inode, which is all zeros
+abbrev pub is_free_inode : List ℕ → Bool
+is_free_inode inode = bytes_eq inode (replicate 64 0)
+
+-- one in the block to which a pointer leads, 0 to none
 abbrev pub has_free_at : (ℕ → List ℕ) → ℕ → Bool
-has_free_at content block = not (block == 0) && list_any (λ place. inode_mode (inode_at (content block) place) == 0) (range_with_len 0 8)
+has_free_at content block = not (block == 0) && list_any (λ place. is_free_inode (inode_at (content block) place)) (range_with_len 0 8)
 
 abbrev pub has_free_inode : (ℕ → List ℕ) → ℕ → Bool
 has_free_inode content root = list_any (λ index. has_free_at content (pointer_word (content root) index)) (range_with_len 0 16)

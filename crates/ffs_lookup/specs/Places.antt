@@ -3,7 +3,7 @@
 --     IsFound, IsDirectory, IsFile       it does, and is in use, is a directory, is none
 --     IsFree, IsEmptyPointer             a free inode; an empty pointer of the root block
 --     IsSlot, IsRoom                     an entry of a directory; where one has room for an entry
-use Rattle.std.specs.Prelude.{◌≡◌, ◌≢◌, ℕ, ◌<◌, ◌≤◌, ◌*◌, length, Contains}
+use Rattle.std.specs.Prelude.{◌≡◌, ◌≢◌, ℕ, ◌<◌, ◌≤◌, ◌*◌, length, replicate, Contains}
 use Rattle.xn_model.specs.Lives.{StoreState}
 use Rattle.ffs_model.specs.Cuts.{latest}
 use Rattle.ffs_model.specs.Names.{IsRoot, IsInodes, Names}
@@ -37,7 +37,7 @@ pub record IsFile (state : StoreState) (fs n : ℕ) (found : Found) : Type 0 whe
 
 pub record IsFree (state : StoreState) (fs : ℕ) (free : Free) : Type 0 where
   pub stands : IsPlace state fs free.number free.block free.place
-  pub unused : inode_mode (inode_at (latest state.lives free.block) free.place) ≡ 0
+  pub bare : inode_at (latest state.lives free.block) free.place ≡ replicate 64 0
   pub low : free.number ≤ 128
 
 pub record IsEmptyPointer (state : StoreState) (fs index : ℕ) : Type 0 where

@@ -7,7 +7,7 @@ ghost use Rattle.ffs_format.specs.Fields.{direct_in};
 ghost use Rattle.ffs_model.specs.Cuts.{Under, latest};
 ghost use Rattle.ffs_model.specs.Names.{IsRoot, IsInodes};
 ghost use Rattle.ffs_model.specs.Library.{library_layout, half_at, inode_at, inode_mode, pointer_word, IsLibrary};
-ghost use Rattle.ffs_lookup.specs.Newest.{mapped, root_in, inode_block_in, inode_in, directory_in, file_in, entries_of, first_named, has_room, has_free_inode, has_empty_pointer};
+ghost use Rattle.ffs_lookup.specs.Newest.{mapped, root_in, inode_block_in, inode_in, directory_in, file_in, entries_of, first_named, has_room, has_free_inode, has_empty_pointer, is_free_inode};
 ghost use Rattle.ffs_lookup.specs.Places.{IsFound, IsDirectory, IsFile, IsFree, IsEmptyPointer, IsSlot, IsRoom};
 
 use crate::fault::FfsFault;
@@ -264,10 +264,10 @@ pub fn is_empty<S: Store>(store: &S, fs: Fs, directory: &Found) -> Result<bool, 
 
 /// The first place of an inode block whose inode is free.
 fn free_in(block: &[u8; 512]) -> Option<usize>
-    ensures free { IfSome result (λ place. (place < 8) × (inode_mode (inode_at block.now place) ≡ 0)) }
-    ensures exact { result ≡ find (λ place. inode_mode (inode_at block.now place) == 0) (range_with_len 0 8) }
+    ensures free { IfSome result (λ place. (place < 8) × (is_free_inode (inode_at block.now place) ≡ true)) }
+    ensures exact { result ≡ find (λ place. is_free_inode (inode_at block.now place)) (range_with_len 0 8) }
 {
-    (0..INODES).find(|place| Inode::read(block, *place).mode() == 0)
+    (0..INODES).find(|place| Inode::read(block, *place).is_free())
 }
 
 /// The free inode of the lowest number in the inode blocks that there are.

@@ -3,7 +3,7 @@
 -- cuts and what is reached
 pub use Rattle.ffs_model.proofs.Chosen.{everything, everything_cut, everything_full, everything_seen, everything_taken}
 pub use Rattle.ffs_model.proofs.Same.{under_direct, under_inodes}
-pub use Rattle.ffs_model.proofs.Newest.{data_owned, indirect_owned, indirect_reached, one_type, proposed_here, proposed_others, started_here, started_others}
+pub use Rattle.ffs_model.proofs.Newest.{data_owned, indirect_owned, indirect_reached, one_type, proposed_here, proposed_others, rooted_here, rooted_others, started_here, started_others}
 pub use Rattle.ffs_model.proofs.Found.{read_latest, root_found}
 pub use Rattle.ffs_model.proofs.Volumes.{latest_reached, volume_from}
 -- the layout
@@ -20,5 +20,11 @@ pub use Rattle.ffs_model.proofs.Quiet.{below_written, file_written, other_spare,
 pub use Rattle.ffs_model.proofs.Before.{cuts_same}
 pub use Rattle.ffs_model.proofs.Calls.{forget_cuts, init_cuts, make_root_cuts, propose_cuts}
 pub use Rattle.ffs_model.proofs.Events.{event_cuts}
+pub use Rattle.ffs_model.proofs.Later.{accepted_below, begin_next, begun_next, drop_root_next, edit_given, forgot_next, given_later, is_given, later_then, next_some, none_later, one_later, proposed_next, rooted_next, settle_next}
 pub use Rattle.ffs_model.proofs.Mounted.{crash_keeps, mounted_keeps, no_root_keeps}
 pub use Rattle.ffs_model.proofs.Writes.{begin_cuts, settle_cuts}
+-- what is refused for want of something alone
+pub use Rattle.ffs_model.proofs.Pairs.{Replaces, all_of, changes_add, changes_drop, changes_none, claims_from, flat_kept, flat_replaced, pointed_kept, pointed_none, pointed_set, replaces_in, within_parts}
+pub use Rattle.ffs_model.proofs.Shortages.{IsFit, IsHeld, all_empty, edit_short, held, init_short, may_all_drop, never_err, once_held, root_short, same_refusal, unnamed}
+pub use Rattle.ffs_model.proofs.ShortEdits.{data_begun, data_short, direct_set, free_begun, indirect_set, inode_add_short, inode_bare, inode_freed_short, inode_part, inode_short, inode_words, inodes_begun, pointer_set_short, pointers_begun, pointers_cleared_short, root_begun, root_set_short}
+pub use Rattle.ffs_model.proofs.Numbers.{forget_later, gives_short, init_later, make_root_later, named_linked, named_links, propose_later, proposed_given, rooted_given}

@@ -10,18 +10,18 @@ use Rattle.xn_state.specs.States.{types_in}
 use Rattle.xn_kernel.specs.Kernels.{KernelValue, TicketValue}
 use Rattle.xn_kernel.specs.Drains.{Reads, Refuses, Round, Rounds, Stops, WritesTo}
 use Rattle.ffs_model.specs.Library.{library_layout}
-use Rattle.ffs_model.proofs.ForCallers.{begin_cuts, library_reads, settle_cuts, volume_from}
+use Rattle.ffs_model.proofs.ForCallers.{begin_cuts, begin_next, library_reads, none_later, settle_cuts, settle_next, volume_from}
 use Rattle.volume_pair.specs.Kept.{Stays}
 
 begun_stays : (T : Types) (old new : StoreState) (b : ℕ) (given : List ℕ × ℕ) → begun_of old b ≡ Ok (given, new) → Stays T old new
 begun_stays T old new b given e library fs array few v =
     let h = (begun_keeps T old v.consistent b given new e).consistent in
-    volume_from T library_layout (library_reads T library) fs few array old new h (begin_cuts T old v.consistent fs b given new h e) v
+    volume_from T library_layout (library_reads T library) fs few array old new h (none_later new.next old.next (begin_next old new b given e)) (begin_cuts T old v.consistent fs b given new h e) v
 
 settled_stays : (T : Types) (old new : StoreState) (b : ℕ) (bytes : List ℕ) (done : ℕ × ℕ) → settled_of old b bytes ≡ Ok (done, new) → Stays T old new
 settled_stays T old new b bytes done e library fs array few v =
     let h = (settled_keeps T old v.consistent b bytes done new e).0 in
-    volume_from T library_layout (library_reads T library) fs few array old new h (settle_cuts T old v.consistent fs b bytes done new h e) v
+    volume_from T library_layout (library_reads T library) fs few array old new h (none_later new.next old.next (settle_next old new b bytes done e)) (settle_cuts T old v.consistent fs b bytes done new h e) v
 
 -- a kernel's types stay, and so does what is known of each file system
 abbrev pub After : {L : Type 0} → KernelValue L → KernelValue L → Type 0

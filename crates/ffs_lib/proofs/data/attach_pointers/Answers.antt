@@ -11,7 +11,9 @@ use Rattle.ffs_model.proofs.ForCallers.{library_reads, under_inodes}
 use Rattle.ffs_lib.specs.Edits.{edit_at}
 use Rattle.ffs_lib.specs.Outcomes.{WroteBytes}
 use Rattle.ffs_lookup.proofs.ForCallers.{same_ok}
-use Rattle.ffs_lib.proofs.Writing.{file_others, pointers_attached}
+use Rattle.xn_model.specs.Rules.{IsConsistent}
+use Rattle.ffs_lib.proofs.DataShort.{adding_given, edit_refused, pointers_refused}
+use Rattle.ffs_lib.proofs.Writing.{file_now, file_others, pointers_attached}
 use Rattle.ffs_lib.proofs.data.attach_pointers.Goals as goal
 
 pub returns-in_err-propose-clause-keeps : goal.returns-in_err-propose-clause-keeps
@@ -59,3 +61,44 @@ returns-clause-attached g c = λ lib h bare apart.
           (ap (λ (b : List ℕ). (fields_of b).size) is ∙ ap (λ (x : Fields). x.size) f) bare home (ap (λ (x : List ℕ). word_at x 56) same ∙ none)),
       file_others T lib state new h fs c.args.fs.few c.args.number found file exact bytes whole mode ((block, 5) ∷ []) None c.in_ok-propose.field-0 done,
     )
+
+pub returns-in_err-propose-clause-short : goal.returns-in_err-propose-clause-short
+returns-in_err-propose-clause-short g c = λ can inode is none may.
+    let T = g.S.Store.types_of c.args.store.now in
+    let state = g.S.Store.state_of c.args.store.now in
+    let new = g.S.Store.state_of c.propose.new.self in
+    let fs = c.args.fs.number in
+    let found = c.in_ok-home.field-0 in
+    let block = c.args.block in
+    let bytes = c.bytes.result.now in
+    let put = c.bytes.ensures.bytes in
+    let f = c.set_indirect.ensures.fields in
+    let same = same_ok found.inode inode (c.in_ok-home.ensures.exact can.library ∙ sym is) in
+    edit_refused T state new fs found.block _ (edit_at (64 * found.place) bytes ((block, 5) ∷ []) [] None) _ c.from_residual-in_err-propose.result c.in_ok-edit.ensures c.in_err-propose.ensures.state c.from_residual-in_err-propose.ensures.1
+    (pointers_refused T state None can fs c.args.fs.few c.args.number found c.in_ok-home.ensures.found bytes (ap length put ∙ c.bytes.ensures.whole) block
+    (ap (λ (b : List ℕ). (fields_of b).direct) put ∙ ap (λ (x : Fields). x.direct) f) (ap (λ (b : List ℕ). (fields_of b).indirect) put ∙ ap (λ (x : Fields). x.indirect) f)
+    (ap (λ (x : List ℕ). word_at x 56) same ∙ none) may)
+
+pub returns-clause-pointed : goal.returns-clause-pointed
+returns-clause-pointed g c = λ can there.
+    let T = g.S.Store.types_of c.args.store.now in
+    let state = g.S.Store.state_of c.args.store.now in
+    let new = g.S.Store.state_of c.propose.new.self in
+    let fs = c.args.fs.number in
+    let found = c.in_ok-home.field-0 in
+    let block = c.args.block in
+    let bytes = c.bytes.result.now in
+    let put = c.bytes.ensures.bytes in
+    let f = c.set_indirect.ensures.fields in
+    let done = done_by T state new fs found.block _ (edit_at (64 * found.place) bytes ((block, 5) ∷ []) [] None) c.in_ok-propose.field-0 c.in_ok-edit.ensures c.in_ok-propose.ensures.state in
+    record {
+      consistent = subst (λ t. IsConsistent t new) c.propose.ensures.types c.propose.ensures.rules;
+      inode = bytes;
+      file = file_now T can.library state new can.consistent fs c.args.fs.few c.args.number found c.in_ok-home.ensures.found (c.in_ok-home.ensures.exact can.library) bytes (ap length put ∙ c.bytes.ensures.whole)
+          (ap inode_mode put ∙ ap (λ (x : Fields). x.mode) f) ((block, 5) ∷ []) None c.in_ok-propose.field-0 done;
+      there = λ none. there (sym (ap (λ (b : List ℕ). (fields_of b).indirect) put ∙ ap (λ (x : Fields). x.indirect) f) ∙ none);
+    }
+
+pub returns-clause-given : goal.returns-clause-given
+returns-clause-given g c =
+    adding_given (g.S.Store.types_of c.args.store.now) _ (g.S.Store.state_of c.args.store.now) (g.S.Store.state_of c.propose.new.self) c.args.fs.number c.in_ok-home.field-0.block _ c.in_ok-propose.field-0 _ _ _ _ c.propose.ensures.types c.propose.ensures.rules c.in_ok-edit.ensures c.in_ok-propose.ensures.state

@@ -9,6 +9,7 @@ use Rattle.ffs_model.specs.Cuts.{latest}
 use Rattle.ffs_lib.specs.Edits.{edit_at}
 use Rattle.ffs_lib.specs.Outcomes.{IsRaised}
 use Rattle.ffs_lookup.proofs.ForCallers.{same_ok}
+use Rattle.ffs_lib.proofs.DataShort.{edit_refused, size_refused}
 use Rattle.ffs_lib.proofs.Writing.{file_others, size_raised}
 use Rattle.ffs_lib.proofs.data.raise_size.Goals as goal
 
@@ -53,3 +54,17 @@ returns-in_ok-propose-clause-raised g c = λ lib array v.
           (ap (λ (b : List ℕ). (fields_of b).size) is ∙ ap (λ (x : Fields). x.size) f) (omega arith)),
       file_others T lib state new v.consistent fs c.args.fs.few c.args.number found file exact bytes whole mode [] (Some c.args.after) c.in_ok-propose.field-0 done,
     )
+
+pub returns-in_err-propose-clause-short : goal.returns-in_err-propose-clause-short
+returns-in_err-propose-clause-short g c = λ can inode is.
+    let T = g.S.Store.types_of c.args.store.now in
+    let state = g.S.Store.state_of c.args.store.now in
+    let new = g.S.Store.state_of c.propose.new.self in
+    let fs = c.args.fs.number in
+    let found = c.in_ok-block.field-0 in
+    let bytes = c.bytes.result.now in
+    let put = c.bytes.ensures.bytes in
+    let f = c.set_size.ensures.fields in
+    edit_refused T state new fs found.block _ (edit_at (64 * found.place) bytes [] [] (Some c.args.after)) _ c.from_residual-in_err-propose.result c.in_ok-edit.ensures c.in_err-propose.ensures.state c.from_residual-in_err-propose.ensures.1
+    (size_refused T state (Some c.args.after) can fs c.args.fs.few c.args.number found c.in_ok-block.ensures.found bytes (ap length put ∙ c.bytes.ensures.whole)
+    (ap (λ (b : List ℕ). (fields_of b).direct) put ∙ ap (λ (x : Fields). x.direct) f) (ap (λ (b : List ℕ). (fields_of b).indirect) put ∙ ap (λ (x : Fields). x.indirect) f))

@@ -1,4 +1,4 @@
-use Rattle.std.proofs.Common.{ℕ, List, ◌+◌, ◌*◌, length, ap, arith, [], None, sym, ◌∙◌, subst}
+use Rattle.std.proofs.Common.{◌≡◌, ℕ, List, ◌+◌, ◌*◌, length, ap, arith, [], None, sym, ◌∙◌, subst}
 use Rattle.std.specs.Prelude.{OnOk}
 use Rattle.ffs_lib.specs.Edits.{edit_at}
 use Rattle.ffs_lib.specs.Outcomes.{Keeps}
@@ -7,7 +7,11 @@ use Rattle.ffs_lookup.proofs.ForCallers.{found_has, same_ok}
 use Rattle.ffs_lib.proofs.Kept.{data_then, refused}
 use Rattle.xn_model.specs.Rules.{IsConsistent}
 use Rattle.ffs_model.specs.Cuts.{latest}
-use Rattle.ffs_lib.specs.Outcomes.{AttachesBlock, WroteBytes}
+use Rattle.ffs_lib.specs.Outcomes.{AttachesBlock, OnlyShort, WroteBytes}
+use Rattle.std.proofs.lemmas.Bool.{false≢true}
+use Rattle.ffs_format.specs.Fields.{direct_in}
+use Rattle.ffs_model.proofs.ForCallers.{data_begun, data_short}
+use Rattle.ffs_lib.proofs.DataShort.{begin_refused, begun_short, block_long, direct_reached, edit_refused, writing_given}
 use Rattle.ffs_lib.proofs.Owners.{direct_block}
 use Rattle.ffs_lib.proofs.Writing.{data_written, file_grown}
 use Rattle.ffs_lib.proofs.data.write_direct.Goals as goal
@@ -72,3 +76,46 @@ returns-clause-written g c = λ lib array v.
     (ap length c.in_ok-read_block.ensures.bytes ∙ c.in_ok-read_block.ensures.whole) c.requires.within entry
     (done_by T state new fs block _ (edit_at c.args.at bytes [] [] None) entry c.in_ok-edit.ensures c.in_ok-propose.ensures.state) in
     (λ other is. subst (λ (x : List ℕ). WroteBytes (latest state.lives) (latest new.lives) fs c.args.number x start bytes) (same_ok inode other (exact ∙ sym is)) r.0, r.1)
+
+pub returns-then-block-eq0-clause-short : goal.returns-then-block-eq0-clause-short
+returns-then-block-eq0-clause-short g c = λ can inode is.
+    let T = g.S.Store.types_of c.args.store.now in
+    let zeroth = g.S.Store.state_of c.args.store.now in
+    let first = g.S.Store.state_of c.init.new.self in
+    let index = c.args.index in
+    let attached = c.attach_direct-attached in
+    let same = same_ok c.in_ok-find_file.field-0.inode inode (c.in_ok-find_file.ensures.exact can.library ∙ sym is) in
+    let none : direct_in inode index ≡ 0 = ap (λ (m : List ℕ). direct_in m index) (sym same) ∙ (sym c.direct-block.ensures ∙ c.if-block-eq0.true) in
+    subst OnlyShort (sym c.forgotten.ensures.same)
+    (begun_short (λ m. direct_in m index ≡ 0) T _ zeroth first c.args.fs.number c.args.fs.few 2 _ c.in_ok-block.block c.in_ok-block.field-0-1 c.args.number inode c.init.ensures.types c.init.ensures.rules c.in_ok-block.ensures.state can is none attached.ensures.short)
+
+pub returns-in_err-block-clause-short : goal.returns-in_err-block-clause-short
+returns-in_err-block-clause-short g c = λ can inode is.
+    let T = g.S.Store.types_of c.args.store.now in
+    let state = g.S.Store.state_of c.args.store.now in
+    begin_refused T state (g.S.Store.state_of c.init.new.self) c.args.fs.number 2 c.block_with.result _ c.from_residual-in_err-block.result c.in_err-block.ensures.state c.from_residual-in_err-block.ensures.1
+    (data_begun T state can.consistent c.args.fs.number c.block_with.result (ap length c.block_with.ensures ∙ block_long c.args.at c.args.bytes.now c.requires.within))
+
+pub returns-in_err-read_block-clause-short : goal.returns-in_err-read_block-clause-short
+returns-in_err-read_block-clause-short g c = λ can inode is.
+    let T = g.S.Store.types_of c.args.store.now in
+    let state = g.S.Store.state_of c.args.store.now in
+    let own = c.in_ok-find_file.field-0.inode in
+    absurd (false≢true (c.in_err-read_block.ensures.reached 2 (direct_reached T can.library state can.consistent c.args.fs.number c.args.fs.few c.args.number own (c.in_ok-find_file.ensures.exact can.library) c.args.index c.direct-block.result c.requires.few (sym c.direct-block.ensures) c.if-block-eq0.false)))
+
+pub returns-in_err-propose-clause-short : goal.returns-in_err-propose-clause-short
+returns-in_err-propose-clause-short g c = λ can inode is.
+    let T = g.S.Store.types_of c.args.store.now in
+    let state = g.S.Store.state_of c.args.store.now in
+    let fs = c.args.fs.number in
+    let own = c.in_ok-find_file.field-0.inode in
+    let block = c.direct-block.result in
+    edit_refused T state (g.S.Store.state_of c.propose.new.self) fs block _ (edit_at c.args.at c.args.bytes.now [] [] None) _ c.from_residual-in_err-propose.result c.in_ok-edit.ensures c.in_err-propose.ensures.state c.from_residual-in_err-propose.ensures.1
+    (data_short T can.library state can.consistent fs c.args.fs.few block (ap length c.in_ok-read_block.ensures.bytes ∙ c.in_ok-read_block.ensures.whole) None can.given
+    (direct_reached T can.library state can.consistent fs c.args.fs.few c.args.number own (c.in_ok-find_file.ensures.exact can.library) c.args.index block c.requires.few (sym c.direct-block.ensures) c.if-block-eq0.false)
+    c.args.at c.args.bytes.now c.requires.some c.requires.within)
+
+pub returns-clause-given : goal.returns-clause-given
+returns-clause-given g c =
+    writing_given (g.S.Store.types_of c.args.store.now) _ (g.S.Store.state_of c.args.store.now) (g.S.Store.state_of c.propose.new.self) c.args.fs.number c.direct-block.result _ _ c.in_ok-propose.field-0 c.propose.ensures.types c.propose.ensures.rules
+    (ap length c.in_ok-read_block.ensures.bytes ∙ c.in_ok-read_block.ensures.whole) c.in_ok-edit.ensures c.in_ok-propose.ensures.state

@@ -1,4 +1,4 @@
-use Rattle.std.proofs.Common.{ℕ, List, ◌+◌, ◌*◌, length, arith, [], None, ap, sym, ◌∙◌, subst}
+use Rattle.std.proofs.Common.{◌≡◌, ◌≢◌, ℕ, List, ◌+◌, ◌*◌, length, arith, [], None, ap, sym, ◌∙◌, subst}
 use Rattle.ffs_model.specs.Library.{pointer_word}
 use Rattle.ffs_lib.specs.Edits.{edit_at}
 use Rattle.ffs_lib.specs.Outcomes.{Keeps}
@@ -8,8 +8,13 @@ use Rattle.std.specs.Prelude.{OnOk}
 use Rattle.std.proofs.lemmas.Result.{on_ok_weaker}
 use Rattle.xn_model.specs.Rules.{IsConsistent}
 use Rattle.ffs_model.specs.Cuts.{latest}
-use Rattle.ffs_lib.specs.Outcomes.{AttachesData, WritesBytes, WroteBytes}
+use Rattle.ffs_lib.specs.Outcomes.{AttachesData, OnlyShort, WritesBytes, WroteBytes}
 use Rattle.ffs_lookup.proofs.ForCallers.{same_ok}
+use Rattle.std.proofs.lemmas.Bool.{false≢true}
+use Rattle.xn_model.specs.Root.{word_at}
+use Rattle.ffs_model.specs.Library.{IsLibrary}
+use Rattle.ffs_model.proofs.ForCallers.{data_begun, data_short}
+use Rattle.ffs_lib.proofs.DataShort.{begin_refused, begun_short, begun_stays, block_long, can_then, edit_refused, pointed_reached, writing_given}
 use Rattle.ffs_lib.proofs.Writing.{attaches_data, data_written, file_grown, indirect_block, writes_after}
 use Rattle.ffs_lib.proofs.data.write_indirect.Goals as goal
 
@@ -112,3 +117,74 @@ returns-clause-written g c =
     (done_by T1 state new fs block _ (edit_at c.args.at bytes [] [] None) entry c.in_ok-edit.ensures c.in_ok-propose.ensures.state) in
     (λ other is. subst (λ (x : List ℕ). WroteBytes (latest state.lives) (latest new.lives) fs n x start bytes) (same_ok inode other (exact ∙ sym is)) r.0, r.1) in
     writes_after T fs n start bytes old state new more.keeps more.same (subst (λ t. WritesBytes t fs n start bytes state new) more.types last)
+
+pub returns-in_err-read_block-clause-short : goal.returns-in_err-read_block-clause-short
+returns-in_err-read_block-clause-short g c = λ can inode is.
+    let T1 = g.S.Store.types_of c.add_pointers.new.store in
+    let lib = subst IsLibrary (sym c.in_ok-add_pointers.ensures.types) can.library in
+    absurd (false≢true (c.in_err-read_block.ensures.reached 5
+    (pointers_reached T1 lib (g.S.Store.state_of c.add_pointers.new.store) c.args.fs.number c.args.number c.in_ok-find_file.field-0 c.in_ok-find_file.ensures.found.is c.indirect-indirect.result (sym c.indirect-indirect.ensures) c.if-indirect-eq0.false)))
+
+pub returns-in_err-block-clause-short : goal.returns-in_err-block-clause-short
+returns-in_err-block-clause-short g c = λ can inode is.
+    let T1 = g.S.Store.types_of c.add_pointers.new.store in
+    let state = g.S.Store.state_of c.add_pointers.new.store in
+    let more = c.in_ok-add_pointers.ensures in
+    begin_refused T1 state (g.S.Store.state_of c.init.new.self) c.args.fs.number 2 c.block_with.result _ c.from_residual-in_err-block.result c.in_err-block.ensures.state c.from_residual-in_err-block.ensures.1
+    (data_begun T1 state (can_then _ T1 state c.args.fs.number c.args.number more.types can.library (more.pointed can inode is)).consistent c.args.fs.number c.block_with.result
+    (ap length c.block_with.ensures ∙ block_long c.args.at c.args.bytes.now c.requires.within))
+
+pub returns-then-block-eq0-clause-short : goal.returns-then-block-eq0-clause-short
+returns-then-block-eq0-clause-short g c = λ can inode is.
+    let T1 = g.S.Store.types_of c.add_pointers.new.store in
+    let zeroth = g.S.Store.state_of c.add_pointers.new.store in
+    let first = g.S.Store.state_of c.init.new.self in
+    let fs = c.args.fs.number in
+    let place = c.args.place in
+    let more = c.in_ok-add_pointers.ensures in
+    let next = can_then _ T1 zeroth fs c.args.number more.types can.library (more.pointed can inode is) in
+    let own = c.in_ok-find_file.field-0.inode in
+    let indirect = c.indirect-indirect.result in
+    let attached = c.attach_data-attached in
+    let at = pointers_reached T1 next.library zeroth fs c.args.number c.in_ok-find_file.field-0 c.in_ok-find_file.ensures.found.is indirect (sym c.indirect-indirect.ensures) c.if-indirect-eq0.false in
+    let same : latest first.lives (word_at own 56) ≡ latest zeroth.lives indirect =
+    ap (latest first.lives) (sym c.indirect-indirect.ensures) ∙ begun_stays T1 zeroth first next.consistent fs c.args.fs.few 2 _ c.in_ok-block.block c.in_ok-block.field-0-1 c.in_ok-block.ensures.state indirect 5 at (omega arith) in
+    let none : pointer_word (latest zeroth.lives indirect) place ≡ 0 = ap (λ (m : List ℕ). pointer_word m place) c.in_ok-read_block.ensures.bytes ∙ (sym c.pointer-block.ensures ∙ c.if-block-eq0.true) in
+    let long : length (latest zeroth.lives indirect) ≡ 512 = ap length c.in_ok-read_block.ensures.bytes ∙ c.in_ok-read_block.ensures.whole in
+    subst OnlyShort (sym c.forgotten.ensures.same)
+    (begun_short (λ m. (word_at m 56 ≢ 0) × (pointer_word (latest first.lives (word_at m 56)) place ≡ 0) × (length (latest first.lives (word_at m 56)) ≡ 512)) T1 _ zeroth first fs c.args.fs.few 2 _ c.in_ok-block.block c.in_ok-block.field-0-1 c.args.number own
+    c.init.ensures.types c.init.ensures.rules c.in_ok-block.ensures.state next (c.in_ok-find_file.ensures.exact next.library)
+    (λ z. c.if-indirect-eq0.false (c.indirect-indirect.ensures ∙ z), ap (λ (m : List ℕ). pointer_word m place) same ∙ none, ap length same ∙ long)
+    (λ after other file p may. attached.ensures.short after other file p.0 p.1 p.2 may))
+
+pub returns-in_err-read_block-2-clause-short : goal.returns-in_err-read_block-2-clause-short
+returns-in_err-read_block-2-clause-short g c = λ can inode is.
+    let T1 = g.S.Store.types_of c.add_pointers.new.store in
+    let state = g.S.Store.state_of c.add_pointers.new.store in
+    let lib = subst IsLibrary (sym c.in_ok-add_pointers.ensures.types) can.library in
+    let indirect = c.indirect-indirect.result in
+    absurd (false≢true (c.in_err-read_block-2.ensures.reached 2
+    (pointed_reached T1 lib state c.args.fs.number indirect c.args.place c.pointer-block.result
+    (pointers_reached T1 lib state c.args.fs.number c.args.number c.in_ok-find_file.field-0 c.in_ok-find_file.ensures.found.is indirect (sym c.indirect-indirect.ensures) c.if-indirect-eq0.false) c.requires.few
+    (ap (λ (m : List ℕ). pointer_word m c.args.place) c.in_ok-read_block.ensures.bytes ∙ sym c.pointer-block.ensures) c.if-block-eq0.false)))
+
+pub returns-in_err-propose-clause-short : goal.returns-in_err-propose-clause-short
+returns-in_err-propose-clause-short g c = λ can inode is.
+    let T1 = g.S.Store.types_of c.add_pointers.new.store in
+    let state = g.S.Store.state_of c.add_pointers.new.store in
+    let fs = c.args.fs.number in
+    let more = c.in_ok-add_pointers.ensures in
+    let next = can_then _ T1 state fs c.args.number more.types can.library (more.pointed can inode is) in
+    let indirect = c.indirect-indirect.result in
+    let block = c.pointer-block.result in
+    edit_refused T1 state (g.S.Store.state_of c.propose.new.self) fs block _ (edit_at c.args.at c.args.bytes.now [] [] None) _ c.from_residual-in_err-propose.result c.in_ok-edit.ensures c.in_err-propose.ensures.state c.from_residual-in_err-propose.ensures.1
+    (data_short T1 next.library state next.consistent fs c.args.fs.few block (ap length c.in_ok-read_block-2.ensures.bytes ∙ c.in_ok-read_block-2.ensures.whole) None next.given
+    (pointed_reached T1 next.library state fs indirect c.args.place block
+    (pointers_reached T1 next.library state fs c.args.number c.in_ok-find_file.field-0 c.in_ok-find_file.ensures.found.is indirect (sym c.indirect-indirect.ensures) c.if-indirect-eq0.false) c.requires.few
+    (ap (λ (m : List ℕ). pointer_word m c.args.place) c.in_ok-read_block.ensures.bytes ∙ sym c.pointer-block.ensures) c.if-block-eq0.false)
+    c.args.at c.args.bytes.now c.requires.some c.requires.within)
+
+pub returns-clause-given : goal.returns-clause-given
+returns-clause-given g c =
+    writing_given (g.S.Store.types_of c.add_pointers.new.store) _ (g.S.Store.state_of c.add_pointers.new.store) (g.S.Store.state_of c.propose.new.self) c.args.fs.number c.pointer-block.result _ _ c.in_ok-propose.field-0 c.propose.ensures.types c.propose.ensures.rules
+    (ap length c.in_ok-read_block-2.ensures.bytes ∙ c.in_ok-read_block-2.ensures.whole) c.in_ok-edit.ensures c.in_ok-propose.ensures.state

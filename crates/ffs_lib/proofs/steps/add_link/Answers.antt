@@ -1,11 +1,15 @@
-use Rattle.std.proofs.Common.{ℕ, List, ◌*◌, ◌≡◌, [], length, None, ap, ◌∙◌, arith}
+use Rattle.std.proofs.Common.{ℕ, List, ◌*◌, ◌≡◌, [], length, None, ap, ◌∙◌, arith, sym}
 use Rattle.ffs_model.specs.Cuts.{latest}
-use Rattle.ffs_model.specs.Library.{inode_at, inode_blocks, inode_links, inode_mode}
+use Rattle.ffs_model.specs.Library.{inode_at, inode_blocks, inode_links, inode_mode, inode_pairs}
 use Rattle.ffs_format.specs.Fields.{Fields, fields_of}
 use Rattle.ffs_lib.proofs.Edited.{done_by, more}
 use Rattle.ffs_lib.proofs.Fields.{same_blocks}
 use Rattle.ffs_lib.specs.Edits.{edit_at}
-use Rattle.ffs_lib.proofs.Moving.{relinked}
+use Rattle.ffs_lib.proofs.Entering.{inode_put, others_put}
+use Rattle.ffs_lib.proofs.Moving.{relinked, was_and_is}
+use Rattle.ffs_lib.proofs.Owners.{stands_from}
+use Rattle.xn_model.specs.Root.{word_at}
+use Rattle.ffs_lib.proofs.Short.{handed, kept_short, number_given, pairs_kept, refusal_short}
 use Rattle.ffs_lib.proofs.steps.add_link.Goals as goal
 
 pub returns-clause-ok : goal.returns-clause-ok
@@ -41,3 +45,58 @@ returns-clause-relinked g c = λ lib h.
     relinked T lib state new h fs c.args.fs.few c.args.number found c.in_ok-block.ensures.found (c.in_ok-block.ensures.exact lib) bytes (ap length is ∙ c.bytes.ensures.whole) (ap inode_mode is ∙ ap (λ (x : Fields). x.mode) f)
     (ap (λ (b : List ℕ). (fields_of b).direct) is ∙ ap (λ (x : Fields). x.direct) f) (ap (λ (b : List ℕ). (fields_of b).indirect) is ∙ ap (λ (x : Fields). x.indirect) f) (ap (λ (b : List ℕ). (fields_of b).size) is ∙ ap (λ (x : Fields). x.size) f)
     None c.in_ok-propose.field-0 (done_by T state new fs found.block _ (edit_at (64 * found.place) bytes [] [] None) c.in_ok-propose.field-0 c.in_ok-edit.ensures c.in_ok-propose.ensures.state)
+
+pub returns-clause-others : goal.returns-clause-others
+returns-clause-others g c = λ lib h.
+    let T = g.S.Store.types_of c.args.store.now in
+    let state = g.S.Store.state_of c.args.store.now in
+    let new = g.S.Store.state_of c.propose.new.self in
+    let fs = c.args.fs.number in
+    let found = c.in_ok-block.field-0 in
+    let bytes = c.bytes.result.now in
+    others_put T lib state new h fs c.args.fs.few c.args.number found.block found.place c.in_ok-block.ensures.found.stands bytes (ap length c.bytes.ensures.bytes ∙ c.bytes.ensures.whole) [] [] None c.in_ok-propose.field-0
+    (done_by T state new fs found.block _ (edit_at (64 * found.place) bytes [] [] None) c.in_ok-propose.field-0 c.in_ok-edit.ensures c.in_ok-propose.ensures.state)
+
+pub returns-clause-links : goal.returns-clause-links
+returns-clause-links g c = λ lib h inode after i a.
+    let T = g.S.Store.types_of c.args.store.now in
+    let state = g.S.Store.state_of c.args.store.now in
+    let new = g.S.Store.state_of c.propose.new.self in
+    let fs = c.args.fs.number in
+    let n = c.args.number in
+    let found = c.in_ok-block.field-0 in
+    let stands = c.in_ok-block.ensures.found in
+    let exact = c.in_ok-block.ensures.exact lib in
+    let bytes = c.bytes.result.now in
+    let is = c.bytes.ensures.bytes in
+    let one = c.set_links.ensures.fields in
+    let low = (stands_from (latest state.lives) fs n found.inode exact).low in
+    let p = inode_put T lib state new h fs c.args.fs.few n found.block found.place stands.stands low bytes (ap length is ∙ c.bytes.ensures.whole) (λ z. stands.used (sym (ap inode_mode is ∙ ap (λ (f : Fields). f.mode) one) ∙ z)) [] [] None
+    c.in_ok-propose.field-0 (done_by T state new fs found.block _ (edit_at (64 * found.place) bytes [] [] None) c.in_ok-propose.field-0 c.in_ok-edit.ensures c.in_ok-propose.ensures.state) in
+    let e = was_and_is (latest state.lives) (latest new.lives) fs n found.inode bytes inode after exact p.0 i a in
+    let was : c.links-links.result ≡ inode_links inode = c.links-links.ensures ∙ ap inode_links (sym e.0) in
+    let now = ap inode_links e.1 ∙ (ap inode_links is ∙ ap (λ (f : Fields). f.links) one) in
+    now ∙ omega (arith, was)
+
+pub returns-in_err-propose-clause-short : goal.returns-in_err-propose-clause-short
+returns-in_err-propose-clause-short g c = λ inode can is some.
+    let T = g.S.Store.types_of c.args.store.now in
+    let state = g.S.Store.state_of c.args.store.now in
+    let new = g.S.Store.state_of c.propose.new.self in
+    let fs = c.args.fs.number in
+    let found = c.in_ok-block.field-0 in
+    let stands = c.in_ok-block.ensures.found in
+    let bytes = c.bytes.result.now in
+    let same : bytes ≡ c.set_links.new.self = c.bytes.ensures.bytes in
+    let f = c.set_links.ensures.fields in
+    let last : word_at bytes 56 ≡ word_at found.inode 56 = ap (λ (b : List ℕ). (fields_of b).indirect) same ∙ ap (λ (x : Fields). x.indirect) f in
+    let kept : inode_pairs bytes 0 ≡ inode_pairs found.inode 0 = pairs_kept found.inode bytes last (ap (λ (b : List ℕ). (fields_of b).direct) same ∙ ap (λ (x : Fields). x.direct) f) in
+    let refusal = c.in_err-propose.field-0.0 in
+    handed c.from_residual-in_err-propose.result refusal c.from_residual-in_err-propose.ensures.1
+    (refusal_short T state new fs found.block _ (edit_at (64 * found.place) bytes [] [] None) refusal c.in_ok-edit.ensures c.in_err-propose.ensures.state
+    (kept_short T state None can fs c.args.fs.few c.args.number found.block found.place stands.stands bytes (ap length same ∙ c.bytes.ensures.whole)
+    (kept ∙ ap (λ (b : List ℕ). inode_pairs b 0) stands.bytes)))
+
+pub returns-clause-given : goal.returns-clause-given
+returns-clause-given g c = λ can.
+    number_given (g.S.Store.types_of c.args.store.now) (g.S.Store.state_of c.args.store.now) (g.S.Store.state_of c.propose.new.self) can.consistent c.args.fs.number c.in_ok-block.field-0.block _ _ c.in_ok-propose.field-0 c.in_ok-edit.ensures c.in_ok-propose.ensures.state

@@ -1,4 +1,7 @@
-use Rattle.std.proofs.Common.{ℕ, ◌<◌, length, Option, arith, subst}
+use Rattle.std.proofs.Common.{ℕ, ◌<◌, length, None, Option, arith, refl, subst}
+use Rattle.std.proofs.lemmas.Result.{err_from_is_err_and}
+use Rattle.ffs_lib.specs.Outcomes.{CanEdit}
+use Rattle.ffs_lib.proofs.Linked.{free_pointer}
 use Rattle.ffs_model.specs.Library.{library_layout}
 use Rattle.ffs_model.specs.Volumes.{VolumeKeeps}
 use Rattle.ffs_lib.specs.Volumes.{edits_of}
@@ -25,3 +28,13 @@ returns-clause-free g c =
     let added = c.in_ok-index in
     first_free (g.S.Store.types_of c.args.store.now) (g.S.Store.state_of c.add_inodes.new.store) volume.fs.number (edits_of volume.added) added.index added.block added.entry added.ensures.few
     (added.ensures.ok c.requires.library (edits_of volume.added) c.requires.keeps)
+
+pub returns-in_err-index-clause-short : goal.returns-in_err-index-clause-short
+returns-in_err-index-clause-short g c = λ n inode is empty.
+    let T = g.S.Store.types_of c.args.store.now in
+    let state = g.S.Store.state_of c.args.store.now in
+    let volume = c.args.self.now in
+    let v = c.requires.keeps in
+    let can : CanEdit T state None = record { library = c.requires.library; consistent = v.consistent; given = refl } in
+    let p = err_from_is_err_and c.from_residual.result c.from_residual.ensures.1 in
+    rw (p.1, p.2) (c.in_err-index.ensures.short can (free_pointer T volume.fs.number (edits_of volume.added) state v n inode is empty))

@@ -1,8 +1,9 @@
-use Rattle.std.proofs.Common.{◌+◌, ◌<◌, arith, length, refl}
+use Rattle.std.proofs.Common.{◌+◌, ◌<◌, ◌∙◌, arith, length, refl, sym}
 use Rattle.std.proofs.lemmas.Result.{err_from_is_err_and}
 use Rattle.ffs_model.specs.Cuts.{latest}
 use Rattle.ffs_lookup.specs.Newest.{write_in}
 use Rattle.ffs_lib.proofs.Kept.{handed_on}
+use Rattle.ffs_lib.proofs.Tops.{never}
 use Rattle.ffs_lib.proofs.Refusals.{fits_file, goes_on, refuses, too_large, write_nothing}
 use Rattle.ffs_lib.proofs.volume.Volume.write.Goals as goal
 use Rattle.ffs_lib.proofs.volume.Volume.write.Goals.{then-start-gt-MOST_BYTES-via-then-start-gt-MOST_BYTES, then-start-gt-MOST_BYTES-via-else-start-gt-MOST_BYTES+then-bytes-start}
@@ -42,3 +43,20 @@ returns-clause-written g c = handed_on _ c.write_all.result c.once_edited.result
 
 pub returns-clause-others : goal.returns-clause-others
 returns-clause-others g c = handed_on _ c.write_all.result c.once_edited.result c.once_edited.ensures.ok c.write_all.ensures.others
+
+pub returns-in_err-find_file-clause-short : goal.returns-in_err-find_file-clause-short
+returns-in_err-find_file-clause-short g c = λ file is.
+    let content = latest (g.S.Store.state_of c.args.store.now).lives in
+    let size = c.args.offset + length c.args.bytes.now in
+    absurd (never file _ (is ∙ sym (write_nothing content c.args.self.now.fs.number c.args.inode size c.in_err-find_file.field-0.0 (c.in_err-find_file.ensures.exact c.requires.volume.library))))
+
+pub returns-then-start-gt-MOST_BYTES-clause-short : goal.returns-then-start-gt-MOST_BYTES-clause-short
+returns-then-start-gt-MOST_BYTES-clause-short g c = λ file is.
+    let content = latest (g.S.Store.state_of c.args.store.now).lives in
+    let size = c.args.offset + length c.args.bytes.now in
+    let large : 71680 < size =
+    elim c.then-start-gt-MOST_BYTES.branch [ then-start-gt-MOST_BYTES-via-then-start-gt-MOST_BYTES w ↦ omega arith | then-start-gt-MOST_BYTES-via-else-start-gt-MOST_BYTES+then-bytes-start w ↦ omega arith ] in
+    absurd (never file _ (is ∙ sym (too_large content c.args.self.now.fs.number c.args.inode size c.in_ok-find_file.field-0.inode (c.in_ok-find_file.ensures.exact c.requires.volume.library) large)))
+
+pub returns-clause-short : goal.returns-clause-short
+returns-clause-short g c = λ file is. c.once_edited.ensures.short (c.write_all.ensures.short c.in_ok-find_file.field-0.inode (c.in_ok-find_file.ensures.exact c.requires.volume.library))

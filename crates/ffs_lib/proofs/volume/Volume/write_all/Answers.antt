@@ -1,9 +1,12 @@
-use Rattle.std.proofs.Common.{◌≡◌, ◌≢◌, ◌<◌, ◌+◌, rules, ◌*◌, ◌/◌, ◌%◌, ◌++◌, ℕ, List, length, take, Option, ap, sym, ◌∙◌, arith, subst, append_assoc, length-append}
-use Rattle.std.specs.Prelude.{MatchOption}
+use Rattle.std.proofs.Common.{◌≡◌, ◌≢◌, ◌<◌, ◌+◌, rules, ◌*◌, ◌/◌, ◌%◌, ◌++◌, ℕ, List, length, take, Option, None, Some, refl, ap, sym, ◌∙◌, arith, subst, append_assoc, length-append}
+use Rattle.std.specs.Prelude.{IsTrue, MatchOption, ⊤}
+use Rattle.xn_model.specs.Calls.{was_given}
+use Rattle.xn_model.specs.Rules.{IsConsistent}
+use Rattle.ffs_model.specs.Library.{IsLibrary}
 use Rattle.std.proofs.lemmas.List.{take-append-drop}
-use Rattle.std.proofs.lemmas.Result.{on_ok_weaker}
+use Rattle.std.proofs.lemmas.Result.{err_from_is_err_and, on_ok_weaker}
 use Rattle.ffs_model.specs.Cuts.{latest}
-use Rattle.ffs_lib.specs.Outcomes.{IsRaised, Keeps, RaisesSize, WritesBytes, WroteBytes}
+use Rattle.ffs_lib.specs.Outcomes.{CanEdit, IsRaised, Keeps, RaisesSize, WritesBytes, WroteBytes}
 use Rattle.ffs_lib.specs.Volumes.{edits_of}
 use Rattle.ffs_lib.proofs.Same.{same_on}
 use Rattle.ffs_lib.proofs.Writing.{all_of, none_then, raised_then, wrote_more}
@@ -45,7 +48,27 @@ loop-last-preserved g c =
         λ file is. wrote_more T old first second fs n c.args.start at (512 * (at / 512) + at % 512) front part more c.args.bytes.now file (inv.written.4 file is) inv.written.2 (omega arith) writes.0,
       );
       others = λ d ne. same_on (latest old.lives) (latest first.lives) (latest second.lives) fs d (inv.others d ne) (writes.1 d ne);
+      given = c.in_ok-write_block.ensures.given;
     }
+
+pub returns-in_err-write_block-clause-short : goal.returns-in_err-write_block-clause-short
+returns-in_err-write_block-clause-short g c = λ file is.
+    let inv = c.loop-last.invariant in
+    let first = g.S.Store.state_of c.loop-last.store in
+    let wrote = inv.written.4 file is in
+    let can : CanEdit (g.S.Store.types_of c.loop-last.store) first None = record { library = subst IsLibrary (sym inv.types) inv.keeps.library; consistent = subst (λ t. IsConsistent t first) (sym inv.types) inv.keeps.keeps.consistent; given = refl } in
+    let p = err_from_is_err_and c.from_residual.result c.from_residual.ensures.1 in
+    rw (p.1, p.2) (c.in_err-write_block.ensures.short can wrote.after wrote.file)
+
+pub returns-in-Some-clause-short : goal.returns-in-Some-clause-short
+returns-in-Some-clause-short g c = λ file is.
+    let inv = c.loop-last.invariant in
+    let first = g.S.Store.state_of c.loop-last.store in
+    let wrote = inv.written.4 file is in
+    let number = c.in-Some.last in
+    let given : IsTrue (was_given first (Some number)) = subst (λ (o : Option ℕ). MatchOption o ⊤ (λ e. IsTrue (was_given first (Some e)))) c.in-Some.is inv.given in
+    let can : CanEdit (g.S.Store.types_of c.loop-last.store) first (Some number) = record { library = subst IsLibrary (sym inv.types) inv.keeps.library; consistent = subst (λ t. IsConsistent t first) (sym inv.types) inv.keeps.keeps.consistent; given = given } in
+    c.raise_size.ensures.short can wrote.after wrote.file
 
 pub returns-in-Some-clause-written : goal.returns-in-Some-clause-written
 returns-in-Some-clause-written g c =

@@ -1,5 +1,6 @@
 use Rattle.std.proofs.Common.{◌≡◌, ◌≢◌, ◌+◌, ◌≤◌, ◌++◌, ℕ, List, length}
-use Rattle.std.specs.Prelude.{MatchOption, Ok}
+use Rattle.std.specs.Prelude.{IsTrue, MatchOption, Ok, Some, ⊤}
+use Rattle.xn_model.specs.Calls.{was_given}
 use Rattle.ffs_model.specs.Cuts.{latest}
 use Rattle.ffs_lookup.specs.Newest.{file_in}
 use Rattle.ffs_lib.specs.Outcomes.{WroteBytes}
@@ -19,6 +20,7 @@ invariant-loop-last g l =
       within : l.at + length l.rest ≤ 71680;
       written : (front : List ℕ) × (front ++ l.rest ≡ l.fn.bytes) × (l.at ≡ l.fn.start + length front) × MatchOption l.last (length front ≡ 0) (λ e. length front ≢ 0) × ((file : List ℕ) → Ok file ≡ file_in old fs l.inode → WroteBytes old new fs l.inode file l.fn.start front);
       others : OnlyChanges old new fs l.inode;
+      given : MatchOption l.last ⊤ (λ e. IsTrue (was_given (g.S.Store.state_of l.store) (Some e)));
     }
 
 abbrev pub decreases-loop-last : goal.decreases-loop-last

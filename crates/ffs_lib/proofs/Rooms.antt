@@ -1,0 +1,72 @@
+-- Whether a directory has room, by what is read of its blocks.
+use Rattle.std.proofs.Common.{◌≡◌, ◌≢◌, ℕ, zero, suc, ◌+◌, ◌*◌, ◌/◌, ◌%◌, ◌<◌, Bool, List, [], ◌∷◌, take, drop, get_or, refl, sym, ◌∙◌, ap, arith, get_or-take, get_or-drop}
+use Rattle.std.specs.Prelude.{Contains, ◌==◌, ◌||◌, if◌then◌else◌}
+use Rattle.std.specs.Int.{w16, from_le_bytes}
+use Rattle.std.specs.List.{list_any, range_with_len}
+use Rattle.std.proofs.lemmas.Bool.{ne_eqb}
+use Rattle.xn_model.proofs.ForCallers.{Contains-head, Contains-tail}
+use Rattle.ffs_model.specs.Library.{half_at, inode_blocks}
+use Rattle.ffs_model.proofs.ForCallers.{direct_where}
+use Rattle.ffs_format.specs.Fields.{direct_in, fields_of}
+use Rattle.ffs_lookup.specs.Newest.{byte_in, byte_of, file_block, has_gap, has_room}
+use Rattle.ffs_lib.proofs.Fields.{same_blocks}
+use Rattle.ffs_lib.proofs.Owners.{direct_block}
+use Rattle.ffs_lib.proofs.Writing.{direct_get}
+
+-- a number of two bytes
+
+pair_of : (bs : List ℕ) → from_le_bytes w16 bs ≡ from_le_bytes w16 (get_or bs 0 0 ∷ get_or bs 1 0 ∷ [])
+pair_of [] = refl
+pair_of (x ∷ []) = refl
+pair_of (x ∷ y ∷ rest) = refl
+
+byte_taken : (m : List ℕ) (j i : ℕ) → i < 2 → get_or (take 2 (drop j m)) i 0 ≡ get_or m (j + i) 0
+byte_taken m j i low = get_or-take 2 (drop j m) i 0 low ∙ get_or-drop j m i 0
+
+half_by : (m k : List ℕ) (j : ℕ) → ((i : ℕ) → i < 2 → get_or k (j + i) 0 ≡ get_or m (j + i) 0) → half_at k j ≡ half_at m j
+unfolding half_at
+half_by m k j same =
+    let one : (i : ℕ) → i < 2 → get_or (take 2 (drop j k)) i 0 ≡ get_or (take 2 (drop j m)) i 0 = λ i low. byte_taken k j i low ∙ (same i low ∙ sym (byte_taken m j i low)) in
+    pair_of (take 2 (drop j k))
+    ∙ (ap (λ x. from_le_bytes w16 (x ∷ get_or (take 2 (drop j k)) 1 0 ∷ [])) (one 0 (omega arith))
+    ∙ (ap (λ x. from_le_bytes w16 (get_or (take 2 (drop j m)) 0 0 ∷ x ∷ [])) (one 1 (omega arith)) ∙ sym (pair_of (take 2 (drop j m)))))
+
+-- a test of all elements
+
+any_by : {A : Type 0} (p q : A → Bool) (xs : List A) → ((x : A) → Contains xs x → q x ≡ p x) → list_any q xs ≡ list_any p xs
+any_by p q [] same = refl
+any_by p q (x ∷ xs) same = ap (λ t. t || list_any q xs) (same x (Contains-head x xs)) ∙ ap (λ t. p x || t) (any_by p q xs (λ y i. same y (Contains-tail x xs y i)))
+
+any_below : (p q : ℕ → Bool) (n a : ℕ) → ((i : ℕ) → i < a + n → q i ≡ p i) → list_any q (range_with_len a n) ≡ list_any p (range_with_len a n)
+any_below p q zero a same = refl
+any_below p q (suc n) a same = ap (λ t. t || list_any q (range_with_len (a + 1) n)) (same a (omega arith)) ∙ ap (λ t. p a || t) (any_below p q n (a + 1) (λ i low. same i (omega (arith, low))))
+
+pub gap_by : (m k : List ℕ) → ((i : ℕ) → i < 512 → get_or k i 0 ≡ get_or m i 0) → has_gap k ≡ has_gap m
+gap_by m k same = any_below (λ place. half_at m (32 * place) == 0) (λ place. half_at k (32 * place) == 0) 16 0 (λ place low.
+    ap (λ h. h == 0) (half_by m k (32 * place) (λ i few. same (32 * place + i) (omega (arith, low, few)))))
+
+-- a directory whose pointers and bytes are as before has room as before
+pub room_by : (v w : ℕ → List ℕ) (inode after : List ℕ) → (fields_of after).direct ≡ (fields_of inode).direct → ((at : ℕ) → at < 71680 → byte_of w after at ≡ byte_of v inode at) → has_room w after ≡ has_room v inode
+room_by v w inode after direct each =
+    ap (λ t. t || list_any (λ index. direct_in after index == 0) (range_with_len 0 12)) gaps
+    ∙ ap (λ t. list_any (λ block. has_gap (v block)) (inode_blocks inode) || t) (any_below (λ i. direct_in inode i == 0) (λ i. direct_in after i == 0) 12 0 (λ i low. ap (λ b. b == 0) (pointer i low)))
+  where
+    pointer : (i : ℕ) → i < 12 → direct_in after i ≡ direct_in inode i
+    pointer i low = direct_get after i low ∙ (ap (λ ws. get_or ws i 0) direct ∙ sym (direct_get inode i low))
+
+    read : (content : ℕ → List ℕ) (x : List ℕ) (i b k : ℕ) → i < 12 → direct_in x i ≡ b → b ≢ 0 → k < 512 → byte_of content x (512 * i + k) ≡ get_or (content b) k 0
+    read content x i b k low is ne few =
+        let at : (512 * i + k) / 512 ≡ i = omega (arith, few) in
+        let rest : (512 * i + k) % 512 ≡ k = omega (arith, few) in
+        ap (λ j. byte_in content (file_block content x j) ((512 * i + k) % 512)) at
+        ∙ (ap (λ j. byte_in content (file_block content x i) j) rest
+        ∙ (ap (λ c. byte_in content c k) (direct_block content x i low ∙ is) ∙ ap (λ (t : Bool). if t then 0 else get_or (content b) k 0) (ne_eqb b 0 ne)))
+
+    gaps : list_any (λ block. has_gap (w block)) (inode_blocks after) ≡ list_any (λ block. has_gap (v block)) (inode_blocks inode)
+    gaps =
+        ap (list_any (λ block. has_gap (w block))) (same_blocks inode after direct)
+        ∙ any_by (λ block. has_gap (v block)) (λ block. has_gap (w block)) (inode_blocks inode) (λ b has.
+        let x = direct_where inode b has in
+        let lt = x.1 in
+        gap_by (v b) (w b) (λ k few.
+        sym (read w after x.0 b k lt (pointer x.0 lt ∙ x.2) x.3 few) ∙ (each (512 * x.0 + k) (omega (arith, lt, few)) ∙ read v inode x.0 b k lt x.2 x.3 few)))

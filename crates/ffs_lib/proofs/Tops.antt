@@ -1,0 +1,399 @@
+-- What a file system has before its volume is made, and after.
+use Rattle.std.proofs.Common.{◌≡◌, ◌≢◌, ℕ, ◌+◌, ◌-◌, ◌*◌, ◌/◌, ◌%◌, ◌^◌, ◌<◌, ◌≤◌, ◌⊎◌, Bool, true, false, List, [], ◌∷◌, length, Option, Some, None, Result, Ok, Err, refl, sym, ◌∙◌, ap, inl, inr, arith, subst, eq-eqb}
+use Rattle.std.specs.Prelude.{Contains, not, ◌==◌, ◌&&◌, ◌||◌, nat_lt, if◌then◌else◌, option_map, option_to_list, ◌++◌, IfErr, OnOk}
+use Rattle.std.specs.Int.{w32, to_le_bytes}
+use Rattle.std.proofs.lemmas.Bool.{cases_eq, eqb-false, eqb-true, ne_eqb}
+use Rattle.std.proofs.lemmas.Option.{none-some}
+use Rattle.xn_model.specs.declared.refusal.Refusal.{Refusal}
+use Rattle.xn_model.specs.declared.refusal.Refusal.TheVariants.{NotInUse, NotYours, RootTaken}
+use Rattle.xn_model.specs.Types.{Types}
+use Rattle.xn_model.specs.Lists.{blocks_of, put}
+use Rattle.xn_model.specs.Root.{slot, unless_empty, word_at}
+use Rattle.xn_model.specs.declared.status.Status.{Status}
+use Rattle.xn_model.specs.Lives.{BlockState, Life, StoreState, alive_and, is_dropped, is_for, is_fresh, life_at}
+use Rattle.xn_model.specs.Results.{Gives, first_refusal, unless}
+use Rattle.xn_model.specs.Calls.{Edit, init_of, kind_of, make_root_of, may_add, new_life, own_life, own_place, propose_of, root_of, root_state, slot_now}
+use Rattle.xn_model.specs.Rules.{IsConsistent}
+use Rattle.xn_model.proofs.ForCallers.{Contains-cons, Contains-none, accepted, each_at, place_from, set_other, set_same, status_cases}
+use Rattle.ffs_model.specs.Cuts.{Under, latest, root}
+use Rattle.ffs_model.specs.Names.{IsRoot}
+use Rattle.ffs_model.specs.Shortages.{is_shortage}
+use Rattle.ffs_model.specs.Library.{IsLibrary, direct_word, half_at, inode_at, inode_mode, inode_pairs, pointer_word, zeros}
+use Rattle.ffs_model.proofs.ForCallers.{bytes_apart, gives_short, mode_read, pointed_none, proposed_others, rooted, rooted_here, rooted_others, started, started_here, started_others, word_apart, zero_word, zeros_mode, zeros_pointer}
+use Rattle.ffs_lookup.specs.declared.fault.FfsFault.{FfsFault}
+use Rattle.ffs_lookup.specs.declared.fault.FfsFault.TheVariants.{BadName, DirNotEmpty, Exists, IsDir, Kernel, NoEntry, NoInode, NotDir, TooLarge}
+use Rattle.ffs_lookup.specs.Newest.{if_bare, if_makeable, inode_block_in, inode_in, is_own, is_short, make_in, root_in, unless_unused}
+use Rattle.ffs_lookup.proofs.ForCallers.{gives_ok, in_inode_block, in_root_block, kind_known, no_inode_block, no_number, no_root_block, pointer_is, root_again, used_is, zero_is}
+use Rattle.ffs_lib.specs.Edits.{edit_at}
+use Rattle.ffs_lib.specs.Outcomes.{GetsRoot, IsReady, MakesTop, OnlyShort, SetsRoot}
+use Rattle.ffs_lib.specs.Results.{MadeVolume, SameInode, new_inode}
+use Rattle.ffs_lib.proofs.Owners.{number_from}
+use Rattle.ffs_lib.proofs.Same.{Touches, begun, begun_some, none_touched, now_pointed, none_pointed, pointer_touched, same_on}
+
+-- What `make` finds
+
+none_there : (t : Bool) (x : ℕ) (r : Result Bool FfsFault) → None ≡ (if t then None else Some x) → Ok false ≡ (if t then Ok false else r)
+none_there true x r e = refl
+none_there false x r e = cc
+
+one_there : (t : Bool) (x y : ℕ) → Some y ≡ (if t then None else Some x) → (t ≡ false) × (x ≡ y)
+one_there true x y e = absurd (cc e)
+one_there false x y e = (refl, cc)
+
+pub no_root_yet : (state : StoreState) (fs : ℕ) → None ≡ root_of state fs → Ok false ≡ make_in (latest state.lives) fs
+unfolding make_in
+no_root_yet state fs e =
+    let s = slot_now state fs in
+    none_there (s.0 == 0) s.0 (if s.1 == 3 then if_bare (latest state.lives s.0) else Err (Kernel RootTaken)) e
+
+-- The root slot names a block
+module _ (T : Types) (state : StoreState) (h : IsConsistent T state) (fs : ℕ) (few : fs < 32) (r : ℕ) (e : Some r ≡ root_of state fs) where
+  abbrev top_slot : ℕ × ℕ
+  top_slot = slot_now state fs
+
+  here : (top_slot.0 ≢ 0) × (top_slot.0 ≡ r)
+  here = let x = one_there (top_slot.0 == 0) top_slot.0 r e in (eqb-false top_slot.0 0 x.0, x.1)
+
+  named : make_in (latest state.lives) fs ≡ (if top_slot.1 == 3 then if_bare (latest state.lives r) else Err (Kernel RootTaken))
+  unfolding make_in
+  named =
+      ap (λ (t : Bool). if t then Ok false else if top_slot.1 == 3 then if_bare (latest state.lives top_slot.0) else Err (Kernel RootTaken)) (ne_eqb top_slot.0 0 here.0)
+      ∙ ap (λ (b : ℕ). if top_slot.1 == 3 then if_bare (latest state.lives b) else Err (Kernel RootTaken)) here.1
+
+  typed : (kind : ℕ) → Ok kind ≡ kind_of state fs r → top_slot.1 ≡ kind
+  typed kind k = cc (k ∙ kind_known T state h fs few r e)
+
+  pub root_reached : (kind : ℕ) → Ok kind ≡ kind_of state fs r → Under T (latest state.lives) fs r kind
+  root_reached kind k = let t = typed kind k in root (λ i. (here.1 i, t i)) (λ z. here.0 (here.1 ∙ z))
+
+  pub root_taken : (kind : ℕ) → Ok kind ≡ kind_of state fs r → kind ≢ 3 → Err (Kernel RootTaken) ≡ make_in (latest state.lives) fs
+  root_taken kind k other =
+      sym (named ∙ ap (λ (t : Bool). if t then if_bare (latest state.lives r) else Err (Kernel RootTaken)) (ne_eqb top_slot.1 3 (λ z. other (sym (typed kind k) ∙ z))))
+
+  pub root_bare : (kind : ℕ) (m : List ℕ) → Ok kind ≡ kind_of state fs r → kind ≡ 3 → latest state.lives r ≡ m → if_bare m ≡ make_in (latest state.lives) fs
+  root_bare kind m k three is =
+      ap if_bare (sym is) ∙ sym (named ∙ ap (λ (t : Bool). if t then if_bare (latest state.lives r) else Err (Kernel RootTaken)) (eq-eqb top_slot.1 3 (typed kind k ∙ three)))
+
+pub has_inodes : (m : List ℕ) → pointer_word m 0 ≢ 0 → Err Exists ≡ if_bare m
+has_inodes m ne = sym (ap (λ (t : Bool). if t then Ok true else Err Exists) (ne_eqb (pointer_word m 0) 0 ne))
+
+pub has_none : (m : List ℕ) → pointer_word m 0 ≡ 0 → Ok true ≡ if_bare m
+has_none m e = sym (ap (λ (t : Bool). if t then Ok true else Err Exists) (eq-eqb (pointer_word m 0) 0 e))
+
+-- What it says of the root slot
+
+false_first : (t u : Bool) (m : List ℕ) → Ok false ≡ (if t then Ok false else if u then if_bare m else Err (Kernel RootTaken)) → t ≡ true
+false_first true u m e = refl
+false_first false true m e = absurd (bare (pointer_word m 0 == 0) e)
+  where
+    bare : (b : Bool) → Ok false ≡ (if b then Ok true else Err Exists) → ⊥
+    bare true f = cc
+    bare false f = cc
+false_first false false m e = absurd (cc e)
+
+true_last : (t u : Bool) (m : List ℕ) → Ok true ≡ (if t then Ok false else if u then if_bare m else Err (Kernel RootTaken)) → (t ≡ false) × (u ≡ true) × ((pointer_word m 0 == 0) ≡ true)
+true_last true u m e = absurd (cc e)
+true_last false true m e = (refl, refl, bare (pointer_word m 0 == 0) e)
+  where
+    bare : (b : Bool) → Ok true ≡ (if b then Ok true else Err Exists) → b ≡ true
+    bare true f = refl
+    bare false f = absurd (cc f)
+true_last false false m e = absurd (cc e)
+
+-- The root block, which has no first block of inodes.
+pub record BareRoot (content : ℕ → List ℕ) (fs : ℕ) : Type 0 where
+  pub block : ℕ
+  pub is_root : IsRoot content fs block
+  pub empty : pointer_word (content block) 0 ≡ 0
+
+module _ (content : ℕ → List ℕ) (fs : ℕ) where
+  pub bare_from : Ok true ≡ make_in content fs → BareRoot content fs
+  unfolding make_in
+  bare_from e =
+      let s = slot (content 0) fs in
+      let x = true_last (s.0 == 0) (s.1 == 3) (content s.0) e in
+      record {
+        block = s.0;
+        is_root = let three = eqb-true s.1 3 x.1 in record { at = λ i. (s.0, three i); there = eqb-false s.0 0 x.0 };
+        empty = eqb-true (pointer_word (content s.0) 0) 0 x.2;
+      }
+
+  pub bare_to : (r : ℕ) → IsRoot content fs r → pointer_word (content r) 0 ≡ 0 → Ok true ≡ make_in content fs
+  unfolding make_in
+  bare_to r is e =
+      has_none (content r) e ∙ sym (
+      ap (λ (s : ℕ × ℕ). if s.0 == 0 then Ok false else if s.1 == 3 then if_bare (content s.0) else Err (Kernel RootTaken)) is.at
+      ∙ ap (λ (t : Bool). if t then Ok false else if_bare (content r)) (ne_eqb r 0 is.there)
+      )
+
+  pub rootless : Ok false ≡ make_in content fs → Err NoEntry ≡ root_in content fs
+  unfolding make_in root_in
+  rootless e =
+      let s = slot (content 0) fs in
+      sym (ap (λ (t : Bool). if t then Err NoEntry else if s.1 == 3 then Ok s.0 else Err NoEntry) (false_first (s.0 == 0) (s.1 == 3) (content s.0) e))
+
+  -- where there is no block of inodes, no inode is in use
+  pub no_inodes : ((j : ℕ) → j < 16 → Err NoEntry ≡ inode_block_in content fs j) → (d : ℕ) → Err NoEntry ≡ inode_in content fs d
+  no_inodes none d = go ((d == 0) || nat_lt 128 d) refl
+    where
+      go : (t : Bool) → ((d == 0) || nat_lt 128 d) ≡ t → Err NoEntry ≡ inode_in content fs d
+      go true e = no_number content fs d e
+      go false e = let n = number_from d e in let low = n.1 in no_inode_block content fs d e ((d - 1) / 8) NoEntry refl (none ((d - 1) / 8) (omega (arith, low)))
+
+pub neither : (v w : ℕ → List ℕ) (fs d : ℕ) → Err NoEntry ≡ inode_in v fs d → Err NoEntry ≡ inode_in w fs d → SameInode v w fs d
+neither v w fs d old new = (sym new ∙ old, λ inode e. absurd (not_both inode (e ∙ sym old)))
+  where
+    not_both : (x : List ℕ) → ◌≡◌ {A = Result (List ℕ) FfsFault} (Ok x) (Err NoEntry) → ⊥
+    not_both x e = cc
+
+-- A root block is made
+
+-- what may be added, but for that block
+still_addable : (state new : StoreState) (fs block entry : ℕ) → make_root_of state fs block ≡ Ok (entry, new) → (p : ℕ × ℕ) → p.0 ≢ block → may_add new fs p ≡ may_add state fs p
+still_addable state new fs block entry done p ne =
+    let r = rooted state new fs block entry done in
+    let s = root_state state fs (block, r.life.ty) ((block, r.life.ty) ∷ []) [] in
+    ap (λ lives. alive_and (λ l. is_fresh l.status && ((l.ty == p.1) && is_for fs l.fs)) (life_at lives p.0)) r.lives
+    ∙ (ap (alive_and (λ l. is_fresh l.status && ((l.ty == p.1) && is_for fs l.fs))) (each_at (accepted 0 s) state.lives p.0) ∙ same_life s (life_at state.lives p.0) refl refl)
+  where
+    stays : (s : BlockState) (l : Life) → blocks_of s.adds ≡ block ∷ [] → s.drops ≡ [] → (accepted 0 s p.0 l).status ≡ l.status
+    stays s l adds drops = elim (status_cases 0 s p.0 l.status) [
+      | inl added ↦ absurd (elim (Contains-cons block [] p.0 (subst (λ xs. Contains xs p.0) adds added.0)) [ inl e ↦ ne (sym e) | inr i ↦ Contains-none p.0 i ])
+      | inr (inl dropped) ↦ absurd (Contains-none p.0 (subst (λ xs. Contains xs p.0) drops dropped.0))
+      | inr (inr e) ↦ e
+    ]
+
+    same_life : (s : BlockState) (o : Option Life) → blocks_of s.adds ≡ block ∷ [] → s.drops ≡ [] →
+        alive_and (λ l. is_fresh l.status && ((l.ty == p.1) && is_for fs l.fs)) (option_map (accepted 0 s p.0) o) ≡ alive_and (λ l. is_fresh l.status && ((l.ty == p.1) && is_for fs l.fs)) o
+    same_life s None adds drops = refl
+    same_life s (Some l) adds drops = ap (λ (t : Status). is_fresh t && ((l.ty == p.1) && is_for fs l.fs)) (stays s l adds drops)
+
+pub sets_root : (T : Types) (fs : ℕ) → fs < 32 → (block entry : ℕ) (old new : StoreState) → Gives (make_root_of old fs block) old new (Ok entry) → SetsRoot T fs block old new
+sets_root T fs few block entry old new given h l alive =
+    let done = gives_ok (make_root_of old fs block) old new entry given in
+    (rooted_here T old new h fs few block entry done l alive, rooted_others T old new h fs few block entry done, still_addable old new fs block entry done)
+
+module _ (T : Types) (fs : ℕ) (block number : ℕ) (zeroth first second third : StoreState) (given : Gives (init_of T zeroth fs 3 zeros) zeroth first (Ok (block, number))) (rules : IsConsistent T first) where
+  pub gets_root : {A : Type 0} (made result : Result A FfsFault) → result ≡ made → OnOk made (SetsRoot T fs block first second) → OnOk result (third ≡ second) → OnOk result (GetsRoot T fs false zeroth third)
+  gets_root made (Err e) is ok same = tt
+  gets_root {A} made (Ok x) is ok same = λ lib h none. subst (λ (s : StoreState). IsReady zeroth s fs) (sym same) (ready h none)
+    where
+      made_ok : SetsRoot T fs block first second
+      made_ok = subst (λ (r : Result A FfsFault). OnOk r (SetsRoot T fs block first second)) (sym is) ok
+
+      done : init_of T zeroth fs 3 zeros ≡ Ok ((block, number), first)
+      done = gives_ok (init_of T zeroth fs 3 zeros) zeroth first (block, number) given
+
+      there : IsConsistent T zeroth → block ≢ 0
+      there h = begun_some T zeroth first h fs 3 zeros (block, number) done
+
+      set : (slot (latest second.lives 0) fs ≡ (block, 3)) × ((c : ℕ) → c ≢ 0 → latest second.lives c ≡ latest first.lives c) × ((p : ℕ × ℕ) → p.0 ≢ block → may_add second fs p ≡ may_add first fs p)
+      set =
+          let r = started T zeroth first fs 3 zeros (block, number) done in
+          made_ok rules (new_life zeroth.next fs 3 zeros) (ap (λ xs. life_at xs block) r.lives ∙ set_same zeroth.lives block (Some (new_life zeroth.next fs 3 zeros)) r.within)
+
+      is_root : IsConsistent T zeroth → IsRoot (latest second.lives) fs block
+      is_root h = record { at = set.0; there = there h }
+
+      bytes : IsConsistent T zeroth → latest second.lives block ≡ zeros
+      bytes h = set.1 block (there h) ∙ started_here T zeroth first fs 3 zeros (block, number) done
+
+      no_pointer : IsConsistent T zeroth → (j : ℕ) → j < 16 → pointer_word (latest second.lives block) j ≡ 0
+      no_pointer h j low = ap (λ m. pointer_word m j) (bytes h) ∙ (sym (pointer_is zeros j low) ∙ zeros_pointer j)
+
+      ready : IsConsistent T zeroth → Ok false ≡ make_in (latest zeroth.lives) fs → IsReady zeroth second fs
+      ready h none = record {
+        ready = bare_to (latest second.lives) fs block (is_root h) (no_pointer h 0 (omega arith));
+        stays = λ d. neither (latest zeroth.lives) (latest second.lives) fs d
+            (no_inodes (latest zeroth.lives) fs (λ j low. no_root_block (latest zeroth.lives) fs j NoEntry (rootless (latest zeroth.lives) fs none)) d)
+            (no_inodes (latest second.lives) fs (λ j low.
+            zero_is (pointer_word (latest second.lives block) j) (no_pointer h j low) ∙ in_root_block (latest second.lives) fs j block (latest second.lives block) (root_again (latest second.lives) fs block (is_root h)) refl) d);
+        kept = λ c l ne alive.
+            let r = started T zeroth first fs 3 zeros (block, number) done in
+            set.1 c ne ∙ started_others T zeroth first fs 3 zeros (block, number) done c (λ z. none-some l (sym r.free ∙ (ap (life_at zeroth.lives) (sym z) ∙ alive)));
+        addable = λ p may.
+            let r = started T zeroth first fs 3 zeros (block, number) done in
+            let ne : p.0 ≢ block = λ z. not_free (λ l. is_fresh l.status && ((l.ty == p.1) && is_for fs l.fs)) (life_at zeroth.lives p.0) (ap (life_at zeroth.lives) z ∙ r.free) may in
+            set.2 p ne ∙ (ap (alive_and (λ l. is_fresh l.status && ((l.ty == p.1) && is_for fs l.fs))) (ap (λ xs. life_at xs p.0) r.lives ∙ set_other zeroth.lives block p.0 (Some (new_life zeroth.next fs 3 zeros)) ne) ∙ may);
+      }
+        where
+          not_free : (P : Life → Bool) (o : Option Life) → o ≡ None → alive_and P o ≡ true → ⊥
+          not_free P None e may = cc
+          not_free P (Some l) e may = absurd (none-some l (sym e))
+
+pub was_ready : (T : Types) (state : StoreState) (fs : ℕ) → GetsRoot T fs true state state
+was_ready T state fs lib h e = record { ready = e; stays = λ d. (refl, λ inode is. (refl, λ at low. refl)); kept = λ c l ne alive. refl; addable = λ p may. may }
+
+-- Its edits are refused for want of something alone
+
+own_new : (state : StoreState) (fs b : ℕ) (l : Life) → life_at state.lives b ≡ Some l → is_dropped l.status ≡ false → l.fs ≡ Some fs → own_life state fs b ≡ Ok l
+own_new state fs b l alive kept mine = ap (own_place fs) (place_from state.lives b l alive) ∙ passes (is_dropped l.status) (is_for fs l.fs) kept (ap (is_for fs) mine ∙ eq-eqb fs fs refl)
+  where
+    passes : (dropped same : Bool) → dropped ≡ false → same ≡ true → unless (first_refusal ((dropped, NotInUse) ∷ (not same, NotYours) ∷ [])) (Ok l) ≡ Ok l
+    passes true same d m = absurd (cc d)
+    passes false false d m = absurd (cc m)
+    passes false true d m = refl
+
+module _ (T : Types) (fs : ℕ) (zeroth first : StoreState) (h : IsConsistent T zeroth) (fits : fs < 32) (ty block number : ℕ) (bytes : List ℕ) (given : Gives (init_of T zeroth fs ty bytes) zeroth first (Ok (block, number))) where
+  abbrev life : Life
+  life = new_life zeroth.next fs ty bytes
+
+  new_done : init_of T zeroth fs ty bytes ≡ Ok ((block, number), first)
+  new_done = gives_ok (init_of T zeroth fs ty bytes) zeroth first (block, number) given
+
+  pub new_alive : life_at first.lives block ≡ Some life
+  new_alive = let r = started T zeroth first fs ty bytes (block, number) new_done in ap (λ xs. life_at xs block) r.lives ∙ set_same zeroth.lives block (Some life) r.within
+
+  pub new_own : own_life first fs block ≡ Ok life
+  new_own = own_new first fs block life new_alive refl refl
+
+  pub new_addable : may_add first fs (block, ty) ≡ true
+  new_addable =
+      ap (alive_and (λ l. is_fresh l.status && ((l.ty == ty) && is_for fs l.fs))) new_alive
+      ∙ (ap (λ t. t && is_for fs (Some fs)) (eq-eqb ty ty refl) ∙ eq-eqb fs fs refl)
+
+  pub none_named : Ok false ≡ make_in (latest zeroth.lives) fs → (slot_now first fs).0 ≡ 0
+  unfolding make_in
+  none_named none =
+      let s = slot (latest zeroth.lives 0) fs in
+      ap (λ (m : List ℕ). (slot m fs).0) (begun T zeroth first h fs fits ty ty bytes (block, number) new_done).top ∙ eqb-true s.0 0 (false_first (s.0 == 0) (s.1 == 3) (latest zeroth.lives s.0) none)
+
+pub refused_short : (T : Types) (old new : StoreState) (fs b : ℕ) (edit same : Edit) (refusal : Refusal) → edit ≡ same → Gives (propose_of T old fs b edit) old new (Err refusal) →
+    ((r : Refusal) → propose_of T old fs b same ≡ Err r → is_shortage r ≡ true) → is_shortage refusal ≡ true
+refused_short T old new fs b edit same refusal e given short = gives_short (propose_of T old fs b edit) old new refusal given (λ r f. short r (ap (propose_of T old fs b) (sym e) ∙ f))
+
+-- The first block of inodes is attached
+
+top_there : inode_at (put zeros 0 (new_inode 2)) 0 ≡ new_inode 2
+top_there = refl
+
+none_beside : (p : ℕ) → p ≢ 0 → p < 8 → inode_mode (inode_at (put zeros 0 (new_inode 2)) p) ≡ 0
+none_beside p some low =
+    ap inode_mode (bytes_apart zeros 0 (new_inode 2) (omega arith) 64 (64 * p) (inr (omega (arith, some)))) ∙ (sym (mode_read zeros p low) ∙ zeros_mode p)
+
+top_mode : inode_mode (new_inode 2) ≡ 2
+unfolding half_at
+top_mode = refl
+
+-- a mode stands at the start
+some_word : pointer_word (put zeros 0 (new_inode 2)) 0 ≡ 0 → ⊥
+unfolding word_at
+some_word z = omega (arith, z)
+
+-- that block points to nothing
+pub top_bare : (m : List ℕ) → m ≡ put zeros 0 (new_inode 2) → (p : ℕ) → p < 8 → inode_pairs m p ≡ []
+top_bare m is p low = λ i. pointed_none (direct_word m p) 12 2 (λ k lt. word (64 * p + 8 + 4 * k) (omega arith) (omega arith)) i ++ option_to_list (unless_empty (word (64 * p + 56) (omega arith) (omega arith) i, 5))
+  where
+    start : put zeros 0 (new_inode 2) ≡ put zeros 0 (2 ∷ 0 ∷ 1 ∷ 0 ∷ [])
+    start = refl
+
+    word : (k : ℕ) → 4 ≤ k → k + 4 ≤ 512 → word_at m k ≡ 0
+    word k past fits = ap (λ b. word_at b k) (is ∙ start) ∙ (word_apart zeros 0 (2 ∷ 0 ∷ 1 ∷ 0 ∷ []) (omega arith) k (inr (omega (arith, past))) ∙ zero_word k)
+
+pub makes_top : (T : Types) (lib : IsLibrary T) (old new : StoreState) (h : IsConsistent T old) (fs : ℕ) (few : fs < 32) (top b entry : ℕ) → IsRoot (latest old.lives) fs top → pointer_word (latest old.lives top) 0 ≡ 0 → length (latest old.lives top) ≡ 512 →
+    b < 2 ^ 32 → b ≢ 0 → latest old.lives b ≡ put zeros 0 (new_inode 2) → propose_of T old fs top (edit_at 0 (to_le_bytes w32 b) ((b, 4) ∷ []) [] None) ≡ Ok (entry, new) → MadeVolume (latest old.lives) (latest new.lives) fs
+makes_top T lib old new h fs few top b entry is_root empty long small there bytes done =
+    record {
+      free = sym (no_inode_block v fs 1 refl 0 NoEntry refl (sym (none_pointed T lib old new h fs few top 0 b entry is_root (omega arith) empty long small there done)));
+      top = sym (used_is (new_inode 2) (λ z. let two = top_mode in omega (arith, z, two)) ∙ (ap unless_unused (sym top_there ∙ ap (λ m. inode_at m 0) (sym bytes ∙ sym same))
+          ∙ in_inode_block w fs 1 refl 0 0 b (w b) refl refl (sym (now_pointed T lib old new h fs few top 0 b entry is_root (omega arith) empty long small there done)) refl));
+      others = λ d ne. pointer_touched T lib old new h fs few top 0 b entry is_root (omega arith) empty long small there done apart d
+          (λ some e. ap (λ m. inode_mode (inode_at m ((d - 1) % 8))) bytes ∙ none_beside ((d - 1) % 8) (omega (arith, some, ne, e)) (omega arith));
+    }
+  where
+    v : ℕ → List ℕ
+    v = latest old.lives
+
+    w : ℕ → List ℕ
+    w = latest new.lives
+
+    -- a root block has no pointer at its start, this block has a mode there
+    apart : b ≢ top
+    apart e = some_word (sym (ap (λ m. pointer_word m 0) bytes) ∙ (ap (λ c. pointer_word (v c) 0) e ∙ empty))
+
+    same : w b ≡ v b
+    same = proposed_others T old new h fs top (edit_at 0 (to_le_bytes w32 b) ((b, 4) ∷ []) [] None) entry done b apart
+
+-- One after another
+
+-- the root slot and the root block stay, so does what `make` finds
+make_same : (T : Types) (v w : ℕ → List ℕ) (fs block ty : ℕ) → Touches T v w fs block ty → ty ≢ 3 → make_in w fs ≡ make_in v fs
+unfolding make_in
+make_same T v w fs block ty t other =
+    ap (λ (m : List ℕ). if_makeable w (slot m fs)) t.top ∙ typed_root (slot (v 0) fs) refl (cases_eq (slot (v 0) fs).0 0) (cases_eq (slot (v 0) fs).1 3)
+  where
+    typed_root : (s : ℕ × ℕ) → slot (v 0) fs ≡ s → (s.0 ≡ 0) ⊎ (s.0 ≢ 0) → (s.1 ≡ 3) ⊎ (s.1 ≢ 3) → if_makeable w s ≡ if_makeable v s
+    typed_root s is (inl none) k =
+        ap (λ (u : Bool). if u then Ok false else if s.1 == 3 then if_bare (w s.0) else Err (Kernel RootTaken)) (eq-eqb s.0 0 none)
+        ∙ sym (ap (λ (u : Bool). if u then Ok false else if s.1 == 3 then if_bare (v s.0) else Err (Kernel RootTaken)) (eq-eqb s.0 0 none))
+    typed_root s is (inr some) (inr ne) =
+        ap (λ (u : Bool). if s.0 == 0 then Ok false else if u then if_bare (w s.0) else Err (Kernel RootTaken)) (ne_eqb s.1 3 ne)
+        ∙ sym (ap (λ (u : Bool). if s.0 == 0 then Ok false else if u then if_bare (v s.0) else Err (Kernel RootTaken)) (ne_eqb s.1 3 ne))
+    typed_root s is (inr some) (inl three) =
+        let at : Under T v fs s.0 3 = root (is ∙ (λ i. (s.0, three i))) some in
+        ap (λ (m : List ℕ). if s.0 == 0 then Ok false else if s.1 == 3 then if_bare m else Err (Kernel RootTaken)) (t.others s.0 3 at (t.apart s.0 3 at (λ z. other (sym z))))
+
+-- so it does where a block begins its life
+pub found_still : (T : Types) (fs : ℕ) → fs < 32 → (block number ty : ℕ) (zeroth first : StoreState) → IsConsistent T zeroth → (bytes : List ℕ) → Gives (init_of T zeroth fs ty bytes) zeroth first (Ok (block, number)) →
+    make_in (latest first.lives) fs ≡ make_in (latest zeroth.lives) fs
+found_still T fs few block number ty zeroth first h bytes given =
+    make_same T (latest zeroth.lives) (latest first.lives) fs block 6
+    (begun T zeroth first h fs few ty 6 bytes (block, number) (gives_ok (init_of T zeroth fs ty bytes) zeroth first (block, number) given)) (λ z. omega (arith, z))
+
+module _ (T : Types) (lib : IsLibrary T) (fs : ℕ) (few : fs < 32) (block number : ℕ) (zeroth first second : StoreState) (h : IsConsistent T zeroth) (h1 : IsConsistent T first) (h2 : IsConsistent T second)
+    (bytes : List ℕ) (is : bytes ≡ put zeros 0 (new_inode 2)) (given : Gives (init_of T zeroth fs 4 bytes) zeroth first (Ok (block, number))) (begins : Bool) (found : Ok begins ≡ make_in (latest zeroth.lives) fs)
+    (prepared : GetsRoot T fs begins first second) where
+  done : init_of T zeroth fs 4 bytes ≡ Ok ((block, number), first)
+  done = gives_ok (init_of T zeroth fs 4 bytes) zeroth first (block, number) given
+
+  -- a type of which no block is reached
+  touched : Touches T (latest zeroth.lives) (latest first.lives) fs block 6
+  touched = begun T zeroth first h fs few 4 6 bytes (block, number) done
+
+  there : block ≢ 0
+  there = begun_some T zeroth first h fs 4 bytes (block, number) done
+
+  ready : IsReady first second fs
+  ready = prepared lib h1 (found ∙ sym (found_still T fs few block number 4 zeroth first h bytes given))
+
+  stays : (d : ℕ) → SameInode (latest zeroth.lives) (latest second.lives) fs d
+  stays d = same_on (latest zeroth.lives) (latest first.lives) (latest second.lives) fs d
+      (none_touched T lib zeroth h fs few (latest first.lives) block 6 touched (λ z. omega (arith, z)) (λ z. omega (arith, z)) (λ z. omega (arith, z)) (λ z. omega (arith, z)) d) (ready.stays d)
+
+  holds : latest second.lives block ≡ put zeros 0 (new_inode 2)
+  holds =
+      let r = started T zeroth first fs 4 bytes (block, number) done in
+      ready.kept block (new_life zeroth.next fs 4 bytes) there (ap (λ xs. life_at xs block) r.lives ∙ set_same zeroth.lives block (Some (new_life zeroth.next fs 4 bytes)) r.within)
+      ∙ (started_here T zeroth first fs 4 bytes (block, number) done ∙ is)
+
+  pub made_volume : {A : Type 0} (third fourth : StoreState) (attached : Result A FfsFault) (x : A) → Ok x ≡ attached → OnOk attached (MakesTop T fs block second third) → fourth ≡ third → MadeVolume (latest zeroth.lives) (latest fourth.lives) fs
+  made_volume {A} third fourth attached x is_ok tops same =
+      let top : MakesTop T fs block second third = subst (λ (r : Result A FfsFault). OnOk r (MakesTop T fs block second third)) (sym is_ok) tops in
+      let m = top lib h2 holds there in
+      subst (λ (s : StoreState). MadeVolume (latest zeroth.lives) (latest s.lives) fs) (sym same)
+      (record {
+        free = sym (stays 1).0 ∙ m.free;
+        top = m.top;
+        others = λ d ne. same_on (latest zeroth.lives) (latest second.lives) (latest third.lives) fs d (stays d) (m.others d ne);
+      })
+
+  pub attached_short : {A : Type 0} (result : Result A FfsFault) → (IsLibrary T → IsConsistent T second → Ok true ≡ make_in (latest second.lives) fs → may_add second fs (block, 4) ≡ true → OnlyShort result) → OnlyShort result
+  attached_short result short = short lib h2 ready.ready (ready.addable (block, 4) (new_addable T fs zeroth first h few 4 block number bytes given))
+
+pub short_fault : {A : Type 0} (r : Result A FfsFault) (fault : FfsFault) → Err fault ≡ r → OnlyShort r → is_short fault ≡ true
+short_fault {A} r fault e short = subst (λ (x : Result A FfsFault). OnlyShort x) (sym e) short
+
+pub not_own : {A : Type 0} (r : Result A FfsFault) → OnlyShort r → IfErr r (λ fault. is_own fault ≡ false)
+not_own (Ok x) short = tt
+not_own (Err (Kernel refusal)) short = refl
+not_own (Err NoEntry) short = absurd (cc short)
+not_own (Err Exists) short = absurd (cc short)
+not_own (Err NotDir) short = absurd (cc short)
+not_own (Err IsDir) short = absurd (cc short)
+not_own (Err DirNotEmpty) short = absurd (cc short)
+not_own (Err BadName) short = absurd (cc short)
+not_own (Err TooLarge) short = absurd (cc short)
+not_own (Err NoInode) short = absurd (cc short)
+
+pub never : {A : Type 0} (x : A) (fault : FfsFault) → ◌≡◌ {A = Result A FfsFault} (Ok x) (Err fault) → ⊥
+never x fault e = cc

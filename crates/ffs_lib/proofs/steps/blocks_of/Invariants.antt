@@ -1,0 +1,8 @@
+use Rattle.std.proofs.Common.{◌≡◌}
+use Rattle.xn_model.specs.Lists.{blocks_of}
+use Rattle.ffs_model.specs.Library.{pointed}
+use Rattle.ffs_format.specs.Fields.{direct_in}
+use Rattle.ffs_lib.proofs.steps.blocks_of.Given as goal
+
+abbrev pub invariant-loop-i : goal.invariant-loop-i
+invariant-loop-i l = l.blocks.items ≡ blocks_of (pointed (direct_in l.inode) l.i 2)
