@@ -1,4 +1,5 @@
 pub mod Owners
+pub mod Climbing
 pub mod Counted
 pub mod Numbers
 pub mod Leaving

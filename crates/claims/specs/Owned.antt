@@ -3,10 +3,8 @@
 --     one_more counts owner            with one block more of this owner
 --     MayClaim lives b adds drops      of an edit of block b
 use Rattle.std.specs.Prelude.{◌≡◌, ℕ, ◌+◌, ◌<◌, List, length, Option, Some, None, Contains, true, slice_index, slice_set}
-use Rattle.xn_model.specs.declared.status.Status.{Status}
-use Rattle.xn_model.specs.declared.status.Status.TheVariants.{Fresh, Owned, Dropped}
 use Rattle.xn_model.specs.Lists.{blocks_of, distinct}
-use Rattle.xn_model.specs.Lives.{Lives, life_at, alive_and, is_fresh, is_owned_by}
+use Rattle.xn_model.specs.Lives.{Lives, life_at, alive_and, is_fresh, is_owned_by, owner_of}
 use Rattle.owner_records.specs.Owners.{owned_count}
 use Rattle.block_cache.specs.declared.life.Facts.{Facts}
 
@@ -14,12 +12,7 @@ pub record AreOwnedCounts (counts : List ℕ) (lives : Lives) : Type 0 where
   pub long : length counts ≡ length lives
   pub each : (b : ℕ) → b < length lives → slice_index counts b ≡ owned_count lives b
 
--- the block that owns a block with this status
-abbrev pub owner_of : Status → Option ℕ
-owner_of Fresh = None
-owner_of (Owned b) = Some b
-owner_of (Dropped b) = None
-
+-- the block that owns one of which this is known
 abbrev pub owner_in : Option Facts → Option ℕ
 owner_in None = None
 owner_in (Some facts) = owner_of facts.status

@@ -71,7 +71,7 @@ impl OwnedCounts {
 }
 
 /// The block that owns a block.
-fn owner_in(facts: Option<Facts>) -> Option<u32>
+pub(crate) fn owner_in(facts: Option<Facts>) -> Option<u32>
     ensures { result ≡ owner_in facts }
 {
     match facts?.status {

@@ -1,12 +1,14 @@
 //! What a block owns: of how many blocks, whether its new bytes own what an edit claims, and which chunks of its bytes decide it.
 #![tactic(auto)]
 
+mod chains;
 mod claimed;
 mod counts;
 mod distinct;
 mod pairs;
 mod read_sets;
 
+pub use chains::{chain_end, names};
 pub use claimed::is_claimed;
 pub use counts::OwnedCounts;
 pub use distinct::{are_blocks_distinct, are_distinct};

@@ -1,23 +1,23 @@
 -- Calls that are refused for want of something alone.
 --     IsHeld T state fs c u     what is reached in the newest bytes: its file system's own, owned, with bytes that fit
 --     IsFit T state fs b t e    an edit that passes each test but those for want of something
-use Rattle.std.proofs.Common.{◌≡◌, ℕ, ◌<◌, ◌≤◌, ◌≢◌, ◌⊎◌, Bool, true, false, not, ◌&&◌, ◌||◌, List, [], ◌∷◌, length, Option, Some, None, refl, sym, ◌∙◌, ap, inl, inr, subst, eq-eqb}
+use Rattle.std.proofs.Common.{◌≡◌, ℕ, ◌<◌, ◌≤◌, ◌≢◌, ◌⊎◌, Bool, true, false, not, ◌&&◌, ◌||◌, List, [], ◌∷◌, Option, Some, None, refl, sym, ◌∙◌, ap, inl, inr, subst, eq-eqb}
 use Rattle.std.specs.Prelude.{Contains, IsTrue, Result, Ok, Err, ⊤, nat_lt, ◌==◌, if◌then◌else◌}
 use Rattle.std.specs.List.{list_all}
-use Rattle.std.proofs.lemmas.Bool.{and_parts, and_from, le-ltb, true≢false}
+use Rattle.std.proofs.lemmas.Bool.{and_parts, and_from, false_from_ne_true, le-ltb, true≢false}
 use Rattle.std.proofs.lemmas.List.Elements.{Contains-append_right}
 use Rattle.std.proofs.lemmas.Option.{same_Some}
 use Rattle.xn_model.specs.declared.refusal.Refusal.{Refusal}
 use Rattle.xn_model.specs.declared.refusal.Refusal.TheVariants.{NoMemory, NotInUse, NotYours, BadPatch, BadAfter, NotFresh, NotOwned, NotEmpty, ClaimWrong, SizeWrong, TooManyPending, NoSpace, BadType, RootTaken, Exhausted}
 use Rattle.xn_model.specs.declared.status.Status.TheVariants.{Fresh, Owned}
-use Rattle.xn_model.specs.Lists.{blocks_of, distinct}
+use Rattle.xn_model.specs.Lists.{blocks_of, distinct, has_number}
 use Rattle.xn_model.specs.Types.{Types, changes, claims, fits, named_once, within_size}
 use Rattle.xn_model.specs.Root.{slot, owned_by_root, templates_of, roots_of}
-use Rattle.xn_model.specs.Lives.{Life, StoreState, life_at, bytes_of, current, is_dropped, is_fresh, is_for, is_owned_by, alive_and, lowest_free}
+use Rattle.xn_model.specs.Lives.{Life, StoreState, life_at, bytes_of, chain_end, current, is_dropped, is_fresh, is_for, is_owned_by, alive_and, lowest_free}
 use Rattle.xn_model.specs.Results.{first_refusal, unless, result_and_then}
 use Rattle.xn_model.specs.Calls.{Edit, accepts, edit_tests, edited, exhausted, init_at, init_of, is_empty, life_bytes, life_pending, make_root_at, make_root_of, may_add, may_drop, own_life, own_place, owns_nothing, patched, propose_at, propose_of, root_state, slot_now, too_many, was_given, within_limits}
 use Rattle.xn_model.specs.Rules.{IsConsistent, IsOwnedBy, NamedIn}
-use Rattle.xn_model.proofs.ForCallers.{addable, blocks_of_at, last_of, place_from, roots_from}
+use Rattle.xn_model.proofs.ForCallers.{addable, all_at, blocks_of_at, ends_itself, has_number_at, last_of, place_from, roots_from, same_end}
 use Rattle.ffs_model.specs.Cuts.{Under, root, step, latest}
 use Rattle.ffs_model.specs.Shortages.{is_shortage}
 use Rattle.ffs_model.proofs.Volumes.{latest_reached}
@@ -89,6 +89,21 @@ module _ (T : Types) (state : StoreState) (h : IsConsistent T state) (fs : ℕ) 
   has_owner c u (root e ne) = let top = h.lives_sound.root in (0, owned_by 0 0 c u top.life top.alive top.ty (top_owns (latest state.lives 0) c u e ne))
   has_owner c u (step {b} {t} r n) = let x = latest_reached T state h fs few b t r in (b, owned_by b t c u x.life x.alive x.ty n)
 
+  -- the chain of its owners ends at block 0
+  end_under : (c u : ℕ) → Under T (latest state.lives) fs c u → chain_end state.lives c ≡ 0
+  end_under c u (root e ne) =
+      let top = h.lives_sound.root in
+      same_end state.lives h.chains 0 c (owned_by 0 0 c u top.life top.alive top.ty (top_owns (latest state.lives 0) c u e ne))
+      ∙ ends_itself state.lives 0 (record { life = top.life; alive = top.alive; status = top.unowned })
+  end_under c u (step {b} {t} r n) = let x = latest_reached T state h fs few b t r in
+      same_end state.lives h.chains b c (owned_by b t c u x.life x.alive x.ty n) ∙ end_under b t r
+
+  -- so nothing that may be added closes it
+  pub no_cycle : (c u : ℕ) → Under T (latest state.lives) fs c u → (adds : List (ℕ × ℕ)) → list_all (may_add state fs) adds ≡ true → has_number (blocks_of adds) (chain_end state.lives c) ≡ false
+  no_cycle c u r adds may = false_from_ne_true (has_number (blocks_of adds) (chain_end state.lives c)) (λ t.
+      let p = blocks_of_at adds (chain_end state.lives c) (has_number_at (blocks_of adds) (chain_end state.lives c) t) in
+      (addable T state h fs (chain_end state.lives c) p.0 (all_at (may_add state fs) adds (chain_end state.lives c, p.0) may p.1)).not_root (end_under c u r))
+
   pub held : (c u : ℕ) → Under T (latest state.lives) fs c u → IsHeld T state fs c u
   held c u r =
       let x = latest_reached T state h fs few c u r in
@@ -148,8 +163,8 @@ pub record IsFit (T : Types) (state : StoreState) (fs b t : ℕ) (e : Edit) : Ty
   pub empty : list_all (is_empty T state) e.drops ≡ true
   pub changes : changes T t (latest state.lives b) (patched (latest state.lives b) e.patches) e.adds e.drops ≡ true
 
-tests_of_edit : (T : Types) (state : StoreState) (fs b t : ℕ) (e : Edit) (l : Life) → life_at state.lives b ≡ Some l → l.ty ≡ t → is_fresh l.status ≡ false → IsFit T state fs b t e → AreShort (edit_tests T state fs b e l)
-tests_of_edit T state fs b t e l alive ty attached f =
+tests_of_edit : (T : Types) (state : StoreState) (fs b t : ℕ) (e : Edit) (l : Life) → life_at state.lives b ≡ Some l → l.ty ≡ t → has_number (blocks_of e.adds) (chain_end state.lives b) ≡ false → IsFit T state fs b t e → AreShort (edit_tests T state fs b e l)
+tests_of_edit T state fs b t e l alive ty no_loop f =
     let new = patched (current l) e.patches in
     let bytes : latest state.lives b ≡ current l = ap life_bytes alive in
     let all : changes T l.ty (current l) new e.adds e.drops ≡ true =
@@ -167,9 +182,9 @@ tests_of_edit T state fs b t e l alive ty attached f =
           (
             failed (was_given state e.after) BadAfter f.given,
             (
-              inl (ap (λ x. x && nat_lt 0 (length e.adds)) attached),
+              failed (list_all (may_add state fs) e.adds && distinct (blocks_of e.adds)) NotFresh adds,
               (
-                failed (list_all (may_add state fs) e.adds && distinct (blocks_of e.adds)) NotFresh adds,
+                inl no_loop,
                 (
                   failed (list_all (may_drop state b) e.drops && distinct e.drops) NotOwned drops,
                   (
@@ -193,7 +208,7 @@ edit_short T state h fs few b t e at f r refused =
     let x = held T state h fs few b t at in
     let l : Life = x.life in
     let given : Result (ℕ × StoreState) Refusal = Ok (accepts state b (edited state.next fs e l)) in
-    tests_short (edit_tests T state fs b e l) given r (tests_of_edit T state fs b t e l x.alive x.ty (ap is_fresh x.owned) f)
+    tests_short (edit_tests T state fs b e l) given r (tests_of_edit T state fs b t e l x.alive x.ty (no_cycle T state h fs few b t at e.adds f.adds) f)
     (λ k. absurd (never_err (accepts state b (edited state.next fs e l)) r k))
     (sym (ap (result_and_then (propose_at T state fs b e)) x.own) ∙ refused)
 

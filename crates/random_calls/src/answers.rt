@@ -30,7 +30,7 @@ impl Record {
     }
 
     /// Whether no block is owned by this one.
-    fn is_empty(&self, block: u32) -> bool {
+    pub fn is_empty(&self, block: u32) -> bool {
         for life in &self.lives {
             if let Some(life) = life
                 && life.status == Status::Owned(block)
@@ -72,11 +72,46 @@ impl Record {
         Ok((0, self.next_entry(fs, 0)?))
     }
 
-    /// Whether a block may be added by an edit.
+    /// Whether a block may be added by an edit, if that closes no cycle.
     fn may_add(&self, fs: u8, block: u32, ty: u32) -> bool {
         match self.life(block) {
             Some(life) => { life.status == Status::Fresh && life.fs == Some(fs) && life.ty == ty }
             None => false,
+        }
+    }
+
+    /// The block that owns a block.
+    fn owner(&self, block: u32) -> Option<u32> {
+        match self.life(block)?.status {
+            Status::Owned(owner) => Some(owner),
+            _ => None,
+        }
+    }
+
+    /// The block at which the owners of a block's owners end, which is the block itself where it has none, and how many owners
+    /// there are up to it.
+    pub fn chain_end(&self, block: u32) -> (u32, u32) {
+        let mut end = block;
+        for owners in 0..BLOCKS {
+            match self.owner(end) {
+                Some(owner) => end = owner,
+                None => return (end, owners),
+            }
+        }
+        (end, BLOCKS)
+    }
+
+    /// Why a block may not be added by an edit of another.
+    fn add_refusal(&self, asked: &Asked, added: u32) -> Option<Refusal> {
+        let Entry { block, fs, .. } = asked.entry;
+        if !self.may_add(fs, added, asked.added_type) {
+            return Some(Refusal::NotFresh);
+        }
+        let (end, _) = self.chain_end(block);
+        if added == block || added == end {
+            Some(Refusal::Cycle)
+        } else {
+            None
         }
     }
 
@@ -97,20 +132,17 @@ impl Record {
     /// The entry of an edit.
     pub fn next_propose(&self, asked: &Asked) -> Result<(u32, u64), Refusal> {
         let Entry { block, fs, .. } = asked.entry;
-        let life = self.own(fs, block)?;
+        self.own(fs, block)?;
         let number = self.next_entry(fs, block)?;
         if let Some(after) = asked.entry.after
             && (after == 0 || after >= self.next)
         {
             return Err(Refusal::BadAfter);
         }
-        if let Some(added) = asked.entry.adds {
-            if life.status == Status::Fresh {
-                return Err(Refusal::Unattached);
-            }
-            if !self.may_add(fs, added, asked.added_type) {
-                return Err(Refusal::NotFresh);
-            }
+        if let Some(added) = asked.entry.adds
+            && let Some(refusal) = self.add_refusal(asked, added)
+        {
+            return Err(refusal);
         }
         if let Some(dropped) = asked.entry.drops
             && let Some(refusal) = self.drop_refusal(block, dropped)

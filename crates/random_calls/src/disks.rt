@@ -5,19 +5,48 @@ use disk::{MemDisk, MemLane};
 use ffs_format::templates;
 use std::alloc::{AllocError, Global};
 use std::thread::Threads;
-use templates::format_image;
+use templates::{Template, format_image, read_block};
 use xn_kernel::Kernel;
 
 /// How many bytes the largest disk has.
 const GREATEST: usize = 16_777_216;
 
-/// A kernel over a fresh disk of so many blocks, with the templates of the library file system.
+/// The start of the block that spells the template of type 6, whose blocks point to two more of their kind, in bytes 0 to 3 and 8 to 11.
+/// The other bytes of the block are zero.
+const TREE: [u8; 48] = [
+    0x58, 0x54, 0x0a, 0x01, // 10 words, 1 word
+    0x01, 0x01, 0x08, 0x00, // SET 1 8
+    0x0c, 0x02, 0x00, 0x00, // LD4 2 0
+    0x0c, 0x03, 0x01, 0x00, // LD4 3 1
+    0x01, 0x04, 0x06, 0x00, // SET 4 6
+    0x0e, 0x00, 0x02, 0x00, // IFLT 0 2
+    0x0d, 0x02, 0x04, 0x00, // EMIT 2 4
+    0x11, 0x00, 0x00, 0x00, // END
+    0x0e, 0x00, 0x03, 0x00, // IFLT 0 3
+    0x0d, 0x03, 0x04, 0x00, // EMIT 3 4
+    0x11, 0x00, 0x00, 0x00, // END
+    0x01, 0x00, 0x0c, 0x00, // SET 0 12
+];
+
+/// The template of type 6.
+fn tree_template(alloc: Global) -> Result<Template, AllocError> {
+    let mut block = [0u8; 512];
+    block[..TREE.len()].copy_from_slice(&TREE);
+    match read_block(alloc, &block) {
+        Ok(template) => Ok(template),
+        Err(_) => Err(AllocError),
+    }
+}
+
+/// A kernel over a fresh disk of so many blocks, with the templates of the library file system and that of type 6.
 pub fn fresh_kernel(
     rt: &(impl Threads + Sync),
     alloc: Global,
     blocks: u32,
 ) -> Result<Kernel<MemLane>, AllocError> {
-    let Ok(image) = format_image(alloc, blocks, &templates(alloc)?) else {
+    let mut templates = templates(alloc)?;
+    templates.push(tree_template(alloc)?)?;
+    let Ok(image) = format_image(alloc, blocks, &templates) else {
         return Err(AllocError);
     };
     if image.len() % 512 != 0 || image.len() > GREATEST {

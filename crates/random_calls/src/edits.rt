@@ -39,13 +39,17 @@ pub fn some_pointer(numbers: &mut Numbers, ty: u32) -> Option<Pointer> {
             offset: place * 4,
             ty: 2,
         }),
+        6 => Some(Pointer {
+            offset: if place == 0 { 0 } else { 8 },
+            ty: 6,
+        }),
         _ => None,
     }
 }
 
 /// Whether blocks of this type have bytes 4 to 7 free for a number of each state, so that no two states are the same.
 pub fn has_stamp(ty: u32) -> bool {
-    ty == 2 || ty == 4
+    ty == 2 || ty == 4 || ty == 6
 }
 
 /// The number of the next state, which is no block's.
@@ -135,13 +139,30 @@ pub fn plain(numbers: &mut Numbers, record: &Record, fs: u8, block: u32) -> Aske
     }
 }
 
-/// The block to which an edit sets a pointer that has pointed to `old`, 0 for none.
-pub fn some_target(numbers: &mut Numbers, record: &Record, fs: u8, ty: u32, old: u32) -> u32 {
+/// The block of a type to which an edit sets a pointer that has pointed to `old`, 0 for none. A block that may not be added is mostly
+/// passed over.
+pub fn some_target(
+    numbers: &mut Numbers,
+    record: &Record,
+    entry: &Entry,
+    ty: u32,
+    old: u32,
+) -> u32 {
     if old != 0 && numbers.below(4) > 0 {
         return 0;
     }
     let start = u32::from(numbers.below(64));
-    search(record, start, fs, Some(ty))
+    let (end, _) = record.chain_end(entry.block);
+    let mut found = search(record, start, entry.fs, Some(ty));
+    if found == end && numbers.below(4) > 0 {
+        found = search(record, found.wrapping_add(1), entry.fs, Some(ty));
+    }
+    let is_taken = found != end && record.is_fresh(found);
+    if is_taken || numbers.below(4) == 0 {
+        found
+    } else {
+        0
+    }
 }
 
 /// The same edit with what it claims of a pointer that is set; each sixteenth claim is left out.

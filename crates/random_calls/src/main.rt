@@ -43,6 +43,12 @@ fn print_tally(rt: &impl Print, tally: &Tally) -> io::Result<()> {
     println!(rt;
         "at most {most} entries pending, {tainted} times a block with an entry that isn't safe"
     )?;
+    let (cycles, owners) = (tally.cycles, tally.owners);
+    let (trees, rooted) = (tally.trees, tally.rooted);
+    println!(rt; "{cycles} edits refused with Cycle, at most {owners} owners above a block")?;
+    println!(rt;
+        "of the blocks that own others {trees} were attached to a block, and {rooted} became roots"
+    )?;
     let (durable, freed) = (tally.durable, tally.freed);
     println!(rt; "writes made {durable} entries durable, and {freed} blocks free")?;
     let (compared, wrong, hash) = (tally.compared, tally.wrong, tally.hash);

@@ -46,14 +46,14 @@ pub struct Record {
 }
 
 impl Record {
-    /// A fresh disk with three templates in blocks 1 to 3.
+    /// A fresh disk with four templates in blocks 1 to 4.
     pub fn new(alloc: Global) -> Result<Record, AllocError> {
         let mut record = Record {
             lives: vec![in alloc; None; BLOCKS as usize]?,
             entries: Vec::new(alloc),
             next: 1,
         };
-        for block in 0..4 {
+        for block in 0..5 {
             let status = if block == 0 {
                 Status::Fresh
             } else {
@@ -78,6 +78,14 @@ impl Record {
         match self.lives.get(block as usize) {
             Some(life) => *life,
             None => None,
+        }
+    }
+
+    /// Whether no owner has named a block.
+    pub fn is_fresh(&self, block: u32) -> bool {
+        match self.life(block) {
+            Some(life) => life.status == Status::Fresh,
+            None => false,
         }
     }
 

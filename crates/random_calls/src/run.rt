@@ -1,7 +1,7 @@
 // The calls are made.
 
 use crate::edits::{claiming, edit_of, has_stamp, plain, search, some_pointer, some_target, stamp};
-use crate::record::Record;
+use crate::record::{Entry, Record};
 use crate::tally::{Kind, Tally};
 use crate::writes::{Write, drain};
 use disk::MemLane;
@@ -77,8 +77,18 @@ impl Run {
         search(&self.record, start, fs, Some(ty))
     }
 
+    /// Takes an accepted entry, and notes what it attaches.
+    fn accept(&mut self, entry: Entry) -> Result<(), AllocError> {
+        if let Some(added) = entry.adds
+            && !self.record.is_empty(added)
+        {
+            self.tally.attached(entry.block);
+        }
+        self.record.accept(entry)
+    }
+
     fn init(&mut self, kernel: &mut Kernel<MemLane>, fs: Fs) -> Result<(), AllocError> {
-        let ty = self.numbers.pick(&[2u32, 2, 2, 3, 4, 4, 5]);
+        let ty = self.numbers.pick(&[2u32, 2, 2, 3, 4, 4, 5, 6, 6, 6]);
         let bytes = first_bytes(ty, stamp(&self.record));
         let answer = match kernel.init(fs, ty, &bytes) {
             Ok((block, entry)) => Ok((block, entry.number())),
@@ -93,7 +103,8 @@ impl Run {
 
     fn make_root(&mut self, kernel: &mut Kernel<MemLane>, fs: Fs) -> Result<(), AllocError> {
         let system = fs.number();
-        let block = self.some_fresh(system, 3);
+        let ty = self.numbers.pick(&[3u32, 6]);
+        let block = self.some_fresh(system, ty);
         let answer = entry_of(0, kernel.make_root(fs, block));
         let wanted = self.record.next_make_root(system, block);
         self.tally.take(Kind::MakeRoot, answer, wanted);
@@ -101,7 +112,7 @@ impl Run {
             let mut entry = plain(&mut self.numbers, &self.record, system, 0).entry;
             entry.adds = Some(block);
             entry.after = None;
-            self.record.accept(entry)?;
+            self.accept(entry)?;
         }
         Ok(())
     }
@@ -115,7 +126,7 @@ impl Run {
             let mut entry = plain(&mut self.numbers, &self.record, system, 0).entry;
             entry.drops = self.record.root(system);
             entry.after = None;
-            self.record.accept(entry)?;
+            self.accept(entry)?;
         }
         Ok(())
     }
@@ -138,7 +149,7 @@ impl Run {
             && self.numbers.below(8) > 0
         {
             let old = pointed(kernel, fs, block, place.offset);
-            let new = some_target(&mut self.numbers, &self.record, system, place.ty, old);
+            let new = some_target(&mut self.numbers, &self.record, &asked.entry, place.ty, old);
             asked = claiming(&mut self.numbers, asked, place.ty, old, new);
             pointer = Some((place.offset, new));
         }
@@ -152,14 +163,14 @@ impl Run {
         let wanted = self.record.next_propose(&asked);
         self.tally.take(Kind::Propose, answer, wanted);
         if answer.is_ok() {
-            self.record.accept(asked.entry)?;
+            self.accept(asked.entry)?;
         }
         Ok(())
     }
 
     /// Forgets this block, or a fresh one.
     fn forget(&mut self, kernel: &mut Kernel<MemLane>, fs: Fs, block: u32) {
-        let ty = self.numbers.pick(&[0u32, 2, 3, 4, 5]);
+        let ty = self.numbers.pick(&[0u32, 2, 3, 4, 5, 6]);
         let block = if ty == 0 {
             block
         } else {
@@ -256,7 +267,8 @@ impl Run {
         tally.ask(u64::from(kernel.free()), u64::from(record.free_count()));
         let is_tainted = record.tainted(block);
         tally.ask(u64::from(kernel.tainted(block)), u64::from(is_tainted));
-        tally.met(record.entries.len(), is_tainted);
+        let (_, owners) = record.chain_end(block);
+        tally.met(record.entries.len(), is_tainted, owners);
         tally.ask(code(kernel.root(fs)), code(record.root(system)));
     }
 

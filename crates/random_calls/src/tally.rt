@@ -32,6 +32,13 @@ pub struct Tally {
     pub most: usize,
     /// How often a block that was asked for had an entry that isn't safe.
     pub tainted: u32,
+    /// How many edits were refused because they would close a cycle.
+    pub cycles: u32,
+    /// How many blocks that own others were attached to another block, and how many became roots.
+    pub trees: u32,
+    pub rooted: u32,
+    /// How many owners a block had above it, at most.
+    pub owners: u32,
     /// How many entries finished writes made durable, and how many blocks were free by them.
     pub durable: u32,
     pub freed: u32,
@@ -64,6 +71,10 @@ impl Tally {
             ],
             most: 0,
             tainted: 0,
+            cycles: 0,
+            trees: 0,
+            rooted: 0,
+            owners: 0,
             durable: 0,
             freed: 0,
             compared: 0,
@@ -84,6 +95,9 @@ impl Tally {
         wanted: Result<(u32, u64), Refusal>,
     ) {
         self.check(answer == wanted);
+        if answer == Err(Refusal::Cycle) {
+            self.cycles = self.cycles.saturating_add(1);
+        }
         let (first, second) = match answer {
             Ok((first, second)) => (u64::from(first), second),
             Err(refusal) => (u64::MAX, refusal as u64),
@@ -112,8 +126,21 @@ impl Tally {
         self.freed = self.freed.saturating_add(freed);
     }
 
-    /// Takes how many entries are pending, and whether the block that is asked for has one that isn't safe.
-    pub fn met(&mut self, pending: usize, is_tainted: bool) {
+    /// Takes that a block that owns others was attached to this one.
+    pub fn attached(&mut self, owner: u32) {
+        if owner == 0 {
+            self.rooted = self.rooted.saturating_add(1);
+        } else {
+            self.trees = self.trees.saturating_add(1);
+        }
+    }
+
+    /// Takes how many entries are pending, whether the block that is asked for has one that isn't safe, and how many owners it has
+    /// above it.
+    pub fn met(&mut self, pending: usize, is_tainted: bool, owners: u32) {
+        if owners > self.owners {
+            self.owners = owners;
+        }
         if pending > self.most {
             self.most = pending;
         }

@@ -910,6 +910,88 @@ accepted cost 4 emits 1
     )
 }
 
+/// A block that nobody owns adds another, and becomes a root with it.
+#[test]
+fn a_block_is_attached_with_what_it_owns(rt: HostRuntime) -> Result<(), PlayFault> {
+    plays(
+        &rt,
+        rt.alloc(),
+        "$ xnsim format disk 32 --ffs
+blocks 32 templates 3
+$ cat > script <<EOF
+init 0 3 -
+init 0 4 -
+edit 0 4 0=05000000 +5:4
+forget 0 4
+root 0 4
+begin 0
+begin 4
+land 4
+finish 4
+begin 0
+land 0
+finish 0
+crash
+read 0 4
+EOF
+$ xnsim run disk script
+block 4 edit 1
+block 5 edit 2
+edit 3
+refused 9 NotEmpty
+edit 4
+refused 20 NothingSafe
+begun 1
+landed
+durable 1 freed 0
+begun 1
+landed
+durable 1 freed 0
+mounted 5 27
+-
+",
+    )
+}
+
+/// No block comes to stand among its own owners.
+#[test]
+fn owners_make_no_cycle(rt: HostRuntime) -> Result<(), PlayFault> {
+    plays(
+        &rt,
+        rt.alloc(),
+        "$ cat > owns <<EOF
+LD4 1 0
+IFLT 0 1
+SET 2 3
+EMIT 1 2
+END
+EOF
+$ cat > size <<EOF
+SET 0 4
+EOF
+$ xnsim asm owns size block
+template owns 5 size 1
+$ xnsim format disk 32 block
+blocks 32 templates 1
+$ cat > script <<EOF
+init 0 3 -
+init 0 3 -
+edit 0 2 0=02000000 +2:3
+edit 0 2 0=03000000 +3:3
+edit 0 3 0=02000000 +2:3
+edit 0 3 0=03000000 +3:3
+EOF
+$ xnsim run disk script
+block 2 edit 1
+block 3 edit 2
+refused 22 Cycle
+edit 3
+refused 22 Cycle
+refused 7 NotFresh
+",
+    )
+}
+
 /// Between the write of a block and that of the root that names it, the disk is as it was.
 #[test]
 fn a_run_stops_between_two_writes(rt: HostRuntime) -> Result<(), PlayFault> {

@@ -1,15 +1,15 @@
 -- A call edits and drops blocks of its own file system alone.
 use Rattle.std.proofs.Common.{◌≡◌, ◌≢◌, ℕ, ◌<◌, ◌&&◌, true, not, [], ◌∷◌, length, Some, None, Ok, refl, sym, ◌∙◌, ap, inl, inr, subst}
-use Rattle.std.specs.Prelude.{Contains, ◌==◌, nat_lt}
+use Rattle.std.specs.Prelude.{Contains, ◌==◌}
 use Rattle.std.specs.List.{list_all}
 use Rattle.std.proofs.lemmas.Bool.{and_parts, not-false, eqb-false, cond_both}
 use Rattle.std.proofs.lemmas.Option.{none-some, same_Some}
-use Rattle.xn_model.specs.Lists.{distinct, blocks_of}
+use Rattle.xn_model.specs.Lists.{distinct, has_number, blocks_of}
 use Rattle.xn_model.specs.Types.{claims, named_once, within_size}
 use Rattle.xn_model.specs.Root.{slot}
-use Rattle.xn_model.specs.Lives.{Life, StoreState, life_at, newest, current, is_fresh, bytes_of}
+use Rattle.xn_model.specs.Lives.{Life, StoreState, life_at, newest, current, bytes_of, chain_end}
 use Rattle.xn_model.specs.declared.refusal.Refusal.{Refusal}
-use Rattle.xn_model.specs.declared.refusal.Refusal.TheVariants.{NoMemory, TooManyPending, Exhausted, BadPatch, BadAfter, Unattached, NotFresh, NotOwned, NotEmpty, ClaimWrong, SizeWrong}
+use Rattle.xn_model.specs.declared.refusal.Refusal.TheVariants.{NoMemory, TooManyPending, Exhausted, BadPatch, BadAfter, NotFresh, Cycle, NotOwned, NotEmpty, ClaimWrong, SizeWrong}
 use Rattle.xn_model.specs.Calls.{Edit, patched, accepts, edited, propose_of, propose_at, too_many, exhausted, within_limits, was_given, may_add, may_drop, is_empty, root_now, slot_now, life_bytes, init_of, make_root_of, life_pending, root_state, drop_root_of}
 use Rattle.xn_model.specs.Worlds.{World, Call, Init, Propose, MakeRoot, DropRoot, Forget, Read, Root, Kind, Tainted, Pending, Floor, FreeCount, Pick, Drain, Client, Reply, Started, Edited, Down, Refused, call, AfterCall}
 use Rattle.xn_model.specs.Rules.{Holds, IsInFileSystem, IsOwnedBy, NamedIn}
@@ -71,8 +71,8 @@ module _ (w : World) (h : Holds w) (hs : Histories) (known : AreHistoriesOf w.st
       ∷ (exhausted w.state, Exhausted)
       ∷ (not (within_limits e), BadPatch)
       ∷ (not (was_given w.state e.after), BadAfter)
-      ∷ (is_fresh l.status && nat_lt 0 (length e.adds), Unattached)
       ∷ (not (list_all (may_add w.state fs) e.adds && distinct (blocks_of e.adds)), NotFresh)
+      ∷ (has_number (blocks_of e.adds) (chain_end w.state.lives b), Cycle)
       ∷ (not (list_all (may_drop w.state b) e.drops && distinct e.drops), NotOwned)
       ∷ (not (list_all (is_empty w.types w.state) e.drops), NotEmpty)
       ∷ (not (claims w.types l.ty (current l) m e.adds e.drops && named_once w.types l.ty m), ClaimWrong)

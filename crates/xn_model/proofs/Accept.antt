@@ -1,22 +1,24 @@
 -- A block accepts a state, and the blocks that it adds and drops change their status.
-use Rattle.std.proofs.Common.{◌≡◌, ℕ, ◌+◌, ◌<◌, ◌≤◌, length, ◌⊎◌, List, [], ◌∷◌, Option, Some, None, refl, sym, ◌∙◌, ap, inl, inr, arith, subst}
+use Rattle.std.proofs.Common.{◌≡◌, ℕ, false, ◌+◌, ◌<◌, ◌≤◌, length, ◌⊎◌, List, [], ◌∷◌, Option, Some, None, refl, sym, ◌∙◌, ap, inl, inr, arith, subst}
 use Rattle.std.specs.Prelude.{Contains, option_to_list}
 use Rattle.std.specs.List.{last_or}
-use Rattle.std.proofs.lemmas.Bool.{cases_eq}
+use Rattle.std.proofs.lemmas.Bool.{cases_eq, cases_Bool, false≢true}
 use Rattle.std.proofs.lemmas.Option.{same_Some}
 use Rattle.std.proofs.lemmas.List.Elements.{Contains-append_cases, Contains-append_left, Contains-append_right, Contains-push_cases}
+use Rattle.xn_model.specs.Lists.{has_number, blocks_of}
 use Rattle.xn_model.specs.Types.{Types}
 use Rattle.xn_model.specs.Images.{IsDiskSize}
 use Rattle.xn_model.specs.Calls.{accepts}
-use Rattle.xn_model.specs.Lives.{StoreState, BlockState, Owned, Dropped, Life, Lives, life_at, states, carried, newest}
-use Rattle.xn_model.specs.Rules.{ArePlaced, Keeps, IsConsistent, IsBy, IsOlder, WaitsForOlder, IsRootLife, IsSoundLife, IsLinkedLife, IsPlaced, NamedIn, HasExactStatuses, IsNamer, IsCount}
+use Rattle.xn_model.specs.Lives.{StoreState, BlockState, Owned, Dropped, Life, Lives, life_at, states, carried, newest, is_dropped}
+use Rattle.xn_model.specs.Rules.{ArePlaced, Keeps, IsConsistent, IsBy, IsOlder, WaitsForOlder, IsRootLife, IsSoundLife, IsLinkedLife, IsPlaced, NamedIn, HasExactStatuses, IsNamer, IsCount, IsOwnedBy, IsFreshBlock, ChainsEnd}
 use Rattle.xn_model.proofs.Changes.{accepted, accept, status_after}
-use Rattle.xn_model.proofs.Lists.{Contains-none, last_of, blocks_of_at}
+use Rattle.xn_model.proofs.Lists.{Contains-none, last_of, blocks_of_at, has_number_at, has_number_from}
 use Rattle.xn_model.proofs.Lives.{each_forth, each_back, accepted_is, length_accepted}
 use Rattle.xn_model.proofs.Carry.{Carries}
+use Rattle.xn_model.proofs.Chains.{HasChain, alone, below, chain_of, chain_ends, ends_at, goes_on}
 use Rattle.xn_model.proofs.Orders.{AreBelow, below_next, ordered_accept}
 use Rattle.xn_model.proofs.States.{MayBeRoot, MayAccept, last_push, states_push, carried_still, with_state, accepted_other, accepted_same, status_cases, status_stays, fresh_owned, same_owner, owned_dropped}
-use Rattle.xn_model.proofs.AcceptedLives.{now, added_fresh, fresh_after, dropped_other, carries, held_other, kept_other, held_grown, kept_grown}
+use Rattle.xn_model.proofs.AcceptedLives.{now, added_fresh, fresh_after, dropped_other, carries, held_other, kept_other, held_grown, kept_grown, owned_added}
 
 module _ (T : Types) (state : StoreState) (h : IsConsistent T state) (b : ℕ) (l : Life) (s : BlockState) (alive : life_at state.lives b ≡ Some l) (may : MayAccept T state.lives b l s) (number : s.entry ≡ state.next)
     (may_root : b ≡ 0 → MayBeRoot T state.lives h.lives_sound.root s) where
@@ -254,8 +256,71 @@ module _ (T : Types) (state : StoreState) (h : IsConsistent T state) (b : ℕ) (
         ];
   }
 
-  below : AreBelow state.lives s.entry
-  below = subst (AreBelow state.lives) (sym number) (below_next T state h)
+  -- Chains
+
+  -- what is dropped owns nothing
+  no_owner : (a c : ℕ) → IsOwnedBy state.lives a c → Contains s.drops a → ⊥
+  no_owner a c o i = let n = h.statuses.owned c o.life a o.alive o.status in may.empty a n.life (c, o.life.ty) i n.alive n.names
+
+  -- a block that is not dropped keeps its owner
+  owner_next : (a c : ℕ) → (Contains s.drops c → ⊥) → IsOwnedBy state.lives a c → IsOwnedBy next_lives a c × (Contains s.drops a → ⊥)
+  unfolding next_lives
+  owner_next a c out o = (
+    record {
+      life = accepted b s c o.life;
+      alive = each_forth (accepted b s) state.lives c o.life o.alive;
+      status = elim (status_cases b s c o.life.status) [
+        | inl add ↦ absurd (fresh_owned a (sym (added_fresh T state.lives b l s alive may h.lives_sound.root c o.life o.alive add.0) ∙ o.status))
+        | inr rest ↦ elim rest [ inl drop' ↦ absurd (out drop'.0) | inr same ↦ same ∙ o.status ]
+      ];
+    },
+    no_owner a c o,
+  )
+
+  fresh_next : (c : ℕ) → (Contains (blocks_of s.adds) c → ⊥) → IsFreshBlock state.lives c → IsFreshBlock next_lives c
+  unfolding next_lives
+  fresh_next c out f = record {
+    life = accepted b s c f.life;
+    alive = each_forth (accepted b s) state.lives c f.life f.alive;
+    status = fresh_after T state.lives b l s alive may h.lives_sound.root c f.life f.alive f.status out;
+  }
+
+  -- the block's own chain ends where it ended
+  own_chain : HasChain next_lives b
+  own_chain =
+      let c = chain_of state.lives h.chains b l alive may.in_use in
+      goes_on state.lives next_lives (λ x. Contains s.drops x → ⊥) owner_next c.owners c.top b c.above (λ i. not_itself b i refl)
+      (λ out f. alone next_lives c.top (fresh_next c.top (λ i. may.no_cycle (subst (λ x. Contains (blocks_of s.adds) x) (sym (ends_at state.lives c.owners c.top b c.above)) i)) f))
+
+  -- another one ends where it ended, or at an added block, and goes on by the block's own
+  chain_next : (c : ℕ) → HasChain state.lives c → (Contains s.drops c → ⊥) → HasChain next_lives c
+  unfolding next_lives now
+  chain_next c k out = goes_on state.lives next_lives (λ x. Contains s.drops x → ⊥) owner_next k.owners k.top c k.above out (λ end f. elim (cases_Bool (has_number (blocks_of s.adds) k.top)) [
+    | inl t ↦
+        let p = blocks_of_at s.adds k.top (has_number_at (blocks_of s.adds) k.top t) in
+        below next_lives b k.top (owned_added T state.lives b l s alive may h.lives_sound.root k.top p.0 p.1) own_chain
+    | inr none ↦ alone next_lives k.top (fresh_next k.top (λ i. false≢true (sym none ∙ has_number_from (blocks_of s.adds) k.top i)) f)
+  ])
+
+  chains_next : ChainsEnd next_lives
+  unfolding next_lives
+  chains_next c m e in_use =
+      let r = each_back (accepted b s) state.lives c m e in
+      let after : is_dropped (status_after b s c r.0.status) ≡ false = ap (λ (x : Life). is_dropped x.status) (sym r.2) ∙ in_use in
+      let out : Contains s.drops c → ⊥ = λ i. elim (status_stays b s c r.0.status i) [
+        | inl x ↦
+            let d = may.drops c i in
+            fresh_owned b (sym (added_fresh T state.lives b l s alive may h.lives_sound.root c d.life d.alive x) ∙ d.status)
+        | inr x ↦ false≢true (sym after ∙ ap is_dropped x)
+      ] in
+      let before : is_dropped r.0.status ≡ false = elim (status_cases b s c r.0.status) [
+        | inl add ↦ ap is_dropped (added_fresh T state.lives b l s alive may h.lives_sound.root c r.0 r.1 add.0)
+        | inr rest ↦ elim rest [ inl drop' ↦ absurd (out drop'.0) | inr same ↦ ap is_dropped (sym same) ∙ after ]
+      ] in
+      chain_ends next_lives c (chain_next c (chain_of state.lives h.chains c r.0 r.1 before) out)
+
+  numbers_below : AreBelow state.lives s.entry
+  numbers_below = subst (AreBelow state.lives) (sym number) (below_next T state h)
 
   few : (c : ℕ) (m : Life) (j : ℕ) → life_at state.lives c ≡ Some m → m.begun ≡ Some j → j ≤ length m.pending
   few c m j e begun = let bounds : IsCount (Some j) (length m.pending) = subst (λ o. IsCount o (length m.pending)) begun (h.linked c m e).flight in bounds.1
@@ -263,8 +328,9 @@ module _ (T : Types) (state : StoreState) (h : IsConsistent T state) (b : ℕ) (
   pub accept_keeps : IsConsistent T (record state { lives = accept b s state.lives; next = state.next + 1 })
   unfolding next_lives
   accept_keeps = record {
-    order = ordered_accept state.lives b s below few h.order;
+    order = ordered_accept state.lives b s numbers_below few h.order;
     statuses = exact_next;
+    chains = chains_next;
     waits = queued_next;
     built_ins = h.built_ins;
     size = subst IsDiskSize (sym carries_next.count) h.size;

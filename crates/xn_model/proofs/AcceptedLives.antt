@@ -147,7 +147,7 @@ module _ (T : Types) (lives : Lives) (b : ℕ) (l : Life) (s : BlockState) (aliv
     ];
   }
 
-  owned_added : (c u : ℕ) → Contains s.adds (c, u) → IsOwnedBy now b c
+  pub owned_added : (c u : ℕ) → Contains s.adds (c, u) → IsOwnedBy now b c
   unfolding now
   owned_added c u i =
       let a = may.adds c u i in

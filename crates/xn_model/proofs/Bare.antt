@@ -11,6 +11,7 @@ use Rattle.xn_model.proofs.Changes.{each, bared}
 use Rattle.xn_model.proofs.Lists.{Contains-head, Contains-cons}
 use Rattle.xn_model.proofs.Lives.{each_forth, each_back, length_revised}
 use Rattle.xn_model.proofs.Carry.{Carries}
+use Rattle.xn_model.proofs.Chains.{chains_each}
 use Rattle.xn_model.proofs.Orders.{ordered_bare}
 use Rattle.xn_model.proofs.Queue.{Shrinks, queued_each}
 
@@ -174,6 +175,7 @@ module _ (T : Types) (state : StoreState) (h : IsConsistent T state) (b : ℕ) w
     waits = queued_each T state.lives (bared b) (λ c l e. bare_shrinks c l) h.waits;
     order = ordered_bare state.lives b h.order;
     statuses = exact_bare;
+    chains = chains_each state.lives (bared b) (λ c l. refl) h.chains;
     numbers = λ c m s e i. let r = each_back (bared b) state.lives c m e in entry_below (c == b) r.0.durable r.0.pending (λ t j. h.numbers c r.0 t r.1 j) s (subst (λ x. Contains (states x) s) r.2 i);
   }
 

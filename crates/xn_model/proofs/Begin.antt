@@ -15,6 +15,7 @@ use Rattle.xn_model.proofs.Changes.{each, with_begun}
 use Rattle.xn_model.proofs.Lists.{Contains-none, Contains-take, last_is_in}
 use Rattle.xn_model.proofs.Lives.{each_forth, each_back, length_revised, begun_is, life_from}
 use Rattle.xn_model.proofs.Carry.{Carries, held_still, kept_still, root_still, carries_begun, owned_begun, with_begun_other, with_begun_same, begun_if}
+use Rattle.xn_model.proofs.Chains.{chains_each}
 use Rattle.xn_model.proofs.Orders.{CarriesAfters, prefix_carries, ordered_begun}
 use Rattle.xn_model.proofs.Queue.{queued_each, begun_shrinks}
 use Rattle.xn_model.proofs.Statuses.{exact_each, begun_same}
@@ -101,6 +102,7 @@ module _ (T : Types) (state : StoreState) (h : IsConsistent T state) (b : ℕ) (
     order = ordered_begun state.lives b l k alive afters h.order;
     waits = queued_each T state.lives (with_begun b k) (λ c x e. begun_shrinks b k c x) h.waits;
     statuses = exact_each T state.lives (with_begun b k) (begun_same b k) h.statuses;
+    chains = chains_each state.lives (with_begun b k) (λ c x. refl) h.chains;
     built_ins = h.built_ins;
     size = subst IsDiskSize (sym (carries_begun T b k state.lives).count) h.size;
     lives_sound = record { root = root_now; each = λ c m e. let r = each_back (with_begun b k) state.lives c m e in subst (IsSoundLife T now c) (sym r.2) (held_at c r.0 r.1) };

@@ -1,18 +1,19 @@
 -- An edit that every test passes may be accepted.
-use Rattle.std.proofs.Common.{◌≡◌, ℕ, ◌<◌, ◌≢◌, ◌⊎◌, true, false, not, ◌&&◌, List, ◌++◌, length, Option, Some, None, refl, sym, ◌∙◌, ap, inl, inr, arith, subst}
+use Rattle.std.proofs.Common.{◌≡◌, ℕ, ◌<◌, ◌≢◌, ◌⊎◌, true, false, not, ◌&&◌, List, ◌++◌, Option, Some, None, refl, sym, ◌∙◌, ap, inl, inr, subst}
 use Rattle.std.specs.Prelude.{Contains, Ok, nat_lt, ◌==◌}
 use Rattle.std.specs.List.{list_all}
-use Rattle.std.proofs.lemmas.Bool.{false≢true, not-false, not-true, and_parts, and_from, eqb-true, lt-ltb, ltb-true, false_from_ne_true}
+use Rattle.std.proofs.lemmas.Bool.{false≢true, not-false, not-true, and_parts, and_from, eqb-true, ltb-true, false_from_ne_true}
 use Rattle.std.proofs.lemmas.Option.{same_Some, none-some}
 use Rattle.std.proofs.lemmas.List.Elements.{Contains-append_cases, Contains-append_right, Contains-append_left}
 use Rattle.xn_model.proofs.Statuses.{names_none}
 use Rattle.xn_model.specs.Lists.{has_number, has_pair, blocks_of, distinct}
 use Rattle.xn_model.specs.Types.{Types, claims, named_once, within_size, without, inside}
-use Rattle.xn_model.specs.Lives.{Fresh, Life, Lives, life_at, newest, current, bytes_of, is_fresh, is_owned_by, is_dropped, is_for, StoreState}
+use Rattle.xn_model.specs.Lives.{Fresh, Life, Lives, life_at, newest, current, bytes_of, is_fresh, is_owned_by, is_dropped, is_for, StoreState, chain_end}
 use Rattle.xn_model.specs.Calls.{propose_of, edited, Edit, may_add, may_drop, is_empty, propose_at, patched, was_given, accepts, owns_nothing, edit_tests}
 use Rattle.xn_model.specs.Rules.{Keeps, IsInFileSystem, IsOwnedBy, IsLinkedLife, IsConsistent, NamedIn}
-use Rattle.xn_model.proofs.Lists.{all_at, has_pair_at, has_number_from, filter_at, filter_from, has_number_at}
+use Rattle.xn_model.proofs.Lists.{all_at, has_pair_at, has_number_from, filter_at, filter_from, has_number_at, blocks_of_has}
 use Rattle.xn_model.proofs.Tests.{alive_from, fresh_from, owned_from, fs_from, unless_ok, own_then, same_ok}
+use Rattle.xn_model.proofs.Chains.{ends_itself}
 use Rattle.xn_model.proofs.States.{IsAddable, MayAccept}
 use Rattle.xn_model.proofs.Accept.{accepts_keeps}
 
@@ -86,9 +87,9 @@ dropped_empty T state c m p e f n =
 edit_may : (T : Types) (state : StoreState) → IsConsistent T state → (fs b : ℕ) (e : Edit) (l : Life) → life_at state.lives b ≡ Some l → is_dropped l.status ≡ false → l.fs ≡ Some fs →
     list_all (may_add state fs) e.adds ≡ true → list_all (may_drop state b) e.drops ≡ true →
     (claims T l.ty (current l) (patched (current l) e.patches) e.adds e.drops && named_once T l.ty (patched (current l) e.patches)) ≡ true →
-    within_size T l.ty (patched (current l) e.patches) ≡ true → was_given state e.after ≡ true → list_all (is_empty T state) e.drops ≡ true → (is_fresh l.status && nat_lt 0 (length e.adds)) ≡ false →
+    within_size T l.ty (patched (current l) e.patches) ≡ true → was_given state e.after ≡ true → list_all (is_empty T state) e.drops ≡ true → has_number (blocks_of e.adds) (chain_end state.lives b) ≡ false →
     MayAccept T state.lives b l (edited state.next fs e l)
-edit_may T state h fs b e l alive in_use mine adds drops claim size given empties attached =
+edit_may T state h fs b e l alive in_use mine adds drops claim size given empties below =
     let new = patched (current l) e.patches in
     let parts = and_parts (claims T l.ty (current l) new e.adds e.drops) (named_once T l.ty new) claim in
     record {
@@ -107,15 +108,19 @@ edit_may T state h fs b e l alive in_use mine adds drops claim size given emptie
             let a = addable T state h fs c u (all_at (may_add state fs) e.adds (c, u) adds i) in
             let life : a.life ≡ l = same_Some a.life l (sym a.alive ∙ (ap (life_at state.lives) same ∙ alive)) in
             let fresh : l.status ≡ Fresh = ap (λ (x : Life). x.status) (sym life) ∙ a.fresh in
-            let some : nat_lt 0 (length e.adds) ≡ true = lt-ltb 0 (length e.adds) (let k : ℕ = i.0 in let lt : k < length e.adds = i.1 in omega arith) in
-            false≢true (sym attached ∙ and_from (is_fresh l.status) (nat_lt 0 (length e.adds)) (ap is_fresh fresh) some),
+            let end : chain_end state.lives b ≡ c = ends_itself state.lives b (record { life = l; alive = alive; status = fresh }) ∙ sym same in
+            not_below (subst (λ x. Contains (blocks_of e.adds) x) (sym end) (blocks_of_has e.adds (c, u) i)),
       );
+      no_cycle = not_below;
       given = given_below e.after given;
       stays = λ c u n out. claim_stays T l.ty (current l) new e.adds e.drops c u parts.0 (from_newest T state.lives b l (h.linked b l alive) (c, u) n) out;
       empty = λ c m p i f n. dropped_empty T state c m p (all_at (is_empty T state) e.drops c empties i) f n;
       fit = and_from (named_once T l.ty new) (within_size T l.ty new) parts.1 size;
     }
   where
+    not_below : Contains (blocks_of e.adds) (chain_end state.lives b) → ⊥
+    not_below i = false≢true (sym below ∙ has_number_from (blocks_of e.adds) (chain_end state.lives b) i)
+
     given_below : (o : Option ℕ) → was_given state o ≡ true → (n : ℕ) → o ≡ Some n → n < state.next
     given_below None g n f = absurd (none-some n f)
     given_below (Some x) g n f = let lt = ltb-true x state.next (and_parts (nat_lt 0 x) (nat_lt x state.next) g).1 in subst (λ y. y < state.next) (same_Some x n f) lt
@@ -130,10 +135,10 @@ propose_keeps T state h fs b e entry new done =
     subst (λ (x : ℕ × StoreState). Keeps T state x.1) (same_ok (accepts state b (edited state.next fs e l)) (entry, new) u.1)
     (accepts_keeps T state h b l (edited state.next fs e l) own.1.alive
     (edit_may T state h fs b e l own.1.alive own.1.in_use own.1.mine
-    (and_parts (list_all (may_add state fs) e.adds) (distinct (blocks_of e.adds)) (not-false (list_all (may_add state fs) e.adds && distinct (blocks_of e.adds)) t.1.1.1.1.1.0)).0
+    (and_parts (list_all (may_add state fs) e.adds) (distinct (blocks_of e.adds)) (not-false (list_all (may_add state fs) e.adds && distinct (blocks_of e.adds)) t.1.1.1.1.0)).0
     (and_parts (list_all (may_drop state b) e.drops) (distinct e.drops) (not-false (list_all (may_drop state b) e.drops && distinct e.drops) t.1.1.1.1.1.1.0)).0
     (not-false (claims T l.ty (current l) m e.adds e.drops && named_once T l.ty m) t.1.1.1.1.1.1.1.1.0)
     (not-false (within_size T l.ty m) t.1.1.1.1.1.1.1.1.1.0)
-    (not-false (was_given state e.after) t.1.1.1.0) (not-false (list_all (is_empty T state) e.drops) t.1.1.1.1.1.1.1.0) t.1.1.1.1.0)
+    (not-false (was_given state e.after) t.1.1.1.0) (not-false (list_all (is_empty T state) e.drops) t.1.1.1.1.1.1.1.0) t.1.1.1.1.1.0)
     refl
     (λ zero'. absurd (not_root T state h fs b l own.1.alive own.1.mine zero')))

@@ -18,6 +18,7 @@ use Rattle.xn_model.proofs.Lists.{Contains-none, Contains-head, Contains-cons, C
 use Rattle.xn_model.proofs.Lives.{life_from, freed_is, settled_is, settled_none, each_back, free_forth, free_back, length_revised}
 use Rattle.xn_model.proofs.Carry.{settled_same, settled_if, settled_gone}
 use Rattle.xn_model.proofs.Statuses.{exact_free, named_same, settled_newest, names_none}
+use Rattle.xn_model.proofs.Chains.{chains_free}
 use Rattle.xn_model.proofs.Orders.{ordered_free}
 use Rattle.xn_model.proofs.Queue.{queued_free}
 use Rattle.xn_model.proofs.Tests.{unless_ok, never_ok, same_ok, map_ok, own_then, fresh_from}
@@ -113,6 +114,7 @@ module _ (T : Types) (state : StoreState) (h : IsConsistent T state) (blocks : L
     waits = queued_free T state.lives blocks (λ c i a l s u e j n. may.unnamed c i a l s u e (Contains-append_right (option_to_list l.durable) l.pending s j) n) h.waits;
     order = ordered_free state.lives blocks h.order;
     statuses = exact_free T state.lives blocks may.empty h.statuses;
+    chains = chains_free T state.lives blocks may.empty h.statuses h.chains;
     built_ins = h.built_ins;
     size = subst IsDiskSize (sym (length_revised (λ c o. cond (has_number blocks c) None o) state.lives)) h.size;
     lives_sound = record { root = root_free; each = λ c l e. held_free c l (free_back blocks state.lives c l e).1 };

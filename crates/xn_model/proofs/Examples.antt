@@ -3,7 +3,7 @@ use Rattle.std.proofs.Common.{◌≡◌, refl}
 use Rattle.xn_model.specs.Root.{word_at, pointer, slot, with_slot, templates_of, roots_of, owned_by_root}
 use Rattle.xn_model.specs.Worlds.{replies}
 use Rattle.xn_model.specs.BareDisks.{built_ins, bare_disk, mounted_disk}
-use Rattle.xn_model.specs.Rows.{sent, answered, library, library_disk, first_row, dropped_row, landed_row, lost_row, failed_new_row, failed_old_row, many_row, refused_row, after_row, drained_row, rolled_back_row, claimed_row}
+use Rattle.xn_model.specs.Rows.{sent, answered, library, library_disk, first_row, dropped_row, landed_row, lost_row, failed_new_row, failed_old_row, many_row, refused_row, after_row, drained_row, rolled_back_row, claimed_row, attached_row, chain, chain_disk, cycle_row}
 
 pub first : replies (mounted_disk built_ins (bare_disk 32)) (sent first_row) ≡ answered first_row
 unfolding word_at pointer slot with_slot templates_of roots_of owned_by_root
@@ -52,3 +52,11 @@ rolled_back = refl
 pub claimed : replies (mounted_disk library (library_disk 32)) (sent claimed_row) ≡ answered claimed_row
 unfolding word_at pointer slot with_slot templates_of roots_of owned_by_root
 claimed = refl
+
+pub attached : replies (mounted_disk library (library_disk 32)) (sent attached_row) ≡ answered attached_row
+unfolding word_at pointer slot with_slot templates_of roots_of owned_by_root
+attached = refl
+
+pub cycle : replies (mounted_disk chain (chain_disk 32)) (sent cycle_row) ≡ answered cycle_row
+unfolding word_at pointer slot with_slot templates_of roots_of owned_by_root
+cycle = refl

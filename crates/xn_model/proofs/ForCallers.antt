@@ -12,6 +12,7 @@ pub use Rattle.xn_model.proofs.Lives.{accepted_is, begun_is, change_same, each_a
 pub use Rattle.xn_model.proofs.States.{accepted_other, accepted_same, fresh_owned, owned_dropped, status_cases}
 pub use Rattle.xn_model.proofs.Changes.{accept, accepted, bared, each, free, settled, with_begun}
 pub use Rattle.xn_model.proofs.Carry.{settled_fewer, settled_last}
+pub use Rattle.xn_model.proofs.Chains.{ends_itself, same_end}
 pub use Rattle.xn_model.proofs.Orders.{below_next}
 -- calls
 pub use Rattle.xn_model.proofs.Given.{gives_exactly-err, gives_exactly-ok, gives_exactly_keeps, gives_keeps}

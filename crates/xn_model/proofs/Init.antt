@@ -1,6 +1,6 @@
 -- A life begins on a free block.
 use Rattle.std.proofs.Common.{◌≡◌, ℕ, ◌+◌, ◌<◌, ◌≢◌, ◌⊎◌, true, false, not, ◌||◌, List, [], ◌∷◌, length, get_or, Option, Some, None, refl, sym, ◌∙◌, ap, inl, inr, arith, subst}
-use Rattle.std.specs.Prelude.{Contains, IsTrue, nat_lt, slice_set, is_none, Ok}
+use Rattle.std.specs.Prelude.{Contains, IsTrue, ⊤, nat_lt, slice_set, is_none, Ok}
 use Rattle.std.proofs.lemmas.Bool.{cases_eq, false≢true, not-false, and_from, or_parts, ltb-false}
 use Rattle.std.proofs.lemmas.Option.{same_Some, none-some, unwrap_or-slice_get}
 use Rattle.std.proofs.lemmas.List.{length-set}
@@ -11,9 +11,10 @@ use Rattle.xn_model.specs.Images.{IsDiskSize}
 use Rattle.xn_model.specs.Lives.{BlockState, Life, Lives, life_at, states, lowest_free, Owned, Dropped, Fresh, StoreState}
 use Rattle.xn_model.specs.Results.{NoSpace, BadType, TooManyPending, Exhausted, SizeWrong, ClaimWrong}
 use Rattle.xn_model.specs.Calls.{first_state, init_of, new_life, init_at, owns_nothing, too_many, exhausted}
-use Rattle.xn_model.specs.Rules.{Keeps, IsBy, WaitsForOlder, IsSoundLife, IsLinkedLife, IsConsistent, HasExactStatuses, AreOrdered}
+use Rattle.xn_model.specs.Rules.{Keeps, IsBy, WaitsForOlder, IsSoundLife, IsLinkedLife, IsConsistent, HasExactStatuses, AreOrdered, ChainsEnd}
 use Rattle.xn_model.proofs.Lists.{Contains-none, Contains-cons}
 use Rattle.xn_model.proofs.Carry.{Carries, held_still, kept_still, root_still}
+use Rattle.xn_model.proofs.Chains.{alone, chain_of, chain_ends, goes_on}
 use Rattle.xn_model.proofs.Tests.{unless_ok, never_ok, same_ok}
 use Rattle.xn_model.proofs.Lives.{set_other, set_same}
 use Rattle.xn_model.proofs.Reached.{carried_pending}
@@ -102,6 +103,17 @@ module _ (T : Types) (state : StoreState) (h : IsConsistent T state) (b : ℕ) (
     ];
   }
 
+  -- it ends its own chain, and the others end as before
+  chains_start : start.status ≡ Fresh → ChainsEnd now
+  unfolding now
+  chains_start fresh c l e in_use = elim (back c l e) [
+    | inl new ↦ chain_ends now c (alone now c (record { life = l; alive = e; status = ap (λ (x : Life). x.status) (sym new.1) ∙ fresh }))
+    | inr old ↦
+        let k = chain_of state.lives h.chains c l old in_use in
+        chain_ends now c (goes_on state.lives now (λ x. ⊤) (λ a x p o. (record { life = o.life; alive = forth x o.life o.alive; status = o.status }, tt)) k.owners k.top c k.above tt
+        (λ p f. alone now k.top (record { life = f.life; alive = forth k.top f.life f.alive; status = f.status })))
+  ]
+
   start_order : (s : BlockState) → start.pending ≡ s ∷ [] → start.begun ≡ None → AreBelow state.lives s.entry → AreOrdered now
   unfolding now
   start_order s one idle below = ordered_start state.lives b start s one idle below back h.order
@@ -114,6 +126,7 @@ module _ (T : Types) (state : StoreState) (h : IsConsistent T state) (b : ℕ) (
     consistent = record {
       order = order;
       statuses = exact_start fresh;
+      chains = chains_start fresh;
       waits = queued_start no_adds no_drops no_after no_owner;
       built_ins = h.built_ins;
       size = subst IsDiskSize (sym carries_start.count) h.size;

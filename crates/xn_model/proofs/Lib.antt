@@ -9,6 +9,7 @@ pub mod RootBytes
 -- lives and their changes
 pub mod Lives
 pub mod Statuses
+pub mod Chains
 pub mod States
 pub mod Changes
 pub mod Accept

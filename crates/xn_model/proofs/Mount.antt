@@ -12,9 +12,10 @@ use Rattle.xn_model.specs.Images.{IsDiskSize, block_of, Reach, root, step, Owns,
 use Rattle.xn_model.specs.Lives.{on_disk, BlockState, Status, Owned, Life, Lives, life_at, states, newest, Dropped, Fresh}
 use Rattle.xn_model.specs.Mounts.{IsRecoveredLife, IsRecovered}
 use Rattle.xn_model.specs.Worlds.{World, mounted}
-use Rattle.xn_model.specs.Rules.{IsBy, WaitsForOlder, IsTemplate, IsInFileSystem, IsRootLife, IsSoundLife, AreSoundLives, IsLinkedLife, IsPlaced, Holds, HasExactStatuses, IsNamer, NamedIn}
+use Rattle.xn_model.specs.Rules.{IsBy, WaitsForOlder, IsTemplate, IsInFileSystem, IsRootLife, IsSoundLife, AreSoundLives, IsLinkedLife, IsPlaced, Holds, HasExactStatuses, IsNamer, NamedIn, ChainsEnd}
 use Rattle.xn_model.proofs.Lives.{past}
 use Rattle.xn_model.proofs.Lists.{Contains-none, Contains-cons}
+use Rattle.xn_model.proofs.Chains.{HasChain, alone, below, chain_ends}
 use Rattle.xn_model.proofs.Orders.{ordered_empty}
 use Rattle.xn_model.proofs.RootBytes.{slots_apart, templates_apart, template_type, template_owned, roots_from}
 
@@ -231,6 +232,17 @@ module _ (T : Types) (built_ins : HasBuiltIns T) (image : List (List ℕ)) (soun
       by_owned : (x y : ℕ) → Owned x ≡ Owned y → x ≡ y
       by_owned x y e = cc
 
+  -- each reached block is owned by the block by which it is reached
+  chain_reached : (c u : ℕ) → Reach T (length image) (block_of image) c u → HasChain lives c
+  chain_reached c u root = alone lives 0 (record { life = root_life.0; alive = root_life.1; status = (root_rec.root refl).0 })
+  chain_reached c u (step {b} {t} r lt inst names) =
+      let owner = rec'.all b t r in
+      let x = target b owner.0 owner.1 c u (subst (λ y. Contains (T.owned y (block_of image b)) (c, u)) (sym owner.2) names) in
+      below lives b c (record { life = x.0; alive = x.1; status = x.3 }) (chain_reached b t r)
+
+  chains_recovered : ChainsEnd lives
+  chains_recovered c l e in_use = chain_ends lives c (chain_reached c l.ty (rec'.only c l e).reached)
+
   nothing_pending : (b : ℕ) (l : Life) (s : BlockState) → life_at lives b ≡ Some l → Contains l.pending s → ⊥
   nothing_pending b l s e i = Contains-none s (subst (λ xs. Contains xs s) (rec'.only b l e).nothing i)
 
@@ -260,6 +272,7 @@ mount_holds w b sound lives r = record {
     waits = queued_recovered w.types b w.image sound lives r;
     order = ordered_empty lives (nothing_pending w.types b w.image sound lives r);
     statuses = exact_recovered w.types b w.image sound lives r;
+    chains = chains_recovered w.types b w.image sound lives r;
     numbers = numbers_recovered w.types b w.image sound lives r;
   };
   count = sym r.count;

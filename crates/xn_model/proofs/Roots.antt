@@ -6,14 +6,15 @@ use Rattle.std.proofs.lemmas.Option.{same_Some, none-some}
 use Rattle.std.proofs.lemmas.List.Elements.{Contains-append_right}
 use Rattle.xn_model.specs.Types.{Types, fits}
 use Rattle.xn_model.specs.Root.{header, marked, slot, with_slot, templates_of, roots_of, owned_by_root}
-use Rattle.xn_model.specs.Lives.{Fresh, Owned, Life, life_at, states, newest, bytes_of, is_fresh, is_dropped, StoreState}
+use Rattle.xn_model.specs.Lives.{Fresh, Owned, Life, life_at, states, newest, bytes_of, is_fresh, is_dropped, chain_end, StoreState}
 use Rattle.xn_model.specs.Results.{RootTaken, NotFresh, TooManyPending, Exhausted, NotOwned, NotEmpty}
 use Rattle.xn_model.specs.Calls.{drop_root_of, make_root_of, root_now, slot_now, root_state, life_bytes, life_pending, make_root_at, accepts, too_many, exhausted, is_empty}
-use Rattle.xn_model.specs.Rules.{Keeps, IsInFileSystem, IsOwnedBy, IsLinkedLife, IsConsistent, NamedIn}
+use Rattle.xn_model.specs.Rules.{Keeps, IsInFileSystem, IsOwnedBy, IsLinkedLife, IsConsistent, NamedIn, IsFreshBlock}
 use Rattle.xn_model.proofs.Lists.{Contains-none, Contains-head, Contains-cons, last_of, blocks_of_at}
 use Rattle.xn_model.proofs.Tests.{unless_ok, own_then, same_ok, fresh_from}
 use Rattle.xn_model.proofs.Reached.{in_range}
 use Rattle.xn_model.proofs.RootBytes.{slot_other, slot_same, slot_header, slot_length, slot_fits, slot_names, slot_owned, slot_drops, marked_by_header, templates_by_header, roots_from, slot_stays}
+use Rattle.xn_model.proofs.Chains.{ends_itself}
 use Rattle.xn_model.proofs.States.{IsAddable, MayBeRoot, MayAccept}
 use Rattle.xn_model.proofs.Accept.{accepts_keeps}
 use Rattle.xn_model.proofs.Edits.{not_root, in_newest, from_newest, dropped_empty}
@@ -52,6 +53,10 @@ module _ (T : Types) (state : StoreState) (h : IsConsistent T state) where
 
   root_owns : (c u : ℕ) → Contains (owned_by_root (root_now state)) (c, u) → IsOwnedBy state.lives 0 c
   root_owns c u n = kept_root.owned c u (root_named c u n)
+
+  -- block 0 has no owner
+  root_fresh : IsFreshBlock state.lives 0
+  root_fresh = record { life = h.lives_sound.root.life; alive = h.lives_sound.root.alive; status = h.lives_sound.root.unowned }
 
   module _ (fs : ℕ) (few : fs < 32) where
     -- what a slot names is of its file system
@@ -128,6 +133,10 @@ module _ (T : Types) (state : StoreState) (h : IsConsistent T state) where
           stays = λ c u n out. named_after (b, l.ty) c u (slot_stays (root_now state) fs (b, l.ty) long few small small' c u (root_lists c u n) (λ e.
               never_zero c u (root_lists c u n) (ap (λ (x : ℕ × ℕ). x.0) (sym e) ∙ vacant)));
           empty = λ c m p i e n. absurd (Contains-none c i);
+          no_cycle = λ i. elim (Contains-cons b [] (chain_end state.lives 0) i) [
+            | inl e ↦ ne (e ∙ ends_itself state.lives 0 root_fresh)
+            | inr none ↦ Contains-none (chain_end state.lives 0) none
+          ];
           fit = subst (λ t. IsTrue (fits T t (with_slot (root_now state) fs (b, l.ty)))) (sym h.lives_sound.root.ty)
               (slot_fits (root_now state) fs (b, l.ty) long few small small' T h.built_ins fit (λ z i.
               let u = blocks_of_at (owned_by_root (root_now state)) b i in
@@ -182,6 +191,7 @@ module _ (T : Types) (state : StoreState) (h : IsConsistent T state) where
             )
           ];
           added = λ c u i. absurd (Contains-none (c, u) i);
+          no_cycle = λ i. Contains-none (chain_end state.lives 0) i;
           given = λ n e. absurd (none-some n e);
           stays = λ c u n out. named_after (0, 0) c u (slot_stays (root_now state) fs (0, 0) long few zero_small zero_small c u (root_lists c u n) (λ e.
               out (subst (λ x. Contains (d ∷ []) x) (ap (λ (x : ℕ × ℕ). x.0) e) (Contains-head d []))));

@@ -8,7 +8,7 @@ use Rattle.std.proofs.lemmas.List.Elements.{Contains-append_cases, Contains-appe
 use Rattle.xn_model.specs.Lists.{has_number, blocks_of}
 use Rattle.xn_model.specs.Types.{Types, fits}
 use Rattle.xn_model.specs.Root.{header, marked, slot, templates_of}
-use Rattle.xn_model.specs.Lives.{BlockState, Status, Fresh, Owned, Dropped, Life, Lives, life_at, newest, first_states, is_dropped}
+use Rattle.xn_model.specs.Lives.{BlockState, Status, Fresh, Owned, Dropped, Life, Lives, life_at, newest, first_states, is_dropped, chain_end}
 use Rattle.xn_model.specs.Rules.{IsTemplate, IsInFileSystem, IsRootLife, NamedIn, StartsPlain, Grows, StaysDropped, NoneNames, NoneDrops, IsCount, Rises, IsOwnedBy}
 use Rattle.xn_model.proofs.Changes.{accepted, status_after}
 use Rattle.xn_model.proofs.Lists.{Contains-none, Contains-head, Contains-tail, has_number_at, has_number_from}
@@ -42,6 +42,7 @@ pub record MayAccept (T : Types) (lives : Lives) (b : ℕ) (l : Life) (s : Block
   pub given : (n : ℕ) → s.after ≡ Some n → n < s.entry
   pub stays : (c u : ℕ) → NamedIn T l.ty (newest l) (c, u) → (Contains s.drops c → ⊥) → Contains (T.owned l.ty s.bytes) (c, u)
   pub empty : (c : ℕ) (m : Life) (p : ℕ × ℕ) → Contains s.drops c → life_at lives c ≡ Some m → NamedIn T m.ty (newest m) p → ⊥
+  pub no_cycle : Contains (blocks_of s.adds) (chain_end lives b) → ⊥
 
 -- Lists with one state more
 

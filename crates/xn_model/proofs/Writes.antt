@@ -16,6 +16,7 @@ use Rattle.xn_model.proofs.Lists.{Contains-none, Contains-cons, Contains-drop, l
 use Rattle.xn_model.proofs.Lives.{each_forth, each_back}
 use Rattle.xn_model.proofs.Carry.{Carries, held_still, kept_still, root_still, carries_settled, owned_settled, settled_other, settled_same, settled_if, settled_fewer, settled_rises, settled_start, settled_grows, settled_stays, settled_last}
 use Rattle.xn_model.proofs.Statuses.{exact_each, settled_newest}
+use Rattle.xn_model.proofs.Chains.{chains_each}
 use Rattle.xn_model.proofs.Orders.{ordered_settle}
 use Rattle.xn_model.proofs.Queue.{queued_each, settled_shrinks}
 use Rattle.xn_model.proofs.Reached.{carried_pending}
@@ -149,6 +150,7 @@ module _ (T : Types) (state : StoreState) (h : IsConsistent T state) (b : ℕ) (
     waits = queued_each T state.lives (settled b k) (λ c x e. settled_shrinks b k (let bounds : IsCount (Some k) (length l.pending) = subst (λ o. IsCount o (length l.pending)) begun (h.linked b l alive).flight in bounds.0) c x) h.waits;
     order = ordered_settle state.lives b k h.order;
     statuses = exact_each T state.lives (settled b k) (settled_newest b k) h.statuses;
+    chains = chains_each state.lives (settled b k) (λ c x. refl) h.chains;
     built_ins = h.built_ins;
     size = subst IsDiskSize (sym carries.count) h.size;
     lives_sound = record { root = root_settled; each = λ c m e. let r = each_back (settled b k) state.lives c m e in subst (IsSoundLife T now c) (sym r.2) (held_at c r.0 r.1) };

@@ -4,11 +4,11 @@
 --     begun_of, settled_of    a write begins; its bytes are read back
 use Rattle.std.specs.Prelude.{ℕ, ◌+◌, ◌-◌, ◌^◌, Bool, true, false, not, ◌&&◌, ◌||◌, List, [], ◌∷◌, length, take, Option, Some, None, is_some, is_none, Result, Ok, Err, slice_get, slice_set, ◌==◌, nat_le, nat_lt, count_by, sum_by, bytes_eq, position, if◌then◌else◌}
 use Rattle.std.specs.List.{list_all, last_or}
-use Rattle.xn_model.specs.Lists.{blocks_of, distinct, put}
+use Rattle.xn_model.specs.Lists.{blocks_of, distinct, has_number, put}
 use Rattle.xn_model.specs.Types.{Types, claims, named_once, within_size}
 use Rattle.xn_model.specs.Root.{slot, with_slot}
-use Rattle.xn_model.specs.Lives.{BlockState, Fresh, Life, Lives, StoreState, life_at, bytes_of, current, is_fresh, is_dropped, is_owned_by, alive_and, no_states, prefix_of, accepted_at, begun_at, settled_at, freed, drops_of, lowest_free, is_for, floor}
-use Rattle.xn_model.specs.Results.{Refusal, NoSuchBlock, NotInUse, NotYours, BadPatch, BadAfter, NotFresh, NotOwned, NotEmpty, ClaimWrong, SizeWrong, Unattached, TooManyPending, NoSpace, BadType, InFlight, NotMine, RootTaken, NothingSafe, Exhausted, first_refusal, unless, result_map, result_and_then}
+use Rattle.xn_model.specs.Lives.{BlockState, Fresh, Life, Lives, StoreState, life_at, bytes_of, current, is_fresh, is_dropped, is_owned_by, alive_and, chain_end, no_states, prefix_of, accepted_at, begun_at, settled_at, freed, drops_of, lowest_free, is_for, floor}
+use Rattle.xn_model.specs.Results.{Refusal, NoSuchBlock, NotInUse, NotYours, BadPatch, BadAfter, NotFresh, NotOwned, NotEmpty, ClaimWrong, SizeWrong, TooManyPending, NoSpace, BadType, InFlight, NotMine, RootTaken, NothingSafe, Exhausted, Cycle, first_refusal, unless, result_map, result_and_then}
 
 -- A file system's own block
 
@@ -120,8 +120,8 @@ edit_tests T state fs b e l =
     ∷ (exhausted state, Exhausted)
     ∷ (not (within_limits e), BadPatch)
     ∷ (not (was_given state e.after), BadAfter)
-    ∷ (is_fresh l.status && nat_lt 0 (length e.adds), Unattached)
     ∷ (not (list_all (may_add state fs) e.adds && distinct (blocks_of e.adds)), NotFresh)
+    ∷ (has_number (blocks_of e.adds) (chain_end state.lives b), Cycle)
     ∷ (not (list_all (may_drop state b) e.drops && distinct e.drops), NotOwned)
     ∷ (not (list_all (is_empty T state) e.drops), NotEmpty)
     ∷ (not (claims T l.ty (current l) (patched (current l) e.patches) e.adds e.drops && named_once T l.ty (patched (current l) e.patches)), ClaimWrong)

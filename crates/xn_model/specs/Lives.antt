@@ -3,7 +3,8 @@
 --     carried l            the pending states that the begun write carries
 --     newest l, current l  the last state; its bytes
 --     safe, prefix         which pending states may go to the disk
-use Rattle.std.specs.Prelude.{ℕ, suc, Bool, true, false, cond, not, ◌&&◌, ◌||◌, List, [], ◌∷◌, ◌++◌, take, drop, fold, Option, Some, None, is_some, is_none, unwrap_or, slice_get, slice_set, ◌==◌, option_to_list, option_map, min, flat_map, position}
+--     chain_end            where the owners of a block's owners end
+use Rattle.std.specs.Prelude.{ℕ, zero, suc, Bool, true, false, cond, not, ◌&&◌, ◌||◌, List, [], ◌∷◌, ◌++◌, length, take, drop, fold, Option, Some, None, is_some, is_none, unwrap_or, slice_get, slice_set, ◌==◌, option_to_list, option_map, min, flat_map, position}
 use Rattle.std.specs.List.{list_any, list_all, last_or}
 use Rattle.xn_model.specs.Lists.{blocks_of}
 pub use Rattle.xn_model.specs.declared.status.Status.{Status}
@@ -88,6 +89,27 @@ is_owned_by b (Dropped a) = false
 abbrev pub alive_and : (Life → Bool) → Option Life → Bool
 alive_and test None = false
 alive_and test (Some l) = test l
+
+-- Chains of owners
+
+-- the block that owns a block with this status
+abbrev pub owner_of : Status → Option ℕ
+owner_of Fresh = None
+owner_of (Owned a) = Some a
+owner_of (Dropped a) = None
+
+abbrev pub life_owner : Option Life → Option ℕ
+life_owner None = None
+life_owner (Some l) = owner_of l.status
+
+-- from owner to owner, up to a block that has none; so many steps at most
+abbrev pub climb : ℕ → Lives → ℕ → ℕ
+climb zero lives b = b
+climb (suc n) lives b = elim (life_owner (life_at lives b)) [ None ↦ b | Some a ↦ climb n lives a ]
+
+-- the block at which the chain of owners of block b ends: b itself where it has no owner; no chain has more blocks than there are
+abbrev pub chain_end : Lives → ℕ → ℕ
+chain_end lives b = climb (length lives) lives b
 
 -- What may go to the disk
 

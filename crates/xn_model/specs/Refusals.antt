@@ -1,7 +1,7 @@
 -- How a refusal is printed: its number and its name.
 use Rattle.std.specs.Prelude.{ℕ, List, codes}
 use Rattle.xn_model.specs.declared.refusal.Refusal.{Refusal}
-use Rattle.xn_model.specs.declared.refusal.Refusal.TheVariants.{NoMemory, NoSuchBlock, NotInUse, NotYours, BadPatch, BadAfter, NotFresh, NotOwned, NotEmpty, ClaimWrong, SizeWrong, Unattached, TooManyPending, NoSpace, BadType, InFlight, NotMine, Device, RootTaken, NothingSafe, Exhausted}
+use Rattle.xn_model.specs.declared.refusal.Refusal.TheVariants.{NoMemory, NoSuchBlock, NotInUse, NotYours, BadPatch, BadAfter, NotFresh, NotOwned, NotEmpty, ClaimWrong, SizeWrong, TooManyPending, NoSpace, BadType, InFlight, NotMine, Device, RootTaken, NothingSafe, Exhausted, Cycle}
 
 abbrev pub refusal_text : Refusal → List ℕ
 refusal_text NoMemory = codes "1 NoMemory"
@@ -15,7 +15,6 @@ refusal_text NotOwned = codes "8 NotOwned"
 refusal_text NotEmpty = codes "9 NotEmpty"
 refusal_text ClaimWrong = codes "10 ClaimWrong"
 refusal_text SizeWrong = codes "11 SizeWrong"
-refusal_text Unattached = codes "12 Unattached"
 refusal_text TooManyPending = codes "13 TooManyPending"
 refusal_text NoSpace = codes "14 NoSpace"
 refusal_text BadType = codes "15 BadType"
@@ -25,3 +24,4 @@ refusal_text Device = codes "18 Device"
 refusal_text RootTaken = codes "19 RootTaken"
 refusal_text NothingSafe = codes "20 NothingSafe"
 refusal_text Exhausted = codes "21 Exhausted"
+refusal_text Cycle = codes "22 Cycle"

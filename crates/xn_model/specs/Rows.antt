@@ -3,7 +3,7 @@ use Rattle.std.specs.Prelude.{ℕ, zero, suc, map, length, filter_map, flat_map,
 use Rattle.std.specs.Int.{w32, to_le_bytes}
 use Rattle.xn_model.specs.Types.{Types}
 use Rattle.xn_model.specs.Root.{owned_by_root, word_at, unless_empty}
-use Rattle.xn_model.specs.Results.{NothingSafe, NotYours, NotInUse, NoSuchBlock, RootTaken, ClaimWrong, NotOwned, BadAfter, TooManyPending}
+use Rattle.xn_model.specs.Results.{NothingSafe, NotYours, NotInUse, NoSuchBlock, RootTaken, ClaimWrong, NotOwned, BadAfter, TooManyPending, NotFresh, NotEmpty, Cycle}
 use Rattle.xn_model.specs.Calls.{Edit}
 use Rattle.xn_model.specs.BareDisks.{zeros}
 use Rattle.xn_model.specs.Worlds.{Event, Client, Begin, Land, Fail, Finish, Crash, Init, Propose, MakeRoot, DropRoot, Forget, Read, Floor, Pending, Drain, Reply, Started, Edited, Bytes, Begun, Landed, Finished, FloorIs, Refused, Mounted, Drained, Fault, Forgotten, PendingIs, NoTicket}
@@ -220,4 +220,57 @@ claimed_row =
     ∷ (edit 0 4 (patch 0 (5 ∷ 0 ∷ 0 ∷ 0 ∷ []) ((5, 4) ∷ []) [] None), Edited 5)
     ∷ (edit 0 4 (patch 0 (0 ∷ 0 ∷ 0 ∷ 0 ∷ 5 ∷ 0 ∷ 0 ∷ 0 ∷ []) [] [] None), Edited 6)
     ∷ (Client 0 (Read 4), Bytes (block (0 ∷ 0 ∷ 0 ∷ 0 ∷ 5 ∷ [])))
+    ∷ []
+
+-- A fresh block owns another and is attached with it
+
+abbrev pub attached_row : Row
+attached_row =
+    (start 0 3 [], Started 4 1)
+    ∷ (start 0 4 [], Started 5 2)
+    ∷ (edit 0 4 (patch 0 (5 ∷ 0 ∷ 0 ∷ 0 ∷ []) ((5, 4) ∷ []) [] None), Edited 3)
+    ∷ (Client 0 (Forget 4), Refused NotEmpty)
+    ∷ (Client 0 (MakeRoot 4), Edited 4)
+    ∷ (Begin 0, Refused NothingSafe)
+    ∷ (Begin 4, Begun 1)
+    ∷ (Land 4, Landed)
+    ∷ (Finish 4, Finished 1 0)
+    ∷ (Begin 0, Begun 1)
+    ∷ (Land 0, Landed)
+    ∷ (Finish 0, Finished 1 0)
+    ∷ (Crash, Mounted 5 27)
+    ∷ (Client 0 (Read 4), Bytes (block []))
+    ∷ []
+
+-- A template of blocks that name one more of their kind
+
+abbrev pub chain_owned : ℕ → List ℕ → List (ℕ × ℕ)
+chain_owned t m =
+    elim (t == 0) [
+      | true ↦ owned_by_root m
+      | false ↦ elim (t == 3) [ true ↦ words_from 0 1 m 3 | false ↦ [] ]
+    ]
+
+abbrev pub chain : Types
+chain = record {
+  installed = λ t. nat_lt t 4;
+  owned = chain_owned;
+  size = λ t m. cond (t == 0) 328 (cond (t == 3) 4 512);
+  template = λ m. true;
+}
+
+-- the template in block 1
+abbrev pub chain_disk : ℕ → List (List ℕ)
+chain_disk count =
+    ((88 ∷ 78 ∷ 57 ∷ 55 ∷ []) ++ (to_le_bytes w32 count ++ (to_le_bytes w32 1 ++ zeros 500))) ∷ replicate (count - 1) (zeros 512)
+
+-- no chain of owners comes back to where it was
+abbrev pub cycle_row : Row
+cycle_row =
+    (start 0 3 [], Started 2 1)
+    ∷ (start 0 3 [], Started 3 2)
+    ∷ (edit 0 2 (patch 0 (2 ∷ 0 ∷ 0 ∷ 0 ∷ []) ((2, 3) ∷ []) [] None), Refused Cycle)
+    ∷ (edit 0 2 (patch 0 (3 ∷ 0 ∷ 0 ∷ 0 ∷ []) ((3, 3) ∷ []) [] None), Edited 3)
+    ∷ (edit 0 3 (patch 0 (2 ∷ 0 ∷ 0 ∷ 0 ∷ []) ((2, 3) ∷ []) [] None), Refused Cycle)
+    ∷ (edit 0 3 (patch 0 (3 ∷ 0 ∷ 0 ∷ 0 ∷ []) ((3, 3) ∷ []) [] None), Refused NotFresh)
     ∷ []

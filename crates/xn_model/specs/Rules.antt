@@ -3,12 +3,12 @@
 --     ArePlaced content lives        of what is read of a disk, against the lives
 --     Holds w                        both, of a world
 --     Agrees T count content lives   each reached block of these contents holds a state of its life, and has one owner
-use Rattle.std.specs.Prelude.{◌≡◌, ℕ, ◌<◌, ◌≤◌, ◌≢◌, List, [], ◌∷◌, ◌++◌, length, Option, Some, None, Contains, IsTrue, ◌⊎◌, ⊤, option_to_list}
+use Rattle.std.specs.Prelude.{◌≡◌, ℕ, ◌<◌, ◌≤◌, ◌≢◌, List, [], ◌∷◌, ◌++◌, length, Option, Some, None, Contains, IsTrue, ◌⊎◌, ⊤, option_to_list, false}
 use Rattle.std.specs.List.{last_or}
 use Rattle.xn_model.specs.Types.{Types, fits}
 use Rattle.xn_model.specs.Root.{HasBuiltIns, header, marked, slot, templates_of}
 use Rattle.xn_model.specs.Images.{block_of, Reach, HasOneOwner, IsDiskSize}
-use Rattle.xn_model.specs.Lives.{BlockState, Status, Fresh, Owned, Dropped, Life, Lives, StoreState, life_at, states, carried, newest}
+use Rattle.xn_model.specs.Lives.{BlockState, Status, Fresh, Owned, Dropped, Life, Lives, StoreState, life_at, states, carried, newest, is_dropped, chain_end}
 use Rattle.xn_model.specs.Worlds.{World}
 
 -- The image against the lives
@@ -84,6 +84,12 @@ pub record IsOwnedBy (lives : Lives) (b c : ℕ) : Type 0 where
   pub life : Life
   pub alive : life_at lives c ≡ Some life
   pub status : life.status ≡ Owned b
+
+-- Block c is alive, and never had an owner.
+pub record IsFreshBlock (lives : Lives) (c : ℕ) : Type 0 where
+  pub life : Life
+  pub alive : life_at lives c ≡ Some life
+  pub status : life.status ≡ Fresh
 
 -- Block c is alive with nothing pending.
 pub record IsAtRest (lives : Lives) (c : ℕ) : Type 0 where
@@ -251,6 +257,10 @@ pub record HasExactStatuses (T : Types) (lives : Lives) : Type 0 where
   -- the newest state of a dropped block names nothing
   pub emptied : (b : ℕ) (l : Life) (a : ℕ) (p : ℕ × ℕ) → life_at lives b ≡ Some l → l.status ≡ Dropped a → NamedIn T l.ty (newest l) p → ⊥
 
+-- The chain of owners of each block that is not dropped ends at a fresh block. Block 0 is one.
+abbrev pub ChainsEnd : Lives → Type 0
+ChainsEnd lives = (b : ℕ) (l : Life) → life_at lives b ≡ Some l → is_dropped l.status ≡ false → IsFreshBlock lives (chain_end lives b)
+
 -- All of it, of a state.
 pub record IsConsistent (T : Types) (state : StoreState) : Type 0 where
   -- the types have the built-in ones among them
@@ -267,6 +277,8 @@ pub record IsConsistent (T : Types) (state : StoreState) : Type 0 where
   pub order : AreOrdered state.lives
   -- what the statuses say
   pub statuses : HasExactStatuses T state.lives
+  -- owners of owners end
+  pub chains : ChainsEnd state.lives
   -- each entry number is below the next one
   pub numbers : (b : ℕ) (l : Life) (s : BlockState) → life_at state.lives b ≡ Some l → Contains (states l) s → s.entry < state.next
 

@@ -14,7 +14,7 @@ ghost use Rattle.xn_model.specs.Lanes.{FitLives, HoldImage};
 ghost use Rattle.xn_model.specs.Flights.{flight_of, HaveSameFlights, HaveSameFlightsBut};
 ghost use Rattle.xn_model.specs.BareDisks.{built_ins, bare_disk, mounted_disk};
 ghost use Rattle.xn_model.specs.Rules.{IsConsistent, Keeps, Holds, IsIdle, IsPlaced, ArePlaced, Agrees};
-ghost use Rattle.xn_model.specs.Rows.{sent, answered, library, library_disk, first_row, dropped_row, landed_row, lost_row, failed_new_row, failed_old_row, many_row, refused_row, after_row, drained_row, rolled_back_row, claimed_row};
+ghost use Rattle.xn_model.specs.Rows.{sent, answered, library, library_disk, first_row, dropped_row, landed_row, lost_row, failed_new_row, failed_old_row, many_row, refused_row, after_row, drained_row, rolled_back_row, claimed_row, attached_row, chain, chain_disk, cycle_row};
 
 mod refusal;
 mod status;
@@ -221,4 +221,6 @@ pub fn rows()
     ensures drained { replies (mounted_disk built_ins (bare_disk 32)) (sent drained_row) ≡ answered drained_row }
     ensures rolled_back { replies (mounted_disk library (library_disk 32)) (sent rolled_back_row) ≡ answered rolled_back_row }
     ensures claimed { replies (mounted_disk library (library_disk 32)) (sent claimed_row) ≡ answered claimed_row }
+    ensures attached { replies (mounted_disk library (library_disk 32)) (sent attached_row) ≡ answered attached_row }
+    ensures cycle { replies (mounted_disk chain (chain_disk 32)) (sent cycle_row) ≡ answered cycle_row }
 {}

@@ -28,8 +28,6 @@ pub enum Refusal {
     ClaimWrong,
     /// A byte at or past the size isn't zero.
     SizeWrong,
-    /// An edit with adds on a fresh block.
-    Unattached,
     /// 64 pending entries in the block, or 4,096 in the file system.
     TooManyPending,
     /// No block is free.
@@ -49,6 +47,9 @@ pub enum Refusal {
     NothingSafe,
     /// No entry number is left.
     Exhausted,
+    /// A block to be attached is the one at which the edited block's chain of owners ends; of a fresh block that is the
+    /// block itself.
+    Cycle,
 }
 
 impl Refusal {
@@ -71,7 +72,6 @@ impl Refusal {
             Refusal::NotEmpty => "9 NotEmpty",
             Refusal::ClaimWrong => "10 ClaimWrong",
             Refusal::SizeWrong => "11 SizeWrong",
-            Refusal::Unattached => "12 Unattached",
             Refusal::TooManyPending => "13 TooManyPending",
             Refusal::NoSpace => "14 NoSpace",
             Refusal::BadType => "15 BadType",
@@ -81,6 +81,7 @@ impl Refusal {
             Refusal::RootTaken => "19 RootTaken",
             Refusal::NothingSafe => "20 NothingSafe",
             Refusal::Exhausted => "21 Exhausted",
+            Refusal::Cycle => "22 Cycle",
         }
     }
 }

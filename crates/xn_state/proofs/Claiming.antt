@@ -1,16 +1,16 @@
 -- What edits may claim, by the tests that they passed, and the claims of an edit, read off the statuses.
 use Rattle.std.proofs.Common.{◌≡◌, ℕ, ◌<◌, Bool, true, false, not, ◌&&◌, List, [], ◌∷◌, length, Option, Some, None, Ok, refl, sym, ◌∙◌, ap, arith, inl, inr, subst}
-use Rattle.std.specs.Prelude.{Contains, is_some, nat_lt, option_map, ◌==◌}
+use Rattle.std.specs.Prelude.{Contains, is_some, option_map, ◌==◌}
 use Rattle.std.specs.List.{list_all}
 use Rattle.std.proofs.lemmas.Bool.{and_parts, eqb-false, ne_eqb, not-false}
 use Rattle.std.proofs.lemmas.Option.{same_Some}
 use Rattle.std.proofs.lemmas.List.Elements.{Contains-append_right}
 use Rattle.xn_model.specs.declared.refusal.Refusal.{Refusal}
-use Rattle.xn_model.specs.declared.refusal.Refusal.TheVariants.{BadPatch, BadAfter, NotFresh, NotOwned, NotEmpty, ClaimWrong, SizeWrong, Unattached, TooManyPending, Exhausted, RootTaken, InFlight}
-use Rattle.xn_model.specs.Lists.{blocks_of, distinct}
+use Rattle.xn_model.specs.declared.refusal.Refusal.TheVariants.{BadPatch, BadAfter, NotFresh, NotOwned, NotEmpty, ClaimWrong, SizeWrong, TooManyPending, Exhausted, Cycle, RootTaken, InFlight}
+use Rattle.xn_model.specs.Lists.{blocks_of, distinct, has_number}
 use Rattle.xn_model.specs.Types.{Types, claims, named_once, within_size}
 use Rattle.xn_model.specs.Root.{owned_by_root, templates_of, roots_of, with_slot}
-use Rattle.xn_model.specs.Lives.{Life, StoreState, life_at, alive_and, current, is_for, is_fresh, is_owned_by}
+use Rattle.xn_model.specs.Lives.{Life, StoreState, life_at, alive_and, chain_end, current, is_for, is_fresh, is_owned_by}
 use Rattle.xn_model.specs.Results.{first_refusal, unless, result_map, result_and_then}
 use Rattle.xn_model.specs.Calls.{Edit, own_life, too_many, exhausted, within_limits, was_given, may_add, may_drop, is_empty, is_untouched, owns_nothing, patched, life_bytes, life_pending, root_now, slot_now, edit_tests}
 use Rattle.xn_model.specs.Rules.{IsConsistent}
@@ -52,7 +52,7 @@ edit_claims T state fs b e bytes made =
     let tests = unless_ok (edit_tests T state fs b e l) (Ok m) bytes own.2 in
     let t = tests.0 in
     may_claim state fs b e.adds e.drops
-    (not-false (list_all (may_add state fs) e.adds && distinct (blocks_of e.adds)) t.1.1.1.1.1.0)
+    (not-false (list_all (may_add state fs) e.adds && distinct (blocks_of e.adds)) t.1.1.1.1.0)
     (not-false (list_all (may_drop state b) e.drops && distinct e.drops) t.1.1.1.1.1.1.0)
 
 -- Roots
@@ -149,15 +149,15 @@ rows a b c d e f g h claim size =
     ∷ (b, Exhausted)
     ∷ (c, BadPatch)
     ∷ (d, BadAfter)
-    ∷ (e, Unattached)
-    ∷ (f, NotFresh)
+    ∷ (e, NotFresh)
+    ∷ (f, Cycle)
     ∷ (g, NotOwned)
     ∷ (h, NotEmpty)
     ∷ (claim, ClaimWrong)
     ∷ (size, SizeWrong)
     ∷ []
 
-same_rows : (a b c d e f g h x y size : Bool) → (f ≡ false → g ≡ false → x ≡ y) → first_refusal (rows a b c d e f g h x size) ≡ first_refusal (rows a b c d e f g h y size)
+same_rows : (a b c d e f g h x y size : Bool) → (e ≡ false → g ≡ false → x ≡ y) → first_refusal (rows a b c d e f g h x size) ≡ first_refusal (rows a b c d e f g h y size)
 same_rows true b c d e f g h x y size same = refl
 same_rows false true c d e f g h x y size same = refl
 same_rows false false true d e f g h x y size same = refl
@@ -184,8 +184,8 @@ edited_is : (T : Types) (state : StoreState) (fs b : ℕ) (e : Edit) (l : Life) 
 edited_is T state fs b e l h alive =
     let m = patched (current l) e.patches in
     ap (λ r. unless r (Ok m))
-    (same_rows (too_many state fs (length l.pending)) (exhausted state) (not (within_limits e)) (not (was_given state e.after)) (is_fresh l.status && nat_lt 0 (length e.adds))
-    (not (list_all (may_add state fs) e.adds && distinct (blocks_of e.adds))) (not (list_all (may_drop state b) e.drops && distinct e.drops)) (not (list_all (is_empty T state) e.drops))
+    (same_rows (too_many state fs (length l.pending)) (exhausted state) (not (within_limits e)) (not (was_given state e.after)) (not (list_all (may_add state fs) e.adds && distinct (blocks_of e.adds)))
+    (has_number (blocks_of e.adds) (chain_end state.lives b)) (not (list_all (may_drop state b) e.drops && distinct e.drops)) (not (list_all (is_empty T state) e.drops))
     (not (is_claimed state.lives b (owned_count state.lives b) (T.owned l.ty m) e.adds e.drops && named_once T l.ty m))
     (not (claims T l.ty (current l) m e.adds e.drops && named_once T l.ty m)) (not (within_size T l.ty m))
     (λ added dropped. ap not (claim_is T state fs b e l h alive added dropped)))

@@ -1,12 +1,12 @@
 -- What an edit and the end of a root slot decide before they change anything.
-use Rattle.std.specs.Prelude.{ℕ, Bool, not, ◌&&◌, nat_lt, List, [], ◌∷◌, length, Option, Some, Result, Ok}
+use Rattle.std.specs.Prelude.{ℕ, Bool, not, ◌&&◌, List, [], ◌∷◌, Option, Some, Result, Ok}
 use Rattle.std.specs.List.{list_all}
-use Rattle.xn_model.specs.Lists.{blocks_of, distinct}
+use Rattle.xn_model.specs.Lists.{blocks_of, distinct, has_number}
 use Rattle.xn_model.specs.Types.{Types, named_once, within_size}
 use Rattle.xn_model.specs.Root.{with_slot}
-use Rattle.xn_model.specs.Lives.{BlockState, Life, StoreState, current, is_fresh}
+use Rattle.xn_model.specs.Lives.{BlockState, Life, StoreState, chain_end, current}
 use Rattle.xn_model.specs.declared.refusal.Refusal.{Refusal}
-use Rattle.xn_model.specs.declared.refusal.Refusal.TheVariants.{BadPatch, BadAfter, NotFresh, NotOwned, NotEmpty, ClaimWrong, SizeWrong, Unattached, TooManyPending, Exhausted}
+use Rattle.xn_model.specs.declared.refusal.Refusal.TheVariants.{BadPatch, BadAfter, NotFresh, NotOwned, NotEmpty, ClaimWrong, SizeWrong, TooManyPending, Exhausted, Cycle}
 use Rattle.xn_model.specs.Results.{first_refusal, unless, result_and_then}
 use Rattle.owner_records.specs.Owners.{is_claimed, owned_count}
 use Rattle.block_cache.specs.declared.life.Facts.{Facts}
@@ -20,8 +20,8 @@ propose_tests T state fs b e facts old =
     ∷ (exhausted state, Exhausted)
     ∷ (not (within_limits e), BadPatch)
     ∷ (not (was_given state e.after), BadAfter)
-    ∷ (is_fresh facts.status && nat_lt 0 (length e.adds), Unattached)
     ∷ (not (list_all (may_add state fs) e.adds && distinct (blocks_of e.adds)), NotFresh)
+    ∷ (has_number (blocks_of e.adds) (chain_end state.lives b), Cycle)
     ∷ (not (list_all (may_drop state b) e.drops && distinct e.drops), NotOwned)
     ∷ (not (list_all (is_empty T state) e.drops), NotEmpty)
     ∷ (not (is_claimed state.lives b (owned_count state.lives b) (T.owned facts.ty (patched old e.patches)) e.adds e.drops && named_once T facts.ty (patched old e.patches)), ClaimWrong)

@@ -3,7 +3,7 @@
 ghost use Rattle.std.specs.Prelude.{◌≡◌, ℕ, ◌^◌, ◌<◌, ◌≤◌, ◌&&◌, ◌==◌, All, false, length, map, Option, Some, None, IfOk, IsTrue, OnOk, OnErr, is_some, is_none, count_by, option_map, position, slice_get, slice_set, sum_by};
 ghost use Rattle.std.specs.Option.{option_copied};
 ghost use Rattle.xn_model.specs.Lists.{distinct};
-ghost use Rattle.xn_model.specs.Lives.{accepted_at, alive_and, current, dropped_after, entries_of, is_for, least_to, life_at, lowest_free, owned_after};
+ghost use Rattle.xn_model.specs.Lives.{accepted_at, alive_and, chain_end, current, dropped_after, entries_of, is_for, least_to, life_at, lowest_free, owned_after};
 ghost use Rattle.xn_model.specs.Results.{result_map};
 ghost use Rattle.xn_model.specs.Calls.{is_ready, is_tainted, life_bytes, life_pending, new_life, own_place, patched, pending_in};
 ghost use Rattle.xn_model.specs.Images.{blocks_in};
@@ -206,6 +206,13 @@ impl Lives {
         ensures { result ≡ (is_some (life_at self.now block) && (owned_count self.now block == 0)) }
     {
         self.cache.facts(block).is_some() && self.owned.count(block) == 0
+    }
+
+    /// The block at which the chain of owners of a block ends: the block itself, if it has no owner.
+    pub fn chain_end(&self, block: u32) -> u32
+        ensures { result ≡ chain_end self.now block }
+    {
+        claims::chain_end(&self.cache, block)
     }
 
     /// Whether these pairs are those that a block owns without the drops and with the adds, by the statuses.

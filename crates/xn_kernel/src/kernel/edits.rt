@@ -15,11 +15,12 @@ impl<L: Lane> Kernel<L> {
     /// change exactly as the edit claims. Refused are, in this order, a block past the end of the disk (`NoSuchBlock`), a
     /// free or dropped one (`NotInUse`), one of another file system or of nobody (`NotYours`); too many pending entries
     /// (`TooManyPending`); no number left (`Exhausted`); an edit past the limits (`BadPatch`); an entry to come after that
-    /// was never given (`BadAfter`); adds on a block that no owner names (`Unattached`); an added block that is not fresh,
-    /// of that type and file system, or is named twice (`NotFresh`); a dropped block that this one does not own, or that is
-    /// named twice (`NotOwned`), or that points to others (`NotEmpty`); a change of what the block points to that is not
-    /// as claimed, or points somewhere twice (`ClaimWrong`); a byte past the size that is not zero (`SizeWrong`); last
-    /// `NoMemory`. A refusal changes nothing and uses no number.
+    /// was never given (`BadAfter`); an added block that is not fresh, of that type and file system, or is named twice
+    /// (`NotFresh`); one that is the block itself, or the fresh block at which its chain of owners ends (`Cycle`); a dropped
+    /// block that this one does not own, or that is named twice (`NotOwned`), or that points to others (`NotEmpty`); a change
+    /// of what the block points to that is not as claimed, or points somewhere twice (`ClaimWrong`); a byte past the size
+    /// that is not zero (`SizeWrong`); last `NoMemory`. A refusal changes nothing and uses no number. An added block may own
+    /// others, and comes with them.
     pub fn propose(&mut self, fs: Fs, block: u32, edit: &Edit) -> Result<EditId, Refusal>
         ensures state { Gives (propose_of (types_in self.old.state) self.old.state.store fs.number block edit.now) self.old.state.store self.new.state.store result }
         ensures rest { self.new ≡ record self.old { state = record self.old.state { store = self.new.state.store } } }

@@ -2,9 +2,9 @@
 
 ghost use Rattle.std.specs.Prelude.{◌≡◌, ◌<◌, ◌≤◌, ◌&&◌, ◌^◌, ◌-◌, length, is_some, IsTrue, IfErr, IfOk, IfSome, OnOk, Some};
 ghost use Rattle.std.specs.List.{list_all};
-ghost use Rattle.xn_model.specs.Lists.{blocks_of, distinct};
+ghost use Rattle.xn_model.specs.Lists.{blocks_of, distinct, has_number};
 ghost use Rattle.xn_model.specs.Types.{named_once};
-ghost use Rattle.xn_model.specs.Lives.{Life, current, life_at};
+ghost use Rattle.xn_model.specs.Lives.{Life, chain_end, current, life_at};
 ghost use Rattle.xn_model.specs.Results.{Gives, result_map};
 ghost use Rattle.xn_model.specs.Calls.{is_empty, life_bytes, life_pending, may_add, may_drop, patched, pending_of, propose_of, was_given, within_limits};
 ghost use Rattle.xn_model.specs.Rules.{IsConsistent};
@@ -17,7 +17,7 @@ ghost use Rattle.xn_state.specs.States.{types_in};
 use crate::state::accept::Claims;
 use crate::state::{State, is_within_size};
 use block_cache::Facts;
-use claims::{are_blocks_distinct, are_distinct, leaves, owned_pairs};
+use claims::{are_blocks_distinct, are_distinct, leaves, names, owned_pairs};
 use edit_list::{Edit, EditId, Fs, Undo};
 use udf_run::ReadSet;
 use xn_model::Refusal;
@@ -73,6 +73,13 @@ impl State {
         ensures { result ≡ (list_all (may_add self.now.store fs.number) adds.now && distinct (blocks_of adds.now)) }
     {
         self.may_add_each(fs, adds) && are_blocks_distinct(adds)
+    }
+
+    /// Whether one of these blocks is the one at which a block's chain of owners ends.
+    fn closes_cycle(&self, block: u32, adds: &[(u32, u32)]) -> bool
+        ensures { result ≡ has_number (blocks_of adds.now) (chain_end self.now.store.lives block) }
+    {
+        !adds.is_empty() && names(adds, self.lives.chain_end(block))
     }
 
     /// Whether each of these blocks may be dropped.
@@ -170,11 +177,11 @@ impl State {
         if !self.was_given(edit.after()) {
             return Err(Refusal::BadAfter);
         }
-        if facts.is_fresh() && !edit.adds().is_empty() {
-            return Err(Refusal::Unattached);
-        }
         if !self.may_add_all(fs, edit.adds()) {
             return Err(Refusal::NotFresh);
+        }
+        if self.closes_cycle(block, edit.adds()) {
+            return Err(Refusal::Cycle);
         }
         if !self.may_drop_all(block, edit.drops()) {
             return Err(Refusal::NotOwned);
@@ -238,11 +245,12 @@ impl State {
     /// change exactly as the edit claims. Refused are, in this order, a block past the end of the disk (`NoSuchBlock`), a
     /// free or dropped one (`NotInUse`), one of another file system or of nobody (`NotYours`); too many pending entries
     /// (`TooManyPending`); no number left (`Exhausted`); an edit past the limits (`BadPatch`); an entry to come after that
-    /// was never given (`BadAfter`); adds on a block that no owner names (`Unattached`); an added block that is not fresh,
-    /// of that type and file system, or is named twice (`NotFresh`); a dropped block that this one does not own, or that is
-    /// named twice (`NotOwned`), or that points to others (`NotEmpty`); a change of what the block points to that is not
-    /// as claimed, or points somewhere twice (`ClaimWrong`); a byte past the size that is not zero (`SizeWrong`); last
-    /// `NoMemory`. A refusal changes nothing and uses no number.
+    /// was never given (`BadAfter`); an added block that is not fresh, of that type and file system, or is named twice
+    /// (`NotFresh`); one that is the block itself, or the fresh block at which its chain of owners ends (`Cycle`); a dropped
+    /// block that this one does not own, or that is named twice (`NotOwned`), or that points to others (`NotEmpty`); a change
+    /// of what the block points to that is not as claimed, or points somewhere twice (`ClaimWrong`); a byte past the size
+    /// that is not zero (`SizeWrong`); last `NoMemory`. A refusal changes nothing and uses no number. An added block may own
+    /// others, and comes with them.
     pub fn propose(&mut self, fs: Fs, block: u32, edit: &Edit) -> Result<EditId, Refusal>
         ensures state { Gives (propose_of (types_in self.old) self.old.store fs.number block edit.now) self.old.store self.new.store result }
         ensures table { self.new.table ≡ self.old.table }

@@ -48,10 +48,10 @@ impl State {
         Ok((with_root_slot(root, fs.index(), Pair { block, ty }), ty))
     }
 
-    /// Sets the file system's root slot, in block 0, to a fresh block. Refused are, in this order, a block past the end of the
-    /// disk (`NoSuchBlock`), a free or dropped one (`NotInUse`), one of another file system or of nobody (`NotYours`); a slot
-    /// that is not empty (`RootTaken`), a block that has had an owner (`NotFresh`), too many pending entries
-    /// (`TooManyPending`), no number left (`Exhausted`), last `NoMemory`. A refusal changes nothing.
+    /// Sets the file system's root slot, in block 0, to a fresh block, which comes with all that it owns. Refused are, in this
+    /// order, a block past the end of the disk (`NoSuchBlock`), a free or dropped one (`NotInUse`), one of another file system or
+    /// of nobody (`NotYours`); a slot that is not empty (`RootTaken`), a block that has had an owner (`NotFresh`), too many
+    /// pending entries (`TooManyPending`), no number left (`Exhausted`), last `NoMemory`. A refusal changes nothing.
     pub fn make_root(&mut self, fs: Fs, block: u32) -> Result<EditId, Refusal>
         ensures state { Gives (make_root_of self.old.store fs.number block) self.old.store self.new.store result }
         ensures table { self.new.table ≡ self.old.table }
