@@ -1,10 +1,4 @@
-pub mod Decimals
-pub mod HexBytes
 pub mod ScriptLines
-pub mod EditWords
-pub mod WordLists
-pub mod EditCuts
 pub mod EventWords
 pub mod ToldLines
-pub mod PrintedBytes
 pub mod ForCallers

@@ -1,8 +1,8 @@
 -- What a line tells is an event.
 use Rattle.std.proofs.Common.{◌≡◌, ℕ, Bool, true, false, MatchBool, List, refl}
 use Rattle.xn_state.specs.declared.call.Call.TheVariants.{Init, Propose, MakeRoot, DropRoot, Forget, Read, Pending, Floor, Pick, Drain}
-use Rattle.world.specs.declared.event.Event.{Event}
-use Rattle.world.specs.declared.event.Event.TheVariants as event
+use Rattle.events.specs.declared.event.Event.{Event}
+use Rattle.events.specs.declared.event.Event.TheVariants as event
 use Rattle.script.specs.declared.told.LineEvent.{LineEvent}
 use Rattle.script.specs.declared.told.LineEvent.TheVariants as line
 use Rattle.script.specs.Events.{Spells}

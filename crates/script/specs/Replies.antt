@@ -5,9 +5,9 @@ use Rattle.xn_model.specs.declared.refusal.Refusal.{Refusal}
 use Rattle.xn_model.specs.Refusals.{refusal_text}
 use Rattle.xn_state.specs.declared.answer.Answer.{Answer}
 use Rattle.xn_state.specs.declared.answer.Answer.TheVariants as answer
-use Rattle.world.specs.declared.reply.Reply.{Reply}
-use Rattle.world.specs.declared.reply.Reply.TheVariants as reply
-use Rattle.script.specs.Bytes.{bytes_text}
+use Rattle.events.specs.declared.reply.Reply.{Reply}
+use Rattle.events.specs.declared.reply.Reply.TheVariants as reply
+use Rattle.script_words.specs.Bytes.{bytes_text}
 
 -- a block, or that there is none
 abbrev pub block_text : Option ℕ → List ℕ

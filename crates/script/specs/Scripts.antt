@@ -1,9 +1,9 @@
 -- The text of a script.
 use Rattle.std.specs.Prelude.{◌≡◌, ◌<◌, ◌⊎◌, ⊤, ℕ, ◌+◌, ◌==◌, Bool, true, false, not, List, [], ◌∷◌, length, filter, Option, Some, None}
 use Rattle.std.specs.List.{AllZip, slice_split, slice_index_or}
-use Rattle.world.specs.declared.event.Event.{Event}
-use Rattle.script.specs.declared.script.ScriptFault.{ScriptFault}
-use Rattle.script.specs.declared.script.ScriptFault.TheVariants.{Unreadable, NoMemory}
+use Rattle.events.specs.declared.event.Event.{Event}
+use Rattle.script_words.specs.declared.fault.ScriptFault.{ScriptFault}
+use Rattle.script_words.specs.declared.fault.ScriptFault.TheVariants.{Unreadable, NoMemory}
 use Rattle.script.specs.Events.{Spells, SpellNothing}
 
 -- the lines of a text, which is split at each newline

@@ -1,10 +1,10 @@
 -- Events as lines tell them.
 use Rattle.std.specs.Prelude.{ℕ, List}
 use Rattle.xn_state.specs.declared.call.Call.TheVariants.{Init, Propose, MakeRoot, DropRoot, Forget, Read, Pending, Floor, Pick, Drain}
-use Rattle.world.specs.declared.event.Event.TheVariants as event
+use Rattle.events.specs.declared.event.Event.TheVariants as event
 use Rattle.script.specs.declared.told.LineEvent.{LineEvent}
 use Rattle.script.specs.declared.told.LineEvent.TheVariants as line
-use Rattle.script.specs.Hex.{IsBlockText, SpellsBlock}
+use Rattle.script_words.specs.Hex.{IsBlockText, SpellsBlock}
 use Rattle.script.specs.Events.{Spells, SpellNothing}
 
 -- The words tell this: they spell its event. Of a fresh block they do where the text spells its bytes; where it spells none, they spell nothing.

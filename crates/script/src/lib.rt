@@ -2,16 +2,10 @@
 //! printed as a line.
 #![tactic(auto)]
 
-mod bytes;
-mod change;
-mod edit;
-mod hex;
-mod number;
 mod print;
 mod script;
 mod told;
 
-pub use hex::parse_block;
-pub use number::parse_number;
 pub use print::print_reply;
-pub use script::{ScriptFault, parse, parse_line};
+pub use script::{parse, parse_line};
+pub use script_words::{ScriptFault, parse_block, parse_number};

@@ -5,10 +5,10 @@ ghost use Rattle.std.specs.Io.KnownBytes.{Appends};
 ghost use Rattle.xn_model.specs.Refusals.{refusal_text};
 ghost use Rattle.script.specs.Replies.{answer_text, block_text, edit_text, reply_line, reply_text, result_text};
 
-use crate::bytes::print_bytes;
+use events::Reply;
+use script_words::print_bytes;
 use std::io;
 use std::io::Write;
-use world::Reply;
 use xn_model::Refusal;
 use xn_state::{Answer, EditId};
 

@@ -3,46 +3,14 @@ ghost use Rattle.std.specs.Fmt.{decimal};
 ghost use Rattle.std.specs.List.{slice_split};
 ghost use Rattle.script.specs.Events.{Spells, SpellNothing};
 ghost use Rattle.script.specs.Told.{Tells};
-ghost use Rattle.world.specs.declared.event.Event.{Event};
+ghost use Rattle.events.specs.declared.event.Event.{Event};
 ghost use Rattle.script.specs.Scripts.{event_lines, is_passed_over, words_in, words_of, IsScriptFault, LineSpells, SpellEvents, SpellsSome};
 
-use crate::edit::parse_edit;
-use crate::hex::parse_block;
-use crate::number::{parse_number, parse_u32};
 use crate::told::LineEvent;
-use std::alloc::{AllocError, AllocFailed, Global};
-use world::Event;
+use events::Event;
+use script_words::{ScriptFault, parse_block, parse_edit, parse_number, parse_u32};
+use std::alloc::{AllocError, Global};
 use xn_state::{Call, Fs};
-
-/// Why a script isn't one.
-#[derive(Clone, Copy, Debug, PartialEq, Eq)]
-pub enum ScriptFault {
-    /// The first line that is no event. Lines count from 1, also those that are passed over.
-    Unreadable { line: u64 },
-    NoMemory,
-}
-
-impl From<AllocError> for ScriptFault {
-    ghost use Rattle.std.specs.Prelude.{◌≡◌};
-    ghost use Rattle.script.specs.declared.script.ScriptFault.TheVariants.{NoMemory};
-
-    ghost from_gives = { λ _ fault. fault ≡ NoMemory };
-
-    fn from(_error: AllocError) -> ScriptFault {
-        ScriptFault::NoMemory
-    }
-}
-
-impl<T: Drop> From<AllocFailed<T>> for ScriptFault {
-    ghost use Rattle.std.specs.Prelude.{◌≡◌};
-    ghost use Rattle.script.specs.declared.script.ScriptFault.TheVariants.{NoMemory};
-
-    ghost from_gives = { λ _ fault. fault ≡ NoMemory };
-
-    fn from(_error: AllocFailed<T>) -> ScriptFault {
-        ScriptFault::NoMemory
-    }
-}
 
 /// The file system that a word names.
 fn parse_fs(word: &str) -> Option<Fs>

@@ -14,9 +14,9 @@ use Rattle.ffs_model.specs.Events.{IsForeign}
 use Rattle.ffs_model.specs.Library.{library_layout, IsLibrary}
 use Rattle.ffs_model.proofs.ForCallers.{begun_next, crash_keeps, cuts_same, event_cuts, forget_cuts, forgot_next, init_cuts, library_reads, make_root_cuts, none_later, one_later, propose_cuts, proposed_next, rooted_next, volume_from}
 use Rattle.ffs_lib.specs.declared.volume.Volume.{Volume}
-use Rattle.world.specs.declared.event.Event as world_event
-use Rattle.world.specs.declared.event.Event.TheVariants as event
-use Rattle.world.specs.Events.{event_of}
+use Rattle.events.specs.declared.event.Event as world_event
+use Rattle.events.specs.declared.event.Event.TheVariants as event
+use Rattle.events.specs.Events.{event_of}
 use Rattle.volume_pair.specs.Kept.{IsDevice, IsKept, Recovers, Stays, array_of}
 
 pub if_some : {A : Type 0} (P Q : A → Type 0) (o : Option A) → ((x : A) → o ≡ Some x → P x → Q x) → IfSome o P → IfSome o Q

@@ -9,9 +9,9 @@ use Rattle.xn_model.specs.Worlds.{World, Down, mounted, mounted_state, mount_rep
 use Rattle.xn_model.specs.Rules.{Holds}
 use Rattle.xn_model.proofs.ForCallers.{recovered_is, world_sound}
 use Rattle.crash_check.specs.Answers.{types_in}
-use Rattle.world.specs.declared.event.Event.{Event}
-use Rattle.world.specs.declared.event.Event.TheVariants as event
-use Rattle.world.specs.Events.{event_of}
+use Rattle.events.specs.declared.event.Event.{Event}
+use Rattle.events.specs.declared.event.Event.TheVariants as event
+use Rattle.events.specs.Events.{event_of}
 use Rattle.world.specs.Worlds.{WorldValue, world_with, world_value, mounted_value, down_value, HasOwnTypes, IsSoundDisk, IsWorldOf}
 use Rattle.world.proofs.Mounting.{mounted_holds}
 

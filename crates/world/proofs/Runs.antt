@@ -7,9 +7,9 @@ use Rattle.xn_model.specs.Worlds.{Run, Step}
 use Rattle.templates.specs.Tables.{types_of}
 use Rattle.xn_model.specs.Rules.{Holds, Agrees}
 use Rattle.xn_model.proofs.ForCallers.{agreement, world_sound}
-use Rattle.world.specs.declared.event.Event.{Event}
-use Rattle.world.specs.declared.reply.Reply.{Reply}
-use Rattle.world.specs.Events.{event_of, reply_of}
+use Rattle.events.specs.declared.event.Event.{Event}
+use Rattle.events.specs.declared.reply.Reply.{Reply}
+use Rattle.events.specs.Events.{event_of, reply_of}
 use Rattle.world.specs.Worlds.{WorldValue, world_with}
 
 run_more : (w : model.World) (es : List model.Event) (rs : List model.Reply) (mid : model.World) (e : model.Event) (r : model.Reply) (after : model.World) →

@@ -17,9 +17,9 @@ use Rattle.templates.specs.Tables.{types_of}
 use Rattle.templates.specs.Formats.{formatted, table_of}
 use Rattle.templates.proofs.ForCallers.{mount_recovers, formatted_holds}
 use Rattle.crash_check.specs.Answers.{types_in}
-use Rattle.world.specs.declared.event.Event.{Event}
-use Rattle.world.specs.declared.event.Event.TheVariants as event
-use Rattle.world.specs.Events.{event_of}
+use Rattle.events.specs.declared.event.Event.{Event}
+use Rattle.events.specs.declared.event.Event.TheVariants as event
+use Rattle.events.specs.Events.{event_of}
 
 pub is_event : (e : Event) → model.IsEvent (event_of e)
 is_event (event.Call fs call) = fs.few

@@ -1,3 +1,3 @@
-pub mod Events
+pub use Rattle.events.specs.Events
 pub mod Disks
 pub mod Worlds

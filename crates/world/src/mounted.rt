@@ -6,14 +6,13 @@ ghost use Rattle.xn_model.specs.Calls.{free_of};
 ghost use Rattle.xn_model.specs.Worlds as model;
 ghost use Rattle.xn_model.specs.Rules.{Holds};
 ghost use Rattle.xn_kernel.specs.Kernels.{is_in_flight};
-ghost use Rattle.world.specs.Events.{event_of, reply_of};
+ghost use Rattle.events.specs.Events.{event_of, reply_of};
 ghost use Rattle.world.specs.Worlds.{is_any_in_flight, world_with, value_of, IsWorld};
 
-use crate::event::Event;
-use crate::reply::Reply;
 use crate::tickets::Tickets;
 use crate::unmounted::{UnmountedDisk, take_lanes_back};
 use disk::{BLOCK_LEN, MemLane};
+use events::{Event, Reply};
 use std::alloc::{AllocError, Global};
 use std::marker::Model;
 use xn_kernel::Kernel;

@@ -5,13 +5,12 @@ ghost use Rattle.xn_model.specs.Images.{joined};
 ghost use Rattle.xn_model.specs.Calls.{pending_of, floor_of, free_of, pick_of};
 ghost use Rattle.xn_model.specs.Worlds as model;
 ghost use Rattle.xn_model.specs.Rules.{Holds};
-ghost use Rattle.world.specs.Events.{event_of, reply_of};
+ghost use Rattle.events.specs.Events.{event_of, reply_of};
 ghost use Rattle.world.specs.Worlds.{WorldValue, world_with, HasOwnTypes};
 
-use crate::event::Event;
 use crate::mounted::MountedDisk;
-use crate::reply::Reply;
 use crate::world::World;
+use events::{Event, Reply};
 use std::alloc::{AllocError, Global};
 use std::marker::Model;
 use std::thread::Threads;

@@ -17,16 +17,15 @@ ghost use Rattle.templates.specs.Tables.{table_of_image, types_of};
 ghost use Rattle.templates.specs.Formats.{formatted, format_fault, table_of, IsFormatFault};
 ghost use Rattle.crash_check.specs.Answers.{types_in};
 ghost use Rattle.xn_kernel.specs.Kernels.{is_in_flight};
-ghost use Rattle.world.specs.Events.{event_of, reply_of};
+ghost use Rattle.events.specs.Events.{event_of, reply_of};
 ghost use Rattle.world.specs.Worlds.{is_any_in_flight, world_with, world_value, HasOwnTypes, IsSoundDisk, IsWorldOf};
 
-use crate::event::Event;
 use crate::mounted::MountedDisk;
-use crate::reply::Reply;
 use crate::running::Running;
 use crate::unmounted::UnmountedDisk;
 use crash_check::ImageFault;
 use disk::BLOCK_LEN;
+use events::{Event, Reply};
 use ffs_model::{events_keep_cuts, image_is_cut};
 use std::alloc::{AllocError, Global};
 use std::marker::Model;

@@ -2,8 +2,6 @@
 // verifies programs.
 #![tactic(auto)]
 
-mod system_files;
-
 use std::alloc::Global;
 use std::io::BufWriter;
 use std::process::ExitCode;

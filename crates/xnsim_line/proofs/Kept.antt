@@ -1,26 +1,17 @@
 -- What was printed stands where it is then flushed.
 use Rattle.std.proofs.Common.{ℕ, List, Option, Some, None, ◌∙◌}
 use Rattle.std.specs.Io.KnownBytes.{Appends, Keeps}
-use Rattle.xnsim_line.specs.declared.invocation.Invocation.{Invocation}
-use Rattle.xnsim_line.specs.declared.invocation.Invocation.TheVariants.{Bare, Format, Run, Check, Asm, Verify}
-use Rattle.xnsim_line.specs.declared.fault.Fault.{Fault}
-use Rattle.xnsim_line.specs.declared.fault.Fault.TheVariants.{Usage, CannotRead, Unreadable, Image, CannotWrite, NoMemory, Program, Owns, Size, Template, TooManyTemplates, TooManyWords, Stream}
-use Rattle.xnsim_line.specs.Assembling.{PrintsTemplate}
+use Rattle.xnsim_words.specs.declared.invocation.Invocation.{Invocation}
+use Rattle.xnsim_words.specs.declared.invocation.Invocation.TheVariants.{Bare, Format, Run, Check, Asm, Verify}
+use Rattle.xnsim_programs.specs.Assembling.{PrintsTemplate}
 use Rattle.xnsim_line.specs.Done.{IsDone, IsLineDone}
-use Rattle.xnsim_line.specs.Faults.{IsTold}
-use Rattle.xnsim_line.specs.Files.{Held}
-use Rattle.xnsim_line.specs.Programs.{PrintsAccepted}
+use Rattle.xnsim_words.specs.Files.{Held}
+use Rattle.xnsim_programs.specs.Programs.{PrintsAccepted}
 use Rattle.xnsim_line.specs.Runs.{IsMountedRun, IsPrintedRun}
 use Rattle.xnsim_line.specs.Stops.{IsAskedRun, IsStoppedRun}
 use Rattle.xn_model.specs.Worlds.{World}
 use Rattle.udf_verify.specs.declared.fault.Role.{Role}
-use Rattle.world.specs.declared.event.Event.{Event}
-
-keeps_kept : (old mid new : Option (List ℕ)) → Keeps old mid → Keeps mid new → Keeps old new
-keeps_kept None mid new kept flushed = tt
-keeps_kept (Some xs) None new kept flushed = absurd kept
-keeps_kept (Some xs) (Some ys) None kept flushed = absurd flushed
-keeps_kept (Some xs) (Some ys) (Some zs) kept flushed = flushed ∙ kept
+use Rattle.events.specs.declared.event.Event.{Event}
 
 appends_kept : (old mid new : Option (List ℕ)) (bytes : List ℕ) → Appends old mid bytes → Keeps mid new → Appends old new bytes
 appends_kept None mid new bytes printed flushed = tt
@@ -128,18 +119,3 @@ module _ (old mid new : Option (List ℕ)) (flushed : Keeps mid new) where
 
   pub line_kept : (input : Option (List ℕ)) (held held_after : Held) (words : List (List ℕ)) → IsLineDone input held held_after words old mid → IsLineDone input held held_after words old new
   line_kept input held held_after words done = (done.0, done.1, done_kept input held held_after done.0 done.2)
-
-  pub told_kept : (fault : Fault) → IsTold fault old mid → IsTold fault old new
-  told_kept Usage told = keeps_kept old mid new told flushed
-  told_kept (CannotRead name) told = keeps_kept old mid new told flushed
-  told_kept (Unreadable line) told = keeps_kept old mid new told flushed
-  told_kept (Image fault) told = appends_kept old mid new _ told flushed
-  told_kept (CannotWrite name) told = keeps_kept old mid new told flushed
-  told_kept NoMemory told = keeps_kept old mid new told flushed
-  told_kept (Program found) told = appends_kept old mid new _ told flushed
-  told_kept (Owns found) told = appends_kept old mid new _ told flushed
-  told_kept (Size found) told = appends_kept old mid new _ told flushed
-  told_kept (Template place found) told = appends_kept old mid new _ told flushed
-  told_kept TooManyTemplates told = appends_kept old mid new _ told flushed
-  told_kept TooManyWords told = appends_kept old mid new _ told flushed
-  told_kept Stream told = keeps_kept old mid new told flushed

@@ -2,9 +2,5 @@ pub mod ScriptRuns
 pub mod SpelledLines
 pub mod BlockWrites
 pub mod StoppedRuns
-pub mod CommandLines
-pub mod TemplateWords
-pub mod TemplatesRead
 pub mod MountFaults
 pub mod Kept
-pub mod StartsRead

@@ -1,12 +1,6 @@
+pub use Rattle.xnsim_words.specs.Files
+pub use Rattle.xnsim_words.specs.Lines
 pub mod Checking
-pub mod Lines
-pub mod CommandLine
 pub mod Runs
 pub mod Stops
-pub mod ProgramFaults
-pub mod Programs
-pub mod Files
-pub mod Formatting
-pub mod Assembling
 pub mod Done
-pub mod Faults

@@ -10,9 +10,9 @@ use Rattle.templates.specs.Templates.{TemplateValue}
 use Rattle.templates.specs.Tables.{types_of}
 use Rattle.templates.specs.Formats.{formatted, table_of}
 use Rattle.crash_check.specs.Answers.{types_in}
-use Rattle.world.specs.declared.reply.Reply.{Reply}
-use Rattle.world.specs.declared.event.Event.{Event}
-use Rattle.world.specs.Events.{event_of, reply_of}
+use Rattle.events.specs.declared.reply.Reply.{Reply}
+use Rattle.events.specs.declared.event.Event.{Event}
+use Rattle.events.specs.Events.{event_of, reply_of}
 use Rattle.script.specs.Replies.{reply_line}
 use Rattle.script.specs.Scripts.{AllSpell, LineSpells}
 

@@ -8,7 +8,6 @@ ghost use Rattle.xnsim_line.specs.Done.{IsMountFault, IsRunFault};
 ghost use Rattle.xnsim_line.specs.Runs.{fresh_world, IsPrintedRun, IsRunLine, RunsLines};
 ghost use Rattle.xnsim_line.specs.Stops.{IsAskedOn, IsAskedRun};
 
-use crate::fault::Fault;
 use crate::stopping::run_lines_until;
 use script::{parse_line, print_reply};
 use std::alloc::{AllocError, Global};
@@ -16,6 +15,7 @@ use std::io::Write;
 use std::thread::Threads;
 use templates::{FormatFault, Template};
 use world::{Reply, World};
+use xnsim_words::Fault;
 
 /// The first mount of a fresh disk.
 fn fresh_world(

@@ -7,13 +7,12 @@ ghost use Rattle.xn_model.specs.Images.{joined};
 ghost use Rattle.xn_model.specs.Worlds as model;
 ghost use Rattle.xn_model.specs.Worlds.{drain_for, write_out};
 ghost use Rattle.script.specs.Scripts.{SpellEvents, SpellsSome};
-ghost use Rattle.world.specs.Events.{event_of, reply_of};
+ghost use Rattle.events.specs.Events.{event_of, reply_of};
 ghost use Rattle.world.specs.Worlds.{is_any_in_flight, world_with};
 ghost use Rattle.xnsim_line.specs.Done.{IsRunFault};
 ghost use Rattle.xnsim_line.specs.Runs.{RunsLines};
 ghost use Rattle.xnsim_line.specs.Stops.{is_drain, is_write, writes_of, IsHeldBack, IsLineHeldBack, IsLineWithin, IsStoppedRun};
 
-use crate::fault::Fault;
 use script::{parse_line, print_reply};
 use std::alloc::Global;
 use std::io;
@@ -21,6 +20,7 @@ use std::io::Write;
 use std::thread::Threads;
 use world::{Answer, Call, Event, Reply, World};
 use xn_state::Fs;
+use xnsim_words::Fault;
 
 /// Prints that the run stopped.
 fn print_stopped<W: Write>(out: &mut W) -> io::Result<()>

@@ -2,11 +2,11 @@
 
 ghost use Rattle.xn_model.specs.Worlds as model;
 ghost use Rattle.xn_state.specs.Answers.{call_of};
-ghost use Rattle.world.specs.Events.{reply_of};
+ghost use Rattle.events.specs.Events.{reply_of};
 ghost use Rattle.world.specs.Worlds.{world_with};
 
 use crate::mounted::MountedDisk;
-use crate::reply::Reply;
+use events::Reply;
 use xn_kernel::DrainStop;
 use xn_state::{Answer, Call, Fs, Stopped};
 

@@ -2,12 +2,12 @@
 
 ghost use Rattle.std.specs.Prelude.{◌<◌, ◌≤◌, length};
 ghost use Rattle.xn_model.specs.Worlds as model;
-ghost use Rattle.world.specs.Events.{reply_of};
+ghost use Rattle.events.specs.Events.{reply_of};
 ghost use Rattle.world.specs.Worlds.{world_with};
 
 use crate::mounted::MountedDisk;
-use crate::reply::Reply;
 use crate::ticket::DroppableTicket;
+use events::Reply;
 
 impl MountedDisk {
     /// A write of a block begins, and its ticket is kept.

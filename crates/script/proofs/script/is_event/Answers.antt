@@ -1,6 +1,6 @@
 use Rattle.std.proofs.Common.{refl, subst}
 use Rattle.xn_state.specs.declared.call.Call.TheVariants.{Init}
-use Rattle.world.specs.declared.event.Event.TheVariants as event
+use Rattle.events.specs.declared.event.Event.TheVariants as event
 use Rattle.script.specs.Told.{Tells}
 use Rattle.script.proofs.ToldLines.{told_event}
 use Rattle.script.proofs.script.is_event.Goals as goal

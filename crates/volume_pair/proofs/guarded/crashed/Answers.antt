@@ -1,6 +1,6 @@
 use Rattle.std.proofs.Common.{sym, subst}
 use Rattle.templates.specs.Tables.{types_of}
-use Rattle.world.specs.Events.{reply_of}
+use Rattle.events.specs.Events.{reply_of}
 use Rattle.world.specs.Worlds.{WorldValue, world_with}
 use Rattle.volume_pair.specs.Kept.{Recovers}
 use Rattle.volume_pair.proofs.Kept.{crash_recovers}

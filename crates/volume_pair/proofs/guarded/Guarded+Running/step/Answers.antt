@@ -1,5 +1,5 @@
 use Rattle.templates.specs.Tables.{types_of}
-use Rattle.world.specs.Events.{event_of, reply_of}
+use Rattle.events.specs.Events.{event_of, reply_of}
 use Rattle.world.specs.Worlds.{world_with}
 use Rattle.volume_pair.specs.Kept.{IsKept}
 use Rattle.volume_pair.proofs.Kept.{device_event, event_stays, if_some, retyped, stays_kept}

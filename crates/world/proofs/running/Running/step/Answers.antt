@@ -1,5 +1,5 @@
 use Rattle.std.proofs.Common.{◌≡◌}
-use Rattle.world.specs.Events.{event_of, reply_of}
+use Rattle.events.specs.Events.{event_of, reply_of}
 use Rattle.world.specs.Worlds.{world_with}
 use Rattle.world.proofs.Catalogues.{step_own}
 use Rattle.world.proofs.running.Running.step.Goals as goal

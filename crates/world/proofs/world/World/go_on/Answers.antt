@@ -1,5 +1,5 @@
 use Rattle.std.proofs.Common.{subst}
-use Rattle.world.specs.Events.{event_of, reply_of}
+use Rattle.events.specs.Events.{event_of, reply_of}
 use Rattle.world.specs.Worlds.{world_with, IsWorldOf}
 use Rattle.world.proofs.Catalogues.{step_own}
 use Rattle.world.proofs.world.World.go_on.Goals as goal

@@ -1,4 +1,4 @@
-use Rattle.world.specs.Events.{event_of, reply_of}
+use Rattle.events.specs.Events.{event_of, reply_of}
 use Rattle.world.specs.Worlds.{world_with}
 use Rattle.world.proofs.Runs.{rules_agree}
 use Rattle.world.proofs.Tellings.{is_event}

@@ -1,0 +1,26 @@
+-- What events and replies mean.
+use Rattle.xn_model.specs.Worlds as model
+use Rattle.xn_state.specs.Answers.{call_of, reply_of_answer}
+use Rattle.events.specs.declared.event.Event.{Event}
+use Rattle.events.specs.declared.event.Event.TheVariants as event
+use Rattle.events.specs.declared.reply.Reply.{Reply}
+use Rattle.events.specs.declared.reply.Reply.TheVariants as reply
+
+abbrev pub event_of : Event → model.Event
+event_of (event.Call fs call) = model.Client fs.number (call_of call)
+event_of (event.Begin block) = model.Begin block
+event_of (event.Land block) = model.Land block
+event_of (event.Fail block stays) = model.Fail block stays
+event_of (event.Finish block) = model.Finish block
+event_of event.Crash = model.Crash
+
+abbrev pub reply_of : Reply → model.Reply
+reply_of (reply.Answered answer) = reply_of_answer answer
+reply_of (reply.Begun entries) = model.Begun entries
+reply_of reply.Landed = model.Landed
+reply_of reply.Fault = model.Fault
+reply_of (reply.Finished landed) = model.Finished landed.durable landed.freed
+reply_of (reply.Mounted reached free) = model.Mounted reached free
+reply_of reply.NoTicket = model.NoTicket
+reply_of reply.Down = model.Down
+reply_of (reply.Refused refusal) = model.Refused refusal

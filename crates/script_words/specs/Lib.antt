@@ -1,0 +1,5 @@
+pub mod Hex
+pub mod Numbers
+pub mod Edits
+pub mod Cuts
+pub mod Bytes

@@ -1,0 +1,4 @@
+pub mod CommandLines
+pub mod TemplateWords
+pub mod StartsRead
+pub mod ForCallers

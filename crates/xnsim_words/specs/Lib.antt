@@ -1,0 +1,5 @@
+pub mod Files
+pub mod CommandLine
+pub mod Lines
+pub mod ProgramFaults
+pub mod Faults
