@@ -22,7 +22,7 @@ from reference_images import BUILT_IN, TEMPLATES, Fault, check, number_at, owned
 REFUSALS = {
     2: "NoSuchBlock", 3: "NotInUse", 4: "NotYours", 5: "BadPatch", 6: "BadAfter", 7: "NotFresh", 8: "NotOwned", 9: "NotEmpty",
     10: "ClaimWrong", 11: "SizeWrong", 13: "TooManyPending", 14: "NoSpace", 15: "BadType", 16: "InFlight", 17: "NotMine",
-    19: "RootTaken", 20: "NothingSafe", 22: "Cycle",
+    19: "RootTaken", 20: "NothingSafe", 22: "Cycle", 23: "NotSynced",
 }  # fmt: skip
 
 
@@ -74,6 +74,8 @@ class Store:
         self.mount()
 
     def mount(self):
+        """Every block is synced, and then read."""
+        self.settled, self.given = list(self.image), [None] * len(self.image)
         reached, free = check(b"".join(self.image))
         self.types, self.lives, self.next = dict(BUILT_IN), [None] * len(self.image), 1
         for i in range(16):
@@ -231,7 +233,8 @@ class Store:
     def pending(self, fs):
         return f"pending {len(self.numbers(fs))}"
 
-    # Writes.
+    # Writes. Of each block the device has the newest bytes (the image), which a read gives, and the settled ones, which its last good sync
+    # found. A write is open from the moment it is given to the device until a good sync; till then the bytes given are kept beside them.
 
     def pick(self):
         b = self.least_writable()
@@ -247,17 +250,23 @@ class Store:
         life.begun = len(life.states) - len(life.pending()) + count - 1
         return f"begun {count}"
 
-    def write(self, b, stays):
-        """A block write of what was begun, if anything was, after which the new bytes or the old ones are on the disk."""
+    def ticket(self, b):
+        """The life of a block of which a write was begun."""
         life = self.life(b)
-        if life is None or life.begun is None:
+        return None if life is None or life.begun is None else life
+
+    def write(self, b, stays):
+        """A block write of what was begun, if anything was, after which the new bytes or the old ones are read."""
+        life = self.ticket(b)
+        if life is None:
             return False
         if self.writes == 0:
             raise Stopped
         if self.writes is not None:
             self.writes -= 1
+        self.given[b] = life.states[life.begun].bytes
         if stays:
-            self.image[b] = life.states[life.begun].bytes
+            self.image[b] = self.given[b]
         return True
 
     def land(self, b):
@@ -266,10 +275,20 @@ class Store:
     def fail(self, b, what):
         return "fault" if self.write(b, what == "new") else "no ticket"
 
-    def finish(self, b):
-        life = self.life(b)
-        if life is None or life.begun is None:
+    def sync(self, b):
+        if self.ticket(b) is None:
             return "no ticket"
+        self.settled[b], self.given[b] = self.image[b], None
+        return "synced"
+
+    def failsync(self, b):
+        return "no ticket" if self.ticket(b) is None else "fault"
+
+    def finish(self, b):
+        life = self.ticket(b)
+        if life is None:
+            return "no ticket"
+        refuse(self.given[b] is not None, 23)
         if self.image[b] != life.states[life.begun].bytes:
             refuse(life.durable is not None and self.image[b] != life.states[life.durable].bytes, 17)
             life.begun = None
@@ -288,10 +307,17 @@ class Store:
         while (b := self.least_writable()) is not None:
             self.begin(b)
             self.land(b)
+            self.sync(b)
             self.finish(b)
             writes += 1
         assert not any(life.pending() for _, life in self.living())
         return f"writes {writes}"
+
+    def crash(self, *kept):
+        """The open writes of these blocks are on the disk, where they have one, and no others."""
+        for b, given in enumerate(self.given):
+            self.image[b] = self.settled[b] if given is None or b not in kept else given
+        return self.mount()
 
 
 # Scripts.
@@ -313,7 +339,7 @@ def command_of(line):
         return name, [int(words[0]), int(words[1]), edit]
     if name == "fail":
         return name, [int(words[0]), words[1]]
-    return "mount" if name == "crash" else name, [int(word) for word in words]
+    return name, [int(word) for word in words]
 
 
 def run(store, text):
@@ -390,7 +416,8 @@ class Files(dict):
             case ["xnsim", "run", name, script, *stop]:
                 store = Store(self[name], int(stop[1]) if stop else None)
                 replies = run(store, self[script])
-                self[name] = b"".join(store.image)
+                is_lost = stop[2:] == ["--lose"] and replies[-1:] == ["stopped"]
+                self[name] = b"".join(store.settled if is_lost else store.image)
                 return replies
             case ["xnsim"]:
                 return run(Store(formatted(32, [])), given)

@@ -1,4 +1,5 @@
 pub mod Images
 pub mod Lanes
 pub mod Mem
+pub mod OpenWrites
 pub mod Plans

@@ -1,6 +1,6 @@
 -- Lanes that fail at a read and at a write that were named when they were made.
 use Rattle.std.specs.Prelude.{◌≡◌, ℕ, zero, suc, List, Option, Some, None, Bool, true, Result}
-use Rattle.disk.specs.Mem.{MemoryLane, memory_read, memory_write}
+use Rattle.disk.specs.Mem.{MemoryLane, memory_read, memory_write, memory_sync}
 
 -- Which read from now on is to fail, where 1 is the next one, and which write, with whether the new bytes stay then.
 pub record PlannedLane : Type 0 where
@@ -40,3 +40,6 @@ abbrev pub planned_write : {E : Type 0} → PlannedLane → List ℕ → Result 
 planned_write old bytes result new =
     memory_write (told_write old.fail_write old.lane) bytes result new.lane
     × (new ≡ record { lane = new.lane; fail_read = old.fail_read; fail_write = later_write old.fail_write })
+
+abbrev pub planned_sync : {E : Type 0} → PlannedLane → Result (Unit {0}) E → PlannedLane → Type 0
+planned_sync old result new = memory_sync old.lane result new.lane × (new ≡ record old { lane = new.lane })

@@ -1,5 +1,5 @@
 ghost use Rattle.std.specs.Prelude.{◌≡◌, ℕ, List, ◌⊎◌, OnOk, OnErr, Result};
-ghost use Rattle.disk.specs.Lanes.{CountsOne};
+ghost use Rattle.disk.specs.Lanes.{CountsOne, LeavesNoMore, LeavesOnly, LeavesAlso};
 
 /// How many bytes a block has.
 pub const BLOCK_LEN: usize = 512;
@@ -11,9 +11,13 @@ pub struct DeviceFault;
 /// The one value through which a block is read and written.
 ///
 /// This trait is what is assumed of a device. One block is written in one step: no reader and no crash ever finds part of
-/// the old bytes beside part of the new ones. Once `write` has answered, the block is settled: after `Ok` it holds the new
-/// bytes, after `Err` all the old bytes or all the new ones, and it keeps them until the next write through this lane.
-/// Nothing else writes the block, and a crash changes none.
+/// the old bytes beside part of the new ones. Once `write` has answered, what a read gives is settled: after `Ok` the new
+/// bytes, after `Err` all the old bytes or all the new ones, until the next write through this lane. Nothing else writes the
+/// block.
+///
+/// The device may hold a write until it is synced. After `sync` has answered `Ok` a crash leaves in the block what a read
+/// gives, until the next write. After that it may leave that, or the bytes given to a write since, well done or not. After
+/// `Err` no more is known than before.
 ///
 /// A device fault is answered only where the device really failed: each one adds 1 to the count of faults (after 2^64 - 1
 /// comes 0), and nothing else changes that count.
@@ -23,8 +27,11 @@ pub trait Lane {
     /// Which block it is.
     ghost number_of: { Self → ℕ };
 
-    /// The 512 bytes that the block holds.
+    /// The 512 bytes that the block holds, which a read gives.
     ghost bytes_of: { Self → List ℕ };
+
+    /// Which bytes a crash may leave in the block.
+    ghost crash_leaves: { Self → List ℕ → Type 0 };
 
     /// How often the device has failed.
     ghost faults_of: { Self → ℕ };
@@ -34,6 +41,9 @@ pub trait Lane {
 
     /// What a write of these bytes may answer, and the lane after it.
     ghost write_gives: { Self → List ℕ → Result (Unit {0}) DeviceFault → Self → Type 0 };
+
+    /// What a sync may answer, and the lane after it.
+    ghost sync_gives: { Self → Result (Unit {0}) DeviceFault → Self → Type 0 };
 
     /// The number of the block.
     fn number(&self) -> u32
@@ -47,6 +57,7 @@ pub trait Lane {
     fn read(&mut self, into: &mut [u8; BLOCK_LEN]) -> Result<(), DeviceFault>
         ensures read { OnOk result (into.new ≡ bytes_of self.old) }
         ensures bytes { bytes_of self.new ≡ bytes_of self.old }
+        ensures crash { LeavesNoMore (crash_leaves self.old) (crash_leaves self.new) }
         ensures number { number_of self.new ≡ number_of self.old }
         ensures faults_ok { OnOk result (faults_of self.new ≡ faults_of self.old) }
         ensures faults_err { OnErr result (CountsOne (faults_of self.old) (faults_of self.new)) }
@@ -56,8 +67,19 @@ pub trait Lane {
     fn write(&mut self, from: &[u8; BLOCK_LEN]) -> Result<(), DeviceFault>
         ensures written { OnOk result (bytes_of self.new ≡ from.now) }
         ensures old_or_new { OnErr result ((bytes_of self.new ≡ bytes_of self.old) ⊎ (bytes_of self.new ≡ from.now)) }
+        ensures crash { LeavesNoMore (LeavesAlso (crash_leaves self.old) from.now) (crash_leaves self.new) }
         ensures number { number_of self.new ≡ number_of self.old }
         ensures faults_ok { OnOk result (faults_of self.new ≡ faults_of self.old) }
         ensures faults_err { OnErr result (CountsOne (faults_of self.old) (faults_of self.new)) }
         ensures gives { write_gives self.old from.now result self.new };
+
+    /// Settles the block: after `Ok` a crash leaves in it what a read gives.
+    fn sync(&mut self) -> Result<(), DeviceFault>
+        ensures settled { OnOk result (LeavesOnly (bytes_of self.new) (crash_leaves self.new)) }
+        ensures crash { OnErr result (LeavesNoMore (crash_leaves self.old) (crash_leaves self.new)) }
+        ensures bytes { bytes_of self.new ≡ bytes_of self.old }
+        ensures number { number_of self.new ≡ number_of self.old }
+        ensures faults_ok { OnOk result (faults_of self.new ≡ faults_of self.old) }
+        ensures faults_err { OnErr result (CountsOne (faults_of self.old) (faults_of self.new)) }
+        ensures gives { sync_gives self.old result self.new };
 }

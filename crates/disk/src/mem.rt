@@ -1,55 +1,92 @@
 ghost use Rattle.std.specs.Prelude.{◌≡◌, ◌≢◌, IsErr, Contains, ◌⊎◌, ℕ, ◌+◌, ◌*◌, ◌/◌, ◌%◌, ◌^◌, ◌<◌, ◌≤◌, List, length, Option, Some, None, IfOk, OnOk, OnErr, IfErr, IsOk, IsNone, IsSome, IfSome, ◌↔◌, slice_get, slice_range, IsTrue, true, false};
 ghost use Rattle.disk.specs.Lanes.{CountsOne};
 ghost use Rattle.disk.specs.Images.{HoldsBytes, block_at};
-ghost use Rattle.disk.specs.Mem.{MemoryLane, AreFreshLanes, fresh_lane, read_failed, write_failed, memory_read, memory_write};
+ghost use Rattle.disk.specs.Mem.{MemoryLane, AreFreshLanes, fresh_lane, read_failed, write_failed, sync_failed, synced, crashed, memory_read, memory_write, memory_sync, memory_leaves, IsGivenAfterFault};
 
 use crate::lane::{BLOCK_LEN, DeviceFault, Lane};
 use crate::lanes::Lanes;
 use std::alloc::{AllocError, Global};
 use std::marker::Model;
 
-/// A block in memory. A test may tell its next read or write to fail.
+/// Whether a block holds a write that is not settled, and what its two lots of bytes are then.
+#[derive(Clone, Copy)]
+enum OpenWrite {
+    /// It holds none: what a read gives is settled.
+    Absent,
+    /// A read gives what the write was given, and the other bytes are the settled ones.
+    Newest,
+    /// What a read gives is settled, and the other bytes are those that the write was given.
+    Unread,
+}
+
+/// The bytes of a block in memory.
+#[derive(Drop)]
+struct Blocks {
+    /// What a read gives.
+    bytes: [u8; BLOCK_LEN],
+    /// Of a block with an open write, the settled bytes or those that the write was given.
+    other: [u8; BLOCK_LEN],
+}
+
+/// A block in memory that holds writes until they are synced. A test may tell its next read, write or sync to fail.
+///
+/// A lane goes from hand to hand with each write, so its bytes stand behind a pointer and stay where they are.
 #[derive(Drop)]
 pub struct MemLane {
     number: u32,
-    bytes: [u8; BLOCK_LEN],
+    blocks: Box<Blocks>,
+    open_write: OpenWrite,
     faults: u64,
     write_fault: Option<bool>,
     read_fault: bool,
+    sync_fault: bool,
 }
 
 impl Model for MemLane {
     ghost use Rattle.disk.specs.Mem.{MemoryLane};
+    ghost use Rattle.disk.specs.OpenWrites.{settled_by, given_by};
 
     ghost Value = { MemoryLane };
 
     ghost view = { λ a. record {
       number = a.number;
-      bytes = a.bytes;
+      bytes = a.blocks.value.bytes;
+      settled = settled_by a.open_write a.blocks.value.bytes a.blocks.value.other;
+      given = given_by a.open_write a.blocks.value.bytes a.blocks.value.other;
       faults = a.faults;
       write_fault = a.write_fault;
       read_fault = a.read_fault;
+      sync_fault = a.sync_fault;
     } };
 }
 
 impl MemLane {
-    fn new(number: u32, bytes: [u8; BLOCK_LEN]) -> MemLane
-        ensures { result ≡ fresh_lane number bytes }
+    fn new(alloc: Global, number: u32, bytes: [u8; BLOCK_LEN]) -> Result<MemLane, AllocError>
+        ensures { IfOk result (λ lane. lane ≡ fresh_lane number bytes) }
     {
-        MemLane {
+        let blocks = Box::new(
+            alloc,
+            Blocks {
+                bytes,
+                other: bytes,
+            },
+        )?;
+        Ok(MemLane {
             number,
-            bytes,
+            blocks,
+            open_write: OpenWrite::Absent,
             faults: 0,
             write_fault: None,
             read_fault: false,
-        }
+            sync_fault: false,
+        })
     }
 
     /// The bytes of the block.
     pub fn bytes(&self) -> &[u8; BLOCK_LEN]
         ensures { result.now ≡ self.now.bytes }
     {
-        &self.bytes
+        &self.blocks.bytes
     }
 
     /// Lets the next write fail, and that one alone. The block then holds the new bytes or keeps the old ones, as asked
@@ -66,6 +103,56 @@ impl MemLane {
     {
         self.read_fault = true;
     }
+
+    /// Lets the next sync fail, and that one alone.
+    pub fn fail_sync(&mut self)
+        ensures { self.new ≡ record self.old { sync_fault = true } }
+    {
+        self.sync_fault = true;
+    }
+
+    /// Crashes: the block then has the last bytes that were given to a write since its last good sync, where there are such
+    /// and they are kept, and else its settled ones.
+    pub fn crash(&mut self, kept: bool)
+        ensures { self.new ≡ crashed self.old kept }
+    {
+        match self.open_write {
+            OpenWrite::Absent => {}
+            OpenWrite::Newest if kept => {}
+            OpenWrite::Unread if !kept => {}
+            OpenWrite::Newest | OpenWrite::Unread => self.blocks.bytes = self.blocks.other,
+        }
+        self.open_write = OpenWrite::Absent;
+    }
+
+    /// A write was given these bytes, and a read finds them.
+    fn put(&mut self, from: &[u8; BLOCK_LEN])
+        ensures { self.new ≡ record self.old { bytes = from.now; given = Some from.now } }
+    {
+        match self.open_write {
+            OpenWrite::Newest => {}
+            OpenWrite::Absent | OpenWrite::Unread => self.blocks.other = self.blocks.bytes,
+        }
+        self.blocks.bytes = *from;
+        self.open_write = OpenWrite::Newest;
+    }
+
+    /// A write was given these bytes, and a read finds the ones before. Where those are an open write's, they stay what a
+    /// crash may leave, as the lane has no room for a third lot of bytes.
+    fn hold(&mut self, from: &[u8; BLOCK_LEN])
+        ensures rest { self.new ≡ record self.old { given = self.new.given } }
+        ensures given { IsGivenAfterFault (Some false) self.old from.now self.new.given }
+    {
+        let is_newest = match self.open_write {
+            OpenWrite::Absent => false,
+            OpenWrite::Newest => true,
+            OpenWrite::Unread => self.blocks.other == self.blocks.bytes,
+        };
+        if !is_newest {
+            self.blocks.other = *from;
+            self.open_write = OpenWrite::Unread;
+        }
+    }
 }
 
 impl Lane for MemLane {
@@ -78,6 +165,10 @@ impl Lane for MemLane {
     ghost read_gives = { memory_read };
 
     ghost write_gives = { memory_write };
+
+    ghost crash_leaves = { memory_leaves };
+
+    ghost sync_gives = { memory_sync };
 
     fn number(&self) -> u32 {
         self.number
@@ -101,7 +192,7 @@ impl Lane for MemLane {
             self.faults = self.faults.wrapping_add(1);
             return Err(DeviceFault);
         }
-        *into = self.bytes;
+        *into = self.blocks.bytes;
         Ok(())
     }
 
@@ -109,24 +200,43 @@ impl Lane for MemLane {
     /// what it was told.
     fn write(&mut self, from: &[u8; BLOCK_LEN]) -> Result<(), DeviceFault>
         ensures fails { IsErr result ↔ IsSome self.old.write_fault }
-        ensures ok { OnOk result (self.new ≡ record self.old { bytes = from.now }) }
-        ensures err { OnErr result (self.new ≡ write_failed self.old from.now) }
+        ensures ok { OnOk result (self.new ≡ record self.old { bytes = from.now; given = Some from.now }) }
+        ensures err { OnErr result (self.new ≡ write_failed self.old from.now self.new.given) }
+        ensures given { OnErr result (IsGivenAfterFault self.old.write_fault self.old from.now self.new.given) }
         ensures counts { OnErr result (CountsOne self.old.faults self.new.faults) }
     {
         match self.write_fault {
             None => {
-                self.bytes = *from;
+                self.put(from);
                 Ok(())
             }
             Some(new_bytes_stay) => {
                 self.write_fault = None;
                 self.faults = self.faults.wrapping_add(1);
                 if new_bytes_stay {
-                    self.bytes = *from;
+                    self.put(from);
+                } else {
+                    self.hold(from);
                 }
                 Err(DeviceFault)
             }
         }
+    }
+
+    /// Fails exactly where it was told to, and then counts one fault and forgets what it was told.
+    fn sync(&mut self) -> Result<(), DeviceFault>
+        ensures fails { IsErr result ↔ IsTrue self.old.sync_fault }
+        ensures ok { OnOk result (self.new ≡ synced self.old) }
+        ensures err { OnErr result (self.new ≡ sync_failed self.old) }
+        ensures counts { OnErr result (CountsOne self.old.faults self.new.faults) }
+    {
+        if self.sync_fault {
+            self.sync_fault = false;
+            self.faults = self.faults.wrapping_add(1);
+            return Err(DeviceFault);
+        }
+        self.open_write = OpenWrite::Absent;
+        Ok(())
     }
 }
 
@@ -200,7 +310,7 @@ pub fn fresh_lanes(alloc: Global, image: &[u8]) -> Result<Lanes<MemLane>, AllocE
     let blocks = (image.len() / BLOCK_LEN) as u32;
     let mut places = Vec::with_capacity(alloc, blocks as usize)?;
     for block in 0..blocks {
-        let lane = MemLane::new(block, block_of(image, block));
+        let lane = MemLane::new(alloc, block, block_of(image, block))?;
         places.push_reserved(Some(lane));
     }
     Ok(Lanes::of_places(places))

@@ -1,7 +1,8 @@
 // A lane whose failures are planned.
 
 ghost use Rattle.std.specs.Prelude.{◌≡◌, ℕ, Option};
-ghost use Rattle.disk.specs.Plans.{later_read, later_write, planned_read, planned_write, told_read, told_write};
+ghost use Rattle.disk.specs.Mem.{memory_leaves};
+ghost use Rattle.disk.specs.Plans.{later_read, later_write, planned_read, planned_sync, planned_write, told_read, told_write};
 
 use crate::lane::{BLOCK_LEN, DeviceFault, Lane};
 use crate::mem::MemLane;
@@ -85,6 +86,10 @@ impl Lane for PlanLane {
 
     ghost write_gives = { planned_write };
 
+    ghost crash_leaves = { λ lane. memory_leaves lane.lane };
+
+    ghost sync_gives = { planned_sync };
+
     fn number(&self) -> u32 {
         self.lane.number()
     }
@@ -103,5 +108,10 @@ impl Lane for PlanLane {
     fn write(&mut self, from: &[u8; BLOCK_LEN]) -> Result<(), DeviceFault> {
         self.plan_write();
         self.lane.write(from)
+    }
+
+    /// Fails where the lane in memory does.
+    fn sync(&mut self) -> Result<(), DeviceFault> {
+        self.lane.sync()
     }
 }

@@ -1,4 +1,5 @@
 -- What events and replies mean.
+use Rattle.std.specs.Prelude.{◌≡◌, false}
 use Rattle.xn_model.specs.Worlds as model
 use Rattle.xn_state.specs.Answers.{call_of, reply_of_answer}
 use Rattle.events.specs.declared.event.Event.{Event}
@@ -11,13 +12,19 @@ event_of (event.Call fs call) = model.Client fs.number (call_of call)
 event_of (event.Begin block) = model.Begin block
 event_of (event.Land block) = model.Land block
 event_of (event.Fail block stays) = model.Fail block stays
+event_of (event.Sync block) = model.Sync block
+event_of (event.FailSync block) = model.FailSync block
 event_of (event.Finish block) = model.Finish block
-event_of event.Crash = model.Crash
+event_of (event.Crash kept) = model.Crash kept.items
+
+abbrev pub IsNoCrash : Event → Type 0
+IsNoCrash event = model.is_crash (event_of event) ≡ false
 
 abbrev pub reply_of : Reply → model.Reply
 reply_of (reply.Answered answer) = reply_of_answer answer
 reply_of (reply.Begun entries) = model.Begun entries
 reply_of reply.Landed = model.Landed
+reply_of reply.Synced = model.Synced
 reply_of reply.Fault = model.Fault
 reply_of (reply.Finished landed) = model.Finished landed.durable landed.freed
 reply_of (reply.Mounted reached free) = model.Mounted reached free

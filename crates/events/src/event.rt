@@ -3,7 +3,7 @@
 use xn_state::{Call, Fs};
 
 /// One step of a world. Tickets are named by their block.
-#[derive(Debug, Drop)]
+#[derive(Debug)]
 pub enum Event {
     /// A client's call, for its file system.
     Call(Fs, Call),
@@ -13,8 +13,29 @@ pub enum Event {
     Land(u32),
     /// The begun write of the block fails; the block then holds the new bytes (`true`) or the old ones.
     Fail(u32, bool),
+    /// The block is synced.
+    Sync(u32),
+    /// The sync of the block fails.
+    FailSync(u32),
     /// The block is read back, and the write ends.
     Finish(u32),
-    /// All that isn't on the disk is lost, and the disk is mounted anew.
-    Crash,
+    /// All that isn't on the disk is lost, and the disk is mounted anew. Each of these blocks has the last bytes that were given
+    /// to a write since its last good sync, where there are such, and every other one its settled bytes.
+    Crash(Vec<u32>),
+}
+
+/// Written by hand, so that a function that drops one calls this: a derived drop is proved anew in each such function.
+impl Drop for Event {
+    fn drop(self) {
+        match self {
+            Event::Call(_, _) => {}
+            Event::Crash(_) => {}
+            Event::Fail(_, _) => {}
+            Event::Begin(_)
+            | Event::Land(_)
+            | Event::Sync(_)
+            | Event::FailSync(_)
+            | Event::Finish(_) => {}
+        }
+    }
 }

@@ -12,7 +12,9 @@ pub enum Reply {
     Begun { entries: u32 },
     /// The write was carried out.
     Landed,
-    /// The write failed.
+    /// The block is synced.
+    Synced,
+    /// The write or the sync failed.
     Fault,
     /// What the write did.
     Finished(Landed),

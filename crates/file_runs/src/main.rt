@@ -1,12 +1,14 @@
 // Runs the library file system on disks in memory: its calls with the writes that they take, over a world, a kernel, and a kernel that
-// threads share; two threads at once; its sizes, its faults, crashes after each write of a rename, and random calls of two file systems
-// beside each other.
+// threads share; two threads at once; its sizes, its faults, crashes after each write of a rename and of four files' lives, and random
+// calls of two file systems beside each other.
 #![tactic(auto)]
 
 mod callers;
 mod faults;
+mod forty;
 mod limits;
 mod locked;
+mod names;
 mod plain;
 mod random;
 mod renames;
@@ -16,10 +18,11 @@ mod text;
 
 use faults::print_faults;
 use ffs_lib::Fs;
+use forty::print_forty;
 use limits::{print_directory, print_file};
 use locked::print_shared;
 use random::print_random;
-use renames::print_rename;
+use renames::{End, print_rename};
 use rows::print_rows;
 use std::alloc::Global;
 use std::io;
@@ -32,7 +35,7 @@ enum Part {
     Rows,
     File,
     Faults,
-    Rename(u32, bool),
+    Rename(u32, End),
     Directory,
     Random,
 }
@@ -59,7 +62,7 @@ fn run(
         Part::Rows => print_rows(rt, alloc, &mut files, first),
         Part::File => print_file(rt, alloc, &mut files, first),
         Part::Faults => print_faults(rt, alloc, &mut files, first),
-        Part::Rename(writes, ends) => print_rename(rt, alloc, &mut files, first, writes, ends),
+        Part::Rename(writes, end) => print_rename(rt, alloc, &mut files, first, writes, end),
         Part::Directory => print_directory(rt, alloc, &mut files, first),
         Part::Random => print_random(rt, alloc, &mut files, [first, second], 2000),
     }
@@ -89,11 +92,20 @@ fn main(rt: HostRuntime) -> io::Result<()> {
         run(&rt, alloc, part, first, second)?;
     }
     for writes in 0..6 {
-        run(&rt, alloc, Part::Rename(writes, true), first, second)?;
+        run(
+            &rt,
+            alloc,
+            Part::Rename(writes, End::Finished),
+            first,
+            second,
+        )?;
     }
-    for writes in 1..6 {
-        run(&rt, alloc, Part::Rename(writes, false), first, second)?;
+    for end in [End::Kept, End::Lost] {
+        for writes in 1..6 {
+            run(&rt, alloc, Part::Rename(writes, end), first, second)?;
+        }
     }
+    print_forty(&rt, alloc, [first, second])?;
     run(&rt, alloc, Part::Directory, first, second)?;
     run(&rt, alloc, Part::Random, first, second)
 }

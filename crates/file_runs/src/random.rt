@@ -1,5 +1,5 @@
 // Pseudo-random calls of two file systems beside each other, with writes, device faults and crashes between, compared with a
-// plain model. The same in each run.
+// plain model. A crash keeps some of the writes that are not synced. The same in each run.
 
 use crate::plain::{BAD_NAMES, BYTES, LAST_WRITTEN, NAMES, Plain};
 use crate::scan::scan;
@@ -14,6 +14,9 @@ use world::Running;
 /// How many bytes a write has at most.
 const MOST: usize = 700;
 
+/// How many blocks the disk has.
+const BLOCKS: usize = 48;
+
 /// What happened how often.
 #[derive(Clone, Copy)]
 struct Tally {
@@ -22,13 +25,18 @@ struct Tally {
     refused: u32,
     crashes: u32,
     device_faults: u32,
-    /// Answers, bytes and names that were not those of the plain model.
+    failed_syncs: u32,
+    /// Writes that were not synced at a crash, and how many of them it kept.
+    open_writes: u32,
+    kept_writes: u32,
+    /// Answers, bytes and names that were not those of the plain model, and writes that were finished unsynced.
     wrong: u32,
     /// Mounts that were refused, and names without an inode in use with links enough.
     unsound: u32,
 }
 
-/// A run: the numbers, the two file systems, what each should hold, and room for what it does hold.
+/// A run: the numbers, the two file systems, what each should hold, room for what it does hold, and which blocks were written,
+/// well or not, since their last good sync.
 #[derive(Drop)]
 struct Run {
     numbers: Numbers,
@@ -36,6 +44,7 @@ struct Run {
     first: Plain,
     second: Plain,
     seen: Plain,
+    is_open: [bool; BLOCKS],
     tally: Tally,
 }
 
@@ -181,7 +190,7 @@ impl Run {
 
     /// A block: the least that may be written, or any.
     fn block(&mut self, files: &Files<Running>) -> u32 {
-        let any = u32::from(self.numbers.below(48));
+        let any = u32::from(self.numbers.below(BLOCKS as u16));
         if self.numbers.below(4) == 0 {
             any
         } else {
@@ -197,23 +206,93 @@ impl Run {
                 0 => {
                     let _ = files.begin(block);
                 }
-                1 => {
-                    let _ = files.land(block);
+                1 => self.land(files, block),
+                2 => self.sync(files, block),
+                3 => self.finish(files, block),
+                4 => self.fail(files, block),
+                5 => self.fail_sync(files, block),
+                6..8 => {
+                    let _ = files.begin(block);
+                    self.land(files, block);
                 }
-                2 => {
-                    let _ = files.finish(block);
-                }
-                3 => {
-                    let stays = self.numbers.below(2) == 0;
-                    let failed = files.begin(block) && files.fail(block, stays);
-                    let _ = files.finish(block);
-                    count(&mut self.tally.device_faults, failed);
+                8..12 => {
+                    let block = self.open_block();
+                    self.sync(files, block);
+                    self.finish(files, block);
                 }
                 _ => {
                     let _ = files.write(block);
                 }
             }
         }
+    }
+
+    /// A block is written.
+    fn land(&mut self, files: &mut Files<Running>, block: u32) {
+        let landed = files.land(block);
+        self.mark(block, landed, true);
+    }
+
+    /// A block is synced.
+    fn sync(&mut self, files: &mut Files<Running>, block: u32) {
+        let synced = files.sync(block);
+        self.mark(block, synced, false);
+    }
+
+    /// The write of a block ends, unless it isn't synced.
+    fn finish(&mut self, files: &mut Files<Running>, block: u32) {
+        let finished = files.finish(block);
+        let unsynced = finished && self.is_open(block);
+        count(&mut self.tally.wrong, unsynced);
+    }
+
+    /// A write that fails. It is synced most often.
+    fn fail(&mut self, files: &mut Files<Running>, block: u32) {
+        let stays = self.numbers.below(2) == 0;
+        let failed = files.begin(block) && files.fail(block, stays);
+        self.mark(block, failed, true);
+        count(&mut self.tally.device_faults, failed);
+        if self.numbers.below(4) > 0 {
+            self.sync(files, block);
+        }
+        self.finish(files, block);
+    }
+
+    /// A write that is not synced, as the sync fails.
+    fn fail_sync(&mut self, files: &mut Files<Running>, block: u32) {
+        let _ = files.begin(block);
+        self.land(files, block);
+        let failed = files.fail_sync(block);
+        count(&mut self.tally.failed_syncs, failed);
+        self.finish(files, block);
+    }
+
+    /// Whether a block was written since its last good sync.
+    fn is_open(&self, block: u32) -> bool {
+        match self.is_open.get(block as usize) {
+            Some(open) => *open,
+            None => false,
+        }
+    }
+
+    /// A block was written or synced, where that was done.
+    fn mark(&mut self, block: u32, done: bool, open: bool) {
+        if let Some(place) = self.is_open.get_mut(block as usize) {
+            if done {
+                *place = open;
+            }
+        }
+    }
+
+    /// A block that was written since its last good sync, or any.
+    fn open_block(&mut self) -> u32 {
+        let from = usize::from(self.numbers.below(BLOCKS as u16));
+        for at in from..BLOCKS {
+            if self.is_open[at] {
+                return at as u32;
+            }
+        }
+        from as u32
     }
 
     /// Opens a volume, or makes it where it isn't there, and the model takes what it holds.
@@ -227,27 +306,58 @@ impl Run {
         self.take(files, second);
     }
 
+    /// The blocks whose open writes a crash keeps: none, all, or some of them.
+    fn kept(&mut self, alloc: Global) -> Result<Vec<u32>, AllocError> {
+        let mut kept = Vec::new(alloc);
+        let share = self.numbers.below(4);
+        for block in 0..BLOCKS {
+            if !self.is_open[block] {
+                continue;
+            }
+            count(&mut self.tally.open_writes, true);
+            if share == 1 || (share > 1 && self.numbers.below(2) == 0) {
+                count(&mut self.tally.kept_writes, true);
+                kept.push(block as u32)?;
+            }
+        }
+        Ok(kept)
+    }
+
     /// A crash.
-    fn crash(&mut self, rt: &(impl Threads + Sync), alloc: Global, files: &mut Files<Running>) {
+    fn crash(
+        &mut self,
+        rt: &(impl Threads + Sync),
+        alloc: Global,
+        files: &mut Files<Running>,
+    ) -> Result<(), AllocError> {
         count(&mut self.tally.crashes, true);
-        let mounted = files.crash(rt).is_some();
+        let kept = self.kept(alloc)?;
+        let mounted = files.crash(rt, kept).is_some();
+        self.is_open = [false; BLOCKS];
         count(&mut self.tally.unsound, !mounted);
         self.open(alloc, files, false);
         self.open(alloc, files, true);
+        Ok(())
     }
 
     /// One call of either file system, and what goes on beside it.
-    fn turn(&mut self, rt: &(impl Threads + Sync), alloc: Global, files: &mut Files<Running>) {
+    fn turn(
+        &mut self,
+        rt: &(impl Threads + Sync),
+        alloc: Global,
+        files: &mut Files<Running>,
+    ) -> Result<(), AllocError> {
         let second = self.numbers.below(2) == 0;
         self.call(alloc, files, second);
         self.events(files);
         match self.numbers.below(32) {
-            0 => self.crash(rt, alloc, files),
+            0 => self.crash(rt, alloc, files)?,
             1 => self.compare(files, second),
             2..6 => self.read(files, second),
             6..10 => self.list(alloc, files, second),
             _ => {}
         }
+        Ok(())
     }
 }
 
@@ -265,12 +375,16 @@ pub fn print_random(
         first: Plain::new(alloc)?,
         second: Plain::new(alloc)?,
         seen: Plain::new(alloc)?,
+        is_open: [false; BLOCKS],
         tally: Tally {
             done: 0,
             faults: 0,
             refused: 0,
             crashes: 0,
             device_faults: 0,
+            failed_syncs: 0,
+            open_writes: 0,
+            kept_writes: 0,
             wrong: 0,
             unsound: 0,
         },
@@ -278,7 +392,7 @@ pub fn print_random(
     run.open(alloc, files, false);
     run.open(alloc, files, true);
     for _ in 0..calls {
-        run.turn(rt, alloc, files);
+        run.turn(rt, alloc, files)?;
     }
     print_tally(rt, calls, run.tally)
 }
@@ -291,6 +405,9 @@ fn print_tally(rt: &impl Print, calls: u32, tally: Tally) -> io::Result<()> {
         refused,
         crashes,
         device_faults,
+        failed_syncs,
+        open_writes,
+        kept_writes,
         wrong,
         unsound,
     } = tally;
@@ -298,6 +415,7 @@ fn print_tally(rt: &impl Print, calls: u32, tally: Tally) -> io::Result<()> {
         "{calls} calls of two file systems: {done} done, {faults} faults, {refused} refused"
     )?;
     println!(rt;
-        "{crashes} crashes, {device_faults} device faults: {wrong} wrong, {unsound} unsound"
-    )
+        "{crashes} crashes, {device_faults} failed writes, {failed_syncs} failed syncs, {kept_writes} of {open_writes} open writes kept"
+    )?;
+    println!(rt; "{wrong} wrong, {unsound} unsound")
 }

@@ -9,6 +9,7 @@ pub fn write(kernel: &mut Kernel<MemLane>, block: u32) -> bool {
         return false;
     };
     let _ = ticket.land();
+    let _ = ticket.sync();
     match kernel.finish(ticket) {
         Ok(landed) => landed.durable > 0,
         Err((ticket, _)) => {

@@ -13,38 +13,45 @@ pub struct Pointer {
     pub ty: u32,
 }
 
+/// How many pointers of a block of this type are taken.
+pub fn pointers(ty: u32) -> u16 {
+    match ty {
+        3 | 5 => 3,
+        4 => 6,
+        6 => 2,
+        _ => 0,
+    }
+}
+
+/// One of the pointers of a block of this type.
+pub fn pointer_at(ty: u32, at: u16) -> Option<Pointer> {
+    let offset = match (ty, at) {
+        (3 | 5 | 6, 0) => 0,
+        (3 | 5, 1) => 4,
+        (3 | 5, 2) | (4 | 6, 1) => 8,
+        (4, 2) => 12,
+        (4, 0) => 56,
+        (4, 4) => 72,
+        (4, 5) => 76,
+        (4, 3) => 120,
+        _ => return None,
+    };
+    let ty = match ty {
+        3 => 4,
+        4 if at % 3 == 0 => 5,
+        6 => 6,
+        _ => 2,
+    };
+    Some(Pointer { offset, ty })
+}
+
 /// A pointer of a block of this type, which has none where it is a type of data.
 pub fn some_pointer(numbers: &mut Numbers, ty: u32) -> Option<Pointer> {
-    let place = numbers.below(3);
-    match ty {
-        3 => Some(Pointer {
-            offset: place * 4,
-            ty: 4,
-        }),
-        4 => {
-            let inode = numbers.below(2) * 64;
-            if place == 0 {
-                Some(Pointer {
-                    offset: inode + 56,
-                    ty: 5,
-                })
-            } else {
-                Some(Pointer {
-                    offset: inode + 4 + place * 4,
-                    ty: 2,
-                })
-            }
-        }
-        5 => Some(Pointer {
-            offset: place * 4,
-            ty: 2,
-        }),
-        6 => Some(Pointer {
-            offset: if place == 0 { 0 } else { 8 },
-            ty: 6,
-        }),
-        _ => None,
+    let count = pointers(ty);
+    if count == 0 {
+        return None;
     }
+    pointer_at(ty, numbers.below(count))
 }
 
 /// Whether blocks of this type have bytes 4 to 7 free for a number of each state, so that no two states are the same.
@@ -63,16 +70,26 @@ fn word_patch(alloc: Global, offset: u16, word: u32) -> Result<Patch, AllocError
     Ok(Patch { offset, bytes })
 }
 
-/// The edit that sets a pointer, where one is given, and writes the number of the state or a zero that is there already.
-pub fn edit_of(
-    alloc: Global,
-    asked: &Asked,
-    pointer: Option<(u16, u32)>,
-    last: (u16, u32),
-) -> Result<Edit, AllocError> {
+/// The words that an edit of a block of this type writes: a pointer, where it sets one, and the number of the state, or a zero that is
+/// there already.
+pub fn words_of(record: &Record, ty: u32, pointer: Option<(u16, u32)>) -> [(u16, u32); 2] {
+    let last = if has_stamp(ty) {
+        (4, stamp(record))
+    } else {
+        (60, 0)
+    };
+    match pointer {
+        Some(word) => [word, last],
+        None => [last, last],
+    }
+}
+
+/// The edit that is asked for.
+pub fn edit_of(alloc: Global, asked: &Asked) -> Result<Edit, AllocError> {
     let mut patches = Vec::new(alloc);
-    if let Some((offset, block)) = pointer {
-        patches.push(word_patch(alloc, offset, block)?)?;
+    let [first, last] = asked.entry.words;
+    if first != last {
+        patches.push(word_patch(alloc, first.0, first.1)?)?;
     }
     patches.push(word_patch(alloc, last.0, last.1)?)?;
     let mut adds = Vec::new(alloc);
@@ -131,6 +148,7 @@ pub fn plain(numbers: &mut Numbers, record: &Record, fs: u8, block: u32) -> Aske
         adds: None,
         drops: None,
         after: some_after(numbers, record),
+        words: [(60, 0); 2],
     };
     Asked {
         entry,

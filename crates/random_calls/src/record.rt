@@ -1,5 +1,7 @@
-// What each block has been since it was last free, in plain lists: each change as the rules of lives say it, and no index beside them.
+// What each block has been since it was last free, and what the device holds, in plain lists: each change as the rules of lives say it,
+// and no index beside them.
 
+use crate::held::Held;
 use std::alloc::{AllocError, Global};
 
 /// How many blocks the disk has.
@@ -25,7 +27,20 @@ pub struct Life {
     pub begun: Option<u32>,
 }
 
-/// A pending entry: at most one block that it adds, and one that it drops.
+impl Life {
+    /// The life of a block that a mount finds.
+    pub fn found(fs: Option<u8>, ty: u32, owner: u32) -> Life {
+        Life {
+            fs,
+            ty,
+            status: Status::Owned(owner),
+            is_durable: true,
+            begun: None,
+        }
+    }
+}
+
+/// A pending entry: at most one block that it adds, and one that it drops, and the two words that it writes.
 #[derive(Clone, Copy)]
 pub struct Entry {
     pub block: u32,
@@ -34,43 +49,47 @@ pub struct Entry {
     pub adds: Option<u32>,
     pub drops: Option<u32>,
     pub after: Option<u64>,
+    /// The words, each with its offset.
+    pub words: [(u16, u32); 2],
 }
 
-/// All lives by block, and all pending entries in the order of their numbers.
+/// All lives by block, all pending entries in the order of their numbers, and what the device holds.
 #[derive(Drop)]
 pub struct Record {
     pub lives: Vec<Option<Life>>,
     pub entries: Vec<Entry>,
     /// The next number to be given.
     pub next: u64,
+    /// What the device holds in each block.
+    pub held: Vec<Held>,
 }
 
 impl Record {
-    /// A fresh disk with four templates in blocks 1 to 4.
+    /// A fresh disk with four templates in blocks 1 to 4, all of zeros.
     pub fn new(alloc: Global) -> Result<Record, AllocError> {
         let mut record = Record {
             lives: vec![in alloc; None; BLOCKS as usize]?,
             entries: Vec::new(alloc),
             next: 1,
+            held: vec![in alloc; Held::rest([0; 512]); BLOCKS as usize]?,
         };
-        for block in 0..5 {
-            let status = if block == 0 {
-                Status::Fresh
-            } else {
-                Status::Owned(0)
-            };
-            record.set(
-                block,
-                Some(Life {
-                    fs: None,
-                    ty: if block == 0 { 0 } else { 1 },
-                    status,
-                    is_durable: true,
-                    begun: None,
-                }),
-            );
-        }
+        record.restart();
         Ok(record)
+    }
+
+    /// Forgets all lives but those of block 0 and of the templates, and all entries.
+    pub fn restart(&mut self) {
+        for block in 0..BLOCKS {
+            self.set(block, None);
+        }
+        for block in 1..5 {
+            self.set(block, Some(Life::found(None, 1, 0)));
+        }
+        let root = Life::found(None, 0, 0);
+        let status = Status::Fresh;
+        self.set(0, Some(Life { status, ..root }));
+        self.entries.clear();
+        self.next = 1;
     }
 
     /// The life of a block; `None` where it is free, and past the end of the disk.
@@ -78,6 +97,14 @@ impl Record {
         match self.lives.get(block as usize) {
             Some(life) => *life,
             None => None,
+        }
+    }
+
+    /// The type of a block, and that of data where it is free.
+    pub fn kind(&self, block: u32) -> u32 {
+        match self.life(block) {
+            Some(life) => life.ty,
+            None => 2,
         }
     }
 
@@ -89,7 +116,8 @@ impl Record {
         }
     }
 
-    fn set(&mut self, block: u32, life: Option<Life>) {
+    /// A block has this life from now on, or is free.
+    pub fn set(&mut self, block: u32, life: Option<Life>) {
         if let Some(place) = self.lives.get_mut(block as usize) {
             *place = life;
         }
@@ -101,8 +129,15 @@ impl Record {
         }
     }
 
-    /// A life begins.
-    pub fn init(&mut self, fs: u8, ty: u32, block: u32, number: u64) -> Result<(), AllocError> {
+    /// A life begins, with an entry that writes these words over zeros.
+    pub fn init(
+        &mut self,
+        fs: u8,
+        ty: u32,
+        block: u32,
+        number: u64,
+        words: [(u16, u32); 2],
+    ) -> Result<(), AllocError> {
         self.set(
             block,
             Some(Life {
@@ -120,6 +155,7 @@ impl Record {
             adds: None,
             drops: None,
             after: None,
+            words,
         })
     }
 

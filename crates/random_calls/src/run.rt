@@ -1,9 +1,11 @@
 // The calls are made.
 
-use crate::edits::{claiming, edit_of, has_stamp, plain, search, some_pointer, some_target, stamp};
+use crate::edits::{claiming, edit_of, plain, search, some_pointer, some_target, words_of};
+use crate::held::{Bytes, put_word, word_at};
+use crate::reached::slot;
 use crate::record::{Entry, Record};
 use crate::tally::{Kind, Tally};
-use crate::writes::{Write, drain};
+use crate::writes::Write;
 use disk::MemLane;
 use pseudo_random::Numbers;
 use std::alloc::{AllocError, Global};
@@ -18,28 +20,15 @@ const WRITES: usize = 6;
 /// What stands beside the kernel.
 #[derive(Drop)]
 pub struct Run {
-    numbers: Numbers,
-    record: Record,
-    writes: Vec<Write>,
+    pub numbers: Numbers,
+    pub record: Record,
+    pub writes: Vec<Write>,
     pub tally: Tally,
 }
 
 /// The entry that a block has accepted.
 fn entry_of(block: u32, answer: Result<EditId, Refusal>) -> Result<(u32, u64), Refusal> {
     Ok((block, answer?.number()))
-}
-
-/// The first bytes of a block whose newest state has this number.
-fn first_bytes(ty: u32, stamp: u32) -> [u8; 512] {
-    let mut bytes = [0u8; 512];
-    if has_stamp(ty) {
-        let word = stamp.to_le_bytes();
-        bytes[4] = word[0];
-        bytes[5] = word[1];
-        bytes[6] = word[2];
-        bytes[7] = word[3];
-    }
-    bytes
 }
 
 /// A block's number as an answer.
@@ -89,14 +78,14 @@ impl Run {
 
     fn init(&mut self, kernel: &mut Kernel<MemLane>, fs: Fs) -> Result<(), AllocError> {
         let ty = self.numbers.pick(&[2u32, 2, 2, 3, 4, 4, 5, 6, 6, 6]);
-        let bytes = first_bytes(ty, stamp(&self.record));
-        let answer = match kernel.init(fs, ty, &bytes) {
+        let words = words_of(&self.record, ty, None);
+        let answer = match kernel.init(fs, ty, &first_bytes(words)) {
             Ok((block, entry)) => Ok((block, entry.number())),
             Err(refusal) => Err(refusal),
         };
         self.tally.take(Kind::Init, answer, self.record.next_init());
         if let Ok((block, number)) = answer {
-            self.record.init(fs.number(), ty, block, number)?;
+            self.record.init(fs.number(), ty, block, number, words)?;
         }
         Ok(())
     }
@@ -112,6 +101,10 @@ impl Run {
             let mut entry = plain(&mut self.numbers, &self.record, system, 0).entry;
             entry.adds = Some(block);
             entry.after = None;
+            entry.words = [
+                (slot(system), block),
+                (slot(system).saturating_add(4), self.record.kind(block)),
+            ];
             self.accept(entry)?;
         }
         Ok(())
@@ -126,6 +119,7 @@ impl Run {
             let mut entry = plain(&mut self.numbers, &self.record, system, 0).entry;
             entry.drops = self.record.root(system);
             entry.after = None;
+            entry.words = [(slot(system), 0), (slot(system).saturating_add(4), 0)];
             self.accept(entry)?;
         }
         Ok(())
@@ -139,10 +133,7 @@ impl Run {
         block: u32,
     ) -> Result<(), AllocError> {
         let system = fs.number();
-        let ty = match self.record.life(block) {
-            Some(life) => life.ty,
-            None => 2,
-        };
+        let ty = self.record.kind(block);
         let mut asked = plain(&mut self.numbers, &self.record, system, block);
         let mut pointer = None;
         if let Some(place) = some_pointer(&mut self.numbers, ty)
@@ -153,12 +144,8 @@ impl Run {
             asked = claiming(&mut self.numbers, asked, place.ty, old, new);
             pointer = Some((place.offset, new));
         }
-        let last = if has_stamp(ty) {
-            (4, stamp(&self.record))
-        } else {
-            (60, 0)
-        };
-        let edit = edit_of(alloc, &asked, pointer, last)?;
+        asked.entry.words = words_of(&self.record, ty, pointer);
+        let edit = edit_of(alloc, &asked)?;
         let answer = entry_of(block, kernel.propose(fs, block, &edit));
         let wanted = self.record.next_propose(&asked);
         self.tally.take(Kind::Propose, answer, wanted);
@@ -187,73 +174,6 @@ impl Run {
         }
     }
 
-    /// Begins a write: of this block, or of the one that is picked.
-    fn begin(&mut self, kernel: &mut Kernel<MemLane>, block: u32) -> Result<(), AllocError> {
-        let block = match self.record.pick() {
-            Some(picked) if self.numbers.below(2) == 0 => picked,
-            _ => block,
-        };
-        let wanted = match self.record.next_begin(block) {
-            Ok(count) => Ok((count, 0)),
-            Err(refusal) => Err(refusal),
-        };
-        match Write::begin(kernel, block) {
-            Ok((write, count)) => {
-                self.tally.take(Kind::Begin, Ok((count, 0)), wanted);
-                self.record.begin(block, count);
-                self.writes.push(write)?;
-            }
-            Err(refusal) => self.tally.take(Kind::Begin, Err(refusal), wanted),
-        }
-        Ok(())
-    }
-
-    /// Lands and finishes one of the writes that are under way, if there is one.
-    fn finish(&mut self, kernel: &mut Kernel<MemLane>) {
-        let at = usize::from(self.numbers.below(6));
-        let count = self.writes.len();
-        if count == 0 {
-            return;
-        }
-        let mut write = self.writes.swap_remove(at % count);
-        let block = write.block();
-        let (may_fail, begun) = match self.record.life(block) {
-            Some(life) => (has_stamp(life.ty), life.begun.unwrap_or(0)),
-            None => (false, 0),
-        };
-        let count = if write.land(&mut self.numbers, may_fail) {
-            begun
-        } else {
-            0
-        };
-        let freed = self.record.settle(block, count);
-        self.tally.landed(count, freed);
-        let answer = match write.finish(kernel) {
-            Ok((durable, freed)) => Ok((durable, u64::from(freed))),
-            Err(refusal) => Err(refusal),
-        };
-        self.tally
-            .take(Kind::Finish, answer, Ok((count, u64::from(freed))));
-    }
-
-    /// Drains, mostly once all writes are finished.
-    fn drain(&mut self, kernel: &mut Kernel<MemLane>) {
-        if self.numbers.below(4) > 0 {
-            for _ in 0..self.writes.len() {
-                self.finish(kernel);
-            }
-        }
-        let answer = match drain(kernel) {
-            Ok(writes) => Ok((writes, 0)),
-            Err(refusal) => Err(refusal),
-        };
-        let wanted = match self.record.drain() {
-            Ok(writes) => Ok((writes, 0)),
-            Err(refusal) => Err(refusal),
-        };
-        self.tally.take(Kind::Drain, answer, wanted);
-    }
-
     /// Asks what changes nothing.
     fn ask(&mut self, kernel: &Kernel<MemLane>, fs: Fs, block: u32) {
         let system = fs.number();
@@ -270,6 +190,10 @@ impl Run {
         let (_, owners) = record.chain_end(block);
         tally.met(record.entries.len(), is_tainted, owners);
         tally.ask(code(kernel.root(fs)), code(record.root(system)));
+        if let Ok(bytes) = kernel.read(fs, block) {
+            tally.check(*bytes == record.bytes_after(block, u32::MAX));
+        }
+        self.look_at(kernel, block);
     }
 
     /// The next call, and the questions after it.
@@ -285,22 +209,28 @@ impl Run {
             52..=299 => self.propose(alloc, kernel, fs, block)?,
             300..=359 => self.forget(kernel, fs, block),
             360..=439 if self.writes.len() < WRITES => self.begin(kernel, block)?,
-            360..=510 if self.writes.len() > 0 => self.finish(kernel),
+            360..=510 if self.writes.len() > 0 => self.go_on(kernel)?,
             360..=510 => self.begin(kernel, block)?,
-            _ => self.drain(kernel),
+            _ => self.drain(kernel)?,
         }
         self.ask(kernel, fs, block);
         Ok(())
     }
 }
 
-/// The block that a pointer names: all are below 64, so that its first byte tells.
+/// The bytes that words leave where there were zeros.
+fn first_bytes(words: [(u16, u32); 2]) -> Bytes {
+    let mut bytes = [0; 512];
+    for (offset, word) in words {
+        put_word(&mut bytes, offset, word);
+    }
+    bytes
+}
+
+/// The block that a pointer names.
 fn pointed(kernel: &Kernel<MemLane>, fs: Fs, block: u32, offset: u16) -> u32 {
     match kernel.read(fs, block) {
-        Ok(bytes) => match bytes.get(usize::from(offset)) {
-            Some(byte) => u32::from(*byte),
-            None => 0,
-        },
+        Ok(bytes) => word_at(bytes, offset),
         Err(_) => 0,
     }
 }

@@ -1,5 +1,6 @@
 // What a kernel is asked, answered by scans of all lives and all entries.
 
+use crate::held::Held;
 use crate::record::{BLOCKS, Entry, Record, Status};
 use xn_kernel::Refusal;
 
@@ -179,6 +180,7 @@ impl Record {
         for _ in 0..self.entries.len() {
             if let Some(block) = self.pick() {
                 let count = self.prefix(block);
+                self.hold(block, Held::rest(self.bytes_after(block, count)));
                 let _freed = self.settle(block, count);
                 writes = writes.saturating_add(1);
             }

@@ -42,6 +42,21 @@ pub struct Tally {
     /// How many entries finished writes made durable, and how many blocks were free by them.
     pub durable: u32,
     pub freed: u32,
+    /// How many syncs of tickets answered well, and how many failed.
+    pub synced: u32,
+    pub unsynced: u32,
+    /// How many finishes were refused with NotSynced.
+    pub refused: u32,
+    /// How many crashes there were, and how many mounts failed since a lane could not be synced.
+    pub crashes: u32,
+    pub unmounted: u32,
+    /// How many open writes the crashes kept and lost, and how many they kept that a read had not found.
+    pub kept: u32,
+    pub lost: u32,
+    pub unread: u32,
+    /// How many blocks the mounts after crashes reached, and how many they left free.
+    pub reached: u32,
+    pub left: u32,
     pub compared: u32,
     pub wrong: u32,
     pub hash: u64,
@@ -77,6 +92,16 @@ impl Tally {
             owners: 0,
             durable: 0,
             freed: 0,
+            synced: 0,
+            unsynced: 0,
+            refused: 0,
+            crashes: 0,
+            unmounted: 0,
+            kept: 0,
+            lost: 0,
+            unread: 0,
+            reached: 0,
+            left: 0,
             compared: 0,
             wrong: 0,
             hash: 0xcbf29ce484222325,
@@ -98,6 +123,9 @@ impl Tally {
         if answer == Err(Refusal::Cycle) {
             self.cycles = self.cycles.saturating_add(1);
         }
+        if answer == Err(Refusal::NotSynced) {
+            self.refused = self.refused.saturating_add(1);
+        }
         let (first, second) = match answer {
             Ok((first, second)) => (u64::from(first), second),
             Err(refusal) => (u64::MAX, refusal as u64),
@@ -113,7 +141,7 @@ impl Tally {
     }
 
     /// Takes whether an answer is a scan's.
-    fn check(&mut self, is_same: bool) {
+    pub fn check(&mut self, is_same: bool) {
         self.compared = self.compared.saturating_add(1);
         if !is_same {
             self.wrong = self.wrong.saturating_add(1);
@@ -124,6 +152,41 @@ impl Tally {
     pub fn landed(&mut self, durable: u32, freed: u32) {
         self.durable = self.durable.saturating_add(durable);
         self.freed = self.freed.saturating_add(freed);
+    }
+
+    /// Takes how a sync answered.
+    pub fn synced(&mut self, is_well: bool) {
+        if is_well {
+            self.synced = self.synced.saturating_add(1);
+        } else {
+            self.unsynced = self.unsynced.saturating_add(1);
+        }
+    }
+
+    /// Takes what a crash did with an open write, whose bytes a read found or not.
+    pub fn crashed(&mut self, is_kept: bool, is_read: bool) {
+        if !is_kept {
+            self.lost = self.lost.saturating_add(1);
+        } else {
+            self.kept = self.kept.saturating_add(1);
+            if !is_read {
+                self.unread = self.unread.saturating_add(1);
+            }
+        }
+    }
+
+    /// Takes that a mount failed since a lane could not be synced.
+    pub fn unmounted(&mut self) {
+        self.unmounted = self.unmounted.saturating_add(1);
+    }
+
+    /// Takes whether a mount after a crash reached a block.
+    pub fn reached(&mut self, is_reached: bool) {
+        if is_reached {
+            self.reached = self.reached.saturating_add(1);
+        } else {
+            self.left = self.left.saturating_add(1);
+        }
     }
 
     /// Takes that a block that owns others was attached to this one.

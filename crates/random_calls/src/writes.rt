@@ -1,27 +1,42 @@
 // Writes that are under way.
 
+use crate::held::Bytes;
 use disk::MemLane;
-use pseudo_random::Numbers;
-use xn_kernel::{DrainStop, Kernel, Refusal, Ticket};
+use xn_kernel::{DrainStop, Kernel, Landed, Refusal, Ticket};
 
-/// The ticket of a write that is under way. Where it is dropped, the write is given up.
+/// A write that is under way, beside what the rules say of it. Where it is dropped, the write is given up.
 pub struct Write {
     ticket: Ticket<MemLane>,
+    /// What the block's safe entries left when it was begun.
+    pub bytes: Bytes,
+    /// Whether it was written, well or not, since its last good sync.
+    pub is_unsynced: bool,
 }
 
 impl Drop for Write {
     fn drop(self) {
-        let Write { ticket } = self;
-        let _lane = ticket.into_lane();
+        let _lane = self.into_lane();
     }
 }
 
 impl Write {
-    /// Begins a write of a block; how many entries it carries.
-    pub fn begin(kernel: &mut Kernel<MemLane>, block: u32) -> Result<(Write, u32), Refusal> {
+    /// Begins a write of a block, to which the rules give these bytes; how many entries it carries.
+    pub fn begin(
+        kernel: &mut Kernel<MemLane>,
+        block: u32,
+        bytes: Bytes,
+    ) -> Result<(Write, u32), Refusal> {
         let ticket = kernel.begin(block)?;
         let count = ticket.count();
-        Ok((Write { ticket }, count))
+        let is_unsynced = false;
+        Ok((
+            Write {
+                ticket,
+                bytes,
+                is_unsynced,
+            },
+            count,
+        ))
     }
 
     /// The block that is written.
@@ -29,28 +44,63 @@ impl Write {
         self.ticket.block()
     }
 
-    /// Carries the write out, and answers whether the new bytes are there. Where it may fail, one of four does, and half of those leave
-    /// the old bytes.
-    pub fn land(&mut self, numbers: &mut Numbers, may_fail: bool) -> bool {
-        let stays = numbers.below(2) == 0;
-        let fails = may_fail && numbers.below(4) == 0;
+    /// The bytes that its lane reads.
+    pub fn newest(&self) -> &Bytes {
+        self.ticket.lane().bytes()
+    }
+
+    /// Whether the ticket says what the rules say of it.
+    pub fn is_right(&self) -> bool {
+        self.ticket.is_unsynced() == self.is_unsynced
+    }
+
+    /// Carries the write out, well or not; where it fails, the new bytes stay or the old ones. Whether it answers well.
+    pub fn land(&mut self, fails: bool, stays: bool) -> bool {
         if fails {
             self.ticket.fail_next_write(stays);
         }
-        let _landed = self.ticket.land();
-        !fails || stays
+        self.is_unsynced = true;
+        self.ticket.land().is_ok()
     }
 
-    /// Ends the write: how many entries are durable, and how many blocks are free by that.
-    pub fn finish(self, kernel: &mut Kernel<MemLane>) -> Result<(u32, u32), Refusal> {
-        let Write { ticket } = self;
+    /// Settles the block, well or not. Whether it answers well.
+    pub fn sync(&mut self, fails: bool) -> bool {
+        if fails {
+            self.ticket.fail_next_sync();
+        } else {
+            self.is_unsynced = false;
+        }
+        self.ticket.sync().is_ok()
+    }
+
+    /// Ends the write. `Err` gives it back.
+    pub fn finish(self, kernel: &mut Kernel<MemLane>) -> Result<Landed, (Write, Refusal)> {
+        let Write {
+            ticket,
+            bytes,
+            is_unsynced,
+        } = self;
         match kernel.finish(ticket) {
-            Ok(landed) => Ok((landed.durable, landed.freed)),
+            Ok(landed) => Ok(landed),
             Err((ticket, refusal)) => {
-                let _lane = ticket.into_lane();
-                Err(refusal)
+                let write = Write {
+                    ticket,
+                    bytes,
+                    is_unsynced,
+                };
+                Err((write, refusal))
             }
         }
+    }
+
+    /// Gives the write up; the block's lane.
+    pub fn into_lane(self) -> MemLane {
+        let Write {
+            ticket,
+            bytes: _,
+            is_unsynced: _,
+        } = self;
+        ticket.into_lane()
     }
 }
 

@@ -1,6 +1,6 @@
 -- What a line tells is an event.
 use Rattle.std.proofs.Common.{◌≡◌, ℕ, Bool, true, false, MatchBool, List, refl}
-use Rattle.xn_state.specs.declared.call.Call.TheVariants.{Init, Propose, MakeRoot, DropRoot, Forget, Read, Pending, Floor, Pick, Drain}
+use Rattle.xn_state.specs.declared.call.Call.TheVariants.{Propose, MakeRoot, DropRoot, Forget, Read, Pending, Floor, Pick, Drain}
 use Rattle.events.specs.declared.event.Event.{Event}
 use Rattle.events.specs.declared.event.Event.TheVariants as event
 use Rattle.script.specs.declared.told.LineEvent.{LineEvent}
@@ -23,8 +23,10 @@ told_event words (line.Drain fs) other tells = (event.Call fs Drain, tells)
 told_event words (line.Begin block) other tells = (event.Begin block, tells)
 told_event words (line.Land block) other tells = (event.Land block, tells)
 told_event words (line.Fail block stays) other tells = (event.Fail block stays, tells)
+told_event words (line.Sync block) other tells = (event.Sync block, tells)
+told_event words (line.FailSync block) other tells = (event.FailSync block, tells)
 told_event words (line.Finish block) other tells = (event.Finish block, tells)
-told_event words line.Crash other tells = (event.Crash, tells)
+told_event words (line.Crash kept) other tells = (event.Crash kept, tells)
 
 -- from what each answer says follows something else
 pub match_then : {A B C D : Type 0} (b : Bool) → (A → C) → (B → D) → MatchBool b A B → MatchBool b C D

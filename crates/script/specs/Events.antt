@@ -1,4 +1,4 @@
-use Rattle.std.specs.Prelude.{◌≡◌, ℕ, Bool, true, false, ◌^◌, ◌<◌, List, [], ◌∷◌, codes}
+use Rattle.std.specs.Prelude.{◌≡◌, ◌≢◌, ℕ, Bool, true, false, List, [], ◌∷◌, codes}
 use Rattle.std.specs.Fmt.{decimal}
 use Rattle.xn_state.specs.declared.call.Call.{Call}
 use Rattle.xn_state.specs.declared.call.Call.TheVariants.{Init, Propose, MakeRoot, DropRoot, Forget, Read, Root, Kind, Tainted, Pending, Floor, Free, Pick, Drain}
@@ -6,11 +6,7 @@ use Rattle.events.specs.declared.event.Event.{Event}
 use Rattle.events.specs.declared.event.Event.TheVariants as event
 use Rattle.script_words.specs.Edits.{SpellsEdit}
 use Rattle.script_words.specs.Hex.{IsBlockText, SpellsBlock}
-
--- a word that spells a number of 32 bits
-pub record SpellsNumber (word : List ℕ) (n : ℕ) : Type 0 where
-  pub spelled : word ≡ decimal n
-  pub small : n < 2 ^ 32
+use Rattle.script_words.specs.Numbers.{SpellsNumber, SpellNumbers}
 
 -- the words of a client's call
 abbrev pub SpellsCall : List (List ℕ) → ℕ → Call → Type 0
@@ -45,8 +41,18 @@ Spells words (event.Call fs call) = SpellsCall words fs.number call
 Spells words (event.Begin block) = (number : List ℕ) × (words ≡ codes "begin" ∷ number ∷ []) × SpellsNumber number block
 Spells words (event.Land block) = (number : List ℕ) × (words ≡ codes "land" ∷ number ∷ []) × SpellsNumber number block
 Spells words (event.Fail block stays) = (number : List ℕ) × (words ≡ codes "fail" ∷ number ∷ stays_word stays ∷ []) × SpellsNumber number block
+Spells words (event.Sync block) = (number : List ℕ) × (words ≡ codes "sync" ∷ number ∷ []) × SpellsNumber number block
+Spells words (event.FailSync block) = (number : List ℕ) × (words ≡ codes "failsync" ∷ number ∷ []) × SpellsNumber number block
 Spells words (event.Finish block) = (number : List ℕ) × (words ≡ codes "finish" ∷ number ∷ []) × SpellsNumber number block
-Spells words event.Crash = words ≡ codes "crash" ∷ []
+Spells words (event.Crash kept) = (numbers : List (List ℕ)) × (words ≡ codes "crash" ∷ numbers) × SpellNumbers numbers kept.items
+
+-- a word that names no step of a write
+pub record IsNoWrite (word : List ℕ) : Type 0 where
+  pub begin : word ≢ codes "begin"
+  pub land : word ≢ codes "land"
+  pub sync : word ≢ codes "sync"
+  pub failsync : word ≢ codes "failsync"
+  pub finish : word ≢ codes "finish"
 
 -- words that spell no event
 abbrev pub SpellNothing : List (List ℕ) → Type 0

@@ -47,6 +47,7 @@ abbrev pub reply_text : Reply → List ℕ
 reply_text (reply.Answered given) = answer_text given
 reply_text (reply.Begun entries) = codes "begun " ++ decimal entries
 reply_text reply.Landed = codes "landed"
+reply_text reply.Synced = codes "synced"
 reply_text reply.Fault = codes "fault"
 reply_text (reply.Finished landed) = codes "durable " ++ decimal landed.durable ++ codes " freed " ++ decimal landed.freed
 reply_text (reply.Mounted reached free) = codes "mounted " ++ decimal reached ++ codes " " ++ decimal free

@@ -28,6 +28,7 @@ fn print_text<W: Write>(out: &mut W, reply: &Reply) -> io::Result<()>
         Reply::Answered(answer) => print_answer(out, answer),
         Reply::Begun { entries } => write!(out, "begun {entries}"),
         Reply::Landed => write!(out, "landed"),
+        Reply::Synced => write!(out, "synced"),
         Reply::Fault => write!(out, "fault"),
         Reply::Finished(landed) => {
             write!(out, "durable {} freed {}", landed.durable, landed.freed)

@@ -1,14 +1,14 @@
 ghost use Rattle.std.specs.Prelude.{◌≡◌, ◌↔◌, ◌≢◌, ◌<◌, ◌==◌, ℕ, List, IfOk, IfErr, IfSome, IfNone, IsSome, [], ◌∷◌, codes, map, option_copied, MatchBool};
 ghost use Rattle.std.specs.Fmt.{decimal};
 ghost use Rattle.std.specs.List.{slice_split};
-ghost use Rattle.script.specs.Events.{Spells, SpellNothing};
+ghost use Rattle.script.specs.Events.{Spells, SpellNothing, IsNoWrite};
 ghost use Rattle.script.specs.Told.{Tells};
 ghost use Rattle.events.specs.declared.event.Event.{Event};
 ghost use Rattle.script.specs.Scripts.{event_lines, is_passed_over, words_in, words_of, IsScriptFault, LineSpells, SpellEvents, SpellsSome};
 
 use crate::told::LineEvent;
 use events::Event;
-use script_words::{ScriptFault, parse_block, parse_edit, parse_number, parse_u32};
+use script_words::{ScriptFault, parse_block, parse_edit, parse_number, parse_numbers, parse_u32};
 use std::alloc::{AllocError, Global};
 use xn_state::{Call, Fs};
 
@@ -54,7 +54,7 @@ fn parse_edit_event<'a>(
 /// The event of a name and two words behind it, a file system and a block.
 fn parse_place<'a>(name: &str, fs: &str, block: &str) -> Option<LineEvent<'a>>
     ensures some { IfSome result (Tells (name.now ∷ fs.now ∷ block.now ∷ [])) }
-    ensures none { IfNone result (name.now ≢ codes "edit" → name.now ≢ codes "fail" → SpellNothing (name.now ∷ fs.now ∷ block.now ∷ [])) }
+    ensures none { IfNone result (name.now ≢ codes "edit" → name.now ≢ codes "fail" → name.now ≢ codes "crash" → SpellNothing (name.now ∷ fs.now ∷ block.now ∷ [])) }
 {
     let fs = parse_fs(fs)?;
     let block = parse_u32(block)?;
@@ -82,7 +82,7 @@ fn parse_fail<'a>(block: &str, bytes: &str) -> Option<LineEvent<'a>>
 /// The event of a name and two words behind it.
 fn parse_triple<'a>(name: &str, first: &str, second: &str) -> Option<LineEvent<'a>>
     ensures some { IfSome result (Tells (name.now ∷ first.now ∷ second.now ∷ [])) }
-    ensures none { IfNone result (name.now ≢ codes "edit" → SpellNothing (name.now ∷ first.now ∷ second.now ∷ [])) }
+    ensures none { IfNone result (name.now ≢ codes "edit" → name.now ≢ codes "crash" → SpellNothing (name.now ∷ first.now ∷ second.now ∷ [])) }
 {
     if name == "fail" {
         parse_fail(first, second)
@@ -94,7 +94,7 @@ fn parse_triple<'a>(name: &str, first: &str, second: &str) -> Option<LineEvent<'
 /// The event of a name and one word behind it, a file system.
 fn parse_system<'a>(name: &str, word: &str) -> Option<LineEvent<'a>>
     ensures some { IfSome result (Tells (name.now ∷ word.now ∷ [])) }
-    ensures none { IfNone result (name.now ≢ codes "begin" → name.now ≢ codes "land" → name.now ≢ codes "finish" → SpellNothing (name.now ∷ word.now ∷ [])) }
+    ensures none { IfNone result (IsNoWrite name.now → name.now ≢ codes "crash" → SpellNothing (name.now ∷ word.now ∷ [])) }
 {
     let fs = parse_fs(word)?;
     match name {
@@ -108,26 +108,27 @@ fn parse_system<'a>(name: &str, word: &str) -> Option<LineEvent<'a>>
 /// The event of a name and one word behind it.
 fn parse_short<'a>(name: &str, word: &str) -> Option<LineEvent<'a>>
     ensures some { IfSome result (Tells (name.now ∷ word.now ∷ [])) }
-    ensures none { IfNone result (SpellNothing (name.now ∷ word.now ∷ [])) }
+    ensures none { IfNone result (name.now ≢ codes "crash" → SpellNothing (name.now ∷ word.now ∷ [])) }
 {
     match name {
         "begin" => Some(LineEvent::Begin(parse_u32(word)?)),
         "land" => Some(LineEvent::Land(parse_u32(word)?)),
+        "sync" => Some(LineEvent::Sync(parse_u32(word)?)),
+        "failsync" => Some(LineEvent::FailSync(parse_u32(word)?)),
         "finish" => Some(LineEvent::Finish(parse_u32(word)?)),
         _ => parse_system(name, word),
     }
 }
 
-/// The event of a name alone: a crash, or a call of file system 0.
+/// The event of a name alone, a call of file system 0.
 fn parse_name<'a>(name: &str) -> Option<LineEvent<'a>>
     ensures some { IfSome result (Tells (name.now ∷ [])) }
-    ensures none { IfNone result (SpellNothing (name.now ∷ [])) }
+    ensures none { IfNone result (name.now ≢ codes "crash" → SpellNothing (name.now ∷ [])) }
 {
     let Some(fs) = Fs::new(0) else { unreachable!() };
     match name {
         "pick" => Some(LineEvent::Pick(fs)),
         "drain" => Some(LineEvent::Drain(fs)),
-        "crash" => Some(LineEvent::Crash),
         _ => None,
     }
 }
@@ -141,13 +142,25 @@ fn parse_long<'a>(
     rest: &[&'a str],
 ) -> Result<Option<LineEvent<'a>>, AllocError>
     ensures some { IfOk result (λ read. IfSome read (Tells (name.now ∷ first.now ∷ second.now ∷ map (λ word. word.now) rest.now))) }
-    ensures none { IfOk result (λ read. IfNone read (SpellNothing (name.now ∷ first.now ∷ second.now ∷ map (λ word. word.now) rest.now))) }
+    ensures none { IfOk result (λ read. IfNone read
+        (name.now ≢ codes "crash" → SpellNothing (name.now ∷ first.now ∷ second.now ∷ map (λ word. word.now) rest.now))) }
 {
     match name {
         "init" => Ok(parse_init(first, second, rest)),
         "edit" => parse_edit_event(alloc, first, second, rest),
         _ if rest.is_empty() => Ok(parse_triple(name, first, second)),
         _ => Ok(None),
+    }
+}
+
+/// The event of the word `crash` and the words behind it, blocks.
+fn parse_crash<'a>(alloc: Global, words: &[&str]) -> Result<Option<LineEvent<'a>>, AllocError>
+    ensures some { IfOk result (λ read. IfSome read (Tells (codes "crash" ∷ map (λ word. word.now) words.now))) }
+    ensures none { IfOk result (λ read. IfNone read (SpellNothing (codes "crash" ∷ map (λ word. word.now) words.now))) }
+{
+    match parse_numbers(alloc, words)? {
+        Some(kept) => Ok(Some(LineEvent::Crash(kept))),
+        None => Ok(None),
     }
 }
 
@@ -195,6 +208,10 @@ fn read_line(alloc: Global, line: &str) -> Result<Option<LineEvent>, AllocError>
     ensures none { IfOk result (λ read. IfNone read (SpellNothing (words_of line.now))) }
 {
     let (name, rest) = first_word(line);
+    if name == "crash" {
+        let words = words_in(alloc, rest)?;
+        return parse_crash(alloc, words.as_slice());
+    }
     let Some(rest) = rest else {
         return Ok(parse_name(name));
     };
@@ -235,8 +252,10 @@ pub fn parse_line(alloc: Global, line: &str) -> Result<Option<Event>, AllocError
         LineEvent::Begin(block) => Ok(Some(Event::Begin(block))),
         LineEvent::Land(block) => Ok(Some(Event::Land(block))),
         LineEvent::Fail(block, new_bytes_stay) => Ok(Some(Event::Fail(block, new_bytes_stay))),
+        LineEvent::Sync(block) => Ok(Some(Event::Sync(block))),
+        LineEvent::FailSync(block) => Ok(Some(Event::FailSync(block))),
         LineEvent::Finish(block) => Ok(Some(Event::Finish(block))),
-        LineEvent::Crash => Ok(Some(Event::Crash)),
+        LineEvent::Crash(kept) => Ok(Some(Event::Crash(kept))),
     }
 }
 

@@ -18,6 +18,8 @@ pub enum LineEvent<'a> {
     Begin(u32),
     Land(u32),
     Fail(u32, bool),
+    Sync(u32),
+    FailSync(u32),
     Finish(u32),
-    Crash,
+    Crash(Vec<u32>),
 }

@@ -12,4 +12,4 @@ pub use bytes::print_bytes;
 pub use edit::parse_edit;
 pub use fault::ScriptFault;
 pub use hex::parse_block;
-pub use number::{parse_number, parse_u32};
+pub use number::{parse_number, parse_numbers, parse_u32};

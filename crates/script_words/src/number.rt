@@ -1,6 +1,8 @@
-ghost use Rattle.std.specs.Prelude.{◌≡◌, ◌≤◌, ◌↔◌, ℕ, Some, IfSome, IsTrue};
+ghost use Rattle.std.specs.Prelude.{◌≡◌, ◌≤◌, ◌↔◌, ℕ, List, map, Some, IfOk, IfSome, IfNone, IsTrue};
 ghost use Rattle.std.specs.Fmt.{decimal};
-ghost use Rattle.script_words.specs.Numbers.{IsPlain};
+ghost use Rattle.script_words.specs.Numbers.{IsPlain, SpellNumbers};
+
+use std::alloc::{AllocError, Global};
 
 /// Whether a text has no sign and no leading zero.
 fn is_plain(text: &str) -> bool
@@ -29,4 +31,19 @@ pub fn parse_u32(text: &str) -> Option<u32>
 {
     let number = parse_number(text, u64::from(u32::MAX))?;
     Some(number as u32)
+}
+
+/// The numbers of at most 32 bits that the words spell, one a word.
+pub fn parse_numbers(alloc: Global, words: &[&str]) -> Result<Option<Vec<u32>>, AllocError>
+    ensures some { IfOk result (λ read. IfSome read (λ numbers. SpellNumbers (map (λ word. word.now) words.now) numbers.items)) }
+    ensures none { IfOk result (λ read. IfNone read ((numbers : List ℕ) → ¬ SpellNumbers (map (λ word. word.now) words.now) numbers)) }
+{
+    let mut numbers = Vec::new(alloc);
+    for word in words {
+        let Some(number) = parse_u32(word) else {
+            return Ok(None);
+        };
+        numbers.push(number)?;
+    }
+    Ok(Some(numbers))
 }

@@ -23,7 +23,7 @@ pub fn worker<L: Lane, G: Gate, K: Naming, R: Wait>(
     calls: &[Call],
 ) -> Result<Vec<Answer>, AllocError>
     requires { All (λ call. call ≢ Drain) calls.now }
-    ensures { IfOk result (λ answers. AllZip (MayAnswer L.bytes_of fs.number) calls.now answers.items) }
+    ensures { IfOk result (λ answers. AllZip (MayAnswer L.bytes_of L.crash_leaves fs.number) calls.now answers.items) }
 {
     let mut answers = Vec::with_capacity(alloc, calls.len())?;
     for call in calls {

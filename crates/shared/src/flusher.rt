@@ -1,6 +1,7 @@
 // The threads that write blocks.
 
-ghost use Rattle.std.specs.Prelude.{◌≡◌, None, IfNone};
+ghost use Rattle.std.specs.Prelude.{◌≡◌, Some, None, IfNone, IfSome, IsTrue};
+ghost use Rattle.shared.specs.Flushers.{CouldNotSync};
 
 use crate::hub::Hub;
 use crate::lock::{Gate, Held, Locked};
@@ -17,7 +18,7 @@ pub struct FlushEnd<L: Lane> {
     pub writes: u32,
     /// Why it ended, if not by the stop flag.
     pub fault: Option<Refusal>,
-    /// The write that could not be finished.
+    /// The write that could not be synced or finished: its block is still in flight.
     pub ticket: Option<Ticket<L>>,
 }
 
@@ -33,11 +34,16 @@ impl<'a, L: Lane, G: Gate, K: Naming> Flusher<'a, Hub<L, K>, G> {
         Flusher { shared }
     }
 
-    /// Writes block after block, each with no lock held, and finishes each under the lock. It ends once the stop flag is set
-    /// and no block may be written; after a write that the device failed, which is finished too, with `Device`; and after a
-    /// finish that is refused, with the refusal and the ticket.
+    /// Writes block after block and syncs each, with no lock held, and finishes each under the lock. It ends
+    /// - once the stop flag is set and no block may be written;
+    /// - with `Device` after a write that the device failed, which is synced and finished too;
+    /// - with `Device` and the ticket where a sync fails, be the write itself well done or not: the ticket is still unsynced,
+    ///   and its block stays in flight, so that it may be synced again and finished;
+    /// - with the refusal and the ticket after a finish that is refused, of a write that is synced.
     pub fn run<R: Wait>(&self, rt: &R) -> FlushEnd<L>
-        ensures { IfNone result.fault (result.ticket ≡ None) }
+        ensures none { IfNone result.fault (result.ticket ≡ None) }
+        ensures unsynced { IfSome result.ticket (λ ticket. IsTrue ticket.unsynced →
+            (result.fault ≡ Some Refusal.Device) × CouldNotSync L.sync_gives ticket.lane) }
     {
         let mut writes = 0u32;
         for _ in rt.forever() {
@@ -54,6 +60,9 @@ impl<'a, L: Lane, G: Gate, K: Naming> Flusher<'a, Hub<L, K>, G> {
             self.shared.gate.begun(block);
             let landed = ticket.land();
             self.shared.gate.landed(block);
+            if ticket.sync().is_err() {
+                return flush_end(writes, Some(Refusal::Device), Some(ticket));
+            }
             let finished = self.shared.lock(rt).finish(ticket);
             match finished {
                 Err((ticket, refusal)) => return flush_end(writes, Some(refusal), Some(ticket)),

@@ -2,14 +2,14 @@
 
 ghost use Rattle.std.specs.Prelude.{◌≡◌, ◌≢◌, ◌⊎◌, ℕ, ◌<◌, ◌≤◌, Option, Some, None, false, Ok, Err, IsTrue, IfOk, OnOk, OnErr, IfErr, IsErrAnd, slice_get, slice_set, slice_index};
 ghost use Rattle.std.specs.Arc.{arc_value};
-ghost use Rattle.disk.specs.Lanes.{CountsOne};
+ghost use Rattle.disk.specs.Lanes.{CountsOne, LeavesNoMore};
 ghost use Rattle.xn_model.specs.Results.{GivesExactly, result_map};
 ghost use Rattle.xn_model.specs.Calls.{begun_of, settled_of, floor_of};
 ghost use Rattle.xn_model.specs.Worlds.{all_pending};
 ghost use Rattle.xn_model.specs.Rules.{IsIdle};
 ghost use Rattle.xn_state.specs.States.{StateValue};
 ghost use Rattle.xn_kernel.specs.Kernels.{KernelValue, TicketValue, is_mine, result_map_err};
-ghost use Rattle.xn_kernel.specs.Drains.{Rounds, Refuses};
+ghost use Rattle.xn_kernel.specs.Drains.{Rounds, Refuses, with_home};
 ghost use Rattle.shared.specs.Hubs.{HubValue, NoWordAbove, AllRaised};
 
 use crate::lock::Held;
@@ -60,7 +60,7 @@ impl<L: Lane + Drop, K: Naming> Drop for Hub<L, K> {
 impl<L: Lane, K: Naming> Held for Hub<L, K> {
     ghost use Rattle.shared.specs.Hubs.{IsHub};
 
-    ghost sound = { IsHub L.bytes_of };
+    ghost sound = { IsHub L.bytes_of L.crash_leaves };
 
     ghost floor = { K.floor };
 
@@ -114,20 +114,24 @@ impl<L: Lane, K: Naming> Hub<L, K> {
         self.floor.meet(&mut self.publisher, reader, fs.number())
     }
 
-    /// Ends a write by what is read back, as the kernel does. Whatever it answers and whatever ticket it was, each word is
-    /// then its file system's floor.
+    /// Ends a write by what is read back, as the kernel does: one that was written since its last good sync is refused
+    /// (`NotSynced`). Whatever it answers and whatever ticket it was, each word is then its file system's floor.
     pub fn finish(&mut self, ticket: Ticket<L>) -> Result<Landed, (Ticket<L>, Refusal)>
         ensures foreign { is_mine self.old.kernel ticket ≡ false → IsErrAnd result (λ back. (back.0 ≡ ticket) × (back.1 ≡ Refusal.NotMine)) }
-        ensures mine { IsTrue (is_mine self.old.kernel ticket) →
+        ensures unsynced { IsTrue (is_mine self.old.kernel ticket) → IsTrue ticket.unsynced →
+            IsErrAnd result (λ back. (back.0 ≡ ticket) × (back.1 ≡ Refusal.NotSynced)) }
+        ensures mine { IsTrue (is_mine self.old.kernel ticket) → ticket.unsynced ≡ false →
             GivesExactly (settled_of self.old.kernel.state.store ticket.block (L.bytes_of ticket.lane)) self.old.kernel.state.store self.new.kernel.state.store
             (result_map (λ landed. (landed.durable, landed.freed)) (result_map_err (λ back. back.1) result))
             ⊎ IsErrAnd result (λ back. (back.1 ≡ Refusal.Device) × CountsOne (L.faults_of ticket.lane) (L.faults_of back.0.lane)) }
         ensures given { OnOk result ((lane : L) × (L.bytes_of lane ≡ L.bytes_of ticket.lane) × (L.faults_of lane ≡ L.faults_of ticket.lane)
-            × L.read_gives ticket.lane (Ok tt) lane × (self.new.kernel ≡ record self.old.kernel { lanes = slice_set self.old.kernel.lanes ticket.block (Some lane); state = record self.old.kernel.state { store = self.new.kernel.state.store } })) }
+            × L.read_gives ticket.lane (Ok tt) lane
+            × (self.new.kernel ≡ with_home self.old.kernel ticket.block lane self.new.kernel.state.store)) }
         ensures err { OnErr result (self.new.kernel ≡ self.old.kernel) }
         ensures back { IfErr result (λ back. (back.0 ≡ record ticket { lane = back.0.lane }) × (L.bytes_of back.0.lane ≡ L.bytes_of ticket.lane)) }
         ensures unread { IfErr result (λ back. back.1 ≡ Refusal.Device → (fault : DeviceFault) × L.read_gives ticket.lane (Err fault) back.0.lane) }
-        ensures faults { IfErr result (λ back. back.1 ≡ Refusal.NotMine → L.faults_of back.0.lane ≡ L.faults_of ticket.lane) }
+        ensures crash { IfErr result (λ back. LeavesNoMore (L.crash_leaves ticket.lane) (L.crash_leaves back.0.lane)) }
+        ensures faults { IfErr result (λ back. back.1 ≢ Refusal.Device → L.faults_of back.0.lane ≡ L.faults_of ticket.lane) }
         ensures raised { AllRaised self.new }
     {
         let ended = self.kernel.finish(ticket);
@@ -135,14 +139,15 @@ impl<L: Lane, K: Naming> Hub<L, K> {
         ended
     }
 
-    /// Writes until nothing is pending, as the kernel does, in one call. Whatever it answers, each word is then its file
+    /// Writes, syncs and reads back until nothing is pending, as the kernel does, in one call. Whatever it answers, each word is then its file
     /// system's floor.
     pub fn drain(&mut self) -> Result<u32, DrainStop<L>>
-        ensures rounds { IfOk result (λ writes. Rounds L.bytes_of L.faults_of L.write_gives L.read_gives writes self.old.kernel self.new.kernel) }
+        ensures rounds { IfOk result (λ writes. Rounds L.bytes_of L.faults_of L.write_gives L.sync_gives L.read_gives writes self.old.kernel self.new.kernel) }
         ensures idle { OnOk result (IsIdle self.old.kernel.state.store.lives) }
         ensures done { OnOk result (all_pending self.new.kernel.state.store.lives ≡ 0) }
         ensures few { IfOk result (λ writes. writes ≤ all_pending self.old.kernel.state.store.lives) }
-        ensures err { IfErr result (λ stop. Refuses L.bytes_of L.faults_of L.write_gives L.read_gives self.old.kernel stop.writes stop.ticket stop.refusal self.new.kernel) }
+        ensures err { IfErr result (λ stop.
+            Refuses L.bytes_of L.faults_of L.write_gives L.sync_gives L.read_gives self.old.kernel stop.writes stop.ticket stop.refusal self.new.kernel) }
         ensures raised { AllRaised self.new }
     {
         let ended = self.kernel.drain();

@@ -9,12 +9,13 @@ use std::alloc::Global;
 use std::sync::atomic::{AtomicBool, Ordering};
 use std::sync::{Arc, Mutex, MutexGuard, Wait};
 
-/// What is told of each write, with no lock held.
+/// What is told of each write, with no lock held: each begun one is landed once, whatever the device answers.
 pub trait Gate {
     /// The write of a block was begun, and is not landed.
     fn begun(&self, block: u32);
 
-    /// The write of a block was landed, and is not finished.
+    /// The write of a block was landed, well or not. It is neither synced nor finished: the device may hold it still, and a
+    /// crash may lose it.
     fn landed(&self, block: u32);
 }
 

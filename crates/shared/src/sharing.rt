@@ -18,7 +18,7 @@ impl<L: Lane, G: Gate, K: Naming> Locked<Hub<L, K>, G> {
     /// Takes the lock, and makes a call for a file system, any but `drain`.
     pub fn call<R: Wait>(&self, rt: &R, fs: Fs, call: &Call) -> Answer
         requires { call.now ≢ Drain }
-        ensures { MayAnswer L.bytes_of fs.number call.now result }
+        ensures { MayAnswer L.bytes_of L.crash_leaves fs.number call.now result }
     {
         let mut hub = self.lock(rt);
         hub.is_sound();

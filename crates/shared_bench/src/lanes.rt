@@ -1,5 +1,7 @@
 // Lanes in memory whose writes take time.
 
+ghost use Rattle.disk.specs.Mem.{memory_leaves};
+
 use disk::{DeviceFault, Lane, Lanes, MemDisk, MemLane};
 use std::alloc::{AllocError, Global};
 use std::sync::Arc;
@@ -28,6 +30,10 @@ impl<C: Clock> Lane for WaitingLane<C> {
 
     ghost write_gives = { λ old bytes answer new. ⊤ };
 
+    ghost crash_leaves = { λ waiting left. memory_leaves waiting.lane left };
+
+    ghost sync_gives = { λ old answer new. ⊤ };
+
     fn number(&self) -> u32 {
         self.lane.number()
     }
@@ -45,6 +51,10 @@ impl<C: Clock> Lane for WaitingLane<C> {
             thread::sleep(&*self.clock, Duration::from_micros(self.micros));
         }
         self.lane.write(from)
+    }
+
+    fn sync(&mut self) -> Result<(), DeviceFault> {
+        self.lane.sync()
     }
 }
 

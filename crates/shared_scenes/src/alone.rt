@@ -30,7 +30,7 @@ fn found<L: Lane, K: Naming>(hub: &mut Hub<L, K>, fs: Fs) -> (u32, Result<[u8; 5
 }
 
 /// A start that the next one to take the lock finds.
-fn starts<L: Lane, G: Gate, K: Naming, R: Wait + Abort>(
+pub fn starts<L: Lane, G: Gate, K: Naming, R: Wait + Abort>(
     rt: &R,
     shared: &Shared<L, G, K>,
 ) -> Result<(), Fail> {

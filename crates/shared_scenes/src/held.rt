@@ -1,10 +1,10 @@
-// A flusher is held in the middle of a write, and an edit of its block is answered meanwhile.
+// A flusher is held in the middle of a write or of its sync, and an edit of its block is answered meanwhile.
 
 ghost use Rattle.std.specs.Prelude.{◌≡◌};
 ghost use Rattle.durable_floor.specs.Rules.{zeros};
 
 use crate::disks::{bare_lanes, edit_of, file_system, letters, mounted};
-use crate::hold::{HeldLane, Hold, Holding, Open};
+use crate::hold::{HeldIn, HeldLane, Hold, Holding, Open};
 use crate::sharing::{end_of, share};
 use disk::{Lane, Lanes, MemLane};
 use durable_floor::{Floor, Naming, Publisher};
@@ -18,11 +18,12 @@ use std::thread::{Threads, join};
 use std::time::Clock;
 use xn_kernel::{Edit, EditId, Fs, Kernel, Refusal};
 
-/// Lanes whose writes hold.
+/// Lanes whose writes hold, or their syncs.
 fn held_lanes<R: Clock + Drop>(
     alloc: Global,
     mut lanes: Lanes<MemLane>,
     hold: &Arc<Hold<R>, Global>,
+    held_in: HeldIn,
 ) -> Result<Lanes<HeldLane<R>>, AllocError> {
     let mut all = Lanes::new(alloc, 32)?;
     for block in 0..32 {
@@ -32,8 +33,8 @@ fn held_lanes<R: Clock + Drop>(
         let Some(lane) = lanes.take(block) else {
             return Err(AllocError);
         };
-        let hold = Some(Arc::try_clone(hold)?);
-        if let Err(_) = all.give(HeldLane { lane, hold }) {
+        let hold = Arc::try_clone(hold)?;
+        if let Err(_) = all.give(HeldLane::new(lane, hold, held_in)) {
             return Err(AllocError);
         }
     }
@@ -49,7 +50,7 @@ fn edit_while_held<L: Lane, G: Gate, K: Naming, R: Wait, C: Clock>(
     edit: &Edit,
 ) -> Option<Result<EditId, Refusal>> {
     let mut answer = None;
-    if hold.wait_until_held() {
+    if hold.wait_until_held(1) {
         let edited = shared.with(rt, |hub| hub.propose(fs, 1, edit));
         if edited.is_ok() {
             hold.answer();
@@ -106,6 +107,79 @@ fn edits_of<
     edits_beside(rt, &shared, hold, &edit)
 }
 
+/// Once two writes are held at once, edits both blocks, and lets the writes go on where that was answered Ok.
+fn edit_both_while_held<L: Lane, G: Gate, K: Naming, R: Wait, C: Clock>(
+    rt: &R,
+    shared: &Shared<L, G, K>,
+    hold: &Hold<C>,
+    fs: Fs,
+    edit: &Edit,
+) -> Option<(Result<EditId, Refusal>, Result<EditId, Refusal>)> {
+    let mut answers = None;
+    if hold.wait_until_held(2) {
+        let first = shared.with(rt, |hub| hub.propose(fs, 1, edit));
+        let second = shared.with(rt, |hub| hub.propose(fs, 2, edit));
+        if first.is_ok() && second.is_ok() {
+            hold.answer();
+        }
+        answers = Some((first, second));
+    }
+    shared.stop();
+    answers
+}
+
+/// Two flushers, and one who edits the blocks that they write.
+fn edits_beside_two<
+    L: Lane + Drop + Send,
+    G: Gate + Sync,
+    K: Naming + Send + Sync,
+    C: Clock + Send + Sync,
+    R: Threads + Wait + Abort + Sync,
+>(rt: &R, shared: &Shared<L, G, K>, hold: &Hold<C>, edit: &Edit) -> Result<(), Fail> {
+    let fs = file_system(0)?;
+    let first = shared.with(rt, |hub| hub.init(fs, 2, &letters()));
+    assert_eq!(rt; first, Ok((1, EditId(1))));
+    let second = shared.with(rt, |hub| hub.init(fs, 2, &letters()));
+    assert_eq!(rt; second, Ok((2, EditId(2))));
+    let ((one, two), answers) = join(
+        rt,
+        || join(
+            rt,
+            || Flusher::new(shared).run(rt),
+            || Flusher::new(shared).run(rt),
+        ),
+        || edit_both_while_held(rt, shared, hold, fs, edit),
+    );
+    assert_eq!(rt; answers, Some((Ok(EditId(3)), Ok(EditId(4)))));
+    assert!(rt; hold.was_in_time());
+    let (one, two) = (end_of(rt, one), end_of(rt, two));
+    assert_eq!(rt; (one.1, two.1), (None, None));
+    assert_eq!(rt; one.0.saturating_add(two.0), 4);
+    Ok(())
+}
+
+/// The same over a kernel whose lanes hold.
+fn edits_of_two<
+    L: Lane + Drop + Send,
+    K: Naming + Send + Sync,
+    C: Clock + Send + Sync,
+    R: Threads + Wait + Abort + Sync,
+>(
+    rt: &R,
+    alloc: Global,
+    floor: Floor,
+    publisher: Publisher,
+    kernel: Kernel<L>,
+    hold: &Hold<C>,
+) -> Result<(), Fail>
+    requires floor { floor ≡ K.floor }
+    requires publisher { publisher ≡ record { floor = floor; seen = zeros } }
+{
+    let shared: Shared<L, Open, K> = share(alloc, kernel, floor, publisher, Open)?;
+    let edit = edit_of(alloc, 0, 0x5a)?;
+    edits_beside_two(rt, &shared, hold, &edit)
+}
+
 #[test]
 fn no_lock_is_held_at_the_gate(rt: HostRuntime) -> Result<(), Fail> {
     let kernel = mounted(&rt, rt.alloc(), bare_lanes(rt.alloc())?)?;
@@ -120,8 +194,17 @@ fn no_lock_is_held_at_the_gate(rt: HostRuntime) -> Result<(), Fail> {
 #[test]
 fn no_lock_is_held_in_a_write(rt: HostRuntime) -> Result<(), Fail> {
     let hold = Arc::new(rt.alloc(), Hold::new(rt))?;
-    let lanes = held_lanes(rt.alloc(), bare_lanes(rt.alloc())?, &hold)?;
+    let lanes = held_lanes(rt.alloc(), bare_lanes(rt.alloc())?, &hold, HeldIn::Write)?;
     let kernel = mounted(&rt, rt.alloc(), lanes)?;
     let (floor, publisher, _readers) = Floor::new(rt.alloc(), 0)?;
     edits_of::<_, _, Brand, _, _>(&rt, rt.alloc(), floor, publisher, kernel, Open, &hold)
+}
+
+#[test]
+fn no_lock_is_held_in_two_syncs_at_once(rt: HostRuntime) -> Result<(), Fail> {
+    let hold = Arc::new(rt.alloc(), Hold::new(rt))?;
+    let lanes = held_lanes(rt.alloc(), bare_lanes(rt.alloc())?, &hold, HeldIn::Sync)?;
+    let kernel = mounted(&rt, rt.alloc(), lanes)?;
+    let (floor, publisher, _readers) = Floor::new(rt.alloc(), 0)?;
+    edits_of_two::<_, Brand, _, _>(&rt, rt.alloc(), floor, publisher, kernel, &hold)
 }

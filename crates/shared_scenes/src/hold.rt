@@ -1,28 +1,30 @@
-// A gate and a lane that hold a write until it is answered.
+// A gate and a lane that hold a write, or its sync, until that is answered.
+
+ghost use Rattle.disk.specs.Mem.{memory_leaves};
 
 use disk::{DeviceFault, Lane, MemLane};
 use shared::Gate;
 use std::alloc::Global;
 use std::sync::Arc;
-use std::sync::atomic::{AtomicBool, Ordering};
+use std::sync::atomic::{AtomicBool, AtomicU32, Ordering};
 use std::thread;
 use std::time::{Clock, Duration};
 
-/// Holds a thread for at most 10,000 turns of a millisecond, until it is answered.
+/// Holds each thread that comes for at most 10,000 turns of a millisecond, until it is answered.
 #[derive(Drop)]
 pub struct Hold<R: Clock> {
     clock: R,
-    began: AtomicBool,
+    inside: AtomicU32,
     answered: AtomicBool,
     ran_out: AtomicBool,
 }
 
 impl<R: Clock> Hold<R> {
-    /// A hold that has not begun.
+    /// A hold of no thread.
     pub fn new(clock: R) -> Hold<R> {
         Hold {
             clock,
-            began: AtomicBool::new(false),
+            inside: AtomicU32::new(0),
             answered: AtomicBool::new(false),
             ran_out: AtomicBool::new(false),
         }
@@ -30,18 +32,25 @@ impl<R: Clock> Hold<R> {
 
     /// Holds the thread that calls it.
     pub fn hold(&self) {
-        self.began.store(true, Ordering::SeqCst);
-        if !self.wait_for(&self.answered) {
+        self.inside.fetch_add(1, Ordering::SeqCst);
+        if !self.wait_until_answered() {
             self.ran_out.store(true, Ordering::SeqCst);
         }
+        self.inside.fetch_sub(1, Ordering::SeqCst);
     }
 
-    /// Waits until a thread is held; whether one is.
-    pub fn wait_until_held(&self) -> bool {
-        self.wait_for(&self.began)
+    /// Waits until so many threads are held at once; whether they are.
+    pub fn wait_until_held(&self, threads: u32) -> bool {
+        for _ in 0..10_000 {
+            if self.inside.load(Ordering::SeqCst) >= threads {
+                return true;
+            }
+            self.turn();
+        }
+        false
     }
 
-    /// Lets the held thread go on.
+    /// Lets the held threads go on.
     pub fn answer(&self) {
         self.answered.store(true, Ordering::SeqCst);
     }
@@ -51,15 +60,20 @@ impl<R: Clock> Hold<R> {
         !self.ran_out.load(Ordering::SeqCst)
     }
 
-    /// Waits for a flag; whether it was set before the turns ran out.
-    fn wait_for(&self, flag: &AtomicBool) -> bool {
+    /// Waits for the answer; whether it came before the turns ran out.
+    fn wait_until_answered(&self) -> bool {
         for _ in 0..10_000 {
-            if flag.load(Ordering::SeqCst) {
+            if self.answered.load(Ordering::SeqCst) {
                 return true;
             }
-            thread::sleep(&self.clock, Duration::from_millis(1));
+            self.turn();
         }
         false
+    }
+
+    /// Sleeps for a turn.
+    fn turn(&self) {
+        thread::sleep(&self.clock, Duration::from_millis(1));
     }
 }
 
@@ -87,11 +101,32 @@ impl<R: Clock> Gate for Holding<R> {
     fn landed(&self, _block: u32) {}
 }
 
-/// A lane in memory whose write may hold.
+/// Where a lane holds.
+#[derive(Clone, Copy, PartialEq, Eq)]
+pub enum HeldIn {
+    Write,
+    Sync,
+}
+
+/// A lane in memory whose writes hold, or the syncs of what it was given to write.
 #[derive(Drop)]
 pub struct HeldLane<R: Clock> {
-    pub lane: MemLane,
-    pub hold: Option<Arc<Hold<R>, Global>>,
+    lane: MemLane,
+    hold: Arc<Hold<R>, Global>,
+    held_in: HeldIn,
+    is_unsynced: bool,
+}
+
+impl<R: Clock> HeldLane<R> {
+    /// A lane that was not written.
+    pub fn new(lane: MemLane, hold: Arc<Hold<R>, Global>, held_in: HeldIn) -> HeldLane<R> {
+        HeldLane {
+            lane,
+            hold,
+            held_in,
+            is_unsynced: false,
+        }
+    }
 }
 
 impl<R: Clock> Lane for HeldLane<R> {
@@ -107,6 +142,10 @@ impl<R: Clock> Lane for HeldLane<R> {
 
     ghost write_gives = { λ old bytes answer new. ⊤ };
 
+    ghost crash_leaves = { λ held left. memory_leaves held.lane left };
+
+    ghost sync_gives = { λ old answer new. ⊤ };
+
     fn number(&self) -> u32 {
         self.lane.number()
     }
@@ -120,9 +159,18 @@ impl<R: Clock> Lane for HeldLane<R> {
     }
 
     fn write(&mut self, from: &[u8; 512]) -> Result<(), DeviceFault> {
-        if let Some(hold) = &self.hold {
-            hold.hold();
+        if self.held_in == HeldIn::Write {
+            self.hold.hold();
         }
+        self.is_unsynced = true;
         self.lane.write(from)
+    }
+
+    fn sync(&mut self) -> Result<(), DeviceFault> {
+        if self.is_unsynced && self.held_in == HeldIn::Sync {
+            self.hold.hold();
+        }
+        self.is_unsynced = false;
+        self.lane.sync()
     }
 }

@@ -15,3 +15,5 @@ mod hold;
 mod many;
 #[cfg(test)]
 mod sharing;
+#[cfg(test)]
+mod unsynced;

@@ -1,15 +1,16 @@
 // Eight file systems and four flushers, over lanes that fail now and then.
 
 ghost use Rattle.std.specs.Prelude.{◌≡◌};
+ghost use Rattle.disk.specs.Mem.{memory_leaves};
 ghost use Rattle.durable_floor.specs.Rules.{zeros};
 
 use crate::disks::{bare_lanes, file_system, mounted};
 use crate::hold::Open;
-use crate::sharing::{end_of, share};
+use crate::sharing::{share, sync_and_finish};
 use crash_check::check;
 use disk::{DeviceFault, Lane, Lanes, MemDisk, MemLane};
 use durable_floor::{Floor, Naming, Publisher, Reader};
-use shared::{Flusher, Gate, Shared};
+use shared::{FlushEnd, Flusher, Gate, Shared};
 use std::alloc::{AllocError, Global};
 use std::marker::Brand;
 use std::process::Abort;
@@ -25,11 +26,12 @@ const EDITS: u32 = 2500;
 /// How many places of four bytes the edits of a block go round.
 const PLACES: u32 = 128;
 
-/// A lane in memory whose every 20th write fails, in turns with the old and the new bytes.
+/// A lane in memory whose every 20th write fails, in turns with the old and the new bytes, and whose every 30th sync fails.
 #[derive(Drop)]
 pub struct FailingLane {
     lane: MemLane,
     writes: u32,
+    syncs: u32,
 }
 
 impl Lane for FailingLane {
@@ -44,6 +46,10 @@ impl Lane for FailingLane {
     ghost read_gives = { λ old answer new. ⊤ };
 
     ghost write_gives = { λ old bytes answer new. ⊤ };
+
+    ghost crash_leaves = { λ failing left. memory_leaves failing.lane left };
+
+    ghost sync_gives = { λ old answer new. ⊤ };
 
     fn number(&self) -> u32 {
         self.lane.number()
@@ -64,6 +70,14 @@ impl Lane for FailingLane {
         }
         self.lane.write(from)
     }
+
+    fn sync(&mut self) -> Result<(), DeviceFault> {
+        self.syncs = self.syncs.wrapping_add(1);
+        if self.syncs % 30 == 0 {
+            self.lane.fail_sync();
+        }
+        self.lane.sync()
+    }
 }
 
 /// Lanes that fail now and then.
@@ -79,7 +93,12 @@ fn failing_lanes(
         let Some(lane) = lanes.take(block) else {
             return Err(AllocError);
         };
-        if let Err(_) = all.give(FailingLane { lane, writes: 0 }) {
+        let failing = FailingLane {
+            lane,
+            writes: 0,
+            syncs: 0,
+        };
+        if let Err(_) = all.give(failing) {
             return Err(AllocError);
         }
     }
@@ -93,7 +112,7 @@ fn sound_lanes(alloc: Global, mut lanes: Lanes<FailingLane>) -> Result<Lanes<Mem
         if lanes.blocks() <= block as usize {
             return Err(AllocError);
         }
-        let Some(FailingLane { lane, writes: _ }) = lanes.take(block) else {
+        let Some(FailingLane { lane, .. }) = lanes.take(block) else {
             return Err(AllocError);
         };
         if let Err(_) = all.give(lane) {
@@ -155,16 +174,48 @@ fn work<L: Lane, G: Gate, K: Naming, R: Wait>(
     true
 }
 
+/// How often lanes failed.
+#[derive(Clone, Copy)]
+struct Faults {
+    writes: u32,
+    syncs: u32,
+}
+
+/// The faults of both.
+fn together(one: Faults, two: Faults) -> Faults {
+    Faults {
+        writes: one.writes.saturating_add(two.writes),
+        syncs: one.syncs.saturating_add(two.syncs),
+    }
+}
+
 /// Flushes on after each device fault; how many there were, and none where a flusher ended otherwise.
-fn flush<L: Lane + Drop, G: Gate, K: Naming, R: Wait + Abort>(
+fn flush<L: Lane + Drop, G: Gate, K: Naming, R: Wait>(
     rt: &R,
     shared: &Shared<L, G, K>,
-) -> Option<u32> {
-    for faults in 0..100_000 {
-        match end_of(rt, Flusher::new(shared).run(rt)).1 {
-            None => return Some(faults),
-            Some(Refusal::Device) => {}
-            Some(_) => return None,
+) -> Option<Faults> {
+    let mut faults = Faults {
+        writes: 0,
+        syncs: 0,
+    };
+    for _ in 0..100_000 {
+        let FlushEnd {
+            writes: _,
+            fault,
+            ticket,
+        } = Flusher::new(shared).run(rt);
+        match (fault, ticket) {
+            (Some(Refusal::Device), Some(ticket)) => {
+                let _landed = sync_and_finish(rt, shared, ticket)?;
+                faults.syncs = faults.syncs.saturating_add(1);
+            }
+            (Some(Refusal::Device), None) => faults.writes = faults.writes.saturating_add(1),
+            (None, None) => return Some(faults),
+            (_, Some(ticket)) => {
+                let _lane = ticket.into_lane();
+                return None;
+            }
+            (Some(_), None) => return None,
         }
     }
     None
@@ -260,9 +311,9 @@ fn two_flushers<
     G: Gate + Sync,
     K: Naming + Send + Sync,
     R: Threads + Wait + Abort + Sync,
->(rt: &R, shared: &Shared<L, G, K>) -> Option<u32> {
+>(rt: &R, shared: &Shared<L, G, K>) -> Option<Faults> {
     let (one, two) = join(rt, || flush(rt, shared), || flush(rt, shared));
-    Some(one?.saturating_add(two?))
+    Some(together(one?, two?))
 }
 
 /// Eight workers and four flushers at once.
@@ -278,10 +329,9 @@ fn run<
         || join(rt, || two_flushers(rt, shared), || two_flushers(rt, shared)),
     );
     assert!(rt; worked);
-    let faults = one
-        .ok_or("a flusher")?
-        .saturating_add(two.ok_or("a flusher")?);
-    assert!(rt; faults > 0, "no lane failed");
+    let faults = together(one.ok_or("a flusher")?, two.ok_or("a flusher")?);
+    assert!(rt; faults.writes > 0, "no write failed");
+    assert!(rt; faults.syncs > 0, "no sync failed");
     Ok(())
 }
 

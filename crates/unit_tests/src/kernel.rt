@@ -183,6 +183,54 @@ fn a_drain_gives_out_the_ticket_of_a_block_that_is_not_read_back(
     Ok(())
 }
 
+/// Why a finish is refused; the ticket as it comes back, or how many entries the finish made durable.
+fn refused(
+    kernel: &mut Kernel<MemLane>,
+    ticket: Ticket<MemLane>,
+) -> Result<(Ticket<MemLane>, Refusal), u32> {
+    match kernel.finish(ticket) {
+        Ok(landed) => Err(landed.durable),
+        Err(back) => Ok(back),
+    }
+}
+
+/// Why the finishes of a write of block 1 are refused: before a sync, after one that fails, and after a write behind a good one. The count
+/// is of the entries that a good sync and a finish make durable then.
+fn refused_finishes(kernel: &mut Kernel<MemLane>, owner: Fs) -> Result<([Refusal; 3], u32), u32> {
+    let _started = kernel.init(owner, 2, &[0x41; 512]);
+    let Ok(mut ticket) = kernel.begin(1) else {
+        return Err(0);
+    };
+    let _landed = ticket.land();
+    let (mut ticket, landed) = refused(kernel, ticket)?;
+    ticket.fail_next_sync();
+    let _failed = ticket.sync();
+    let (mut ticket, failed) = refused(kernel, ticket)?;
+    let _synced = ticket.sync();
+    let _landed = ticket.land();
+    let (mut ticket, again) = refused(kernel, ticket)?;
+    let _synced = ticket.sync();
+    match refused(kernel, ticket) {
+        Err(durable) => Ok(([landed, failed, again], durable)),
+        Ok((ticket, _refusal)) => {
+            let _lane = ticket.into_lane();
+            Err(0)
+        }
+    }
+}
+
+#[test]
+fn a_finish_asks_for_a_sync(rt: HostRuntime) -> Result<(), Fail> {
+    let alloc = rt.alloc();
+    let lanes = fresh_lanes(alloc)?;
+    let Ok(mut kernel) = mount(&rt, alloc, lanes, 1) else {
+        return Err("no mount".into());
+    };
+    let told = refused_finishes(&mut kernel, fs(0)?);
+    assert!(rt; told == Ok(([Refusal::NotSynced; 3], 1)));
+    Ok(())
+}
+
 /// The type and the root that a file system is told of block 1, whether block 0 and block 1 are tainted, and how many are free.
 fn told(kernel: &Kernel<PlanLane>, fs: Fs) -> (Option<u32>, Option<u32>, [bool; 2], u32) {
     let kind = kernel.kind(fs, 1).ok();

@@ -1,4 +1,4 @@
-// Lanes of a disk in memory: their failures and their places.
+// Lanes of a disk in memory: their failures, their crashes and their places.
 
 use disk::{DeviceFault, Lane, Lanes, MemDisk, MemLane};
 use std::test::Fail;
@@ -24,6 +24,42 @@ fn a_failed_write_leaves_old_or_new_bytes(rt: HostRuntime) -> Result<(), Fail> {
         assert_eq!(rt; lane.bytes()[0], left);
         assert_eq!(rt; lane.write(&[2; 512]), Ok(()));
         assert_eq!(rt; lane.bytes()[511], 2);
+    }
+    Ok(())
+}
+
+/// The byte that a crash leaves of sevens, after a write of nines, which fails or not, and the sync behind it, if there is one.
+fn left_after(mut lane: MemLane, fault: Option<bool>, sync: Option<bool>, is_kept: bool) -> u8 {
+    if let Some(new_bytes_stay) = fault {
+        lane.fail_write(new_bytes_stay);
+    }
+    let _written = lane.write(&[9; 512]);
+    if let Some(is_well) = sync {
+        if !is_well {
+            lane.fail_sync();
+        }
+        let _synced = lane.sync();
+    }
+    lane.crash(is_kept);
+    lane.bytes()[0]
+}
+
+#[test]
+fn a_crash_leaves_settled_or_given_bytes(rt: HostRuntime) -> Result<(), Fail> {
+    for fault in [None, Some(false), Some(true)] {
+        let read = if fault == Some(false) { 7 } else { 9 };
+        for sync in [None, Some(false)] {
+            assert_eq!(rt; left_after(second_lane(&rt)?, fault, sync, false), 7);
+            assert_eq!(rt; left_after(second_lane(&rt)?, fault, sync, true), 9);
+        }
+        assert_eq!(rt;
+            left_after(second_lane(&rt)?, fault, Some(true), false),
+            read
+        );
+        assert_eq!(rt;
+            left_after(second_lane(&rt)?, fault, Some(true), true),
+            read
+        );
     }
     Ok(())
 }

@@ -1,7 +1,7 @@
-// Mounts that give the lanes back.
+// Mounts that give the lanes back, and what they sync.
 
 use crash_check::{ImageFault, mount};
-use disk::{Lanes, MemDisk, MemLane};
+use disk::{DeviceFault, Lane, Lanes, MemDisk, MemLane};
 use std::alloc::Global;
 use std::test::Fail;
 use std::thread::Threads;
@@ -45,5 +45,60 @@ fn a_mount_gives_the_lanes_back(rt: HostRuntime) -> Result<(), Fail> {
     let (fault, lanes) = faulty(&rt, rt.alloc(), lanes)?;
     assert_eq!(rt; fault, ImageFault::Device);
     assert!(rt; mount(&rt, rt.alloc(), lanes, 1).is_ok());
+    Ok(())
+}
+
+/// The lane of the last block, taken out.
+fn last_lane(lanes: &mut Lanes<MemLane>) -> Result<MemLane, Fail> {
+    if lanes.blocks() != 32 {
+        return Err("another count".into());
+    }
+    Ok(lanes.take(31).ok_or("no lane")?)
+}
+
+/// Whether every lane is at home.
+fn are_home(lanes: &Lanes<MemLane>) -> bool {
+    if lanes.blocks() != 32 {
+        return false;
+    }
+    for block in 0..32 {
+        if lanes.lane(block).is_none() {
+            return false;
+        }
+    }
+    true
+}
+
+#[test]
+fn a_mount_reads_no_lane_whose_sync_fails(rt: HostRuntime) -> Result<(), Fail> {
+    let mut lanes = fresh_lanes(rt.alloc())?;
+    let mut lane = last_lane(&mut lanes)?;
+    lane.fail_sync();
+    lane.fail_read();
+    assert!(rt; lanes.give(lane).is_ok());
+    let (fault, mut lanes) = faulty(&rt, rt.alloc(), lanes)?;
+    assert_eq!(rt; fault, ImageFault::Device);
+    assert!(rt; are_home(&lanes));
+    let mut lane = last_lane(&mut lanes)?;
+    assert_eq!(rt; lane.faults(), 1, "its sync failed, and it was not read");
+    assert_eq!(rt; lane.read(&mut [0; 512]), Err(DeviceFault));
+    assert!(rt; lanes.give(lane).is_ok());
+    assert!(rt; mount(&rt, rt.alloc(), lanes, 1).is_ok());
+    Ok(())
+}
+
+#[test]
+fn a_mount_settles_what_it_reads(rt: HostRuntime) -> Result<(), Fail> {
+    let mut lanes = fresh_lanes(rt.alloc())?;
+    let mut lane = last_lane(&mut lanes)?;
+    assert_eq!(rt; lane.write(&[9; 512]), Ok(()));
+    assert!(rt; lanes.give(lane).is_ok());
+    let Ok(kernel) = mount(&rt, rt.alloc(), lanes, 1) else {
+        return Err("no mount".into());
+    };
+    let mut lanes = kernel.into_lanes();
+    let mut lane = last_lane(&mut lanes)?;
+    lane.crash(false);
+    assert_eq!(rt; lane.bytes()[511], 9);
     Ok(())
 }

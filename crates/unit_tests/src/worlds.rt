@@ -15,7 +15,7 @@ fn events_of_a_list_are_run_in_their_order(rt: HostRuntime) -> Result<(), Fail> 
         Event::Begin(0),
         Event::Finish(1),
         Event::Call(owner, Call::Drain),
-        Event::Crash,
+        Event::Crash(Vec::new(rt.alloc())),
     ];
     let replies = world.run(&rt, &events)?;
     let want = [

@@ -5,7 +5,7 @@ use Rattle.xn_model.specs.Root.{slot}
 use Rattle.xn_model.specs.Images.{block_of, blocks_in, joined}
 use Rattle.xn_model.specs.BareDisks.{mounted_disk}
 use Rattle.xn_model.specs.Mounts.{recovered}
-use Rattle.xn_model.specs.Worlds.{World}
+use Rattle.xn_model.specs.Worlds.{World, none_given}
 use Rattle.xn_model.specs.Rules.{Holds}
 use Rattle.xn_model.proofs.ForCallers.{recovered_is, world_sound}
 use Rattle.templates.specs.Tables.{types_of}
@@ -41,7 +41,7 @@ fresh_kept count ts w short library is holds fs few = subst (λ (v : World). IsK
 pub kernel_kept : {L : Type 0} (count : ℕ) (ts : List TemplateValue) → format_fault count (length ts) ≡ None → All IsTemplate ts → (image : List ℕ) → image ≡ joined (formatted count ts) → IsLibrary (types_of (table_of ts)) →
     (lanes : List (Option L)) (kernel : KernelValue L) → kernel ≡ kernel_of 1 lanes (blocks_in image) → (fs : ℕ) → fs < 32 → IsKept (types_in kernel.state) kernel.state.store fs None
 kernel_kept {L} count ts none all image bytes library lanes kernel is =
-    let disk : KernelValue L → World = λ k. record { types = types_in k.state; image = blocks_in image; state = k.state.store; down = false } in
+    let disk : KernelValue L → World = λ k. record { types = types_in k.state; image = blocks_in image; settled = blocks_in image; given = none_given (blocks_in image); state = k.state.store; down = false } in
     let size = no_fault count (length ts) none in
     let e = fresh_world count ts none all image bytes (disk kernel) (ap disk is) in
     fresh_kept count ts (disk kernel) size.1 library e (subst Holds (sym e) (formatted_holds count ts size.0 size.1 all))

@@ -80,13 +80,13 @@ event_stays w w' e r ok h s quiet = (
 )
 
 -- after a crash no volume is open
-pub crash_recovers : (w w' : World) (r : Reply) → Holds w → Step w Crash r w' → Recovers w.types w.state w'.types w'.state
-crash_recovers w w' r h s fs volume k =
+pub crash_recovers : (w w' : World) (kept : List ℕ) (r : Reply) → Holds w → Step w (Crash kept) r w' → Recovers w.types w.state w'.types w'.state
+crash_recovers w w' kept r h s fs volume k =
     let same : w'.types ≡ w.types = elim s.2 [ inl up ↦ ap (λ (x : World). x.types) up.1 | inr down ↦ ap (λ (x : World). x.types) down.1 ] in
     record {
       library = subst IsLibrary (sym same) k.library;
       few = k.few;
-      keeps = crash_keeps w r w' library_layout (library_reads w.types k.library) fs k.few (array_of volume) h k.keeps s;
+      keeps = crash_keeps w kept r w' library_layout (library_reads w.types k.library) fs k.few (array_of volume) h k.keeps s;
       mine = tt;
     }
 
@@ -95,6 +95,8 @@ pub device_event : (e : world_event.Event) → IsDevice e → IsEvent (event_of 
 device_event (event.Begin block) d = (tt, λ fs. tt)
 device_event (event.Land block) d = (tt, λ fs. tt)
 device_event (event.Fail block stays) d = (tt, λ fs. tt)
+device_event (event.Sync block) d = (tt, λ fs. tt)
+device_event (event.FailSync block) d = (tt, λ fs. tt)
 device_event (event.Finish block) d = (tt, λ fs. tt)
 device_event (event.Call fs call) d = absurd d
-device_event event.Crash d = absurd d
+device_event (event.Crash kept) d = absurd d

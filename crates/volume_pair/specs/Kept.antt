@@ -36,6 +36,8 @@ abbrev pub IsDevice : Event → Type 0
 IsDevice (event.Begin block) = ⊤
 IsDevice (event.Land block) = ⊤
 IsDevice (event.Fail block stays) = ⊤
+IsDevice (event.Sync block) = ⊤
+IsDevice (event.FailSync block) = ⊤
 IsDevice (event.Finish block) = ⊤
 IsDevice (event.Call fs call) = ⊥
-IsDevice event.Crash = ⊥
+IsDevice (event.Crash kept) = ⊥

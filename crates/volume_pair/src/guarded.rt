@@ -91,13 +91,17 @@ fn closed(other: Option<Other>) -> Option<Other>
     })
 }
 
-/// A world after a crash, with the counts of its mount.
-fn crashed(rt: &(impl Threads + Sync), running: Running) -> Option<(Running, u32, u32)>
+/// A world after a crash that keeps these blocks, with the counts of its mount.
+fn crashed(
+    rt: &(impl Threads + Sync),
+    running: Running,
+    kept: Vec<u32>,
+) -> Option<(Running, u32, u32)>
     ensures { IfSome result (λ r. Recovers (types_of running.table) running.state (types_of r.0.table) r.0.state) }
 {
     let mut world = running.into_world();
     world.rules();
-    let reply = world.step(rt, &Event::Crash);
+    let reply = world.step(rt, &Event::Crash(kept));
     let Ok(running) = world.into_running() else {
         return None;
     };
@@ -172,13 +176,18 @@ impl Guarded<Running> {
         self.store.step(event)
     }
 
-    /// All that isn't on the disk is lost, and the disk is mounted anew; no volume is open then. Answers beside the store how many
-    /// blocks the mount reached, and how many are free; `None` where it found no memory.
-    pub fn crash(self, rt: &(impl Threads + Sync)) -> Option<(Guarded<Running>, u32, u32)>
+    /// All that isn't on the disk is lost, and the disk is mounted anew; no volume is open then. Each of these blocks has the last
+    /// bytes that were given to a write since its last good sync, where there are such, and every other one its settled bytes.
+    /// Answers beside the store how many blocks the mount reached, and how many are free; `None` where it found no memory.
+    pub fn crash(
+        self,
+        rt: &(impl Threads + Sync),
+        kept: Vec<u32>,
+    ) -> Option<(Guarded<Running>, u32, u32)>
         ensures { IfSome result (λ r. Recovers (types_of self.table) self.state (types_of r.0.table) r.0.state) }
     {
         let (running, other) = self.into_parts();
-        let (store, reached, free) = crashed(rt, running)?;
+        let (store, reached, free) = crashed(rt, running, kept)?;
         let other = closed(other);
         Some((Guarded { store, other }, reached, free))
     }

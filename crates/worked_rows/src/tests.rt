@@ -296,9 +296,11 @@ begin 0
 begin 1
 land 1
 begin 0
+sync 1
 finish 1
 begin 0
 land 0
+sync 0
 finish 0
 floor 0
 EOF
@@ -309,9 +311,11 @@ refused 20 NothingSafe
 begun 1
 landed
 refused 20 NothingSafe
+synced
 durable 1 freed 0
 begun 1
 landed
+synced
 durable 1 freed 0
 floor 3
 $ xnsim check disk
@@ -367,12 +371,14 @@ init 0 4 -
 init 0 4 -
 begin 5
 land 5
+sync 5
 finish 5
 edit 0 4 0=05000000 +5:4
 edit 0 4 4=06000000 +6:4
 begin 4
 read 0 4
 land 4
+sync 4
 finish 4
 crash
 read 0 4
@@ -385,12 +391,14 @@ block 5 edit 3
 block 6 edit 4
 begun 1
 landed
+synced
 durable 1 freed 0
 edit 5
 edit 6
 begun 1
 0500000006
 landed
+synced
 durable 1 freed 0
 mounted 6 26
 05
@@ -410,15 +418,18 @@ begin 0
 begin 1
 land 1
 begin 0
+sync 1
 finish 1
 begin 0
 land 0
+sync 0
 finish 0
 floor 0
 unroot 0
 begin 0
 land 0
 init 0 2 -
+sync 0
 finish 0
 init 0 2 -
 EOF
@@ -428,15 +439,18 @@ refused 20 NothingSafe
 begun 1
 landed
 refused 20 NothingSafe
+synced
 durable 1 freed 0
 begun 1
 landed
+synced
 durable 1 freed 0
 floor 3
 edit 3
 begun 1
 landed
 block 2 edit 4
+synced
 durable 1 freed 1
 block 1 edit 5
 ",
@@ -455,15 +469,17 @@ begin 0
 begin 1
 land 1
 begin 0
+sync 1
 finish 1
 begin 0
 land 0
+sync 0
 finish 0
 floor 0
 edit 0 1 0=5a
 begin 1
 land 1
-crash
+crash 1
 read 0 1
 EOF
 block 1 edit 1
@@ -472,9 +488,11 @@ refused 20 NothingSafe
 begun 1
 landed
 refused 20 NothingSafe
+synced
 durable 1 freed 0
 begun 1
 landed
+synced
 durable 1 freed 0
 floor 3
 edit 3
@@ -489,9 +507,11 @@ begin 0
 begin 1
 land 1
 begin 0
+sync 1
 finish 1
 begin 0
 land 0
+sync 0
 finish 0
 floor 0
 edit 0 1 0=5a
@@ -505,9 +525,11 @@ refused 20 NothingSafe
 begun 1
 landed
 refused 20 NothingSafe
+synced
 durable 1 freed 0
 begun 1
 landed
+synced
 durable 1 freed 0
 floor 3
 edit 3
@@ -560,14 +582,17 @@ begin 0
 begin 1
 land 1
 begin 0
+sync 1
 finish 1
 begin 0
 land 0
+sync 0
 finish 0
 floor 0
 edit 0 1 0=5a
 begin 1
 fail 1 new
+sync 1
 finish 1
 EOF
 block 1 edit 1
@@ -576,14 +601,17 @@ refused 20 NothingSafe
 begun 1
 landed
 refused 20 NothingSafe
+synced
 durable 1 freed 0
 begun 1
 landed
+synced
 durable 1 freed 0
 floor 3
 edit 3
 begun 1
 fault
+synced
 durable 1 freed 0
 $ xnsim <<EOF
 init 0 2 414243
@@ -592,14 +620,17 @@ begin 0
 begin 1
 land 1
 begin 0
+sync 1
 finish 1
 begin 0
 land 0
+sync 0
 finish 0
 floor 0
 edit 0 1 0=5a
 begin 1
 fail 1 old
+sync 1
 finish 1
 begin 1
 EOF
@@ -609,14 +640,17 @@ refused 20 NothingSafe
 begun 1
 landed
 refused 20 NothingSafe
+synced
 durable 1 freed 0
 begun 1
 landed
+synced
 durable 1 freed 0
 floor 3
 edit 3
 begun 1
 fault
+synced
 durable 0 freed 0
 begun 1
 ",
@@ -778,9 +812,11 @@ begin 0
 begin 1
 land 1
 begin 0
+sync 1
 finish 1
 begin 0
 land 0
+sync 0
 finish 0
 floor 0
 read 1 1
@@ -801,9 +837,11 @@ refused 20 NothingSafe
 begun 1
 landed
 refused 20 NothingSafe
+synced
 durable 1 freed 0
 begun 1
 landed
+synced
 durable 1 freed 0
 floor 3
 refused 4 NotYours
@@ -833,10 +871,12 @@ edit 0 1 @9 0=41
 edit 0 1 @2 0=41
 begin 1
 land 1
+sync 1
 finish 1
 begin 1
 begin 2
 land 2
+sync 2
 finish 2
 begin 1
 finish 2
@@ -847,10 +887,12 @@ refused 6 BadAfter
 edit 3
 begun 1
 landed
+synced
 durable 1 freed 0
 refused 20 NothingSafe
 begun 1
 landed
+synced
 durable 1 freed 0
 begun 1
 no ticket
@@ -927,9 +969,11 @@ root 0 4
 begin 0
 begin 4
 land 4
+sync 4
 finish 4
 begin 0
 land 0
+sync 0
 finish 0
 crash
 read 0 4
@@ -943,9 +987,11 @@ edit 4
 refused 20 NothingSafe
 begun 1
 landed
+synced
 durable 1 freed 0
 begun 1
 landed
+synced
 durable 1 freed 0
 mounted 5 27
 -
@@ -1007,9 +1053,11 @@ begin 0
 begin 1
 land 1
 begin 0
+sync 1
 finish 1
 begin 0
 land 0
+sync 0
 finish 0
 floor 0
 EOF
@@ -1020,6 +1068,7 @@ refused 20 NothingSafe
 begun 1
 landed
 refused 20 NothingSafe
+synced
 durable 1 freed 0
 begun 1
 stopped
@@ -1043,9 +1092,11 @@ begin 0
 begin 1
 land 1
 begin 0
+sync 1
 finish 1
 begin 0
 land 0
+sync 0
 finish 0
 floor 0
 EOF
@@ -1056,13 +1107,227 @@ refused 20 NothingSafe
 begun 1
 landed
 refused 20 NothingSafe
+synced
 durable 1 freed 0
 begun 1
 landed
+synced
 durable 1 freed 0
 floor 3
 $ xnsim check disk
 reached 2 free 30
+",
+    )
+}
+
+/// A write is open until it is synced: till then it can't be finished, and a crash may lose it or keep it.
+#[test]
+fn a_write_is_held_until_a_sync(rt: HostRuntime) -> Result<(), PlayFault> {
+    plays(
+        &rt,
+        rt.alloc(),
+        "$ xnsim <<EOF
+init 0 2 414243
+root 0 1
+begin 0
+begin 1
+land 1
+begin 0
+sync 1
+finish 1
+begin 0
+land 0
+sync 0
+finish 0
+floor 0
+edit 0 1 0=5a
+begin 1
+land 1
+finish 1
+crash
+read 0 1
+EOF
+block 1 edit 1
+edit 2
+refused 20 NothingSafe
+begun 1
+landed
+refused 20 NothingSafe
+synced
+durable 1 freed 0
+begun 1
+landed
+synced
+durable 1 freed 0
+floor 3
+edit 3
+begun 1
+landed
+refused 23 NotSynced
+mounted 2 30
+414243
+$ xnsim <<EOF
+init 0 2 414243
+root 0 1
+begin 0
+begin 1
+land 1
+begin 0
+sync 1
+finish 1
+begin 0
+land 0
+sync 0
+finish 0
+floor 0
+edit 0 1 0=5a
+begin 1
+land 1
+finish 1
+crash 1
+read 0 1
+EOF
+block 1 edit 1
+edit 2
+refused 20 NothingSafe
+begun 1
+landed
+refused 20 NothingSafe
+synced
+durable 1 freed 0
+begun 1
+landed
+synced
+durable 1 freed 0
+floor 3
+edit 3
+begun 1
+landed
+refused 23 NotSynced
+mounted 2 30
+5a4243
+$ xnsim <<EOF
+init 0 2 414243
+root 0 1
+begin 0
+begin 1
+land 1
+begin 0
+sync 1
+finish 1
+begin 0
+land 0
+sync 0
+finish 0
+floor 0
+edit 0 1 0=5a
+begin 1
+land 1
+finish 1
+sync 1
+crash
+read 0 1
+EOF
+block 1 edit 1
+edit 2
+refused 20 NothingSafe
+begun 1
+landed
+refused 20 NothingSafe
+synced
+durable 1 freed 0
+begun 1
+landed
+synced
+durable 1 freed 0
+floor 3
+edit 3
+begun 1
+landed
+refused 23 NotSynced
+synced
+mounted 2 30
+5a4243
+$ xnsim <<EOF
+init 0 2 414243
+root 0 1
+begin 0
+begin 1
+land 1
+begin 0
+sync 1
+finish 1
+begin 0
+land 0
+sync 0
+finish 0
+floor 0
+edit 0 1 0=5a
+begin 1
+land 1
+finish 1
+failsync 1
+finish 1
+EOF
+block 1 edit 1
+edit 2
+refused 20 NothingSafe
+begun 1
+landed
+refused 20 NothingSafe
+synced
+durable 1 freed 0
+begun 1
+landed
+synced
+durable 1 freed 0
+floor 3
+edit 3
+begun 1
+landed
+refused 23 NotSynced
+fault
+refused 23 NotSynced
+$ xnsim <<EOF
+init 0 2 414243
+root 0 1
+begin 0
+begin 1
+land 1
+begin 0
+sync 1
+finish 1
+begin 0
+land 0
+sync 0
+finish 0
+floor 0
+edit 0 1 0=5a
+begin 1
+land 1
+finish 1
+sync 1
+finish 1
+EOF
+block 1 edit 1
+edit 2
+refused 20 NothingSafe
+begun 1
+landed
+refused 20 NothingSafe
+synced
+durable 1 freed 0
+begun 1
+landed
+synced
+durable 1 freed 0
+floor 3
+edit 3
+begun 1
+landed
+refused 23 NotSynced
+synced
+durable 1 freed 0
 ",
     )
 }

@@ -10,6 +10,7 @@ pub mod Tellings
 -- mounts
 pub mod Catalogues
 pub mod Returns
+pub mod Crashing
 pub mod Openings
 pub mod Mounting
 pub mod Crashes

@@ -7,7 +7,8 @@ use Rattle.std.proofs.lemmas.Option.{same_Some, none-some}
 use Rattle.std.proofs.lemmas.List.{length-replicate}
 use Rattle.std.proofs.lemmas.List.Elements.{All-head, All-tail}
 use Rattle.disk.specs.declared.lane.DeviceFault.{DeviceFault}
-use Rattle.disk.specs.Mem.{MemoryLane, memory_read}
+use Rattle.disk.specs.Lanes.{AreSynced}
+use Rattle.disk.specs.Mem.{MemoryLane, memory_leaves, memory_read, memory_sync, synced}
 use Rattle.xn_model.specs.Types.{Types}
 use Rattle.xn_model.specs.Root.{HasBuiltIns}
 use Rattle.xn_model.specs.Images.{block_of, blocks_in, joined, IsSound}
@@ -27,8 +28,9 @@ use Rattle.xn_kernel.specs.Kernels.{KernelValue, TicketValue}
 use Rattle.crash_check.specs.Answers.{types_in}
 use Rattle.crash_check.specs.Reads.{Turn, IsTurn, IsTurnOf, is_failure, has_failed, is_missing, image_in}
 use Rattle.crash_check.specs.Mounts.{IsFault, IsMounted, IsMountFault, kernel_of}
-use Rattle.world.specs.Disks.{bytes_in, image_of, ticket_at, IsCalm, IsHome, IsUnmounted}
-use Rattle.world.specs.Worlds.{Tickets, value_of, ticket_flight, mounted_value, IsWorld}
+use Rattle.world.specs.Disks.{image_of, settled_image, given_to, ticket_at, IsCalm, IsAtRest, IsResting, IsUnmounted}
+use Rattle.xn_model.specs.Worlds.{none_given}
+use Rattle.world.specs.Worlds.{Tickets, value_of, world_with, ticket_flight, mounted_value, IsWorld}
 
 abbrev Lanes : Type 0
 Lanes = List (Option MemoryLane)
@@ -44,46 +46,69 @@ faults l = l.faults
 
 -- What lanes at home hold
 
-home_bytes : (o : Option MemoryLane) → IsHome o → bytes_in o None ≡ elim o as (λ _. List ℕ) [ None ↦ [] | Some lane ↦ lane.bytes ]
-home_bytes None home = refl
-home_bytes (Some lane) home = refl
-
-all_held : (lanes : Lanes) → AllByRecursion IsHome lanes → image_in bytes lanes ≡ image_of lanes (replicate (length lanes) None)
+all_held : (lanes : Lanes) → AllByRecursion IsResting lanes → image_in bytes lanes ≡ image_of lanes (replicate (length lanes) None)
 all_held [] home = refl
 all_held (None ∷ lanes) home = absurd home.0
 all_held (Some lane ∷ lanes) home = ap (λ bs. lane.bytes ∷ bs) (all_held lanes home.1)
 
-hold_all : (lanes : Lanes) → AllByRecursion IsHome lanes → HoldImage bytes lanes (image_in bytes lanes)
+hold_all : (lanes : Lanes) → AllByRecursion IsResting lanes → HoldImage bytes lanes (image_in bytes lanes)
 hold_all [] home = tt
 hold_all (None ∷ lanes) home = absurd home.0
 hold_all (Some lane ∷ lanes) home = (refl, hold_all lanes home.1)
 
-calm_at : (lanes : Lanes) → AllByRecursion IsHome lanes → (b : ℕ) (lane : MemoryLane) → slice_get lanes b ≡ Some (Some lane) → IsCalm lane
+calm_at : (lanes : Lanes) → AllByRecursion IsResting lanes → (b : ℕ) (lane : MemoryLane) → slice_get lanes b ≡ Some (Some lane) → IsCalm lane × IsAtRest lane
 calm_at [] home b lane at = absurd (none-some _ at)
-calm_at (o ∷ lanes) home zero lane at = subst IsHome (same_Some o (Some lane) at) home.0
+calm_at (o ∷ lanes) home zero lane at = subst IsResting (same_Some o (Some lane) at) home.0
 calm_at (o ∷ lanes) home (suc b) lane at = calm_at lanes home.1 b lane at
 
-pub never_away : (lanes : Lanes) → AllByRecursion IsHome lanes → (b : ℕ) → slice_get lanes b ≡ Some None → ⊥
+pub never_away : (lanes : Lanes) → AllByRecursion IsResting lanes → (b : ℕ) → slice_get lanes b ≡ Some None → ⊥
 never_away [] home b at = none-some _ at
-never_away (o ∷ lanes) home zero at = subst IsHome (same_Some o None at) home.0
+never_away (o ∷ lanes) home zero at = subst IsResting (same_Some o None at) home.0
 never_away (o ∷ lanes) home (suc b) at = never_away lanes home.1 b at
 
--- Their reads
+-- they hold no write
+settled_rests : (lanes : Lanes) (tickets : Tickets) → AllByRecursion IsResting lanes → settled_image lanes tickets ≡ image_of lanes tickets
+settled_rests [] tickets home = refl
+settled_rests (None ∷ lanes) tickets home = absurd home.0
+settled_rests (Some lane ∷ lanes) [] home = λ i. home.0.1.1 i ∷ settled_rests lanes [] home.1 i
+settled_rests (Some lane ∷ lanes) (t ∷ tickets) home = λ i. home.0.1.1 i ∷ settled_rests lanes tickets home.1 i
 
-turn_calm : (before after : Option MemoryLane) (answer : Option (Result (Unit {0}) DeviceFault)) (read : List ℕ) → IsTurnOf number bytes faults memory_read before after answer read → IsHome before →
+given_rests : (lanes : Lanes) (tickets : Tickets) → AllByRecursion IsResting lanes → given_to lanes tickets ≡ none_given (image_of lanes tickets)
+given_rests [] tickets home = refl
+given_rests (None ∷ lanes) tickets home = absurd home.0
+given_rests (Some lane ∷ lanes) [] home = λ i. home.0.1.0 i ∷ given_rests lanes [] home.1 i
+given_rests (Some lane ∷ lanes) (t ∷ tickets) home = λ i. home.0.1.0 i ∷ given_rests lanes tickets home.1 i
+
+pub lanes_synced : (lanes : Lanes) → AllByRecursion IsResting lanes → AreSynced bytes memory_leaves lanes
+lanes_synced lanes home b lane at =
+    let r = (calm_at lanes home b lane at).1 in
+    λ left leaves. elim leaves [ inl settled ↦ settled ∙ r.1 | inr given ↦ absurd (none-some left (sym r.0 ∙ given)) ]
+
+-- Their syncs and reads
+
+still : (lane : MemoryLane) → IsAtRest lane → synced lane ≡ lane
+still lane rest = λ i. record lane { settled = sym rest.1 i; given = sym rest.0 i }
+
+turn_calm : (before after : Option MemoryLane) (answer : Option (Result (Unit {0}) DeviceFault)) (read : List ℕ) → IsTurnOf number bytes memory_leaves faults memory_sync memory_read before after answer read → IsResting before →
     (is_failure answer ≡ false) × (is_none answer ≡ false) × (after ≡ before)
 turn_calm None after answer read is home = absurd home
 turn_calm (Some old) None answer read is home = absurd is
 turn_calm (Some old) (Some new) None read is home = absurd is
-turn_calm (Some old) (Some new) (Some (Ok done)) read is home = (refl, refl, ap (λ l. Some l) is.gives.1)
-turn_calm (Some old) (Some new) (Some (Err fault)) read is home = absurd (false≢true (sym home.1 ∙ is.gives.0))
+turn_calm (Some old) (Some new) (Some (Ok done)) read is home = elim is.gives [
+  | inl both ↦ (refl, refl, ap (λ l. Some l) (both.2.1 ∙ (both.1.1 ∙ still old home.1)))
+  | inr failed ↦ let bad = failed.1 in cc
+]
+turn_calm (Some old) (Some new) (Some (Err fault)) read is home = elim is.gives [
+  | inl both ↦ absurd (false≢true (sym home.0.1 ∙ (sym (ap (λ (l : MemoryLane). l.read_fault) both.1.1) ∙ both.2.0)))
+  | inr failed ↦ absurd (false≢true (sym home.0.2 ∙ failed.2.0))
+]
 
-turns_calm : (turns : List (Turn MemoryLane)) → All (IsTurn number bytes faults memory_read) turns → AllByRecursion IsHome (map (λ t. t.before) turns) →
+turns_calm : (turns : List (Turn MemoryLane)) → All (IsTurn number bytes memory_leaves faults memory_sync memory_read) turns → AllByRecursion IsResting (map (λ t. t.before) turns) →
     (list_any has_failed turns ≡ false) × (list_any is_missing turns ≡ false) × (map (λ t. t.after) turns ≡ map (λ t. t.before) turns)
 turns_calm [] each home = (refl, refl, refl)
 turns_calm (t ∷ turns) each home =
-    let first = turn_calm t.before t.after t.answer t.bytes (All-head (IsTurn number bytes faults memory_read) t turns each) home.0 in
-    let rest = turns_calm turns (All-tail (IsTurn number bytes faults memory_read) t turns each) home.1 in
+    let first = turn_calm t.before t.after t.answer t.bytes (All-head (IsTurn number bytes memory_leaves faults memory_sync memory_read) t turns each) home.0 in
+    let rest = turns_calm turns (All-tail (IsTurn number bytes memory_leaves faults memory_sync memory_read) t turns each) home.1 in
     (or_from (has_failed t) (list_any has_failed turns) first.0 rest.0, or_from (is_missing t) (list_any is_missing turns) first.1 rest.1, λ i. first.2 i ∷ rest.2 i)
 
 -- No write is under way
@@ -124,11 +149,17 @@ module _ (lanes : Lanes) (tickets : Tickets) (is : IsUnmounted lanes tickets) wh
   held_image bytes_of_disk given = subst (HoldImage bytes lanes) (image_is ∙ given) (hold_all lanes is.home)
 
   module _ (built : HasBuiltIns T) (id : ℕ) where
+    abbrev start : KernelValue MemoryLane
+    start = kernel_of id lanes image
+
+    start_value : value_of start tickets ≡ mounted_value image
+    start_value = λ i. record (mounted_value image) { settled = settled_rests lanes tickets is.home i; given = given_rests lanes tickets is.home i }
+
     started : IsSound T (length image) (block_of image) → IsWorld (kernel_of id lanes image) tickets
     started sound =
         let found = recovered_is T built image sound in
         record {
-          holds = mounted_holds image built sound;
+          holds = subst (λ v. Holds (world_with v)) (sym start_value) (mounted_holds image built sound);
           fit = lanes_mounted bytes lanes T image (recovered T image) found (subst (HoldImage bytes lanes) image_is (hold_all lanes is.home));
           calm = calm_at lanes is.home;
           count = ap length is.empty ∙ length-replicate {A = Option (TicketValue MemoryLane)} (length lanes) None;
@@ -149,14 +180,14 @@ module _ (lanes : Lanes) (tickets : Tickets) (is : IsUnmounted lanes tickets) wh
       given_world = subst (λ k. IsWorld k tickets) (sym given_is) (started given_sound)
 
       pub given_value : value_of kernel tickets ≡ mounted_value image
-      given_value = ap (λ k. value_of k tickets) given_is
+      given_value = ap (λ k. value_of k tickets) given_is ∙ start_value
 
     -- The kernel of a mount
 
-    module _ (kernel : KernelValue MemoryLane) (m : IsMounted number bytes faults memory_read lanes id kernel) where
+    module _ (kernel : KernelValue MemoryLane) (m : IsMounted number bytes memory_leaves faults memory_sync memory_read lanes id kernel) where
       lanes_stay : kernel.lanes ≡ lanes
       lanes_stay =
-          let calm = turns_calm m.turns m.read.each (subst (AllByRecursion IsHome) m.read.before is.home) in
+          let calm = turns_calm m.turns m.read.each (subst (AllByRecursion IsResting) m.read.before is.home) in
           m.read.after ∙ (calm.2 ∙ sym m.read.before)
 
       kernel_is : kernel ≡ kernel_of id lanes image
@@ -169,16 +200,16 @@ module _ (lanes : Lanes) (tickets : Tickets) (is : IsUnmounted lanes tickets) wh
       mount_world = subst (λ k. IsWorld k tickets) (sym kernel_is) (started mount_sound)
 
       pub mount_value : value_of kernel tickets ≡ mounted_value image
-      mount_value = ap (λ k. value_of k tickets) kernel_is
+      mount_value = ap (λ k. value_of k tickets) kernel_is ∙ start_value
 
   -- Its faults
 
-  module _ (fault : ImageFault) (back : Lanes) (f : IsMountFault number bytes faults memory_read lanes fault back) where
+  module _ (fault : ImageFault) (back : Lanes) (f : IsMountFault number bytes memory_leaves faults memory_sync memory_read lanes fault back) where
     judged : (back ≡ lanes) × ((fault ≡ NoMemory) ⊎ (verdict T (joined image) ≡ Err fault))
     judged = elim f [
       | inl none ↦ (none.1, inl none.0)
       | inr h ↦
-          let calm = turns_calm h.0 h.1.each (subst (AllByRecursion IsHome) h.1.before is.home) in (
+          let calm = turns_calm h.0 h.1.each (subst (AllByRecursion IsResting) h.1.before is.home) in (
             h.1.after ∙ (calm.2 ∙ sym h.1.before),
             subst (λ bs. (fault ≡ NoMemory) ⊎ (verdict (types_in bs) (joined bs) ≡ Err fault)) image_is
                 (subst (λ failed. IsFault failed false (image_in bytes lanes) fault) calm.0 (subst (λ missing. IsFault (list_any has_failed h.0) missing (image_in bytes lanes) fault) calm.1 h.2)),

@@ -20,7 +20,7 @@ use Rattle.image_model.specs.Report.{IsSoundImage}
 use Rattle.image_model.specs.declared.fault.ImageFault.TheVariants.{BadCount, BadLength, BadMark}
 use Rattle.crash_check.specs.Answers.{types_in}
 use Rattle.image_model.proofs.ForCallers.{length-blocks, block-long}
-use Rattle.world.specs.Disks.{image_of, IsHome, IsUnmounted}
+use Rattle.world.specs.Disks.{image_of, IsResting, IsUnmounted}
 use Rattle.world.specs.Worlds.{Tickets}
 
 -- The blocks of an image of blocks of 512 bytes
@@ -62,7 +62,7 @@ block_is bytes k whole lt = ap (λ x. block_at x k) (sym (joined_blocks bytes wh
 
 all_fresh : (lanes : List (Option MemoryLane)) (blocks : List (List ℕ)) (from : ℕ) → length lanes ≡ length blocks →
     ((k : ℕ) → k < length lanes → slice_get lanes k ≡ Some (Some (fresh_lane (from + k) (block_of blocks k)))) →
-    AllByRecursion IsHome lanes × (image_of lanes (replicate (length lanes) None) ≡ blocks)
+    AllByRecursion IsResting lanes × (image_of lanes (replicate (length lanes) None) ≡ blocks)
 all_fresh [] [] from e h = (tt, refl)
 all_fresh [] (x ∷ blocks) from e h = absurd (omega arith)
 all_fresh (l ∷ lanes) [] from e h = absurd (omega arith)
@@ -70,13 +70,13 @@ all_fresh (None ∷ lanes) (x ∷ blocks) from e h = absurd (none-some _ (same_S
 all_fresh (Some lane ∷ lanes) (x ∷ blocks) from e h =
     let is : lane ≡ fresh_lane (from + 0) x = same_Some lane (fresh_lane (from + 0) x) (same_Some (Some lane) (Some (fresh_lane (from + 0) x)) (h 0 (omega arith))) in
     let rest = all_fresh lanes blocks (suc from) (omega arith) (λ k lt. let next : from + suc k ≡ suc from + k = omega arith in h (suc k) (omega arith) ∙ ap (λ n. Some (Some (fresh_lane n (block_of blocks k)))) next) in
-    (((ap (λ (y : MemoryLane). y.write_fault) is, ap (λ (y : MemoryLane). y.read_fault) is), rest.0), λ i. (is i).bytes ∷ rest.1 i)
+    ((((ap (λ (y : MemoryLane). y.write_fault) is, ap (λ (y : MemoryLane). y.read_fault) is, ap (λ (y : MemoryLane). y.sync_fault) is), (ap (λ (y : MemoryLane). y.given) is, ap (λ (y : MemoryLane). y.settled) is ∙ sym (ap (λ (y : MemoryLane). y.bytes) is))), rest.0), λ i. (is i).bytes ∷ rest.1 i)
 
 module _ (bytes : List ℕ) (whole : length bytes % 512 ≡ 0) (lanes : List (Option MemoryLane)) (holds : AreFreshLanes bytes lanes) (tickets : Tickets) (none : tickets ≡ replicate (length lanes) None) where
   counted : length lanes ≡ length (blocks_in bytes)
   counted = let long = holds.whole in let n = length-blocks bytes in omega arith
 
-  fresh : AllByRecursion IsHome lanes × (image_of lanes (replicate (length lanes) None) ≡ blocks_in bytes)
+  fresh : AllByRecursion IsResting lanes × (image_of lanes (replicate (length lanes) None) ≡ blocks_in bytes)
   fresh = all_fresh lanes (blocks_in bytes) 0 counted (λ k lt. let at : k ≡ 0 + k = omega arith in holds.each k lt ∙ (λ i. Some (Some (fresh_lane (at i) (block_is bytes k whole (let c = counted in omega arith) i)))))
 
   pub opened_image : image_of lanes tickets ≡ blocks_in bytes

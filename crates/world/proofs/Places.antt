@@ -2,6 +2,7 @@
 use Rattle.std.proofs.Common.{◌≡◌, ℕ, zero, suc, ◌<◌, List, [], ◌∷◌, length, Option, Some, None, refl, sym, ◌∙◌, ap, arith, slice_get, slice_set, get_or}
 use Rattle.std.specs.Prelude.{unwrap_or}
 use Rattle.std.proofs.lemmas.Option.{none-some, slice_get-get_or}
+use Rattle.xn_kernel.proofs.ForCallers.{set_twice}
 
 abbrev pub place_at : {A : Type 0} → List (Option A) → ℕ → Option A
 place_at xs b = unwrap_or (slice_get xs b) None
@@ -23,6 +24,10 @@ pub set_still : {A : Type 0} (xs : List (Option A)) (b : ℕ) (o : Option A) →
 set_still [] b o e = refl
 set_still (x ∷ xs) zero o e = ap (λ y. y ∷ xs) (sym e)
 set_still (x ∷ xs) (suc b) o e = ap (λ ys. x ∷ ys) (set_still xs b o e)
+
+-- what was in a place is taken and put back
+pub put_back : {A : Type 0} (xs : List (Option A)) (b : ℕ) (x : A) → place_at xs b ≡ Some x → (taken : List (Option A)) (back : A) (put : List (Option A)) → taken ≡ slice_set xs b None → back ≡ x → put ≡ slice_set taken b (Some back) → put ≡ xs
+put_back xs b x at taken back put took same e = e ∙ ((λ i. slice_set (took i) b (Some (same i))) ∙ (set_twice xs b None (Some x) ∙ set_still xs b (Some x) at))
 
 -- a place that is read by index
 pub place_of : {A : Type 0} (xs : List (Option A)) (b : ℕ) (d o : Option A) → b < length xs → o ≡ get_or xs b d → place_at xs b ≡ o

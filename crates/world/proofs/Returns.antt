@@ -11,9 +11,9 @@ use Rattle.xn_model.specs.Lanes.{FitsLife, FitLives}
 use Rattle.xn_model.specs.Flights.{flight_of}
 use Rattle.xn_model.specs.Calls.{bytes_at}
 use Rattle.xn_kernel.specs.Kernels.{KernelValue, TicketValue}
-use Rattle.world.specs.Disks.{image_of, ticket_at, lane_at, lanes_with, AreWhole, IsCalm, IsHome, IsSomewhere}
+use Rattle.world.specs.Disks.{image_of, settled_image, given_to, ticket_at, lane_at, lanes_with, AreWhole, IsCalm, IsHome, IsSomewhere}
 use Rattle.world.specs.Worlds.{Tickets, ticket_flight, IsWorld}
-use Rattle.world.proofs.Images.{image_of-finished, length-image_of}
+use Rattle.world.proofs.Images.{known_of-finished, length-image_of}
 use Rattle.world.proofs.Places.{place_at-same, place_at-other, set_still, full_get, empty_get}
 use Rattle.world.proofs.Sizes.{nowhere}
 
@@ -43,7 +43,7 @@ module _ (kernel : KernelValue MemoryLane) (tickets : Tickets) (is : IsWorld ker
   }
     where
       by : (b : ℕ) → b < length kernel.lanes → (o : Option MemoryLane) → lane_at kernel.lanes b ≡ o → (t : Option (TicketValue MemoryLane)) → ticket_at tickets b ≡ t → IsSomewhere b o t
-      by b within (Some lane) e None f = is.calm b lane (full_get kernel.lanes b lane e)
+      by b within (Some lane) e None f = (is.calm b lane (full_get kernel.lanes b lane e)).0
       by b within (Some lane) e (Some t) f =
           let idle = home_idle lane (life_at kernel.state.store.lives b) (fits_at kernel.lanes kernel.state.store.lives b (Some lane) is.fit (full_get kernel.lanes b lane e)) in
           absurd (none-some (t.count, t.bytes) (sym idle ∙ (sym (is.flights b) ∙ ap ticket_flight f)))
@@ -55,6 +55,8 @@ module _ (kernel : KernelValue MemoryLane) (tickets : Tickets) (is : IsWorld ker
 pub record IsBack (lanes : Lanes) (tickets : Tickets) (lanes' : Lanes) (tickets' : Tickets) : Type 0 where
   pub whole : AreWhole lanes' tickets'
   pub image : image_of lanes' tickets' ≡ image_of lanes tickets
+  pub settled : settled_image lanes' tickets' ≡ settled_image lanes tickets
+  pub given : given_to lanes' tickets' ≡ given_to lanes tickets
   pub count : length lanes' ≡ length lanes
 
 away_at : (b : ℕ) (o : Option MemoryLane) (ticket : TicketValue MemoryLane) → IsSomewhere b o (Some ticket) → (o ≡ None) × (ticket.block ≡ b) × IsCalm ticket.lane
@@ -87,18 +89,20 @@ module _ (lanes : Lanes) (tickets : Tickets) (is : AreWhole lanes tickets) (b : 
                 (subst (λ t. IsSomewhere c (lane_at lanes c) t) (sym (place_at-other tickets b c None other)) (is.each c (let long = length-set lanes b (Some ticket.lane) in omega arith)))
           ];
         };
-        image = image_of-finished lanes tickets b ticket.lane ticket is.count s.0 at refl;
+        image = known_of-finished (λ l. l.bytes) [] lanes tickets b ticket.lane ticket is.count s.0 at refl;
+        settled = known_of-finished (λ l. l.settled) [] lanes tickets b ticket.lane ticket is.count s.0 at refl;
+        given = known_of-finished (λ l. l.given) None lanes tickets b ticket.lane ticket is.count s.0 at refl;
         count = length-set lanes b (Some ticket.lane);
       }
 
   pub one_back : (o : Option (TicketValue MemoryLane)) → ticket_at tickets b ≡ o → IsBack lanes tickets (lanes_with lanes o) (slice_set tickets b None)
-  one_back None at = subst (λ (ts : Tickets). IsBack lanes tickets lanes ts) (sym (set_still tickets b None at)) (record { whole = is; image = refl; count = refl })
+  one_back None at = subst (λ (ts : Tickets). IsBack lanes tickets lanes ts) (sym (set_still tickets b None at)) (record { whole = is; image = refl; settled = refl; given = refl; count = refl })
   one_back (Some ticket) at =
       let s = with_ticket ticket at in
       subst (λ n. IsBack lanes tickets (slice_set lanes n (Some ticket.lane)) (slice_set tickets b None)) (sym s.1) (returned ticket at)
 
 pub more_back : (lanes : Lanes) (tickets : Tickets) (lanes' : Lanes) (tickets' : Tickets) (lanes'' : Lanes) (tickets'' : Tickets) → IsBack lanes tickets lanes' tickets' → IsBack lanes' tickets' lanes'' tickets'' → IsBack lanes tickets lanes'' tickets''
-more_back lanes tickets lanes' tickets' lanes'' tickets'' first next = record { whole = next.whole; image = next.image ∙ first.image; count = next.count ∙ first.count }
+more_back lanes tickets lanes' tickets' lanes'' tickets'' first next = record { whole = next.whole; image = next.image ∙ first.image; settled = next.settled ∙ first.settled; given = next.given ∙ first.given; count = next.count ∙ first.count }
 
 -- the first places have no ticket any more
 pub more_empty : (tickets : Tickets) (b : ℕ) → b < length tickets → ((c : ℕ) → c < b → ticket_at tickets c ≡ None) → (c : ℕ) → c < b + 1 → ticket_at (slice_set tickets b None) c ≡ None

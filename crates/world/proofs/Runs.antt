@@ -6,7 +6,7 @@ use Rattle.xn_model.specs.Worlds as model
 use Rattle.xn_model.specs.Worlds.{Run, Step}
 use Rattle.templates.specs.Tables.{types_of}
 use Rattle.xn_model.specs.Rules.{Holds, Agrees}
-use Rattle.xn_model.proofs.ForCallers.{agreement, world_sound}
+use Rattle.xn_model.proofs.ForCallers.{left_agrees, left_sound}
 use Rattle.events.specs.declared.event.Event.{Event}
 use Rattle.events.specs.declared.reply.Reply.{Reply}
 use Rattle.events.specs.Events.{event_of, reply_of}
@@ -32,9 +32,9 @@ ran_more old mid after events at default replies new reply within more run step 
     (subst (λ rs. Run (world_with old) (map event_of (take at events) ++ event_of event ∷ []) rs (world_with after)) (sym told)
     (run_more (world_with old) (map event_of (take at events)) (map reply_of replies) (world_with mid) (event_of event) (reply_of reply) (world_with after) run step))
 
--- what the rules say of the image
-pub rules_agree : (value : WorldValue) → Holds (world_with value) → Agrees (types_of value.table) (length value.state.lives) (block_of value.image) value.state.lives
-rules_agree value holds = agreement (types_of value.table) value.state holds.state (block_of value.image) holds.placed
+-- what the rules say of every image that a crash may leave
+pub rules_agree : (value : WorldValue) → Holds (world_with value) → (image : List (List ℕ)) → model.MayLeave (world_with value) image → Agrees (types_of value.table) (length image) (block_of image) value.state.lives
+rules_agree value holds image may = left_agrees (world_with value) holds image may
 
-pub rules_sound : (value : WorldValue) → Holds (world_with value) → IsSound (types_of value.table) (length value.image) (block_of value.image)
-rules_sound value holds = world_sound (world_with value) holds
+pub rules_sound : (value : WorldValue) → Holds (world_with value) → (image : List (List ℕ)) → model.MayLeave (world_with value) image → IsSound (types_of value.table) (length image) (block_of image)
+rules_sound value holds image may = left_sound (world_with value) holds image may

@@ -10,10 +10,10 @@ use Rattle.xn_model.specs.Lanes.{FitsLife, FitLives}
 use Rattle.xn_model.specs.Images.{block_of}
 use Rattle.xn_state.specs.States.{types_in}
 use Rattle.xn_model.specs.Rules.{Agrees}
-use Rattle.xn_model.proofs.ForCallers.{agreement}
+use Rattle.xn_model.proofs.ForCallers.{agreement, left_placed}
 use Rattle.xn_kernel.specs.Kernels.{KernelValue}
 use Rattle.world.specs.Disks.{image_of, ticket_at}
-use Rattle.world.specs.Worlds.{Tickets, ticket_flight, IsWorld}
+use Rattle.world.specs.Worlds.{Tickets, world_of, ticket_flight, IsWorld}
 use Rattle.world.proofs.Images.{length-image_of}
 use Rattle.world.proofs.Places.{place_at, empty_get}
 use Rattle.world.proofs.Flights.{not_flying}
@@ -48,4 +48,4 @@ module _ (kernel : KernelValue MemoryLane) (tickets : Tickets) (is : IsWorld ker
 
   -- the image agrees with the lives
   pub agrees : Agrees (types_in kernel.state) (length kernel.state.store.lives) (block_of (image_of kernel.lanes tickets)) kernel.state.store.lives
-  agrees = agreement (types_in kernel.state) kernel.state.store is.holds.state (block_of (image_of kernel.lanes tickets)) is.holds.placed
+  agrees = agreement (types_in kernel.state) kernel.state.store is.holds.state (block_of (image_of kernel.lanes tickets)) (left_placed (world_of kernel tickets) is.holds (image_of kernel.lanes tickets) is.holds.newest)

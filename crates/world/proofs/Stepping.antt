@@ -1,16 +1,17 @@
 -- What each event leaves is a world, and one step of the model.
-use Rattle.std.proofs.Common.{◌≡◌, ℕ, ◌<◌, List, Bool, true, false, length, Some, None, Result, Ok, Err, refl, sym, ◌∙◌, ap, inl, inr, subst, slice_get, slice_set, arith}
-use Rattle.std.specs.Prelude.{◌&&◌}
+use Rattle.std.proofs.Common.{◌≡◌, ℕ, ◌<◌, List, [], Bool, true, false, length, Some, None, Result, Ok, Err, refl, sym, ◌∙◌, ap, inl, inr, subst, slice_get, slice_set, arith}
+use Rattle.std.specs.Prelude.{◌&&◌, cond, is_some}
 use Rattle.std.proofs.lemmas.Bool.{cases_eq, eq-eqb}
 use Rattle.std.proofs.lemmas.Option.{same_Some, none-some, slice_get_within}
 use Rattle.std.proofs.lemmas.List.{length-set}
-use Rattle.disk.specs.Mem.{MemoryLane, write_failed, bytes_after_fault}
+use Rattle.disk.specs.Mem.{MemoryLane, write_failed, sync_failed, synced, bytes_after_fault, IsGivenAfterFault}
 use Rattle.xn_model.specs.declared.refusal.Refusal.{Refusal}
+use Rattle.xn_model.specs.declared.refusal.Refusal.TheVariants.{NotSynced}
 use Rattle.xn_model.specs.Images.{block_of}
 use Rattle.xn_model.specs.Lives.{StoreState, life_at}
 use Rattle.xn_model.specs.Results.{GivesExactly, result_map}
 use Rattle.xn_model.specs.Calls.{init_of, propose_of, make_root_of, drop_root_of, forget_of, begun_of, settled_of, settled_place, settled_after}
-use Rattle.xn_model.specs.Worlds.{World, Event, Client, Begin, Land, Fail, Finish, Reply, Begun, Landed, Fault, Finished, NoTicket, act, reply_and_world, write, with_ticket, begun_count, AfterCall, Step}
+use Rattle.xn_model.specs.Worlds.{World, Event, Client, Begin, Land, Fail, Sync, FailSync, Finish, Reply, Begun, Landed, Synced, Fault, Finished, NoTicket, Refused, act, reply_and_world, write, settle_bytes, given_at, read_back, with_ticket, begun_count, begun_bytes, AfterCall, Step}
 use Rattle.xn_model.specs.Lanes.{FitLives}
 use Rattle.xn_model.specs.Flights.{flight_of, HaveSameFlights}
 use Rattle.xn_state.specs.States.{types_in}
@@ -20,12 +21,12 @@ use Rattle.xn_state.specs.declared.answer.Answer.{Answer}
 use Rattle.xn_state.specs.Answers.{Answers, call_of, reply_of_answer}
 use Rattle.xn_state.proofs.ForCallers.{answers_step}
 use Rattle.xn_model.specs.Rules.{Holds}
-use Rattle.xn_model.proofs.ForCallers.{gives_keeps, gives_exactly_keeps, gives_exactly-ok, step_keeps}
+use Rattle.xn_model.proofs.ForCallers.{gives_keeps, gives_exactly_keeps, gives_exactly-ok, left_placed, none_from, none_open, step_keeps}
 use Rattle.xn_model.proofs.ForCallers as lemmas
 use Rattle.xn_kernel.specs.Kernels.{KernelValue, TicketValue, is_mine, is_in_flight}
-use Rattle.world.specs.Disks.{image_of, IsCalm, ticket_at}
+use Rattle.world.specs.Disks.{image_of, settled_image, given_to, IsCalm, IsAtRest, ticket_at}
 use Rattle.world.specs.Worlds.{Tickets, world_of, ticket_flight, IsTicketOf, IsWorld}
-use Rattle.world.proofs.Images.{image_of-begun, image_of-landed, image_of-kept, image_of-finished, block_of-away}
+use Rattle.world.proofs.Images.{known_of-begun, known_of-landed, known_of-kept, known_of-finished, known_of-away, block_of-away}
 use Rattle.world.proofs.Places.{place_at, place_at-same, place_at-other, full_place, full_get}
 use Rattle.world.proofs.Flights.{IsFlying, flying, flying_count, flying_bytes, flying_test, not_flying, settled_well}
 use Rattle.xn_kernel.proofs.ForCallers.{away_in_flight}
@@ -37,13 +38,13 @@ module _ (kernel : KernelValue MemoryLane) (tickets : Tickets) (is : IsWorld ker
   -- the lives may change where lanes and writes stay
   new_state : (new : StoreState) → Holds (world_of (record kernel { state = record kernel.state { store = new } }) tickets) → FitLives (λ lane. lane.bytes) kernel.lanes new.lives → HaveSameFlights kernel.state.store.lives new.lives →
       IsWorld (record kernel { state = record kernel.state { store = new } }) tickets
-  new_state new holds fit flights = record { holds = holds; fit = fit; calm = is.calm; count = is.count; flights = λ b. is.flights b ∙ sym (flights b); mine = λ b t e. let m = is.mine b t e in record { kernel_is = m.kernel_is; block_is = m.block_is; calm = m.calm } }
+  new_state new holds fit flights = record { holds = holds; fit = fit; calm = is.calm; count = is.count; flights = λ b. is.flights b ∙ sym (flights b); mine = λ b t e. let m = is.mine b t e in record { kernel_is = m.kernel_is; block_is = m.block_is; calm = m.calm; unsynced = m.unsynced } }
 
   -- A call of a client
 
   module _ (fs : ℕ) (call : Call) (answer : Answer) (new : StoreState) (answers : Answers (types_in kernel.state) kernel.state.store fs call new answer) where
     pub call_step : Step (world_of kernel tickets) (Client fs (call_of call)) (reply_of_answer answer) (world_of (record kernel { state = record kernel.state { store = new } }) tickets)
-    call_step = answers_step (types_in kernel.state) (image_of kernel.lanes tickets) kernel.state.store new fs call answer answers
+    call_step = answers_step (types_in kernel.state) (image_of kernel.lanes tickets) (settled_image kernel.lanes tickets) (given_to kernel.lanes tickets) kernel.state.store new fs call answer answers
 
     fits : (call : Call) → Answers (types_in kernel.state) kernel.state.store fs call new answer → FitLives (λ (l : MemoryLane). l.bytes) kernel.lanes new.lives
     fits (Init ty bytes) h = gives_keeps (λ s. FitLives (λ (l : MemoryLane). l.bytes) kernel.lanes s.lives) (init_of (types_in kernel.state) kernel.state.store fs ty bytes) kernel.state.store new h.0 h.2 is.fit (λ made e. lemmas.lanes_init (λ (l : MemoryLane). l.bytes) kernel.lanes (types_in kernel.state) kernel.state.store new fs ty bytes made e is.fit)
@@ -88,7 +89,7 @@ module _ (kernel : KernelValue MemoryLane) (tickets : Tickets) (is : IsWorld ker
   -- A write begins
 
   module _ (b : ℕ) (given : List ℕ × ℕ) (new : StoreState) (begun : begun_of kernel.state.store b ≡ Ok (given, new)) (ticket : TicketValue MemoryLane) (carries : (given.0 ≡ ticket.bytes) × (given.1 ≡ ticket.count))
-      (ours : (ticket.kernel ≡ kernel.id) × (ticket.block ≡ b)) (home : slice_get kernel.lanes b ≡ Some (Some ticket.lane)) where
+      (ours : (ticket.kernel ≡ kernel.id) × (ticket.block ≡ b)) (home : slice_get kernel.lanes b ≡ Some (Some ticket.lane)) (fresh : ticket.unsynced ≡ false) where
     abbrev begun_kernel : KernelValue MemoryLane
     begun_kernel = record kernel { lanes = slice_set kernel.lanes b None; state = record kernel.state { store = new } }
 
@@ -99,7 +100,12 @@ module _ (kernel : KernelValue MemoryLane) (tickets : Tickets) (is : IsWorld ker
     within = let lt = slice_get_within kernel.lanes b (Some ticket.lane) home in let long = is.count in omega arith
 
     begun_same : world_of begun_kernel begun_tickets ≡ record (world_of kernel tickets) { state = new }
-    begun_same = ap (λ image. record (world_of kernel tickets) { image = image; state = new }) (image_of-begun kernel.lanes tickets b ticket is.count home)
+    begun_same = λ i. record (world_of kernel tickets) {
+      image = known_of-begun (λ l. l.bytes) [] kernel.lanes tickets b ticket is.count home i;
+      settled = known_of-begun (λ l. l.settled) [] kernel.lanes tickets b ticket is.count home i;
+      given = known_of-begun (λ l. l.given) None kernel.lanes tickets b ticket is.count home i;
+      state = new;
+    }
 
     pub begin_step : Step (world_of kernel tickets) (Begin b) (Begun ticket.count) (world_of begun_kernel begun_tickets)
     begin_step =
@@ -125,8 +131,8 @@ module _ (kernel : KernelValue MemoryLane) (tickets : Tickets) (is : IsWorld ker
           mine = λ c t at. elim (cases_eq c b) [
             | inl same ↦
                 let it : ticket ≡ t = same_Some ticket t (sym (place_at-same tickets b (Some ticket) within) ∙ (ap (ticket_at begun_tickets) (sym same) ∙ at)) in
-                subst (λ x. IsTicketOf begun_kernel c x) it (record { kernel_is = ours.0; block_is = ours.1 ∙ sym same; calm = is.calm b ticket.lane home })
-            | inr other ↦ let m = is.mine c t (sym (place_at-other tickets b c (Some ticket) other) ∙ at) in record { kernel_is = m.kernel_is; block_is = m.block_is; calm = m.calm }
+                subst (λ x. IsTicketOf begun_kernel c x) it (record { kernel_is = ours.0; block_is = ours.1 ∙ sym same; calm = (is.calm b ticket.lane home).0; unsynced = fresh ∙ sym (ap is_some (is.calm b ticket.lane home).1.0) })
+            | inr other ↦ let m = is.mine c t (sym (place_at-other tickets b c (Some ticket) other) ∙ at) in record { kernel_is = m.kernel_is; block_is = m.block_is; calm = m.calm; unsynced = m.unsynced }
           ];
         }
 
@@ -140,14 +146,24 @@ module _ (kernel : KernelValue MemoryLane) (tickets : Tickets) (is : IsWorld ker
   told_no_ticket : (e : Event) → act (world_of kernel tickets) e ≡ (NoTicket, world_of kernel tickets) → AfterCall (world_of kernel tickets) e NoTicket (world_of kernel tickets)
   told_no_ticket e acts = inl (sym (ap (λ (x : Reply × World). x.0) acts), sym (ap (λ (x : Reply × World). x.1) acts))
 
+  -- what a finish with a ticket is
+  abbrev finish_at : ℕ → Reply × World
+  finish_at b = cond (is_some (given_at (given_to kernel.lanes tickets) b)) (Refused NotSynced, world_of kernel tickets) (read_back (world_of kernel tickets) b)
+
   pub land_without : (b : ℕ) → ticket_at tickets b ≡ None → Step (world_of kernel tickets) (Land b) NoTicket (world_of kernel tickets)
   land_without b none = told_no_ticket (Land b) (no_ticket b (λ k. (Landed, write (world_of kernel tickets) b k true)) none)
 
   pub fail_without : (b : ℕ) (stays : Bool) → ticket_at tickets b ≡ None → Step (world_of kernel tickets) (Fail b stays) NoTicket (world_of kernel tickets)
   fail_without b stays none = told_no_ticket (Fail b stays) (no_ticket b (λ k. (Fault, write (world_of kernel tickets) b k stays)) none)
 
+  pub sync_without : (b : ℕ) → ticket_at tickets b ≡ None → Step (world_of kernel tickets) (Sync b) NoTicket (world_of kernel tickets)
+  sync_without b none = told_no_ticket (Sync b) (no_ticket b (λ k. (Synced, settle_bytes (world_of kernel tickets) b)) none)
+
+  pub fail_sync_without : (b : ℕ) → ticket_at tickets b ≡ None → Step (world_of kernel tickets) (FailSync b) NoTicket (world_of kernel tickets)
+  fail_sync_without b none = told_no_ticket (FailSync b) (no_ticket b (λ k. (Fault, world_of kernel tickets)) none)
+
   pub finish_without : (b : ℕ) → ticket_at tickets b ≡ None → Step (world_of kernel tickets) (Finish b) NoTicket (world_of kernel tickets)
-  finish_without b none = told_no_ticket (Finish b) (no_ticket b (λ k. reply_and_world (λ (done : ℕ × ℕ). Finished done.0 done.1) (world_of kernel tickets) (settled_of kernel.state.store b (block_of (image_of kernel.lanes tickets) b))) none)
+  finish_without b none = told_no_ticket (Finish b) (no_ticket b (λ k. finish_at b) none)
 
   -- A block with one
 
@@ -164,11 +180,15 @@ module _ (kernel : KernelValue MemoryLane) (tickets : Tickets) (is : IsWorld ker
     held : (go : ℕ → Reply × World) → with_ticket (world_of kernel tickets) (begun_count (life_at kernel.state.store.lives b)) go ≡ go ticket.count
     held go = ap (λ o. with_ticket (world_of kernel tickets) o go) (flying_count (life_at kernel.state.store.lives b) ticket.count ticket.bytes flies)
 
-    -- the ticket's lane, with other bytes
+    there : block_of (image_of kernel.lanes tickets) b ≡ ticket.lane.bytes
+    there = block_of-away kernel.lanes tickets b ticket away has
 
-    lane_world : (lane' : MemoryLane) → IsCalm lane' → Holds (world_of kernel (slice_set tickets b (Some (record ticket { lane = lane' })))) → IsWorld kernel (slice_set tickets b (Some (record ticket { lane = lane' })))
-    lane_world lane' calm holds =
-        let next : TicketValue MemoryLane = record ticket { lane = lane' } in
+    -- the ticket's lane changes
+
+    lane_world : (lane' : MemoryLane) (unsynced : Bool) → IsCalm lane' → unsynced ≡ is_some lane'.given → Holds (world_of kernel (slice_set tickets b (Some (record ticket { lane = lane'; unsynced = unsynced })))) →
+        IsWorld kernel (slice_set tickets b (Some (record ticket { lane = lane'; unsynced = unsynced })))
+    lane_world lane' unsynced calm knows holds =
+        let next : TicketValue MemoryLane = record ticket { lane = lane'; unsynced = unsynced } in
         let next_tickets : Tickets = slice_set tickets b (Some next) in
         record {
           holds = holds;
@@ -184,25 +204,35 @@ module _ (kernel : KernelValue MemoryLane) (tickets : Tickets) (is : IsWorld ker
             | inl same ↦
                 let it : next ≡ t = same_Some next t (sym (place_at-same tickets b (Some next) within_tickets) ∙ (ap (ticket_at next_tickets) (sym same) ∙ at)) in
                 let m = is.mine b ticket has in
-                subst (λ x. IsTicketOf kernel c x) it (record { kernel_is = m.kernel_is; block_is = m.block_is ∙ sym same; calm = calm })
+                subst (λ x. IsTicketOf kernel c x) it (record { kernel_is = m.kernel_is; block_is = m.block_is ∙ sym same; calm = calm; unsynced = knows })
             | inr other ↦ is.mine c t (sym (place_at-other tickets b c (Some next) other) ∙ at)
           ];
         }
 
     -- The write is carried out
 
-    module _ (lane' : MemoryLane) (written : lane' ≡ record ticket.lane { bytes = ticket.bytes }) where
+    module _ (lane' : MemoryLane) (written : lane' ≡ record ticket.lane { bytes = ticket.bytes; given = Some ticket.bytes }) where
       abbrev landed_ticket : TicketValue MemoryLane
-      landed_ticket = record ticket { lane = lane' }
+      landed_ticket = record ticket { lane = lane'; unsynced = true }
 
       abbrev landed_tickets : Tickets
       landed_tickets = slice_set tickets b (Some landed_ticket)
 
+      begun_is : begun_bytes ticket.count (life_at kernel.state.store.lives b) ≡ ticket.bytes
+      begun_is = flying_bytes (life_at kernel.state.store.lives b) ticket.count ticket.bytes flies
+
+      landed_image : image_of kernel.lanes landed_tickets ≡ slice_set (image_of kernel.lanes tickets) b (begun_bytes ticket.count (life_at kernel.state.store.lives b))
+      landed_image = known_of-landed (λ l. l.bytes) [] kernel.lanes tickets b landed_ticket is.count away ∙ ap (slice_set (image_of kernel.lanes tickets) b) (ap (λ (l : MemoryLane). l.bytes) written ∙ sym begun_is)
+
+      landed_settled : settled_image kernel.lanes landed_tickets ≡ settled_image kernel.lanes tickets
+      landed_settled = known_of-kept (λ l. l.settled) [] kernel.lanes tickets b ticket landed_ticket is.count away has (ap (λ (l : MemoryLane). l.settled) written)
+
+      landed_given : given_to kernel.lanes landed_tickets ≡ slice_set (given_to kernel.lanes tickets) b (Some (begun_bytes ticket.count (life_at kernel.state.store.lives b)))
+      landed_given = known_of-landed (λ l. l.given) None kernel.lanes tickets b landed_ticket is.count away
+          ∙ ap (slice_set (given_to kernel.lanes tickets) b) (ap (λ (l : MemoryLane). l.given) written ∙ ap (λ bytes. Some bytes) (sym begun_is))
+
       landed_same : world_of kernel landed_tickets ≡ write (world_of kernel tickets) b ticket.count true
-      landed_same =
-          let image = image_of-landed kernel.lanes tickets b landed_ticket is.count away
-          ∙ ap (slice_set (image_of kernel.lanes tickets) b) (ap (λ (l : MemoryLane). l.bytes) written ∙ sym (flying_bytes (life_at kernel.state.store.lives b) ticket.count ticket.bytes flies)) in
-          ap (λ image. record (world_of kernel tickets) { image = image }) image
+      landed_same = λ i. record (world_of kernel tickets) { image = landed_image i; settled = landed_settled i; given = landed_given i }
 
       pub land_step : Step (world_of kernel tickets) (Land b) Landed (world_of kernel landed_tickets)
       land_step =
@@ -212,25 +242,47 @@ module _ (kernel : KernelValue MemoryLane) (tickets : Tickets) (is : IsWorld ker
       pub land_world : IsWorld kernel landed_tickets
       land_world =
           let m = is.mine b ticket has in
-          lane_world lane' (ap (λ (l : MemoryLane). l.write_fault) written ∙ m.calm.0, ap (λ (l : MemoryLane). l.read_fault) written ∙ m.calm.1)
-          (step_keeps (world_of kernel tickets) (Land b) Landed (world_of kernel landed_tickets) tt is.holds land_step)
+          lane_world lane' true (ap (λ (l : MemoryLane). l.write_fault) written ∙ m.calm.0, ap (λ (l : MemoryLane). l.read_fault) written ∙ m.calm.1, ap (λ (l : MemoryLane). l.sync_fault) written ∙ m.calm.2)
+          (sym (ap (λ (l : MemoryLane). is_some l.given) written)) (step_keeps (world_of kernel tickets) (Land b) Landed (world_of kernel landed_tickets) tt is.holds land_step)
 
     -- The write fails
 
-    module _ (lane' : MemoryLane) (stays : Bool) (failed : lane' ≡ write_failed (record ticket.lane { write_fault = Some stays }) ticket.bytes) where
+    module _ (lane' : MemoryLane) (stays : Bool) (failed : lane' ≡ write_failed (record ticket.lane { write_fault = Some stays }) ticket.bytes lane'.given)
+        (gave : IsGivenAfterFault (Some stays) (record ticket.lane { write_fault = Some stays }) ticket.bytes lane'.given) where
+      abbrev failed_ticket : TicketValue MemoryLane
+      failed_ticket = record ticket { lane = lane'; unsynced = true }
+
       abbrev failed_tickets : Tickets
-      failed_tickets = slice_set tickets b (Some (record ticket { lane = lane' }))
+      failed_tickets = slice_set tickets b (Some failed_ticket)
+
+      failed_bytes : begun_bytes ticket.count (life_at kernel.state.store.lives b) ≡ ticket.bytes
+      failed_bytes = flying_bytes (life_at kernel.state.store.lives b) ticket.count ticket.bytes flies
 
       failed_image : (stays : Bool) → lane'.bytes ≡ bytes_after_fault (Some stays) ticket.lane.bytes ticket.bytes →
-          world_of kernel failed_tickets ≡ write (world_of kernel tickets) b ticket.count stays
-      failed_image true e =
-          ap (λ image. record (world_of kernel tickets) { image = image }) (image_of-landed kernel.lanes tickets b (record ticket { lane = lane' }) is.count away
-          ∙ ap (slice_set (image_of kernel.lanes tickets) b) (e ∙ sym (flying_bytes (life_at kernel.state.store.lives b) ticket.count ticket.bytes flies)))
-      failed_image false e =
-          ap (λ image. record (world_of kernel tickets) { image = image }) (image_of-kept kernel.lanes tickets b ticket (record ticket { lane = lane' }) is.count away has e)
+          image_of kernel.lanes failed_tickets ≡ cond stays (slice_set (image_of kernel.lanes tickets) b (begun_bytes ticket.count (life_at kernel.state.store.lives b))) (image_of kernel.lanes tickets)
+      failed_image true e = known_of-landed (λ l. l.bytes) [] kernel.lanes tickets b failed_ticket is.count away ∙ ap (slice_set (image_of kernel.lanes tickets) b) (e ∙ sym failed_bytes)
+      failed_image false e = known_of-kept (λ l. l.bytes) [] kernel.lanes tickets b ticket failed_ticket is.count away has e
+
+      failed_settled : settled_image kernel.lanes failed_tickets ≡ settled_image kernel.lanes tickets
+      failed_settled = known_of-kept (λ l. l.settled) [] kernel.lanes tickets b ticket failed_ticket is.count away has (ap (λ (l : MemoryLane). l.settled) failed)
+
+      -- what an open write was given is what this one is given
+      flight_bytes : (bytes : List ℕ) → ticket.lane.given ≡ Some bytes → bytes ≡ ticket.bytes
+      flight_bytes bytes e =
+          let flight = is.holds.unsynced b bytes (known_of-away (λ l. l.given) None kernel.lanes tickets b ticket away has ∙ e) in
+          ap (λ (p : ℕ × List ℕ). p.1) (same_Some (flight.0, bytes) (ticket.count, ticket.bytes) (sym flight.1 ∙ (sym (is.flights b) ∙ ap ticket_flight has)))
+
+      given_bytes : (stays : Bool) → IsGivenAfterFault (Some stays) (record ticket.lane { write_fault = Some stays }) ticket.bytes lane'.given → lane'.given ≡ Some ticket.bytes
+      given_bytes true is = is
+      given_bytes false (inl was) = was.1 ∙ (was.0 ∙ ap Some (flight_bytes ticket.lane.bytes was.0))
+      given_bytes false (inr new) = new.1
+
+      failed_given : given_to kernel.lanes failed_tickets ≡ slice_set (given_to kernel.lanes tickets) b (Some (begun_bytes ticket.count (life_at kernel.state.store.lives b)))
+      failed_given = known_of-landed (λ l. l.given) None kernel.lanes tickets b failed_ticket is.count away
+          ∙ ap (slice_set (given_to kernel.lanes tickets) b) (given_bytes stays gave ∙ ap (λ bytes. Some bytes) (sym failed_bytes))
 
       failed_same : world_of kernel failed_tickets ≡ write (world_of kernel tickets) b ticket.count stays
-      failed_same = failed_image stays (ap (λ (l : MemoryLane). l.bytes) failed)
+      failed_same = λ i. record (world_of kernel tickets) { image = failed_image stays (ap (λ (l : MemoryLane). l.bytes) failed) i; settled = failed_settled i; given = failed_given i }
 
       pub fail_step : Step (world_of kernel tickets) (Fail b stays) Fault (world_of kernel failed_tickets)
       fail_step =
@@ -238,63 +290,87 @@ module _ (kernel : KernelValue MemoryLane) (tickets : Tickets) (is : IsWorld ker
           inl (sym (ap (λ (x : Reply × World). x.0) acts), failed_same ∙ sym (ap (λ (x : Reply × World). x.1) acts))
 
       pub fail_world : IsWorld kernel failed_tickets
-      fail_world = lane_world lane' (ap (λ (l : MemoryLane). l.write_fault) failed, ap (λ (l : MemoryLane). l.read_fault) failed ∙ (is.mine b ticket has).calm.1)
-          (step_keeps (world_of kernel tickets) (Fail b stays) Fault (world_of kernel failed_tickets) tt is.holds fail_step)
+      fail_world =
+          let m = is.mine b ticket has in
+          lane_world lane' true (ap (λ (l : MemoryLane). l.write_fault) failed, ap (λ (l : MemoryLane). l.read_fault) failed ∙ m.calm.1, ap (λ (l : MemoryLane). l.sync_fault) failed ∙ m.calm.2)
+          (sym (ap is_some (given_bytes stays gave))) (step_keeps (world_of kernel tickets) (Fail b stays) Fault (world_of kernel failed_tickets) tt is.holds fail_step)
+
+    -- The block is synced
+
+    module _ (lane' : MemoryLane) (done : lane' ≡ synced ticket.lane) where
+      abbrev settled_ticket : TicketValue MemoryLane
+      settled_ticket = record ticket { lane = lane'; unsynced = false }
+
+      abbrev settled_tickets : Tickets
+      settled_tickets = slice_set tickets b (Some settled_ticket)
+
+      synced_image : image_of kernel.lanes settled_tickets ≡ image_of kernel.lanes tickets
+      synced_image = known_of-kept (λ l. l.bytes) [] kernel.lanes tickets b ticket settled_ticket is.count away has (ap (λ (l : MemoryLane). l.bytes) done)
+
+      synced_settled : settled_image kernel.lanes settled_tickets ≡ slice_set (settled_image kernel.lanes tickets) b (block_of (image_of kernel.lanes tickets) b)
+      synced_settled = known_of-landed (λ l. l.settled) [] kernel.lanes tickets b settled_ticket is.count away ∙ ap (slice_set (settled_image kernel.lanes tickets) b) (ap (λ (l : MemoryLane). l.settled) done ∙ sym there)
+
+      synced_given : given_to kernel.lanes settled_tickets ≡ slice_set (given_to kernel.lanes tickets) b None
+      synced_given = known_of-landed (λ l. l.given) None kernel.lanes tickets b settled_ticket is.count away ∙ ap (slice_set (given_to kernel.lanes tickets) b) (ap (λ (l : MemoryLane). l.given) done)
+
+      synced_same : world_of kernel settled_tickets ≡ settle_bytes (world_of kernel tickets) b
+      synced_same = λ i. record (world_of kernel tickets) { image = synced_image i; settled = synced_settled i; given = synced_given i }
+
+      pub sync_step : Step (world_of kernel tickets) (Sync b) Synced (world_of kernel settled_tickets)
+      sync_step =
+          let acts : act (world_of kernel tickets) (Sync b) ≡ (Synced, settle_bytes (world_of kernel tickets) b) = held (λ k. (Synced, settle_bytes (world_of kernel tickets) b)) in
+          inl (sym (ap (λ (x : Reply × World). x.0) acts), synced_same ∙ sym (ap (λ (x : Reply × World). x.1) acts))
+
+      pub sync_world : IsWorld kernel settled_tickets
+      sync_world =
+          let m = is.mine b ticket has in
+          lane_world lane' false (ap (λ (l : MemoryLane). l.write_fault) done ∙ m.calm.0, ap (λ (l : MemoryLane). l.read_fault) done ∙ m.calm.1, ap (λ (l : MemoryLane). l.sync_fault) done ∙ m.calm.2)
+          (sym (ap (λ (l : MemoryLane). is_some l.given) done)) (step_keeps (world_of kernel tickets) (Sync b) Synced (world_of kernel settled_tickets) tt is.holds sync_step)
+
+    -- The sync fails
+
+    module _ (lane' : MemoryLane) (fails : lane' ≡ sync_failed (record ticket.lane { sync_fault = true })) where
+      abbrev unsettled_ticket : TicketValue MemoryLane
+      unsettled_ticket = record ticket { lane = lane' }
+
+      abbrev unsettled_tickets : Tickets
+      unsettled_tickets = slice_set tickets b (Some unsettled_ticket)
+
+      unsettled_same : world_of kernel unsettled_tickets ≡ world_of kernel tickets
+      unsettled_same = λ i. record (world_of kernel tickets) {
+        image = known_of-kept (λ l. l.bytes) [] kernel.lanes tickets b ticket unsettled_ticket is.count away has (ap (λ (l : MemoryLane). l.bytes) fails) i;
+        settled = known_of-kept (λ l. l.settled) [] kernel.lanes tickets b ticket unsettled_ticket is.count away has (ap (λ (l : MemoryLane). l.settled) fails) i;
+        given = known_of-kept (λ l. l.given) None kernel.lanes tickets b ticket unsettled_ticket is.count away has (ap (λ (l : MemoryLane). l.given) fails) i;
+      }
+
+      pub fail_sync_step : Step (world_of kernel tickets) (FailSync b) Fault (world_of kernel unsettled_tickets)
+      fail_sync_step =
+          let acts : act (world_of kernel tickets) (FailSync b) ≡ (Fault, world_of kernel tickets) = held (λ k. (Fault, world_of kernel tickets)) in
+          inl (sym (ap (λ (x : Reply × World). x.0) acts), unsettled_same ∙ sym (ap (λ (x : Reply × World). x.1) acts))
+
+      pub fail_sync_world : IsWorld kernel unsettled_tickets
+      fail_sync_world =
+          let m = is.mine b ticket has in
+          lane_world lane' ticket.unsynced (ap (λ (l : MemoryLane). l.write_fault) fails ∙ m.calm.0, ap (λ (l : MemoryLane). l.read_fault) fails ∙ m.calm.1, ap (λ (l : MemoryLane). l.sync_fault) fails)
+          (m.unsynced ∙ sym (ap (λ (l : MemoryLane). is_some l.given) fails)) (step_keeps (world_of kernel tickets) (FailSync b) Fault (world_of kernel unsettled_tickets) tt is.holds fail_sync_step)
 
     -- The block is read back
 
-    there : block_of (image_of kernel.lanes tickets) b ≡ ticket.lane.bytes
-    there = block_of-away kernel.lanes tickets b ticket away has
+    given_is : given_at (given_to kernel.lanes tickets) b ≡ ticket.lane.given
+    given_is = known_of-away (λ l. l.given) None kernel.lanes tickets b ticket away has
 
-    module _ (lane' : MemoryLane) (read : lane' ≡ ticket.lane) (done : ℕ × ℕ) (new : StoreState) (settled : settled_of kernel.state.store b ticket.lane.bytes ≡ Ok (done, new)) where
-      abbrev finished_kernel : KernelValue MemoryLane
-      finished_kernel = record kernel { lanes = slice_set kernel.lanes b (Some lane'); state = record kernel.state { store = new } }
+    -- with an open write it is not
+    pub open_step : ticket.unsynced ≡ true → Step (world_of kernel tickets) (Finish b) (Refused NotSynced) (world_of kernel tickets)
+    open_step unsynced =
+        let some : is_some (given_at (given_to kernel.lanes tickets) b) ≡ true = ap is_some given_is ∙ (sym (is.mine b ticket has).unsynced ∙ unsynced) in
+        let acts : act (world_of kernel tickets) (Finish b) ≡ (Refused NotSynced, world_of kernel tickets) =
+        held (λ k. finish_at b) ∙ ap (λ t. cond {A = Reply × World} t (Refused NotSynced, world_of kernel tickets) (read_back (world_of kernel tickets) b)) some in
+        inl (sym (ap (λ (x : Reply × World). x.0) acts), sym (ap (λ (x : Reply × World). x.1) acts))
 
-      abbrev finished_tickets : Tickets
-      finished_tickets = slice_set tickets b None
-
-      finished_same : world_of finished_kernel finished_tickets ≡ record (world_of kernel tickets) { state = new }
-      finished_same = ap (λ image. record (world_of kernel tickets) { image = image; state = new })
-          (image_of-finished kernel.lanes tickets b lane' ticket is.count away has (ap (λ (l : MemoryLane). l.bytes) read))
-
-      settled_there : settled_of kernel.state.store b (block_of (image_of kernel.lanes tickets) b) ≡ Ok (done, new)
-      settled_there = ap (settled_of kernel.state.store b) there ∙ settled
-
-      pub finish_step : Step (world_of kernel tickets) (Finish b) (Finished done.0 done.1) (world_of finished_kernel finished_tickets)
-      finish_step =
-          let acts : act (world_of kernel tickets) (Finish b) ≡ (Finished done.0 done.1, record (world_of kernel tickets) { state = new }) =
-          held (λ k. reply_and_world (λ (x : ℕ × ℕ). Finished x.0 x.1) (world_of kernel tickets) (settled_of kernel.state.store b (block_of (image_of kernel.lanes tickets) b)))
-          ∙ ap (reply_and_world (λ (x : ℕ × ℕ). Finished x.0 x.1) (world_of kernel tickets)) settled_there in
-          inl (sym (ap (λ (x : Reply × World). x.0) acts), finished_same ∙ sym (ap (λ (x : Reply × World). x.1) acts))
-
-      pub finish_world : IsWorld finished_kernel finished_tickets
-      finish_world =
-          let flights = lemmas.flights_settled (types_in kernel.state) kernel.state.store new b ticket.lane.bytes done is.holds.state settled in
-          let same_bytes : lane'.bytes ≡ ticket.lane.bytes = ap (λ (l : MemoryLane). l.bytes) read in
-          record {
-            holds = step_keeps (world_of kernel tickets) (Finish b) (Finished done.0 done.1) (world_of finished_kernel finished_tickets) tt is.holds finish_step;
-            fit = lemmas.lanes_settled (types_in kernel.state) (λ (l : MemoryLane). l.bytes) kernel.lanes kernel.state.store new b lane' done is.holds.state (ap (settled_of kernel.state.store b) same_bytes ∙ settled) is.fit;
-            calm = λ c l at. elim (cases_eq c b) [
-              | inl same ↦
-                  let it : lane' ≡ l = same_Some lane' l (sym (place_at-same kernel.lanes b (Some lane') (slice_get_within kernel.lanes b None away)) ∙ (ap (place_at (slice_set kernel.lanes b (Some lane'))) (sym same) ∙ full_place (slice_set kernel.lanes b (Some lane')) c l at)) in
-                  subst IsCalm (sym read ∙ it) (is.mine b ticket has).calm
-              | inr other ↦ is.calm c l (full_get kernel.lanes c l (sym (place_at-other kernel.lanes b c (Some lane') other) ∙ full_place (slice_set kernel.lanes b (Some lane')) c l at))
-            ];
-            count = length-set tickets b None ∙ (is.count ∙ sym (length-set kernel.lanes b (Some lane')));
-            flights = λ c. elim (cases_eq c b) [
-              | inl same ↦ ap (λ n. ticket_flight (ticket_at finished_tickets n)) same ∙ (ap ticket_flight (place_at-same tickets b None within_tickets) ∙ sym (ap (λ n. flight_of (life_at new.lives n)) same ∙ flights.0))
-              | inr other ↦ ap ticket_flight (place_at-other tickets b c None other) ∙ (is.flights c ∙ sym (flights.1 c other))
-            ];
-            mine = λ c t at. elim (cases_eq c b) [
-              | inl same ↦ absurd (none-some t (sym (place_at-same tickets b None within_tickets) ∙ (ap (ticket_at finished_tickets) (sym same) ∙ at)))
-              | inr other ↦ let m = is.mine c t (sym (place_at-other tickets b c None other) ∙ at) in record { kernel_is = m.kernel_is; block_is = m.block_is; calm = m.calm }
-            ];
-          }
-
-    -- it settles
+    -- what it holds settles
     pub settles : (n : ℕ) × (settled_place ticket.lane.bytes (slice_get kernel.state.store.lives b) ≡ Ok n)
     settles =
-        let r = settled_well (block_of (image_of kernel.lanes tickets)) kernel.state.store.lives b ticket.count ticket.bytes flies (λ l s alive durable. is.holds.placed b l s alive durable) (full_get kernel.state.store.lives b flies.life flies.alive) in
+        let r = settled_well (block_of (image_of kernel.lanes tickets)) kernel.state.store.lives b ticket.count ticket.bytes flies (λ l s alive durable. left_placed (world_of kernel tickets) is.holds (image_of kernel.lanes tickets) is.holds.newest b l s alive durable) (full_get kernel.state.store.lives b flies.life flies.alive) in
         (r.0, sym (ap (λ bytes. settled_place bytes (slice_get kernel.state.store.lives b)) there) ∙ r.1)
 
     pub is_ours : is_mine kernel ticket ≡ true
@@ -321,3 +397,66 @@ module _ (kernel : KernelValue MemoryLane) (tickets : Tickets) (is : IsWorld ker
         given_never : (r : Result ((ℕ × ℕ) × StoreState) Refusal) (x : (ℕ × ℕ) × StoreState) (new : StoreState) (refusal : Refusal) → r ≡ Ok x → GivesExactly r kernel.state.store new (Err refusal) → ⊥
         given_never (Ok (answer, after)) x new refusal e h = cc
         given_never (Err first) x new refusal e h = cc
+
+  -- without one it is
+
+  module _ (b : ℕ) (ticket : TicketValue MemoryLane) (has : ticket_at tickets b ≡ Some ticket) (rests : ticket.unsynced ≡ false) where
+    none_given : ticket.lane.given ≡ None
+    none_given = none_from ticket.lane.given (sym (is.mine b ticket has).unsynced ∙ rests)
+
+    lane_rests : IsAtRest ticket.lane
+    lane_rests = (
+      none_given,
+      sym (known_of-away (λ l. l.settled) [] kernel.lanes tickets b ticket (away b ticket has) has)
+          ∙ (none_open (world_of kernel tickets) is.holds b (given_is b ticket has ∙ none_given) ∙ there b ticket has),
+    )
+
+    module _ (lane' : MemoryLane) (read : lane' ≡ ticket.lane) (done : ℕ × ℕ) (new : StoreState) (settled : settled_of kernel.state.store b ticket.lane.bytes ≡ Ok (done, new)) where
+      abbrev finished_kernel : KernelValue MemoryLane
+      finished_kernel = record kernel { lanes = slice_set kernel.lanes b (Some lane'); state = record kernel.state { store = new } }
+
+      abbrev finished_tickets : Tickets
+      finished_tickets = slice_set tickets b None
+
+      finished_same : world_of finished_kernel finished_tickets ≡ record (world_of kernel tickets) { state = new }
+      finished_same = λ i. record (world_of kernel tickets) {
+        image = known_of-finished (λ l. l.bytes) [] kernel.lanes tickets b lane' ticket is.count (away b ticket has) has (ap (λ (l : MemoryLane). l.bytes) read) i;
+        settled = known_of-finished (λ l. l.settled) [] kernel.lanes tickets b lane' ticket is.count (away b ticket has) has (ap (λ (l : MemoryLane). l.settled) read) i;
+        given = known_of-finished (λ l. l.given) None kernel.lanes tickets b lane' ticket is.count (away b ticket has) has (ap (λ (l : MemoryLane). l.given) read) i;
+        state = new;
+      }
+
+      settled_there : settled_of kernel.state.store b (block_of (image_of kernel.lanes tickets) b) ≡ Ok (done, new)
+      settled_there = ap (settled_of kernel.state.store b) (there b ticket has) ∙ settled
+
+      pub finish_step : Step (world_of kernel tickets) (Finish b) (Finished done.0 done.1) (world_of finished_kernel finished_tickets)
+      finish_step =
+          let acts : act (world_of kernel tickets) (Finish b) ≡ (Finished done.0 done.1, record (world_of kernel tickets) { state = new }) =
+          held b ticket has (λ k. finish_at b)
+          ∙ ap (λ o. cond {A = Reply × World} (is_some o) (Refused NotSynced, world_of kernel tickets) (read_back (world_of kernel tickets) b)) (given_is b ticket has ∙ none_given)
+          ∙ ap (reply_and_world (λ (x : ℕ × ℕ). Finished x.0 x.1) (world_of kernel tickets)) settled_there in
+          inl (sym (ap (λ (x : Reply × World). x.0) acts), finished_same ∙ sym (ap (λ (x : Reply × World). x.1) acts))
+
+      pub finish_world : IsWorld finished_kernel finished_tickets
+      finish_world =
+          let flights = lemmas.flights_settled (types_in kernel.state) kernel.state.store new b ticket.lane.bytes done is.holds.state settled in
+          let same_bytes : lane'.bytes ≡ ticket.lane.bytes = ap (λ (l : MemoryLane). l.bytes) read in
+          record {
+            holds = step_keeps (world_of kernel tickets) (Finish b) (Finished done.0 done.1) (world_of finished_kernel finished_tickets) tt is.holds finish_step;
+            fit = lemmas.lanes_settled (types_in kernel.state) (λ (l : MemoryLane). l.bytes) kernel.lanes kernel.state.store new b lane' done is.holds.state (ap (settled_of kernel.state.store b) same_bytes ∙ settled) is.fit;
+            calm = λ c l at. elim (cases_eq c b) [
+              | inl same ↦
+                  let it : lane' ≡ l = same_Some lane' l (sym (place_at-same kernel.lanes b (Some lane') (slice_get_within kernel.lanes b None (away b ticket has))) ∙ (ap (place_at (slice_set kernel.lanes b (Some lane'))) (sym same) ∙ full_place (slice_set kernel.lanes b (Some lane')) c l at)) in
+                  subst (λ x. IsCalm x × IsAtRest x) (sym read ∙ it) ((is.mine b ticket has).calm, lane_rests)
+              | inr other ↦ is.calm c l (full_get kernel.lanes c l (sym (place_at-other kernel.lanes b c (Some lane') other) ∙ full_place (slice_set kernel.lanes b (Some lane')) c l at))
+            ];
+            count = length-set tickets b None ∙ (is.count ∙ sym (length-set kernel.lanes b (Some lane')));
+            flights = λ c. elim (cases_eq c b) [
+              | inl same ↦ ap (λ n. ticket_flight (ticket_at finished_tickets n)) same ∙ (ap ticket_flight (place_at-same tickets b None (within_tickets b ticket has)) ∙ sym (ap (λ n. flight_of (life_at new.lives n)) same ∙ flights.0))
+              | inr other ↦ ap ticket_flight (place_at-other tickets b c None other) ∙ (is.flights c ∙ sym (flights.1 c other))
+            ];
+            mine = λ c t at. elim (cases_eq c b) [
+              | inl same ↦ absurd (none-some t (sym (place_at-same tickets b None (within_tickets b ticket has)) ∙ (ap (ticket_at finished_tickets) (sym same) ∙ at)))
+              | inr other ↦ let m = is.mine c t (sym (place_at-other tickets b c None other) ∙ at) in record { kernel_is = m.kernel_is; block_is = m.block_is; calm = m.calm; unsynced = m.unsynced }
+            ];
+          }

@@ -26,15 +26,17 @@ is_event (event.Call fs call) = fs.few
 is_event (event.Begin block) = tt
 is_event (event.Land block) = tt
 is_event (event.Fail block stay) = tt
+is_event (event.Sync block) = tt
+is_event (event.FailSync block) = tt
 is_event (event.Finish block) = tt
-is_event event.Crash = tt
+is_event (event.Crash kept) = tt
 
 pub are_events : (es : List Event) → AllByRecursion model.IsEvent (map event_of es)
 are_events [] = tt
 are_events (e ∷ es) = (is_event e, are_events es)
 
 pub ran_told : (w after : model.World) (hs : Histories) → IsMoment w hs → (es : List model.Event) (rs : List model.Reply) → AllByRecursion model.IsEvent es → model.Run w es rs after →
-    (hs' : Histories) × IsMoment after hs' × RunWhere Anything w hs es rs after hs' × ImageHolds after hs'
+    (hs' : Histories) × IsMoment after hs' × RunWhere Anything w hs es rs after hs' × ((image : List (List ℕ)) → model.MayLeave after image → ImageHolds after.types image hs')
 ran_told w after hs m es rs each run =
     let r = run_heard w hs es rs after run in
     let now = moment_after w hs m es rs after r.0 each r.1 in

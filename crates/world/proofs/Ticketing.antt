@@ -1,11 +1,11 @@
 -- The places of tickets, of which only the first ones are made.
-use Rattle.std.proofs.Common.{◌≡◌, ℕ, zero, suc, ◌+◌, ◌-◌, ◌<◌, ◌≤◌, List, [], ◌∷◌, ◌++◌, length, replicate, Option, Some, None, Result, refl, sym, ◌∙◌, ap, arith, slice_set, append_assoc, length-append}
+use Rattle.std.proofs.Common.{true, ◌≡◌, ℕ, zero, suc, ◌+◌, ◌-◌, ◌<◌, ◌≤◌, List, [], ◌∷◌, ◌++◌, length, replicate, Option, Some, None, Result, refl, sym, ◌∙◌, ap, arith, slice_set, append_assoc, length-append}
 use Rattle.std.proofs.lemmas.Option.{none-some}
 use Rattle.std.proofs.lemmas.List.{length-set, length-replicate}
 use Rattle.disk.specs.declared.lane.DeviceFault.{DeviceFault}
 use Rattle.disk.specs.Mem.{MemoryLane}
 use Rattle.xn_kernel.specs.Kernels.{TicketValue}
-use Rattle.world.specs.Disks.{all_places, IsWritten}
+use Rattle.world.specs.Disks.{all_places, synced_ticket, IsWritten, IsSyncAnswered}
 use Rattle.world.specs.Worlds.{Tickets}
 use Rattle.world.proofs.Places.{place_at}
 
@@ -72,4 +72,10 @@ module _ (blocks : ℕ) (front : Tickets) where
       → IsWritten told (all_places blocks front) b answer (all_places blocks after)
   written_places told b None after h = (place_behind b ∙ h.0, ap (all_places blocks) h.1)
   written_places told b (Some answer) after h =
-      (h.0, h.1, place_behind b ∙ h.2, h.3, ap (all_places blocks) h.4 ∙ set_place b (Some (record h.0 { lane = h.1 })) (full_within front b h.0 h.2))
+      (h.0, h.1, place_behind b ∙ h.2, h.3, ap (all_places blocks) h.4 ∙ set_place b (Some (record h.0 { lane = h.1; unsynced = true })) (full_within front b h.0 h.2))
+
+  pub synced_places : (told : MemoryLane → MemoryLane) (b : ℕ) (answer : Option (Result (Unit {0}) DeviceFault)) (after : Tickets) → IsSyncAnswered told front b answer after
+      → IsSyncAnswered told (all_places blocks front) b answer (all_places blocks after)
+  synced_places told b None after h = (place_behind b ∙ h.0, ap (all_places blocks) h.1)
+  synced_places told b (Some answer) after h =
+      (h.0, h.1, place_behind b ∙ h.2, h.3, ap (all_places blocks) h.4 ∙ set_place b (Some (synced_ticket h.0 answer h.1)) (full_within front b h.0 h.2))

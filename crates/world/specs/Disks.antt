@@ -1,24 +1,39 @@
 -- The blocks of a disk, of which some lanes are at home and some with tickets.
-use Rattle.std.specs.Prelude.{◌≡◌, ℕ, ◌-◌, ◌<◌, Bool, List, [], ◌∷◌, ◌++◌, All, length, replicate, Option, Some, None, Result, false, unwrap_or, slice_get, slice_set}
+use Rattle.std.specs.Prelude.{◌≡◌, ℕ, ◌-◌, ◌<◌, Bool, List, [], ◌∷◌, ◌++◌, All, length, replicate, Option, Some, None, Result, true, false, Ok, Err, unwrap_or, slice_get, slice_set, option_map, ⊤}
 use Rattle.std.specs.List.{AllByRecursion}
 use Rattle.disk.specs.declared.lane.DeviceFault.{DeviceFault}
-use Rattle.disk.specs.Mem.{MemoryLane, memory_write}
+use Rattle.disk.specs.Mem.{MemoryLane, memory_write, memory_sync, crashed}
+use Rattle.xn_model.specs.Lists.{has_number}
 use Rattle.xn_kernel.specs.Kernels.{TicketValue}
 
--- the bytes of a block: its lane's, wherever that is
-abbrev pub bytes_in : Option MemoryLane → Option (TicketValue MemoryLane) → List ℕ
-bytes_in (Some lane) ticket = lane.bytes
-bytes_in None (Some ticket) = ticket.lane.bytes
-bytes_in None None = []
+-- what is known of a block's lane, wherever that is, or this where there is none
+abbrev pub known_at : {A : Type 0} → (MemoryLane → A) → A → Option MemoryLane → Option (TicketValue MemoryLane) → A
+known_at of none (Some lane) ticket = of lane
+known_at of none None (Some ticket) = of ticket.lane
+known_at of none None None = none
 
+abbrev pub known_of : {A : Type 0} → (MemoryLane → A) → A → List (Option MemoryLane) → List (Option (TicketValue MemoryLane)) → List A
+known_of of none [] tickets = []
+known_of of none (lane ∷ lanes) [] = known_at of none lane None ∷ known_of of none lanes []
+known_of of none (lane ∷ lanes) (ticket ∷ tickets) = known_at of none lane ticket ∷ known_of of none lanes tickets
+
+-- the newest bytes of the blocks, their settled bytes, and what was given to their open writes
 abbrev pub image_of : List (Option MemoryLane) → List (Option (TicketValue MemoryLane)) → List (List ℕ)
-image_of [] tickets = []
-image_of (lane ∷ lanes) [] = bytes_in lane None ∷ image_of lanes []
-image_of (lane ∷ lanes) (ticket ∷ tickets) = bytes_in lane ticket ∷ image_of lanes tickets
+image_of lanes tickets = known_of (λ lane. lane.bytes) [] lanes tickets
+
+abbrev pub settled_image : List (Option MemoryLane) → List (Option (TicketValue MemoryLane)) → List (List ℕ)
+settled_image lanes tickets = known_of (λ lane. lane.settled) [] lanes tickets
+
+abbrev pub given_to : List (Option MemoryLane) → List (Option (TicketValue MemoryLane)) → List (Option (List ℕ))
+given_to lanes tickets = known_of (λ lane. lane.given) None lanes tickets
 
 -- a lane that is told no failure
 abbrev pub IsCalm : MemoryLane → Type 0
-IsCalm lane = (lane.write_fault ≡ None) × (lane.read_fault ≡ false)
+IsCalm lane = (lane.write_fault ≡ None) × (lane.read_fault ≡ false) × (lane.sync_fault ≡ false)
+
+-- a lane that holds no write
+abbrev pub IsAtRest : MemoryLane → Type 0
+IsAtRest lane = (lane.given ≡ None) × (lane.settled ≡ lane.bytes)
 
 abbrev pub ticket_at : List (Option (TicketValue MemoryLane)) → ℕ → Option (TicketValue MemoryLane)
 ticket_at tickets b = unwrap_or (slice_get tickets b) None
@@ -47,9 +62,27 @@ abbrev pub IsHome : Option MemoryLane → Type 0
 IsHome None = ⊥
 IsHome (Some lane) = IsCalm lane
 
+-- and holds no write
+abbrev pub IsResting : Option MemoryLane → Type 0
+IsResting None = ⊥
+IsResting (Some lane) = IsCalm lane × IsAtRest lane
+
+-- where the lane is at home, its block has 512 bytes
+abbrev pub IsLong : Option MemoryLane → Type 0
+IsLong None = ⊤
+IsLong (Some lane) = length lane.bytes ≡ 512
+
+abbrev pub AreLong : List (Option MemoryLane) → Type 0
+AreLong lanes = (b : ℕ) → b < length lanes → IsLong (lane_at lanes b)
+
+-- each lane has crashed, and kept its open write where these blocks have it
+pub record HaveCrashed (kept : List ℕ) (old new : List (Option MemoryLane)) : Type 0 where
+  pub count : length new ≡ length old
+  pub each : (b : ℕ) → lane_at new b ≡ option_map (λ lane. crashed lane (has_number kept b)) (lane_at old b)
+
 -- the lanes of a disk that is not mounted, and the places of its tickets
 pub record IsUnmounted (lanes : List (Option MemoryLane)) (tickets : List (Option (TicketValue MemoryLane))) : Type 0 where
-  pub home : AllByRecursion IsHome lanes
+  pub home : AllByRecursion IsResting lanes
   pub empty : tickets ≡ replicate (length lanes) None
   pub long : All (λ block. length block ≡ 512) (image_of lanes tickets)
 
@@ -62,10 +95,27 @@ abbrev pub IsWritten : (MemoryLane → MemoryLane) → List (Option (TicketValue
 IsWritten told tickets b None after = (ticket_at tickets b ≡ None) × (after ≡ tickets)
 IsWritten told tickets b (Some answer) after =
     (ticket : TicketValue MemoryLane) × (lane : MemoryLane) × (ticket_at tickets b ≡ Some ticket) × memory_write (told ticket.lane) ticket.bytes answer lane
-    × (after ≡ slice_set tickets b (Some (record ticket { lane = lane })))
+    × (after ≡ slice_set tickets b (Some (record ticket { lane = lane; unsynced = true })))
 
 abbrev pub IsLanded : List (Option (TicketValue MemoryLane)) → ℕ → Option (Result (Unit {0}) DeviceFault) → List (Option (TicketValue MemoryLane)) → Type 0
 IsLanded tickets b answer after = IsWritten (λ lane. lane) tickets b answer after
 
 abbrev pub IsFailed : List (Option (TicketValue MemoryLane)) → ℕ → Bool → Option (Result (Unit {0}) DeviceFault) → List (Option (TicketValue MemoryLane)) → Type 0
 IsFailed tickets b new_bytes_stay answer after = IsWritten (λ lane. record lane { write_fault = Some new_bytes_stay }) tickets b answer after
+
+-- a sync of block b is answered, where it has a ticket, whose lane is told something before; it knows from then on whether that holds a write
+abbrev pub synced_ticket : TicketValue MemoryLane → Result (Unit {0}) DeviceFault → MemoryLane → TicketValue MemoryLane
+synced_ticket ticket (Ok done) lane = record ticket { lane = lane; unsynced = false }
+synced_ticket ticket (Err fault) lane = record ticket { lane = lane }
+
+abbrev pub IsSyncAnswered : (MemoryLane → MemoryLane) → List (Option (TicketValue MemoryLane)) → ℕ → Option (Result (Unit {0}) DeviceFault) → List (Option (TicketValue MemoryLane)) → Type 0
+IsSyncAnswered told tickets b None after = (ticket_at tickets b ≡ None) × (after ≡ tickets)
+IsSyncAnswered told tickets b (Some answer) after =
+    (ticket : TicketValue MemoryLane) × (lane : MemoryLane) × (ticket_at tickets b ≡ Some ticket) × memory_sync (told ticket.lane) answer lane
+    × (after ≡ slice_set tickets b (Some (synced_ticket ticket answer lane)))
+
+abbrev pub IsSynced : List (Option (TicketValue MemoryLane)) → ℕ → Option (Result (Unit {0}) DeviceFault) → List (Option (TicketValue MemoryLane)) → Type 0
+IsSynced tickets b answer after = IsSyncAnswered (λ lane. lane) tickets b answer after
+
+abbrev pub IsSyncFailed : List (Option (TicketValue MemoryLane)) → ℕ → Option (Result (Unit {0}) DeviceFault) → List (Option (TicketValue MemoryLane)) → Type 0
+IsSyncFailed tickets b answer after = IsSyncAnswered (λ lane. record lane { sync_fault = true }) tickets b answer after

@@ -5,7 +5,7 @@ use Rattle.disk.specs.Mem.{MemoryLane}
 use Rattle.xn_model.specs.Lives.{StoreState, life_at, alive_and}
 use Rattle.xn_model.specs.Lanes.{FitLives}
 use Rattle.xn_model.specs.Flights.{flight_of}
-use Rattle.xn_model.specs.Worlds.{World, mounted_state}
+use Rattle.xn_model.specs.Worlds.{World, mounted_state, none_given}
 use Rattle.xn_model.specs.Root.{HasBuiltIns}
 use Rattle.xn_model.specs.Images.{block_of, IsSound}
 use Rattle.xn_model.specs.Mounts.{recovered}
@@ -13,25 +13,34 @@ use Rattle.templates.specs.Tables.{TableValue, table_of_image, types_of}
 use Rattle.crash_check.specs.Answers.{types_in}
 use Rattle.xn_model.specs.Rules.{Holds}
 use Rattle.xn_kernel.specs.Kernels.{KernelValue, TicketValue}
-use Rattle.world.specs.Disks.{image_of, IsCalm, ticket_at}
+use Rattle.world.specs.Disks.{image_of, settled_image, given_to, IsCalm, IsAtRest, ticket_at}
 
 abbrev pub Tickets : Type 0
 Tickets = List (Option (TicketValue MemoryLane))
 
 -- a world, with the table of its types in place of their meaning
 pub record WorldValue : Type 0 where
-  -- the bytes of each block on the disk
+  -- the newest bytes of each block on the disk, its settled ones, and what was given to its open write
   pub image : List (List ℕ)
+  pub settled : List (List ℕ)
+  pub given : List (Option (List ℕ))
   pub table : TableValue
   pub state : StoreState
   pub down : Bool
 
 abbrev pub value_of : KernelValue MemoryLane → Tickets → WorldValue
-value_of kernel tickets = record { image = image_of kernel.lanes tickets; table = kernel.state.table; state = kernel.state.store; down = false }
+value_of kernel tickets = record {
+  image = image_of kernel.lanes tickets;
+  settled = settled_image kernel.lanes tickets;
+  given = given_to kernel.lanes tickets;
+  table = kernel.state.table;
+  state = kernel.state.store;
+  down = false;
+}
 
 -- a world as the model has it, with the meaning that its table gives to types
 abbrev pub world_with : WorldValue → World
-world_with value = record { types = types_of value.table; image = value.image; state = value.state; down = value.down }
+world_with value = record { types = types_of value.table; image = value.image; settled = value.settled; given = value.given; state = value.state; down = value.down }
 
 abbrev pub world_of : KernelValue MemoryLane → Tickets → World
 world_of kernel tickets = world_with (value_of kernel tickets)
@@ -40,16 +49,17 @@ world_of kernel tickets = world_with (value_of kernel tickets)
 abbrev pub ticket_flight : Option (TicketValue MemoryLane) → Option (ℕ × List ℕ)
 ticket_flight ticket = option_map (λ t. (t.count, t.bytes)) ticket
 
--- a ticket is of this kernel, stands at its block's place, and its lane is told no failure
+-- a ticket is of this kernel, stands at its block's place, its lane is told no failure, and it knows whether that holds a write
 pub record IsTicketOf (kernel : KernelValue MemoryLane) (b : ℕ) (ticket : TicketValue MemoryLane) : Type 0 where
   pub kernel_is : ticket.kernel ≡ kernel.id
   pub block_is : ticket.block ≡ b
   pub calm : IsCalm ticket.lane
+  pub unsynced : ticket.unsynced ≡ is_some ticket.lane.given
 
 pub record IsWorld (kernel : KernelValue MemoryLane) (tickets : Tickets) : Type 0 where
   pub holds : Holds (world_of kernel tickets)
   pub fit : FitLives (λ lane. lane.bytes) kernel.lanes kernel.state.store.lives
-  pub calm : (b : ℕ) (lane : MemoryLane) → slice_get kernel.lanes b ≡ Some (Some lane) → IsCalm lane
+  pub calm : (b : ℕ) (lane : MemoryLane) → slice_get kernel.lanes b ≡ Some (Some lane) → IsCalm lane × IsAtRest lane
   -- there is a ticket for each write that is under way, and for no other block
   pub count : length tickets ≡ length kernel.lanes
   pub flights : (b : ℕ) → ticket_flight (ticket_at tickets b) ≡ flight_of (life_at kernel.state.store.lives b)
@@ -65,7 +75,7 @@ HasOwnTypes w = w.types ≡ types_in w.image
 
 -- a disk that was mounted, and one whose mount found no memory
 abbrev pub mounted_value : List (List ℕ) → WorldValue
-mounted_value image = record { image = image; table = table_of_image (block_of image); state = mounted_state (recovered (types_in image) image); down = false }
+mounted_value image = record { image = image; settled = image; given = none_given image; table = table_of_image (block_of image); state = mounted_state (recovered (types_in image) image); down = false }
 
 abbrev pub down_value : List (List ℕ) → WorldValue
 down_value image = record (mounted_value image) { down = true }

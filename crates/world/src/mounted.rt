@@ -1,16 +1,16 @@
 // A disk that is mounted.
 
-ghost use Rattle.std.specs.Prelude.{◌≡◌, ◌≢◌, ◌<◌, ◌-◌, All, length, IfOk, false};
+ghost use Rattle.std.specs.Prelude.{◌≡◌, ◌≢◌, ◌<◌, ◌-◌, length, IfOk, false};
 ghost use Rattle.xn_model.specs.Images.{block_of, joined};
 ghost use Rattle.xn_model.specs.Calls.{free_of};
 ghost use Rattle.xn_model.specs.Worlds as model;
 ghost use Rattle.xn_model.specs.Rules.{Holds};
 ghost use Rattle.xn_kernel.specs.Kernels.{is_in_flight};
-ghost use Rattle.events.specs.Events.{event_of, reply_of};
+ghost use Rattle.events.specs.Events.{event_of, reply_of, IsNoCrash};
 ghost use Rattle.world.specs.Worlds.{is_any_in_flight, world_with, value_of, IsWorld};
 
 use crate::tickets::Tickets;
-use crate::unmounted::{UnmountedDisk, take_lanes_back};
+use crate::unmounted::{UnmountedDisk, crash_lanes, take_lanes_back};
 use disk::{BLOCK_LEN, MemLane};
 use events::{Event, Reply};
 use std::alloc::{AllocError, Global};
@@ -59,7 +59,7 @@ impl MountedDisk {
     /// One event, any but a crash, whose reply is left in `reply`.
     #[inline(always)]
     pub fn step(&mut self, event: &Event, reply: &mut Reply)
-        requires { event.now ≢ Event.Crash }
+        requires { IsNoCrash event.now }
         ensures step { model.Step (world_with self.old) (event_of event.now) (reply_of reply.new) (world_with self.new) }
         ensures rules { Holds (world_with self.old) }
     {
@@ -69,8 +69,10 @@ impl MountedDisk {
             Event::Begin(block) => self.begin(*block, reply),
             Event::Land(block) => self.land(*block, reply),
             Event::Fail(block, new_bytes_stay) => self.fail(*block, *new_bytes_stay, reply),
+            Event::Sync(block) => self.sync(*block, reply),
+            Event::FailSync(block) => self.fail_sync(*block, reply),
             Event::Finish(block) => self.finish(*block, reply),
-            Event::Crash => unreachable!(),
+            Event::Crash(_kept) => unreachable!(),
         }
     }
 
@@ -85,26 +87,29 @@ impl MountedDisk {
         }
     }
 
-    /// Drops the kernel. Every lane is at home then; the writes that were under way are given up.
-    pub fn unmount(self) -> UnmountedDisk
-        ensures { result ≡ self.image }
+    /// Drops the kernel, and lets the disk crash: the open writes of these blocks are kept, and no others. Every lane is at home
+    /// then, with no open write; the writes that were under way are given up.
+    pub fn unmount(self, kept: &[u32]) -> UnmountedDisk
+        ensures { result ≡ model.left (world_with self) kept.now }
     {
-        self.whole_blocks();
         let MountedDisk {
             kernel,
             mut tickets,
         } = self;
         let mut lanes = kernel.into_lanes();
         take_lanes_back(&mut lanes, &mut tickets);
+        crash_lanes(&mut lanes, kept);
         UnmountedDisk::new(lanes, tickets)
     }
 
-    /// The bytes that the disk holds now, block after block.
-    pub fn image(&self, alloc: Global) -> Result<Vec<u8>, AllocError>
+    /// The bytes that the disk holds now, block after block, in the memory of these where that is enough.
+    pub fn image_into(&self, room: Vec<u8>) -> Result<Vec<u8>, AllocError>
         ensures { IfOk result (λ image. image.items ≡ joined self.now.image) }
     {
         let blocks = self.blocks();
-        let mut image = Vec::with_capacity(alloc, BLOCK_LEN.saturating_mul(blocks))?;
+        let mut image = room;
+        image.clear();
+        image.reserve_exact(BLOCK_LEN.saturating_mul(blocks))?;
         for block in 0..blocks {
             image.extend_from_slice(self.block_bytes(block))?;
         }
@@ -147,15 +152,6 @@ impl MountedDisk {
         let _kernel = &self.kernel;
     }
 
-    /// Each block has 512 bytes.
-    fn whole_blocks(&self)
-        ensures { All (λ block. length block ≡ 512) self.now.image }
-    {
-        for block in 0..self.blocks() {
-            is_whole(self.block_bytes(block));
-        }
-    }
-
     /// How many blocks the disk has.
     fn blocks(&self) -> usize
         ensures { result ≡ length self.now.image }
@@ -176,11 +172,4 @@ impl MountedDisk {
             },
         }
     }
-}
-
-/// A block has 512 bytes.
-fn is_whole(bytes: &[u8; BLOCK_LEN])
-    ensures { length bytes.now ≡ 512 }
-{
-    let _length = bytes.len();
 }

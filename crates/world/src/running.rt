@@ -5,7 +5,7 @@ ghost use Rattle.xn_model.specs.Images.{joined};
 ghost use Rattle.xn_model.specs.Calls.{pending_of, floor_of, free_of, pick_of};
 ghost use Rattle.xn_model.specs.Worlds as model;
 ghost use Rattle.xn_model.specs.Rules.{Holds};
-ghost use Rattle.events.specs.Events.{event_of, reply_of};
+ghost use Rattle.events.specs.Events.{event_of, reply_of, IsNoCrash};
 ghost use Rattle.world.specs.Worlds.{WorldValue, world_with, HasOwnTypes};
 
 use crate::mounted::MountedDisk;
@@ -73,7 +73,7 @@ impl Running {
 
     /// One event, any but a crash.
     pub fn step(&mut self, event: &Event) -> Reply
-        requires { event.now ≢ Event.Crash }
+        requires { IsNoCrash event.now }
         ensures step { model.Step (world_with self.old) (event_of event.now) (reply_of result) (world_with self.new) }
         ensures rules { Holds (world_with self.new) }
     {
@@ -122,7 +122,7 @@ impl Running {
     pub fn image(&self) -> Result<Vec<u8>, AllocError>
         ensures { IfOk result (λ image. image.items ≡ joined self.now.image) }
     {
-        self.disk.image(self.alloc)
+        self.disk.image_into(Vec::new(self.alloc))
     }
 }
 

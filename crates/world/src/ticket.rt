@@ -28,7 +28,9 @@ impl Drop for DroppableTicket {
 }
 
 impl DroppableTicket {
-    ghost use Rattle.disk.specs.Mem.{memory_write};
+    ghost use Rattle.std.specs.Prelude.{OnOk, OnErr, true, false};
+    ghost use Rattle.disk.specs.Mem.{memory_write, memory_sync};
+    ghost use Rattle.world.specs.Disks.{synced_ticket};
 
     pub fn new(ticket: Ticket<MemLane>) -> DroppableTicket
         ensures { result ≡ ticket }
@@ -60,7 +62,7 @@ impl DroppableTicket {
 
     /// Carries the write out.
     pub fn land(&mut self) -> Result<(), DeviceFault>
-        ensures ticket { self.new ≡ record self.old { lane = self.new.lane } }
+        ensures ticket { self.new ≡ record self.old { lane = self.new.lane; unsynced = true } }
         ensures gives { memory_write self.old.lane self.old.bytes result self.new.lane }
     {
         self.ticket.land()
@@ -68,10 +70,27 @@ impl DroppableTicket {
 
     /// Lets the write fail, and the block hold the new bytes or the old ones.
     pub fn fail(&mut self, new_bytes_stay: bool) -> Result<(), DeviceFault>
-        ensures ticket { self.new ≡ record self.old { lane = self.new.lane } }
+        ensures ticket { self.new ≡ record self.old { lane = self.new.lane; unsynced = true } }
         ensures gives { memory_write (record self.old.lane { write_fault = Some new_bytes_stay }) self.old.bytes result self.new.lane }
     {
         self.ticket.fail_next_write(new_bytes_stay);
         self.ticket.land()
+    }
+
+    /// Syncs the block.
+    pub fn sync(&mut self) -> Result<(), DeviceFault>
+        ensures ticket { self.new ≡ synced_ticket self.old result self.new.lane }
+        ensures gives { memory_sync self.old.lane result self.new.lane }
+    {
+        self.ticket.sync()
+    }
+
+    /// Lets a sync of the block fail.
+    pub fn fail_sync(&mut self) -> Result<(), DeviceFault>
+        ensures ticket { self.new ≡ synced_ticket self.old result self.new.lane }
+        ensures gives { memory_sync (record self.old.lane { sync_fault = true }) result self.new.lane }
+    {
+        self.ticket.fail_next_sync();
+        self.ticket.sync()
     }
 }

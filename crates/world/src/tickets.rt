@@ -2,8 +2,8 @@
 
 ghost use Rattle.std.specs.Prelude.{◌≡◌, ◌++◌, ◌+◌, ◌-◌, ◌<◌, ◌≤◌, length, replicate, Some, None, IfOk, IfSome, IfNone, slice_set, vec_capacity};
 ghost use Rattle.std.specs.Option.{option_copied};
-ghost use Rattle.disk.specs.Mem.{memory_write};
-ghost use Rattle.world.specs.Disks.{ticket_at, IsLanded, IsFailed};
+ghost use Rattle.disk.specs.Mem.{memory_write, memory_sync};
+ghost use Rattle.world.specs.Disks.{ticket_at, IsLanded, IsFailed, IsSynced, IsSyncFailed};
 
 use crate::ticket::DroppableTicket;
 use disk::DeviceFault;
@@ -96,6 +96,20 @@ impl Tickets {
     {
         fail_at(&mut self.front, block, new_bytes_stay)
     }
+
+    /// Syncs a block, if there is a ticket for it.
+    pub fn sync(&mut self, block: u32) -> Option<Result<(), DeviceFault>>
+        ensures { IsSynced self.old block result self.new }
+    {
+        sync_at(&mut self.front, block)
+    }
+
+    /// Lets the sync of a block fail, if there is a ticket for it.
+    pub fn fail_sync(&mut self, block: u32) -> Option<Result<(), DeviceFault>>
+        ensures { IsSyncFailed self.old block result self.new }
+    {
+        fail_sync_at(&mut self.front, block)
+    }
 }
 
 /// The ticket of a block among the first places.
@@ -151,5 +165,38 @@ fn fail_at(
     match &mut front[block as usize] {
         None => None,
         Some(ticket) => Some(ticket.fail(new_bytes_stay)),
+    }
+}
+
+/// Syncs a block, if there is a ticket for it.
+fn sync_at(front: &mut Vec<Option<DroppableTicket>>, block: u32) -> Option<Result<(), DeviceFault>>
+    ensures synced { IsSynced front.old.items block result front.new.items }
+    ensures count { length front.new.items ≡ length front.old.items }
+    ensures capacity { vec_capacity front.new ≡ vec_capacity front.old }
+{
+    if block as usize >= front.len() {
+        return None;
+    }
+    match &mut front[block as usize] {
+        None => None,
+        Some(ticket) => Some(ticket.sync()),
+    }
+}
+
+/// Lets the sync of a block fail, if there is a ticket for it.
+fn fail_sync_at(
+    front: &mut Vec<Option<DroppableTicket>>,
+    block: u32,
+) -> Option<Result<(), DeviceFault>>
+    ensures failed { IsSyncFailed front.old.items block result front.new.items }
+    ensures count { length front.new.items ≡ length front.old.items }
+    ensures capacity { vec_capacity front.new ≡ vec_capacity front.old }
+{
+    if block as usize >= front.len() {
+        return None;
+    }
+    match &mut front[block as usize] {
+        None => None,
+        Some(ticket) => Some(ticket.fail_sync()),
     }
 }

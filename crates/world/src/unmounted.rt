@@ -1,12 +1,13 @@
 // A disk that is not mounted.
 
-ghost use Rattle.std.specs.Prelude.{◌≡◌, ◌≢◌, ◌⊎◌, ◌*◌, ◌%◌, ◌^◌, ◌<◌, List, All, length, replicate, Some, None, Err, IfOk, IfErr, IfSome, slice_get};
+ghost use Rattle.std.specs.Prelude.{◌≡◌, ◌≢◌, ◌⊎◌, ◌*◌, ◌%◌, ◌^◌, ◌<◌, List, All, length, replicate, Some, None, Err, IfOk, IfErr, IfSome, slice_get, slice_set, option_map};
 ghost use Rattle.std.specs.List.{AllByRecursion};
 ghost use Rattle.xn_model.specs.Root.{HasBuiltIns};
 ghost use Rattle.xn_model.specs.Images.{block_of, blocks_in, joined, IsSound};
 ghost use Rattle.image_model.specs.Walk.{verdict};
 ghost use Rattle.crash_check.specs.Answers.{types_in};
-ghost use Rattle.world.specs.Disks.{image_of, lanes_with, AreWhole, IsHome, IsUnmounted};
+ghost use Rattle.disk.specs.Mem.{crashed};
+ghost use Rattle.world.specs.Disks.{image_of, settled_image, given_to, lane_at, lanes_with, AreLong, AreWhole, HaveCrashed, IsHome, IsLong, IsUnmounted};
 ghost use Rattle.world.specs.Worlds.{mounted_value};
 
 use crate::mounted::MountedDisk;
@@ -108,12 +109,14 @@ impl UnmountedDisk {
         }
     }
 
-    /// The bytes that the disk holds now, block after block.
-    pub fn image(&self, alloc: Global) -> Result<Vec<u8>, AllocError>
+    /// The bytes that the disk holds now, block after block, in the memory of these where that is enough.
+    pub fn image_into(&self, room: Vec<u8>) -> Result<Vec<u8>, AllocError>
         ensures { IfOk result (λ image. image.items ≡ joined self.now) }
     {
         let blocks = self.blocks();
-        let mut image = Vec::with_capacity(alloc, BLOCK_LEN.saturating_mul(blocks as usize))?;
+        let mut image = room;
+        image.clear();
+        image.reserve_exact(BLOCK_LEN.saturating_mul(blocks as usize))?;
         for block in 0..blocks {
             image.extend_from_slice(self.block_bytes(block))?;
         }
@@ -145,11 +148,49 @@ pub fn take_lanes_back(lanes: &mut Lanes<MemLane>, tickets: &mut Tickets)
     ensures home { AllByRecursion IsHome lanes.new }
     ensures empty { tickets.new ≡ replicate (length lanes.new) None }
     ensures image { image_of lanes.new tickets.new ≡ image_of lanes.old tickets.old }
+    ensures settled { settled_image lanes.new tickets.new ≡ settled_image lanes.old tickets.old }
+    ensures given { given_to lanes.new tickets.new ≡ given_to lanes.old tickets.old }
 {
     for block in 0..lanes.blocks() as u32 {
         let ticket = tickets.take(block);
         give_back(lanes, ticket);
     }
+}
+
+/// Each lane crashes: the open writes of these blocks are kept, and no others.
+pub fn crash_lanes(lanes: &mut Lanes<MemLane>, kept: &[u32])
+    ensures crashed { HaveCrashed kept.now lanes.old lanes.new }
+    ensures long { AreLong lanes.new }
+{
+    for block in 0..lanes.blocks() as u32 {
+        crash_lane(lanes, block, kept.contains(&block));
+    }
+}
+
+/// The lane of a block crashes.
+fn crash_lane(lanes: &mut Lanes<MemLane>, block: u32, kept: bool)
+    requires { block < length lanes.old }
+    ensures crashed { lanes.new ≡ slice_set lanes.old block (option_map (λ lane. crashed lane kept) (lane_at lanes.old block)) }
+    ensures long { IsLong (lane_at lanes.new block) }
+{
+    match lanes.take(block) {
+        None => {}
+        Some(mut lane) => {
+            lane.crash(kept);
+            is_whole(lane.bytes());
+            match lanes.give(lane) {
+                Ok(()) => {}
+                Err(_lane) => unreachable!(),
+            }
+        }
+    }
+}
+
+/// A block has 512 bytes.
+fn is_whole(bytes: &[u8; BLOCK_LEN])
+    ensures { length bytes.now ≡ 512 }
+{
+    let _length = bytes.len();
 }
 
 /// Puts a ticket's lane back in its place.

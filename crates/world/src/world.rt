@@ -1,6 +1,6 @@
 // A world.
 
-ghost use Rattle.std.specs.Prelude.{◌≡◌, ◌≢◌, ◌⊎◌, ℕ, ◌<◌, All, length, map, Err, IfOk, IfErr, MatchResult, IsTrue, true, false};
+ghost use Rattle.std.specs.Prelude.{◌≡◌, ◌≢◌, ◌⊎◌, ℕ, ◌<◌, List, All, length, map, Err, IfOk, IfErr, MatchResult, IsTrue, true, false};
 ghost use Rattle.xn_model.specs.Images.{block_of, blocks_in, joined, IsSound};
 ghost use Rattle.xn_model.specs.BareDisks.{mounted_disk};
 ghost use Rattle.xn_model.specs.Worlds as model;
@@ -17,7 +17,7 @@ ghost use Rattle.templates.specs.Tables.{table_of_image, types_of};
 ghost use Rattle.templates.specs.Formats.{formatted, format_fault, table_of, IsFormatFault};
 ghost use Rattle.crash_check.specs.Answers.{types_in};
 ghost use Rattle.xn_kernel.specs.Kernels.{is_in_flight};
-ghost use Rattle.events.specs.Events.{event_of, reply_of};
+ghost use Rattle.events.specs.Events.{event_of, reply_of, IsNoCrash};
 ghost use Rattle.world.specs.Worlds.{is_any_in_flight, world_with, world_value, HasOwnTypes, IsSoundDisk, IsWorldOf};
 
 use crate::mounted::MountedDisk;
@@ -117,18 +117,20 @@ impl World {
     }
 
     /// One event. The reply and the world after it are a step of the model; and each block that the
-    /// root reaches in the image holds a state of its life, from the durable to the begun one, and has
+    /// root reaches in an image that a crash may leave holds a state of its life, from the durable to the begun one, and has
     /// one owner. After any event but a crash, or an edit by a file system, each cut of the lives reaches from that file system's
-    /// root slot the same blocks and bytes as some cut before; and so does the image, as some cut now.
+    /// root slot the same blocks and bytes as some cut before; and so does each such image, as some cut now.
     #[inline(always)]
     pub fn step(&mut self, rt: &(impl Threads + Sync), event: &Event) -> Reply
         ensures step { model.Step (world_with self.old) (event_of event.now) (reply_of result) (world_with self.new) }
         ensures rules { Holds (world_with self.new) }
-        ensures agrees { Agrees (types_of self.new.table) (length self.new.state.lives) (block_of self.new.image) self.new.state.lives }
+        ensures agrees { (image : List (List ℕ)) → model.MayLeave (world_with self.new) image →
+            Agrees (types_of self.new.table) (length image) (block_of image) self.new.state.lives }
         ensures cuts { (fs : ℕ) → fs < 32 → IsForeign fs (event_of event.now) → (k : Choice) → IsCut self.new.state.lives k →
             (j : Choice) × IsCut self.old.state.lives j × SameUnder (types_of self.old.table) (seen self.new.state.lives k) (seen self.old.state.lives j) fs }
-        ensures image { (fs : ℕ) → fs < 32 → (k : Choice) × IsCut self.new.state.lives k × IsCutImage self.new.state.lives k (block_of self.new.image) ×
-            SameUnder (types_of self.new.table) (seen self.new.state.lives k) (block_of self.new.image) fs }
+        ensures images { (image : List (List ℕ)) → model.MayLeave (world_with self.new) image → (fs : ℕ) → fs < 32 →
+            (k : Choice) × IsCut self.new.state.lives k × IsCutImage self.new.state.lives k (block_of image) ×
+            SameUnder (types_of self.new.table) (seen self.new.state.lives k) (block_of image) fs }
     {
         let mut reply = Reply::Down;
         self.step_into(rt, event, &mut reply);
@@ -140,11 +142,13 @@ impl World {
     pub fn step_into(&mut self, rt: &(impl Threads + Sync), event: &Event, reply: &mut Reply)
         ensures step { model.Step (world_with self.old) (event_of event.now) (reply_of reply.new) (world_with self.new) }
         ensures rules { Holds (world_with self.new) }
-        ensures agrees { Agrees (types_of self.new.table) (length self.new.state.lives) (block_of self.new.image) self.new.state.lives }
+        ensures agrees { (image : List (List ℕ)) → model.MayLeave (world_with self.new) image →
+            Agrees (types_of self.new.table) (length image) (block_of image) self.new.state.lives }
         ensures cuts { (fs : ℕ) → fs < 32 → IsForeign fs (event_of event.now) → (k : Choice) → IsCut self.new.state.lives k →
             (j : Choice) × IsCut self.old.state.lives j × SameUnder (types_of self.old.table) (seen self.new.state.lives k) (seen self.old.state.lives j) fs }
-        ensures image { (fs : ℕ) → fs < 32 → (k : Choice) × IsCut self.new.state.lives k × IsCutImage self.new.state.lives k (block_of self.new.image) ×
-            SameUnder (types_of self.new.table) (seen self.new.state.lives k) (block_of self.new.image) fs }
+        ensures images { (image : List (List ℕ)) → model.MayLeave (world_with self.new) image → (fs : ℕ) → fs < 32 →
+            (k : Choice) × IsCut self.new.state.lives k × IsCutImage self.new.state.lives k (block_of image) ×
+            SameUnder (types_of self.new.table) (seen self.new.state.lives k) (block_of image) fs }
     {
         self.rules();
         events_keep_cuts();
@@ -153,7 +157,7 @@ impl World {
         self.rules();
     }
 
-    /// Events in their order, and their replies. After all of them the rules hold, the image is sound, and
+    /// Events in their order, and their replies. After all of them the rules hold, each image that a crash may leave is sound, and
     /// each block that the root reaches in it holds a state of its life, from the durable to the begun
     /// one, and has one owner. No block misses what the replies told durable of its present life. `Err` comes before the first event.
     pub fn run(
@@ -164,10 +168,12 @@ impl World {
         ensures run { IfOk result (λ replies. model.Run (world_with self.old) (map event_of events.now) (map reply_of replies.items) (world_with self.new)) }
         ensures kept { IfErr result (λ error. self.new ≡ self.old) }
         ensures rules { Holds (world_with self.new) }
-        ensures agrees { Agrees (types_of self.new.table) (length self.new.state.lives) (block_of self.new.image) self.new.state.lives }
-        ensures sound { IsSound (types_of self.new.table) (length self.new.image) (block_of self.new.image) }
+        ensures agrees { (image : List (List ℕ)) → model.MayLeave (world_with self.new) image →
+            Agrees (types_of self.new.table) (length image) (block_of image) self.new.state.lives }
+        ensures sound { (image : List (List ℕ)) → model.MayLeave (world_with self.new) image → IsSound (types_of self.new.table) (length image) (block_of image) }
         ensures told { IfOk result (λ replies. (hs : Histories) → IsMoment (world_with self.old) hs → (hs' : Histories) × IsMoment (world_with self.new) hs' ×
-            RunWhere Anything (world_with self.old) hs (map event_of events.now) (map reply_of replies.items) (world_with self.new) hs' × ImageHolds (world_with self.new) hs') }
+            RunWhere Anything (world_with self.old) hs (map event_of events.now) (map reply_of replies.items) (world_with self.new) hs' ×
+            ((image : List (List ℕ)) → model.MayLeave (world_with self.new) image → ImageHolds (types_of self.new.table) image hs')) }
     {
         self.rules();
         // The prover looks for the types within a reply among those that this function names.
@@ -184,10 +190,17 @@ impl World {
     pub fn image(&self) -> Result<Vec<u8>, AllocError>
         ensures { IfOk result (λ image. image.items ≡ joined self.now.image) }
     {
+        self.image_into(Vec::new(self.alloc))
+    }
+
+    /// The same, in the memory of these bytes where that is enough: memory that was used before costs less than new one.
+    pub fn image_into(&self, room: Vec<u8>) -> Result<Vec<u8>, AllocError>
+        ensures { IfOk result (λ image. image.items ≡ joined self.now.image) }
+    {
         match &self.mounted {
-            Some(disk) => disk.image(self.alloc),
+            Some(disk) => disk.image_into(room),
             None => match &self.unmounted {
-                Some(disk) => disk.image(self.alloc),
+                Some(disk) => disk.image_into(room),
                 None => unreachable!(),
             },
         }
@@ -265,15 +278,21 @@ impl World {
         ensures { model.Step (world_with self.old) (event_of event.now) (reply_of reply.new) (world_with self.new) }
     {
         match event {
-            Event::Crash => *reply = self.crash(rt),
-            _ => self.go_on(event, reply),
+            Event::Crash(kept) => *reply = self.crash(rt, kept),
+            Event::Call(_, _)
+            | Event::Begin(_)
+            | Event::Land(_)
+            | Event::Fail(_, _)
+            | Event::Sync(_)
+            | Event::FailSync(_)
+            | Event::Finish(_) => self.go_on(event, reply),
         }
     }
 
     /// One event, any but a crash.
     #[inline(always)]
     fn go_on(&mut self, event: &Event, reply: &mut Reply)
-        requires { event.now ≢ Event.Crash }
+        requires { IsNoCrash event.now }
         ensures { model.Step (world_with self.old) (event_of event.now) (reply_of reply.new) (world_with self.new) }
     {
         match &mut self.mounted {
@@ -282,12 +301,12 @@ impl World {
         }
     }
 
-    /// The kernel is dropped, all lanes are put back, and the disk is mounted anew. Where the mount finds no memory the world
-    /// is down.
-    fn crash(&mut self, rt: &(impl Threads + Sync)) -> Reply
-        ensures { model.AfterCrash (world_with self.old) (reply_of result) (world_with self.new) }
+    /// The kernel is dropped, all lanes are put back, the disk crashes, which keeps the open writes of these blocks and no others, and
+    /// is mounted anew. Where the mount finds no memory the world is down.
+    fn crash(&mut self, rt: &(impl Threads + Sync), kept: &[u32]) -> Reply
+        ensures { model.AfterCrash (world_with self.old) kept.now (reply_of result) (world_with self.new) }
     {
-        let disk = taken(self.mounted.take(), self.unmounted.take());
+        let disk = taken(self.mounted.take(), self.unmounted.take(), kept);
         self.kernel = self.kernel.wrapping_add(1);
         match disk.mount(rt, self.alloc, self.kernel) {
             Ok(disk) => {
@@ -336,17 +355,21 @@ fn are_templates(templates: &[Template])
     }
 }
 
-/// The disk of a world, whether it is mounted or not, with all lanes at home.
-fn taken(mounted: Option<MountedDisk>, unmounted: Option<UnmountedDisk>) -> UnmountedDisk
+/// What a crash leaves of the disk of a world, whether it is mounted or not, with all lanes at home.
+fn taken(
+    mounted: Option<MountedDisk>,
+    unmounted: Option<UnmountedDisk>,
+    kept: &[u32],
+) -> UnmountedDisk
     requires { IsWorldOf mounted unmounted }
-    ensures image { result ≡ (world_value mounted unmounted).image }
-    ensures types { HasOwnTypes (world_with (world_value mounted unmounted)) }
+    ensures image { result ≡ model.left (world_with (world_value mounted unmounted)) kept.now }
+    ensures types { (world_with (world_value mounted unmounted)).types ≡ types_in result }
     ensures sound { IsSoundDisk result }
 {
     match mounted {
         Some(disk) => {
             disk.rules();
-            disk.unmount()
+            disk.unmount(kept)
         }
         None => match unmounted {
             Some(disk) => disk,

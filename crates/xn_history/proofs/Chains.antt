@@ -6,9 +6,9 @@ use Rattle.std.proofs.lemmas.Option.{none-some, same_Some}
 use Rattle.xn_model.specs.Types.{Types}
 use Rattle.xn_model.specs.Images.{block_of, Reach, root, step}
 use Rattle.xn_model.specs.Lives.{BlockState, Life, life_at, bytes_of, newest, current, durable_after}
-use Rattle.xn_model.specs.Worlds.{World, Event, Client, Begin, Land, Fail, Finish, Crash, Reply, Step, IsEvent}
+use Rattle.xn_model.specs.Worlds.{World, Event, Client, Begin, Land, Fail, Sync, FailSync, Finish, Crash, Reply, MayLeave, left, Step, IsEvent}
 use Rattle.xn_model.specs.Rules.{Holds, IsOwnedBy, NamedIn}
-use Rattle.xn_model.proofs.ForCallers.{Contains-head, Contains-tail, last_of, in_range, in_newest, step_keeps}
+use Rattle.xn_model.proofs.ForCallers.{Contains-head, Contains-tail, last_of, in_range, in_newest, left_may, step_keeps}
 use Rattle.xn_history.specs.Histories.{History, Histories, last_told, since, newest_bytes, type_in, edited_block, dropped_blocks, histories_after}
 use Rattle.xn_history.specs.Moments.{IsHistoryOf, AreHistoriesOf}
 use Rattle.xn_history.specs.Promises.{StaysTold, Names, IsChain, Spares}
@@ -52,33 +52,35 @@ module _ (w : World) (h : Holds w) (hs : Histories) (known : AreHistoriesOf w.st
       let l = living (life_at w.state.lives a) (hs a) (known a) n.history n.known in
       (h.state.linked a l.0 l.1).owned c (type_in (hs c)) (named_newest a c n l.0 l.1)
 
-  -- each block of a chain is reached in the image
-  pub chain_reached : (c : ℕ) (blocks : List ℕ) → IsChain w.types hs (c ∷ blocks) → Reach w.types (length w.image) (block_of w.image) c (type_in (hs c))
-  chain_reached c [] zero =
+  -- each block of a chain is reached in every image that a crash may leave
+  pub chain_reached : (image : List (List ℕ)) → MayLeave w image → (c : ℕ) (blocks : List ℕ) → IsChain w.types hs (c ∷ blocks) → Reach w.types (length image) (block_of image) c (type_in (hs c))
+  chain_reached image may c [] zero =
       let r = h.state.lives_sound.root in
       let x = matched (life_at w.state.lives 0) (hs 0) (known 0) r.life r.alive in
       let ty : 0 ≡ type_in (hs 0) = sym (ap type_in x.1 ∙ (x.2.ty ∙ r.ty)) in
-      subst (λ d. Reach w.types (length w.image) (block_of w.image) d (type_in (hs d))) (sym zero) (subst (λ t. Reach w.types (length w.image) (block_of w.image) 0 t) ty root)
-  chain_reached c (a ∷ blocks) chain =
+      subst (λ d. Reach w.types (length image) (block_of image) d (type_in (hs d))) (sym zero) (subst (λ t. Reach w.types (length image) (block_of image) 0 t) ty root)
+  chain_reached image may c (a ∷ blocks) chain =
       let n : Names w.types hs a c = chain.0 in
-      let reached = chain_reached a blocks chain.1 in
-      let f = reached_finds w h hs known a (type_in (hs a)) reached in
+      let reached = chain_reached image may a blocks chain.1 in
+      let f = reached_finds w h hs known image may a (type_in (hs a)) reached in
       let l = living (life_at w.state.lives a) (hs a) (known a) n.history n.known in
       let same : f.0 ≡ n.history = same_Some f.0 n.history (sym f.1 ∙ n.known) in
       let ty : n.history.ty ≡ type_in (hs a) = sym (ap type_in n.known) in
       let names : Contains (w.types.owned n.history.ty f.3.state.bytes) (c, type_in (hs c)) = n.names f.3.state (subst (λ (z : History). Contains (since z) f.3.state) same f.3.among) in
-      step reached (subst (λ k. a < k) (sym h.count) (in_range w.types w.state h.state a l.0 l.1))
+      step reached (subst (λ k. a < k) (sym (may.0 ∙ h.count)) (in_range w.types w.state h.state a l.0 l.1))
       (subst (λ t. IsTrue (w.types.installed t)) (sym l.2.ty ∙ ty) (h.state.linked a l.0 l.1).installed)
-      (subst (λ t. Contains (w.types.owned t (block_of w.image a)) (c, type_in (hs c))) ty (subst (λ m. Contains (w.types.owned n.history.ty m) (c, type_in (hs c))) f.3.there names))
+      (subst (λ t. Contains (w.types.owned t (block_of image a)) (c, type_in (hs c))) ty (subst (λ m. Contains (w.types.owned n.history.ty m) (c, type_in (hs c))) f.3.there names))
 
   -- an owned block that is reached goes on
-  owned_goes : (e : Event) (r : Reply) (w' : World) → IsEvent e → Step w e r w' → (c a u : ℕ) → IsOwnedBy w.state.lives a c → Reach w.types (length w.image) (block_of w.image) c u → (l : Life) × (life_at w'.state.lives c ≡ Some l)
-  owned_goes (Client fs k) r w' few s c a u o reached = (goes w h hs known (Client fs k) r w' few s (λ e. absurd cc)).survive c a o.life o.alive o.status
-  owned_goes (Begin b) r w' few s c a u o reached = (goes w h hs known (Begin b) r w' few s (λ e. absurd cc)).survive c a o.life o.alive o.status
-  owned_goes (Land b) r w' few s c a u o reached = (goes w h hs known (Land b) r w' few s (λ e. absurd cc)).survive c a o.life o.alive o.status
-  owned_goes (Fail b stays) r w' few s c a u o reached = (goes w h hs known (Fail b stays) r w' few s (λ e. absurd cc)).survive c a o.life o.alive o.status
-  owned_goes (Finish b) r w' few s c a u o reached = (goes w h hs known (Finish b) r w' few s (λ e. absurd cc)).survive c a o.life o.alive o.status
-  owned_goes Crash r w' few s c a u o reached = let l = (crash_lives w r w' s).0.all c u reached in (l.0, l.1)
+  owned_goes : (e : Event) (r : Reply) (w' : World) → IsEvent e → Step w e r w' → (c a u : ℕ) → IsOwnedBy w.state.lives a c → ((image : List (List ℕ)) → MayLeave w image → Reach w.types (length image) (block_of image) c u) → (l : Life) × (life_at w'.state.lives c ≡ Some l)
+  owned_goes (Client fs k) r w' few s c a u o reached = (goes w h hs known (Client fs k) r w' few s refl).survive c a o.life o.alive o.status
+  owned_goes (Begin b) r w' few s c a u o reached = (goes w h hs known (Begin b) r w' few s refl).survive c a o.life o.alive o.status
+  owned_goes (Land b) r w' few s c a u o reached = (goes w h hs known (Land b) r w' few s refl).survive c a o.life o.alive o.status
+  owned_goes (Fail b stays) r w' few s c a u o reached = (goes w h hs known (Fail b stays) r w' few s refl).survive c a o.life o.alive o.status
+  owned_goes (Finish b) r w' few s c a u o reached = (goes w h hs known (Finish b) r w' few s refl).survive c a o.life o.alive o.status
+  owned_goes (Sync b) r w' few s c a u o reached = (goes w h hs known (Sync b) r w' few s refl).survive c a o.life o.alive o.status
+  owned_goes (FailSync b) r w' few s c a u o reached = (goes w h hs known (FailSync b) r w' few s refl).survive c a o.life o.alive o.status
+  owned_goes (Crash kept) r w' few s c a u o reached = let l = (crash_lives w kept r w' s).0.all c u (reached (left w kept) (left_may w h kept)) in (l.0, l.1)
 
   module _ (e : Event) (r : Reply) (w' : World) (few : IsEvent e) (s : Step w e r w') where
     abbrev hs' : Histories
@@ -86,7 +88,7 @@ module _ (w : World) (h : Holds w) (hs : Histories) (known : AreHistoriesOf w.st
 
     pub chain_alive : (c : ℕ) (blocks : List ℕ) → IsChain w.types hs (c ∷ blocks) → (l : Life) × (life_at w'.state.lives c ≡ Some l)
     chain_alive c [] zero = let r' = (step_keeps w e r w' few h s).state.lives_sound.root in (r'.life, ap (life_at w'.state.lives) zero ∙ r'.alive)
-    chain_alive c (a ∷ blocks) chain = owned_goes e r w' few s c a (type_in (hs c)) (owned_by a c chain.0) (chain_reached c (a ∷ blocks) chain)
+    chain_alive c (a ∷ blocks) chain = owned_goes e r w' few s c a (type_in (hs c)) (owned_by a c chain.0) (λ image may. chain_reached image may c (a ∷ blocks) chain)
 
     -- a block of a chain has a history, which goes on
     pub chain_told : (c : ℕ) (blocks : List ℕ) → IsChain w.types hs (c ∷ blocks) → (x : History) → hs c ≡ Some x → StaysTold x (hs' c)

@@ -6,11 +6,11 @@ use Rattle.std.proofs.lemmas.Bool.{cond_both, cases_Bool, or_left, or_right, fal
 use Rattle.std.proofs.lemmas.Option.{none-some, same_Some}
 use Rattle.xn_model.specs.Images.{block_of}
 use Rattle.xn_model.specs.Lives.{BlockState, Life, Lives, life_at, newest, durable_after, alive_and}
-use Rattle.xn_model.specs.declared.refusal.Refusal.TheVariants.{InFlight}
+use Rattle.xn_model.specs.declared.refusal.Refusal.TheVariants.{InFlight, NotSynced}
 use Rattle.xn_model.specs.Calls.{begun_of, settled_of, pick_of}
-use Rattle.xn_model.specs.Worlds.{World, Drain, Client, Reply, Begun, Landed, Finished, Drained, Refused, reply_and_world, begin, begun_count, write, land, finish, write_out, drain_for, drain, all_pending}
+use Rattle.xn_model.specs.Worlds.{World, Drain, Client, Reply, Begun, Landed, Synced, Finished, Drained, Refused, begin, begun_count, write, settle_bytes, given_at, read_back, land, sync, finish, write_out, drain_for, drain, all_pending}
 use Rattle.xn_model.specs.Rules.{Holds, IsIdle}
-use Rattle.xn_model.proofs.ForCallers.{begin_keeps, land_keeps, write_out_keeps, drain_ends, none_from}
+use Rattle.xn_model.proofs.ForCallers.{begin_keeps, land_keeps, sync_keeps, write_out_keeps, drain_ends, none_from}
 use Rattle.xn_history.specs.Histories.{Histories, last_told, telling_all}
 use Rattle.xn_history.specs.Moments.{AreHistoriesOf}
 use Rattle.xn_history.proofs.Turns as turn
@@ -30,11 +30,15 @@ begin_moves w b = answered (λ x. Moves w x.1) (λ begun. Begun begun.1) w (begu
 land_moves : (w : World) (b : ℕ) → Moves w (land w b).1
 land_moves w b = ticketed (λ x. Moves w x.1) w (begun_count (life_at w.state.lives b)) (λ k. (Landed, write w b k true)) (flushes_none w.state.lives, refl, refl) (λ k. (flushes_none w.state.lives, refl, refl))
 
+sync_moves : (w : World) (b : ℕ) → Moves w (sync w b).1
+sync_moves w b = ticketed (λ x. Moves w x.1) w (begun_count (life_at w.state.lives b)) (λ k. (Synced, settle_bytes w b)) (flushes_none w.state.lives, refl, refl) (λ k. (flushes_none w.state.lives, refl, refl))
+
 finish_moves : (w : World) → Holds w → (b : ℕ) → Moves w (finish w b).1
-finish_moves w h b = ticketed (λ x. Moves w x.1) w (begun_count (life_at w.state.lives b)) (λ k. reply_and_world (λ done. Finished done.0 done.1) w (settled_of w.state b (block_of w.image b))) (flushes_none w.state.lives, refl, refl)
-    (λ k. answered (λ x. Moves w x.1) (λ done. Finished done.0 done.1) w (settled_of w.state b (block_of w.image b)) (λ x. (flushes_none w.state.lives, refl, refl)) (λ given e.
+finish_moves w h b = ticketed (λ x. Moves w x.1) w (begun_count (life_at w.state.lives b)) (λ k. cond (is_some (given_at w.given b)) (Refused NotSynced, w) (read_back w b)) (flushes_none w.state.lives, refl, refl)
+    (λ k. cond_both {A = Reply × World} (is_some (given_at w.given b)) (Refused NotSynced, w) (read_back w b) (λ x. Moves w x.1) (λ t. (flushes_none w.state.lives, refl, refl))
+    (λ t. answered (λ x. Moves w x.1) (λ done. Finished done.0 done.1) w (settled_of w.state b (block_of w.image b)) (λ x. (flushes_none w.state.lives, refl, refl)) (λ given e.
     let s = settles w.types w.state given.1 b (block_of w.image b) given.0 e in
-    (settled_flushes w.types w.state given.1 h.state b given.0.0 s, s.next, refl)))
+    (settled_flushes w.types w.state given.1 h.state b given.0.0 s, s.next, refl))))
 
 moves_both : (u v w : World) → Moves u v → Moves v w → Moves u w
 moves_both u v w f g = (flushes_both u.state.lives v.state.lives w.state.lives f.0 g.0, f.1 ∙ g.1, g.2 ∙ f.2)
@@ -43,7 +47,9 @@ write_out_moves : (w : World) → Holds w → (b : ℕ) → Moves w (write_out w
 write_out_moves w h b =
     let one = (begin w b).1 in
     let two = (land one b).1 in
-    moves_both w one (finish two b).1 (begin_moves w b) (moves_both one two (finish two b).1 (land_moves one b) (finish_moves two (land_keeps one (begin_keeps w h b) b) b))
+    let three = (sync two b).1 in
+    moves_both w one (finish three b).1 (begin_moves w b) (moves_both one two (finish three b).1 (land_moves one b)
+    (moves_both two three (finish three b).1 (sync_moves two b) (finish_moves three (sync_keeps two (land_keeps one (begin_keeps w h b) b) b) b)))
 
 drain_for_moves : (n writes : ℕ) (w : World) → Holds w → Moves w (drain_for n writes w).1
 drain_for_moves zero writes w h = (flushes_none w.state.lives, refl, refl)

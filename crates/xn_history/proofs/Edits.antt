@@ -1,16 +1,16 @@
 -- Edits that were told durable survive.
-use Rattle.std.proofs.Common.{◌≡◌, ℕ, List, [], ◌∷◌, ◌++◌, length, Option, Some, refl, sym, ◌∙◌, ap, inl, inr, subst}
+use Rattle.std.proofs.Common.{◌≡◌, ℕ, List, [], ◌∷◌, ◌++◌, Option, Some, refl, sym, ◌∙◌, ap, inl, inr, subst}
 use Rattle.std.specs.Prelude.{Contains, option_to_list}
 use Rattle.std.specs.List.{AllByRecursion}
 use Rattle.std.proofs.lemmas.Option.{same_Some}
-use Rattle.xn_model.specs.Images.{block_of, Reach}
+use Rattle.xn_model.specs.Images.{block_of}
 use Rattle.xn_model.specs.Lives.{BlockState}
-use Rattle.xn_model.specs.Worlds.{World, Event, Reply, Step, IsEvent}
+use Rattle.xn_model.specs.Worlds.{World, MayLeave, Event, Reply, Step, IsEvent}
 use Rattle.xn_model.specs.Rules.{Holds}
 use Rattle.xn_model.proofs.ForCallers.{Contains-none, Contains-cons, step_keeps}
 use Rattle.xn_history.specs.Histories.{History, Histories, last_told, since, type_in, histories_after}
 use Rattle.xn_history.specs.Moments.{RunWhere, AreHistoriesOf}
-use Rattle.xn_history.specs.Promises.{IsReached, HoldsAccepted, StaysTold, LivesOn, IsChain, Spares, LeavesAlone, IsTold}
+use Rattle.xn_history.specs.Promises.{IsReached, EveryImageHas, HoldsAccepted, StaysTold, LivesOn, IsChain, Spares, LeavesAlone, IsTold}
 use Rattle.xn_history.proofs.Turns.{append_nil}
 use Rattle.xn_history.proofs.Mounts.{reached_finds}
 use Rattle.xn_history.proofs.Moments.{turn_at, known_after, run_knows}
@@ -92,24 +92,25 @@ bytes_run b u blocks m w hs (e ∷ es) (r ∷ rs) w' hs' each h known chain has 
     bytes_run b u blocks m run.0 (histories_after hs e r run.0.state.lives) es rs w' hs' each.1 (step_keeps w e r run.0 each.0 h run.1) (known_after w h hs known e r run.0 each.0 run.1)
     (chain_on w h hs known e r run.0 each.0 run.1 b blocks chain run.2.1) (bytes_on w h hs known e r run.0 each.0 run.1 b u blocks m chain has run.2) run.3
 
--- so the image holds them
+-- so every image that a crash may leave has them
 pub survives : (b u : ℕ) (blocks : List ℕ) (m : List ℕ) (w : World) (hs : Histories) (es : List Event) (rs : List Reply) (w' : World) (hs' : Histories) → AllByRecursion IsEvent es → Holds w → AreHistoriesOf w.state.lives hs →
     IsChain w.types hs (b ∷ blocks) → HasBytes hs b u m → RunWhere (LeavesAlone b (b ∷ blocks)) w hs es rs w' hs' →
-    (block_of w'.image b ≡ m) × Reach w'.types (length w'.image) (block_of w'.image) b u
-survives b u blocks m w hs es rs w' hs' each h known chain has run =
+    EveryImageHas w' b u m
+survives b u blocks m w hs es rs w' hs' each h known chain has run image may =
     let now = bytes_run b u blocks m w hs es rs w' hs' each h known chain has run in
     let both = run_knows (LeavesAlone b (b ∷ blocks)) w hs es rs w' hs' each h known run in
-    let reached = chain_reached w' both.0 hs' both.1 b blocks now.1 in
-    let f = reached_finds w' both.0 hs' both.1 b (type_in (hs' b)) reached in
+    let reached = chain_reached w' both.0 hs' both.1 image may b blocks now.1 in
+    let f = reached_finds w' both.0 hs' both.1 image may b (type_in (hs' b)) reached in
     let same : f.0 ≡ now.0.history = same_Some f.0 now.0.history (sym f.1 ∙ now.0.known) in
-    (sym f.3.there ∙ now.0.each f.3.state (subst (λ (z : History). Contains (since z) f.3.state) same f.3.among), subst (λ t. Reach w'.types (length w'.image) (block_of w'.image) b t) (ap type_in now.0.known ∙ now.0.ty) reached)
+    (sym f.3.there ∙ now.0.each f.3.state (subst (λ (z : History). Contains (since z) f.3.state) same f.3.among), subst (λ t. IsReached w'.types image b t) (ap type_in now.0.known ∙ now.0.ty) reached)
 
 -- no image misses a state of a spared block that was told
 pub held_on : (c : ℕ) (blocks : List ℕ) (w : World) (hs : Histories) (es : List Event) (rs : List Reply) (w' : World) (hs' : Histories) → AllByRecursion IsEvent es → Holds w → AreHistoriesOf w.state.lives hs →
-    IsChain w.types hs (c ∷ blocks) → (x : History) → hs c ≡ Some x → RunWhere (Spares (c ∷ blocks)) w hs es rs w' hs' → IsReached w' c x.ty × HoldsAccepted (block_of w'.image) hs' c x.ty
-held_on c blocks w hs es rs w' hs' each h known chain x at run =
+    IsChain w.types hs (c ∷ blocks) → (x : History) → hs c ≡ Some x → RunWhere (Spares (c ∷ blocks)) w hs es rs w' hs' →
+    (image : List (List ℕ)) → MayLeave w' image → IsReached w'.types image c x.ty × HoldsAccepted (block_of image) hs' c x.ty
+held_on c blocks w hs es rs w' hs' each h known chain x at run image may =
     let now = chain_runs c blocks w hs es rs w' hs' each h known chain x at run in
     let both = run_knows (Spares (c ∷ blocks)) w hs es rs w' hs' each h known run in
     let ty : type_in (hs' c) ≡ x.ty = ap type_in now.0.is ∙ now.0.ty in
-    let reached : IsReached w' c x.ty = subst (IsReached w' c) ty (chain_reached w' both.0 hs' both.1 c blocks now.1) in
-    (reached, image_holds w' both.0 hs' both.1 c x.ty reached)
+    let reached : IsReached w'.types image c x.ty = subst (IsReached w'.types image c) ty (chain_reached w' both.0 hs' both.1 image may c blocks now.1) in
+    (reached, image_holds w' both.0 hs' both.1 image may c x.ty reached)

@@ -4,13 +4,13 @@ use Rattle.std.proofs.lemmas.Bool.{cond_both}
 use Rattle.std.proofs.lemmas.Option.{none-some}
 use Rattle.xn_model.specs.declared.refusal.Refusal.TheVariants.{NoMemory}
 use Rattle.xn_model.specs.Calls.{init_of, propose_of, make_root_of, drop_root_of, forget_of}
-use Rattle.xn_model.specs.Worlds.{World, Call, Init, Propose, MakeRoot, DropRoot, Forget, Read, Root, Kind, Tainted, Pending, Floor, FreeCount, Pick, Drain, Event, Client, Begin, Land, Fail, Finish, Reply, Started, Edited, Forgotten, Down, Refused, call, act_up, is_crash, AfterCall}
+use Rattle.xn_model.specs.Worlds.{World, Call, Init, Propose, MakeRoot, DropRoot, Forget, Read, Root, Kind, Tainted, Pending, Floor, FreeCount, Pick, Drain, Event, Client, Begin, Land, Fail, Sync, FailSync, Finish, Reply, Started, Edited, Forgotten, Down, Refused, call, act_up, is_crash, AfterCall}
 use Rattle.xn_model.specs.Rules.{Holds}
 use Rattle.xn_history.specs.Histories.{Histories, heard}
 use Rattle.xn_history.specs.Moments.{AreHistoriesOf}
 use Rattle.xn_history.proofs.Calls.{propose_turns, make_root_turns, drop_root_turns, init_turns, forget_turns, forget_next}
 use Rattle.xn_history.proofs.Survivals.{propose_survives, make_root_survives, drop_root_survives, init_survives, forget_survives, forget_ends}
-use Rattle.xn_history.proofs.Steps.{Goes, answered, goes_nowhere, goes_begin, goes_land, goes_fail, goes_finish, unheard_down, unheard_refused}
+use Rattle.xn_history.proofs.Steps.{Goes, answered, goes_nowhere, goes_begin, goes_land, goes_fail, goes_sync, goes_fail_sync, goes_finish, unheard_down, unheard_refused}
 use Rattle.xn_history.proofs.Drains.{goes_drain}
 
 module _ (w : World) (h : Holds w) (hs : Histories) (known : AreHistoriesOf w.state.lives hs) where
@@ -55,6 +55,12 @@ module _ (w : World) (h : Holds w) (hs : Histories) (known : AreHistoriesOf w.st
 
   pub goes_fails : (b : ℕ) (stays : Bool) (r : Reply) (w' : World) → AfterCall w (Fail b stays) r w' → Goes w hs (Fail b stays) (r, w')
   goes_fails b stays r w' s = goes_after (Fail b stays) r w' refl refl (goes_fail w h hs known b stays) s
+
+  pub goes_syncs : (b : ℕ) (r : Reply) (w' : World) → AfterCall w (Sync b) r w' → Goes w hs (Sync b) (r, w')
+  goes_syncs b r w' s = goes_after (Sync b) r w' refl refl (goes_sync w h hs known b) s
+
+  pub goes_fails_sync : (b : ℕ) (r : Reply) (w' : World) → AfterCall w (FailSync b) r w' → Goes w hs (FailSync b) (r, w')
+  goes_fails_sync b r w' s = goes_after (FailSync b) r w' refl refl (goes_fail_sync w h hs known b) s
 
   pub goes_finishes : (b : ℕ) (r : Reply) (w' : World) → AfterCall w (Finish b) r w' → Goes w hs (Finish b) (r, w')
   goes_finishes b r w' s = goes_after (Finish b) r w' refl refl (goes_finish w h hs known b) s

@@ -6,7 +6,7 @@ use Rattle.std.proofs.lemmas.Bool.{cond_both, false≢true}
 use Rattle.std.proofs.lemmas.List.Elements.{Contains-append_cases}
 use Rattle.xn_model.specs.Lives.{BlockState, Life, Lives, StoreState, life_at, is_for, entries_in, entries_at, entries_of, least_to}
 use Rattle.xn_model.specs.Calls.{floor_of}
-use Rattle.xn_model.specs.Worlds.{World, Event, Client, Floor, Crash, Reply, FloorIs, Down, call, Step, IsEvent}
+use Rattle.xn_model.specs.Worlds.{World, Event, Client, Floor, is_crash, Reply, FloorIs, Down, call, Step, IsEvent}
 use Rattle.xn_model.specs.Rules.{Holds}
 use Rattle.xn_model.proofs.ForCallers.{Contains-none, Contains-head, Contains-tail, Contains-cons, fs_from, floor_low, floor_met, step_keeps}
 use Rattle.xn_history.specs.Histories.{Histories, histories_after}
@@ -69,7 +69,7 @@ floor_goes w hs e x g fs =
       | inr old ↦ let low = floor_low fs w.state.next w.state.lives f.block old.0 f.state old.1 old.2 f.counts in omega arith
     ])
 
-pub floor_rises : (w : World) → Holds w → (hs : Histories) → AreHistoriesOf w.state.lives hs → (e : Event) (r : Reply) (w' : World) → IsEvent e → Step w e r w' → (e ≡ Crash → ⊥) → (fs : ℕ) → floor_of w.state fs ≤ floor_of w'.state fs
+pub floor_rises : (w : World) → Holds w → (hs : Histories) → AreHistoriesOf w.state.lives hs → (e : Event) (r : Reply) (w' : World) → IsEvent e → Step w e r w' → is_crash e ≡ false → (fs : ℕ) → floor_of w.state fs ≤ floor_of w'.state fs
 floor_rises w h hs known e r w' few s up fs = floor_goes w hs e (r, w') (goes w h hs known e r w' few s up) fs
 
 pub floor_rises_on : (w : World) (hs : Histories) (es : List Event) (rs : List Reply) (w' : World) (hs' : Histories) → AllByRecursion IsEvent es → Holds w → AreHistoriesOf w.state.lives hs →

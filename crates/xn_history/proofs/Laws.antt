@@ -1,18 +1,18 @@
 -- What images hold of histories, and what steps leave of them.
-use Rattle.std.proofs.Common.{List, slice_set, ◌+◌, ◌&&◌, true, Result, Ok, Err, ◌≡◌, ◌⊎◌, ℕ, length, Option, Some, None, refl, sym, ◌∙◌, ap, inl, inr, subst}
+use Rattle.std.proofs.Common.{List, slice_set, ◌+◌, ◌&&◌, true, Result, Ok, Err, ◌≡◌, ◌⊎◌, ℕ, Option, Some, None, refl, sym, ◌∙◌, ap, inl, inr, subst}
 use Rattle.std.proofs.lemmas.Option.{none-some, same_Some}
-use Rattle.xn_model.specs.Images.{block_of, Reach}
+use Rattle.xn_model.specs.Images.{block_of}
 use Rattle.xn_model.specs.Lives.{BlockState, Life, StoreState, life_at, durable_after, on_disk, lowest_free}
-use Rattle.xn_model.specs.Worlds.{World, Event, Client, Begin, Land, Fail, Finish, Crash, Reply, Step, IsEvent, Init, Started, Down, call, reply_and_world}
+use Rattle.xn_model.specs.Worlds.{World, Event, Client, Begin, Land, Fail, Sync, FailSync, Finish, Crash, Reply, MayLeave, left, Step, IsEvent, Init, Started, Down, call, reply_and_world}
 use Rattle.xn_model.specs.declared.refusal.Refusal.{Refusal}
 use Rattle.xn_model.specs.declared.refusal.Refusal.TheVariants.{NoSpace}
 use Rattle.xn_model.specs.Calls.{init_of, init_at, init_refusal, new_life}
-use Rattle.xn_model.proofs.ForCallers.{given_ok, same_ok, never_ok, lowest_is}
+use Rattle.xn_model.proofs.ForCallers.{left_may, given_ok, same_ok, never_ok, lowest_is}
 use Rattle.std.proofs.lemmas.Bool.{cond_both}
 use Rattle.xn_model.specs.Rules.{Holds}
 use Rattle.xn_history.specs.Histories.{History, Histories, last_told, histories_after}
 use Rattle.xn_history.specs.Moments.{AreHistoriesOf}
-use Rattle.xn_history.specs.Promises.{ImageHolds, StaysTold, IsForgotten, IsToldBy, IsDropped, IsLost, IsTold}
+use Rattle.xn_history.specs.Promises.{IsReached, ImageHolds, StaysTold, IsForgotten, IsToldBy, IsDropped, IsLost, IsTold}
 use Rattle.xn_history.proofs.Turns.{matched, living, unmatched}
 use Rattle.xn_history.proofs.Flushes.{IsDroppedBefore}
 use Rattle.xn_history.proofs.Steps.{Goes}
@@ -31,9 +31,9 @@ inits_free state fs t m (Some b) made at e =
     ap (life_at state.lives) (sym block) ∙ (lowest_is state.lives b at).1
 
 module _ (w : World) (h : Holds w) (hs : Histories) (known : AreHistoriesOf w.state.lives hs) where
-  pub image_holds : ImageHolds w hs
-  image_holds c u r =
-      let x = reached_finds w h hs known c u r in
+  pub image_holds : (image : List (List ℕ)) → MayLeave w image → ImageHolds w.types image hs
+  image_holds image may c u r =
+      let x = reached_finds w h hs known image may c u r in
       record { history = x.0; known = x.1; ty = x.2; state = x.3.state; among = x.3.among; there = sym x.3.there }
 
   module _ (e : Event) (r : Reply) (w' : World) (few : IsEvent e) (s : Step w e r w') where
@@ -64,16 +64,18 @@ module _ (w : World) (h : Holds w) (hs : Histories) (known : AreHistoriesOf w.st
               inr (inl (record { owner = d.owner; history = y.0; known = y.1; state = d.state; told = subst (λ xs. IsToldBy e r d.owner xs d.state) (sym y.2.untold) dropped.1; drops = d.drops }))
         ]
 
-  lost : (r : Reply) (w' : World) → Step w Crash r w' → (c : ℕ) → life_at w'.state.lives c ≡ None → (u : ℕ) → Reach w.types (length w.image) (block_of w.image) c u → ⊥
-  lost r w' s c gone u reached = let l = (crash_lives w r w' s).0.all c u reached in none-some l.0 (sym gone ∙ l.1)
+  lost : (kept : List ℕ) (r : Reply) (w' : World) → Step w (Crash kept) r w' → (c : ℕ) → life_at w'.state.lives c ≡ None → (u : ℕ) → IsReached w.types (left w kept) c u → ⊥
+  lost kept r w' s c gone u reached = let l = (crash_lives w kept r w' s).0.all c u reached in none-some l.0 (sym gone ∙ l.1)
 
   why_ended : (e : Event) (r : Reply) (w' : World) → IsEvent e → Step w e r w' → (c : ℕ) (x : History) → hs c ≡ Some x → life_at w'.state.lives c ≡ None → IsForgotten c e r ⊎ (IsDropped hs c e r ⊎ IsLost w c e)
-  why_ended (Client fs k) r w' few s c x at gone = ended_by (Client fs k) r w' few s (goes w h hs known (Client fs k) r w' few s (λ e. absurd cc)) c x at gone
-  why_ended (Begin b) r w' few s c x at gone = ended_by (Begin b) r w' few s (goes w h hs known (Begin b) r w' few s (λ e. absurd cc)) c x at gone
-  why_ended (Land b) r w' few s c x at gone = ended_by (Land b) r w' few s (goes w h hs known (Land b) r w' few s (λ e. absurd cc)) c x at gone
-  why_ended (Fail b stays) r w' few s c x at gone = ended_by (Fail b stays) r w' few s (goes w h hs known (Fail b stays) r w' few s (λ e. absurd cc)) c x at gone
-  why_ended (Finish b) r w' few s c x at gone = ended_by (Finish b) r w' few s (goes w h hs known (Finish b) r w' few s (λ e. absurd cc)) c x at gone
-  why_ended Crash r w' few s c x at gone = inr (inr (refl, lost r w' s c gone))
+  why_ended (Client fs k) r w' few s c x at gone = ended_by (Client fs k) r w' few s (goes w h hs known (Client fs k) r w' few s refl) c x at gone
+  why_ended (Begin b) r w' few s c x at gone = ended_by (Begin b) r w' few s (goes w h hs known (Begin b) r w' few s refl) c x at gone
+  why_ended (Land b) r w' few s c x at gone = ended_by (Land b) r w' few s (goes w h hs known (Land b) r w' few s refl) c x at gone
+  why_ended (Fail b stays) r w' few s c x at gone = ended_by (Fail b stays) r w' few s (goes w h hs known (Fail b stays) r w' few s refl) c x at gone
+  why_ended (Finish b) r w' few s c x at gone = ended_by (Finish b) r w' few s (goes w h hs known (Finish b) r w' few s refl) c x at gone
+  why_ended (Sync b) r w' few s c x at gone = ended_by (Sync b) r w' few s (goes w h hs known (Sync b) r w' few s refl) c x at gone
+  why_ended (FailSync b) r w' few s c x at gone = ended_by (FailSync b) r w' few s (goes w h hs known (FailSync b) r w' few s refl) c x at gone
+  why_ended (Crash kept) r w' few s c x at gone = inr (inr (kept, refl, lost kept r w' s c gone))
 
   -- what was told stays told, or the history ended for one of three reasons
   pub stays_told : (e : Event) (r : Reply) (w' : World) → IsEvent e → Step w e r w' → (c : ℕ) (x : History) → hs c ≡ Some x →
@@ -88,18 +90,18 @@ module _ (w : World) (h : Holds w) (hs : Histories) (known : AreHistoriesOf w.st
           none_after : histories_after hs e r w'.state.lives c ≡ None
           none_after = unmatched (life_at w'.state.lives c) (histories_after hs e r w'.state.lives c) (known_after w h hs known e r w' few s c) gone
 
-  -- a crash ends no life of a block that is reached in the image, and no other block is alive after it
-  pub crash_keeps : (r : Reply) (w' : World) → Step w Crash r w' → (c u : ℕ) → Reach w.types (length w.image) (block_of w.image) c u →
-      (x : History) × (hs c ≡ Some x) × StaysTold x (histories_after hs Crash r w'.state.lives c)
-  crash_keeps r w' s c u reached =
-      let x = reached_finds w h hs known c u reached in
-      let l = (crash_lives w r w' s).0.all c u reached in
-      (x.0, x.1, goes_on Crash r w' tt s c x.0 x.1 l.0 l.1)
+  -- a crash ends no life of a block that is reached in what it leaves, and no other block is alive after it
+  pub crash_keeps : (kept : List ℕ) (r : Reply) (w' : World) → Step w (Crash kept) r w' → (c u : ℕ) → IsReached w.types (left w kept) c u →
+      (x : History) × (hs c ≡ Some x) × StaysTold x (histories_after hs (Crash kept) r w'.state.lives c)
+  crash_keeps kept r w' s c u reached =
+      let x = reached_finds w h hs known (left w kept) (left_may w h kept) c u reached in
+      let l = (crash_lives w kept r w' s).0.all c u reached in
+      (x.0, x.1, goes_on (Crash kept) r w' tt s c x.0 x.1 l.0 l.1)
 
-  pub crash_leaves : (r : Reply) (w' : World) → Step w Crash r w' → (c : ℕ) (x : History) → histories_after hs Crash r w'.state.lives c ≡ Some x → Reach w.types (length w.image) (block_of w.image) c x.ty
-  crash_leaves r w' s c x at =
-      let l = living (life_at w'.state.lives c) (histories_after hs Crash r w'.state.lives c) (known_after w h hs known Crash r w' tt s c) x at in
-      subst (λ t. Reach w.types (length w.image) (block_of w.image) c t) (sym l.2.ty) ((crash_lives w r w' s).0.only c l.0 l.1).reached
+  pub crash_leaves : (kept : List ℕ) (r : Reply) (w' : World) → Step w (Crash kept) r w' → (c : ℕ) (x : History) → histories_after hs (Crash kept) r w'.state.lives c ≡ Some x → IsReached w.types (left w kept) c x.ty
+  crash_leaves kept r w' s c x at =
+      let l = living (life_at w'.state.lives c) (histories_after hs (Crash kept) r w'.state.lives c) (known_after w h hs known (Crash kept) r w' tt s c) x at in
+      subst (λ t. IsReached w.types (left w kept) c t) (sym l.2.ty) ((crash_lives w kept r w' s).0.only c l.0 l.1).reached
 
   -- a life begins on a block that is free
   free_for : (fs t b entry : ℕ) (m : List ℕ) (made : Result ((ℕ × ℕ) × StoreState) Refusal) → init_of w.types w.state fs t m ≡ made → Started b entry ≡ (reply_and_world {A = ℕ × ℕ} (λ made. Started made.0 made.1) w made).0 → hs b ≡ None
@@ -116,11 +118,11 @@ module _ (w : World) (h : Holds w) (hs : Histories) (known : AreHistoriesOf w.st
   ]
 
   -- what it finds is told durable, and nothing else is left
-  pub crash_finds : (r : Reply) (w' : World) → Step w Crash r w' → (c : ℕ) (x : History) → histories_after hs Crash r w'.state.lives c ≡ Some x → IsTold (histories_after hs Crash r w'.state.lives) c x.ty (block_of w.image c)
-  crash_finds r w' s c x at =
-      let l = living (life_at w'.state.lives c) (histories_after hs Crash r w'.state.lives c) (known_after w h hs known Crash r w' tt s c) x at in
-      let found = (crash_lives w r w' s).0.only c l.0 l.1 in
-      let t = bare_from (last_told x) (on_disk (block_of w.image c)) (l.2.told ∙ found.durable) in
+  pub crash_finds : (kept : List ℕ) (r : Reply) (w' : World) → Step w (Crash kept) r w' → (c : ℕ) (x : History) → histories_after hs (Crash kept) r w'.state.lives c ≡ Some x → IsTold (histories_after hs (Crash kept) r w'.state.lives) c x.ty (block_of (left w kept) c)
+  crash_finds kept r w' s c x at =
+      let l = living (life_at w'.state.lives c) (histories_after hs (Crash kept) r w'.state.lives c) (known_after w h hs known (Crash kept) r w' tt s c) x at in
+      let found = (crash_lives w kept r w' s).0.only c l.0 l.1 in
+      let t = bare_from (last_told x) (on_disk (block_of (left w kept) c)) (l.2.told ∙ found.durable) in
       record { history = x; known = at; ty = refl; all = l.2.untold ∙ found.nothing; last = t.0; is_last = t.1; has = t.2 }
     where
       bare_from : (o : Option BlockState) (s : BlockState) → durable_after o ≡ Some s → (t : BlockState) × (o ≡ Some t) × (t.bytes ≡ s.bytes)

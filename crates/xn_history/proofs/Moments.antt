@@ -1,25 +1,26 @@
 -- Each step leaves histories that fit, and so does each run.
-use Rattle.std.proofs.Common.{◌≡◌, ℕ, List, [], ◌∷◌, ◌++◌, Option, Some, None, refl, sym, ◌∙◌, ap, inl, inr, subst}
+use Rattle.std.proofs.Common.{◌≡◌, false, ℕ, List, [], ◌∷◌, ◌++◌, Option, Some, None, refl, sym, ◌∙◌, ap, inl, inr, subst}
 use Rattle.std.specs.Prelude.{option_to_list}
 use Rattle.std.specs.List.{AllByRecursion, last_or}
 use Rattle.xn_model.specs.Types.{Types}
 use Rattle.xn_model.specs.Lives.{Life, Lives, life_at, durable_after}
 use Rattle.xn_model.specs.Mounts.{IsRecovered}
-use Rattle.xn_model.specs.Worlds.{World, Event, Client, Begin, Land, Fail, Finish, Crash, Reply, mounted, Step, AfterCrash, Run, IsEvent}
+use Rattle.xn_model.specs.Worlds.{World, Event, Client, Begin, Land, Fail, Sync, FailSync, Finish, Crash, Reply, mounted, left, is_crash, Step, AfterCrash, Run, IsEvent}
 use Rattle.xn_model.specs.Rules.{Holds}
-use Rattle.xn_model.proofs.ForCallers.{mount_holds, step_keeps}
+use Rattle.xn_model.proofs.ForCallers.{mount_holds, left_may, step_keeps}
+use Rattle.std.proofs.lemmas.Bool.{false≢true}
 use Rattle.xn_history.specs.Histories.{Histories, heard, while_alive, found_with, first_histories, histories_after, edited_block, dropped_blocks}
 use Rattle.xn_history.specs.Moments.{RunWhere, Anything, IsMoment, IsHistoryAt, AreHistoriesOf}
 use Rattle.xn_history.proofs.Turns.{Turn}
 use Rattle.xn_history.proofs.Steps.{Goes}
-use Rattle.xn_history.proofs.Events.{goes_client, goes_begins, goes_lands, goes_fails, goes_finishes}
+use Rattle.xn_history.proofs.Events.{goes_client, goes_begins, goes_lands, goes_fails, goes_syncs, goes_fails_sync, goes_finishes}
 use Rattle.xn_history.proofs.Mounts.{crash_turn}
 
 -- the lives that a crash leaves are recovered
-pub crash_lives : (w : World) (r : Reply) (w' : World) → AfterCrash w r w' → IsRecovered w.types w.image w'.state.lives × (w'.types ≡ w.types)
-crash_lives w r w' s = elim s.2 [
-  | inl up ↦ (subst (λ (v : World). IsRecovered w.types w.image v.state.lives) (sym up.1) s.1, ap (λ (v : World). v.types) up.1)
-  | inr down' ↦ (subst (λ (v : World). IsRecovered w.types w.image v.state.lives) (sym down'.1) s.1, ap (λ (v : World). v.types) down'.1)
+pub crash_lives : (w : World) (kept : List ℕ) (r : Reply) (w' : World) → AfterCrash w kept r w' → IsRecovered w.types (left w kept) w'.state.lives × (w'.types ≡ w.types)
+crash_lives w kept r w' s = elim s.2 [
+  | inl up ↦ (subst (λ (v : World). IsRecovered w.types (left w kept) v.state.lives) (sym up.1) s.1, ap (λ (v : World). v.types) up.1)
+  | inr down' ↦ (subst (λ (v : World). IsRecovered w.types (left w kept) v.state.lives) (sym down'.1) s.1, ap (λ (v : World). v.types) down'.1)
 ]
 
 module _ (w : World) (h : Holds w) (hs : Histories) (known : AreHistoriesOf w.state.lives hs) where
@@ -37,34 +38,42 @@ module _ (w : World) (h : Holds w) (hs : Histories) (known : AreHistoriesOf w.st
   turn_at (Begin b) r w' few s c l at = alive_turn (Begin b) r w' (goes_begins w h hs known b r w' s) c l at
   turn_at (Land b) r w' few s c l at = alive_turn (Land b) r w' (goes_lands w h hs known b r w' s) c l at
   turn_at (Fail b stays) r w' few s c l at = alive_turn (Fail b stays) r w' (goes_fails w h hs known b stays r w' s) c l at
+  turn_at (Sync b) r w' few s c l at = alive_turn (Sync b) r w' (goes_syncs w h hs known b r w' s) c l at
+  turn_at (FailSync b) r w' few s c l at = alive_turn (FailSync b) r w' (goes_fails_sync w h hs known b r w' s) c l at
   turn_at (Finish b) r w' few s c l at = alive_turn (Finish b) r w' (goes_finishes w h hs known b r w' s) c l at
-  turn_at Crash r w' few s c l at = subst (λ o. Turn w.types w.state.next [] (None ≡ Some c) (life_at w.state.lives c) (hs c) l (found_with o (hs c))) (sym at)
-      (crash_turn w h hs known w'.state.lives (crash_lives w r w' s).0 w.state.next [] (None ≡ Some c) c l at)
+  turn_at (Crash kept) r w' few s c l at = subst (λ o. Turn w.types w.state.next [] (None ≡ Some c) (life_at w.state.lives c) (hs c) l (found_with o (hs c))) (sym at)
+      (crash_turn w h hs known (left w kept) (left_may w h kept) w'.state.lives (crash_lives w kept r w' s).0 w.state.next [] (None ≡ Some c) c l at)
 
   -- any event but a crash
-  pub goes : (e : Event) (r : Reply) (w' : World) → IsEvent e → Step w e r w' → (e ≡ Crash → ⊥) → Goes w hs e (r, w')
+  pub goes : (e : Event) (r : Reply) (w' : World) → IsEvent e → Step w e r w' → is_crash e ≡ false → Goes w hs e (r, w')
   goes (Client fs c) r w' few s up = goes_client w h hs known fs few c r w' s
   goes (Begin b) r w' few s up = goes_begins w h hs known b r w' s
   goes (Land b) r w' few s up = goes_lands w h hs known b r w' s
   goes (Fail b stays) r w' few s up = goes_fails w h hs known b stays r w' s
+  goes (Sync b) r w' few s up = goes_syncs w h hs known b r w' s
+  goes (FailSync b) r w' few s up = goes_fails_sync w h hs known b r w' s
   goes (Finish b) r w' few s up = goes_finishes w h hs known b r w' s
-  goes Crash r w' few s up = absurd (up refl)
+  goes (Crash kept) r w' few s up = absurd (false≢true (sym up))
 
   pub types_stay : (e : Event) (r : Reply) (w' : World) → IsEvent e → Step w e r w' → w'.types ≡ w.types
   types_stay (Client fs c) r w' few s = (goes_client w h hs known fs few c r w' s).types
   types_stay (Begin b) r w' few s = (goes_begins w h hs known b r w' s).types
   types_stay (Land b) r w' few s = (goes_lands w h hs known b r w' s).types
   types_stay (Fail b stays) r w' few s = (goes_fails w h hs known b stays r w' s).types
+  types_stay (Sync b) r w' few s = (goes_syncs w h hs known b r w' s).types
+  types_stay (FailSync b) r w' few s = (goes_fails_sync w h hs known b r w' s).types
   types_stay (Finish b) r w' few s = (goes_finishes w h hs known b r w' s).types
-  types_stay Crash r w' few s = (crash_lives w r w' s).1
+  types_stay (Crash kept) r w' few s = (crash_lives w kept r w' s).1
 
   -- a block that is free has none
   none_at : (e : Event) (r : Reply) (w' : World) (c : ℕ) → life_at w'.state.lives c ≡ None → histories_after hs e r w'.state.lives c ≡ None
-  none_at Crash r w' c at = ap (λ o. found_with o (hs c)) at
+  none_at (Crash kept) r w' c at = ap (λ o. found_with o (hs c)) at
   none_at (Client fs k) r w' c at = ap (λ o. while_alive o (heard hs (Client fs k) r c)) at
   none_at (Begin b) r w' c at = ap (λ o. while_alive o (heard hs (Begin b) r c)) at
   none_at (Land b) r w' c at = ap (λ o. while_alive o (heard hs (Land b) r c)) at
   none_at (Fail b stays) r w' c at = ap (λ o. while_alive o (heard hs (Fail b stays) r c)) at
+  none_at (Sync b) r w' c at = ap (λ o. while_alive o (heard hs (Sync b) r c)) at
+  none_at (FailSync b) r w' c at = ap (λ o. while_alive o (heard hs (FailSync b) r c)) at
   none_at (Finish b) r w' c at = ap (λ o. while_alive o (heard hs (Finish b) r c)) at
 
   pub known_after : (e : Event) (r : Reply) (w' : World) → IsEvent e → Step w e r w' → AreHistoriesOf w'.state.lives (histories_after hs e r w'.state.lives)

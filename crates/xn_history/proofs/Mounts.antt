@@ -9,9 +9,9 @@ use Rattle.std.proofs.lemmas.List.Elements.{Contains-append_cases, Contains-appe
 use Rattle.xn_model.specs.Images.{block_of, Reach}
 use Rattle.xn_model.specs.Lives.{BlockState, Life, Lives, life_at, carried, bytes_of, durable_after, on_disk}
 use Rattle.xn_model.specs.Mounts.{IsRecovered}
-use Rattle.xn_model.specs.Worlds.{World}
+use Rattle.xn_model.specs.Worlds.{World, MayLeave}
 use Rattle.xn_model.specs.Rules.{Holds, HoldsState}
-use Rattle.xn_model.proofs.ForCallers.{Contains-none, Contains-head, Contains-cons, Contains-tail, agreement, carried_pending}
+use Rattle.xn_model.proofs.ForCallers.{Contains-none, Contains-head, Contains-cons, Contains-tail, left_agrees, carried_pending}
 use Rattle.xn_history.specs.Histories.{History, Histories, last_told, since, up_to, has_bytes, told_by, found_with}
 use Rattle.xn_history.specs.Moments.{IsHistoryOf, AreHistoriesOf}
 use Rattle.xn_history.proofs.Turns.{Turn, matched, living, last_append, append_nil}
@@ -89,27 +89,27 @@ finds m l x of s i e = elim (cases_Bool (has_bytes m (last_told x))) [
     only None k = absurd (Contains-none s k)
     only (Some t) k = elim (Contains-cons t [] s k) [ inl same ↦ ap Some same | inr none ↦ absurd (Contains-none s none) ]
 
-module _ (w : World) (h : Holds w) (hs : Histories) (known : AreHistoriesOf w.state.lives hs) where
+module _ (w : World) (h : Holds w) (hs : Histories) (known : AreHistoriesOf w.state.lives hs) (image : List (List ℕ)) (may : MayLeave w image) where
   -- the bytes of a reached block are those of a state of its history
-  pub reached_finds : (c u : ℕ) → Reach w.types (length w.image) (block_of w.image) c u → (x : History) × (hs c ≡ Some x) × (x.ty ≡ u) × Finds (block_of w.image c) x
+  pub reached_finds : (c u : ℕ) → Reach w.types (length image) (block_of image) c u → (x : History) × (hs c ≡ Some x) × (x.ty ≡ u) × Finds (block_of image c) x
   reached_finds c u r =
-      let holds : HoldsState (block_of w.image) w.state.lives c u = (agreement w.types w.state h.state (block_of w.image) h.placed).states c u (subst (λ n. Reach w.types n (block_of w.image) c u) h.count r) in
+      let holds : HoldsState (block_of image) w.state.lives c u = (left_agrees w h image may).states c u r in
       let x = matched (life_at w.state.lives c) (hs c) (known c) holds.life holds.alive in
-      (x.0, x.1, x.2.ty ∙ holds.ty, finds (block_of w.image c) holds.life x.0 x.2 holds.state holds.among (sym holds.there))
+      (x.0, x.1, x.2.ty ∙ holds.ty, finds (block_of image c) holds.life x.0 x.2 holds.state holds.among (sym holds.there))
 
-  pub crash_turn : (lives : Lives) → IsRecovered w.types w.image lives → (next : ℕ) (drops : List ℕ) (Edited : Type 0) (c : ℕ) (l : Life) → life_at lives c ≡ Some l →
+  pub crash_turn : (lives : Lives) → IsRecovered w.types image lives → (next : ℕ) (drops : List ℕ) (Edited : Type 0) (c : ℕ) (l : Life) → life_at lives c ≡ Some l →
       Turn w.types next drops Edited (life_at w.state.lives c) (hs c) l (found_with (Some l) (hs c))
   crash_turn lives rec' next drops Edited c l at =
       let found = rec'.only c l at in
       let x = reached_finds c l.ty found.reached in
       let old = living (life_at w.state.lives c) (hs c) (known c) x.0 x.1 in
-      let m : block_of w.image c ≡ bytes_of l.durable = sym (ap bytes_of found.durable) in
+      let m : block_of image c ≡ bytes_of l.durable = sym (ap bytes_of found.durable) in
       let f : Finds (bytes_of l.durable) x.0 = subst (λ m. Finds m x.0) m x.3 in
       subst (λ o. Turn w.types next drops Edited (life_at w.state.lives c) o l (found_with (Some l) o)) (sym x.1) (record {
         history = record { fs = x.0.fs; ty = x.0.ty; told = told_by (bytes_of l.durable) x.0; untold = [] };
         is = refl;
         of = record {
-          fs = old.2.fs ∙ sym (same_system w h lives rec' c l.ty found.reached l old.0 at old.1);
+          fs = old.2.fs ∙ sym (same_system w h image may lives rec' c l.ty found.reached l old.0 at old.1);
           ty = x.2;
           untold = sym found.nothing;
           told = ap durable_after f.is_last ∙ (ap (λ m. Some (on_disk m)) (f.there ∙ sym m) ∙ sym found.durable);

@@ -5,7 +5,7 @@ use Rattle.std.specs.List.{AllByRecursion}
 use Rattle.std.proofs.lemmas.Bool.{cases_eq, eqb-false}
 use Rattle.std.proofs.lemmas.Option.{none-some, same_Some}
 use Rattle.xn_model.specs.Lives.{Life, life_at}
-use Rattle.xn_model.specs.Worlds.{World, Call, Init, Propose, MakeRoot, DropRoot, Forget, Read, Root, Kind, Tainted, Pending, Floor, FreeCount, Pick, Drain, Event, Client, Begin, Land, Fail, Finish, Crash, Reply, Edited, Step, Run, IsEvent}
+use Rattle.xn_model.specs.Worlds.{World, Call, Init, Propose, MakeRoot, DropRoot, Forget, Read, Root, Kind, Tainted, Pending, Floor, FreeCount, Pick, Drain, Event, Client, Begin, Land, Fail, Sync, FailSync, Finish, Crash, Reply, Edited, Step, Run, IsEvent}
 use Rattle.xn_model.specs.Rules.{Holds, IsInFileSystem, NamedIn}
 use Rattle.xn_model.proofs.ForCallers.{Contains-none, Contains-cons, last_of, step_keeps, fresh_owned}
 use Rattle.xn_history.specs.Histories.{History, Histories, type_in, edited_block, dropped_blocks, histories_after}
@@ -97,7 +97,9 @@ module _ (w : World) (h : Holds w) (hs : Histories) (known : AreHistoriesOf w.st
     left_alone (Land c) r w' hs' few none s = harmless (Land c) r hs' refl (λ e. absurd (none-some b e))
     left_alone (Fail c stays) r w' hs' few none s = harmless (Fail c stays) r hs' refl (λ e. absurd (none-some b e))
     left_alone (Finish c) r w' hs' few none s = harmless (Finish c) r hs' refl (λ e. absurd (none-some b e))
-    left_alone Crash r w' hs' few none s = harmless Crash r hs' refl (λ e. absurd (none-some b e))
+    left_alone (Sync c) r w' hs' few none s = harmless (Sync c) r hs' refl (λ e. absurd (none-some b e))
+    left_alone (FailSync c) r w' hs' few none s = harmless (FailSync c) r hs' refl (λ e. absurd (none-some b e))
+    left_alone (Crash kept) r w' hs' few none s = harmless (Crash kept) r hs' refl (λ e. absurd (none-some b e))
 
 -- A run without an edit by the block's file system leaves it alone.
 pub run_leaves_alone : (fs b : ℕ) (blocks : List ℕ) (w : World) (hs : Histories) (es : List Event) (rs : List Reply) (w' : World) → AllByRecursion IsEvent es → AllByRecursion (IsNoEditBy fs) es → Holds w → AreHistoriesOf w.state.lives hs →

@@ -13,7 +13,7 @@ use Rattle.xn_model.specs.Rules.{Holds}
 use Rattle.xn_model.proofs.ForCallers.{step_keeps, IsOwn, own_then, same_ok}
 use Rattle.xn_history.specs.Histories.{History, Histories, last_told, histories_after}
 use Rattle.xn_history.specs.Moments.{AreHistoriesOf}
-use Rattle.xn_history.specs.Promises.{IsNoEditBy}
+use Rattle.xn_history.specs.Promises.{EveryImageHas, IsNoEditBy}
 use Rattle.xn_history.proofs.Turns.{matched, current_is}
 use Rattle.xn_history.proofs.Moments.{known_after}
 use Rattle.xn_history.proofs.Tellings.{all_drained, told_of, drained_survive}
@@ -42,14 +42,14 @@ read_is w fs b m w' s = elim s [
 pub read_survives : (w : World) → Holds w → (hs : Histories) → AreHistoriesOf w.state.lives hs → (g n : ℕ) (drained : World) → g < 32 → Step w (Client g Drain) (Drained n) drained →
     (fs c u : ℕ) (m : List ℕ) (read : World) → Step drained (Client fs (Read c)) (Bytes m) read → Reach drained.types (length drained.image) (block_of drained.image) c u →
     (es : List Event) (rs : List Reply) (after : World) → AllByRecursion IsEvent es → AllByRecursion (IsNoEditBy fs) es → Run read es rs after →
-    (block_of after.image c ≡ m) × Reach after.types (length after.image) (block_of after.image) c u
+    EveryImageHas after c u m
 read_survives w h hs known g n drained few s fs c u m read answer reached es rs after each none run =
     let e = Client g Drain in
     let hs1 = histories_after hs e (Drained n) drained.state.lives in
     let h1 = step_keeps w e (Drained n) drained few h s in
     let known1 = known_after w h hs known e (Drained n) drained few s in
     let all : (c : ℕ) (x : History) → hs1 c ≡ Some x → x.untold ≡ [] = λ c x at. all_drained (life_at drained.state.lives c) (hs c) x at in
-    let told = told_of drained h1 hs1 known1 all c u reached in
+    let told = told_of drained h1 hs1 known1 all drained.image h1.newest c u reached in
     let r = read_is drained fs c m read answer in
     let own = r.0.own in
     let x = matched (life_at drained.state.lives c) (hs1 c) (known1 c) r.0.life own.alive in
@@ -58,4 +58,4 @@ read_survives w h hs known g n drained few s fs c u m read answer reached es rs 
     ∙ (ap (λ (z : History). bytes_of (last_or (last_told z) z.untold)) (sym same) ∙ (ap (λ xs. bytes_of (last_or (last_told told.history) xs)) told.all ∙ ap bytes_of told.is_last)) in
     let bytes : block_of drained.image c ≡ m = sym told.has ∙ (sym newest ∙ sym r.0.newest) in
     let done = drained_survive w h hs known g n drained few s fs c u reached (record { life = r.0.life; alive = own.alive; same = own.mine }) es rs after each none (subst (λ v. Run v es rs after) r.1 run) in
-    (done.0 ∙ bytes, done.1)
+    λ image may. ((done image may).0 ∙ bytes, (done image may).1)

@@ -4,8 +4,11 @@ use Rattle.std.proofs.lemmas.Option.{none-some}
 use Rattle.xn_model.specs.Images.{block_of}
 use Rattle.xn_model.specs.Lives.{Life, StoreState, life_at}
 use Rattle.xn_model.specs.declared.refusal.Refusal.{Refusal}
+use Rattle.xn_model.specs.declared.refusal.Refusal.TheVariants.{NotSynced}
+use Rattle.std.specs.Prelude.{cond, is_some}
+use Rattle.std.proofs.lemmas.Bool.{cond_both}
 use Rattle.xn_model.specs.Calls.{begun_of, settled_of}
-use Rattle.xn_model.specs.Worlds.{World, Call, Forget, Pick, Event, Client, Begin, Land, Fail, Finish, Reply, Forgotten, Begun, Landed, Fault, Finished, NoTicket, Down, Refused, reply_and_world, begin, begun_count, write, with_ticket, land, fail, finish}
+use Rattle.xn_model.specs.Worlds.{World, Call, Forget, Pick, Event, Client, Begin, Land, Fail, Sync, FailSync, Finish, Reply, Forgotten, Begun, Landed, Synced, Fault, Finished, NoTicket, Down, Refused, reply_and_world, begin, begun_count, write, with_ticket, land, fail, sync, fail_sync, settle_bytes, given_at, read_back, finish}
 use Rattle.xn_model.specs.Rules.{Holds}
 use Rattle.xn_history.specs.Histories.{Histories, heard, heard_call, edited_block, dropped_blocks}
 use Rattle.xn_model.proofs.ForCallers.{Contains-take}
@@ -69,9 +72,16 @@ module _ (w : World) (h : Holds w) (hs : Histories) (known : AreHistoriesOf w.st
   goes_fail b true = ticketed (Goes w hs (Fail b true)) w (begun_count (life_at w.state.lives b)) (λ k. (Fault, write w b k true)) (goes_nowhere (Fail b true) NoTicket w refl refl refl) (λ k. goes_nowhere (Fail b true) Fault (write w b k true) refl refl refl)
   goes_fail b false = ticketed (Goes w hs (Fail b false)) w (begun_count (life_at w.state.lives b)) (λ k. (Fault, write w b k false)) (goes_nowhere (Fail b false) NoTicket w refl refl refl) (λ k. goes_nowhere (Fail b false) Fault (write w b k false) refl refl refl)
 
+  pub goes_sync : (b : ℕ) → Goes w hs (Sync b) (sync w b)
+  goes_sync b = ticketed (Goes w hs (Sync b)) w (begun_count (life_at w.state.lives b)) (λ k. (Synced, settle_bytes w b)) (goes_nowhere (Sync b) NoTicket w refl refl refl) (λ k. goes_nowhere (Sync b) Synced (settle_bytes w b) refl refl refl)
+
+  pub goes_fail_sync : (b : ℕ) → Goes w hs (FailSync b) (fail_sync w b)
+  goes_fail_sync b = ticketed (Goes w hs (FailSync b)) w (begun_count (life_at w.state.lives b)) (λ k. (Fault, w)) (goes_nowhere (FailSync b) NoTicket w refl refl refl) (λ k. goes_nowhere (FailSync b) Fault w refl refl refl)
+
   pub goes_finish : (b : ℕ) → Goes w hs (Finish b) (finish w b)
-  goes_finish b = ticketed (Goes w hs (Finish b)) w (begun_count (life_at w.state.lives b)) (λ k. reply_and_world (λ done. Finished done.0 done.1) w (settled_of w.state b (block_of w.image b))) (goes_nowhere (Finish b) NoTicket w refl refl refl)
-      (λ k. answered (Goes w hs (Finish b)) (λ done. Finished done.0 done.1) w (settled_of w.state b (block_of w.image b)) (λ x. goes_nowhere (Finish b) (Refused x) w refl refl refl) (λ given e.
+  goes_finish b = ticketed (Goes w hs (Finish b)) w (begun_count (life_at w.state.lives b)) (λ k. cond (is_some (given_at w.given b)) (Refused NotSynced, w) (read_back w b)) (goes_nowhere (Finish b) NoTicket w refl refl refl)
+      (λ k. cond_both {A = Reply × World} (is_some (given_at w.given b)) (Refused NotSynced, w) (read_back w b) (Goes w hs (Finish b)) (λ t. goes_nowhere (Finish b) (Refused NotSynced) w refl refl refl)
+      (λ t. answered (Goes w hs (Finish b)) (λ done. Finished done.0 done.1) w (settled_of w.state b (block_of w.image b)) (λ x. goes_nowhere (Finish b) (Refused x) w refl refl refl) (λ given e.
       let s = settles w.types w.state given.1 b (block_of w.image b) given.0 e in
       record {
         turns = settled_turns w.types w.state given.1 hs known b given.0.0 s;
@@ -81,4 +91,4 @@ module _ (w : World) (h : Holds w) (hs : Histories) (known : AreHistoriesOf w.st
         ends = λ c l at gone.
             let d = settled_ends w.types w.state given.1 b given.0.0 s c l at gone in
             inr (record { owner = b; life = s.life; alive = s.alive; state = d.0; pending = Contains-take given.0.0 s.life.pending d.0 d.1; drops = d.2 }, (refl, d.1));
-      }))
+      })))

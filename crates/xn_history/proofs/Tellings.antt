@@ -6,12 +6,12 @@ use Rattle.std.proofs.lemmas.Bool.{eq-eqb}
 use Rattle.std.proofs.lemmas.Option.{none-some, same_Some}
 use Rattle.xn_model.specs.Images.{block_of, Reach, root, step}
 use Rattle.xn_model.specs.Lives.{BlockState, Life, life_at, bytes_of}
-use Rattle.xn_model.specs.Worlds.{World, Event, Client, Drain, Finish, Reply, Drained, Finished, Step, Run, IsEvent}
+use Rattle.xn_model.specs.Worlds.{World, MayLeave, Event, Client, Drain, Finish, Reply, Drained, Finished, Step, Run, IsEvent}
 use Rattle.xn_model.specs.Rules.{Holds, IsInFileSystem}
 use Rattle.xn_model.proofs.ForCallers.{Contains-none, Contains-cons, step_keeps}
 use Rattle.xn_history.specs.Histories.{History, Histories, last_told, since, newest_bytes, type_in, telling, telling_all, while_alive, heard, histories_after}
 use Rattle.xn_history.specs.Moments.{RunWhere, AreHistoriesOf}
-use Rattle.xn_history.specs.Promises.{Names, IsChain, LeavesAlone, IsTold, IsNoEditBy}
+use Rattle.xn_history.specs.Promises.{EveryImageHas, Names, IsChain, LeavesAlone, IsTold, IsNoEditBy}
 use Rattle.xn_history.proofs.Turns.{matched, last_append}
 use Rattle.xn_history.proofs.Mounts.{reached_finds}
 use Rattle.xn_history.proofs.Moments.{known_after}
@@ -25,31 +25,31 @@ only (Some t) s i = elim (Contains-cons t [] s i) [ inl e ↦ ap Some e | inr no
 
 -- Where all is told, the reached blocks are attached
 
-module _ (w : World) (h : Holds w) (hs : Histories) (known : AreHistoriesOf w.state.lives hs) (all : (c : ℕ) (x : History) → hs c ≡ Some x → x.untold ≡ []) where
+module _ (w : World) (h : Holds w) (hs : Histories) (known : AreHistoriesOf w.state.lives hs) (all : (c : ℕ) (x : History) → hs c ≡ Some x → x.untold ≡ []) (image : List (List ℕ)) (may : MayLeave w image) where
   -- the one state since the last told
   last_is : (c : ℕ) (x : History) → hs c ≡ Some x → (s : BlockState) → Contains (since x) s → last_told x ≡ Some s
   last_is c x at s i = only (last_told x) s (subst (λ xs. Contains (option_to_list (last_told x) ++ xs) s) (all c x at) i)
 
-  pub told_of : (c u : ℕ) → Reach w.types (length w.image) (block_of w.image) c u → IsTold hs c u (block_of w.image c)
+  pub told_of : (c u : ℕ) → Reach w.types (length image) (block_of image) c u → IsTold hs c u (block_of image c)
   told_of c u r =
-      let x = reached_finds w h hs known c u r in
+      let x = reached_finds w h hs known image may c u r in
       record { history = x.0; known = x.1; ty = x.2; all = all c x.0 x.1; last = x.3.state; is_last = last_is c x.0 x.1 x.3.state x.3.among; has = x.3.there }
 
-  names_of : (b t c u : ℕ) → Reach w.types (length w.image) (block_of w.image) b t → Reach w.types (length w.image) (block_of w.image) c u → Contains (w.types.owned t (block_of w.image b)) (c, u) → Names w.types hs b c
+  names_of : (b t c u : ℕ) → Reach w.types (length image) (block_of image) b t → Reach w.types (length image) (block_of image) c u → Contains (w.types.owned t (block_of image b)) (c, u) → Names w.types hs b c
   names_of b t c u r q names =
-      let x = reached_finds w h hs known b t r in
-      let y = reached_finds w h hs known c u q in
+      let x = reached_finds w h hs known image may b t r in
+      let y = reached_finds w h hs known image may c u q in
       let ty : type_in (hs c) ≡ u = ap type_in y.1 ∙ y.2 in
       record {
         history = x.0;
         known = x.1;
         names = λ s i.
             let same : x.3.state ≡ s = same_Some x.3.state s (sym (last_is b x.0 x.1 x.3.state x.3.among) ∙ last_is b x.0 x.1 s i) in
-            let bytes : block_of w.image b ≡ s.bytes = sym x.3.there ∙ ap (λ (z : BlockState). z.bytes) same in
+            let bytes : block_of image b ≡ s.bytes = sym x.3.there ∙ ap (λ (z : BlockState). z.bytes) same in
             subst (λ v. Contains (w.types.owned x.0.ty s.bytes) (c, v)) (sym ty) (subst (λ v. Contains (w.types.owned v s.bytes) (c, u)) (sym x.2) (subst (λ m. Contains (w.types.owned t m) (c, u)) bytes names));
       }
 
-  pub chain_of : (c u : ℕ) → Reach w.types (length w.image) (block_of w.image) c u → (owners : List ℕ) × IsChain w.types hs (c ∷ owners)
+  pub chain_of : (c u : ℕ) → Reach w.types (length image) (block_of image) c u → (owners : List ℕ) × IsChain w.types hs (c ∷ owners)
   chain_of c u root = ([], refl)
   chain_of c u (step {b} {t} r lt inst names) = let more = chain_of b t r in (b ∷ more.0, (names_of b t c u r (step r lt inst names) names, more.1))
 
@@ -63,15 +63,15 @@ all_drained (Some l) (Some y) x e = ap (λ (z : History). z.untold) (sym (same_S
 pub drained_survive : (w : World) → Holds w → (hs : Histories) → AreHistoriesOf w.state.lives hs → (g n : ℕ) (w' : World) → g < 32 → Step w (Client g Drain) (Drained n) w' →
     (fs c u : ℕ) → Reach w'.types (length w'.image) (block_of w'.image) c u → IsInFileSystem w'.state.lives (Some fs) c →
     (es : List Event) (rs : List Reply) (after : World) → AllByRecursion IsEvent es → AllByRecursion (IsNoEditBy fs) es → Run w' es rs after →
-    (block_of after.image c ≡ block_of w'.image c) × Reach after.types (length after.image) (block_of after.image) c u
+    EveryImageHas after c u (block_of w'.image c)
 drained_survive w h hs known g n w' few s fs c u reached mine es rs after each none run =
     let e = Client g Drain in
     let hs1 = histories_after hs e (Drained n) w'.state.lives in
     let h1 = step_keeps w e (Drained n) w' few h s in
     let known1 = known_after w h hs known e (Drained n) w' few s in
     let all : (c : ℕ) (x : History) → hs1 c ≡ Some x → x.untold ≡ [] = λ c x at. all_drained (life_at w'.state.lives c) (hs c) x at in
-    let told = told_of w' h1 hs1 known1 all c u reached in
-    let chain = chain_of w' h1 hs1 known1 all c u reached in
+    let told = told_of w' h1 hs1 known1 all w'.image h1.newest c u reached in
+    let chain = chain_of w' h1 hs1 known1 all w'.image h1.newest c u reached in
     let x = matched (life_at w'.state.lives c) (hs1 c) (known1 c) mine.life mine.alive in
     let alone = run_leaves_alone fs c chain.0 w' hs1 es rs after each none h1 known1 chain.1 x.0 x.1 (x.2.fs ∙ mine.same) run in
     survives c u chain.0 (block_of w'.image c) w' hs1 es rs after alone.0 each h1 known1 chain.1 (has_bytes hs1 c u (block_of w'.image c) told) alone.1
@@ -99,7 +99,7 @@ finished_bytes k x le s i =
 pub finished_survive : (w : World) → Holds w → (hs : Histories) → AreHistoriesOf w.state.lives hs → (b k freed : ℕ) (w' : World) → Step w (Finish b) (Finished k freed) w' →
     (x : History) → hs b ≡ Some x → length x.untold ≤ k → (owners : List ℕ) → IsChain w.types hs (b ∷ owners) →
     (es : List Event) (rs : List Reply) (after : World) (hs' : Histories) → AllByRecursion IsEvent es → RunWhere (LeavesAlone b (b ∷ owners)) w' (histories_after hs (Finish b) (Finished k freed) w'.state.lives) es rs after hs' →
-    (block_of after.image b ≡ newest_bytes x) × Reach after.types (length after.image) (block_of after.image) b x.ty
+    EveryImageHas after b x.ty (newest_bytes x)
 finished_survive w h hs known b k freed w' s x at le owners chain es rs after hs' each run =
     let e = Finish b in
     let r = Finished k freed in

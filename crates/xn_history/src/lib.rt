@@ -1,19 +1,19 @@
 //! What a store's replies tell of its blocks, and what every image keeps of that.
 #![tactic(auto)]
 
-ghost use Rattle.std.specs.Prelude.{◌≡◌, ◌≢◌, ◌≤◌, ◌<◌, ◌⊎◌, ℕ, List, [], ◌∷◌, Option, None, Some, length, take};
+ghost use Rattle.std.specs.Prelude.{◌≡◌, ◌≢◌, ◌≤◌, ◌<◌, ◌⊎◌, ℕ, List, [], ◌∷◌, Option, None, Some, false, length, take};
 ghost use Rattle.std.specs.List.{AllByRecursion};
 ghost use Rattle.xn_model.specs.Root.{HasBuiltIns};
 ghost use Rattle.xn_model.specs.Images.{IsSound, block_of};
 ghost use Rattle.xn_model.specs.Lives.{Lives};
 ghost use Rattle.xn_model.specs.Calls.{floor_of};
 ghost use Rattle.xn_model.specs.Mounts.{IsRecovered};
-ghost use Rattle.xn_model.specs.Worlds.{World, Event, Client, Init, Read, Floor, Drain, Finish, Crash, Reply, Started, Bytes, FloorIs, Drained, Finished, IsEvent, Step, Run, mounted};
+ghost use Rattle.xn_model.specs.Worlds.{World, Event, Client, Init, Read, Floor, Drain, Finish, Crash, Reply, Started, Bytes, FloorIs, Drained, Finished, IsEvent, Step, Run, MayLeave, mounted, left, is_crash};
 ghost use Rattle.xn_model.specs.Rules.{Holds, IsInFileSystem};
 ghost use Rattle.xn_model.specs.Rows.{first_row, dropped_row, landed_row, lost_row};
 ghost use Rattle.xn_history.specs.Histories.{History, Histories, newest_bytes, histories_after};
 ghost use Rattle.xn_history.specs.Moments.{RunWhere, Anything, IsMoment, AreHistoriesOf};
-ghost use Rattle.xn_history.specs.Promises.{IsReached, HoldsAccepted, ImageHolds, StaysTold, LivesOn, IsForgotten, IsDropped, IsLost, IsChain, Spares, LeavesAlone, IsNoEditBy, IsTold, GoesOn, AreToldBelow};
+ghost use Rattle.xn_history.specs.Promises.{IsReached, EveryImageHas, HoldsAccepted, ImageHolds, StaysTold, LivesOn, IsForgotten, IsDropped, IsLost, IsChain, Spares, LeavesAlone, IsNoEditBy, IsTold, GoesOn, AreToldBelow};
 ghost use Rattle.xn_history.specs.Rows.{left_by};
 
 /// Every run from a mount of a sound image has its histories, and so has every run from there on, and
@@ -39,15 +39,17 @@ pub fn lives_begin_anew()
     ensures { (w after : World) (hs : Histories) (fs ty b entry : ℕ) (bytes : List ℕ) → IsMoment w hs → Step w (Client fs (Init ty bytes)) (Started b entry) after → hs b ≡ None }
 {}
 
-/// At every moment, also after crashes, each block that the roots reach in the image holds a state that
-/// its present life has accepted: the last that was told durable, or a later one.
+/// At every moment, also after crashes, each block that the roots reach in an image that a crash may
+/// leave holds a state that its present life has accepted: the last that was told durable, or a later one.
+/// So it is in the newest bytes.
 pub fn images_hold_what_was_told()
-    ensures { (w : World) (hs : Histories) → IsMoment w hs → ImageHolds w hs }
+    ensures left { (w : World) (hs : Histories) (image : List (List ℕ)) → IsMoment w hs → MayLeave w image → ImageHolds w.types image hs }
+    ensures newest { (w : World) (hs : Histories) → IsMoment w hs → ImageHolds w.types w.image hs }
 {}
 
 /// What was told durable stays told, through crashes too, until the life ends. It ends when its file
-/// system forgets it, when a state that drops it is told durable, or at a crash whose image doesn't
-/// reach it.
+/// system forgets it, when a state that drops it is told durable, or at a crash that leaves an image
+/// which doesn't reach it.
 pub fn told_stays_told()
     ensures step { (w after : World) (hs : Histories) (e : Event) (r : Reply) (c : ℕ) (h : History) → IsMoment w hs → IsEvent e → Step w e r after → hs c ≡ Some h →
         StaysTold h (histories_after hs e r after.state.lives c)
@@ -56,15 +58,15 @@ pub fn told_stays_told()
         RunWhere (LivesOn c) w hs es rs after hs' → hs c ≡ Some h → StaysTold h (hs' c) }
 {}
 
-/// A crash ends no life of a block that is reached in the image, and no other life goes on. What the
-/// image holds is told durable, and what was accepted after it is lost.
+/// A crash ends no life of a block that is reached in the image that it leaves, and no other life goes
+/// on. What that image holds is told durable, and what was accepted after it is lost.
 pub fn crashes_keep_what_is_reached()
-    ensures goes_on { (w after : World) (hs : Histories) (r : Reply) (c u : ℕ) → IsMoment w hs → Step w Crash r after → IsReached w c u →
-        (h : History) × (hs c ≡ Some h) × StaysTold h (histories_after hs Crash r after.state.lives c) }
-    ensures found { (w after : World) (hs : Histories) (r : Reply) (c : ℕ) (h : History) → IsMoment w hs → Step w Crash r after →
-        histories_after hs Crash r after.state.lives c ≡ Some h → IsTold (histories_after hs Crash r after.state.lives) c h.ty (block_of w.image c) }
-    ensures reached { (w after : World) (hs : Histories) (r : Reply) (c : ℕ) (h : History) → IsMoment w hs → Step w Crash r after →
-        histories_after hs Crash r after.state.lives c ≡ Some h → IsReached w c h.ty }
+    ensures goes_on { (w after : World) (hs : Histories) (kept : List ℕ) (r : Reply) (c u : ℕ) → IsMoment w hs → Step w (Crash kept) r after → IsReached w.types (left w kept) c u →
+        (h : History) × (hs c ≡ Some h) × StaysTold h (histories_after hs (Crash kept) r after.state.lives c) }
+    ensures found { (w after : World) (hs : Histories) (kept : List ℕ) (r : Reply) (c : ℕ) (h : History) → IsMoment w hs → Step w (Crash kept) r after →
+        histories_after hs (Crash kept) r after.state.lives c ≡ Some h → IsTold (histories_after hs (Crash kept) r after.state.lives) c h.ty (block_of (left w kept) c) }
+    ensures reached { (w after : World) (hs : Histories) (kept : List ℕ) (r : Reply) (c : ℕ) (h : History) → IsMoment w hs → Step w (Crash kept) r after →
+        histories_after hs (Crash kept) r after.state.lives c ≡ Some h → IsReached w.types (left w kept) c h.ty }
 {}
 
 /// Until the next crash, a state that isn't told durable has no number below a floor that was
@@ -72,41 +74,41 @@ pub fn crashes_keep_what_is_reached()
 pub fn floors_tell()
     ensures told { (w after : World) (hs hs' : Histories) (fs n : ℕ) (es : List Event) (rs : List Reply) → IsMoment w hs → AllByRecursion IsEvent (Client fs Floor ∷ es) →
         RunWhere GoesOn w hs (Client fs Floor ∷ es) (FloorIs n ∷ rs) after hs' → AreToldBelow fs n hs' }
-    ensures rises { (w after : World) (hs : Histories) (e : Event) (r : Reply) (fs : ℕ) → IsMoment w hs → IsEvent e → e ≢ Crash → Step w e r after →
+    ensures rises { (w after : World) (hs : Histories) (e : Event) (r : Reply) (fs : ℕ) → IsMoment w hs → IsEvent e → is_crash e ≡ false → Step w e r after →
         floor_of w.state fs ≤ floor_of after.state fs }
 {}
 
-/// A block whose chain of owners names it in every state from the last told one on is reached in the
-/// image, and its life goes on, through crashes too, while no call drops it or one of its owners. So
-/// no image misses a state of it that was told durable.
+/// A block whose chain of owners names it in every state from the last told one on is reached in every
+/// image that a crash may leave, and its life goes on, through crashes too, while no call drops it or one
+/// of its owners. So no image misses a state of it that was told durable.
 pub fn attached_lives_go_on()
-    ensures reached { (w : World) (hs : Histories) (c : ℕ) (blocks : List ℕ) (h : History) → IsMoment w hs → IsChain w.types hs (c ∷ blocks) → hs c ≡ Some h →
-        IsReached w c h.ty }
+    ensures reached { (w : World) (hs : Histories) (image : List (List ℕ)) (c : ℕ) (blocks : List ℕ) (h : History) → IsMoment w hs → MayLeave w image →
+        IsChain w.types hs (c ∷ blocks) → hs c ≡ Some h → IsReached w.types image c h.ty }
     ensures goes_on { (w after : World) (hs hs' : Histories) (es : List Event) (rs : List Reply) (c : ℕ) (blocks : List ℕ) (h : History) → IsMoment w hs → AllByRecursion IsEvent es →
         IsChain w.types hs (c ∷ blocks) → hs c ≡ Some h → RunWhere (Spares (c ∷ blocks)) w hs es rs after hs' →
         StaysTold h (hs' c) × IsChain after.types hs' (c ∷ blocks) }
     ensures held { (w after : World) (hs hs' : Histories) (es : List Event) (rs : List Reply) (c : ℕ) (blocks : List ℕ) (h : History) → IsMoment w hs → AllByRecursion IsEvent es →
         IsChain w.types hs (c ∷ blocks) → hs c ≡ Some h → RunWhere (Spares (c ∷ blocks)) w hs es rs after hs' →
-        IsReached after c h.ty × HoldsAccepted (block_of after.image) hs' c h.ty }
+        (image : List (List ℕ)) → MayLeave after image → IsReached after.types image c h.ty × HoldsAccepted (block_of image) hs' c h.ty }
 {}
 
 /// Where the reply to a block's finish counted all that the block had accepted, and it is attached,
-/// every later image holds exactly the bytes that it had accepted last, whatever writes fail and
+/// every image that a crash may leave later holds exactly the bytes that it had accepted last, whatever writes fail and
 /// whenever it crashes, while no call edits the block or drops it or one of its owners.
 pub fn finished_edits_survive()
     ensures { (w mid after : World) (hs hs' : Histories) (es : List Event) (rs : List Reply) (b durable freed : ℕ) (h : History) (owners : List ℕ) → IsMoment w hs →
         hs b ≡ Some h → IsChain w.types hs (b ∷ owners) → Step w (Finish b) (Finished durable freed) mid → length h.untold ≤ durable → AllByRecursion IsEvent es →
         RunWhere (LeavesAlone b (b ∷ owners)) mid (histories_after hs (Finish b) (Finished durable freed) mid.state.lives) es rs after hs' →
-        (block_of after.image b ≡ newest_bytes h) × IsReached after b h.ty }
+        EveryImageHas after b h.ty (newest_bytes h) }
 {}
 
-/// Once all that a block has accepted is told durable, and it is attached, every later image holds
-/// exactly its bytes, whatever writes fail and whenever it crashes, while no call edits the block or
+/// Once all that a block has accepted is told durable, and it is attached, every image that a crash may
+/// leave later holds exactly its bytes, whatever writes fail and whenever it crashes, while no call edits the block or
 /// drops it or one of its owners.
 pub fn told_edits_survive()
     ensures { (w after : World) (hs hs' : Histories) (es : List Event) (rs : List Reply) (b u : ℕ) (owners bytes : List ℕ) → IsMoment w hs → AllByRecursion IsEvent es →
         IsChain w.types hs (b ∷ owners) → IsTold hs b u bytes → RunWhere (LeavesAlone b (b ∷ owners)) w hs es rs after hs' →
-        (block_of after.image b ≡ bytes) × IsReached after b u }
+        EveryImageHas after b u bytes }
 {}
 
 /// No other file system disturbs it: so it is in every run in which the block's own file system edits
@@ -114,26 +116,26 @@ pub fn told_edits_survive()
 pub fn others_leave_alone()
     ensures { (w after : World) (hs : Histories) (es : List Event) (rs : List Reply) (fs b u : ℕ) (owners bytes : List ℕ) (h : History) → IsMoment w hs →
         AllByRecursion IsEvent es → AllByRecursion (IsNoEditBy fs) es → IsChain w.types hs (b ∷ owners) → IsTold hs b u bytes → hs b ≡ Some h → h.fs ≡ Some fs → Run w es rs after →
-        (block_of after.image b ≡ bytes) × IsReached after b u }
+        EveryImageHas after b u bytes }
 {}
 
 /// Once a drain was answered, every block of a file system that the image reaches is reached in every
-/// later image, and holds the same bytes, whatever other file systems do, whatever writes fail and
+/// image that a crash may leave later, and holds the same bytes, whatever other file systems do, whatever writes fail and
 /// whenever it crashes, while its own file system edits nothing. And these are the bytes that the
 /// file system reads there.
 pub fn drained_blocks_survive()
     ensures blocks { (disk w drained after : World) (lives : Lives) (es es' : List Event) (rs rs' : List Reply) (g writes fs c u : ℕ) → HasBuiltIns disk.types →
         IsSound disk.types (length disk.image) (block_of disk.image) → IsRecovered disk.types disk.image lives →
         AllByRecursion IsEvent es → Run (mounted disk lives) es rs w → g < 32 → Step w (Client g Drain) (Drained writes) drained →
-        IsReached drained c u → IsInFileSystem drained.state.lives (Some fs) c →
+        IsReached drained.types drained.image c u → IsInFileSystem drained.state.lives (Some fs) c →
         AllByRecursion IsEvent es' → AllByRecursion (IsNoEditBy fs) es' → Run drained es' rs' after →
-        (block_of after.image c ≡ block_of drained.image c) × IsReached after c u }
+        EveryImageHas after c u (block_of drained.image c) }
     ensures read { (disk w drained read after : World) (lives : Lives) (es es' : List Event) (rs rs' : List Reply) (g writes fs c u : ℕ) (bytes : List ℕ) → HasBuiltIns disk.types →
         IsSound disk.types (length disk.image) (block_of disk.image) → IsRecovered disk.types disk.image lives →
         AllByRecursion IsEvent es → Run (mounted disk lives) es rs w → g < 32 → Step w (Client g Drain) (Drained writes) drained →
-        IsReached drained c u → Step drained (Client fs (Read c)) (Bytes bytes) read →
+        IsReached drained.types drained.image c u → Step drained (Client fs (Read c)) (Bytes bytes) read →
         AllByRecursion IsEvent es' → AllByRecursion (IsNoEditBy fs) es' → Run read es' rs' after →
-        (block_of after.image c ≡ bytes) × IsReached after c u }
+        EveryImageHas after c u bytes }
 {}
 
 /// Rows of commands on a disk with the built-in types, with the entries that were told durable of a
@@ -141,9 +143,9 @@ pub fn drained_blocks_survive()
 pub fn rows()
     ensures first { left_by first_row 1 ≡ Some (1 ∷ [], []) }
     ensures root { left_by first_row 0 ≡ Some (0 ∷ 2 ∷ [], []) }
-    ensures before { left_by (take 13 lost_row) 1 ≡ Some (1 ∷ [], 3 ∷ []) }
+    ensures before { left_by (take 15 lost_row) 1 ≡ Some (1 ∷ [], 3 ∷ []) }
     ensures lost { left_by lost_row 1 ≡ Some (1 ∷ [], []) }
     ensures landed { left_by landed_row 1 ≡ Some (1 ∷ 3 ∷ [], []) }
-    ensures ended { left_by (take 16 dropped_row) 1 ≡ None }
+    ensures ended { left_by (take 19 dropped_row) 1 ≡ None }
     ensures anew { left_by dropped_row 1 ≡ Some ([], 5 ∷ []) }
 {}

@@ -18,7 +18,7 @@ use Rattle.xn_model.specs.Worlds.{all_pending}
 use Rattle.xn_model.proofs.ForCallers.{unless_ok, never_ok, none_from, same_ok, map_ok, gives_exactly-ok, life_from, place_from, change_same, positive, round_leaves}
 use Rattle.xn_state.specs.States.{types_in}
 use Rattle.xn_kernel.specs.Kernels.{KernelValue, TicketValue, IsKernel, is_in_flight, is_mine}
-use Rattle.xn_kernel.specs.Drains.{Reads, WritesTo, Writes, with_home, Round, Rounds, Unwritten, Unread}
+use Rattle.xn_kernel.specs.Drains.{Reads, WritesTo, Writes, with_home, Round, Rounds, Unwritten, Unsynced, Unread}
 
 -- no write is under way
 pub idle_from : (lives : Lives) → list_any (alive_and (λ l. is_some l.begun)) lives ≡ false → IsIdle lives
@@ -143,34 +143,34 @@ pub landed_or_kept : {A B : Type 0} (answer : Result (Unit {0}) DeviceFault) →
 landed_or_kept (Ok done) new either = inl new
 landed_or_kept (Err fault) new either = ⊎_elim (λ b. inr (b, (fault, refl))) (λ a. inl a) either
 
-module _ {L : Type 0} (bytes : L → List ℕ) (faults : L → ℕ) (writes : WritesTo L) (reads : Reads L) where
-  pub rounds_more : (n : ℕ) (a b c : KernelValue L) → Rounds bytes faults writes reads n a b → Round bytes faults writes reads b c → Rounds bytes faults writes reads (n + 1) a c
-  rounds_more n a b c rounds round = let next : suc n ≡ n + 1 = omega arith in subst (λ m. Rounds bytes faults writes reads m a c) next (go n a rounds)
+module _ {L : Type 0} (bytes : L → List ℕ) (crash : L → List ℕ → Type 0) (faults : L → ℕ) (writes : WritesTo L) (syncs reads : Reads L) where
+  pub rounds_more : (n : ℕ) (a b c : KernelValue L) → Rounds bytes faults writes syncs reads n a b → Round bytes faults writes syncs reads b c → Rounds bytes faults writes syncs reads (n + 1) a c
+  rounds_more n a b c rounds round = let next : suc n ≡ n + 1 = omega arith in subst (λ m. Rounds bytes faults writes syncs reads m a c) next (go n a rounds)
     where
-      go : (n : ℕ) (a : KernelValue L) → Rounds bytes faults writes reads n a b → Rounds bytes faults writes reads (suc n) a c
-      go zero a e = (c, subst (λ k. Round bytes faults writes reads k c) e round, refl)
+      go : (n : ℕ) (a : KernelValue L) → Rounds bytes faults writes syncs reads n a b → Rounds bytes faults writes syncs reads (suc n) a c
+      go zero a e = (c, subst (λ k. Round bytes faults writes syncs reads k c) e round, refl)
       go (suc n) a rounds = (rounds.0, rounds.1, go n rounds.0 rounds.2)
 
   -- a round leaves no write under way, and less pending
-  pub round_ends : (old new : KernelValue L) → IsKernel bytes old.lanes old.state → IsIdle old.state.store.lives → Round bytes faults writes reads old new →
+  pub round_ends : (old new : KernelValue L) → IsKernel bytes crash old.lanes old.state → IsIdle old.state.store.lives → Round bytes faults writes syncs reads old new →
       IsIdle new.state.store.lives × (all_pending new.state.store.lives < all_pending old.state.store.lives)
   round_ends old new is idle r =
       let left = round_leaves (types_in old.state) old.state.store r.begun r.store r.ticket.block r.ticket.bytes r.ticket.count (r.ticket.count, r.freed) is.rules idle r.written.picked r.written.begins r.settles in
       subst (λ (k : KernelValue L). IsIdle k.state.store.lives × (all_pending k.state.store.lives < all_pending old.state.store.lives)) (sym r.next) left
 
   -- a block is begun and its lane written
-  module _ (old : KernelValue L) (is : IsKernel bytes old.lanes old.state) (first : TicketValue L) (begun : StoreState) (picked : pick_of old.state.store ≡ Some first.block)
+  module _ (old : KernelValue L) (is : IsKernel bytes crash old.lanes old.state) (first : TicketValue L) (begun : StoreState) (picked : pick_of old.state.store ≡ Some first.block)
       (begins : begun_of old.state.store first.block ≡ Ok ((first.bytes, first.count), begun)) (ours : first.kernel ≡ old.id) (taken : slice_get old.lanes first.block ≡ Some (Some first.lane))
       (answer : Result (Unit {0}) DeviceFault) (lane : L) (gives : writes first.lane first.bytes answer lane) (counts : OnErr answer (CountsOne (faults first.lane) (faults lane)))
       (after : (bytes lane ≡ first.bytes) ⊎ ((bytes lane ≡ bytes first.lane) × ((fault : DeviceFault) × (answer ≡ Err fault)))) where
     abbrev ticket : TicketValue L
-    ticket = record first { lane = lane }
+    ticket = record first { lane = lane; unsynced = true }
 
     abbrev away : KernelValue L
     away = record old { lanes = slice_set old.lanes first.block None; state = record old.state { store = begun } }
 
     written : Writes faults writes old answer ticket begun
-    written = record { picked = picked; begins = begins; ours = ours; home = first.lane; taken = taken; gives = gives; counts = counts }
+    written = record { picked = picked; begins = begins; ours = ours; home = first.lane; taken = taken; gives = gives; counts = counts; unsynced = refl }
 
     -- what it holds settles
     pub settles_some : (n : ℕ) × (settled_of begun first.block (bytes lane) ≡ Ok (settled_after begun first.block n))
@@ -186,129 +186,162 @@ module _ {L : Type 0} (bytes : L → List ℕ) (faults : L → ℕ) (writes : Wr
         held None h e = h
         held (Some s) h e = e ∙ h
 
-    -- it cannot be read back
-    pub ends_unread : (fault : DeviceFault) (back : TicketValue L) → reads lane (Err fault) back.lane → CountsOne (faults lane) (faults back.lane) → bytes back.lane ≡ bytes lane →
-        back ≡ record ticket { lane = back.lane } → Unread bytes faults writes reads old back away
-    ends_unread fault back read counted kept rest = record {
+    -- it cannot be synced
+    pub ends_unsynced : (fault : DeviceFault) (back : TicketValue L) → syncs lane (Err fault) back.lane → CountsOne (faults lane) (faults back.lane) → bytes back.lane ≡ bytes lane →
+        back ≡ record ticket { lane = back.lane } → Unsynced bytes faults writes syncs reads old back away
+    ends_unsynced fault back gave counted kept rest = record {
       answer = answer;
       ticket = ticket;
       begun = begun;
       written = written;
       fault = fault;
-      gives = read;
+      gives = gave;
       counts = counted;
       kept = kept;
       rest = rest;
       next = refl;
     }
 
-    module _ (home : L) (read : reads lane (Ok tt) home) (kept : bytes home ≡ bytes lane) (durable freed : ℕ) (store : StoreState)
-        (settles : settled_of begun first.block (bytes lane) ≡ Ok ((durable, freed), store)) where
-      abbrev left : KernelValue L
-      left = with_home old first.block home store
+    module _ (settled : L) (synced : syncs lane (Ok tt) settled) (same : bytes settled ≡ bytes lane) where
+      abbrev synced_ticket : TicketValue L
+      synced_ticket = record first { lane = settled; unsynced = false }
 
-      says : ((bytes lane ≡ first.bytes) × (durable ≡ first.count)) ⊎ ((durable ≡ 0) × (freed ≡ 0))
-      says = settles_says old.state.store begun first.block first.bytes first.count begins (bytes lane) durable freed store settles
+      after_sync : (bytes settled ≡ first.bytes) ⊎ ((bytes settled ≡ bytes first.lane) × ((fault : DeviceFault) × (answer ≡ Err fault)))
+      after_sync = ⊎_elim (λ new. inl (same ∙ new)) (λ kept. inr (same ∙ kept.0, kept.1)) after
 
-      -- the begun bytes are there
-      pub ends_well : 0 < durable → Round bytes faults writes reads old left
-      ends_well some = ⊎_elim
-          (λ p. record {
-            answer = answer;
-            ticket = ticket;
-            begun = begun;
-            written = written;
-            there = p.0;
-            lane = home;
-            gives = read;
-            kept = kept ∙ p.0;
-            freed = freed;
-            store = store;
-            settles = ap (settled_of begun first.block) (sym p.0) ∙ (settles ∙ ap (λ n. Ok ((n, freed), store)) p.1);
-            next = refl;
-          })
-          (λ p. absurd (omega (arith, some, p.0)))
-          says
+      settles_synced : (n : ℕ) × (settled_of begun first.block (bytes settled) ≡ Ok (settled_after begun first.block n))
+      settles_synced = (settles_some.0, ap (settled_of begun first.block) same ∙ settles_some.1)
 
-      -- the old bytes are
-      pub ends_unwritten : durable ≡ 0 → Unwritten bytes faults writes reads old left
-      ends_unwritten none = ⊎_elim
-          (λ new. absurd (never new))
-          (λ old_bytes. let fault = old_bytes.1.0 in record {
-            fault = fault;
-            ticket = ticket;
-            begun = begun;
-            written = record {
-              picked = picked;
-              begins = begins;
-              ours = ours;
-              home = first.lane;
-              taken = taken;
-              gives = subst (λ a. writes first.lane first.bytes a lane) old_bytes.1.1 gives;
-              counts = subst (λ a. OnErr a (CountsOne (faults first.lane) (faults lane))) old_bytes.1.1 counts;
-            };
-            there = old_bytes.0;
-            lane = home;
-            gives = read;
-            kept = kept;
-            store = store;
-            settles = settles ∙ (λ i. Ok ((none i, nothing i), store));
-            next = refl;
-          })
-          after
+      -- it cannot be read back
+      pub ends_unread : (fault : DeviceFault) (back : TicketValue L) → reads settled (Err fault) back.lane → CountsOne (faults settled) (faults back.lane) → bytes back.lane ≡ bytes lane →
+          back ≡ record ticket { lane = back.lane; unsynced = false } → Unread bytes faults writes syncs reads old back away
+      ends_unread fault back read counted kept rest = record {
+        answer = answer;
+        ticket = ticket;
+        begun = begun;
+        written = written;
+        settled = settled;
+        synced = synced;
+        fault = fault;
+        gives = read;
+        counts = counted;
+        kept = kept;
+        rest = rest;
+        next = refl;
+      }
+
+      module _ (home : L) (read : reads settled (Ok tt) home) (kept : bytes home ≡ bytes settled) (durable freed : ℕ) (store : StoreState)
+          (settles : settled_of begun first.block (bytes settled) ≡ Ok ((durable, freed), store)) where
+        abbrev left : KernelValue L
+        left = with_home old first.block home store
+
+        says : ((bytes settled ≡ first.bytes) × (durable ≡ first.count)) ⊎ ((durable ≡ 0) × (freed ≡ 0))
+        says = settles_says old.state.store begun first.block first.bytes first.count begins (bytes settled) durable freed store settles
+
+        -- the begun bytes are there
+        pub ends_well : 0 < durable → Round bytes faults writes syncs reads old left
+        ends_well some = ⊎_elim
+            (λ p. record {
+              answer = answer;
+              ticket = ticket;
+              begun = begun;
+              written = written;
+              settled = settled;
+              synced = synced;
+              there = p.0;
+              lane = home;
+              gives = read;
+              kept = kept ∙ p.0;
+              freed = freed;
+              store = store;
+              settles = ap (settled_of begun first.block) (sym p.0) ∙ (settles ∙ ap (λ n. Ok ((n, freed), store)) p.1);
+              next = refl;
+            })
+            (λ p. absurd (omega (arith, some, p.0)))
+            says
+
+        -- the old bytes are
+        pub ends_unwritten : durable ≡ 0 → Unwritten bytes faults writes syncs reads old left
+        ends_unwritten none = ⊎_elim
+            (λ new. absurd (never new))
+            (λ old_bytes. let fault = old_bytes.1.0 in record {
+              fault = fault;
+              ticket = ticket;
+              begun = begun;
+              written = record {
+                picked = picked;
+                begins = begins;
+                ours = ours;
+                home = first.lane;
+                taken = taken;
+                gives = subst (λ a. writes first.lane first.bytes a lane) old_bytes.1.1 gives;
+                counts = subst (λ a. OnErr a (CountsOne (faults first.lane) (faults lane))) old_bytes.1.1 counts;
+                unsynced = refl;
+              };
+              settled = settled;
+              synced = synced;
+              there = old_bytes.0;
+              lane = home;
+              gives = read;
+              kept = kept;
+              store = store;
+              settles = settles ∙ (λ i. Ok ((none i, nothing i), store));
+              next = refl;
+            })
+            after_sync
+          where
+            some : 1 ≤ first.count
+            some = (began old.state.store begun first.block first.bytes first.count begins).some
+
+            never : bytes settled ≡ first.bytes → ⊥
+            never new =
+                let all = settles_all old.state.store begun first.block first.bytes first.count begins (bytes settled) new in
+                let same = same_ok ((durable, freed), store) (settled_after begun first.block first.count) (sym settles ∙ all) in
+                let count : durable ≡ first.count = ap (λ (p : (ℕ × ℕ) × StoreState). p.0.0) same in
+                let few = some in
+                absurd (omega (arith, count, none, few))
+
+            nothing : freed ≡ 0
+            nothing = ⊎_elim (λ p. let few = some in absurd (omega (arith, p.1, none, few))) (λ p. p.1) says
+
+      -- The ticket is finished
+
+      mine : is_mine away synced_ticket ≡ true
+      mine = (λ i. eq-eqb first.kernel old.id ours i && is_in_flight begun first.block) ∙ in_flight old.state.store begun first.block first.bytes first.count begins
+
+      -- what a finish says of a refusal, and of the rest
+      abbrev Refused : KernelValue L → TicketValue L → Type 0
+      Refused mid given = (new : KernelValue L) (back : TicketValue L) (refusal : Refusal) →
+          (is_mine mid given ≡ true → given.unsynced ≡ false → GivesExactly (settled_of mid.state.store given.block (bytes given.lane)) mid.state.store new.state.store (Err refusal) ⊎ ((refusal ≡ Device) × CountsOne (faults given.lane) (faults back.lane))) →
+          (refusal ≡ Device → (fault : DeviceFault) × reads given.lane (Err fault) back.lane) → back ≡ record given { lane = back.lane } → bytes back.lane ≡ bytes given.lane → new ≡ mid →
+          Unread bytes faults writes syncs reads old back new
+
+      pub finish_refused : (mid : KernelValue L) (given : TicketValue L) → mid ≡ away → given ≡ synced_ticket → Refused mid given
+      finish_refused mid given m t = subst (λ x. Refused x given) (sym m) (subst (λ y. Refused away y) (sym t) at_away)
         where
-          some : 1 ≤ first.count
-          some = (began old.state.store begun first.block first.bytes first.count begins).some
+          at_away : Refused away synced_ticket
+          at_away new back refusal told unread rest kept is = ⊎_elim
+              (λ gives. absurd (never_err (settled_of begun first.block (bytes settled)) (settled_after begun first.block settles_synced.0) begun new.state.store refusal settles_synced.1 gives))
+              (λ device. let read = unread device.0 in
+              subst (λ k. Unread bytes faults writes syncs reads old back k) (sym is) (ends_unread read.0 back read.1 device.1 (kept ∙ same) rest))
+              (told mine refl)
 
-          never : bytes lane ≡ first.bytes → ⊥
-          never new =
-              let all = settles_all old.state.store begun first.block first.bytes first.count begins (bytes lane) new in
-              let same = same_ok ((durable, freed), store) (settled_after begun first.block first.count) (sym settles ∙ all) in
-              let count : durable ≡ first.count = ap (λ (p : (ℕ × ℕ) × StoreState). p.0.0) same in
-              let few = some in
-              absurd (omega (arith, count, none, few))
+      abbrev Done : KernelValue L → TicketValue L → Type 0
+      Done mid given = (new : KernelValue L) (durable freed : ℕ) →
+          (is_mine mid given ≡ true → given.unsynced ≡ false → GivesExactly (settled_of mid.state.store given.block (bytes given.lane)) mid.state.store new.state.store (Ok (durable, freed)) ⊎ ⊥) →
+          (home : L) → bytes home ≡ bytes given.lane → reads given.lane (Ok tt) home →
+          new ≡ record mid { lanes = slice_set mid.lanes given.block (Some home); state = record mid.state { store = new.state.store } } →
+          (0 < durable → Round bytes faults writes syncs reads old new) × (durable ≡ 0 → Unwritten bytes faults writes syncs reads old new)
 
-          nothing : freed ≡ 0
-          nothing = ⊎_elim (λ p. let few = some in absurd (omega (arith, p.1, none, few))) (λ p. p.1) says
-
-    -- The ticket is finished
-
-    mine : is_mine away ticket ≡ true
-    mine = (λ i. eq-eqb first.kernel old.id ours i && is_in_flight begun first.block) ∙ in_flight old.state.store begun first.block first.bytes first.count begins
-
-    -- what a finish says of a refusal, and of the rest
-    abbrev Refused : KernelValue L → TicketValue L → Type 0
-    Refused mid given = (new : KernelValue L) (back : TicketValue L) (refusal : Refusal) →
-        (is_mine mid given ≡ true → GivesExactly (settled_of mid.state.store given.block (bytes given.lane)) mid.state.store new.state.store (Err refusal) ⊎ ((refusal ≡ Device) × CountsOne (faults given.lane) (faults back.lane))) →
-        (refusal ≡ Device → (fault : DeviceFault) × reads given.lane (Err fault) back.lane) → back ≡ record given { lane = back.lane } → bytes back.lane ≡ bytes given.lane → new ≡ mid →
-        Unread bytes faults writes reads old back new
-
-    pub finish_refused : (mid : KernelValue L) (given : TicketValue L) → mid ≡ away → given ≡ ticket → Refused mid given
-    finish_refused mid given m t = subst (λ x. Refused x given) (sym m) (subst (λ y. Refused away y) (sym t) at_away)
-      where
-        at_away : Refused away ticket
-        at_away new back refusal settled unread rest kept same = ⊎_elim
-            (λ gives. absurd (never_err (settled_of begun first.block (bytes lane)) (settled_after begun first.block settles_some.0) begun new.state.store refusal settles_some.1 gives))
-            (λ device. let read = unread device.0 in
-            subst (λ k. Unread bytes faults writes reads old back k) (sym same) (ends_unread read.0 back read.1 device.1 kept rest))
-            (settled mine)
-
-    abbrev Done : KernelValue L → TicketValue L → Type 0
-    Done mid given = (new : KernelValue L) (durable freed : ℕ) →
-        (is_mine mid given ≡ true → GivesExactly (settled_of mid.state.store given.block (bytes given.lane)) mid.state.store new.state.store (Ok (durable, freed)) ⊎ ⊥) →
-        (home : L) → bytes home ≡ bytes given.lane → reads given.lane (Ok tt) home →
-        new ≡ record mid { lanes = slice_set mid.lanes given.block (Some home); state = record mid.state { store = new.state.store } } →
-        (0 < durable → Round bytes faults writes reads old new) × (durable ≡ 0 → Unwritten bytes faults writes reads old new)
-
-    pub finish_done : (mid : KernelValue L) (given : TicketValue L) → mid ≡ away → given ≡ ticket → Done mid given
-    finish_done mid given m t = subst (λ x. Done x given) (sym m) (subst (λ y. Done away y) (sym t) at_away)
-      where
-        at_away : Done away ticket
-        at_away new durable freed settled home kept read next =
-            let gives = ⊎_elim (λ g. g) (λ none. absurd none) (settled mine) in
-            let settles = gives_exactly-ok (settled_of begun first.block (bytes lane)) begun new.state.store (durable, freed) gives in
-            let is_left : new ≡ with_home old first.block home new.state.store =
-            next ∙ ap (λ lanes. record old { lanes = lanes; state = record old.state { store = new.state.store } }) (set_twice old.lanes first.block None (Some home)) in (
-              λ some. subst (λ k. Round bytes faults writes reads old k) (sym is_left) (ends_well home read kept durable freed new.state.store settles some),
-              λ none. subst (λ k. Unwritten bytes faults writes reads old k) (sym is_left) (ends_unwritten home read kept durable freed new.state.store settles none),
-            )
+      pub finish_done : (mid : KernelValue L) (given : TicketValue L) → mid ≡ away → given ≡ synced_ticket → Done mid given
+      finish_done mid given m t = subst (λ x. Done x given) (sym m) (subst (λ y. Done away y) (sym t) at_away)
+        where
+          at_away : Done away synced_ticket
+          at_away new durable freed told home kept read next =
+              let gives = ⊎_elim (λ g. g) (λ none. absurd none) (told mine refl) in
+              let settles = gives_exactly-ok (settled_of begun first.block (bytes settled)) begun new.state.store (durable, freed) gives in
+              let is_left : new ≡ with_home old first.block home new.state.store =
+              next ∙ ap (λ lanes. record old { lanes = lanes; state = record old.state { store = new.state.store } }) (set_twice old.lanes first.block None (Some home)) in (
+                λ some. subst (λ k. Round bytes faults writes syncs reads old k) (sym is_left) (ends_well home read kept durable freed new.state.store settles some),
+                λ none. subst (λ k. Unwritten bytes faults writes syncs reads old k) (sym is_left) (ends_unwritten home read kept durable freed new.state.store settles none),
+              )

@@ -1,5 +1,6 @@
 -- A kernel and its tickets, as contracts see them.
 use Rattle.std.specs.Prelude.{ℕ, List, Option, Bool, is_some, ◌==◌, ◌&&◌, Result, Ok, Err}
+use Rattle.disk.specs.Lanes.{AreSynced}
 use Rattle.xn_model.specs.Lives.{StoreState, life_at, alive_and}
 use Rattle.xn_model.specs.Lanes.{FitLives}
 use Rattle.xn_model.specs.Rules.{IsConsistent}
@@ -11,18 +12,21 @@ pub record KernelValue (L : Type 0) : Type 0 where
   pub lanes : List (Option L)
   pub state : StateValue
 
--- a write that was begun: its kernel and block, how many entries it carries, the bytes that it is to write, and the block's lane
+-- a write that was begun: its kernel and block, how many entries it carries, the bytes that it is to write, the block's lane,
+-- and whether it was written, well or not, since its last good sync
 pub record TicketValue (L : Type 0) : Type 0 where
   pub kernel : ℕ
   pub block : ℕ
   pub count : ℕ
   pub bytes : List ℕ
   pub lane : L
+  pub unsynced : Bool
 
--- what is true of every kernel: the rules of the store, and lanes that fit the lives
-pub record IsKernel {L : Type 0} (bytes_of : L → List ℕ) (lanes : List (Option L)) (state : StateValue) : Type 0 where
+-- what is true of every kernel: the rules of the store, and lanes that fit the lives and hold no write
+pub record IsKernel {L : Type 0} (bytes_of : L → List ℕ) (crash_leaves : L → List ℕ → Type 0) (lanes : List (Option L)) (state : StateValue) : Type 0 where
   pub rules : IsConsistent (types_in state) state.store
   pub fit : FitLives bytes_of lanes state.store.lives
+  pub synced : AreSynced bytes_of crash_leaves lanes
 
 -- a write of the block is under way
 abbrev pub is_in_flight : StoreState → ℕ → Bool

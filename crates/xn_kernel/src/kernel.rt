@@ -1,7 +1,7 @@
 // A kernel over the lanes of a disk.
 
 ghost use Rattle.std.specs.Prelude.{◌≡◌, ◌≢◌, ◌⊎◌, ◌<◌, ◌≤◌, ℕ, List, length, Option, Some, None, false, Result, Ok, Err, IsTrue, IfOk, OnOk, OnErr, IfErr, IsErrAnd, slice_get, slice_set, unwrap_or, option_copied};
-ghost use Rattle.disk.specs.Lanes.{CountsOne};
+ghost use Rattle.disk.specs.Lanes.{CountsOne, AreSynced, LeavesNoMore};
 ghost use Rattle.xn_model.specs.Results.{Gives, GivesExactly, result_map};
 ghost use Rattle.xn_model.specs.Calls.{init_of, make_root_of, begun_of, settled_of, floor_of};
 ghost use Rattle.xn_model.specs.Worlds.{mounted_state};
@@ -44,7 +44,7 @@ impl<L: Lane> Model for Kernel<L> {
 
     ghost view = { λ a. record { id = a.id; lanes = a.lanes; state = a.state } };
 
-    ghost invariant = { λ a. IsKernel L.bytes_of a.lanes a.state };
+    ghost invariant = { λ a. IsKernel L.bytes_of L.crash_leaves a.lanes a.state };
 }
 
 /// Written by hand, so that a function that drops one calls this: a derived drop is proved anew in each such function.
@@ -61,7 +61,7 @@ impl<L: Lane + Drop> Drop for Kernel<L> {
 impl<L: Lane> Kernel<L> {
     ghost use Rattle.disk.specs.declared.lane.DeviceFault.{DeviceFault};
 
-    /// A kernel over a disk whose lanes hold a sound image, of which these are the reached blocks, each once, with the types of the
+    /// A kernel over a disk whose lanes hold a sound image and no write that isn't synced, of which these are the reached blocks, each once, with the types of the
     /// image's table. Each of them has one state, the durable one, and entry numbers start at 1. `Err` gives the lanes
     /// back and comes only for want of memory.
     pub fn start(
@@ -73,6 +73,7 @@ impl<L: Lane> Kernel<L> {
         found: &[Found],
     ) -> Result<Kernel<L>, Lanes<L>>
         requires held { HoldImage L.bytes_of lanes (blocks_in image.now) }
+        requires synced { AreSynced L.bytes_of L.crash_leaves lanes }
         requires found { AreFound (types_of table) image.now found.now }
         ensures ok { IfOk result (λ kernel. kernel ≡ record {
           id = id;
@@ -89,7 +90,7 @@ impl<L: Lane> Kernel<L> {
 
     /// Its rules.
     pub(crate) fn rules(&self)
-        ensures { IsKernel L.bytes_of self.now.lanes self.now.state }
+        ensures { IsKernel L.bytes_of L.crash_leaves self.now.lanes self.now.state }
     {
         let _id = self.id;
     }
@@ -146,7 +147,7 @@ impl<L: Lane> Kernel<L> {
         ensures state { GivesExactly (begun_of self.old.state.store block) self.old.state.store self.new.state.store
             (result_map (λ ticket. (ticket.bytes, ticket.count)) result) }
         ensures ticket { IfOk result (λ ticket. (ticket.kernel ≡ self.old.id) × (ticket.block ≡ block)
-            × (slice_get self.old.lanes block ≡ Some (Some ticket.lane))) }
+            × (slice_get self.old.lanes block ≡ Some (Some ticket.lane)) × (ticket.unsynced ≡ false)) }
         ensures lanes { OnOk result (self.new ≡ record self.old { lanes = slice_set self.old.lanes block None; state = record self.old.state { store = self.new.state.store } }) }
         ensures err { OnErr result (self.new ≡ self.old) }
     {
@@ -160,17 +161,20 @@ impl<L: Lane> Kernel<L> {
             count,
             bytes,
             lane,
+            unsynced: false,
         })
     }
 
     /// Ends a write by what is read back: where the begun bytes stand there, the entries that it
     /// carries are durable. A refusal gives the ticket back, and the block stays in flight:
-    /// `NotMine` where the ticket is of another kernel or its block isn't in flight here, `Device`
-    /// where the lane can't be read, and last `NotMine` where the block has a durable state and
-    /// neither its bytes nor the begun ones stand there.
+    /// `NotMine` where the ticket is of another kernel or its block isn't in flight here, `NotSynced`
+    /// where it was written, well or not, since its last good sync, `Device` where the lane can't be
+    /// read, and last `NotMine` where the block has a durable state and neither its bytes nor the begun
+    /// ones stand there.
     pub fn finish(&mut self, mut ticket: Ticket<L>) -> Result<Landed, (Ticket<L>, Refusal)>
         ensures foreign { is_mine self.old ticket ≡ false → IsErrAnd result (λ back. (back.0 ≡ ticket) × (back.1 ≡ Refusal.NotMine)) }
-        ensures mine { IsTrue (is_mine self.old ticket) →
+        ensures unsynced { IsTrue (is_mine self.old ticket) → IsTrue ticket.unsynced → IsErrAnd result (λ back. (back.0 ≡ ticket) × (back.1 ≡ Refusal.NotSynced)) }
+        ensures mine { IsTrue (is_mine self.old ticket) → ticket.unsynced ≡ false →
             GivesExactly (settled_of self.old.state.store ticket.block (L.bytes_of ticket.lane)) self.old.state.store self.new.state.store
             (result_map (λ landed. (landed.durable, landed.freed)) (result_map_err (λ back. back.1) result))
             ⊎ IsErrAnd result (λ back. (back.1 ≡ Refusal.Device) × CountsOne (L.faults_of ticket.lane) (L.faults_of back.0.lane)) }
@@ -183,10 +187,14 @@ impl<L: Lane> Kernel<L> {
         ensures err { OnErr result (self.new ≡ self.old) }
         ensures back { IfErr result (λ back. (back.0 ≡ record ticket { lane = back.0.lane }) × (L.bytes_of back.0.lane ≡ L.bytes_of ticket.lane)) }
         ensures unread { IfErr result (λ back. back.1 ≡ Refusal.Device → (fault : DeviceFault) × L.read_gives ticket.lane (Err fault) back.0.lane) }
-        ensures faults { IfErr result (λ back. back.1 ≡ Refusal.NotMine → L.faults_of back.0.lane ≡ L.faults_of ticket.lane) }
+        ensures crash { IfErr result (λ back. LeavesNoMore (L.crash_leaves ticket.lane) (L.crash_leaves back.0.lane)) }
+        ensures faults { IfErr result (λ back. back.1 ≢ Refusal.Device → L.faults_of back.0.lane ≡ L.faults_of ticket.lane) }
     {
         if ticket.kernel != self.id || !self.state.is_in_flight(ticket.block) {
             return Err((ticket, Refusal::NotMine));
+        }
+        if ticket.unsynced {
+            return Err((ticket, Refusal::NotSynced));
         }
         let mut bytes = [0u8; 512];
         if ticket.lane.read(&mut bytes).is_err() {

@@ -1,15 +1,15 @@
 -- What act gives is a step, so every list of events has a run; and a bare disk is sound.
-use Rattle.std.proofs.Common.{◌≡◌, false, cond, List, [], ◌∷◌, refl, ap, inl}
+use Rattle.std.proofs.Common.{◌≡◌, ℕ, false, cond, List, [], ◌∷◌, refl, ap, inl}
 use Rattle.std.specs.List.{AllByRecursion}
 use Rattle.std.proofs.lemmas.Bool.{and_right}
 use Rattle.xn_model.specs.Mounts.{recovered}
-use Rattle.xn_model.specs.Worlds.{World, Event, Client, Begin, Land, Fail, Finish, Crash, Reply, Down, act, crash, replies, world_after, Step, Run, IsEvent}
+use Rattle.xn_model.specs.Worlds.{World, Event, Client, Begin, Land, Fail, Sync, FailSync, Finish, Crash, Reply, Down, act, crash, left, replies, world_after, Step, Run, IsEvent}
 use Rattle.xn_model.specs.Rules.{Holds}
-use Rattle.xn_model.proofs.Runs.{step_keeps, world_sound}
+use Rattle.xn_model.proofs.Runs.{step_keeps, crash_sound}
 use Rattle.xn_model.proofs.Walk.{recovered_is}
 
-crash_is : (w : World) → act w Crash ≡ crash w
-crash_is w = ap (λ b. cond b (Down, w) (crash w)) (and_right w.down false refl)
+crash_is : (w : World) (kept : List ℕ) → act w (Crash kept) ≡ crash w kept
+crash_is w kept = ap (λ b. cond b (Down, w) (crash w kept)) (and_right w.down false refl)
 
 pub act_steps : (w : World) → Holds w → (e : Event) → Step w e (act w e).0 (act w e).1
 act_steps w h (Client fs c) = inl (refl, refl)
@@ -17,10 +17,12 @@ act_steps w h (Begin b) = inl (refl, refl)
 act_steps w h (Land b) = inl (refl, refl)
 act_steps w h (Fail b stays) = inl (refl, refl)
 act_steps w h (Finish b) = inl (refl, refl)
-act_steps w h Crash = (
-  recovered w.types w.image,
-  recovered_is w.types h.state.built_ins w.image (world_sound w h),
-  inl (ap (λ (r : Reply × World). r.0) (crash_is w), ap (λ (r : Reply × World). r.1) (crash_is w)),
+act_steps w h (Sync b) = inl (refl, refl)
+act_steps w h (FailSync b) = inl (refl, refl)
+act_steps w h (Crash kept) = (
+  recovered w.types (left w kept),
+  recovered_is w.types h.state.built_ins (left w kept) (crash_sound w h kept),
+  inl (ap (λ (r : Reply × World). r.0) (crash_is w kept), ap (λ (r : Reply × World). r.1) (crash_is w kept)),
 )
 
 pub acts_run : (w : World) (es : List Event) → Holds w → AllByRecursion IsEvent es → Run w es (replies w es) (world_after w es)

@@ -10,15 +10,16 @@ use Rattle.std.proofs.lemmas.List.{get_or-set_same}
 use Rattle.xn_model.specs.Lists.{has_number}
 use Rattle.xn_model.specs.Images.{block_of}
 use Rattle.xn_model.specs.Lives.{BlockState, Life, Lives, StoreState, life_at, alive_and, prefix_of, safe_count, drops_of, begun_at}
-use Rattle.xn_model.specs.Results.{Refusal, InFlight, NothingSafe, NotMine, result_map}
-use Rattle.xn_model.specs.Calls.{begun_place, bytes_at, first_pending, is_durable, settled_count, settled_place, settled_after, settled_of, pick_of, is_ready, life_pending}
-use Rattle.xn_model.specs.Worlds.{World, Reply, Refused, Begun, Landed, Finished, reply_and_world, begin, begun_count, begun_bytes, land, finish, write, with_ticket, write_out, all_pending, drain_for, drain, Drained}
+use Rattle.xn_model.specs.Results.{Refusal, InFlight, NothingSafe, NotMine, NotSynced, result_map}
+use Rattle.xn_model.specs.Calls.{begun_place, bytes_at, first_pending, is_durable, settled_count, settled_place, settled_after, pick_of, is_ready, life_pending}
+use Rattle.xn_model.specs.Worlds.{World, Reply, Refused, Begun, Landed, Finished, reply_and_world, begin, begun_count, begun_bytes, land, sync, finish, read_back, write, settle_bytes, given_at, Synced, with_ticket, write_out, all_pending, drain_for, drain, Drained}
 use Rattle.xn_model.specs.Rules.{Holds, IsIdle}
 use Rattle.xn_model.proofs.Changes.{bared, each, free, with_begun, settled}
 use Rattle.xn_model.proofs.Lists.{Contains-head}
 use Rattle.xn_model.proofs.Lives.{each_at, each_forth, each_back, free_at, free_back, length_revised, begun_is, settled_is, place_from}
 use Rattle.xn_model.proofs.Tests.{unless_passed, none_from, safe_count_within}
 use Rattle.xn_model.proofs.Reached.{in_range}
+use Rattle.xn_model.proofs.Lands.{none_given_at}
 use Rattle.xn_model.proofs.Runs.{write_out_keeps}
 use Rattle.xn_model.proofs.Least.{progress}
 
@@ -96,6 +97,12 @@ module _ (w : World) (h : Holds w) (idle : IsIdle w.state.lives) (b : ℕ) (l : 
   lands : (land began b).1 ≡ landed
   lands = ap (λ o. (with_ticket began o (λ n. (Landed, write began b n true))).1) ticket
 
+  abbrev settled' : World
+  settled' = settle_bytes landed b
+
+  syncs : (sync landed b).1 ≡ settled'
+  syncs = ap (λ o. (with_ticket landed o (λ n. (Synced, settle_bytes landed b))).1) ticket
+
   -- the bytes that are read back
   there : block_of landed.image b ≡ bytes_at k l'
   there =
@@ -117,16 +124,17 @@ module _ (w : World) (h : Holds w) (idle : IsIdle w.state.lives) (b : ℕ) (l : 
   ended = drops_of (first_pending k (life_at began.state.lives b))
 
   abbrev finished : World
-  finished = record landed { state = record w.state { lives = each (bared b) (free ended mid) } }
+  finished = record settled' { state = record w.state { lives = each (bared b) (free ended mid) } }
 
-  finishes : (finish landed b).1 ≡ finished
+  finishes : (finish settled' b).1 ≡ finished
   finishes =
-      ap (λ o. (with_ticket landed o (λ n. reply_and_world (λ done. Finished done.0 done.1) landed (settled_of landed.state b (block_of landed.image b)))).1) ticket
-      ∙ (ap (λ r. (reply_and_world {A = ℕ × ℕ} (λ done. Finished done.0 done.1) landed (result_map (settled_after landed.state b) r)).1) counts
-      ∙ ap (λ xs. record landed { state = record w.state { lives = xs } }) (settled_is began.state.lives b k ended))
+      ap (λ o. (with_ticket settled' o (λ n. cond (is_some (given_at settled'.given b)) (Refused NotSynced, settled') (read_back settled' b))).1) ticket
+      ∙ (ap (λ o. (cond {A = Reply × World} (is_some o) (Refused NotSynced, settled') (read_back settled' b)).1) (none_given_at landed.given b)
+      ∙ (ap (λ r. (reply_and_world {A = ℕ × ℕ} (λ done. Finished done.0 done.1) settled' (result_map (settled_after landed.state b) r)).1) counts
+      ∙ ap (λ xs. record settled' { state = record w.state { lives = xs } }) (settled_is began.state.lives b k ended)))
 
   round : write_out w b ≡ finished
-  round = ap (λ x. (finish (land x b).1 b).1) begins ∙ (ap (λ x. (finish x b).1) lands ∙ finishes)
+  round = ap (λ x. (finish (sync (land x b).1 b).1 b).1) begins ∙ (ap (λ x. (finish (sync x b).1 b).1) lands ∙ (ap (λ x. (finish x b).1) syncs ∙ finishes))
 
   idle_after : IsIdle (free ended mid)
   idle_after c m e =

@@ -3,7 +3,7 @@ use Rattle.std.proofs.Common.{◌≡◌, refl}
 use Rattle.xn_model.specs.Root.{word_at, pointer, slot, with_slot, templates_of, roots_of, owned_by_root}
 use Rattle.xn_model.specs.Worlds.{replies}
 use Rattle.xn_model.specs.BareDisks.{built_ins, bare_disk, mounted_disk}
-use Rattle.xn_model.specs.Rows.{sent, answered, library, library_disk, first_row, dropped_row, landed_row, lost_row, failed_new_row, failed_old_row, many_row, refused_row, after_row, drained_row, rolled_back_row, claimed_row, attached_row, chain, chain_disk, cycle_row}
+use Rattle.xn_model.specs.Rows.{sent, answered, library, library_disk, first_row, dropped_row, landed_row, lost_row, open_lost_row, open_kept_row, synced_row, failed_sync_row, failed_kept_row, failed_new_row, failed_old_row, many_row, refused_row, after_row, drained_row, rolled_back_row, claimed_row, attached_row, chain, chain_disk, cycle_row}
 
 pub first : replies (mounted_disk built_ins (bare_disk 32)) (sent first_row) ≡ answered first_row
 unfolding word_at pointer slot with_slot templates_of roots_of owned_by_root
@@ -20,6 +20,26 @@ landed = refl
 pub lost : replies (mounted_disk built_ins (bare_disk 32)) (sent lost_row) ≡ answered lost_row
 unfolding word_at pointer slot with_slot templates_of roots_of owned_by_root
 lost = refl
+
+pub open_lost : replies (mounted_disk built_ins (bare_disk 32)) (sent open_lost_row) ≡ answered open_lost_row
+unfolding word_at pointer slot with_slot templates_of roots_of owned_by_root
+open_lost = refl
+
+pub open_kept : replies (mounted_disk built_ins (bare_disk 32)) (sent open_kept_row) ≡ answered open_kept_row
+unfolding word_at pointer slot with_slot templates_of roots_of owned_by_root
+open_kept = refl
+
+pub synced : replies (mounted_disk built_ins (bare_disk 32)) (sent synced_row) ≡ answered synced_row
+unfolding word_at pointer slot with_slot templates_of roots_of owned_by_root
+synced = refl
+
+pub failed_sync : replies (mounted_disk built_ins (bare_disk 32)) (sent failed_sync_row) ≡ answered failed_sync_row
+unfolding word_at pointer slot with_slot templates_of roots_of owned_by_root
+failed_sync = refl
+
+pub failed_kept : replies (mounted_disk built_ins (bare_disk 32)) (sent failed_kept_row) ≡ answered failed_kept_row
+unfolding word_at pointer slot with_slot templates_of roots_of owned_by_root
+failed_kept = refl
 
 pub failed_new : replies (mounted_disk built_ins (bare_disk 32)) (sent failed_new_row) ≡ answered failed_new_row
 unfolding word_at pointer slot with_slot templates_of roots_of owned_by_root

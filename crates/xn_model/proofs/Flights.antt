@@ -14,7 +14,9 @@ use Rattle.xn_model.specs.Flights.{flight_of, HaveSameFlights, HaveSameFlightsBu
 use Rattle.xn_model.proofs.Changes.{accepted}
 use Rattle.xn_model.proofs.Lists.{has_number_at}
 use Rattle.xn_model.proofs.Lives.{life_from, accepted_is, each_at, set_other, set_same, change_same, freed_at}
-use Rattle.xn_model.proofs.Tests.{map_ok, given_ok, own_then, same_ok, never_ok}
+use Rattle.xn_model.specs.Worlds.{begun_count, begun_bytes}
+use Rattle.std.proofs.lemmas.Option.{same_Some, none-some}
+use Rattle.xn_model.proofs.Tests.{map_ok, given_ok, own_then, same_ok, never_ok, unless_ok, none_from}
 use Rattle.xn_model.proofs.Init.{lowest_is}
 use Rattle.xn_model.proofs.Ends.{settles_place}
 use Rattle.xn_model.proofs.Lanes.{ended_idle}
@@ -100,6 +102,26 @@ flights_forget T state new fs b none done =
     subst (HaveSameFlights state.lives) r.0
     (λ c. ap flight_of (freed_at state.lives ended c) ∙ flight_ended (has_number ended c) (life_at state.lives c) (λ t l at. r.1 c l (has_number_at ended c t) at))
 
+-- What is under way
+
+pub flight_count : (o : Option Life) (k : ℕ) (bytes : List ℕ) → flight_of o ≡ Some (k, bytes) → begun_count o ≡ Some k
+flight_count None k bytes e = absurd (none-some (k, bytes) e)
+flight_count (Some l) k bytes e = go l.begun e
+  where
+    go : (g : Option ℕ) → option_map {U = ℕ × List ℕ} (λ j. (j, bytes_at j l)) g ≡ Some (k, bytes) → g ≡ Some k
+    go None e = absurd (none-some (k, bytes) e)
+    go (Some j) e = ap (λ n. Some n) (ap (λ (p : ℕ × List ℕ). p.0) (same_Some (j, bytes_at j l) (k, bytes) e))
+
+pub flight_bytes : (o : Option Life) (k : ℕ) (bytes : List ℕ) → flight_of o ≡ Some (k, bytes) → begun_bytes k o ≡ bytes
+flight_bytes None k bytes e = absurd (none-some (k, bytes) e)
+flight_bytes (Some l) k bytes e = go l.begun e
+  where
+    go : (g : Option ℕ) → option_map {U = ℕ × List ℕ} (λ j. (j, bytes_at j l)) g ≡ Some (k, bytes) → bytes_at k l ≡ bytes
+    go None e = absurd (none-some (k, bytes) e)
+    go (Some j) e =
+        let pair = same_Some (j, bytes_at j l) (k, bytes) e in
+        sym (ap (λ n. bytes_at n l) (ap (λ (p : ℕ × List ℕ). p.0) pair)) ∙ ap (λ (p : ℕ × List ℕ). p.1) pair
+
 -- A write begins
 
 begun_is : (lives : Lives) (b : ℕ) (o : Option (Option Life)) (given : List ℕ × ℕ) → slice_get lives b ≡ o → begun_place lives o ≡ Ok given →
@@ -124,6 +146,20 @@ flights_begun state new b given e =
       ap (λ xs. flight_of (life_at xs b)) (sym is) ∙ (here ∙ ap (λ (x : List ℕ × ℕ). Some (x.1, x.0)) same),
       λ c other. ap (λ xs. flight_of (life_at xs c)) (sym is) ∙ ap flight_of (set_other state.lives b c (option_map carries (life_at state.lives b)) other),
     )
+
+-- and only where none is under way
+pub begun_idle : (state new : StoreState) (b : ℕ) (given : List ℕ × ℕ) → begun_of state b ≡ Ok (given, new) → flight_of (life_at state.lives b) ≡ None
+begun_idle state new b given e =
+    let m = map_ok (λ (x : List ℕ × ℕ). (x, record state { lives = begun_at state.lives b x.1 })) (begun_place state.lives (slice_get state.lives b)) (given, new) e in
+    go (slice_get state.lives b) refl m.0 m.1
+  where
+    go : (o : Option (Option Life)) → slice_get state.lives b ≡ o → (x : List ℕ × ℕ) → begun_place state.lives o ≡ Ok x → flight_of (life_at state.lives b) ≡ None
+    go None at x e = absurd (never_ok NoSuchBlock x e)
+    go (Some None) at x e = absurd (never_ok NotInUse x e)
+    go (Some (Some l)) at x e =
+        let k = prefix_of state.lives (Some l) in
+        let u = unless_ok ((is_some l.begun, InFlight) ∷ (k == 0, NothingSafe) ∷ []) (Ok (bytes_at k l, k)) x e in
+        ap flight_of (life_from state.lives b l at) ∙ ap (option_map (λ j. (j, bytes_at j l))) (none_from l.begun u.0.0)
 
 -- A write settles
 

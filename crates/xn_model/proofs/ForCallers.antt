@@ -23,9 +23,9 @@ pub use Rattle.xn_model.proofs.Begin.{begun_keeps}
 pub use Rattle.xn_model.proofs.Ends.{Settles, drops_at, forget_keeps, settled_keeps, settles_place}
 pub use Rattle.xn_model.proofs.Floors.{entries_counted, floor_low, floor_met}
 -- writes, lanes and drains
-pub use Rattle.xn_model.proofs.Flights.{flights_begun, flights_drop_root, flights_forget, flights_init, flights_make_root, flights_propose, flights_settled}
+pub use Rattle.xn_model.proofs.Flights.{begun_idle, flight_bytes, flight_count, flights_begun, flights_drop_root, flights_forget, flights_init, flights_make_root, flights_propose, flights_settled}
 pub use Rattle.xn_model.proofs.LaneCalls.{forgets, lanes_begun, lanes_drop_root, lanes_forget, lanes_init, lanes_make_root, lanes_mounted, lanes_propose, lanes_settled}
-pub use Rattle.xn_model.proofs.Lands.{begin_keeps, land_keeps, told_keeps}
+pub use Rattle.xn_model.proofs.Lands.{begin_keeps, idle_rests, land_keeps, left_may, left_placed, none_given_at, none_open, sync_keeps, told_keeps}
 pub use Rattle.xn_model.proofs.Drains.{drain_ends, picked_life}
 pub use Rattle.xn_model.proofs.Rounds.{none_pending, none_picked, picked_begins, round_leaves, wrote_out}
 -- images and mounts
@@ -33,4 +33,4 @@ pub use Rattle.xn_model.proofs.Reached.{agreement, among_states, carried_pending
 pub use Rattle.xn_model.proofs.Walk.{recovered_is}
 pub use Rattle.xn_model.proofs.Mount.{mount_holds}
 -- runs
-pub use Rattle.xn_model.proofs.Runs.{step_keeps, world_sound, write_out_keeps}
+pub use Rattle.xn_model.proofs.Runs.{crash_mounts, crash_sound, left_agrees, left_sound, step_keeps, world_sound, write_out_keeps}

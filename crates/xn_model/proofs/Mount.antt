@@ -1,9 +1,9 @@
 -- The lives that a mount makes of a sound image.
-use Rattle.std.proofs.Common.{◌≡◌, ℕ, ◌<◌, ◌≤◌, ◌≢◌, true, List, [], ◌∷◌, length, Option, Some, None, refl, sym, ◌∙◌, ap, inl, inr, arith, subst}
+use Rattle.std.proofs.Common.{◌≡◌, ℕ, zero, suc, ◌<◌, ◌≤◌, ◌≢◌, true, List, [], ◌∷◌, length, Option, Some, None, refl, sym, ◌∙◌, ap, inl, inr, arith, subst}
 use Rattle.std.specs.Prelude.{Contains, IsTrue}
 use Rattle.std.proofs.lemmas.Bool.{cases_eq, cases_lt, and_parts}
 use Rattle.std.proofs.lemmas.Option.{same_Some, none-some}
-use Rattle.std.proofs.lemmas.List.{get_or_default}
+use Rattle.std.proofs.lemmas.List.{get_or_default, length-map}
 use Rattle.std.proofs.lemmas.List.Elements.{Contains-append_right}
 use Rattle.xn_model.specs.Lists.{distinct, blocks_of}
 use Rattle.xn_model.specs.Types.{Types, fits, named_once, within_size}
@@ -11,7 +11,7 @@ use Rattle.xn_model.specs.Root.{HasBuiltIns, header, marked, slot, templates_of,
 use Rattle.xn_model.specs.Images.{IsDiskSize, block_of, Reach, root, step, Owns, IsSound}
 use Rattle.xn_model.specs.Lives.{on_disk, BlockState, Status, Owned, Life, Lives, life_at, states, newest, Dropped, Fresh}
 use Rattle.xn_model.specs.Mounts.{IsRecoveredLife, IsRecovered}
-use Rattle.xn_model.specs.Worlds.{World, mounted}
+use Rattle.xn_model.specs.Worlds.{World, mounted, none_given, given_at}
 use Rattle.xn_model.specs.Rules.{IsBy, WaitsForOlder, IsTemplate, IsInFileSystem, IsRootLife, IsSoundLife, AreSoundLives, IsLinkedLife, IsPlaced, Holds, HasExactStatuses, IsNamer, NamedIn, ChainsEnd}
 use Rattle.xn_model.proofs.Lives.{past}
 use Rattle.xn_model.proofs.Lists.{Contains-none, Contains-cons}
@@ -261,6 +261,11 @@ module _ (T : Types) (built_ins : HasBuiltIns T) (image : List (List ℕ)) (soun
     ];
   }
 
+pub never_given : (image : List (List ℕ)) (c : ℕ) → given_at (none_given image) c ≡ None
+never_given [] c = refl
+never_given (m ∷ image) zero = refl
+never_given (m ∷ image) (suc c) = never_given image c
+
 -- The world after a mount, up or down
 pub mount_holds : (w : World) → HasBuiltIns w.types → IsSound w.types (length w.image) (block_of w.image) → (lives : Lives) → IsRecovered w.types w.image lives → Holds (mounted w lives)
 mount_holds w b sound lives r = record {
@@ -276,5 +281,9 @@ mount_holds w b sound lives r = record {
     numbers = numbers_recovered w.types b w.image sound lives r;
   };
   count = sym r.count;
+  settled_count = sym r.count;
+  given_count = length-map w.image (λ bytes. None) ∙ sym r.count;
   placed = placed_recovered w.types b w.image sound lives r;
+  newest = (refl, λ c. inl refl);
+  unsynced = λ c bytes e. absurd (none-some bytes (sym (never_given w.image c) ∙ e));
 }

@@ -1,5 +1,5 @@
 -- What a change of one root slot leaves of block 0's bytes, and of what they name.
-use Rattle.std.proofs.Common.{◌≡◌, ℕ, zero, suc, ◌+◌, ◌-◌, ◌*◌, ◌^◌, ◌<◌, ◌≤◌, ◌≢◌, ◌⊎◌, true, cond, not, ◌&&◌, List, [], ◌∷◌, ◌++◌, map, length, get_or, set, take, drop, Option, Some, None, refl, sym, ◌∙◌, ap, inl, inr, arith, subst, add-zero}
+use Rattle.std.proofs.Common.{◌≡◌, ℕ, zero, suc, ◌+◌, ◌*◌, ◌^◌, ◌<◌, ◌≤◌, ◌≢◌, ◌⊎◌, true, cond, not, ◌&&◌, List, [], ◌∷◌, ◌++◌, map, length, get_or, set, take, drop, Option, Some, None, refl, sym, ◌∙◌, ap, inl, inr, arith, subst, add-zero}
 use Rattle.std.specs.Prelude.{Contains, IsTrue, filter_map, ◌==◌, bytes_eq}
 use Rattle.std.specs.Int.{w32, to_le_bytes, from_le_bytes}
 use Rattle.std.specs.List.{range_with_len, cons_option}

@@ -1,22 +1,23 @@
 -- A round of a drain by what its calls answer, apart from any disk.
-use Rattle.std.proofs.Common.{◌≡◌, ℕ, zero, suc, ◌<◌, ◌≤◌, true, false, List, [], ◌∷◌, length, map, Option, Some, None, Result, Ok, refl, sym, ◌∙◌, ap, inl, inr, arith, subst}
-use Rattle.std.specs.Prelude.{is_some, option_map, slice_set, ◌==◌}
+use Rattle.std.proofs.Common.{cond, ◌≡◌, ℕ, zero, suc, ◌<◌, ◌≤◌, true, false, List, [], ◌∷◌, length, map, Option, Some, None, Result, Ok, refl, sym, ◌∙◌, ap, inl, inr, arith, subst}
+use Rattle.std.specs.Prelude.{is_some, slice_set, ◌==◌}
 use Rattle.std.proofs.lemmas.Bool.{cases_lt, false≢true, ne_eqb}
-use Rattle.std.proofs.lemmas.Option.{same_Some, none-some}
-use Rattle.std.proofs.lemmas.List.{get_or-set_same, length-map}
+use Rattle.std.proofs.lemmas.Option.{none-some}
+use Rattle.std.proofs.lemmas.List.{get_or-set_same, set-set, length-map}
 use Rattle.xn_model.specs.Types.{Types}
 use Rattle.xn_model.specs.Images.{block_of}
 use Rattle.xn_model.specs.Lives.{BlockState, Life, Lives, StoreState, life_at, bytes_of, prefix_of, begun_at}
-use Rattle.xn_model.specs.Results.{Refusal, InFlight, NothingSafe, result_map}
+use Rattle.xn_model.specs.Results.{Refusal, InFlight, NothingSafe, NotSynced, result_map}
 use Rattle.xn_model.specs.Calls.{begun_place, begun_of, bytes_at, settled_of, pick_of, life_pending}
-use Rattle.xn_model.specs.Flights.{flight_of}
-use Rattle.xn_model.specs.Worlds.{World, Begun, Landed, Finished, reply_and_world, begin, begun_count, begun_bytes, land, finish, write, with_ticket, write_out, all_pending}
+use Rattle.xn_model.specs.Worlds.{World, Reply, Begun, Landed, Synced, Finished, Refused, reply_and_world, begin, land, sync, finish, read_back, write, settle_bytes, given_at, none_given, with_ticket, write_out, all_pending}
 use Rattle.xn_model.specs.Rules.{IsConsistent, Holds, IsIdle}
 use Rattle.xn_model.proofs.Lives.{place_from}
 use Rattle.xn_model.proofs.Tests.{unless_passed, safe_count_within}
 use Rattle.xn_model.proofs.Reached.{in_range}
 use Rattle.xn_model.proofs.Least.{progress}
-use Rattle.xn_model.proofs.Flights.{flights_begun}
+use Rattle.xn_model.proofs.Flights.{flights_begun, flight_count, flight_bytes}
+use Rattle.xn_model.proofs.Lands.{none_given_at}
+use Rattle.xn_model.proofs.Mount.{never_given}
 use Rattle.xn_model.proofs.Drains.{sum_some, picked_life, round_ends, first}
 
 -- A disk that holds what is durable
@@ -35,50 +36,46 @@ rests (o ∷ os) (suc b) l s e d = rests os b l s e d
 rests (o ∷ os) zero l s e d = ap durable_bytes e ∙ ap bytes_of d
 
 abbrev world_at : Types → StoreState → World
-world_at T state = record { types = T; image = at_rest state.lives; state = state; down = false }
+world_at T state = record { types = T; image = at_rest state.lives; settled = at_rest state.lives; given = none_given (at_rest state.lives); state = state; down = false }
 
 rests_well : (T : Types) (state : StoreState) → IsConsistent T state → Holds (world_at T state)
-rests_well T state h = record { state = h; count = length-map state.lives durable_bytes; placed = λ b l s e d. inl (rests state.lives b l s e d) }
-
--- What is under way after a begin
-
-flight_count : (o : Option Life) (k : ℕ) (bytes : List ℕ) → flight_of o ≡ Some (k, bytes) → begun_count o ≡ Some k
-flight_count None k bytes e = absurd (none-some (k, bytes) e)
-flight_count (Some l) k bytes e = go l.begun e
-  where
-    go : (g : Option ℕ) → option_map {U = ℕ × List ℕ} (λ j. (j, bytes_at j l)) g ≡ Some (k, bytes) → g ≡ Some k
-    go None e = absurd (none-some (k, bytes) e)
-    go (Some j) e = ap (λ n. Some n) (ap (λ (p : ℕ × List ℕ). p.0) (same_Some (j, bytes_at j l) (k, bytes) e))
-
-flight_bytes : (o : Option Life) (k : ℕ) (bytes : List ℕ) → flight_of o ≡ Some (k, bytes) → begun_bytes k o ≡ bytes
-flight_bytes None k bytes e = absurd (none-some (k, bytes) e)
-flight_bytes (Some l) k bytes e = go l.begun e
-  where
-    go : (g : Option ℕ) → option_map {U = ℕ × List ℕ} (λ j. (j, bytes_at j l)) g ≡ Some (k, bytes) → bytes_at k l ≡ bytes
-    go None e = absurd (none-some (k, bytes) e)
-    go (Some j) e =
-        let pair = same_Some (j, bytes_at j l) (k, bytes) e in
-        sym (ap (λ n. bytes_at n l) (ap (λ (p : ℕ × List ℕ). p.0) pair)) ∙ ap (λ (p : ℕ × List ℕ). p.1) pair
+rests_well T state h =
+    let count : length (at_rest state.lives) ≡ length state.lives = length-map state.lives durable_bytes in
+    record {
+      state = h;
+      count = count;
+      settled_count = count;
+      given_count = length-map (at_rest state.lives) (λ bytes. None) ∙ count;
+      placed = λ b l s e d. inl (rests state.lives b l s e d);
+      newest = (refl, λ c. inl refl);
+      unsynced = λ c bytes e. absurd (none-some bytes (sym (never_given (at_rest state.lives) c) ∙ e));
+    }
 
 -- the block is written with what is begun, and that is settled
 pub wrote_out : (w : World) (b : ℕ) (bytes : List ℕ) (count : ℕ) (begun : StoreState) (done : ℕ × ℕ) (after : StoreState) → begun_of w.state b ≡ Ok ((bytes, count), begun) →
-    settled_of begun b bytes ≡ Ok (done, after) → b < length w.image → write_out w b ≡ record w { image = slice_set w.image b bytes; state = after }
+    settled_of begun b bytes ≡ Ok (done, after) → b < length w.image →
+    write_out w b ≡ record w { image = slice_set w.image b bytes; settled = slice_set w.settled b bytes; given = slice_set w.given b None; state = after }
 wrote_out w b bytes count begun done after begins settles within =
     let began : World = record w { state = begun } in
-    let landed : World = record began { image = slice_set w.image b bytes } in
+    let landed : World = record began { image = slice_set w.image b bytes; given = slice_set w.given b (Some bytes) } in
+    let rests : World = record landed { settled = slice_set w.settled b bytes; given = slice_set w.given b None } in
     let flight = (flights_begun w.state begun b (bytes, count) begins).0 in
     let ticket = flight_count (life_at begun.lives b) count bytes flight in
     let carries = flight_bytes (life_at begun.lives b) count bytes flight in
-    let there : block_of landed.image b ≡ bytes = get_or-set_same w.image b bytes [] within in
+    let there : block_of rests.image b ≡ bytes = get_or-set_same w.image b bytes [] within in
     let begin_is : (begin w b).1 ≡ began = ap (λ r. (reply_and_world {A = List ℕ × ℕ} (λ x. Begun x.1) w r).1) begins in
     let land_is : (land began b).1 ≡ landed =
     ap (λ o. (with_ticket began o (λ n. (Landed, write began b n true))).1) ticket
-    ∙ ap (λ m. record began { image = slice_set w.image b m }) carries in
-    let finish_is : (finish landed b).1 ≡ record landed { state = after } =
-    ap (λ o. (with_ticket landed o (λ n. reply_and_world (λ (x : ℕ × ℕ). Finished x.0 x.1) landed (settled_of begun b (block_of landed.image b)))).1) ticket
-    ∙ (ap (λ m. (reply_and_world (λ (x : ℕ × ℕ). Finished x.0 x.1) landed (settled_of begun b m)).1) there
-    ∙ ap (λ r. (reply_and_world {A = ℕ × ℕ} (λ x. Finished x.0 x.1) landed r).1) settles) in
-    ap (λ x. (finish (land x b).1 b).1) begin_is ∙ (ap (λ x. (finish x b).1) land_is ∙ finish_is)
+    ∙ ap (λ m. record began { image = slice_set w.image b m; given = slice_set w.given b (Some m) }) carries in
+    let sync_is : (sync landed b).1 ≡ rests =
+    ap (λ o. (with_ticket landed o (λ n. (Synced, settle_bytes landed b))).1) ticket
+    ∙ (λ i. record landed { settled = slice_set w.settled b (there i); given = set-set w.given b (Some bytes) None i }) in
+    let finish_is : (finish rests b).1 ≡ record rests { state = after } =
+    ap (λ o. (with_ticket rests o (λ n. cond (is_some (given_at rests.given b)) (Refused NotSynced, rests) (read_back rests b))).1) ticket
+    ∙ (ap (λ o. (cond {A = Reply × World} (is_some o) (Refused NotSynced, rests) (read_back rests b)).1) (none_given_at w.given b)
+    ∙ (ap (λ m. (reply_and_world (λ (x : ℕ × ℕ). Finished x.0 x.1) rests (settled_of begun b m)).1) there
+    ∙ ap (λ r. (reply_and_world {A = ℕ × ℕ} (λ x. Finished x.0 x.1) rests r).1) settles)) in
+    ap (λ x. (finish (sync (land x b).1 b).1 b).1) begin_is ∙ (ap (λ x. (finish (sync x b).1 b).1) land_is ∙ (ap (λ x. (finish x b).1) sync_is ∙ finish_is))
 
 -- a round leaves no write under way, and less pending
 pub round_leaves : (T : Types) (state begun after : StoreState) (b : ℕ) (bytes : List ℕ) (count : ℕ) (done : ℕ × ℕ) → IsConsistent T state → IsIdle state.lives → pick_of state ≡ Some b →

@@ -7,7 +7,7 @@ use Rattle.std.specs.Int.{w32, to_le_bytes}
 use Rattle.xn_model.specs.Types.{Types}
 use Rattle.xn_model.specs.Root.{owned_by_root}
 use Rattle.xn_model.specs.Mounts.{recovered}
-use Rattle.xn_model.specs.Worlds.{World, mounted_state}
+use Rattle.xn_model.specs.Worlds.{World, mounted_state, none_given}
 
 -- type 0 is block 0's, type 1 a template's, type 2 that of data, which owns nothing
 abbrev pub built_ins : Types
@@ -30,4 +30,4 @@ bare_disk count = bare_root count ∷ replicate (count - 1) (zeros 512)
 
 -- a disk, mounted under types
 abbrev pub mounted_disk : Types → List (List ℕ) → World
-mounted_disk T image = record { types = T; image = image; state = mounted_state (recovered T image); down = false }
+mounted_disk T image = record { types = T; image = image; settled = image; given = none_given image; state = mounted_state (recovered T image); down = false }

@@ -3,10 +3,10 @@ use Rattle.std.specs.Prelude.{ℕ, zero, suc, map, length, filter_map, flat_map,
 use Rattle.std.specs.Int.{w32, to_le_bytes}
 use Rattle.xn_model.specs.Types.{Types}
 use Rattle.xn_model.specs.Root.{owned_by_root, word_at, unless_empty}
-use Rattle.xn_model.specs.Results.{NothingSafe, NotYours, NotInUse, NoSuchBlock, RootTaken, ClaimWrong, NotOwned, BadAfter, TooManyPending, NotFresh, NotEmpty, Cycle}
+use Rattle.xn_model.specs.Results.{NotSynced, NothingSafe, NotYours, NotInUse, NoSuchBlock, RootTaken, ClaimWrong, NotOwned, BadAfter, TooManyPending, NotFresh, NotEmpty, Cycle}
 use Rattle.xn_model.specs.Calls.{Edit}
 use Rattle.xn_model.specs.BareDisks.{zeros}
-use Rattle.xn_model.specs.Worlds.{Event, Client, Begin, Land, Fail, Finish, Crash, Init, Propose, MakeRoot, DropRoot, Forget, Read, Floor, Pending, Drain, Reply, Started, Edited, Bytes, Begun, Landed, Finished, FloorIs, Refused, Mounted, Drained, Fault, Forgotten, PendingIs, NoTicket}
+use Rattle.xn_model.specs.Worlds.{Event, Client, Begin, Land, Fail, Sync, FailSync, Finish, Crash, Init, Propose, MakeRoot, DropRoot, Forget, Read, Floor, Pending, Drain, Reply, Started, Edited, Bytes, Begun, Landed, Synced, Finished, FloorIs, Refused, Mounted, Drained, Fault, Forgotten, PendingIs, NoTicket}
 use Rattle.std.specs.List.{range_with_len}
 
 -- bytes with zeros up to a block's end
@@ -33,10 +33,6 @@ edit fs b e = Client fs (Propose b e)
 abbrev pub start : ℕ → ℕ → List ℕ → Event
 start fs t bytes = Client fs (Init t (block bytes))
 
--- begin, land, finish
-abbrev pub written : ℕ → ℕ → ℕ → Row
-written b entries freed = (Begin b, Begun entries) ∷ (Land b, Landed) ∷ (Finish b, Finished entries freed) ∷ []
-
 abbrev pub first_row : Row
 first_row =
     (start 0 2 (65 ∷ 66 ∷ 67 ∷ []), Started 1 1)
@@ -45,9 +41,11 @@ first_row =
     ∷ (Begin 1, Begun 1)
     ∷ (Land 1, Landed)
     ∷ (Begin 0, Refused NothingSafe)
+    ∷ (Sync 1, Synced)
     ∷ (Finish 1, Finished 1 0)
     ∷ (Begin 0, Begun 1)
     ∷ (Land 0, Landed)
+    ∷ (Sync 0, Synced)
     ∷ (Finish 0, Finished 1 0)
     ∷ (Client 0 Floor, FloorIs 3)
     ∷ []
@@ -59,17 +57,18 @@ dropped_row = first_row ++ (
     ∷ (Begin 0, Begun 1)
     ∷ (Land 0, Landed)
     ∷ (start 0 2 [], Started 2 4)
+    ∷ (Sync 0, Synced)
     ∷ (Finish 0, Finished 1 1)
     ∷ (start 0 2 [], Started 1 5)
     ∷ [])
 
--- a crash with a write that landed, and without
+-- a crash with a write that landed and is kept, and without
 abbrev pub landed_row : Row
 landed_row = first_row ++ (
     (edit 0 1 (patch 0 (90 ∷ []) [] [] None), Edited 3)
     ∷ (Begin 1, Begun 1)
     ∷ (Land 1, Landed)
-    ∷ (Crash, Mounted 2 30)
+    ∷ (Crash (1 ∷ []), Mounted 2 30)
     ∷ (Client 0 (Read 1), Bytes (block (90 ∷ 66 ∷ 67 ∷ [])))
     ∷ [])
 
@@ -77,8 +76,55 @@ abbrev pub lost_row : Row
 lost_row = first_row ++ (
     (edit 0 1 (patch 0 (90 ∷ []) [] [] None), Edited 3)
     ∷ (Begin 1, Begun 1)
-    ∷ (Crash, Mounted 2 30)
+    ∷ (Crash [], Mounted 2 30)
     ∷ (Client 0 (Read 1), Bytes (block (65 ∷ 66 ∷ 67 ∷ [])))
+    ∷ [])
+
+-- a write that is open: it can't be finished, and a crash may lose it or keep it, until it is synced
+abbrev pub open_row : Row
+open_row = first_row ++ (
+    (edit 0 1 (patch 0 (90 ∷ []) [] [] None), Edited 3)
+    ∷ (Begin 1, Begun 1)
+    ∷ (Land 1, Landed)
+    ∷ (Finish 1, Refused NotSynced)
+    ∷ [])
+
+abbrev pub open_lost_row : Row
+open_lost_row = open_row ++ (
+    (Crash [], Mounted 2 30)
+    ∷ (Client 0 (Read 1), Bytes (block (65 ∷ 66 ∷ 67 ∷ [])))
+    ∷ [])
+
+abbrev pub open_kept_row : Row
+open_kept_row = open_row ++ (
+    (Crash (1 ∷ []), Mounted 2 30)
+    ∷ (Client 0 (Read 1), Bytes (block (90 ∷ 66 ∷ 67 ∷ [])))
+    ∷ [])
+
+abbrev pub synced_row : Row
+synced_row = open_row ++ (
+    (Sync 1, Synced)
+    ∷ (Crash [], Mounted 2 30)
+    ∷ (Client 0 (Read 1), Bytes (block (90 ∷ 66 ∷ 67 ∷ [])))
+    ∷ [])
+
+abbrev pub failed_sync_row : Row
+failed_sync_row = open_row ++ (
+    (FailSync 1, Fault)
+    ∷ (Finish 1, Refused NotSynced)
+    ∷ (Sync 1, Synced)
+    ∷ (Finish 1, Finished 1 0)
+    ∷ [])
+
+-- blocks past the disk's count are passed over, and so are those with no open write; a failed write may be kept too
+abbrev pub failed_kept_row : Row
+failed_kept_row = first_row ++ (
+    (edit 0 1 (patch 0 (90 ∷ []) [] [] None), Edited 3)
+    ∷ (Begin 1, Begun 1)
+    ∷ (Fail 1 false, Fault)
+    ∷ (Finish 1, Refused NotSynced)
+    ∷ (Crash (0 ∷ 1 ∷ 99 ∷ []), Mounted 2 30)
+    ∷ (Client 0 (Read 1), Bytes (block (90 ∷ 66 ∷ 67 ∷ [])))
     ∷ [])
 
 -- a write that fails with the new bytes on the disk, and with the old
@@ -87,6 +133,7 @@ failed_new_row = first_row ++ (
     (edit 0 1 (patch 0 (90 ∷ []) [] [] None), Edited 3)
     ∷ (Begin 1, Begun 1)
     ∷ (Fail 1 true, Fault)
+    ∷ (Sync 1, Synced)
     ∷ (Finish 1, Finished 1 0)
     ∷ [])
 
@@ -95,6 +142,7 @@ failed_old_row = first_row ++ (
     (edit 0 1 (patch 0 (90 ∷ []) [] [] None), Edited 3)
     ∷ (Begin 1, Begun 1)
     ∷ (Fail 1 false, Fault)
+    ∷ (Sync 1, Synced)
     ∷ (Finish 1, Finished 0 0)
     ∷ (Begin 1, Begun 1)
     ∷ [])
@@ -132,10 +180,12 @@ after_row =
     ∷ (edit 0 1 (patch 0 (65 ∷ []) [] [] (Some 2)), Edited 3)
     ∷ (Begin 1, Begun 1)
     ∷ (Land 1, Landed)
+    ∷ (Sync 1, Synced)
     ∷ (Finish 1, Finished 1 0)
     ∷ (Begin 1, Refused NothingSafe)
     ∷ (Begin 2, Begun 1)
     ∷ (Land 2, Landed)
+    ∷ (Sync 2, Synced)
     ∷ (Finish 2, Finished 1 0)
     ∷ (Begin 1, Begun 1)
     ∷ (Finish 2, NoTicket)
@@ -148,7 +198,7 @@ drained_row =
     ∷ (Client 0 Pending, PendingIs 2)
     ∷ (Client 0 Drain, Drained 2)
     ∷ (Client 0 Pending, PendingIs 0)
-    ∷ (Crash, Mounted 2 30)
+    ∷ (Crash [], Mounted 2 30)
     ∷ []
 
 -- Templates of a library file system
@@ -198,14 +248,16 @@ rolled_back_row =
     ∷ (start 0 4 [], Started 6 4)
     ∷ (Begin 5, Begun 1)
     ∷ (Land 5, Landed)
+    ∷ (Sync 5, Synced)
     ∷ (Finish 5, Finished 1 0)
     ∷ (edit 0 4 (patch 0 (5 ∷ 0 ∷ 0 ∷ 0 ∷ []) ((5, 4) ∷ []) [] None), Edited 5)
     ∷ (edit 0 4 (patch 4 (6 ∷ 0 ∷ 0 ∷ 0 ∷ []) ((6, 4) ∷ []) [] None), Edited 6)
     ∷ (Begin 4, Begun 1)
     ∷ (Client 0 (Read 4), Bytes (block (5 ∷ 0 ∷ 0 ∷ 0 ∷ 6 ∷ [])))
     ∷ (Land 4, Landed)
+    ∷ (Sync 4, Synced)
     ∷ (Finish 4, Finished 1 0)
-    ∷ (Crash, Mounted 6 26)
+    ∷ (Crash [], Mounted 6 26)
     ∷ (Client 0 (Read 4), Bytes (block (5 ∷ [])))
     ∷ []
 
@@ -234,11 +286,13 @@ attached_row =
     ∷ (Begin 0, Refused NothingSafe)
     ∷ (Begin 4, Begun 1)
     ∷ (Land 4, Landed)
+    ∷ (Sync 4, Synced)
     ∷ (Finish 4, Finished 1 0)
     ∷ (Begin 0, Begun 1)
     ∷ (Land 0, Landed)
+    ∷ (Sync 0, Synced)
     ∷ (Finish 0, Finished 1 0)
-    ∷ (Crash, Mounted 5 27)
+    ∷ (Crash [], Mounted 5 27)
     ∷ (Client 0 (Read 4), Bytes (block []))
     ∷ []
 

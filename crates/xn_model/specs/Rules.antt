@@ -1,7 +1,7 @@
 -- What holds in every world that a run reaches.
 --     IsConsistent T state           of a state alone
 --     ArePlaced content lives        of what is read of a disk, against the lives
---     Holds w                        both, of a world
+--     Holds w                        both, of a world, and what its open writes are
 --     Agrees T count content lives   each reached block of these contents holds a state of its life, and has one owner
 use Rattle.std.specs.Prelude.{◌≡◌, ℕ, ◌<◌, ◌≤◌, ◌≢◌, List, [], ◌∷◌, ◌++◌, length, Option, Some, None, Contains, IsTrue, ◌⊎◌, ⊤, option_to_list, false}
 use Rattle.std.specs.List.{last_or}
@@ -9,7 +9,8 @@ use Rattle.xn_model.specs.Types.{Types, fits}
 use Rattle.xn_model.specs.Root.{HasBuiltIns, header, marked, slot, templates_of}
 use Rattle.xn_model.specs.Images.{block_of, Reach, HasOneOwner, IsDiskSize}
 use Rattle.xn_model.specs.Lives.{BlockState, Status, Fresh, Owned, Dropped, Life, Lives, StoreState, life_at, states, carried, newest, is_dropped, chain_end}
-use Rattle.xn_model.specs.Worlds.{World}
+use Rattle.xn_model.specs.Flights.{flight_of}
+use Rattle.xn_model.specs.Worlds.{World, MayLeave, given_at}
 
 -- The image against the lives
 
@@ -300,10 +301,16 @@ ArePlaced content lives = (b : ℕ) (l : Life) (s : BlockState) → life_at live
 pub record Holds (w : World) : Type 0 where
   -- the state is consistent
   pub state : IsConsistent w.types w.state
-  -- the image has a block for each place of the lives
+  -- the disk has a block for each place of the lives
   pub count : length w.image ≡ length w.state.lives
-  -- each block with a durable state holds it or the begun one
-  pub placed : ArePlaced (block_of w.image) w.state.lives
+  pub settled_count : length w.settled ≡ length w.state.lives
+  pub given_count : length w.given ≡ length w.state.lives
+  -- of each block with a durable state that or the begun one is settled
+  pub placed : ArePlaced (block_of w.settled) w.state.lives
+  -- the newest bytes are settled, or those of an open write
+  pub newest : MayLeave w w.image
+  -- a write is open only where one is under way, and was given its bytes
+  pub unsynced : (b : ℕ) (bytes : List ℕ) → given_at w.given b ≡ Some bytes → (k : ℕ) × (flight_of (life_at w.state.lives b) ≡ Some (k, bytes))
 
 -- What a call that writes no block leaves.
 pub record Keeps (T : Types) (old new : StoreState) : Type 0 where

@@ -2,21 +2,45 @@
 --     act w e            the reply and the world after an event, where memory is ample
 --     Step w e r after   what may happen: that, or want of memory where the event asks for memory
 --     Run w es rs after  a list of events
-use Rattle.std.specs.Prelude.{◌≡◌, ◌<◌, ◌⊎◌, ⊤, ℕ, zero, suc, ◌+◌, ◌-◌, Bool, true, false, cond, not, ◌&&◌, List, [], ◌∷◌, length, Option, Some, None, is_some, Result, Ok, Err, slice_set, IsTrue}
-use Rattle.std.specs.List.{list_any}
+--     MayLeave w image   an image that a crash may leave
+use Rattle.std.specs.Prelude.{◌≡◌, ◌<◌, ◌⊎◌, ⊤, ℕ, zero, suc, ◌+◌, ◌-◌, Bool, true, false, cond, not, ◌&&◌, List, [], ◌∷◌, length, map, Option, Some, None, is_some, unwrap_or, Result, Ok, Err, slice_set, slice_index_or, IsTrue}
+use Rattle.std.specs.List.{list_any, range_with_len}
+use Rattle.xn_model.specs.Lists.{has_number}
 use Rattle.xn_model.specs.Types.{Types}
 use Rattle.xn_model.specs.Images.{block_of}
 use Rattle.xn_model.specs.Lives.{Life, Lives, StoreState, life_at, alive_and}
-use Rattle.xn_model.specs.Results.{Refusal, NoMemory, InFlight}
+use Rattle.xn_model.specs.Results.{Refusal, NoMemory, InFlight, NotSynced}
 use Rattle.xn_model.specs.Calls.{Edit, init_of, propose_of, make_root_of, drop_root_of, forget_of, read_of, root_of, kind_of, tainted_of, pending_of, floor_of, free_of, pick_of, begun_of, settled_of, life_pending, bytes_at}
 use Rattle.xn_model.specs.Mounts.{recovered, IsRecovered}
 
 pub record World : Type 0 where
   pub types : Types
-  -- the bytes of each block on the disk
+  -- the newest bytes of each block on the disk, which a read gives
   pub image : List (List ℕ)
+  -- its settled bytes: those that its last good sync found
+  pub settled : List (List ℕ)
+  -- whether a write is open, one since that sync, and the last bytes that were given to one
+  pub given : List (Option (List ℕ))
   pub state : StoreState
   pub down : Bool
+
+-- What a crash leaves
+
+-- the bytes given to the open write of a block
+abbrev pub given_at : List (Option (List ℕ)) → ℕ → Option (List ℕ)
+given_at given b = slice_index_or given b None
+
+-- A crash may leave this image: each block has its settled bytes or, where a write is open, the bytes given to it.
+abbrev pub MayLeave : World → List (List ℕ) → Type 0
+MayLeave w image = (length image ≡ length w.image)
+    × ((b : ℕ) → (block_of image b ≡ block_of w.settled b) ⊎ (given_at w.given b ≡ Some (block_of image b)))
+
+-- the one where the open writes of these blocks are kept, and no others
+abbrev pub left_at : World → List ℕ → ℕ → List ℕ
+left_at w kept b = cond (has_number kept b) (unwrap_or (given_at w.given b) (block_of w.settled b)) (block_of w.settled b)
+
+abbrev pub left : World → List ℕ → List (List ℕ)
+left w kept = map (left_at w kept) (range_with_len 0 (length w.image))
 
 -- Events and replies
 
@@ -41,8 +65,10 @@ pub data Event : Type 0 where
   Begin : (block : ℕ) → Event
   Land : (block : ℕ) → Event
   Fail : (block : ℕ) → (stays : Bool) → Event
+  Sync : (block : ℕ) → Event
+  FailSync : (block : ℕ) → Event
   Finish : (block : ℕ) → Event
-  Crash : Event
+  Crash : (kept : List ℕ) → Event
 
 pub data Reply : Type 0 where
   Started : (block : ℕ) → (entry : ℕ) → Reply
@@ -58,6 +84,7 @@ pub data Reply : Type 0 where
   Picked : Option ℕ → Reply
   Begun : (entries : ℕ) → Reply
   Landed : Reply
+  Synced : Reply
   Fault : Reply
   Finished : (durable : ℕ) → (freed : ℕ) → Reply
   Drained : (writes : ℕ) → Reply
@@ -91,9 +118,16 @@ abbrev pub begun_bytes : ℕ → Option Life → List ℕ
 begun_bytes k None = []
 begun_bytes k (Some l) = bytes_at k l
 
--- the block write, where the bytes come to stay and where not
+-- bytes are given to a block write; a read finds them from then on, or does not
+abbrev pub write_bytes : World → ℕ → List ℕ → Bool → World
+write_bytes w b bytes stays = record w { image = cond stays (slice_set w.image b bytes) w.image; given = slice_set w.given b (Some bytes) }
+
 abbrev pub write : World → ℕ → ℕ → Bool → World
-write w b k stays = cond stays (record w { image = slice_set w.image b (begun_bytes k (life_at w.state.lives b)) }) w
+write w b k stays = write_bytes w b (begun_bytes k (life_at w.state.lives b)) stays
+
+-- what a block holds is settled
+abbrev pub settle_bytes : World → ℕ → World
+settle_bytes w b = record w { settled = slice_set w.settled b (block_of w.image b); given = slice_set w.given b None }
 
 -- what only a ticket's holder can do
 abbrev pub with_ticket : World → Option ℕ → (ℕ → Reply × World) → Reply × World
@@ -109,14 +143,23 @@ land w b = on_ticket w b (λ k. (Landed, write w b k true))
 abbrev pub fail : World → ℕ → Bool → Reply × World
 fail w b stays = on_ticket w b (λ k. (Fault, write w b k stays))
 
--- the block is read back
+abbrev pub sync : World → ℕ → Reply × World
+sync w b = on_ticket w b (λ k. (Synced, settle_bytes w b))
+
+abbrev pub fail_sync : World → ℕ → Reply × World
+fail_sync w b = on_ticket w b (λ k. (Fault, w))
+
+-- the block is read back, where no write is open
+abbrev pub read_back : World → ℕ → Reply × World
+read_back w b = reply_and_world (λ done. Finished done.0 done.1) w (settled_of w.state b (block_of w.image b))
+
 abbrev pub finish : World → ℕ → Reply × World
-finish w b = on_ticket w b (λ k. reply_and_world (λ done. Finished done.0 done.1) w (settled_of w.state b (block_of w.image b)))
+finish w b = on_ticket w b (λ k. cond (is_some (given_at w.given b)) (Refused NotSynced, w) (read_back w b))
 
 abbrev pub write_out : World → ℕ → World
-write_out w b = (finish (land (begin w b).1 b).1 b).1
+write_out w b = (finish (sync (land (begin w b).1 b).1 b).1 b).1
 
--- rounds of pick, begin, land and finish, at most so many
+-- rounds of pick, begin, land, sync and finish, at most so many
 abbrev pub drain_for : ℕ → ℕ → World → ℕ × World
 drain_for zero writes w = (writes, w)
 drain_for (suc n) writes w = elim (pick_of w.state) [ None ↦ (writes, w) | Some b ↦ drain_for n (writes + 1) (write_out w b) ]
@@ -152,14 +195,21 @@ call w fs Drain = drain w
 abbrev pub mounted_state : Lives → StoreState
 mounted_state lives = record { lives = lives; next = 1 }
 
+-- each lane is synced before it is read
+abbrev pub none_given : List (List ℕ) → List (Option (List ℕ))
+none_given image = map (λ bytes. None) image
+
 abbrev pub mounted : World → Lives → World
-mounted w lives = record w { state = mounted_state lives; down = false }
+mounted w lives = record w { settled = w.image; given = none_given w.image; state = mounted_state lives; down = false }
 
 abbrev pub mount_reply : Lives → Reply
 mount_reply lives = let free = free_of (mounted_state lives) in Mounted (length lives - free) free
 
-abbrev pub crash : World → Reply × World
-crash w = let lives = recovered w.types w.image in (mount_reply lives, mounted w lives)
+abbrev pub crashed : World → List ℕ → World
+crashed w kept = record w { image = left w kept }
+
+abbrev pub crash : World → List ℕ → Reply × World
+crash w kept = let lives = recovered w.types (left w kept) in (mount_reply lives, mounted (crashed w kept) lives)
 
 -- What each event does
 
@@ -168,16 +218,20 @@ act_up w (Client fs c) = call w fs c
 act_up w (Begin b) = begin w b
 act_up w (Land b) = land w b
 act_up w (Fail b stays) = fail w b stays
+act_up w (Sync b) = sync w b
+act_up w (FailSync b) = fail_sync w b
 act_up w (Finish b) = finish w b
-act_up w Crash = crash w
+act_up w (Crash kept) = crash w kept
 
 abbrev pub is_crash : Event → Bool
 is_crash (Client fs c) = false
 is_crash (Begin b) = false
 is_crash (Land b) = false
 is_crash (Fail b stays) = false
+is_crash (Sync b) = false
+is_crash (FailSync b) = false
 is_crash (Finish b) = false
-is_crash Crash = true
+is_crash (Crash kept) = true
 
 abbrev pub act : World → Event → Reply × World
 act w e = cond (w.down && not (is_crash e)) (Down, w) (act_up w e)
@@ -204,10 +258,10 @@ abbrev pub is_refusal : Reply → Bool
 is_refusal (Refused r) = true
 is_refusal _ = false
 
--- A mount of the image, or the world is down till the next.
-abbrev pub AfterCrash : World → Reply → World → Type 0
-AfterCrash w r w' = (lives : Lives) × IsRecovered w.types w.image lives
-    × (((r ≡ mount_reply lives) × (w' ≡ mounted w lives)) ⊎ ((r ≡ Down) × (w' ≡ record (mounted w lives) { down = true })))
+-- A mount of the image that is left, or the world is down till the next.
+abbrev pub AfterCrash : World → List ℕ → Reply → World → Type 0
+AfterCrash w kept r w' = (lives : Lives) × IsRecovered w.types (left w kept) lives
+    × (((r ≡ mount_reply lives) × (w' ≡ mounted (crashed w kept) lives)) ⊎ ((r ≡ Down) × (w' ≡ record (mounted (crashed w kept) lives) { down = true })))
 
 -- What act gives, or a growth that is refused last of all.
 abbrev pub AfterCall : World → Event → Reply → World → Type 0
@@ -216,7 +270,7 @@ AfterCall w e r w' =
     ⊎ (IsTrue (asks_memory e) × ((is_refusal (act w e).0 ≡ false) × ((w.down ≡ false) × ((r ≡ Refused NoMemory) × (w' ≡ w)))))
 
 abbrev pub Step : World → Event → Reply → World → Type 0
-Step w Crash r w' = AfterCrash w r w'
+Step w (Crash kept) r w' = AfterCrash w kept r w'
 Step w e r w' = AfterCall w e r w'
 
 -- a file system has one of 32 root slots

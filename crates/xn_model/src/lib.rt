@@ -9,12 +9,12 @@ ghost use Rattle.xn_model.specs.Images.{IsSound, IsDiskSize, block_of, blocks_in
 ghost use Rattle.xn_model.specs.Lives.{Lives, Life, StoreState, BlockState, life_at, floor, entries_of};
 ghost use Rattle.xn_model.specs.Calls.{Edit, init_of, propose_of, make_root_of, drop_root_of, forget_of, begun_of, settled_of, pick_of, pending_of};
 ghost use Rattle.xn_model.specs.Mounts.{recovered, IsRecovered};
-ghost use Rattle.xn_model.specs.Worlds.{World, Event, Reply, Drained, replies, world_after, mounted, drain, all_pending, IsEvent, Step, Run};
+ghost use Rattle.xn_model.specs.Worlds.{World, Event, Reply, Drained, Crash, replies, world_after, mounted, none_given, drain, all_pending, IsEvent, Step, Run, MayLeave, given_at, left};
 ghost use Rattle.xn_model.specs.Lanes.{FitLives, HoldImage};
 ghost use Rattle.xn_model.specs.Flights.{flight_of, HaveSameFlights, HaveSameFlightsBut};
 ghost use Rattle.xn_model.specs.BareDisks.{built_ins, bare_disk, mounted_disk};
 ghost use Rattle.xn_model.specs.Rules.{IsConsistent, Keeps, Holds, IsIdle, IsPlaced, ArePlaced, Agrees};
-ghost use Rattle.xn_model.specs.Rows.{sent, answered, library, library_disk, first_row, dropped_row, landed_row, lost_row, failed_new_row, failed_old_row, many_row, refused_row, after_row, drained_row, rolled_back_row, claimed_row, attached_row, chain, chain_disk, cycle_row};
+ghost use Rattle.xn_model.specs.Rows.{sent, answered, library, library_disk, first_row, dropped_row, landed_row, lost_row, open_lost_row, open_kept_row, synced_row, failed_sync_row, failed_kept_row, failed_new_row, failed_old_row, many_row, refused_row, after_row, drained_row, rolled_back_row, claimed_row, attached_row, chain, chain_disk, cycle_row};
 
 mod refusal;
 mod status;
@@ -153,24 +153,45 @@ pub fn blocks_are_read()
     ensures bytes { (blocks : List (List ℕ)) → All (λ block. length block ≡ 512) blocks → length (joined blocks) ≡ 512 * length blocks }
 {}
 
+/// By the rules each image that a crash may leave agrees with the lives and is sound. The newest bytes are one
+/// of them, and so is what a crash leaves that keeps some open writes and no others. A block whose write isn't
+/// under way has no open write, and its settled bytes are its newest.
+pub fn left_images()
+    ensures agrees { (w : World) (image : List (List ℕ)) → Holds w → MayLeave w image → Agrees w.types (length image) (block_of image) w.state.lives }
+    ensures sound { (w : World) (image : List (List ℕ)) → Holds w → MayLeave w image → IsSound w.types (length image) (block_of image) }
+    ensures newest { (w : World) → Holds w → MayLeave w w.image }
+    ensures kept { (w : World) (kept : List ℕ) → Holds w → MayLeave w (left w kept) }
+    ensures idle { (w : World) (b : ℕ) → Holds w → flight_of (life_at w.state.lives b) ≡ None →
+        (given_at w.given b ≡ None) × (block_of w.settled b ≡ block_of w.image b) }
+{}
+
+/// After a crash the disk is what it left, with no write open and the lives that are read off it.
+pub fn crash_mounts()
+    ensures { (w : World) (kept : List ℕ) (r : Reply) (after : World) → Step w (Crash kept) r after → (after.image ≡ left w kept)
+        × (after.settled ≡ after.image) × (after.given ≡ none_given after.image) × IsRecovered after.types after.image after.state.lives }
+{}
+
 /// A mount of a sound image begins with the rules.
 pub fn mount_holds()
     ensures { (w : World) (lives : Lives) → HasBuiltIns w.types → IsSound w.types (length w.image) (block_of w.image) →
         IsRecovered w.types w.image lives → Holds (mounted w lives) }
 {}
 
-/// After every run from a mount of a sound image the rules hold, the image agrees with the lives, and
-/// it is sound.
+/// After every run from a mount of a sound image the rules hold, and every image that a crash may leave,
+/// as the newest one, agrees with the lives and is sound.
 pub fn every_run()
     ensures holds { (w : World) (lives : Lives) (es : List Event) (rs : List Reply) (after : World) → HasBuiltIns w.types →
         IsSound w.types (length w.image) (block_of w.image) → IsRecovered w.types w.image lives → AllByRecursion IsEvent es →
         Run (mounted w lives) es rs after → Holds after }
     ensures agrees { (w : World) (lives : Lives) (es : List Event) (rs : List Reply) (after : World) → HasBuiltIns w.types →
         IsSound w.types (length w.image) (block_of w.image) → IsRecovered w.types w.image lives → AllByRecursion IsEvent es →
-        Run (mounted w lives) es rs after → Agrees after.types (length after.image) (block_of after.image) after.state.lives }
+        Run (mounted w lives) es rs after → (image : List (List ℕ)) → MayLeave after image → Agrees after.types (length image) (block_of image) after.state.lives }
     ensures sound { (w : World) (lives : Lives) (es : List Event) (rs : List Reply) (after : World) → HasBuiltIns w.types →
         IsSound w.types (length w.image) (block_of w.image) → IsRecovered w.types w.image lives → AllByRecursion IsEvent es →
-        Run (mounted w lives) es rs after → IsSound after.types (length after.image) (block_of after.image) }
+        Run (mounted w lives) es rs after → (image : List (List ℕ)) → MayLeave after image → IsSound after.types (length image) (block_of image) }
+    ensures newest { (w : World) (lives : Lives) (es : List Event) (rs : List Reply) (after : World) → HasBuiltIns w.types →
+        IsSound w.types (length w.image) (block_of w.image) → IsRecovered w.types w.image lives → AllByRecursion IsEvent es →
+        Run (mounted w lives) es rs after → MayLeave after after.image }
 {}
 
 /// With nothing in flight and something pending, some block has a safe prefix.
@@ -213,6 +234,11 @@ pub fn rows()
     ensures dropped { replies (mounted_disk built_ins (bare_disk 32)) (sent dropped_row) ≡ answered dropped_row }
     ensures landed { replies (mounted_disk built_ins (bare_disk 32)) (sent landed_row) ≡ answered landed_row }
     ensures lost { replies (mounted_disk built_ins (bare_disk 32)) (sent lost_row) ≡ answered lost_row }
+    ensures open_lost { replies (mounted_disk built_ins (bare_disk 32)) (sent open_lost_row) ≡ answered open_lost_row }
+    ensures open_kept { replies (mounted_disk built_ins (bare_disk 32)) (sent open_kept_row) ≡ answered open_kept_row }
+    ensures synced { replies (mounted_disk built_ins (bare_disk 32)) (sent synced_row) ≡ answered synced_row }
+    ensures failed_sync { replies (mounted_disk built_ins (bare_disk 32)) (sent failed_sync_row) ≡ answered failed_sync_row }
+    ensures failed_kept { replies (mounted_disk built_ins (bare_disk 32)) (sent failed_kept_row) ≡ answered failed_kept_row }
     ensures failed_new { replies (mounted_disk built_ins (bare_disk 32)) (sent failed_new_row) ≡ answered failed_new_row }
     ensures failed_old { replies (mounted_disk built_ins (bare_disk 32)) (sent failed_old_row) ≡ answered failed_old_row }
     ensures many { replies (mounted_disk built_ins (bare_disk 32)) (sent many_row) ≡ answered many_row }

@@ -50,6 +50,8 @@ pub enum Refusal {
     /// A block to be attached is the one at which the edited block's chain of owners ends; of a fresh block that is the
     /// block itself.
     Cycle,
+    /// The block was written, well or not, after its last good sync.
+    NotSynced,
 }
 
 impl Refusal {
@@ -82,6 +84,7 @@ impl Refusal {
             Refusal::NothingSafe => "20 NothingSafe",
             Refusal::Exhausted => "21 Exhausted",
             Refusal::Cycle => "22 Cycle",
+            Refusal::NotSynced => "23 NotSynced",
         }
     }
 }

@@ -24,7 +24,7 @@ state_of lives next = record { lives = lives; next = next }
 pub mounted_consistent : (table : TableValue) (image : List (List ℕ)) (lives : Lives) → IsTable table → IsSound (types_of table) (length image) (block_of image) →
     IsRecovered (types_of table) image lives → IsConsistent (types_of table) (state_of lives 1)
 mounted_consistent table image lives is sound recovered =
-    let world : World = record { types = types_of table; image = image; state = state_of [] 1; down = false } in
+    let world : World = record { types = types_of table; image = image; settled = image; given = []; state = state_of [] 1; down = false } in
     (mount_holds world (tables_have_built_ins table is) sound lives recovered).state
 
 pub started_consistent : (T : Types) (lives : Lives) (next fs ty : ℕ) (bytes : List ℕ) (block : ℕ) → IsConsistent T (state_of lives next) →

@@ -1,6 +1,6 @@
 // What a mount finds on fresh disks, and what answers mean.
 
-ghost use Rattle.std.specs.Prelude.{◌≡◌, ◌≤◌, ℕ, List, length, map, All, false};
+ghost use Rattle.std.specs.Prelude.{◌≡◌, ◌≤◌, ℕ, List, Option, length, map, All, false};
 ghost use Rattle.xn_model.specs.Types.{Types};
 ghost use Rattle.xn_model.specs.Lives.{StoreState};
 ghost use Rattle.xn_model.specs.Worlds.{Client, Step};
@@ -22,6 +22,6 @@ pub fn fresh_disks_are_found()
 
 /// What a call may answer is a step of the model, on each disk whose store is in the state before the call.
 pub fn answers_are_steps()
-    ensures { (T : Types) (image : List (List ℕ)) (old new : StoreState) (fs : ℕ) (call : Call) (answer : Answer) → Answers T old fs call new answer →
-        Step (record { types = T; image = image; state = old; down = false }) (Client fs (call_of call)) (reply_of_answer answer) (record { types = T; image = image; state = new; down = false }) }
+    ensures { (T : Types) (image settled : List (List ℕ)) (given : List (Option (List ℕ))) (old new : StoreState) (fs : ℕ) (call : Call) (answer : Answer) → Answers T old fs call new answer →
+        Step (record { types = T; image = image; settled = settled; given = given; state = old; down = false }) (Client fs (call_of call)) (reply_of_answer answer) (record { types = T; image = image; settled = settled; given = given; state = new; down = false }) }
 {}

@@ -1,20 +1,20 @@
 -- What events write, and what drains do round by round.
 use Rattle.std.proofs.Common.{◌≡◌, ◌≤◌, ◌<◌, ◌+◌, ◌-◌, ℕ, zero, suc, Bool, true, false, Option, None, Some, Result, Ok, Err, refl, sym, ◌∙◌, ap, inl, inr, arith}
 use Rattle.std.specs.Prelude.{◌⊎◌, cond, is_some, not, ◌&&◌}
-use Rattle.std.proofs.lemmas.Bool.{false≢true}
+use Rattle.std.proofs.lemmas.Bool.{cond_both, false≢true}
 use Rattle.std.proofs.lemmas.Option.{none-some}
 use Rattle.xn_model.specs.declared.refusal.Refusal.{Refusal}
-use Rattle.xn_model.specs.declared.refusal.Refusal.TheVariants.{InFlight}
+use Rattle.xn_model.specs.declared.refusal.Refusal.TheVariants.{InFlight, NoMemory, NotSynced}
 use Rattle.xn_model.specs.Images.{block_of}
 use Rattle.xn_model.specs.Lives.{Life, StoreState, life_at, alive_and}
 use Rattle.xn_model.specs.Calls.{init_of, propose_of, make_root_of, drop_root_of, forget_of, read_of, kind_of, begun_of, settled_of, pick_of}
 use Rattle.xn_model.specs.Rules.{Holds}
 use Rattle.xn_model.specs.Worlds as model
-use Rattle.xn_model.specs.Worlds.{World, Step, act, act_up, begun_count, reply_and_world, reply_alone, with_ticket, asks_memory, is_crash, AfterCall, all_pending, drain_for, write_out}
+use Rattle.xn_model.specs.Worlds.{World, Step, act, act_up, begun_count, reply_and_world, reply_alone, with_ticket, asks_memory, is_crash, AfterCall, all_pending, drain_for, given_at, read_back, write_out}
 use Rattle.xn_model.proofs.ForCallers.{drain_ends, none_picked}
 use Rattle.xn_kernel.proofs.ForCallers.{idle_from}
 use Rattle.world.specs.Worlds.{is_any_in_flight}
-use Rattle.xnsim_line.specs.Stops.{writes_of, is_drain, is_write, IsHeldBack}
+use Rattle.xnsim_line.specs.Stops.{writes_of, writes_by, is_drain, is_failed_sync, is_write, IsHeldBack}
 
 -- one write, or none
 abbrev pub one_if : Bool → ℕ
@@ -63,28 +63,36 @@ up_or_down : (w : World) (d : Bool) (p : model.Reply × World) (n : ℕ) → wri
 up_or_down w true p n counts = omega arith
 up_or_down w false p n counts = omega (arith, counts)
 
-event_counts : (w : World) (e : model.Event) → is_drain e ≡ false → writes_of (act w e).0 ≤ one_if (is_write w e)
+event_counts : (w : World) (e : model.Event) → is_drain e ≡ false → writes_by e (act w e).0 ≤ one_if (is_write w e)
 event_counts w (model.Client fs c) other = up_or_down w (w.down && true) (model.call w fs c) 0 (call_counts w fs c other)
 event_counts w (model.Begin b) other = up_or_down w (w.down && true) (model.begin w b) 0 (of_result (λ begun. model.Begun begun.1) w (begun_of w.state b) (λ y. refl))
 event_counts w (model.Land b) other = up_or_down w (w.down && true) (model.land w b) _ (write_counts w (life_at w.state.lives b) _ (λ k. refl))
 event_counts w (model.Fail b stays) other = up_or_down w (w.down && true) (model.fail w b stays) _ (write_counts w (life_at w.state.lives b) _ (λ k. refl))
+event_counts w (model.Sync b) other = up_or_down w (w.down && true) (model.sync w b) 0 (no_write w (begun_count (life_at w.state.lives b)) _ (λ k. refl))
+event_counts w (model.FailSync b) other = omega arith
 event_counts w (model.Finish b) other =
     up_or_down w (w.down && true) (model.finish w b) 0
-    (no_write w (begun_count (life_at w.state.lives b)) _ (λ k. of_result (λ done. model.Finished done.0 done.1) w (settled_of w.state b (block_of w.image b)) (λ y. refl)))
-event_counts w model.Crash other = up_or_down w (w.down && false) (model.crash w) 0 refl
+    (no_write w (begun_count (life_at w.state.lives b)) _ (λ k. cond_both {A = model.Reply × World} (is_some (given_at w.given b)) (model.Refused NotSynced, w) (read_back w b) (λ x. writes_of x.0 ≡ 0)
+    (λ t. refl) (λ t. of_result (λ done. model.Finished done.0 done.1) w (settled_of w.state b (block_of w.image b)) (λ y. refl))))
+event_counts w (model.Crash kept) other = up_or_down w (w.down && false) (model.crash w kept) 0 refl
 
-after_counts : (w : World) (e : model.Event) (r : model.Reply) (w' : World) → AfterCall w e r w' → is_drain e ≡ false → writes_of r ≤ one_if (is_write w e)
-after_counts w e r w' (inl same) other = let few = event_counts w e other in let it = ap writes_of same.0 in omega (arith, few, it)
-after_counts w e r w' (inr memory) other = let none = ap writes_of memory.1.1.1.0 in omega (arith, none)
+no_memory_counts : (e : model.Event) → writes_by e (model.Refused NoMemory) ≡ 0
+no_memory_counts e = cond_both (is_failed_sync e) 0 0 (λ n. n ≡ 0) (λ t. refl) (λ t. refl)
+
+after_counts : (w : World) (e : model.Event) (r : model.Reply) (w' : World) → AfterCall w e r w' → is_drain e ≡ false → writes_by e r ≤ one_if (is_write w e)
+after_counts w e r w' (inl same) other = let few = event_counts w e other in let it = ap (writes_by e) same.0 in omega (arith, few, it)
+after_counts w e r w' (inr memory) other = let none = ap (writes_by e) memory.1.1.1.0 ∙ no_memory_counts e in omega (arith, none)
 
 -- an event that is no drain writes at most one block, and none where it is no write
-pub step_counts : (w : World) (e : model.Event) (r : model.Reply) (w' : World) → Step w e r w' → is_drain e ≡ false → writes_of r ≤ one_if (is_write w e)
+pub step_counts : (w : World) (e : model.Event) (r : model.Reply) (w' : World) → Step w e r w' → is_drain e ≡ false → writes_by e r ≤ one_if (is_write w e)
 step_counts w (model.Client fs c) r w' step other = after_counts w (model.Client fs c) r w' step other
 step_counts w (model.Begin b) r w' step other = after_counts w (model.Begin b) r w' step other
 step_counts w (model.Land b) r w' step other = after_counts w (model.Land b) r w' step other
 step_counts w (model.Fail b stays) r w' step other = after_counts w (model.Fail b stays) r w' step other
+step_counts w (model.Sync b) r w' step other = after_counts w (model.Sync b) r w' step other
+step_counts w (model.FailSync b) r w' step other = after_counts w (model.FailSync b) r w' step other
 step_counts w (model.Finish b) r w' step other = after_counts w (model.Finish b) r w' step other
-step_counts w model.Crash r w' step other = elim step.2 [
+step_counts w (model.Crash kept) r w' step other = elim step.2 [
   | inl mounted ↦ let none = ap writes_of mounted.0 in omega (arith, none)
   | inr down ↦ let none = ap writes_of down.0 in omega (arith, none)
 ]
@@ -95,8 +103,10 @@ held_back w (model.Client fs c) is = absurd (false≢true is)
 held_back w (model.Begin b) is = absurd (false≢true is)
 held_back w (model.Land b) is = (is, refl, refl)
 held_back w (model.Fail b stays) is = (is, refl, refl)
+held_back w (model.Sync b) is = absurd (false≢true is)
+held_back w (model.FailSync b) is = absurd (false≢true is)
 held_back w (model.Finish b) is = absurd (false≢true is)
-held_back w model.Crash is = absurd (false≢true is)
+held_back w (model.Crash kept) is = absurd (false≢true is)
 
 -- Drains that are refused
 
@@ -128,18 +138,21 @@ down_ticket : (w : World) (g : Option ℕ) (go : ℕ → model.Reply × World) �
 down_ticket w None go each = refl
 down_ticket w (Some k) go each = each k
 
--- begin, land and finish write a block out
-pub wrote : (w w1 w2 w3 : World) (b : ℕ) (r1 r2 r3 : model.Reply) → w.down ≡ false → Step w (model.Begin b) r1 w1 → Step w1 (model.Land b) r2 w2 → Step w2 (model.Finish b) r3 w3 →
-    (w3 ≡ write_out w b) × (w3.down ≡ false)
-wrote w w1 w2 w3 b r1 r2 r3 up begins lands finishes =
+-- begin, land, sync and finish write a block out
+pub wrote : (w w1 w2 w3 w4 : World) (b : ℕ) (r1 r2 r3 r4 : model.Reply) → w.down ≡ false → Step w (model.Begin b) r1 w1 → Step w1 (model.Land b) r2 w2 → Step w2 (model.Sync b) r3 w3 →
+    Step w3 (model.Finish b) r4 w4 → (w4 ≡ write_out w b) × (w4.down ≡ false)
+wrote w w1 w2 w3 w4 b r1 r2 r3 r4 up begins lands syncs finishes =
     let one = (acts w (model.Begin b) r1 w1 begins refl up refl).1 in
     let up1 : w1.down ≡ false = ap (λ (v : World). v.down) one ∙ (down_result (λ begun. model.Begun begun.1) w (begun_of w.state b) ∙ up) in
     let two = (acts w1 (model.Land b) r2 w2 lands refl up1 refl).1 in
     let up2 : w2.down ≡ false = ap (λ (v : World). v.down) two ∙ (down_ticket w1 (begun_count (life_at w1.state.lives b)) _ (λ k. refl) ∙ up1) in
-    let three = (acts w2 (model.Finish b) r3 w3 finishes refl up2 refl).1 in
-    let up3 : w3.down ≡ false = ap (λ (v : World). v.down) three ∙ (down_ticket w2 (begun_count (life_at w2.state.lives b)) _
-    (λ k. down_result (λ done. model.Finished done.0 done.1) w2 (settled_of w2.state b (block_of w2.image b))) ∙ up2) in
-    (three ∙ (ap (λ v. (model.finish v b).1) two ∙ ap (λ v. (model.finish (model.land v b).1 b).1) one), up3)
+    let three = (acts w2 (model.Sync b) r3 w3 syncs refl up2 refl).1 in
+    let up3 : w3.down ≡ false = ap (λ (v : World). v.down) three ∙ (down_ticket w2 (begun_count (life_at w2.state.lives b)) _ (λ k. refl) ∙ up2) in
+    let four = (acts w3 (model.Finish b) r4 w4 finishes refl up3 refl).1 in
+    let up4 : w4.down ≡ false = ap (λ (v : World). v.down) four ∙ (down_ticket w3 (begun_count (life_at w3.state.lives b)) _
+    (λ k. cond_both {A = model.Reply × World} (is_some (given_at w3.given b)) (model.Refused NotSynced, w3) (read_back w3 b) (λ x. x.1.down ≡ w3.down)
+    (λ t. refl) (λ t. down_result (λ done. model.Finished done.0 done.1) w3 (settled_of w3.state b (block_of w3.image b)))) ∙ up3) in
+    (four ∙ (ap (λ v. (model.finish v b).1) three ∙ (ap (λ v. (model.finish (model.sync v b).1 b).1) two ∙ ap (λ v. (model.finish (model.sync (model.land v b).1 b).1 b).1) one)), up4)
 
 -- what is picked
 pub picks : (w : World) (fs : ℕ) (r : model.Reply) (w' : World) → w.down ≡ false → Step w (model.Client fs model.Pick) r w' → (r ≡ model.Picked (pick_of w.state)) × (w' ≡ w)

@@ -2,6 +2,7 @@
 use Rattle.std.proofs.Common.{ℕ, List, Option, Some, None, ◌∙◌}
 use Rattle.std.specs.Io.KnownBytes.{Appends, Keeps}
 use Rattle.xnsim_words.specs.declared.invocation.Invocation.{Invocation}
+use Rattle.xnsim_words.specs.declared.invocation.Stop.{Stop}
 use Rattle.xnsim_words.specs.declared.invocation.Invocation.TheVariants.{Bare, Format, Run, Check, Asm, Verify}
 use Rattle.xnsim_programs.specs.Assembling.{PrintsTemplate}
 use Rattle.xnsim_line.specs.Done.{IsDone, IsLineDone}
@@ -28,15 +29,15 @@ module _ (old mid new : Option (List ℕ)) (flushed : Keeps mid new) where
   mounted_kept image events after run =
       record { sound = run.sound; run = run_kept _ events after run.run }
 
-  stopped_kept : (from : World) (events : List Event) (limit : ℕ) (image : List ℕ) → IsStoppedRun from events limit old mid image → IsStoppedRun from events limit old new image
-  stopped_kept from events limit image run = record {
+  stopped_kept : (from : World) (events : List Event) (stop : Stop) (image : List ℕ) → IsStoppedRun from events stop old mid image → IsStoppedRun from events stop old new image
+  stopped_kept from events stop image run = record {
     done = run.done;
     rest = run.rest;
     all = run.all;
     replies = run.replies;
     before = run.before;
     run = run.run;
-    left = run.left;
+    writes_left = run.writes_left;
     counted = run.counted;
     after = run.after;
     end = run.end;
@@ -44,9 +45,9 @@ module _ (old mid new : Option (List ℕ)) (flushed : Keeps mid new) where
     reached = run.reached;
   }
 
-  asked_kept : (stop : Option ℕ) (image : List ℕ) (events : List Event) (after : List ℕ) → IsAskedRun stop image events old mid after → IsAskedRun stop image events old new after
+  asked_kept : (stop : Option Stop) (image : List ℕ) (events : List Event) (after : List ℕ) → IsAskedRun stop image events old mid after → IsAskedRun stop image events old new after
   asked_kept None image events after run = mounted_kept image events after run
-  asked_kept (Some limit) image events after run = record { sound = run.sound; run = stopped_kept _ events limit after run.run }
+  asked_kept (Some stop) image events after run = record { sound = run.sound; run = stopped_kept _ events stop after run.run }
 
   template_kept : (held held_after : Held) (block_name owns_text size_text : List ℕ) →
       PrintsTemplate held held_after block_name owns_text size_text old mid → PrintsTemplate held held_after block_name owns_text size_text old new

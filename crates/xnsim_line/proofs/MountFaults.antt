@@ -3,9 +3,10 @@ use Rattle.std.proofs.Common.{ℕ, List, Bor, Option, None}
 use Rattle.xnsim_words.specs.declared.fault.Fault.{Fault}
 use Rattle.xnsim_words.specs.declared.fault.Fault.TheVariants.{Usage, CannotRead, Unreadable, Image, CannotWrite, NoMemory, Program, Owns, Size, Template, TooManyTemplates, TooManyWords, Stream}
 use Rattle.xnsim_words.specs.declared.invocation.Invocation.TheVariants.{Run}
+use Rattle.xnsim_words.specs.declared.invocation.Stop.{Stop}
 use Rattle.xnsim_line.specs.Done.{IsFaultOf, IsMountFault, IsRunFault}
 
-pub mount_fault : (image script : Bor (List ℕ)) (stop : Option ℕ) (bytes : List ℕ) (fault : Fault) → IsMountFault bytes fault → IsFaultOf None (Run image script stop) fault
+pub mount_fault : (image script : Bor (List ℕ)) (stop : Option Stop) (bytes : List ℕ) (fault : Fault) → IsMountFault bytes fault → IsFaultOf None (Run image script stop) fault
 mount_fault image script stop bytes Usage h = absurd h
 mount_fault image script stop bytes (CannotRead name) h = absurd h
 mount_fault image script stop bytes (Unreadable line) h = absurd h

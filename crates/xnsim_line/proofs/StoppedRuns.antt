@@ -7,7 +7,7 @@ use Rattle.std.proofs.lemmas.Bool.{false≢true}
 use Rattle.std.proofs.lemmas.List.{map-append, append-nil}
 use Rattle.xn_model.specs.Images.{blocks_in, joined}
 use Rattle.xn_model.specs.Worlds as model
-use Rattle.xn_model.specs.Worlds.{World, Step}
+use Rattle.xn_model.specs.Worlds.{World, Step, Run}
 use Rattle.image_model.specs.Report.{IsSoundImage}
 use Rattle.crash_check.specs.Answers.{types_in}
 use Rattle.events.specs.declared.reply.Reply.{Reply}
@@ -16,7 +16,8 @@ use Rattle.events.specs.Events.{event_of, reply_of}
 use Rattle.script.specs.Replies.{reply_line}
 use Rattle.script.specs.Scripts.{AllSpell, LineSpells, SpellEvents}
 use Rattle.script.proofs.ForCallers.{zip_all, zip_more}
-use Rattle.xnsim_line.specs.Stops.{writes_of, writes_in, end_line, IsAskedOn, IsAskedRun, IsHeldBack, IsLineHeldBack, IsLineWithin, IsStoppedRun}
+use Rattle.xnsim_words.specs.declared.invocation.Stop.{Stop}
+use Rattle.xnsim_line.specs.Stops.{writes_by, writes_in, end_line, image_left, IsAskedOn, IsAskedRun, IsHeldBack, IsLineHeldBack, IsLineWithin, IsStoppedRun}
 use Rattle.xnsim_line.specs.Runs.{opened_world, IsPrintedRun, IsRun, RunsLines}
 use Rattle.xnsim_line.proofs.SpelledLines.{rest_spelled}
 use Rattle.xnsim_line.proofs.ScriptRuns.{nothing_printed, printed_more, printed_one_more, ran_one_more}
@@ -26,11 +27,15 @@ pub record IsRunWithin (from : World) (events : List Event) (limit : ℕ) (old n
   pub replies : List Reply
   pub run : IsRun from events replies after
   pub printed : Appends old new (flat_map reply_line replies)
-  pub counted : writes_in (map reply_of replies) + left ≡ limit
+  pub counted : writes_in (map event_of events) (map reply_of replies) + left ≡ limit
 
-writes_on : (rs qs : List model.Reply) → writes_in (rs ++ qs) ≡ writes_in rs + writes_in qs
-writes_on [] qs = omega arith
-writes_on (r ∷ rs) qs = let rest = writes_on rs qs in omega (arith, rest)
+-- one event more, of a run
+writes_on : (w : World) (es : List model.Event) (rs : List model.Reply) (after : World) (e : model.Event) (r : model.Reply) → Run w es rs after →
+    writes_in (es ++ e ∷ []) (rs ++ r ∷ []) ≡ writes_in es rs + writes_by e r
+writes_on w [] [] after e r run = omega arith
+writes_on w [] (q ∷ rs) after e r run = absurd run
+writes_on w (d ∷ es) [] after e r run = absurd run
+writes_on w (d ∷ es) (q ∷ rs) after e r run = let rest = writes_on run.0 es rs after e r run.2 in omega (arith, rest)
 
 -- before the first event
 pub none_within : (from : World) (limit : ℕ) (old : Option (List ℕ)) → IsRunWithin from [] limit old old from limit
@@ -38,31 +43,32 @@ none_within from limit old = record { replies = []; run = refl; printed = nothin
 
 -- one event more
 pub one_within : (from : World) (events : List Event) (event : Event) (limit : ℕ) (old mid new : Option (List ℕ)) (before after : World) (reply : Reply) (left rest : ℕ) →
-    Step before (event_of event) (reply_of reply) after → writes_of (reply_of reply) + rest ≡ left → Appends mid new (reply_line reply) →
+    Step before (event_of event) (reply_of reply) after → writes_by (event_of event) (reply_of reply) + rest ≡ left → Appends mid new (reply_line reply) →
     IsRunWithin from events limit old mid before left → IsRunWithin from (events ++ event ∷ []) limit old new after rest
 one_within from events event limit old mid new before after reply left rest step spent printed so_far =
+    let sent = map-append event_of events (event ∷ []) in
     let told = map-append reply_of so_far.replies (reply ∷ []) in
-    let sum = writes_on (map reply_of so_far.replies) (reply_of reply ∷ []) in
+    let sum = writes_on from (map event_of events) (map reply_of so_far.replies) before (event_of event) (reply_of reply) so_far.run in
     let first = so_far.counted in
-    let all : writes_in (map reply_of so_far.replies ++ reply_of reply ∷ []) + rest ≡ limit = omega (arith, sum, first, spent) in
+    let all : writes_in (map event_of events ++ event_of event ∷ []) (map reply_of so_far.replies ++ reply_of reply ∷ []) + rest ≡ limit = omega (arith, sum, first, spent) in
     record {
       replies = so_far.replies ++ reply ∷ [];
       run = ran_one_more from events event so_far.replies reply before after step so_far.run;
       printed = printed_one_more so_far.replies reply old mid new so_far.printed printed;
-      counted = ap (λ rs. writes_in rs + rest) told ∙ all;
+      counted = rw (sent, told) all;
     }
 
 -- all events were run
-pub ran_to_end : (from : World) (events rest all : List Event) (limit : ℕ) (old new : Option (List ℕ)) (after : World) (left : ℕ) (image : List ℕ) →
-    IsRunWithin from events limit old new after left → events ++ rest ≡ all → rest ≡ [] → image ≡ joined after.image → IsStoppedRun from all limit old new image
-ran_to_end from events rest all limit old new after left image run whole none reached = record {
+pub ran_to_end : (from : World) (events rest all : List Event) (stop : Stop) (old new : Option (List ℕ)) (after : World) (left : ℕ) (image : List ℕ) →
+    IsRunWithin from events stop.writes old new after left → events ++ rest ≡ all → rest ≡ [] → image ≡ joined after.image → IsStoppedRun from all stop old new image
+ran_to_end from events rest all stop old new after left image run whole none reached = record {
   done = events;
   rest = [];
   all = ap (λ more. events ++ more) (sym none) ∙ whole;
   replies = run.replies;
   before = after;
   run = run.run;
-  left = left;
+  writes_left = left;
   counted = run.counted;
   after = after;
   end = refl;
@@ -71,17 +77,17 @@ ran_to_end from events rest all limit old new after left image run whole none re
 }
 
 -- one of them is held back
-pub ran_to_stop : (from : World) (events : List Event) (event : Event) (rest all : List Event) (limit : ℕ) (old mid new : Option (List ℕ)) (before after : World) (left : ℕ) (image : List ℕ) →
-    IsRunWithin from events limit old mid before left → events ++ event ∷ rest ≡ all → IsHeldBack before (event_of event) left after → Appends mid new (end_line (event ∷ rest)) →
-    image ≡ joined after.image → IsStoppedRun from all limit old new image
-ran_to_stop from events event rest all limit old mid new before after left image run whole held printed reached = record {
+pub ran_to_stop : (from : World) (events : List Event) (event : Event) (rest all : List Event) (stop : Stop) (old mid new : Option (List ℕ)) (before after : World) (left : ℕ) (image : List ℕ) →
+    IsRunWithin from events stop.writes old mid before left → events ++ event ∷ rest ≡ all → IsHeldBack before (event_of event) left after → Appends mid new (end_line (event ∷ rest)) →
+    image ≡ joined (image_left stop.loses (event ∷ rest) after) → IsStoppedRun from all stop old new image
+ran_to_stop from events event rest all stop old mid new before after left image run whole held printed reached = record {
   done = events;
   rest = event ∷ rest;
   all = whole;
   replies = run.replies;
   before = before;
   run = run.run;
-  left = left;
+  writes_left = left;
   counted = run.counted;
   after = after;
   end = held;
@@ -110,21 +116,22 @@ line_within from lines place default limit old mid new before after left rest wi
 }
 
 -- after the last line
-pub lines_to_end : (from : World) (lines : List (Bor (List ℕ))) (place limit : ℕ) (old new : Option (List ℕ)) (after : World) (left : ℕ) → length lines ≤ place →
-    AreLinesWithin from (take place (map (λ line. line.now) lines)) limit old new after left →
-    RunsLines (map (λ line. line.now) lines) (λ events. IsStoppedRun from events limit old new (joined after.image))
-lines_to_end from lines place limit old new after left past so_far = (
+pub lines_to_end : (from : World) (lines : List (Bor (List ℕ))) (place : ℕ) (stop : Stop) (old new : Option (List ℕ)) (after : World) (left : ℕ) → length lines ≤ place →
+    AreLinesWithin from (take place (map (λ line. line.now) lines)) stop.writes old new after left →
+    RunsLines (map (λ line. line.now) lines) (λ events. IsStoppedRun from events stop old new (joined after.image))
+lines_to_end from lines place stop old new after left past so_far = (
   so_far.events,
   zip_all LineSpells lines place so_far.events past so_far.spelled,
-  ran_to_end from so_far.events [] so_far.events limit old new after left (joined after.image) so_far.ran (append-nil so_far.events) refl refl,
+  ran_to_end from so_far.events [] so_far.events stop old new after left (joined after.image) so_far.ran (append-nil so_far.events) refl refl,
 )
 
 -- at a line whose event is held back
-pub lines_to_stop : (from : World) (lines : List (Bor (List ℕ))) (place : ℕ) (default : Bor (List ℕ)) (limit : ℕ) (old mid new : Option (List ℕ)) (before after : World) (left : ℕ) →
+pub lines_to_stop : (from : World) (lines : List (Bor (List ℕ))) (place : ℕ) (default : Bor (List ℕ)) (stop : Stop) (old mid new : Option (List ℕ)) (before after : World) (left : ℕ)
+    (last : List (List ℕ)) → ((event : Event) (rest : List Event) → last ≡ image_left stop.loses (event ∷ rest) after) →
     place < length lines → IsLineHeldBack before (get_or lines place default).now left mid new after → SpellEvents (map (λ line. line.now) lines) →
-    AreLinesWithin from (take place (map (λ line. line.now) lines)) limit old mid before left →
-    RunsLines (map (λ line. line.now) lines) (λ events. IsStoppedRun from events limit old new (joined after.image))
-lines_to_stop from lines place default limit old mid new before after left within one given so_far =
+    AreLinesWithin from (take place (map (λ line. line.now) lines)) stop.writes old mid before left →
+    RunsLines (map (λ line. line.now) lines) (λ events. IsStoppedRun from events stop old new (joined last))
+lines_to_stop from lines place default stop old mid new before after left last ends within one given so_far =
     let texts = map (λ (line : Bor (List ℕ)). line.now) lines in
     let event = one.event in
     let rest = drop (place + 1) given.0 in
@@ -132,23 +139,23 @@ lines_to_stop from lines place default limit old mid new before after left withi
     let whole = rest_spelled texts (place + 1) (so_far.events ++ event ∷ []) first given in (
       so_far.events ++ event ∷ rest,
       subst (AllSpell texts) (append_assoc so_far.events (event ∷ []) rest) whole,
-      ran_to_stop from so_far.events event rest (so_far.events ++ event ∷ rest) limit old mid new before after left (joined after.image) so_far.ran refl one.held one.printed refl,
+      ran_to_stop from so_far.events event rest (so_far.events ++ event ∷ rest) stop old mid new before after left (joined last) so_far.ran refl one.held one.printed (ap joined (ends event rest)),
     )
 
 -- what was run on an image, to its end or to a stop, was run on a sound one
-pub asked_sound : (stop : Option ℕ) (image : List ℕ) (events : List Event) (old new : Option (List ℕ)) (after : List ℕ) → IsAskedRun stop image events old new after →
+pub asked_sound : (stop : Option Stop) (image : List ℕ) (events : List Event) (old new : Option (List ℕ)) (after : List ℕ) → IsAskedRun stop image events old new after →
     IsSoundImage (types_in (blocks_in image)) image
 asked_sound None image events old new after run = run.sound
-asked_sound (Some limit) image events old new after run = run.sound
+asked_sound (Some stop) image events old new after run = run.sound
 
 -- what was run on the world of a sound image was run on that image
-pub asked_run : (stop : Option ℕ) (image : List ℕ) (from : World) (lines : List (List ℕ)) (old new : Option (List ℕ)) (last after : List ℕ) →
+pub asked_run : (stop : Option Stop) (image : List ℕ) (from : World) (lines : List (List ℕ)) (old new : Option (List ℕ)) (last after : List ℕ) →
     IsSoundImage (types_in (blocks_in image)) image → from ≡ opened_world image → after ≡ last →
     RunsLines lines (λ events. IsAskedOn stop from events old new last) → RunsLines lines (λ events. IsAskedRun stop image events old new after)
 asked_run None image from lines old new last after sound opened same run =
     (run.0, run.1, record { sound = sound; run = subst (λ w. IsPrintedRun w run.0 old new after) opened (subst (IsPrintedRun from run.0 old new) (sym same) run.2) })
-asked_run (Some limit) image from lines old new last after sound opened same run =
-    (run.0, run.1, record { sound = sound; run = subst (λ w. IsStoppedRun w run.0 limit old new after) opened (subst (IsStoppedRun from run.0 limit old new) (sym same) run.2) })
+asked_run (Some stop) image from lines old new last after sound opened same run =
+    (run.0, run.1, record { sound = sound; run = subst (λ w. IsStoppedRun w run.0 stop old new after) opened (subst (IsStoppedRun from run.0 stop old new) (sym same) run.2) })
 
 -- what was run on a fresh world
 pub printed_run : (from start : World) (lines : List (List ℕ)) (old new : Option (List ℕ)) (last after : List ℕ) → from ≡ start → after ≡ last →

@@ -3,6 +3,7 @@ use Rattle.std.specs.Prelude.{◌≡◌, ◌⊎◌, ⊤, ℕ, List, [], length, 
 use Rattle.templates.specs.Templates.{TemplateValue}
 use Rattle.events.specs.declared.event.Event.{Event}
 use Rattle.xnsim_words.specs.declared.invocation.Invocation.{Invocation}
+use Rattle.xnsim_words.specs.declared.invocation.Stop.{Stop}
 use Rattle.xnsim_words.specs.declared.invocation.Invocation.TheVariants.{Bare, Format, Run, Check, Asm, Verify}
 use Rattle.xnsim_words.specs.declared.fault.Fault.{Fault}
 use Rattle.xnsim_words.specs.declared.fault.Fault.TheVariants.{Usage, CannotRead, Unreadable, Image, CannotWrite, NoMemory, Program, Owns, Size, Template, TooManyTemplates, TooManyWords, Stream}
@@ -29,7 +30,7 @@ pub record PrintsReplies (known : Option (List ℕ)) (blocks : ℕ) (templates :
 
 -- the script of a file was run on the disk of a file's image, which is sound, to its end or to a stop, its replies printed, and
 -- what is then on the disk written back
-pub record PrintsMounted (held held_after : Held) (image_name script_name : List ℕ) (stop : Option ℕ) (old new : Option (List ℕ)) : Type 0 where
+pub record PrintsMounted (held held_after : Held) (image_name script_name : List ℕ) (stop : Option Stop) (old new : Option (List ℕ)) : Type 0 where
   pub image : List ℕ
   pub text : List ℕ
   pub events : List Event

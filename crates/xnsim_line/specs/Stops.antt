@@ -1,5 +1,5 @@
 -- Runs of scripts up to a stop.
-use Rattle.std.specs.Prelude.{◌≡◌, ℕ, ◌+◌, Bool, true, false, is_some, List, [], ◌∷◌, ◌++◌, map, Option, None, Some, codes}
+use Rattle.std.specs.Prelude.{◌≡◌, ℕ, ◌+◌, Bool, true, false, cond, is_some, List, [], ◌∷◌, ◌++◌, map, Option, None, Some, codes}
 use Rattle.std.specs.List.{flat_map}
 use Rattle.std.specs.Io.KnownBytes.{Appends}
 use Rattle.xn_model.specs.Worlds as model
@@ -15,6 +15,7 @@ use Rattle.events.specs.Events.{event_of, reply_of}
 use Rattle.world.specs.Worlds.{is_any_in_flight}
 use Rattle.script.specs.Replies.{reply_line}
 use Rattle.script.specs.Scripts.{LineSpells}
+use Rattle.xnsim_words.specs.declared.invocation.Stop.{Stop}
 use Rattle.xnsim_line.specs.Runs.{opened_world, IsMountedRun, IsPrintedRun, IsRun, IsRunLine}
 
 -- how many block writes a reply tells
@@ -24,9 +25,19 @@ writes_of model.Fault = 1
 writes_of (model.Drained writes) = writes
 writes_of _ = 0
 
-abbrev pub writes_in : List model.Reply → ℕ
-writes_in [] = 0
-writes_in (r ∷ rs) = writes_of r + writes_in rs
+-- a sync that fails
+abbrev pub is_failed_sync : model.Event → Bool
+is_failed_sync (model.FailSync b) = true
+is_failed_sync _ = false
+
+-- how many block writes came of an event; a sync that fails is no block write
+abbrev pub writes_by : model.Event → model.Reply → ℕ
+writes_by e r = cond (is_failed_sync e) 0 (writes_of r)
+
+abbrev pub writes_in : List model.Event → List model.Reply → ℕ
+writes_in [] rs = 0
+writes_in (e ∷ es) [] = 0
+writes_in (e ∷ es) (r ∷ rs) = writes_by e r + writes_in es rs
 
 -- a client's drain
 abbrev pub is_drain : model.Event → Bool
@@ -61,26 +72,31 @@ abbrev pub end_line : List Event → List ℕ
 end_line [] = []
 end_line (event ∷ rest) = codes "stopped" ++ 10 ∷ []
 
+-- what is on the disk where a run ends: the newest bytes, or those that are settled where a stop loses the others
+abbrev pub image_left : Bool → List Event → World → List (List ℕ)
+image_left loses [] w = w.image
+image_left loses (event ∷ rest) w = cond loses (model.left w []) w.image
+
 -- What was printed by a run up to a stop, and what is then on the disk: all events were run, or those before the one of which a block
 -- write would have come after so many in all.
-pub record IsStoppedRun (from : World) (events : List Event) (limit : ℕ) (old new : Option (List ℕ)) (image : List ℕ) : Type 0 where
+pub record IsStoppedRun (from : World) (events : List Event) (stop : Stop) (old new : Option (List ℕ)) (image : List ℕ) : Type 0 where
   pub done : List Event
   pub rest : List Event
   pub all : done ++ rest ≡ events
   pub replies : List Reply
   pub before : World
   pub run : IsRun from done replies before
-  pub left : ℕ
-  pub counted : writes_in (map reply_of replies) + left ≡ limit
+  pub writes_left : ℕ
+  pub counted : writes_in (map event_of done) (map reply_of replies) + writes_left ≡ stop.writes
   pub after : World
-  pub end : IsEnd before rest left after
+  pub end : IsEnd before rest writes_left after
   pub printed : Appends old new (flat_map reply_line replies ++ end_line rest)
-  pub reached : image ≡ joined after.image
+  pub reached : image ≡ joined (image_left stop.loses rest after)
 
 -- a line spells an event, which was run on this world and its reply printed; so many block writes may come after those of the reply
 pub record IsLineWithin (from : World) (line : List ℕ) (left : ℕ) (old new : Option (List ℕ)) (after : World) (rest : ℕ) : Type 0 where
   pub run : IsRunLine from line old new after
-  pub counted : writes_of (reply_of run.reply) + rest ≡ left
+  pub counted : writes_by (event_of run.event) (reply_of run.reply) + rest ≡ left
 
 -- a line spells an event that is held back, and `stopped` was printed
 pub record IsLineHeldBack (from : World) (line : List ℕ) (left : ℕ) (old new : Option (List ℕ)) (after : World) : Type 0 where
@@ -90,16 +106,16 @@ pub record IsLineHeldBack (from : World) (line : List ℕ) (left : ℕ) (old new
   pub printed : Appends old new (codes "stopped" ++ 10 ∷ [])
 
 -- a run on a world, to its end or to a stop
-abbrev pub IsAskedOn : Option ℕ → World → List Event → Option (List ℕ) → Option (List ℕ) → List ℕ → Type 0
+abbrev pub IsAskedOn : Option Stop → World → List Event → Option (List ℕ) → Option (List ℕ) → List ℕ → Type 0
 IsAskedOn None from events old new image = IsPrintedRun from events old new image
-IsAskedOn (Some limit) from events old new image = IsStoppedRun from events limit old new image
+IsAskedOn (Some stop) from events old new image = IsStoppedRun from events stop old new image
 
 -- such a run on the disk of an image, which is sound
-pub record IsMountedStop (image : List ℕ) (events : List Event) (limit : ℕ) (old new : Option (List ℕ)) (after : List ℕ) : Type 0 where
+pub record IsMountedStop (image : List ℕ) (events : List Event) (stop : Stop) (old new : Option (List ℕ)) (after : List ℕ) : Type 0 where
   pub sound : IsSoundImage (types_in (blocks_in image)) image
-  pub run : IsStoppedRun (opened_world image) events limit old new after
+  pub run : IsStoppedRun (opened_world image) events stop old new after
 
 -- a run on the disk of an image, to its end or to a stop
-abbrev pub IsAskedRun : Option ℕ → List ℕ → List Event → Option (List ℕ) → Option (List ℕ) → List ℕ → Type 0
+abbrev pub IsAskedRun : Option Stop → List ℕ → List Event → Option (List ℕ) → Option (List ℕ) → List ℕ → Type 0
 IsAskedRun None image events old new after = IsMountedRun image events old new after
-IsAskedRun (Some limit) image events old new after = IsMountedStop image events limit old new after
+IsAskedRun (Some stop) image events old new after = IsMountedStop image events stop old new after

@@ -22,7 +22,7 @@ use udf_verify::Role;
 use xnsim_programs::{
     all_templates, made_image, make_template, print_template, read_files, verify_text,
 };
-use xnsim_words::{Fault, Files, Invocation, read};
+use xnsim_words::{Fault, Files, Invocation, Stop, read};
 
 /// How many bytes the image of the largest disk has.
 const GREATEST_IMAGE_LEN: usize = BLOCK_LEN * MAX_BLOCKS as usize;
@@ -104,7 +104,7 @@ fn run_files<'a, F: Files, W: Write>(
     out: &mut W,
     image: &'a str,
     script: &'a str,
-    stop: Option<u64>,
+    stop: Option<Stop>,
 ) -> Result<(), Fault<'a>>
     ensures done { OnOk result (PrintsMounted (F.held files.old) (F.held files.new) image.entry.now script.entry.now stop (W.contents out.old) (W.contents out.new)) }
     ensures fault { IfErr result (IsFaultOf None (Invocation.Run image.entry script.entry stop)) }

@@ -15,7 +15,7 @@ use std::io::Write;
 use std::thread::Threads;
 use templates::{FormatFault, Template};
 use world::{Reply, World};
-use xnsim_words::Fault;
+use xnsim_words::{Fault, Stop};
 
 /// The first mount of a fresh disk.
 fn fresh_world(
@@ -84,7 +84,7 @@ fn run_asked<'a, W: Write>(
     alloc: Global,
     world: &mut World,
     lines: &[&str],
-    stop: Option<u64>,
+    stop: Option<Stop>,
     out: &mut W,
 ) -> Result<(), Fault<'a>>
     requires { SpellEvents (map (λ line. line.now) lines.now) }
@@ -93,18 +93,22 @@ fn run_asked<'a, W: Write>(
 {
     match stop {
         None => run_lines(rt, alloc, world, lines, out),
-        Some(limit) => run_lines_until(rt, alloc, world, lines, limit, out),
+        Some(stop) => run_lines_until(rt, alloc, world, lines, stop, out),
     }
 }
 
-/// The bytes that are on the disk after a run.
-fn end_run<'a>(world: World, ran: Result<(), Fault<'a>>) -> Result<Vec<u8>, Fault<'a>>
+/// The bytes that are on the disk after a run, in the memory of these where that is enough.
+fn end_run<'a>(
+    world: World,
+    ran: Result<(), Fault<'a>>,
+    room: Vec<u8>,
+) -> Result<Vec<u8>, Fault<'a>>
     requires { IfErr ran IsRunFault }
     ensures ran { OnOk result (IsOk ran.entry) }
     ensures image { IfOk result (λ image. image.items ≡ joined world.image) }
     ensures fault { IfErr result IsRunFault }
 {
-    let image = world.image();
+    let image = world.image_into(room);
     drop(world);
     ran?;
     Ok(image?)
@@ -128,7 +132,7 @@ pub fn run_script<'a, W: Write>(
 {
     let mut world = fresh_world(rt, alloc, blocks, templates)?;
     let ran = run_lines(rt, alloc, &mut world, lines, out);
-    end_run(world, ran)
+    end_run(world, ran, Vec::new(alloc))
 }
 
 /// Runs the events that these lines spell on the disk of a sound image, to their end or to a stop before the block write that comes after so many,
@@ -138,7 +142,7 @@ pub fn run_on_image<'a, W: Write>(
     alloc: Global,
     image: Vec<u8>,
     lines: &[&str],
-    stop: Option<u64>,
+    stop: Option<Stop>,
     out: &mut W,
 ) -> Result<Vec<u8>, Fault<'a>>
     requires lines { SpellEvents (map (λ line. line.now) lines.now) }
@@ -146,12 +150,10 @@ pub fn run_on_image<'a, W: Write>(
     ensures fault { IfErr result (IsMountFault image.items) }
 {
     let opened = World::open(rt, alloc, image.as_slice());
-    // The world has bytes of its own, and those after the run may take this memory.
-    drop(image);
     match opened {
         Ok(mut world) => {
             let ran = run_asked(rt, alloc, &mut world, lines, stop, out);
-            end_run(world, ran)
+            end_run(world, ran, image)
         }
         Err(fault) => Err(Fault::Image(fault)),
     }

@@ -1,6 +1,6 @@
 // A script is run up to a stop: it ends immediately before the block write that comes after so many.
 
-ghost use Rattle.std.specs.Prelude.{◌≡◌, ◌+◌, ◌++◌, ◌∷◌, ◌<◌, ◌≤◌, ◌^◌, [], codes, map, false, IfErr, IfNone, IfOk, IfSome, IsTrue, MatchBool, OnOk};
+ghost use Rattle.std.specs.Prelude.{◌≡◌, ◌+◌, ◌++◌, ◌∷◌, ◌<◌, ◌≤◌, ◌^◌, [], codes, cond, map, false, IfErr, IfNone, IfOk, IfSome, IsTrue, MatchBool, OnOk};
 ghost use Rattle.std.specs.Io.KnownBytes.{Appends};
 ghost use Rattle.xn_model.specs.Calls.{pick_of};
 ghost use Rattle.xn_model.specs.Images.{joined};
@@ -11,7 +11,7 @@ ghost use Rattle.events.specs.Events.{event_of, reply_of};
 ghost use Rattle.world.specs.Worlds.{is_any_in_flight, world_with};
 ghost use Rattle.xnsim_line.specs.Done.{IsRunFault};
 ghost use Rattle.xnsim_line.specs.Runs.{RunsLines};
-ghost use Rattle.xnsim_line.specs.Stops.{is_drain, is_write, writes_of, IsHeldBack, IsLineHeldBack, IsLineWithin, IsStoppedRun};
+ghost use Rattle.xnsim_line.specs.Stops.{is_drain, is_write, writes_by, IsHeldBack, IsLineHeldBack, IsLineWithin, IsStoppedRun};
 
 use script::{parse_line, print_reply};
 use std::alloc::Global;
@@ -20,7 +20,7 @@ use std::io::Write;
 use std::thread::Threads;
 use world::{Answer, Call, Event, Reply, World};
 use xn_state::Fs;
-use xnsim_words::Fault;
+use xnsim_words::{Fault, Stop};
 
 /// Prints that the run stopped.
 fn print_stopped<W: Write>(out: &mut W) -> io::Result<()>
@@ -52,10 +52,13 @@ fn drained_by(event: &Event) -> Option<Fs>
     }
 }
 
-/// How many block writes a reply tells.
-fn writes_in(reply: &Reply) -> u32
-    ensures { result ≡ writes_of (reply_of reply.now) }
+/// How many block writes came of an event with this reply. A sync that fails is none.
+fn writes_by(event: &Event, reply: &Reply) -> u32
+    ensures { result ≡ writes_by (event_of event.now) (reply_of reply.now) }
 {
+    if let Event::FailSync(_) = event {
+        return 0;
+    }
     match reply {
         Reply::Landed | Reply::Fault => 1,
         Reply::Answered(Answer::Drain(Ok(writes))) => *writes,
@@ -83,6 +86,7 @@ fn write_out(rt: &(impl Threads + Sync), world: &mut World, block: u32)
 {
     let _begun = world.step(rt, &Event::Begin(block));
     let _landed = world.step(rt, &Event::Land(block));
+    let _synced = world.step(rt, &Event::Sync(block));
     let _finished = world.step(rt, &Event::Finish(block));
 }
 
@@ -109,12 +113,13 @@ fn step_counted(
     event: &Event,
     left: &mut u64,
 ) -> Reply
-    requires { (reply : model.Reply) (after : model.World) → model.Step (world_with world.old) (event_of event.now) reply after → writes_of reply < 2 ^ 32 → writes_of reply ≤ left.old }
+    requires { (reply : model.Reply) (after : model.World) → model.Step (world_with world.old) (event_of event.now) reply after →
+        writes_by (event_of event.now) reply < 2 ^ 32 → writes_by (event_of event.now) reply ≤ left.old }
     ensures step { model.Step (world_with world.old) (event_of event.now) (reply_of result) (world_with world.new) }
-    ensures counted { writes_of (reply_of result) + left.new ≡ left.old }
+    ensures counted { writes_by (event_of event.now) (reply_of result) + left.new ≡ left.old }
 {
     let reply = world.step(rt, event);
-    *left -= u64::from(writes_in(&reply));
+    *left -= u64::from(writes_by(event, &reply));
     reply
 }
 
@@ -130,7 +135,7 @@ fn drain_counted(
     requires calm { is_any_in_flight world.old.state ≡ false }
     requires limit { left.old ≡ limit }
     ensures some { IfSome result (λ reply. model.Step (world_with world.old) (model.Client fs.number model.Drain) (reply_of reply) (world_with world.new)
-        × (writes_of (reply_of reply) + left.new ≡ left.old)) }
+        × (writes_by (model.Client fs.number model.Drain) (reply_of reply) + left.new ≡ left.old)) }
     ensures none { IfNone result (IsHeldBack (world_with world.old) (model.Client fs.number model.Drain) left.old (world_with world.new)) }
 {
     world.rules();
@@ -152,7 +157,7 @@ fn drain_within(
     left: &mut u64,
 ) -> Option<Reply>
     ensures some { IfSome result (λ reply. model.Step (world_with world.old) (model.Client fs.number model.Drain) (reply_of reply) (world_with world.new)
-        × (writes_of (reply_of reply) + left.new ≡ left.old)) }
+        × (writes_by (model.Client fs.number model.Drain) (reply_of reply) + left.new ≡ left.old)) }
     ensures none { IfNone result (IsHeldBack (world_with world.old) (model.Client fs.number model.Drain) left.old (world_with world.new)) }
 {
     let drain = Event::Call(fs, Call::Drain);
@@ -177,7 +182,7 @@ fn step_within(
 ) -> Option<Reply>
     requires { is_drain (event_of event.now) ≡ false }
     ensures some { IfSome result (λ reply. model.Step (world_with world.old) (event_of event.now) (reply_of reply) (world_with world.new)
-        × (writes_of (reply_of reply) + left.new ≡ left.old)) }
+        × (writes_by (event_of event.now) (reply_of reply) + left.new ≡ left.old)) }
     ensures none { IfNone result (IsHeldBack (world_with world.old) (event_of event.now) left.old (world_with world.new)) }
 {
     if !is_write(world, event) {
@@ -197,7 +202,7 @@ fn go_on_within(
     left: &mut u64,
 ) -> Option<Reply>
     ensures some { IfSome result (λ reply. model.Step (world_with world.old) (event_of event.now) (reply_of reply) (world_with world.new)
-        × (writes_of (reply_of reply) + left.new ≡ left.old)) }
+        × (writes_by (event_of event.now) (reply_of reply) + left.new ≡ left.old)) }
     ensures none { IfNone result (IsHeldBack (world_with world.old) (event_of event.now) left.old (world_with world.new)) }
 {
     match drained_by(event) {
@@ -239,23 +244,33 @@ fn run_line_within<'a, W: Write>(
     }
 }
 
+/// Where a stop loses what is not settled, the disk has from then on what a crash leaves that keeps no open write.
+fn lose_unsettled(rt: &(impl Threads + Sync), alloc: Global, world: &mut World, stop: Stop)
+    ensures { world.new.image ≡ cond stop.loses (model.left (world_with world.old) []) world.old.image }
+{
+    if stop.loses {
+        let _mounted = world.step(rt, &Event::Crash(Vec::new(alloc)));
+    }
+}
+
 /// Runs the events that these lines spell on a world, to their end or to a stop immediately before the block write that comes after
-/// so many. Prints a reply an event, and whether the run stopped.
+/// so many, where perhaps all that is not settled is lost. Prints a reply an event, and whether the run stopped.
 pub fn run_lines_until<'a, W: Write>(
     rt: &(impl Threads + Sync),
     alloc: Global,
     world: &mut World,
     lines: &[&str],
-    limit: u64,
+    stop: Stop,
     out: &mut W,
 ) -> Result<(), Fault<'a>>
     requires { SpellEvents (map (λ line. line.now) lines.now) }
-    ensures run { OnOk result (RunsLines (map (λ line. line.now) lines.now) (λ events. IsStoppedRun (world_with world.old) events limit (W.contents out.old) (W.contents out.new) (joined world.new.image))) }
+    ensures run { OnOk result (RunsLines (map (λ line. line.now) lines.now) (λ events. IsStoppedRun (world_with world.old) events stop (W.contents out.old) (W.contents out.new) (joined world.new.image))) }
     ensures fault { IfErr result IsRunFault }
 {
-    let mut left = limit;
+    let mut left = stop.writes;
     for line in lines {
         if !run_line_within(rt, alloc, world, line, &mut left, out)? {
+            lose_unsettled(rt, alloc, world, stop);
             return Ok(());
         }
     }

@@ -1,10 +1,11 @@
-use Rattle.std.specs.Prelude.{◌≡◌, ◌≢◌, ◌<◌, ◌≤◌, ◌^◌, ◌⊎◌, ℕ, Option, None, Some, IfSome, Bool, false, if◌then◌else◌, List, [], ◌∷◌, ◌++◌, map, slice_index, codes, string_bytes, All}
+use Rattle.std.specs.Prelude.{◌≡◌, ◌≢◌, ◌<◌, ◌≤◌, ◌^◌, ◌⊎◌, ℕ, Option, None, Some, IfSome, Bool, true, false, if◌then◌else◌, List, [], ◌∷◌, ◌++◌, map, slice_index, codes, string_bytes, All}
 use Rattle.std.specs.Fmt.{decimal}
 use Rattle.clap.specs.declared.error.kind.ErrorKind.{ErrorKind}
 use Rattle.clap.specs.declared.error.kind.ErrorKind.TheVariants.{OutOfMemory}
 use Rattle.xnsim_words.specs.declared.invocation.LineFault.{LineFault}
 use Rattle.xnsim_words.specs.declared.invocation.LineFault.TheVariants.{NoMemory, Usage}
 use Rattle.xnsim_words.specs.declared.invocation.Invocation.{Invocation}
+use Rattle.xnsim_words.specs.declared.invocation.Stop.{Stop}
 use Rattle.xnsim_words.specs.declared.invocation.Invocation.TheVariants.{Bare, Format, Run, Check, Asm, Verify}
 use Rattle.udf_verify.specs.declared.fault.Role.{Role}
 use Rattle.udf_verify.specs.declared.fault.Role.TheVariants.{Owns, Size}
@@ -46,14 +47,18 @@ pub record IsTemplateWords (words : List (List ℕ)) (file_system : Bool) (names
   pub spelled : words ≡ file_system_words file_system ++ names
   pub named : All IsName names
 
--- the words behind a script: none, or after how many block writes the run is to stop
-abbrev pub stop_words : Option ℕ → List (List ℕ)
-stop_words None = []
-stop_words (Some count) = codes "--stop" ∷ decimal count ∷ []
+-- the words behind a script: none, or after how many block writes the run is to stop, and whether it then loses what is not settled
+abbrev pub lose_words : Bool → List (List ℕ)
+lose_words false = []
+lose_words true = codes "--lose" ∷ []
 
-pub record IsStopWords (words : List (List ℕ)) (stop : Option ℕ) : Type 0 where
+abbrev pub stop_words : Option Stop → List (List ℕ)
+stop_words None = []
+stop_words (Some stop) = codes "--stop" ∷ decimal stop.writes ∷ lose_words stop.loses
+
+pub record IsStopWords (words : List (List ℕ)) (stop : Option Stop) : Type 0 where
   pub spelled : words ≡ stop_words stop
-  pub small : IfSome stop (λ count. count < 2 ^ 64)
+  pub small : IfSome stop (λ stop. stop.writes < 2 ^ 64)
 
 -- the words of a line
 abbrev pub IsLine : List (List ℕ) → Invocation → Type 0

@@ -1,4 +1,4 @@
-ghost use Rattle.std.specs.Prelude.{◌≡◌, ◌≢◌, ◌<◌, ◌≤◌, ◌↔◌, ℕ, List, [], ◌∷◌, ◌++◌, Bool, Option, Ok, Some, false, true, IfSome, IfNone, IfOk, IfErr, IsSomeAnd, IsTrue, All, codes, length, map, string_bytes};
+ghost use Rattle.std.specs.Prelude.{◌≡◌, ◌≢◌, ◌<◌, ◌≤◌, ◌↔◌, ◌^◌, ℕ, List, [], ◌∷◌, ◌++◌, Bool, Option, Ok, Some, false, true, IfSome, IfNone, IfOk, IfErr, IsSomeAnd, IsTrue, All, codes, length, map, string_bytes};
 ghost use Rattle.std.specs.Fmt.{decimal};
 ghost use Rattle.clap.specs.Words.{app_of, kind_of, rule_of, takes, with_subcommand, HasMatchesOf};
 ghost use Rattle.clap.specs.declared.builder.command.Command.TheViews.{out-Command as fields_of};
@@ -14,6 +14,15 @@ use std::alloc::{AllocError, Global};
 use templates::{MAX_BLOCKS, MIN_BLOCKS};
 use udf_verify::Role;
 
+/// Where a run ends that doesn't come to its script's end.
+#[derive(Clone, Copy, Debug, PartialEq, Eq)]
+pub struct Stop {
+    /// It ends before the block write that comes after so many.
+    pub writes: u64,
+    /// Whether it then loses all bytes that are not settled.
+    pub loses: bool,
+}
+
 /// What a command line asks for.
 #[derive(Drop)]
 pub enum Invocation<'a> {
@@ -27,11 +36,11 @@ pub enum Invocation<'a> {
         file_system: bool,
         templates: &'a [String],
     },
-    /// A script is run on the image of a file; with a `stop` it ends before the block write that comes after so many.
+    /// A script is run on the image of a file, perhaps to a stop.
     Run {
         image: &'a str,
         script: &'a str,
-        stop: Option<u64>,
+        stop: Option<Stop>,
     },
     /// The image of a file is checked.
     Check {
@@ -93,6 +102,9 @@ const FILE_SYSTEM: &str = "--ffs";
 
 /// The word that asks for a run to stop.
 const STOP: &str = "--stop";
+
+/// The word that asks for a stop to lose what is not settled.
+const LOSE: &str = "--lose";
 
 /// A word that has to be there.
 fn wanted<'a>(alloc: Global, id: &'a str) -> Arg<'a>
@@ -245,19 +257,31 @@ fn asked_format<'a>(image: &'a str, blocks: &str, rest: &'a [String]) -> Option<
     })
 }
 
-/// After how many block writes the words behind a script ask for a run to stop, if they do.
-fn asked_stop(words: &[String]) -> Option<Option<u64>>
+/// The stop of a word and a count.
+fn stop_of(word: &String, count: &String, loses: bool) -> Option<Stop>
+    ensures some { IfSome result (λ stop. (string_bytes word.now ≡ codes "--stop") × (string_bytes count.now ≡ decimal stop.writes) × (stop.loses ≡ loses)) }
+    ensures none { IfNone result ((n : ℕ) → n < 2 ^ 64 → string_bytes word.now ≡ codes "--stop" → string_bytes count.now ≢ decimal n) }
+{
+    if !is_word(word, STOP) {
+        return None;
+    }
+    let writes = parse_number(count.as_str(), u64::MAX)?;
+    Some(Stop { writes, loses })
+}
+
+/// Where the words behind a script ask for a run to stop, if they do.
+fn asked_stop(words: &[String]) -> Option<Option<Stop>>
     ensures some { IfSome result (IsStopWords (map string_bytes words.now)) }
-    ensures none { IfNone result ((stop : Option ℕ) → ¬ IsStopWords (map string_bytes words.now) stop) }
+    ensures none { IfNone result ((stop : Option Stop) → ¬ IsStopWords (map string_bytes words.now) stop) }
 {
     match words {
         [] => Some(None),
-        [word, count] => {
-            if !is_word(word, STOP) {
+        [word, count] => Some(Some(stop_of(word, count, false)?)),
+        [word, count, lose] => {
+            if !is_word(lose, LOSE) {
                 return None;
             }
-            let count = parse_number(count.as_str(), u64::MAX)?;
-            Some(Some(count))
+            Some(Some(stop_of(word, count, true)?))
         }
         _ => None,
     }
@@ -380,8 +404,8 @@ fn read_words<'a>(
     line_of(start, rest, &matches).ok_or(LineFault::Usage)
 }
 
-/// Reads a command line: `format IMAGE BLOCKS [--ffs] [TEMPLATE]...`, `run IMAGE SCRIPT [--stop K]`, `check IMAGE`, `asm OWNS SIZE
-/// OUT`, `verify TEXT ROLE`, or no words. Every other line is `Usage`, also one that says the same in other words.
+/// Reads a command line: `format IMAGE BLOCKS [--ffs] [TEMPLATE]...`, `run IMAGE SCRIPT [--stop K [--lose]]`, `check IMAGE`,
+/// `asm OWNS SIZE OUT`, `verify TEXT ROLE`, or no words. Every other line is `Usage`, also one that says the same in other words.
 pub fn read<'a>(alloc: Global, words: &'a [String]) -> Result<Invocation<'a>, LineFault>
     ensures line { IfOk result (IsLine (map string_bytes words.now)) }
     ensures bare { words.now ≡ [] → result ≡ Ok Invocation.Bare }

@@ -9,6 +9,6 @@ mod telling;
 
 pub use fault::Fault;
 pub use files::Files;
-pub use invocation::{Invocation, LineFault, read};
+pub use invocation::{Invocation, LineFault, Stop, read};
 pub use program_fault::ProgramFault;
 pub use telling::{end, flush_status};

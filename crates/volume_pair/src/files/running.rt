@@ -48,14 +48,24 @@ impl Files<Running> {
         matches!(self.step(&Event::Fail(block, new_bytes_stay)), Reply::Fault)
     }
 
-    /// The begun write of a block ends.
+    /// A block is synced.
+    pub fn sync(&mut self, block: u32) -> bool {
+        matches!(self.step(&Event::Sync(block)), Reply::Synced)
+    }
+
+    /// The sync of a block fails.
+    pub fn fail_sync(&mut self, block: u32) -> bool {
+        matches!(self.step(&Event::FailSync(block)), Reply::Fault)
+    }
+
+    /// The begun write of a block ends. It is refused where the block was written, well or not, since its last good sync.
     pub fn finish(&mut self, block: u32) -> bool {
         matches!(self.step(&Event::Finish(block)), Reply::Finished(_))
     }
 
     /// A write of a block, from its begin to its end.
     pub fn write(&mut self, block: u32) -> bool {
-        self.begin(block) && self.land(block) && self.finish(block)
+        self.begin(block) && self.land(block) && self.sync(block) && self.finish(block)
     }
 
     /// The least block that may be written.
@@ -73,10 +83,11 @@ impl Files<Running> {
         }
     }
 
-    /// All that isn't on the disk is lost, and the disk is mounted anew; no volume is open then. Answers how many blocks the mount
-    /// reached, and how many are free; `None` where it found no memory.
-    pub fn crash(&mut self, rt: &(impl Threads + Sync)) -> Option<(u32, u32)> {
-        let (store, reached, free) = self.store.take()?.crash(rt)?;
+    /// All that isn't on the disk is lost, and the disk is mounted anew; no volume is open then. Each of these blocks has the last
+    /// bytes that were given to a write since its last good sync, where there are such, and every other one its settled bytes.
+    /// Answers how many blocks the mount reached, and how many are free; `None` where it found no memory.
+    pub fn crash(&mut self, rt: &(impl Threads + Sync), kept: Vec<u32>) -> Option<(u32, u32)> {
+        let (store, reached, free) = self.store.take()?.crash(rt, kept)?;
         self.volume = None;
         self.store = Some(store);
         Some((reached, free))

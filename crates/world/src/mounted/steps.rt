@@ -49,7 +49,31 @@ impl MountedDisk {
         }
     }
 
-    /// A block is read back, and its write ends.
+    /// A block is synced.
+    #[inline(always)]
+    pub(crate) fn sync(&mut self, block: u32, reply: &mut Reply)
+        ensures { model.Step (world_with self.old) (model.Sync block) (reply_of reply.new) (world_with self.new) }
+    {
+        match self.tickets.sync(block) {
+            None => *reply = Reply::NoTicket,
+            Some(Ok(())) => *reply = Reply::Synced,
+            Some(Err(_fault)) => unreachable!(),
+        }
+    }
+
+    /// The sync of a block fails.
+    #[inline(always)]
+    pub(crate) fn fail_sync(&mut self, block: u32, reply: &mut Reply)
+        ensures { model.Step (world_with self.old) (model.FailSync block) (reply_of reply.new) (world_with self.new) }
+    {
+        match self.tickets.fail_sync(block) {
+            None => *reply = Reply::NoTicket,
+            Some(Ok(())) => unreachable!(),
+            Some(Err(_fault)) => *reply = Reply::Fault,
+        }
+    }
+
+    /// A block is read back, and its write ends. A write that isn't synced goes on.
     #[inline(always)]
     pub(crate) fn finish(&mut self, block: u32, reply: &mut Reply)
         ensures { model.Step (world_with self.old) (model.Finish block) (reply_of reply.new) (world_with self.new) }
@@ -60,7 +84,10 @@ impl MountedDisk {
         };
         match self.kernel.finish(ticket.into_ticket()) {
             Ok(landed) => *reply = Reply::Finished(landed),
-            Err((_ticket, _refusal)) => unreachable!(),
+            Err((ticket, refusal)) => {
+                self.tickets.put(block, DroppableTicket::new(ticket));
+                *reply = Reply::Refused(refusal);
+            }
         }
     }
 }

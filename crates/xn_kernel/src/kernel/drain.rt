@@ -15,7 +15,7 @@ use crate::ticket::Ticket;
 use disk::Lane;
 use xn_state::Refusal;
 
-/// A drain that stopped: how many writes it finished, why it stopped, and the ticket of a block that could not be read back.
+/// A drain that stopped: how many writes it finished, why it stopped, and the ticket of a block that could not be synced or read back.
 pub struct DrainStop<L: Lane> {
     pub writes: u32,
     pub ticket: Option<Ticket<L>>,
@@ -37,18 +37,21 @@ impl<L: Lane> Kernel<L> {
         self.state.all_pending()
     }
 
-    /// Writes the block that is picked and reads it back. `Err` has the ticket where it could not be read back; with none the
-    /// write failed, and the block holds the old bytes.
+    /// Writes the block that is picked, syncs it and reads it back. `Err` has the ticket where it could not be synced or read
+    /// back; with none the write failed, and the block holds the old bytes.
     fn round(&mut self, block: u32) -> Result<(), Option<Ticket<L>>>
         requires picked { pick_of self.old.state.store ≡ Some block }
-        ensures ok { OnOk result (Round L.bytes_of L.faults_of L.write_gives L.read_gives self.old self.new) }
-        ensures err { IfErr result (λ ticket. Stops L.bytes_of L.faults_of L.write_gives L.read_gives self.old ticket Refusal.Device self.new) }
+        ensures ok { OnOk result (Round L.bytes_of L.faults_of L.write_gives L.sync_gives L.read_gives self.old self.new) }
+        ensures err { IfErr result (λ ticket. Stops L.bytes_of L.faults_of L.write_gives L.sync_gives L.read_gives self.old ticket Refusal.Device self.new) }
     {
         self.rules();
         let Ok(mut ticket) = self.begin(block) else {
             unreachable!()
         };
         let _landed = ticket.land();
+        let Ok(()) = ticket.sync() else {
+            return Err(Some(ticket));
+        };
         match self.finish(ticket) {
             Err((ticket, _)) => Err(Some(ticket)),
             Ok(landed) => {
@@ -61,17 +64,17 @@ impl<L: Lane> Kernel<L> {
         }
     }
 
-    /// Writes the block that is picked and reads it back, again and again, until nothing is pending: answers how many writes
+    /// Writes the block that is picked, syncs it and reads it back, again and again, until nothing is pending: answers how many writes
     /// that took, at most as many as entries were pending. It takes no memory. With a write under way it is refused
     /// (`InFlight`) and does nothing. A lane that fails stops it (`Device`): where a write fails and the block holds the old
-    /// bytes its entries stay pending; where a block can't be read back it stays in flight, and the ticket is given out. A
+    /// bytes its entries stay pending; where a block can't be synced or read back it stays in flight, and the ticket is given out. A
     /// write that fails and leaves the new bytes is a good one. What was finished before stands.
     pub fn drain(&mut self) -> Result<u32, DrainStop<L>>
-        ensures rounds { IfOk result (λ writes. Rounds L.bytes_of L.faults_of L.write_gives L.read_gives writes self.old self.new) }
+        ensures rounds { IfOk result (λ writes. Rounds L.bytes_of L.faults_of L.write_gives L.sync_gives L.read_gives writes self.old self.new) }
         ensures idle { OnOk result (IsIdle self.old.state.store.lives) }
         ensures done { OnOk result (all_pending self.new.state.store.lives ≡ 0) }
         ensures few { IfOk result (λ writes. writes ≤ all_pending self.old.state.store.lives) }
-        ensures err { IfErr result (λ stop. Refuses L.bytes_of L.faults_of L.write_gives L.read_gives self.old stop.writes stop.ticket stop.refusal self.new) }
+        ensures err { IfErr result (λ stop. Refuses L.bytes_of L.faults_of L.write_gives L.sync_gives L.read_gives self.old stop.writes stop.ticket stop.refusal self.new) }
     {
         if self.is_busy() {
             return Err(DrainStop {

@@ -1,4 +1,4 @@
-use Rattle.std.proofs.Common.{◌≡◌, ◌≤◌, ◌∙◌, map, ap, arith}
+use Rattle.std.proofs.Common.{◌∙◌, map, ap, arith}
 use Rattle.std.specs.Option.{option_map}
 use Rattle.xn_model.specs.Images.{block_of}
 use Rattle.image_model.specs.Walk.{seen, seen_at}

@@ -1,5 +1,4 @@
 use Rattle.crash_check.proofs.named.no_marks.Goals as goal
-use Rattle.std.proofs.Common.{◌≡◌, IfOk, replicate, false}
 use Rattle.crash_check.proofs.Marks.{then-equal}
 
 pub returns : goal.returns

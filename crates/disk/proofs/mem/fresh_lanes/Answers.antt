@@ -1,6 +1,6 @@
-use Rattle.std.proofs.Common.{◌≡◌, ◌∙◌, ◌*◌, ◌^◌, ◌<◌, ◌++◌, ◌∷◌, [], length, Some, ap, slice_get, subst, arith, rules}
+use Rattle.std.proofs.Common.{◌≡◌, ◌∙◌, ◌*◌, ◌^◌, ◌<◌, length, ap, slice_get, arith}
 use Rattle.std.proofs.lemmas.Grind.{common_steps}
-use Rattle.disk.specs.Mem.{MemoryLane, fresh_lane, AreFreshLanes}
+use Rattle.disk.specs.Mem.{fresh_lane}
 use Rattle.disk.proofs.Held.{fresh-more, fresh-numbers, fresh-all}
 use Rattle.disk.proofs.mem.fresh_lanes.Goals as goal
 
@@ -8,12 +8,12 @@ pub loop-block-preserved : goal.loop-block-preserved
 loop-block-preserved c =
     let image = c.args.image.now in
     let before = c.loop-block.invariant in
-    let lane = c.new-lane.ensures ∙ ap (fresh_lane c.loop-block.block) c.block_of.ensures in
+    let lane = c.in_ok-lane.ensures ∙ ap (fresh_lane c.loop-block.block) c.block_of.ensures in
     record {
       len = grind (arith, common_steps);
       room = grind (arith, common_steps);
       long = grind (arith, common_steps);
-      each = λ k lt. ap (λ l. slice_get l k) c.push_reserved.ensures.items ∙ fresh-more image c.loop-block.places.items c.loop-block.block before.long before.each c.new-lane.result lane k lt;
+      each = λ k lt. ap (λ l. slice_get l k) c.push_reserved.ensures.items ∙ fresh-more image c.loop-block.places.items c.loop-block.block before.long before.each c.in_ok-lane.lane lane k lt;
     }
 
 pub of_places-requires : goal.of_places-requires

@@ -1,4 +1,3 @@
-use Rattle.std.proofs.Common.{◌≡◌}
 use Rattle.script.specs.Scripts.{words_of}
 use Rattle.script.proofs.ToldLines.{match_then}
 use Rattle.script.proofs.script.spells_event.Goals as goal

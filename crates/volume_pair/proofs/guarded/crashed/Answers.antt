@@ -10,6 +10,6 @@ pub returns-in-Mounted : goal.returns-in-Mounted
 returns-in-Mounted g c =
     let old = c.into_world-world.result in
     let new = c.step-reply.new.self in
-    let recovers = crash_recovers (world_with old) (world_with new) (reply_of c.step-reply.result) c.rules.ensures c.step-reply.ensures.step in
+    let recovers = crash_recovers (world_with old) (world_with new) c.args.kept.items (reply_of c.step-reply.result) c.rules.ensures c.step-reply.ensures.step in
     subst (λ (v : WorldValue). Recovers (types_of v.table) v.state (types_of c.in-Ok.running.table) c.in-Ok.running.state) c.into_world-world.ensures
     (subst (λ (v : WorldValue). Recovers (types_of old.table) old.state (types_of v.table) v.state) (sym c.in-Ok.ensures.ok.0) recovers)

@@ -5,4 +5,4 @@ use Rattle.xnsim_line.proofs.stopping.run_lines_until.Given as goal
 
 abbrev pub invariant-loop-line : goal.invariant-loop-line
 invariant-loop-line g l =
-    AreLinesWithin (world_with l.fn.world) (take l.line-index (map (λ line. line.now) l.lines)) l.fn.limit (g.W.Write.contents l.fn.out) (g.W.Write.contents l.out) (world_with l.world) l.left
+    AreLinesWithin (world_with l.fn.world) (take l.line-index (map (λ line. line.now) l.lines)) l.fn.stop.writes (g.W.Write.contents l.fn.out) (g.W.Write.contents l.out) (world_with l.world) l.left

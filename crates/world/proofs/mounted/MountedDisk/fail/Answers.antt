@@ -15,7 +15,7 @@ invariant_of-self c = elim c.match-fail.branch [
   | in-Some-Err w ↦
       let h = w.in-Some-Err.ensures in
       let gave = subst (λ (r : Result (Unit {0}) DeviceFault). memory_write (record h.0.lane { write_fault = Some c.args.new_bytes_stay }) h.0.bytes r h.1) w.in-Some-Err.field-0-is h.3 in
-      subst (λ (ts : Tickets). IsWorld c.self.inside.kernel ts) (sym h.4) (fail_world c.self.inside.kernel c.self.inside.tickets c.self.invariant c.args.block h.0 h.2 h.1 c.args.new_bytes_stay gave.1)
+      subst (λ (ts : Tickets). IsWorld c.self.inside.kernel ts) (sym h.4) (fail_world c.self.inside.kernel c.self.inside.tickets c.self.invariant c.args.block h.0 h.2 h.1 c.args.new_bytes_stay gave.1 gave.2)
 ]
 
 pub returns : goal.returns
@@ -27,7 +27,7 @@ returns c = elim c.match-fail.branch [
   | in-Some-Err w ↦
       let h = w.in-Some-Err.ensures in
       let gave = subst (λ (r : Result (Unit {0}) DeviceFault). memory_write (record h.0.lane { write_fault = Some c.args.new_bytes_stay }) h.0.bytes r h.1) w.in-Some-Err.field-0-is h.3 in
-      let step = fail_step c.self.inside.kernel c.self.inside.tickets c.self.invariant c.args.block h.0 h.2 h.1 c.args.new_bytes_stay gave.1 in
+      let step = fail_step c.self.inside.kernel c.self.inside.tickets c.self.invariant c.args.block h.0 h.2 h.1 c.args.new_bytes_stay gave.1 gave.2 in
       seen (value_of c.self.inside.kernel c.self.inside.tickets) c.args.self.now c.self.view_is (model.Fail c.args.block c.args.new_bytes_stay) (reply_of c.match-fail.reply) _
       (rw (w.reply-is, h.4) step)
 ]

@@ -1,9 +1,10 @@
-use Rattle.std.proofs.Common.{◌∙◌, ⊎_elim, sym, ap, subst, Some, None}
-use Rattle.std.proofs.lemmas.Bool.{false≢true}
+use Rattle.std.proofs.Common.{◌∙◌, ⊎_elim, sym, ap, subst, arith, length, Some, None}
+use Rattle.std.proofs.lemmas.Bool.{false≢true, false_from_ne_true, true_from_ne_false}
+use Rattle.std.proofs.lemmas.List.{length-set}
 use Rattle.xn_model.specs.Worlds as model
 use Rattle.world.specs.Worlds.{Tickets, IsWorld, value_of, world_of}
-use Rattle.world.proofs.Places.{set_still}
-use Rattle.world.proofs.Stepping.{finish_without, finish_step, finish_world, is_ours, block_is, calm_read, settled_at_block, never_refused}
+use Rattle.world.proofs.Places.{put_back, set_still}
+use Rattle.world.proofs.Stepping.{finish_without, open_step, finish_step, finish_world, is_ours, block_is, within_tickets, calm_read, settled_at_block, never_refused}
 use Rattle.world.proofs.Views.{seen}
 use Rattle.world.proofs.mounted.MountedDisk.finish.Goals as goal
 
@@ -21,35 +22,76 @@ invariant_of-self c =
     let still = c.take.ensures.rest ∙ set_still c.self.inside.tickets c.args.block None none in
     subst (λ (ts : Tickets). IsWorld c.self.inside.kernel ts) (sym still) c.self.invariant
 
-pub unreachable-requires : goal.unreachable-requires
-unreachable-requires c =
-    let has = sym c.take.ensures.ticket ∙ (c.in-Some.is ∙ ap (λ t. Some t) (sym c.into_ticket.ensures)) in
-    let ours = is_ours c.self.inside.kernel c.self.inside.tickets c.self.invariant c.args.block c.into_ticket.result has in
-    let calm = calm_read c.self.inside.kernel c.self.inside.tickets c.self.invariant c.args.block c.into_ticket.result has in
-    ⊎_elim
-    (λ gives. never_refused c.self.inside.kernel c.self.inside.tickets c.self.invariant c.args.block c.into_ticket.result has c.finish.new.self.state.store c.in-Err._refusal gives)
-    (λ device. let unread = c.in-Err.ensures.unread device.0 in false≢true (sym calm ∙ unread.1.0))
-    (c.in-Err.ensures.mine ours)
+-- the write that was under way
 
-pub returns : goal.returns
-returns c =
+pub returns-in-Ok : goal.returns-in-Ok
+returns-in-Ok c =
+    let kernel = c.self.inside.kernel in
+    let tickets = c.self.inside.tickets in
+    let ticket = c.into_ticket.result in
     let has = sym c.take.ensures.ticket ∙ (c.in-Some.is ∙ ap (λ t. Some t) (sym c.into_ticket.ensures)) in
-    let ours = is_ours c.self.inside.kernel c.self.inside.tickets c.self.invariant c.args.block c.into_ticket.result has in
+    let ours = is_ours kernel tickets c.self.invariant c.args.block ticket has in
+    let rests = false_from_ne_true ticket.unsynced (λ e. c.in-Ok.ensures.unsynced ours e) in
     let given = c.in-Ok.ensures.given in
-    let settled = settled_at_block c.self.inside.kernel c.self.inside.tickets c.self.invariant c.args.block c.into_ticket.result has c.finish.new.self.state.store (c.in-Ok.landed.durable, c.in-Ok.landed.freed)
-    (⊎_elim (λ gives. gives) (λ none. absurd none) (c.in-Ok.ensures.mine ours)) in
-    let block = block_is c.self.inside.kernel c.self.inside.tickets c.self.invariant c.args.block c.into_ticket.result has in
-    let step = finish_step c.self.inside.kernel c.self.inside.tickets c.self.invariant c.args.block c.into_ticket.result has given.0 given.3.1 (c.in-Ok.landed.durable, c.in-Ok.landed.freed) c.finish.new.self.state.store settled in
-    seen (value_of c.self.inside.kernel c.self.inside.tickets) c.args.self.now c.self.view_is (model.Finish c.args.block) (model.Finished c.in-Ok.landed.durable c.in-Ok.landed.freed) _
+    let settled = settled_at_block kernel tickets c.self.invariant c.args.block ticket has c.finish.new.self.state.store (c.in-Ok.landed.durable, c.in-Ok.landed.freed)
+    (⊎_elim (λ gives. gives) (λ none. absurd none) (c.in-Ok.ensures.mine ours rests)) in
+    let block = block_is kernel tickets c.self.invariant c.args.block ticket has in
+    let step = finish_step kernel tickets c.self.invariant c.args.block ticket has rests given.0 given.3.1 (c.in-Ok.landed.durable, c.in-Ok.landed.freed) c.finish.new.self.state.store settled in
+    seen (value_of kernel tickets) c.args.self.now c.self.view_is (model.Finish c.args.block) (model.Finished c.in-Ok.landed.durable c.in-Ok.landed.freed) _
     (rw (c.take.ensures.rest, given.4, block) step)
 
-pub invariant_of-self-2 : goal.invariant_of-self-2
-invariant_of-self-2 c =
+pub invariant_of-self-in-Ok : goal.invariant_of-self-in-Ok
+invariant_of-self-in-Ok c =
+    let kernel = c.self.inside.kernel in
+    let tickets = c.self.inside.tickets in
+    let ticket = c.into_ticket.result in
     let has = sym c.take.ensures.ticket ∙ (c.in-Some.is ∙ ap (λ t. Some t) (sym c.into_ticket.ensures)) in
-    let ours = is_ours c.self.inside.kernel c.self.inside.tickets c.self.invariant c.args.block c.into_ticket.result has in
+    let ours = is_ours kernel tickets c.self.invariant c.args.block ticket has in
+    let rests = false_from_ne_true ticket.unsynced (λ e. c.in-Ok.ensures.unsynced ours e) in
     let given = c.in-Ok.ensures.given in
-    let settled = settled_at_block c.self.inside.kernel c.self.inside.tickets c.self.invariant c.args.block c.into_ticket.result has c.finish.new.self.state.store (c.in-Ok.landed.durable, c.in-Ok.landed.freed)
-    (⊎_elim (λ gives. gives) (λ none. absurd none) (c.in-Ok.ensures.mine ours)) in
-    let block = block_is c.self.inside.kernel c.self.inside.tickets c.self.invariant c.args.block c.into_ticket.result has in
-    let leaves = finish_world c.self.inside.kernel c.self.inside.tickets c.self.invariant c.args.block c.into_ticket.result has given.0 given.3.1 (c.in-Ok.landed.durable, c.in-Ok.landed.freed) c.finish.new.self.state.store settled in
+    let settled = settled_at_block kernel tickets c.self.invariant c.args.block ticket has c.finish.new.self.state.store (c.in-Ok.landed.durable, c.in-Ok.landed.freed)
+    (⊎_elim (λ gives. gives) (λ none. absurd none) (c.in-Ok.ensures.mine ours rests)) in
+    let block = block_is kernel tickets c.self.invariant c.args.block ticket has in
+    let leaves = finish_world kernel tickets c.self.invariant c.args.block ticket has rests given.0 given.3.1 (c.in-Ok.landed.durable, c.in-Ok.landed.freed) c.finish.new.self.state.store settled in
     rw (c.take.ensures.rest, given.4, block) leaves
+
+-- or that goes on, as it isn't synced
+
+pub put-requires : goal.put-requires
+put-requires c =
+    let has = sym c.take.ensures.ticket ∙ (c.in-Some.is ∙ ap (λ t. Some t) (sym c.into_ticket.ensures)) in
+    let within = within_tickets c.self.inside.kernel c.self.inside.tickets c.self.invariant c.args.block c.into_ticket.result has in
+    let long = ap length c.take.ensures.rest ∙ length-set c.self.inside.tickets c.args.block None in
+    omega arith
+
+pub invariant_of-self-in-Err : goal.invariant_of-self-in-Err
+invariant_of-self-in-Err c =
+    let kernel = c.self.inside.kernel in
+    let tickets = c.self.inside.tickets in
+    let ticket = c.into_ticket.result in
+    let has = sym c.take.ensures.ticket ∙ (c.in-Some.is ∙ ap (λ t. Some t) (sym c.into_ticket.ensures)) in
+    let ours = is_ours kernel tickets c.self.invariant c.args.block ticket has in
+    let unsynced = true_from_ne_false ticket.unsynced (λ rests. ⊎_elim
+    (λ gives. never_refused kernel tickets c.self.invariant c.args.block ticket has c.finish.new.self.state.store c.in-Err.refusal gives)
+    (λ device. false≢true (sym (calm_read kernel tickets c.self.invariant c.args.block ticket has) ∙ (c.in-Err.ensures.unread device.0).1.0))
+    (c.in-Err.ensures.mine ours rests)) in
+    let back = c.new.ensures ∙ (c.in-Err.ensures.unsynced ours unsynced).0 in
+    let still = put_back tickets c.args.block ticket has c.take.new.self c.new.result c.put.new.self c.take.ensures.rest back c.put.ensures in
+    rw (still, c.in-Err.ensures.err) c.self.invariant
+
+pub returns-in-Err : goal.returns-in-Err
+returns-in-Err c =
+    let kernel = c.self.inside.kernel in
+    let tickets = c.self.inside.tickets in
+    let ticket = c.into_ticket.result in
+    let has = sym c.take.ensures.ticket ∙ (c.in-Some.is ∙ ap (λ t. Some t) (sym c.into_ticket.ensures)) in
+    let ours = is_ours kernel tickets c.self.invariant c.args.block ticket has in
+    let unsynced = true_from_ne_false ticket.unsynced (λ rests. ⊎_elim
+    (λ gives. never_refused kernel tickets c.self.invariant c.args.block ticket has c.finish.new.self.state.store c.in-Err.refusal gives)
+    (λ device. false≢true (sym (calm_read kernel tickets c.self.invariant c.args.block ticket has) ∙ (c.in-Err.ensures.unread device.0).1.0))
+    (c.in-Err.ensures.mine ours rests)) in
+    let told = c.in-Err.ensures.unsynced ours unsynced in
+    let still = put_back tickets c.args.block ticket has c.take.new.self c.new.result c.put.new.self c.take.ensures.rest (c.new.ensures ∙ told.0) c.put.ensures in
+    let step = open_step kernel tickets c.self.invariant c.args.block ticket has unsynced in
+    seen (value_of kernel tickets) c.args.self.now c.self.view_is (model.Finish c.args.block) (model.Refused c.in-Err.refusal) _
+    (rw (still, c.in-Err.ensures.err, told.1) step)

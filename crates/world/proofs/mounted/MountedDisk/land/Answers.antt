@@ -1,4 +1,6 @@
-use Rattle.std.proofs.Common.{Result, sym, subst}
+use Rattle.std.proofs.Common.{Result, sym, ◌∙◌, ap, subst}
+use Rattle.std.specs.Prelude.{is_some}
+use Rattle.std.proofs.lemmas.Bool.{false≢true}
 use Rattle.disk.specs.declared.lane.DeviceFault.{DeviceFault}
 use Rattle.disk.specs.Mem.{memory_write}
 use Rattle.xn_model.specs.Worlds as model
@@ -31,3 +33,9 @@ returns c = elim c.match-land.branch [
       seen (value_of c.self.inside.kernel c.self.inside.tickets) c.args.self.now c.self.view_is (model.Land c.args.block) (reply_of c.match-land.reply) _
       (rw (w.reply-is, h.4) step)
 ]
+
+pub unreachable-requires : goal.unreachable-requires
+unreachable-requires c =
+    let h = c.in-Some-Err.ensures in
+    let gave = subst (λ (r : Result (Unit {0}) DeviceFault). memory_write h.0.lane h.0.bytes r h.1) c.in-Some-Err.field-0-is h.3 in
+    false≢true (ap is_some (sym (c.self.invariant.mine c.args.block h.0 h.2).calm.0) ∙ gave.0)

@@ -1,4 +1,3 @@
-use Rattle.std.proofs.Common.{◌≡◌}
 use Rattle.events.specs.Events.{event_of, reply_of}
 use Rattle.world.specs.Worlds.{world_with}
 use Rattle.world.proofs.Catalogues.{step_own}

@@ -5,11 +5,14 @@ use Rattle.image_model.specs.Walk.{verdict}
 use Rattle.image_model.specs.declared.fault.ImageFault.TheVariants.{NoMemory}
 use Rattle.crash_check.specs.Answers.{types_in}
 use Rattle.world.specs.Worlds.{mounted_value}
-use Rattle.world.proofs.Mounting.{held_image, given_world, given_sound, given_value}
+use Rattle.world.proofs.Mounting.{held_image, lanes_synced, given_world, given_sound, given_value}
 use Rattle.world.proofs.unmounted.UnmountedDisk.mount_image.Goals as goal
 
-pub mount_image-requires-after_bounds : goal.mount_image-requires-after_bounds
-mount_image-requires-after_bounds g c κs h = held_image c.self.inside.lanes c.self.inside.tickets c.self.invariant c.args.image.now (c.self.view_is ∙ c.requires.bytes)
+pub mount_image-requires-clause-held : goal.mount_image-requires-clause-held
+mount_image-requires-clause-held g c κs h = held_image c.self.inside.lanes c.self.inside.tickets c.self.invariant c.args.image.now (c.self.view_is ∙ c.requires.bytes)
+
+pub mount_image-requires-clause-synced : goal.mount_image-requires-clause-synced
+mount_image-requires-clause-synced g c κs h = lanes_synced c.self.inside.lanes c.self.invariant.home
 
 pub new-requires : goal.new-requires
 new-requires g c = given_world c.self.inside.lanes c.self.inside.tickets c.self.invariant (subst (λ v. HasBuiltIns (types_in v)) (sym c.self.view_is) c.requires.built_ins) c.args.id

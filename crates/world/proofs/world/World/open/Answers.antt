@@ -1,13 +1,13 @@
 use Rattle.std.proofs.Common.{◌≡◌, ◌⊎◌, ◌∙◌, ◌<◌, Err, inl, inr, length, sym, ap, subst}
 use Rattle.std.proofs.lemmas.List.Elements.{All-from_get_or}
 use Rattle.xn_model.specs.Root.{HasBuiltIns}
-use Rattle.xn_model.specs.Images.{block_of, blocks_in, joined, IsSound}
+use Rattle.xn_model.specs.Images.{block_of, blocks_in, IsSound}
 use Rattle.image_model.specs.Walk.{verdict}
 use Rattle.image_model.specs.declared.fault.ImageFault.TheVariants.{NoMemory}
 use Rattle.crash_check.specs.Answers.{types_in}
 use Rattle.crash_check.proofs.ForCallers.{has-built-ins}
 use Rattle.world.specs.Worlds.{world_with, mounted_value}
-use Rattle.world.proofs.Openings.{bad_length, joined_blocks, whole_image}
+use Rattle.world.proofs.Openings.{bad_length, whole_image}
 use Rattle.world.proofs.world.World.open.Goals as goal
 use Rattle.world.proofs.world.World.open.Goals.{then-image-ne0-via-then-image-ne0, then-image-ne0-via-else-image-ne0+then-image-gt-GREATEST_IMAGE_LEN}
 

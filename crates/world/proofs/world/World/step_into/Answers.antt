@@ -12,5 +12,5 @@ pub returns-clause-cuts : goal.returns-clause-cuts
 returns-clause-cuts g c = λ fs few foreign k cut.
     c.events_keep_cuts.ensures (world_with c.args.self.now) (event_of c.args.event.now) (reply_of c.take.new.reply) (world_with c.take.new.self) fs (is_event c.args.event.now) few c.rules.ensures c.take.ensures foreign k cut
 
-pub returns-clause-image : goal.returns-clause-image
-returns-clause-image g c = λ fs few. c.image_is_cut.ensures.image (world_with c.take.new.self) fs few c.rules-2.ensures
+pub returns-clause-images : goal.returns-clause-images
+returns-clause-images g c = λ image may fs few. c.image_is_cut.ensures.left (world_with c.take.new.self) image fs few c.rules-2.ensures may

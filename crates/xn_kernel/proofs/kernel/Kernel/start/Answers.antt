@@ -12,4 +12,5 @@ invariant_of-result g c = record {
   rules = c.in-Ok.ensures.rules;
   fit = subst (λ (state : StateValue). FitLives g.L.Lane.bytes_of c.args.lanes state.store.lives) (sym c.in-Ok.ensures.value)
       (lanes_mounted g.L.Lane.bytes_of c.args.lanes (types_of c.args.table) (blocks_in c.args.image.now) (lives_in c.args.image.now c.args.found.now) c.requires.found.recovered c.requires.held);
+  synced = c.requires.synced;
 }
