@@ -150,7 +150,7 @@ def random_image(numbers):
 def main():
     numbers, kinds = Numbers(), Counter()
     reached_blocks, value = 0, 0xCBF29CE484222325
-    images = 4000
+    images = 10_000
     for _ in range(images):
         answer = b""
         try:

@@ -313,10 +313,14 @@ class Store:
         assert not any(life.pending() for _, life in self.living())
         return f"writes {writes}"
 
-    def crash(self, *kept):
+    def lose(self, kept):
         """The open writes of these blocks are on the disk, where they have one, and no others."""
         for b, given in enumerate(self.given):
             self.image[b] = self.settled[b] if given is None or b not in kept else given
+        self.settled, self.given = list(self.image), [None] * len(self.image)
+
+    def crash(self, *kept):
+        self.lose(kept)
         return self.mount()
 
 
@@ -366,6 +370,16 @@ def formatted(blocks, templates):
 # Transcripts.
 
 
+def patched(old, lines):
+    """The bytes with others written over them: each line is an offset in base 16, and what stands there."""
+    new = bytearray(old)
+    for line in lines:
+        at, given = line.split(": ")
+        place = slice(int(at, 16), int(at, 16) + len(given) // 2)
+        new[place] = bytes.fromhex(given)
+    return bytes(new)
+
+
 class Files(dict):
     """The bytes of files by their names."""
 
@@ -400,6 +414,8 @@ class Files(dict):
                 self[other] = self[name]
             case ["cmp", name, other]:
                 return [] if self[name] == self[other] else ["they differ"]
+            case ["xxd", "-r", "-", name]:
+                self[name] = patched(self[name], given.decode().splitlines())
             case ["xxd", "-p", "-s", start, "-l", length, name]:
                 part = self[name][int(start) :][: int(length)]
                 return [part[at : at + 30].hex() for at in range(0, len(part), 30)]

@@ -1,8 +1,6 @@
 -- What each call leaves of the places and the slab.
-use Rattle.std.proofs.Common.{◌≡◌, ℕ, zero, suc, ◌^◌, ◌<◌, ◌≤◌, List, [], ◌∷◌, length, take, replicate, Option, Some, None, refl, sym, ◌∙◌, ap, arith, subst, slice_get}
-use Rattle.std.proofs.lemmas.Option.{none-some, same_Some}
-use Rattle.std.proofs.lemmas.List.{length-replicate}
-use Rattle.std.specs.Prelude.{IsTrue, IfSome, is_some, option_map, slice_index_or}
+use Rattle.std.proofs.Common.{◌≡◌, ℕ, ◌<◌, ◌≤◌, List, [], ◌∷◌, length, take, Option, Some, None, refl, sym, ◌∙◌, ap, arith, subst}
+use Rattle.std.specs.Prelude.{IsTrue, IfSome, is_some, option_map}
 use Rattle.slab.specs.Slab.{Slab, get, Updates}
 use Rattle.xn_model.specs.declared.status.Status.{Status}
 use Rattle.xn_model.specs.Lives as model
@@ -17,18 +15,6 @@ use Rattle.block_cache.proofs.Keys.{AreSame, same_keys, take_keys}
 use Rattle.block_cache.proofs.Used.{used_append, used_kept, used_settle}
 use Rattle.block_cache.proofs.WrittenPlaces.{KeepsOthers, life-life_at}
 use Rattle.block_cache.proofs.Changes.{length-pending, current_of_life, inserted_keeps, removed_keeps, appended_life, appended_kept, settled_life, settled_kept, given_up_life, lives_of-change, kept-change, place_kept, same_slab_keeps}
-
-pub lives_of_free : (slab : Slab Entry) (n : ℕ) → lives_of slab (replicate n None) ≡ replicate n None
-lives_of_free slab zero = refl
-lives_of_free slab (suc n) = ap (λ ls. None ∷ ls) (lives_of_free slab n)
-
-no_life : (n b : ℕ) (l : CachedLife) → slice_get (replicate {A = Option CachedLife} n None) b ≡ Some (Some l) → ⊥
-no_life zero b l e = none-some (Some l) e
-no_life (suc n) zero l e = none-some l (same_Some None (Some l) e)
-no_life (suc n) (suc b) l e = no_life n b l e
-
-pub free_kept : (slab : Slab Entry) (n : ℕ) → n < 2 ^ 32 → slab.slots ≡ [] → AreKept slab (replicate n None)
-free_kept slab n few empty = record { each = λ b l e. absurd (no_life n b l e); used = λ k e at. absurd (none-some e (sym (ap (λ (ss : List (Option Entry)). slice_index_or ss k None) empty) ∙ at)); few = omega (arith, few, length-replicate {A = Option CachedLife} n None) }
 
 -- The life at a place
 

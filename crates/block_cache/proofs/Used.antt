@@ -163,15 +163,6 @@ used_end old new places b used rest gone q e at =
     (λ among. absurd (none-some e (sym (gone q among) ∙ at)))
     (apart_or_among q (keys_of (place_at places b)))
 
--- a life put on a free block: nothing was there
-pub used_free : (slab : Slab Entry) (places : Places) (b : ℕ) (x : Option CachedLife) → AreUsed slab places → place_at places b ≡ None → AreUsed slab (slice_set places b x)
-used_free slab places b x used free q e at =
-    let u = used q e at in
-    elim (cases_eq e.block b) [
-      | inl here ↦ absurd (none-some u.life (sym free ∙ used_at places b e.block q u here))
-      | inr other ↦ used_other places b e.block q x other u
-    ]
-
 -- with its first entry
 pub used_start : (old new : Slab Entry) (places : Places) (b k : ℕ) (e : Entry) (l : CachedLife) → AreUsed old places → Updates old new k (Some e) → e.block ≡ b → b < length places → place_at places b ≡ None →
     IsAmong k l.keys → AreUsed new (slice_set places b (Some l))

@@ -1,10 +1,13 @@
 -- What is kept beside the bytes and the entries.
-use Rattle.std.specs.Prelude.{◌≡◌, ◌≢◌, ◌⊎◌, ℕ, ◌^◌, ◌<◌, ◌≤◌, List, [], ◌∷◌, ◌++◌, length, take, drop, true, false, Option, Some, None, slice_get, slice_set, unwrap_or, option_map, IsTrue, ◌||◌, nat_lt}
+use Rattle.std.specs.Prelude.{◌≡◌, ◌≢◌, ◌⊎◌, ℕ, ◌^◌, ◌<◌, ◌≤◌, List, [], ◌∷◌, ◌++◌, length, take, drop, true, false, Option, Some, None, slice_get, slice_index_or, slice_set, unwrap_or, option_map, IsTrue, ◌||◌, nat_lt}
 use Rattle.slab.specs.Slab.{Slab, get}
 use Rattle.xn_model.specs.declared.status.Status.{Status}
 use Rattle.xn_model.specs.declared.status.Status.TheVariants.{Fresh}
+use Rattle.edit_list.specs.declared.fs.Fs.{Fs}
+use Rattle.xn_model.specs.Images.{block_of}
 use Rattle.xn_model.specs.Rules.{IsCount}
 use Rattle.block_cache.specs.declared.entry.Entry.{Entry}
+use Rattle.block_cache.specs.declared.life.FoundLife.{FoundLife}
 use Rattle.block_cache.specs.Cached.{CachedLife}
 
 -- the key has an entry of this block
@@ -63,8 +66,24 @@ change_place places b f = slice_set places b (option_map f (place_at places b))
 abbrev pub started : ℕ → ℕ → ℕ → List ℕ → CachedLife
 started k fs ty bytes = record { fs = Some fs; ty = ty; status = Fresh; current = bytes; is_durable = false; keys = k ∷ []; begun = None }
 
-abbrev pub resting : Option ℕ → ℕ → Status → List ℕ → CachedLife
-resting fs ty status bytes = record { fs = fs; ty = ty; status = status; current = bytes; is_durable = true; keys = []; begun = None }
+abbrev pub resting : FoundLife → List ℕ → CachedLife
+resting found bytes = record {
+  fs = option_map (λ (f : Fs). f.number) found.fs;
+  ty = found.ty;
+  status = found.status;
+  current = bytes;
+  is_durable = true;
+  keys = [];
+  begun = None;
+}
+
+-- what is kept of a block where this is found of it in an image of these blocks
+abbrev pub resting_in : List (List ℕ) → ℕ → Option FoundLife → Option CachedLife
+resting_in blocks b None = None
+resting_in blocks b (Some found) = Some (resting found (block_of blocks b))
+
+abbrev pub resting_at : List (Option FoundLife) → List (List ℕ) → ℕ → Option CachedLife
+resting_at found blocks b = resting_in blocks b (slice_index_or found b None)
 
 -- What a change leaves
 

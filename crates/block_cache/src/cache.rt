@@ -1,7 +1,7 @@
 // What each block has been since it was last free.
 
-ghost use Rattle.std.specs.Prelude.{◌≡◌, ℕ, ◌+◌, ◌*◌, ◌<◌, ◌≤◌, [], ◌∷◌, length, replicate, Option, Some, None, IsTrue, IfOk, IfSome, OnOk, OnErr, is_some, option_map, slice_get, slice_set};
-ghost use Rattle.std.specs.List.{list_any};
+ghost use Rattle.std.specs.Prelude.{◌≡◌, ℕ, ◌+◌, ◌*◌, ◌^◌, ◌<◌, ◌≤◌, [], ◌∷◌, length, map, Option, Some, None, IsTrue, IfOk, IfSome, OnOk, OnErr, is_some, option_map, slice_get, slice_set};
+ghost use Rattle.std.specs.List.{list_any, range_with_len};
 ghost use Rattle.std.specs.Option.{option_copied, option_and_then};
 ghost use Rattle.slab.specs.Slab.{get};
 ghost use Rattle.xn_model.specs.Lives.{life_at, change_at, with_state, with_status, settled_at, begun_at, current, alive_and, is_for};
@@ -10,11 +10,11 @@ ghost use Rattle.xn_model.specs.Rules.{IsCount};
 ghost use Rattle.xn_model.specs.Worlds.{all_pending};
 ghost use Rattle.block_cache.specs.Claims.{state_of, claim_of};
 ghost use Rattle.block_cache.specs.Kept.{IsAmong, IsApart, first_keys, keys_of};
-ghost use Rattle.block_cache.specs.Views.{image_at, HasImage, facts_of, pending_at, life_at_rest};
+ghost use Rattle.block_cache.specs.Views.{image_at, HasImage, facts_of, pending_at, rest_at};
 
 use crate::claim::Claim;
 use crate::entry::Entry;
-use crate::life::{Facts, Life};
+use crate::life::{Facts, FoundLife, Life};
 use crate::places::Places;
 use crate::rollback;
 use edit_list::{EditId, Fs, Undo};
@@ -53,31 +53,21 @@ impl Drop for Cache {
 }
 
 impl Cache {
-    /// So many free blocks.
-    pub fn new(alloc: Global, blocks: u32) -> Result<Cache, AllocError>
-        ensures { IfOk result (λ cache. cache ≡ replicate blocks None) }
+    /// The lives of the blocks that are found in an image, by block number: the one state of each is on the disk. The others
+    /// are free. `Err` comes only for want of memory.
+    pub fn found(
+        alloc: Global,
+        found: &[Option<FoundLife>],
+        blocks: &[[u8; 512]],
+    ) -> Result<Cache, AllocError>
+        requires within { length found.now ≤ length blocks.now }
+        requires few { length found.now < 2 ^ 32 }
+        ensures { IfOk result (λ cache. cache ≡ map (rest_at found.now blocks.now) (range_with_len 0 (length found.now))) }
     {
         Ok(Cache {
-            places: Places::new(alloc, blocks as usize)?,
+            places: Places::found(alloc, found, blocks)?,
             entries: Slab::new(alloc),
         })
-    }
-
-    /// A block that is found in an image, whose one state is on the disk. A life that it had ends.
-    pub fn found(
-        &mut self,
-        alloc: Global,
-        block: u32,
-        fs: Option<Fs>,
-        ty: u32,
-        status: Status,
-        bytes: &[u8; 512],
-    )
-        ensures { self.new ≡ slice_set self.old block (Some (life_at_rest (option_map (λ f. f.number) fs) ty status bytes.now)) }
-    {
-        forget_all(&mut self.entries, self.places.life(block));
-        let life = Life::found(alloc, fs, ty, status, bytes);
-        self.places.set(block, Some(life));
     }
 
     /// Starts a life on a free block.

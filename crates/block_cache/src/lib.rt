@@ -14,5 +14,5 @@ mod totals;
 pub use cache::Cache;
 pub use claim::Claim;
 pub use edit_list::{EditId, Fs, Undo};
-pub use life::Facts;
+pub use life::{Facts, FoundLife};
 pub use xn_model::Status;

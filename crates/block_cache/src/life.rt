@@ -39,6 +39,14 @@ impl Model for Life {
     } };
 }
 
+/// What is found of a block in use in an image, beside its bytes: the file system that it belongs to, its type and status.
+#[derive(Clone, Copy, Debug, PartialEq, Eq)]
+pub struct FoundLife {
+    pub fs: Option<Fs>,
+    pub ty: u32,
+    pub status: Status,
+}
+
 /// What is known of a block in use beside its bytes: its type and status, whether a state of it is on the disk, how many
 /// entries are pending, and how many of those a begun write carries.
 #[derive(Clone, Copy, Debug, PartialEq, Eq)]
@@ -124,13 +132,13 @@ impl Life {
     }
 
     /// The life of a block whose one state is on the disk.
-    pub fn found(alloc: Global, fs: Option<Fs>, ty: u32, status: Status, bytes: &[u8; 512]) -> Life
-        ensures { result ≡ resting (option_map (λ f. f.number) fs) ty status bytes.now }
+    pub fn found(alloc: Global, found: FoundLife, bytes: &[u8; 512]) -> Life
+        ensures { result ≡ resting found bytes.now }
     {
         Life {
-            fs,
-            ty,
-            status,
+            fs: found.fs,
+            ty: found.ty,
+            status: found.status,
             current: *bytes,
             is_durable: true,
             keys: Vec::new(alloc),

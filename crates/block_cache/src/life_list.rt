@@ -1,11 +1,12 @@
 // The lives of all blocks, by block number.
 
-ghost use Rattle.std.specs.Prelude.{◌≡◌, ◌^◌, ◌<◌, ◌≤◌, length, replicate, Option, Some, None, IsTrue, IfOk, OnOk, OnErr, IfSome, is_some, slice_set};
+ghost use Rattle.std.specs.Prelude.{◌≡◌, ◌^◌, ◌<◌, ◌≤◌, length, map, Option, IsTrue, IfOk, OnOk, OnErr, IfSome, is_some, slice_set};
+ghost use Rattle.std.specs.List.{range_with_len};
 ghost use Rattle.std.specs.Option.{option_copied};
-ghost use Rattle.block_cache.specs.Kept.{place_at, change_place, appended, settled, with_status, with_begun};
+ghost use Rattle.block_cache.specs.Kept.{place_at, change_place, appended, resting_at, settled, with_status, with_begun};
 ghost use Rattle.block_cache.specs.Totals.{totals_at};
 
-use crate::life::Life;
+use crate::life::{FoundLife, Life};
 use crate::totals::Totals;
 use std::alloc::{AllocError, Global};
 use std::marker::Model;
@@ -33,13 +34,23 @@ impl Drop for LifeList {
 }
 
 impl LifeList {
-    /// So many free blocks.
-    pub fn new(alloc: Global, blocks: usize) -> Result<LifeList, AllocError>
-        ensures { IfOk result (λ list. list ≡ replicate blocks None) }
+    /// The lives of the blocks that are found in an image, by block number.
+    pub fn found(
+        alloc: Global,
+        found: &[Option<FoundLife>],
+        blocks: &[[u8; 512]],
+    ) -> Result<LifeList, AllocError>
+        requires { length found.now ≤ length blocks.now }
+        ensures { IfOk result (λ list. list ≡ map (resting_at found.now blocks.now) (range_with_len 0 (length found.now))) }
     {
-        let mut lives = Vec::with_capacity(alloc, blocks)?;
-        for _block in 0..blocks {
-            lives.push_reserved(None);
+        let mut lives = Vec::with_capacity(alloc, found.len())?;
+        for block in 0..found.len() {
+            let here = found[block];
+            let bytes = &blocks[block];
+            match here {
+                None => lives.push_reserved(None),
+                Some(life) => lives.push_reserved(Some(Life::found(alloc, life, bytes))),
+            }
         }
         Ok(LifeList { lives })
     }

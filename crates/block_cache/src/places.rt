@@ -1,11 +1,12 @@
 // The lives of all blocks, by place.
 
-ghost use Rattle.std.specs.Prelude.{◌≡◌, ◌+◌, ◌^◌, ◌<◌, ◌≤◌, length, replicate, Option, Some, None, IsTrue, IfOk, OnOk, OnErr, IfSome, is_some, slice_set, sum_by};
+ghost use Rattle.std.specs.Prelude.{◌≡◌, ◌+◌, ◌^◌, ◌<◌, ◌≤◌, length, map, Option, IsTrue, IfOk, OnOk, OnErr, IfSome, is_some, slice_set, sum_by};
+ghost use Rattle.std.specs.List.{range_with_len};
 ghost use Rattle.std.specs.Option.{option_copied};
-ghost use Rattle.block_cache.specs.Kept.{place_at, change_place, appended, settled, with_status, with_begun};
+ghost use Rattle.block_cache.specs.Kept.{place_at, change_place, appended, resting_at, settled, with_status, with_begun};
 ghost use Rattle.block_cache.specs.Totals.{pending_of, in_flight_of};
 
-use crate::life::Life;
+use crate::life::{FoundLife, Life};
 use crate::life_list::LifeList;
 use crate::totals::Totals;
 use std::alloc::{AllocError, Global};
@@ -32,12 +33,17 @@ impl Model for Places {
 }
 
 impl Places {
-    /// So many free blocks.
-    pub fn new(alloc: Global, blocks: usize) -> Result<Places, AllocError>
-        ensures { IfOk result (λ places. places ≡ replicate blocks None) }
+    /// The lives of the blocks that are found in an image, by block number.
+    pub fn found(
+        alloc: Global,
+        found: &[Option<FoundLife>],
+        blocks: &[[u8; 512]],
+    ) -> Result<Places, AllocError>
+        requires { length found.now ≤ length blocks.now }
+        ensures { IfOk result (λ places. places ≡ map (resting_at found.now blocks.now) (range_with_len 0 (length found.now))) }
     {
         Ok(Places {
-            lives: LifeList::new(alloc, blocks)?,
+            lives: LifeList::found(alloc, found, blocks)?,
             totals: Totals {
                 pending: 0,
                 in_flight: 0,

@@ -61,14 +61,14 @@ impl Model for MemLane {
 }
 
 impl MemLane {
-    fn new(alloc: Global, number: u32, bytes: [u8; BLOCK_LEN]) -> Result<MemLane, AllocError>
-        ensures { IfOk result (λ lane. lane ≡ fresh_lane number bytes) }
+    fn new(alloc: Global, number: u32, bytes: &[u8; BLOCK_LEN]) -> Result<MemLane, AllocError>
+        ensures { IfOk result (λ lane. lane ≡ fresh_lane number bytes.now) }
     {
         let blocks = Box::new(
             alloc,
             Blocks {
-                bytes,
-                other: bytes,
+                bytes: *bytes,
+                other: [0; BLOCK_LEN],
             },
         )?;
         Ok(MemLane {
@@ -331,12 +331,13 @@ fn bytes_of_all(alloc: Global, lanes: &Lanes<MemLane>) -> Option<Vec<u8>>
 }
 
 /// The bytes of one block of an image.
-fn block_of(image: &[u8], block: u32) -> [u8; BLOCK_LEN]
+fn block_of(image: &[u8], block: u32) -> &[u8; BLOCK_LEN]
     requires { 512 * block + 512 ≤ length image.now }
-    ensures { result ≡ block_at image.now block }
+    ensures { result.now ≡ block_at image.now block }
 {
-    let mut bytes = [0; BLOCK_LEN];
     let start = BLOCK_LEN * block as usize;
-    bytes.copy_from_slice(&image[start..start + BLOCK_LEN]);
-    bytes
+    match image[start..start + BLOCK_LEN].as_array() {
+        Some(bytes) => bytes,
+        None => unreachable!(),
+    }
 }

@@ -3,7 +3,7 @@
 use xn_state::{Call, Fs};
 
 /// One step of a world. Tickets are named by their block.
-#[derive(Debug)]
+#[derive(Debug, Drop)]
 pub enum Event {
     /// A client's call, for its file system.
     Call(Fs, Call),
@@ -22,20 +22,4 @@ pub enum Event {
     /// All that isn't on the disk is lost, and the disk is mounted anew. Each of these blocks has the last bytes that were given
     /// to a write since its last good sync, where there are such, and every other one its settled bytes.
     Crash(Vec<u32>),
-}
-
-/// Written by hand, so that a function that drops one calls this: a derived drop is proved anew in each such function.
-impl Drop for Event {
-    fn drop(self) {
-        match self {
-            Event::Call(_, _) => {}
-            Event::Crash(_) => {}
-            Event::Fail(_, _) => {}
-            Event::Begin(_)
-            | Event::Land(_)
-            | Event::Sync(_)
-            | Event::FailSync(_)
-            | Event::Finish(_) => {}
-        }
-    }
 }

@@ -1,4 +1,5 @@
 pub mod Written
+pub mod Standing
 pub mod KnownTemplates
 pub mod Turns
 pub mod OwnedPairs

@@ -17,7 +17,7 @@ use std::thread::Threads;
 use tally::Tally;
 
 /// How many images are checked.
-const IMAGES: usize = 4000;
+const IMAGES: usize = 10_000;
 
 /// The answers to all images.
 fn check_all(rt: &(impl Threads + Sync), alloc: Global) -> Result<Tally, AllocError> {

@@ -11,10 +11,15 @@ use udf_code::{Word, decode, encode, well_formed};
 use udf_run::{Pair, owns, size};
 use udf_verify::{Checked, Role, verify};
 
-/// What was answered so far: how many programs, how many of them accepted in a role, how many pairs, and a hash of all; and
-/// how many programs had another spelling than the one that was read.
+/// On how many blocks each accepted program is run: three of them with a pattern, and 16 with random bytes.
+pub const BLOCKS: usize = 3 + 16;
+
+/// What was answered so far: how many bytes and texts, how many of them are programs, how many of these are accepted in a role,
+/// how many pairs, and a hash of all; and how many programs had another spelling than the one that was read.
 #[derive(Drop)]
 pub struct Answers {
+    pub codes: usize,
+    pub texts: usize,
     pub programs: usize,
     pub accepted: usize,
     pub pairs: usize,
@@ -48,7 +53,7 @@ impl Answers {
         &mut self,
         alloc: Global,
         words: &[Word],
-        blocks: &[[u8; 512]; 4],
+        blocks: &[[u8; 512]; BLOCKS],
     ) -> Result<(), AllocError>
         requires { IsOk (structure_of words.now) }
     {
@@ -98,7 +103,7 @@ impl Answers {
         alloc: Global,
         words: &[Word],
         is_spelled_again: bool,
-        blocks: &[[u8; 512]; 4],
+        blocks: &[[u8; 512]; BLOCKS],
     ) -> Result<(), AllocError> {
         if !is_spelled_again {
             self.respelled = self.respelled.wrapping_add(1);
@@ -114,8 +119,9 @@ impl Answers {
         &mut self,
         alloc: Global,
         bytes: &[u8],
-        blocks: &[[u8; 512]; 4],
+        blocks: &[[u8; 512]; BLOCKS],
     ) -> Result<(), AllocError> {
+        self.codes = self.codes.wrapping_add(1);
         match decode(alloc, bytes) {
             Ok(words) => {
                 let again = encode(alloc, &words)?;
@@ -130,8 +136,9 @@ impl Answers {
         &mut self,
         alloc: Global,
         text: &str,
-        blocks: &[[u8; 512]; 4],
+        blocks: &[[u8; 512]; BLOCKS],
     ) -> Result<(), AllocError> {
+        self.texts = self.texts.wrapping_add(1);
         match assemble(alloc, text) {
             Ok(words) => {
                 let again = print(alloc, &words)?;

@@ -2,7 +2,7 @@
 // are accepted. The counts and the hash of all answers are those of another implementation, `bench/reference.py`, which was
 // written from the rules of the language alone.
 
-use crate::answers::Answers;
+use crate::answers::{Answers, BLOCKS};
 use crate::programs::{changed, random_bytes, random_program};
 use pseudo_random::Numbers;
 use std::alloc::{AllocError, Global};
@@ -18,15 +18,22 @@ const CATALOGUE: &str =
 const INODES: &str =
     "SET 1 64\nSET 2 4\nSET 3 8\nSET 4 2\nSET 5 5\nSET 6 56\nFOR 7 8\nMUL 8 7 1\nADD 9 8 3\nFOR 10 12\nMUL 11 10 2\nADD 11 11 9\nLD4 12 11\nIFLT 0 12\nEMIT 12 4\nEND\nEND\nADD 9 8 6\nLD4 12 9\nIFLT 0 12\nEMIT 12 5\nEND\nEND\n";
 
-/// Zeros, 0xff, a counting pattern, and random bytes.
-fn some_blocks(numbers: &mut Numbers) -> [[u8; 512]; 4] {
-    let mut counting = [0; 512];
-    let mut random = [0; 512];
-    for i in 0..512 {
-        counting[i] = (i % 256) as u8;
-        random[i] = numbers.byte(256);
+/// How often each kind of bytes and texts is taken.
+const TURNS: usize = 10_000;
+
+/// Zeros, 0xff, a counting pattern, and blocks of random bytes.
+fn some_blocks(numbers: &mut Numbers) -> [[u8; 512]; BLOCKS] {
+    let mut blocks = [[0; 512]; BLOCKS];
+    blocks[1] = [0xff; 512];
+    for at in 0..512 {
+        blocks[2][at] = (at % 256) as u8;
     }
-    [[0; 512], [0xff; 512], counting, random]
+    for place in 3..BLOCKS {
+        for at in 0..512 {
+            blocks[place][at] = numbers.byte(256);
+        }
+    }
+    blocks
 }
 
 /// The bytes of a program's text, and none where it is no program.
@@ -43,7 +50,7 @@ fn take_turn(
     numbers: &mut Numbers,
     answers: &mut Answers,
     text: &str,
-    blocks: &[[u8; 512]; 4],
+    blocks: &[[u8; 512]; BLOCKS],
 ) -> Result<(), AllocError> {
     let small = [
         0, 1, 2, 3, 4, 5, 6, 7, 8, 9, 10, 11, 12, 13, 14, 15, 16, 17, 18, 19,
@@ -62,18 +69,20 @@ fn take_turn(
     answers.note_bytes(alloc, &bytes, blocks)
 }
 
-/// The answers to 2,000 pseudo-random bytes and texts.
+/// The answers to all pseudo-random bytes and texts.
 pub fn answer_all(alloc: Global) -> Result<Answers, AllocError> {
     let mut numbers = Numbers { state: 1 };
     let blocks = some_blocks(&mut numbers);
     let mut answers = Answers {
+        codes: 0,
+        texts: 0,
         programs: 0,
         accepted: 0,
         pairs: 0,
         hash: 0xcbf29ce484222325,
         respelled: 0,
     };
-    for turn in 0..500 {
+    for turn in 0..TURNS {
         let text = if turn % 2 == 0 { CATALOGUE } else { INODES };
         take_turn(alloc, &mut numbers, &mut answers, text, &blocks)?;
     }

@@ -1,5 +1,5 @@
 // Takes pseudo-random bytes, texts and blocks through the libraries of metadata programs, and prints how they were answered. The
-// same are taken in each run. The first line is what `bench/reference.py` prints, which is another implementation; of each other
+// same are taken in each run. The first two lines are what `bench/reference.py` prints, which is another implementation; of each other
 // line the last two numbers have to be the same.
 #![tactic(auto)]
 
@@ -8,6 +8,7 @@ mod language;
 mod programs;
 mod spellings;
 
+use answers::BLOCKS;
 use language::answer_all;
 use spellings::{Spellings, try_blocks, try_bytes, try_texts};
 use std::io;
@@ -21,6 +22,8 @@ fn print_spellings(rt: &impl Print, name: &str, spellings: &Spellings) -> io::Re
 fn main(rt: HostRuntime) -> io::Result<()> {
     let alloc = rt.alloc();
     let answers = answer_all(alloc)?;
+    let (codes, texts) = (answers.codes, answers.texts);
+    println!(rt; "bytes {codes} texts {texts} blocks {BLOCKS}")?;
     let (programs, accepted) = (answers.programs, answers.accepted);
     let (pairs, hash) = (answers.pairs, answers.hash);
     println!(rt; "programs {programs} accepted {accepted} pairs {pairs} hash {hash:#x}")?;

@@ -202,16 +202,15 @@ fn is_passed_over(line: &str) -> bool
     }
 }
 
-/// The event of a line as it tells it, or `None` where it tells none.
-fn read_line(alloc: Global, line: &str) -> Result<Option<LineEvent>, AllocError>
-    ensures some { IfOk result (λ read. IfSome read (Tells (words_of line.now))) }
-    ensures none { IfOk result (λ read. IfNone read (SpellNothing (words_of line.now))) }
+/// The event of a name and what stands behind it, where that is no crash.
+fn read_words<'a>(
+    alloc: Global,
+    name: &str,
+    rest: Option<&'a str>,
+) -> Result<Option<LineEvent<'a>>, AllocError>
+    ensures some { IfOk result (λ read. IfSome read (Tells (name.now ∷ words_in (option_copied rest.entry)))) }
+    ensures none { IfOk result (λ read. IfNone read (name.now ≢ codes "crash" → SpellNothing (name.now ∷ words_in (option_copied rest.entry)))) }
 {
-    let (name, rest) = first_word(line);
-    if name == "crash" {
-        let words = words_in(alloc, rest)?;
-        return parse_crash(alloc, words.as_slice());
-    }
     let Some(rest) = rest else {
         return Ok(parse_name(name));
     };
@@ -222,6 +221,21 @@ fn read_line(alloc: Global, line: &str) -> Result<Option<LineEvent>, AllocError>
     let (second, rest) = first_word(rest);
     let words = words_in(alloc, rest)?;
     parse_long(alloc, name, first, second, words.as_slice())
+}
+
+/// The event of a line as it tells it, or `None` where it tells none. Crashes come last, as few lines are such.
+fn read_line(alloc: Global, line: &str) -> Result<Option<LineEvent>, AllocError>
+    ensures some { IfOk result (λ read. IfSome read (Tells (words_of line.now))) }
+    ensures none { IfOk result (λ read. IfNone read (SpellNothing (words_of line.now))) }
+{
+    let (name, rest) = first_word(line);
+    match read_words(alloc, name, rest)? {
+        None if name == "crash" => {
+            let words = words_in(alloc, rest)?;
+            parse_crash(alloc, words.as_slice())
+        }
+        told => Ok(told),
+    }
 }
 
 /// The event of a line, or `None` where it is none.

@@ -1,4 +1,4 @@
-// One thread: a start, a flush, a meeting, a call.
+// One thread: a start, a flush, a meeting, a call, a block that is forgotten.
 
 ghost use Rattle.std.specs.Prelude.{◌≡◌};
 ghost use Rattle.durable_floor.specs.Rules.{zeros};
@@ -108,6 +108,38 @@ fn fails<K: Naming, R: Wait + Abort>(
     Ok(())
 }
 
+/// A block that is forgotten under the lock: the next one to take the lock doesn't find it, and starts its block anew.
+fn forgets<K: Naming, R: Wait + Abort>(
+    rt: &R,
+    alloc: Global,
+    floor: Floor,
+    publisher: Publisher,
+    reader: Reader,
+    kernel: Kernel<MemLane>,
+) -> Result<(), Fail>
+    requires floor { floor ≡ K.floor }
+    requires publisher { publisher ≡ record { floor = floor; seen = zeros } }
+    requires reader { reader.floor ≡ floor }
+{
+    let mut reader = reader;
+    let shared: Shared<MemLane, Open, K> = share(alloc, kernel, floor, publisher, Open)?;
+    let fs = file_system(0)?;
+    let begun = shared.with(rt, |hub| hub.init(fs, 2, &letters()));
+    assert_eq!(rt; begun, Ok((1, EditId(1))));
+    assert_eq!(rt; shared.with(rt, |hub| hub.forget(fs, 1)), Ok(()));
+    let left = shared.with(rt, |hub| found(hub, fs));
+    assert_eq!(rt; left, (0, Err(Refusal::NotInUse)));
+    assert_eq!(rt; shared.meet(rt, fs, &mut reader), 2);
+    let started = shared.with(rt, |hub| start(hub, fs));
+    assert_eq!(rt; started, (Ok((1, EditId(2))), Ok(EditId(3))));
+    let kept = shared.with(rt, |hub| hub.forget(fs, 1));
+    assert_eq!(rt; kept, Err(Refusal::NotFresh));
+    shared.stop();
+    assert_eq!(rt; end_of(rt, Flusher::new(&shared).run(rt)), (2, None));
+    assert_eq!(rt; shared.meet(rt, fs, &mut reader), 4);
+    Ok(())
+}
+
 #[test]
 fn a_flush_is_told(rt: HostRuntime) -> Result<(), Fail> {
     let kernel = mounted(&rt, rt.alloc(), bare_lanes(rt.alloc())?)?;
@@ -129,4 +161,12 @@ fn a_device_fault_ends_a_flusher(rt: HostRuntime) -> Result<(), Fail> {
     let kernel = mounted(&rt, rt.alloc(), lanes)?;
     let (floor, publisher, _readers) = Floor::new(rt.alloc(), 0)?;
     fails::<Brand, _>(&rt, rt.alloc(), floor, publisher, kernel)
+}
+
+#[test]
+fn a_forgotten_block_is_free(rt: HostRuntime) -> Result<(), Fail> {
+    let kernel = mounted(&rt, rt.alloc(), bare_lanes(rt.alloc())?)?;
+    let (floor, publisher, mut readers) = Floor::new(rt.alloc(), 1)?;
+    let reader = readers.pop().ok_or("a reader")?;
+    forgets::<Brand, _>(&rt, rt.alloc(), floor, publisher, reader, kernel)
 }

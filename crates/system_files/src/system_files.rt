@@ -12,7 +12,8 @@ const TRIES: u32 = 100;
 
 /// The files of the system. A regular file, or one that isn't there yet, is replaced whole: its bytes are first written and
 /// synced beside it, under its name with `.new` and a number behind it. So a full disk, or a stop at any moment, leaves the
-/// file as it was or as it is to be. Any other file is written in place, and so is one beside which none can be made.
+/// file as it was or as it is to be, and where none can be made beside it nothing is written. Of a symbolic link it is the
+/// file that it leads to. What is no regular file, as a device, is written in place.
 #[derive(Drop)]
 pub struct SystemFiles<'a, R: System + AllocGlobal> {
     pub rt: &'a R,
@@ -27,28 +28,36 @@ enum Target {
 
 /// How the file of a name is to be written. It has to be writable where it is there.
 fn target_of(rt: &impl System, name: &str) -> io::Result<Target> {
-    match fs::symlink_metadata(rt, name) {
+    match fs::metadata(rt, name) {
         Ok(found) if found.is_file() => {
             let _file = OpenOptions::new().write(true).open(rt, name)?;
             Ok(Target::Replaced(Some(found.permissions())))
         }
         Ok(_) => Ok(Target::InPlace),
         Err(error) if error.kind() == ErrorKind::NotFound => Ok(Target::Replaced(None)),
-        Err(_) => Ok(Target::InPlace),
+        Err(error) => Err(error),
     }
 }
 
-/// A new file beside that of a name, with its own name, and `None` where none can be made.
-fn file_beside<R: System + AllocGlobal>(rt: &R, name: &str) -> Option<(String, R::File)> {
+/// Whether a name is that of a symbolic link.
+fn is_link(rt: &impl System, name: &str) -> bool {
+    match fs::symlink_metadata(rt, name) {
+        Ok(found) => found.is_symlink(),
+        Err(_) => false,
+    }
+}
+
+/// A new file beside that of a name, with its own name.
+fn file_beside<R: System + AllocGlobal>(rt: &R, name: &str) -> io::Result<(String, R::File)> {
     for number in 0..TRIES {
-        let beside = format!(in rt.alloc(); "{name}.new{number}").ok()?;
+        let beside = format!(in rt.alloc(); "{name}.new{number}")?;
         match File::create_new(rt, beside.as_str()) {
-            Ok(file) => return Some((beside, file)),
+            Ok(file) => return Ok((beside, file)),
             Err(error) if error.kind() == ErrorKind::AlreadyExists => {}
-            Err(_) => return None,
+            Err(error) => return Err(error),
         }
     }
-    None
+    Err(ErrorKind::AlreadyExists.into())
 }
 
 /// Writes bytes to a new file and syncs it.
@@ -67,16 +76,14 @@ where
     file.sync_all()
 }
 
-/// Puts a new file of these bytes in the place of that of a name.
+/// Puts a new file of these bytes in the place of that of a name, which is no symbolic link.
 fn replace<R: System + AllocGlobal>(
     rt: &R,
     name: &str,
     bytes: &[u8],
     permissions: Option<Permissions>,
 ) -> io::Result<()> {
-    let Some((beside, file)) = file_beside(rt, name) else {
-        return fs::write(rt, name, bytes);
-    };
+    let (beside, file) = file_beside(rt, name)?;
     let done = match fill(file, bytes, permissions) {
         Ok(()) => fs::rename(rt, beside.as_str(), name),
         Err(error) => Err(error),
@@ -87,10 +94,27 @@ fn replace<R: System + AllocGlobal>(
     done
 }
 
+/// The same, and a symbolic link stays: the file that it leads to is replaced, which has to be there.
+fn replace_file<R: System + AllocGlobal>(
+    rt: &R,
+    name: &str,
+    bytes: &[u8],
+    permissions: Option<Permissions>,
+) -> io::Result<()> {
+    if !is_link(rt, name) {
+        return replace(rt, name, bytes, permissions);
+    }
+    let path = fs::canonicalize(rt, name)?;
+    match path.to_str() {
+        Some(name) => replace(rt, name, bytes, permissions),
+        None => Err(ErrorKind::InvalidInput.into()),
+    }
+}
+
 /// Writes the file of a name.
 fn write<R: System + AllocGlobal>(rt: &R, name: &str, bytes: &[u8]) -> io::Result<()> {
     match target_of(rt, name)? {
-        Target::Replaced(permissions) => replace(rt, name, bytes, permissions),
+        Target::Replaced(permissions) => replace_file(rt, name, bytes, permissions),
         Target::InPlace => fs::write(rt, name, bytes),
     }
 }

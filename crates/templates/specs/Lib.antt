@@ -7,3 +7,4 @@ pub mod RootFields
 pub mod Formats
 pub mod Faults
 pub mod Decided
+pub mod Judged

@@ -1,18 +1,20 @@
 // A template's block: the mark 58 54, how many words the owns program has and how many the size program, one byte each,
 // their words, then zeros.
 
-ghost use Rattle.std.specs.Prelude.{◌≡◌, ◌≢◌, ◌⊎◌, ◌≤◌, Ok, Err, IsOk, IfOk, IfErr, MatchResult};
+ghost use Rattle.std.specs.Prelude.{◌≡◌, ◌≢◌, ◌⊎◌, ◌≤◌, Ok, Err, IsOk, IfOk, IfErr, OnOk, MatchResult};
 ghost use Rattle.templates.specs.declared.fault.TemplateFault.TheVariants.{NoMemory};
 ghost use Rattle.xn_model.specs.Lists.{blank};
 ghost use Rattle.templates.specs.Templates.{TemplateValue, IsTemplate, template_bytes};
+ghost use Rattle.templates.specs.Judged.{MakeTemplate, template_of_words};
 ghost use Rattle.templates.specs.Reading.{head_of, owns_end, size_end, template_of_bytes};
 
-use crate::code::read_programs;
+use crate::code::{keep_programs, read_programs};
 use crate::fault::TemplateFault;
 use crate::template::Template;
 use crate::words::write_words;
+use arrayvec::ArrayVec;
 use std::alloc::Global;
-use udf_code::{MAX_WORDS, WORD_LEN};
+use udf_code::{MAX_WORDS, WORD_LEN, Word};
 
 /// The first bytes of a template's block.
 const MARK: [u8; 2] = [0x58, 0x54];
@@ -21,29 +23,49 @@ const MARK: [u8; 2] = [0x58, 0x54];
 const CODE_START: usize = 4;
 
 /// The template that a block spells, or the first of the faults in the order `BadMark`, `BadCode`, `NotVerified`,
-/// `BytesAfter`. Memory is taken once the mark is right and the counts of words are at most 127 together, so `NoMemory`
-/// comes after `BadMark` and after such counts, and may come in place of any later fault.
+/// `BytesAfter`. Memory is taken last, for a template alone, so `NoMemory` hides no fault of the block.
 pub fn read_block(alloc: Global, block: &[u8; 512]) -> Result<Template, TemplateFault>
     // The blocks of templates are accepted, and no others.
     ensures accepted { IfOk result (λ template. (block.now ≡ template_bytes template) × IsTemplate template) }
     ensures refused { IfErr result (λ fault. (fault ≡ NoMemory) ⊎ ((template : TemplateValue) → IsTemplate template → block.now ≢ template_bytes template)) }
 
-    // Which template or which fault it is.
+    // Which template or which fault it is; memory is wanting for a template alone.
     ensures exact { MatchResult result
         (λ template. template_of_bytes block.now ≡ Ok template)
         (λ fault. (fault ≡ NoMemory) ⊎ (template_of_bytes block.now ≡ Err fault)) }
-    ensures head_first { IfErr result (λ fault. fault ≡ NoMemory → IsOk (head_of block.now)) }
+    ensures memory_last { IfErr result (λ fault. fault ≡ NoMemory → IsOk (template_of_bytes block.now)) }
+{
+    let mut owns = ArrayVec::<Word, 127>::new();
+    let mut size = ArrayVec::<Word, 127>::new();
+    read_code(block, &mut owns, &mut size)?;
+    let Ok(template) = keep_programs(alloc, owns.as_slice(), size.as_slice()) else {
+        return Err(TemplateFault::NoMemory);
+    };
+    Ok(template)
+}
+
+/// Leaves the words of the two programs of a template's block. No memory is taken.
+fn read_code(
+    block: &[u8; 512],
+    owns: &mut ArrayVec<Word, 127>,
+    size: &mut ArrayVec<Word, 127>,
+) -> Result<(), TemplateFault>
+    ensures exact { MatchResult result
+        (λ done. template_of_bytes block.now ≡ Ok (template_of_words owns.new.items size.new.items))
+        (λ fault. template_of_bytes block.now ≡ Err fault) }
+    ensures good { OnOk result (MakeTemplate owns.new.items size.new.items) }
 {
     let (owns_end, size_end) = read_head(block)?;
-    let template = read_programs(
-        alloc,
+    read_programs(
         &block[CODE_START..owns_end],
         &block[owns_end..size_end],
+        owns,
+        size,
     )?;
     if !is_blank(&block[size_end..]) {
         return Err(TemplateFault::BytesAfter);
     }
-    Ok(template)
+    Ok(())
 }
 
 /// Where the owns program's code ends and where the size program's does, by a block's first four bytes.

@@ -4,10 +4,11 @@ ghost use Rattle.std.specs.Prelude.{◌≡◌, ◌<◌, ◌+◌, ◌≤◌, leng
 ghost use Rattle.templates.specs.BuiltIns.{built_in};
 ghost use Rattle.templates.specs.Reading.{template_of_code};
 
-use crate::code::read_programs;
-use crate::fault::TemplateFault;
+use crate::code::{keep_programs, read_programs};
 use crate::template::Template;
+use arrayvec::ArrayVec;
 use std::alloc::{AllocError, Global};
+use udf_code::Word;
 
 /// Block 0's owns program, 26 words of four bytes.
 const CATALOGUE: [u8; 104] = [
@@ -45,9 +46,10 @@ fn known_template(alloc: Global, owns_code: &[u8], size_code: &[u8]) -> Result<T
     requires right { IsOk (template_of_code owns_code.now size_code.now) }
     ensures { IfOk result (λ template. template_of_code owns_code.now size_code.now ≡ Ok template) }
 {
-    match read_programs(alloc, owns_code, size_code) {
-        Ok(template) => Ok(template),
-        Err(TemplateFault::NoMemory) => Err(AllocError),
+    let mut owns = ArrayVec::<Word, 127>::new();
+    let mut size = ArrayVec::<Word, 127>::new();
+    match read_programs(owns_code, size_code, &mut owns, &mut size) {
+        Ok(()) => keep_programs(alloc, owns.as_slice(), size.as_slice()),
         Err(_) => unreachable!(),
     }
 }

@@ -2,7 +2,6 @@
 
 use std::alloc::AllocError;
 use std::{error, fmt};
-use thiserror::Error;
 
 /// Why a block is no template. The faults are found in the order `BadMark`, `BadCode`, `NotVerified`, `BytesAfter`.
 #[derive(Clone, Copy, Debug, Drop, PartialEq, Eq)]
@@ -21,7 +20,14 @@ pub enum TemplateFault {
 
 impl TemplateFault {
     ghost use Rattle.std.specs.Prelude.{◌≡◌};
-    ghost use Rattle.templates.specs.Faults.{fault_name};
+    ghost use Rattle.templates.specs.Faults.{fault_name, fault_number};
+
+    /// Its number.
+    pub fn number(self) -> u8
+        ensures { result ≡ fault_number self }
+    {
+        self as u8
+    }
 
     /// Its name.
     pub fn name(self) -> &'static str
@@ -52,18 +58,52 @@ impl fmt::Display for TemplateFault {
 impl error::Error for TemplateFault {}
 
 /// Why no image is made. The faults are found in the order `BadCount`, `TooManyTemplates`, `NoMemory`.
-#[derive(Clone, Copy, Debug, Drop, PartialEq, Eq, Error)]
+#[derive(Clone, Copy, Debug, Drop, PartialEq, Eq)]
 pub enum FormatFault {
     /// No memory for the image.
-    #[error("NoMemory")]
     NoMemory = 1,
     /// Fewer than 32 blocks, or more than 32,768.
-    #[error("BadCount")]
     BadCount = 2,
     /// More than 16 templates.
-    #[error("TooManyTemplates")]
     TooManyTemplates = 3,
 }
+
+impl FormatFault {
+    ghost use Rattle.std.specs.Prelude.{◌≡◌};
+    ghost use Rattle.templates.specs.Faults.{format_name, format_number};
+
+    /// Its number.
+    pub fn number(self) -> u8
+        ensures { result ≡ format_number self }
+    {
+        self as u8
+    }
+
+    /// Its name.
+    pub fn name(self) -> &'static str
+        ensures { result.now ≡ format_name self }
+    {
+        match self {
+            FormatFault::NoMemory => "NoMemory",
+            FormatFault::BadCount => "BadCount",
+            FormatFault::TooManyTemplates => "TooManyTemplates",
+        }
+    }
+}
+
+/// Its name.
+impl fmt::Display for FormatFault {
+    ghost use Rattle.std.specs.Prelude.{Some};
+    ghost use Rattle.templates.specs.Faults.{format_name};
+
+    ghost output = { λ fault. Some (format_name fault) };
+
+    fn fmt<W: fmt::Write>(&self, f: &mut fmt::Formatter<W>) -> fmt::Result {
+        f.write_str(self.name())
+    }
+}
+
+impl error::Error for FormatFault {}
 
 impl From<AllocError> for FormatFault {
     ghost use Rattle.std.specs.Prelude.{◌≡◌};

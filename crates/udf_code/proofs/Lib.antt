@@ -4,4 +4,5 @@ pub mod WordBytes
 pub mod Coding
 pub mod Steps
 pub mod Faults
+pub mod Stops
 pub mod ForCallers

@@ -1,12 +1,11 @@
 // Words as bytes: four bytes a word.
 
-ghost use Rattle.std.specs.Prelude.{◌≡◌, ◌⊎◌, ◌%◌, ◌/◌, ◌≤◌, List, [], length, slice_index, false, Ok, Err, IfOk, IfErr, MatchResult};
+ghost use Rattle.std.specs.Prelude.{◌≡◌, ◌⊎◌, ◌%◌, ◌/◌, ◌≤◌, List, [], length, slice_index, false, Ok, Err, IsOk, IfOk, IfErr, OnOk, OnErr, MatchResult};
 ghost use Rattle.udf_code.specs.declared.word.Word.{Word};
 ghost use Rattle.udf_code.specs.declared.fault.CodeFault.TheVariants.{NoMemory};
 ghost use Rattle.udf_code.specs.Bytes.{IsCode, encoded};
 ghost use Rattle.udf_code.specs.Structure.{place};
 ghost use Rattle.udf_code.specs.Decoding.{decoded, decoded_from, word_at};
-ghost use Rattle.std.specs.Vec.{vec_capacity};
 
 use crate::fault::CodeFault;
 use crate::op::Op;
@@ -32,38 +31,55 @@ pub fn encode(alloc: Global, words: &[Word]) -> Result<Vec<u8>, AllocError>
     Ok(bytes)
 }
 
-/// The words that bytes are. The faults come in this order: `OddLength`, `TooLong`, `NoMemory`, then word by word
-/// `BadOp`, `BadOperand` and the faults of `well_formed`, last `Unmatched` where a block is still open. All memory is
-/// taken after the length was looked at and before any word is.
+/// The words that bytes are. The faults are those of `decode_into`. Memory is taken last, for the words of a program
+/// alone, so `NoMemory` hides no fault of the bytes.
 pub fn decode(alloc: Global, bytes: &[u8]) -> Result<Vec<Word>, CodeFault>
     // The bytes are accepted exactly if they are the bytes of a program, with these words.
     ensures accepted { IfOk result (λ words. IsCode words.items bytes.now) }
-    ensures refused { IfErr result (λ fault. fault ≡ NoMemory ⊎ ((words : List Word) → ¬ (IsCode words bytes.now))) }
+    ensures refused { IfErr result (λ fault. ((fault ≡ NoMemory) × ((words : List Word) × IsCode words bytes.now))
+        ⊎ ((words : List Word) → ¬ (IsCode words bytes.now))) }
 
     // Which words or which fault it is.
-    ensures exact { MatchResult result (λ words. decoded bytes.now ≡ Ok words.items) (λ fault. fault ≡ NoMemory ⊎ decoded bytes.now ≡ Err fault) }
-    ensures length_first { IfErr result (λ fault. fault ≡ NoMemory → (length bytes.now % 4 ≡ 0) × (length bytes.now ≤ 508)) }
+    ensures exact { MatchResult result
+        (λ words. decoded bytes.now ≡ Ok words.items)
+        (λ fault. ((fault ≡ NoMemory) × IsOk (decoded bytes.now)) ⊎ (decoded bytes.now ≡ Err fault)) }
+{
+    let mut words = ArrayVec::<Word, 127>::new();
+    decode_into(bytes, &mut words)?;
+    let Ok(kept) = Vec::from_slice(alloc, words.as_slice()) else {
+        return Err(CodeFault::NoMemory);
+    };
+    Ok(kept)
+}
+
+/// Leaves in `words` the words that bytes are, whatever stood there. No memory is taken. The faults come in this order:
+/// `OddLength`, `TooLong`, then word by word `BadOp`, `BadOperand` and the faults of `well_formed`, last `Unmatched`
+/// where a block is still open.
+pub fn decode_into(bytes: &[u8], words: &mut ArrayVec<Word, 127>) -> Result<(), CodeFault>
+    // The bytes are accepted exactly if they are the bytes of a program, with these words.
+    ensures accepted { OnOk result (IsCode words.new.items bytes.now) }
+    ensures refused { OnErr result ((words : List Word) → ¬ (IsCode words bytes.now)) }
+
+    // Which words or which fault it is.
+    ensures exact { MatchResult result (λ done. decoded bytes.now ≡ Ok words.new.items) (λ fault. decoded bytes.now ≡ Err fault) }
 {
     let rest = bytes.len() % WORD_LEN;
     if rest != 0 {
         return Err(CodeFault::OddLength(bytes.len() - rest));
     }
-    let count = bytes.len() / WORD_LEN;
-    if count > MAX_WORDS {
+    if bytes.len() / WORD_LEN > MAX_WORDS {
         return Err(CodeFault::TooLong);
     }
-    let Ok(mut words) = Vec::with_capacity(alloc, count) else {
-        return Err(CodeFault::NoMemory);
-    };
-    read_words(bytes, &mut words)?;
-    Ok(words)
+    words.clear();
+    read_words(bytes, words)?;
+    Ok(())
 }
 
 /// Reads bytes of whole words into `words`, which has room for them.
-fn read_words(bytes: &[u8], words: &mut Vec<Word>) -> Result<(), CodeFault>
+fn read_words(bytes: &[u8], words: &mut ArrayVec<Word, 127>) -> Result<(), CodeFault>
     requires whole { length bytes.now % 4 ≡ 0 }
     requires empty { words.old.items ≡ [] }
-    requires room { length bytes.now / 4 ≤ vec_capacity words.old }
+    requires room { length bytes.now / 4 ≤ 127 }
     ensures { MatchResult result
         (λ _. decoded_from 0 bytes.now (place [] false) ≡ Ok words.new.items)
         (λ fault. decoded_from 0 bytes.now (place [] false) ≡ Err fault) }
@@ -75,7 +91,7 @@ fn read_words(bytes: &[u8], words: &mut Vec<Word>) -> Result<(), CodeFault>
         let start = at * WORD_LEN;
         let word = read_word(at, &bytes[start..start + WORD_LEN])?;
         may_claim = after(at, &word, &mut blocks, may_claim)?;
-        words.push(word).unwrap();
+        words.push(word);
     }
     if blocks.is_empty() {
         Ok(())

@@ -10,7 +10,7 @@ mod operands;
 pub mod structure;
 pub mod word;
 
-pub use crate::bytes::{WORD_LEN, decode, encode};
+pub use crate::bytes::{WORD_LEN, decode, decode_into, encode};
 pub use crate::fault::CodeFault;
 pub use crate::op::Op;
 pub use crate::structure::{MAX_WORDS, well_formed};

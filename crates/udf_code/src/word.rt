@@ -139,7 +139,7 @@ impl Turns {
 }
 
 /// A word of a program.
-#[derive(Clone, Copy, Debug, PartialEq, Eq)]
+#[derive(Clone, Copy, Debug, Default, PartialEq, Eq)]
 pub enum Word {
     Set(Register, u16),
     Mov(Register, Register),
@@ -157,6 +157,7 @@ pub enum Word {
     IfLess(Register, Register),
     IfEqual(Register, Register),
     Else,
+    #[default]
     End,
     For(Register, Turns),
     Keep(Register, u16),

@@ -1,8 +1,8 @@
 // Which places of a block a run reads.
 
-ghost use Rattle.std.specs.Prelude.{◌≡◌, ◌≢◌, ◌↔◌, ℕ, ◌+◌, ◌/◌, ◌<◌, ◌≤◌, IsTrue, List};
+ghost use Rattle.std.specs.Prelude.{◌≡◌, ◌≢◌, ◌↔◌, ℕ, ◌+◌, ◌/◌, ◌<◌, ◌≤◌, Contains, IsTrue, List};
 ghost use Rattle.std.specs.Int.{bit_at};
-ghost use Rattle.udf_run.specs.ReadSets.{AgreeFrom, AgreeOn};
+ghost use Rattle.udf_run.specs.ReadSets.{AgreeFrom, AgreeOn, ChunksOf};
 
 /// How many bytes a chunk has.
 const CHUNK_LEN: usize = 8;
@@ -61,13 +61,17 @@ pub trait TrackReads {
     /// Two blocks hold the same in all places that were read.
     ghost Agree: { Self → List ℕ → List ℕ → Type 0 };
 
+    /// What was noted are chunks of these places alone.
+    ghost Only: { Self → List ℕ → Type 0 };
+
     /// The bytes from one place to another, at most 8 further, are read.
     fn track(&mut self, first: usize, last: usize)
         requires ordered { first ≤ last }
         requires near { last ≤ first + 8 }
         requires within { last < 512 }
         ensures before { (block other : List ℕ) → Agree self.new block other → Agree self.old block other }
-        ensures here { (block other : List ℕ) → Agree self.new block other → AgreeFrom first last block other };
+        ensures here { (block other : List ℕ) → Agree self.new block other → AgreeFrom first last block other }
+        ensures only { (places : List ℕ) → Contains places first → Contains places last → Only self.old places → Only self.new places };
 
     ghost agrees_with_itself: { (reads : Self) (block : List ℕ) → Agree reads block block };
 }
@@ -76,6 +80,8 @@ impl TrackReads for ReadSet {
     ghost use Rattle.std.specs.Prelude.{refl};
 
     ghost Agree = { λ reads block other. AgreeOn reads.chunks block other };
+
+    ghost Only = { λ reads places. ChunksOf reads.chunks places };
 
     #[inline(always)]
     fn track(&mut self, first: usize, last: usize) {
@@ -94,6 +100,8 @@ impl TrackReads for Untracked {
     ghost use Rattle.std.specs.Prelude.{◌≡◌, refl};
 
     ghost Agree = { λ reads block other. other ≡ block };
+
+    ghost Only = { λ reads places. Unit {0} };
 
     #[inline(always)]
     fn track(&mut self, _first: usize, _last: usize) {}

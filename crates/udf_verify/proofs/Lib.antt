@@ -16,3 +16,4 @@ pub mod Whole
 pub mod Judged
 pub mod Accepted
 pub mod ForCallers
+pub mod NoPairs

@@ -35,6 +35,11 @@ abbrev pub cost_limit : Role → ℕ
 cost_limit role.Owns = 8192
 cost_limit role.Size = 1024
 
+-- the greatest number of pairs that a run may emit
+abbrev pub pairs_limit : Role → ℕ
+pairs_limit role.Owns = 128
+pairs_limit role.Size = 0
+
 -- the answer of a size program is at most a block's bytes
 abbrev pub answer_fits : Role → List Interval → Bool
 answer_fits role.Owns ivs = true

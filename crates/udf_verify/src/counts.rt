@@ -2,7 +2,7 @@
 
 ghost use Rattle.std.specs.Prelude.{◌≡◌, ◌+◌, ◌*◌, min, max};
 
-/// The steps that a run of a block makes at most, and the pairs that it emits, each cut off at 2^32 - 1.
+/// The steps that a run of a block makes at most, and the pairs that it emits at most, each cut off at 2^32 - 1.
 #[derive(Clone, Copy, Debug, Default, PartialEq, Eq)]
 pub struct Counts {
     pub steps: u32,
@@ -11,7 +11,7 @@ pub struct Counts {
 
 impl Counts {
     /// One part of a block after another.
-    pub fn then(self, other: Counts) -> Counts
+    pub(crate) fn then(self, other: Counts) -> Counts
         ensures steps { result.steps ≡ min (self.steps + other.steps) u32.MAX }
         ensures pairs { result.pairs ≡ min (self.pairs + other.pairs) u32.MAX }
     {
@@ -22,7 +22,7 @@ impl Counts {
     }
 
     /// One branch or the other.
-    pub fn either(self, other: Counts) -> Counts
+    pub(crate) fn either(self, other: Counts) -> Counts
         ensures steps { result.steps ≡ max self.steps other.steps }
         ensures pairs { result.pairs ≡ max self.pairs other.pairs }
     {
@@ -33,7 +33,7 @@ impl Counts {
     }
 
     /// One step more.
-    pub fn stepped(self) -> Counts
+    pub(crate) fn stepped(self) -> Counts
         ensures steps { result.steps ≡ min (1 + self.steps) u32.MAX }
         ensures pairs { result.pairs ≡ self.pairs }
     {
@@ -44,7 +44,7 @@ impl Counts {
     }
 
     /// So many times over.
-    pub fn times(self, turns: u16) -> Counts
+    pub(crate) fn times(self, turns: u16) -> Counts
         ensures steps { result.steps ≡ min (turns * self.steps) u32.MAX }
         ensures pairs { result.pairs ≡ min (turns * self.pairs) u32.MAX }
     {

@@ -5,7 +5,7 @@
 mod check;
 pub mod checked;
 mod claims;
-mod counts;
+pub mod counts;
 pub mod fault;
 pub mod interval;
 pub mod law;
@@ -18,5 +18,6 @@ pub mod verifier;
 mod written;
 
 pub use checked::Checked;
+pub use counts::Counts;
 pub use fault::{FaultKind, Role, VerifyFault};
-pub use verifier::verify;
+pub use verifier::{judge, verify};

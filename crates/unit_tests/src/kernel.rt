@@ -1,53 +1,14 @@
 // A kernel over lanes that fail, and its calls that no script has.
 
+use crate::disks::{failing_lanes, fresh_lanes, fs};
 use crash_check::mount;
-use disk::{Lanes, MemDisk, MemLane, PlanLane};
+use disk::{Lane, Lanes, MemLane, PlanLane};
 use std::alloc::Global;
 use std::test::Fail;
 use std::thread::Threads;
-use templates::format_image;
-use xn_kernel::{DrainStop, EditId, Fs, Kernel, Refusal, Ticket};
+use xn_kernel::{DrainStop, EditId, Fs, Kernel, Landed, Refusal, Ticket};
 
 // These functions have no contracts, so that the proofs of the tests stay short.
-
-/// The lanes of a fresh disk of 32 blocks.
-fn fresh_lanes(alloc: Global) -> Result<Lanes<MemLane>, Fail> {
-    let image = format_image(alloc, 32, &[])?;
-    if image.len() != 16_384 {
-        return Err("another length".into());
-    }
-    match MemDisk::new(alloc, &image)?.split(alloc) {
-        Ok(lanes) => Ok(lanes),
-        Err(_) => Err("no memory".into()),
-    }
-}
-
-/// The same lanes, of which one fails at a read, where the mount's is the first, and at a write, with whether the new
-/// bytes stay.
-fn failing_lanes(
-    alloc: Global,
-    failing: u32,
-    read: Option<u64>,
-    write: Option<(u64, bool)>,
-) -> Result<Lanes<PlanLane>, Fail> {
-    let mut lanes = fresh_lanes(alloc)?;
-    let mut planned = Lanes::new(alloc, 32)?;
-    for block in 0..32 {
-        if lanes.blocks() != 32 {
-            return Err("another count".into());
-        }
-        let lane = lanes.take(block).ok_or("no lane")?;
-        let lane = if block == failing {
-            PlanLane::new(lane, read, write)
-        } else {
-            PlanLane::new(lane, None, None)
-        };
-        if planned.give(lane).is_err() {
-            return Err("no place".into());
-        }
-    }
-    Ok(planned)
-}
 
 /// The kernel over these lanes.
 fn mounted(
@@ -88,14 +49,10 @@ fn rooted(
     Ok(kernel)
 }
 
-fn fs(number: u8) -> Result<Fs, Fail> {
-    Ok(Fs::new(number).ok_or("no file system")?)
-}
-
 /// How a drain ended: how many writes it finished, and, where it stopped, why, and the ticket that it gave out.
-type Drained = (u32, Option<Refusal>, Option<Ticket<PlanLane>>);
+type Drained<L> = (u32, Option<Refusal>, Option<Ticket<L>>);
 
-fn drained(kernel: &mut Kernel<PlanLane>) -> Drained {
+fn drained<L: Lane>(kernel: &mut Kernel<L>) -> Drained<L> {
     match kernel.drain() {
         Ok(writes) => (writes, None, None),
         Err(
@@ -109,7 +66,7 @@ fn drained(kernel: &mut Kernel<PlanLane>) -> Drained {
 }
 
 /// The same, of which a ticket is given up.
-fn drain(kernel: &mut Kernel<PlanLane>) -> (u32, Option<Refusal>, bool) {
+pub fn drain<L: Lane + Drop>(kernel: &mut Kernel<L>) -> (u32, Option<Refusal>, bool) {
     let (writes, refusal, ticket) = drained(kernel);
     match ticket {
         None => (writes, refusal, false),
@@ -120,10 +77,10 @@ fn drain(kernel: &mut Kernel<PlanLane>) -> (u32, Option<Refusal>, bool) {
     }
 }
 
-/// What a finished write made durable; a ticket that comes back is given up.
-fn finish(kernel: &mut Kernel<PlanLane>, ticket: Ticket<PlanLane>) -> Option<u32> {
+/// What a finished write did; a ticket that comes back is given up.
+fn finish(kernel: &mut Kernel<PlanLane>, ticket: Ticket<PlanLane>) -> Option<Landed> {
     match kernel.finish(ticket) {
-        Ok(landed) => Some(landed.durable),
+        Ok(landed) => Some(landed),
         Err((ticket, _refusal)) => {
             let _lane = ticket.into_lane();
             None
@@ -161,15 +118,34 @@ fn a_drain_stops_where_a_write_fails(rt: HostRuntime) -> Result<(), Fail> {
     Ok(())
 }
 
-/// How many writes a drain finished that could not read a block back, why a write of block 0 doesn't begin then, what the ticket's
-/// finish makes durable, and the floor of a file system after it.
-fn unread(kernel: Kernel<PlanLane>, owner: Fs) -> Option<(u32, Option<Refusal>, Option<u32>, u64)> {
+/// What is told of a block that isn't read back.
+#[derive(PartialEq, Drop)]
+struct Unread {
+    writes: u32,
+    stopped: Option<Refusal>,
+    block: u32,
+    begun: Option<Refusal>,
+    finished: Option<Landed>,
+    floor: u64,
+}
+
+/// How a drain ends that can't read a block back, why a write of block 0 doesn't begin then, what the finish of the drain's ticket
+/// does, and the floor of a file system after it.
+fn read_back(kernel: Kernel<PlanLane>, owner: Fs) -> Option<Unread> {
     let mut kernel = kernel;
-    let (writes, _refusal, ticket) = drained(&mut kernel);
+    let (writes, stopped, ticket) = drained(&mut kernel);
     let ticket = ticket?;
+    let block = ticket.block();
     let begun = begin(&mut kernel, 0);
-    let durable = finish(&mut kernel, ticket);
-    Some((writes, begun, durable, kernel.floor(owner)))
+    let finished = finish(&mut kernel, ticket);
+    Some(Unread {
+        writes,
+        stopped,
+        block,
+        begun,
+        finished,
+        floor: kernel.floor(owner),
+    })
 }
 
 #[test]
@@ -178,8 +154,19 @@ fn a_drain_gives_out_the_ticket_of_a_block_that_is_not_read_back(
 ) -> Result<(), Fail> {
     let alloc = rt.alloc();
     let lanes = failing_lanes(alloc, 0, Some(2), None)?;
-    let told = unread(rooted(&rt, alloc, lanes)?, fs(0)?);
-    assert!(rt; told == Some((1, Some(Refusal::InFlight), Some(1), 3)));
+    let told = read_back(rooted(&rt, alloc, lanes)?, fs(0)?);
+    let want = Unread {
+        writes: 1,
+        stopped: Some(Refusal::Device),
+        block: 0,
+        begun: Some(Refusal::InFlight),
+        finished: Some(Landed {
+            durable: 1,
+            freed: 0,
+        }),
+        floor: 3,
+    };
+    assert!(rt; told == Some(want));
     Ok(())
 }
 

@@ -2,6 +2,8 @@
 #![tactic(auto)]
 
 #[cfg(test)]
+mod disks;
+#[cfg(test)]
 mod kernel;
 #[cfg(test)]
 mod lanes;
@@ -13,6 +15,8 @@ mod playing;
 mod roles;
 #[cfg(test)]
 mod streams;
+#[cfg(test)]
+mod tickets;
 #[cfg(test)]
 mod words;
 #[cfg(test)]

@@ -1,23 +1,11 @@
 // Mounts that give the lanes back, and what they sync.
 
+use crate::disks::{are_home, failing_lanes, fresh_lanes};
 use crash_check::{ImageFault, mount};
-use disk::{DeviceFault, Lane, Lanes, MemDisk, MemLane};
+use disk::{DeviceFault, Lane, Lanes, MemLane};
 use std::alloc::Global;
 use std::test::Fail;
 use std::thread::Threads;
-use templates::format_image;
-
-/// The lanes of a fresh disk of 32 blocks.
-fn fresh_lanes(alloc: Global) -> Result<Lanes<MemLane>, Fail> {
-    let image = format_image(alloc, 32, &[])?;
-    if image.len() != 16_384 {
-        return Err("another length".into());
-    }
-    match MemDisk::new(alloc, &image)?.split(alloc) {
-        Ok(lanes) => Ok(lanes),
-        Err(_) => Err("no memory".into()),
-    }
-}
 
 /// The fault of a mount, with the lanes that it gave back.
 fn faulty(
@@ -56,19 +44,6 @@ fn last_lane(lanes: &mut Lanes<MemLane>) -> Result<MemLane, Fail> {
     Ok(lanes.take(31).ok_or("no lane")?)
 }
 
-/// Whether every lane is at home.
-fn are_home(lanes: &Lanes<MemLane>) -> bool {
-    if lanes.blocks() != 32 {
-        return false;
-    }
-    for block in 0..32 {
-        if lanes.lane(block).is_none() {
-            return false;
-        }
-    }
-    true
-}
-
 #[test]
 fn a_mount_reads_no_lane_whose_sync_fails(rt: HostRuntime) -> Result<(), Fail> {
     let mut lanes = fresh_lanes(rt.alloc())?;
@@ -100,5 +75,17 @@ fn a_mount_settles_what_it_reads(rt: HostRuntime) -> Result<(), Fail> {
     let mut lane = last_lane(&mut lanes)?;
     lane.crash(false);
     assert_eq!(rt; lane.bytes()[511], 9);
+    Ok(())
+}
+
+#[test]
+fn a_mount_that_cannot_read_a_lane_gives_all_back(rt: HostRuntime) -> Result<(), Fail> {
+    let lanes = failing_lanes(rt.alloc(), 5, Some(1), None)?;
+    let Err((fault, lanes)) = mount(&rt, rt.alloc(), lanes, 1) else {
+        return Err("a mount".into());
+    };
+    assert_eq!(rt; fault, ImageFault::Device);
+    assert!(rt; are_home(&lanes));
+    assert!(rt; mount(&rt, rt.alloc(), lanes, 1).is_ok());
     Ok(())
 }

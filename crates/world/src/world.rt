@@ -278,7 +278,7 @@ impl World {
         ensures { model.Step (world_with self.old) (event_of event.now) (reply_of reply.new) (world_with self.new) }
     {
         match event {
-            Event::Crash(kept) => *reply = self.crash(rt, kept),
+            Event::Crash(kept) => self.crash_into(rt, kept, reply),
             Event::Call(_, _)
             | Event::Begin(_)
             | Event::Land(_)
@@ -320,6 +320,14 @@ impl World {
             }
             Err(_) => unreachable!(),
         }
+    }
+
+    /// The same, with the reply left in `reply`. It is not inlined, so that no other event clears the room of a reply for it.
+    #[inline(never)]
+    fn crash_into(&mut self, rt: &(impl Threads + Sync), kept: &[u32], reply: &mut Reply)
+        ensures { model.AfterCrash (world_with self.old) kept.now (reply_of reply.new) (world_with self.new) }
+    {
+        *reply = self.crash(rt, kept);
     }
 
     /// The rules hold of every world. This does nothing.

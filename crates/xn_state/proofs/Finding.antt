@@ -1,24 +1,25 @@
 -- The lives of blocks that are found, put into their places one after another.
 use Rattle.std.proofs.Common.{◌≡◌, ℕ, Bool, zero, suc, ◌+◌, ◌/◌, ◌<◌, true, false, not, List, [], ◌∷◌, ◌++◌, length, map, take, get_or, drop, replicate, slice_set, Option, Some, None, refl, sym, ◌∙◌, ap, arith, subst, inl, inr}
-use Rattle.std.specs.Prelude.{IsTrue, find, ◌==◌, ◌||◌, slice_index}
+use Rattle.std.specs.Prelude.{IsTrue, cond, find, is_none, ◌==◌, ◌||◌, slice_index}
 use Rattle.std.specs.List.{fold, range_with_len}
 use Rattle.std.specs.Simd.{first_chunks}
 use Rattle.std.proofs.lemmas.Bool.{cases_eq, eq-eqb, ne_eqb, cond-true, cond-false, and_parts, false≢true}
-use Rattle.std.proofs.lemmas.Option.{unwrap_or-slice_get}
-use Rattle.std.proofs.lemmas.List.{get_or-replicate, length-set, length-replicate, take_more}
-use Rattle.std.proofs.lemmas.List.FromFn.{fill_by_all}
+use Rattle.std.proofs.lemmas.List.{get_or-map, get_or-replicate, get_or-set_same, get_or-set_other, length-map, length-set, length-replicate, take_more}
+use Rattle.std.proofs.lemmas.Simd.{map-map}
+use Rattle.std.proofs.lemmas.List.FromFn.{fill_by_all, get_or-map-range_with_len, length-map-range_with_len}
 use Rattle.std.proofs.lemmas.List.Sums.{fold-append, sum_by-cons}
 use Rattle.xn_model.specs.Lists.{has_number, distinct}
-use Rattle.xn_model.specs.Images.{block_of, blocks_in}
-use Rattle.xn_model.specs.Lives.{Life, Lives, life_at}
+use Rattle.xn_model.specs.Images.{blocks_in}
+use Rattle.xn_model.specs.Lives.{Lives}
 use Rattle.xn_model.specs.Mounts as model
 use Rattle.xn_model.specs.Mounts.{found_life, life_found, lives_found, life_at_rest}
 use Rattle.xn_model.specs.Calls.{pending_in}
-use Rattle.xn_model.proofs.ForCallers.{set_other, set_same}
 use Rattle.xn_state.specs.declared.found.Found.{Found}
 use Rattle.xn_state.specs.Kept.{IsCounted}
-use Rattle.xn_state.specs.Mounts.{found_of, lives_in}
-use Rattle.xn_state.proofs.Counting.{counted, marks, marks-set}
+use Rattle.block_cache.specs.declared.life.FoundLife.{FoundLife}
+use Rattle.block_cache.specs.Views.{rest_at, rest_in}
+use Rattle.xn_state.specs.Mounts.{found_of, life_of, lives_in}
+use Rattle.xn_state.proofs.Counting.{counted, marks}
 
 pub length-blocks : (image : List ℕ) → length (blocks_in image) ≡ length image / 512
 length-blocks image = go (length image / 512) image
@@ -27,26 +28,29 @@ length-blocks image = go (length image / 512) image
     go zero bytes = refl
     go (suc k) bytes = ap suc (go k (drop 512 bytes))
 
--- a life more
-abbrev pub put_found : List (List ℕ) → Lives → Found → Lives
-put_found image lives f = slice_set lives f.block (Some (life_at_rest (found_of f) (block_of image f.block)))
+-- the place of a block that is found, and those of all
+abbrev pub put_found : List (Option FoundLife) → Found → List (Option FoundLife)
+put_found places f = slice_set places f.block (Some (life_of f))
 
-abbrev pub all_put : List (List ℕ) → Lives → List Found → Lives
-all_put image lives found = fold (put_found image) lives found
+abbrev pub all_put : List (Option FoundLife) → List Found → List (Option FoundLife)
+all_put places found = fold put_found places found
 
 abbrev pub numbers : List Found → List ℕ
 numbers found = map (λ f. f.block) found
 
--- the one of a block, behind lives that were there
-abbrev or_else : List (List ℕ) → ℕ → Option model.Found → Option Life → Option Life
-or_else image c None old = old
-or_else image c (Some f) old = found_life image c (Some f)
+-- the one of a block, behind what was there
+abbrev or_else : Option Found → Option FoundLife → Option FoundLife
+or_else None old = old
+or_else (Some f) old = Some (life_of f)
 
-none_of : (found : List Found) (c : ℕ) → has_number (numbers found) c ≡ false → find (λ f. f.block == c) (map found_of found) ≡ None
+abbrev found_at : ℕ → List Found → Option Found
+found_at c found = find (λ f. f.block == c) found
+
+none_of : (found : List Found) (c : ℕ) → has_number (numbers found) c ≡ false → found_at c found ≡ None
 none_of [] c h = refl
 none_of (f ∷ found) c h = elim (cases_eq f.block c) [
   | inl same ↦ absurd (true_false (ap (λ t. t || has_number (numbers found) c) (eq-eqb f.block c same)) h)
-  | inr ne ↦ cond-false (f.block == c) (Some (found_of f)) (find (λ f. f.block == c) (map found_of found)) (ne_eqb f.block c ne)
+  | inr ne ↦ cond-false (f.block == c) (Some f) (found_at c found) (ne_eqb f.block c ne)
       ∙ none_of found c (sym (ap (λ t. t || has_number (numbers found) c) (ne_eqb f.block c ne)) ∙ h)
 ]
   where
@@ -57,51 +61,72 @@ not_false : (t : Bool) → not t ≡ true → t ≡ false
 not_false true h = absurd (false≢true h)
 not_false false h = refl
 
-place_of : (image : List (List ℕ)) (found : List Found) (lives : Lives) (c : ℕ) → IsTrue (distinct (numbers found)) → c < length lives →
-    life_at (all_put image lives found) c ≡ or_else image c (find (λ f. f.block == c) (map found_of found)) (life_at lives c)
-place_of image [] lives c once within = refl
-place_of image (f ∷ found) lives c once within =
+place_of : (found : List Found) (places : List (Option FoundLife)) (c : ℕ) → IsTrue (distinct (numbers found)) → c < length places →
+    get_or (all_put places found) c None ≡ or_else (found_at c found) (get_or places c None)
+place_of [] places c once within = refl
+place_of (f ∷ found) places c once within =
     let parts = and_parts (not (has_number (numbers found) f.block)) (distinct (numbers found)) once in
-    let next = put_found image lives f in
-    let kept = length-set lives f.block (Some (life_at_rest (found_of f) (block_of image f.block))) in
-    let rest = place_of image found next c parts.1 (omega arith) in
+    let next = put_found places f in
+    let kept = length-set places f.block (Some (life_of f)) in
+    let rest = place_of found next c parts.1 (omega (arith, within, kept)) in
     elim (cases_eq f.block c) [
       | inl same ↦
           let none = none_of found c (subst (λ b. has_number (numbers found) b ≡ false) same (not_false (has_number (numbers found) f.block) parts.0)) in
           rest
-          ∙ (ap (λ o. or_else image c o (life_at next c)) none
-          ∙ ((λ i. life_at (slice_set lives (same i) (Some (life_at_rest (found_of f) (block_of image (same i))))) c)
-          ∙ (set_same lives c (Some (life_at_rest (found_of f) (block_of image c))) within
-          ∙ sym (ap (λ o. or_else image c o (life_at lives c)) (cond-true (f.block == c) (Some (found_of f)) (find (λ f. f.block == c) (map found_of found)) (eq-eqb f.block c same))))))
+          ∙ (ap (λ o. or_else o (get_or next c None)) none
+          ∙ ((λ i. get_or (slice_set places (same i) (Some (life_of f))) c None)
+          ∙ (get_or-set_same places c (Some (life_of f)) None within
+          ∙ sym (ap (λ o. or_else o (get_or places c None)) (cond-true (f.block == c) (Some f) (found_at c found) (eq-eqb f.block c same))))))
       | inr ne ↦
           rest
-          ∙ (ap (or_else image c (find (λ f. f.block == c) (map found_of found))) (set_other lives f.block c (Some (life_at_rest (found_of f) (block_of image f.block))) (λ e. ne (sym e)))
-          ∙ sym (ap (λ o. or_else image c o (life_at lives c)) (cond-false (f.block == c) (Some (found_of f)) (find (λ f. f.block == c) (map found_of found)) (ne_eqb f.block c ne))))
+          ∙ (ap (or_else (found_at c found)) (get_or-set_other places f.block c (Some (life_of f)) None (λ e. ne (sym e)))
+          ∙ sym (ap (λ o. or_else o (get_or places c None)) (cond-false (f.block == c) (Some f) (found_at c found) (ne_eqb f.block c ne))))
     ]
 
-length-all_put : (image : List (List ℕ)) (found : List Found) (lives : Lives) → length (all_put image lives found) ≡ length lives
-length-all_put image [] lives = refl
-length-all_put image (f ∷ found) lives = length-all_put image found (put_found image lives f) ∙ length-set lives f.block (Some (life_at_rest (found_of f) (block_of image f.block)))
+pub length-all_put : (found : List Found) (places : List (Option FoundLife)) → length (all_put places found) ≡ length places
+length-all_put [] places = refl
+length-all_put (f ∷ found) places = length-all_put found (put_found places f) ∙ length-set places f.block (Some (life_of f))
+
+-- the life of a block, first or among the others
+first_rest : (blocks : List (List ℕ)) (c : ℕ) (t : Bool) (f : Found) (o : Option Found) (p : Option model.Found) → rest_in blocks c (or_else o None) ≡ found_life blocks c p →
+    rest_in blocks c (or_else (cond t (Some f) o) None) ≡ found_life blocks c (cond t (Some (found_of f)) p)
+first_rest blocks c true f o p same = refl
+first_rest blocks c false f o p same = same
+
+found_rest : (blocks : List (List ℕ)) (found : List Found) (c : ℕ) → rest_in blocks c (or_else (found_at c found) None) ≡ life_found blocks (map found_of found) c
+found_rest blocks [] c = refl
+found_rest blocks (f ∷ found) c = first_rest blocks c (f.block == c) f (found_at c found) (find (λ f. f.block == c) (map found_of found)) (found_rest blocks found c)
 
 -- on a disk on which all was free
-pub all_found : (image : List ℕ) (found : List Found) (n : ℕ) → n ≡ length image / 512 → IsTrue (distinct (numbers found)) → all_put (blocks_in image) (replicate n None) found ≡ lives_in image found
-all_found image found n is once =
+pub all_found : (image : List ℕ) (found : List Found) (places : List (Option FoundLife)) → IsTrue (distinct (numbers found)) →
+    places ≡ all_put (replicate (length (blocks_in image)) None) found →
+    map (rest_at places (blocks_in image)) (range_with_len 0 (length places)) ≡ lives_in image found
+all_found image found places once is =
     let blocks = blocks_in image in
-    let start : Lives = replicate n None in
-    let free = length-replicate {A = Option Life} n None in
-    let kept = length-all_put blocks found start in
-    let long = length-blocks image in
-    fill_by_all (life_found blocks (map found_of found)) (all_put blocks start found) (length blocks) None (omega arith)
+    let n = length blocks in
+    let start : List (Option FoundLife) = replicate n None in
+    let free = length-replicate {A = Option FoundLife} n None in
+    let long = ap length is ∙ (length-all_put found start ∙ free) in
+    let lives = map (rest_at places blocks) (range_with_len 0 (length places)) in
+    let many = length-map-range_with_len (rest_at places blocks) 0 (length places) in
+    fill_by_all (life_found blocks (map found_of found)) lives n None (many ∙ long)
     (λ c lt.
-    let within : c < length start = omega arith in
-    sym (unwrap_or-slice_get (all_put blocks start found) c None)
-    ∙ (place_of blocks found start c once within
-    ∙ (ap (or_else blocks c (find (λ f. f.block == c) (map found_of found))) (unwrap_or-slice_get start c None ∙ get_or-replicate n c None None (omega arith))
-    ∙ as_found blocks c (find (λ f. f.block == c) (map found_of found)))))
+    let within : c < length start = omega (arith, lt, free) in
+    get_or-map-range_with_len (rest_at places blocks) 0 (length places) c c None (omega (arith, lt, long)) (omega arith)
+    ∙ (ap (rest_in blocks c) (ap (λ (ps : List (Option FoundLife)). get_or ps c None) is ∙ (place_of found start c once within ∙ ap (or_else (found_at c found)) (get_or-replicate n c None None lt)))
+    ∙ found_rest blocks found c))
+
+-- what is free has no life
+pub all_marked : (blocks : List (List ℕ)) (places : List (Option FoundLife)) → map is_none places ≡ marks (map (rest_at places blocks) (range_with_len 0 (length places)))
+all_marked blocks places =
+    let n = length places in
+    fill_by_all (λ c. is_none (rest_at places blocks c)) (map is_none places) n true (length-map places is_none)
+    (λ c lt. get_or-map is_none places c None true lt ∙ same c (get_or places c None))
+    ∙ sym (map-map is_none (rest_at places blocks) (range_with_len 0 n))
   where
-    as_found : (image : List (List ℕ)) (c : ℕ) (o : Option model.Found) → or_else image c o None ≡ found_life image c o
-    as_found image c None = refl
-    as_found image c (Some f) = refl
+    same : (c : ℕ) (o : Option FoundLife) → is_none o ≡ is_none (rest_in blocks c o)
+    same c None = refl
+    same c (Some f) = refl
 
 -- Nothing is pending
 
@@ -125,14 +150,19 @@ found_counted image found lives free pending e marked zeros = record {
 }
 
 -- one more is found
-pub found_more : (image : List (List ℕ)) (lives : Lives) (found : List Found) (i : ℕ) (f : Found) → i < length found → f ≡ get_or found i f →
-    put_found image (all_put image lives (take i found)) f ≡ all_put image lives (take (i + 1) found)
-found_more image lives found i f within is =
-    sym (ap (all_put image lives) (take_more found i f within ∙ ap (λ x. take i found ++ x ∷ []) (sym is)) ∙ fold-append (put_found image) lives (take i found) (f ∷ []))
+pub found_more : (places : List (Option FoundLife)) (found : List Found) (i : ℕ) (f : Found) → i < length found → f ≡ get_or found i f →
+    put_found (all_put places (take i found)) f ≡ all_put places (take (i + 1) found)
+found_more places found i f within is =
+    sym (ap (all_put places) (take_more found i f within ∙ ap (λ x. take i found ++ x ∷ []) (sym is)) ∙ fold-append put_found places (take i found) (f ∷ []))
 
-pub marks_more : (free : List Bool) (lives : Lives) (b : ℕ) (l : Life) → free ≡ marks lives → slice_set free b false ≡ marks (slice_set lives b (Some l))
-marks_more free lives b l e = ap (λ ts. slice_set ts b false) e ∙ sym (marks-set lives b (Some l))
+pub marks_more : (free : List Bool) (places : List (Option FoundLife)) (b : ℕ) (l : FoundLife) → free ≡ map is_none places → slice_set free b false ≡ map is_none (slice_set places b (Some l))
+marks_more free places b l e = ap (λ ts. slice_set ts b false) e ∙ go places b
+  where
+    go : (ps : List (Option FoundLife)) (b : ℕ) → slice_set (map is_none ps) b false ≡ map is_none (slice_set ps b (Some l))
+    go [] b = refl
+    go (o ∷ os) zero = refl
+    go (o ∷ os) (suc b) = ap (λ ts. is_none o ∷ ts) (go os b)
 
-pub no_marks : (n : ℕ) → replicate n true ≡ marks (replicate n None)
+pub no_marks : (n : ℕ) → replicate n true ≡ map is_none (replicate {A = Option FoundLife} n None)
 no_marks zero = refl
 no_marks (suc n) = ap (λ ts. true ∷ ts) (no_marks n)

@@ -1,5 +1,5 @@
 -- What the first entries of a block drop.
-use Rattle.std.proofs.Common.{◌≡◌, ℕ, ◌+◌, ◌<◌, Bool, true, List, ◌++◌, drop, refl, ◌∙◌, ap, Option, Some, None, slice_get}
+use Rattle.std.proofs.Common.{◌≡◌, ℕ, ◌+◌, ◌<◌, Bool, true, List, ◌++◌, refl, ◌∙◌, ap, Option, Some, None, slice_get}
 use Rattle.std.specs.Prelude.{option_map, slice_set}
 use Rattle.std.proofs.lemmas.List.Sums.{fold-append}
 use Rattle.xn_model.specs.Calls.{first_pending, life_pending}

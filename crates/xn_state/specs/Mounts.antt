@@ -7,11 +7,16 @@ use Rattle.xn_model.specs.Types.{Types}
 use Rattle.xn_model.specs.Images.{IsSound, block_of, blocks_in}
 use Rattle.xn_model.specs.Lives.{Lives}
 use Rattle.xn_model.specs.Mounts as model
-use Rattle.xn_model.specs.Mounts.{IsRecovered, lives_found}
+use Rattle.xn_model.specs.Mounts.{IsRecovered, found_status, lives_found}
+use Rattle.block_cache.specs.declared.life.FoundLife.{FoundLife}
 use Rattle.xn_state.specs.declared.found.Found.{Found}
 
 abbrev pub found_of : Found → model.Found
 found_of f = record { block = f.block; ty = f.ty; owner = f.owner; fs = option_map (λ s. s.number) f.fs }
+
+-- what is found of the block beside its bytes
+abbrev pub life_of : Found → FoundLife
+life_of f = record { fs = f.fs; ty = f.ty; status = found_status f.owner }
 
 abbrev pub lives_in : List ℕ → List Found → Lives
 lives_in image found = lives_found (blocks_in image) (map found_of found)

@@ -3,7 +3,7 @@
 use edit_list::Edit;
 
 /// A call of a store, for a file system.
-#[derive(Debug)]
+#[derive(Debug, Drop)]
 pub enum Call {
     /// A fresh block of this type with these bytes.
     Init { ty: u32, bytes: [u8; 512] },
@@ -33,26 +33,4 @@ pub enum Call {
     Pick,
     /// The writes of all blocks, until nothing is pending.
     Drain,
-}
-
-/// Written by hand, so that a function that drops one calls this: a derived drop is proved anew in each such function.
-impl Drop for Call {
-    fn drop(self) {
-        match self {
-            Call::Propose { block: _, edit: _ } => {}
-            Call::Init { ty: _, bytes: _ } => {}
-            Call::MakeRoot { block: _ }
-            | Call::Forget { block: _ }
-            | Call::Read { block: _ }
-            | Call::Kind { block: _ }
-            | Call::Tainted { block: _ } => {}
-            Call::DropRoot
-            | Call::Root
-            | Call::Pending
-            | Call::Floor
-            | Call::Free
-            | Call::Pick
-            | Call::Drain => {}
-        }
-    }
 }

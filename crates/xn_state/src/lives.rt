@@ -1,6 +1,6 @@
 // The lives of all blocks, with what is counted of them.
 
-ghost use Rattle.std.specs.Prelude.{◌≡◌, ℕ, ◌^◌, ◌<◌, ◌≤◌, ◌&&◌, ◌==◌, All, false, length, map, Option, Some, None, IfOk, IsTrue, OnOk, OnErr, is_some, is_none, count_by, option_map, position, slice_get, slice_set, sum_by};
+ghost use Rattle.std.specs.Prelude.{◌≡◌, ℕ, ◌^◌, ◌<◌, ◌≤◌, ◌&&◌, ◌==◌, All, false, length, map, replicate, Option, Some, None, IfOk, IsTrue, OnOk, OnErr, is_some, is_none, count_by, option_map, position, slice_get, slice_set, sum_by};
 ghost use Rattle.std.specs.Option.{option_copied};
 ghost use Rattle.xn_model.specs.Lists.{distinct};
 ghost use Rattle.xn_model.specs.Lives.{accepted_at, alive_and, chain_end, current, dropped_after, entries_of, is_for, least_to, life_at, lowest_free, owned_after};
@@ -13,11 +13,11 @@ ghost use Rattle.xn_model.specs.Mounts.{found_status};
 ghost use Rattle.owner_records.specs.Owners.{is_claimed, owned_count};
 ghost use Rattle.claims.specs.Owned.{MayClaim};
 ghost use Rattle.dependencies.specs.Pending.{pends};
-ghost use Rattle.xn_state.specs.Mounts.{lives_in};
+ghost use Rattle.xn_state.specs.Mounts.{life_of, lives_in};
 
 use crate::counts::mark;
 use crate::found::Found;
-use block_cache::{Cache, Claim, Facts};
+use block_cache::{Cache, Claim, Facts, FoundLife};
 use block_set::BlockSet;
 use claims::OwnedCounts;
 use dependencies::{Candidates, Homes, home_for, least_for, note_number};
@@ -87,14 +87,14 @@ impl Lives {
     {
         let (blocks, _) = image.as_chunks::<512>();
         let count = blocks.len() as u32;
-        let mut cache = Cache::new(alloc, count)?;
+        let mut places = no_places(alloc, blocks.len())?;
         let mut free = FreeMap::new(alloc, count)?;
         for block in found {
-            let bytes = &blocks[block.block as usize];
-            let status = found_status(block.owner);
-            cache.found(alloc, block.block, block.fs, block.ty, status, bytes);
+            places[block.block as usize] = Some(found_life(block));
             free.take(block.block);
         }
+        let cache = Cache::found(alloc, &places, blocks)?;
+        drop(places);
         let owned = OwnedCounts::of(alloc, &cache)?;
         let dirty = BlockSet::new(alloc, count)?;
         let candidates = Candidates::new(alloc, count)?;
@@ -330,6 +330,28 @@ fn set_dropped(cache: &mut Cache, owner: u32, drops: &[u32])
 {
     for block in drops {
         cache.set_status(*block, Status::Dropped(owner));
+    }
+}
+
+/// A place for each of so many blocks, of which nothing is found.
+fn no_places(alloc: Global, blocks: usize) -> Result<Vec<Option<FoundLife>>, AllocError>
+    ensures { IfOk result (λ places. places.items ≡ replicate blocks None) }
+{
+    let mut places = Vec::with_capacity(alloc, blocks)?;
+    for _block in 0..blocks {
+        places.push_reserved(None);
+    }
+    Ok(places)
+}
+
+/// What is found of a block beside its bytes.
+fn found_life(found: &Found) -> FoundLife
+    ensures { result ≡ life_of found.now }
+{
+    FoundLife {
+        fs: found.fs,
+        ty: found.ty,
+        status: found_status(found.owner),
     }
 }
 

@@ -74,6 +74,7 @@ impl<L: Lane> Kernel<L> {
         ensures idle { OnOk result (IsIdle self.old.state.store.lives) }
         ensures done { OnOk result (all_pending self.new.state.store.lives ≡ 0) }
         ensures few { IfOk result (λ writes. writes ≤ all_pending self.old.state.store.lives) }
+        ensures stopped { IfErr result (λ stop. stop.refusal ≡ Refusal.Device → IsIdle self.old.state.store.lives) }
         ensures err { IfErr result (λ stop. Refuses L.bytes_of L.faults_of L.write_gives L.sync_gives L.read_gives self.old stop.writes stop.ticket stop.refusal self.new) }
     {
         if self.is_busy() {

@@ -1,7 +1,7 @@
-use Rattle.std.proofs.Common.{◌≡◌, length, replicate, take, None}
-use Rattle.xn_state.proofs.Counting.{marks}
+use Rattle.std.proofs.Common.{◌≡◌, length, map, replicate, take, None}
+use Rattle.std.specs.Prelude.{is_none}
 use Rattle.xn_state.proofs.Finding.{all_put}
 use Rattle.xn_state.proofs.lives.Lives.found.Given as goal
 
 abbrev pub invariant-loop-block : goal.invariant-loop-block
-invariant-loop-block l = (l.cache ≡ all_put l.blocks (replicate (length l.blocks) None) (take l.block-index l.found)) × (l.free ≡ marks l.cache)
+invariant-loop-block l = (l.places.items ≡ all_put (replicate (length l.blocks) None) (take l.block-index l.found)) × (l.free ≡ map is_none l.places.items)

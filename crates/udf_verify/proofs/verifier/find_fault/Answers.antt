@@ -6,7 +6,7 @@ use Rattle.udf_verify.specs.Intervals.{start}
 use Rattle.udf_verify.specs.Verdict.{emits}
 use Rattle.udf_verify.proofs.Checking.{at_same}
 use Rattle.udf_verify.proofs.Judged.{at_word, too_many, too_dear, too_large, fine, above_limit, within_limit}
-use Rattle.udf_verify.proofs.verifier.judge.Goals as goal
+use Rattle.udf_verify.proofs.verifier.find_fault.Goals as goal
 
 pub check_block-requires : goal.check_block-requires
 check_block-requires c = (_, (tree_of c.args.words.now, c.requires.leads, refl))

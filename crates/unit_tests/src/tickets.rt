@@ -1,0 +1,128 @@
+// Tickets that come back: from kernels that didn't begin them, and where a written block isn't read back.
+
+use crate::disks::{fresh_lanes, fs};
+use crate::kernel::drain;
+use crash_check::mount;
+use disk::MemLane;
+use std::alloc::{AllocError, Global};
+use std::test::Fail;
+use std::thread::Threads;
+use xn_kernel::{Edit, Fs, Kernel, Landed, Patch, Refusal, Ticket};
+
+/// What the finish of a write with one entry does.
+const ONE_DURABLE: Landed = Landed {
+    durable: 1,
+    freed: 0,
+};
+
+/// The edit of a block's first byte.
+fn first_byte(alloc: Global, byte: u8) -> Result<Edit, AllocError> {
+    let bytes = Vec::from_array(alloc, [byte])?;
+    let patch = Patch { offset: 0, bytes };
+    Ok(Edit {
+        patches: Vec::from_array(alloc, [patch])?,
+        adds: Vec::new(alloc),
+        drops: Vec::new(alloc),
+        after: None,
+    })
+}
+
+/// Roots block 1, whose first byte is durable, and edits that byte: whether all this is done.
+fn is_edited(kernel: &mut Kernel<MemLane>, owner: Fs, byte: u8, edit: &Edit) -> bool {
+    kernel.init(owner, 2, &[byte; 512]).is_ok()
+        && kernel.make_root(owner, 1).is_ok()
+        && drain(kernel).1.is_none()
+        && kernel.propose(owner, 1, edit).is_ok()
+}
+
+/// A kernel with this number over a disk of its own, on which block 1 begins with this byte. An edit of it to 67 is pending.
+fn edited(
+    rt: &(impl Threads + Sync),
+    alloc: Global,
+    id: u64,
+    byte: u8,
+) -> Result<Kernel<MemLane>, Fail> {
+    let Ok(mut kernel) = mount(rt, alloc, fresh_lanes(alloc)?, id) else {
+        return Err("no mount".into());
+    };
+    if !is_edited(&mut kernel, fs(0)?, byte, &first_byte(alloc, 67)?) {
+        return Err("no edit".into());
+    }
+    Ok(kernel)
+}
+
+/// Finishes a write that is to be refused: why it is, and the ticket as it comes back.
+fn refused(
+    kernel: &mut Kernel<MemLane>,
+    ticket: Ticket<MemLane>,
+) -> Option<(Ticket<MemLane>, Refusal)> {
+    kernel.finish(ticket).err()
+}
+
+/// What a finish does behind a write and its sync; `None` where it is refused.
+fn finished(kernel: &mut Kernel<MemLane>, mut ticket: Ticket<MemLane>) -> Option<Landed> {
+    let _landed = ticket.land();
+    let _synced = ticket.sync();
+    match kernel.finish(ticket) {
+        Ok(landed) => Some(landed),
+        Err((ticket, _refusal)) => {
+            let _lane = ticket.into_lane();
+            None
+        }
+    }
+}
+
+/// Why another kernel refuses a ticket of block 1, and what the ticket does then in its own.
+fn strayed(
+    kernel: &mut Kernel<MemLane>,
+    other: &mut Kernel<MemLane>,
+) -> Option<(Refusal, Option<Landed>)> {
+    let (ticket, refusal) = refused(other, kernel.begin(1).ok()?)?;
+    Some((refusal, finished(kernel, ticket)))
+}
+
+/// The same, where the other kernel has begun a write of its own block 1.
+fn strayed_to_begun(
+    kernel: &mut Kernel<MemLane>,
+    other: &mut Kernel<MemLane>,
+) -> Option<(Refusal, Option<Landed>)> {
+    let own = other.begin(1).ok()?;
+    let told = strayed(kernel, other);
+    let _lane = own.into_lane();
+    told
+}
+
+#[test]
+fn a_ticket_of_another_kernel_comes_back(rt: HostRuntime) -> Result<(), Fail> {
+    let want = Some((Refusal::NotMine, Some(ONE_DURABLE)));
+    for (id, byte, is_begun) in [(2, 65, true), (1, 65, false), (1, 66, true)] {
+        let mut kernel = edited(&rt, rt.alloc(), 1, 65)?;
+        let mut other = edited(&rt, rt.alloc(), id, byte)?;
+        let told = if is_begun {
+            strayed_to_begun(&mut kernel, &mut other)
+        } else {
+            strayed(&mut kernel, &mut other)
+        };
+        assert!(rt; told == want, "kernel {id}, byte {byte}");
+    }
+    Ok(())
+}
+
+/// Why a write isn't finished that can't be read back, whether its lane stays away then, and what its next finish does.
+fn read_at_last(kernel: &mut Kernel<MemLane>) -> Option<(Refusal, bool, Option<Landed>)> {
+    let mut ticket = kernel.begin(1).ok()?;
+    let _landed = ticket.land();
+    let _synced = ticket.sync();
+    ticket.fail_next_read();
+    let (ticket, refusal) = refused(kernel, ticket)?;
+    let is_away = kernel.lane(1).is_none();
+    Some((refusal, is_away, finished(kernel, ticket)))
+}
+
+#[test]
+fn a_block_that_is_not_read_back_stays_in_flight(rt: HostRuntime) -> Result<(), Fail> {
+    let mut kernel = edited(&rt, rt.alloc(), 1, 65)?;
+    let told = read_at_last(&mut kernel);
+    assert!(rt; told == Some((Refusal::Device, true, Some(ONE_DURABLE))));
+    Ok(())
+}

@@ -1,0 +1,175 @@
+"""What the tools share that test the built program from outside: where it is, how it is run, and the scripts that it is given.
+
+A run is an image and a script. Those of the worked rows and of the transcripts are found by playing these with the store's second
+implementation, `bench/reference_store.py`; random ones are made beside it, so that most of their commands do something.
+"""
+
+import os
+import random
+import re
+import subprocess
+import sys
+
+TOP = os.path.dirname(os.path.dirname(os.path.abspath(__file__)))
+sys.path.insert(0, os.path.join(TOP, "bench"))
+import reference_store as reference
+
+PROGRAM = os.path.join(TOP, "crates/xnsim/out/xnsim")
+ROWS = os.path.join(TOP, "crates/worked_rows/src/tests.rt")
+DATA = os.path.join(TOP, "crates/transcripts/data")
+BLOCKS = 32
+# A type whose blocks own at most one block of that type, which their first four bytes name.
+CHAIN = reference.Files(owns=b"LD4 1 0\nIFLT 0 1\nSET 2 3\nEMIT 1 2\nEND\n", size=b"SET 0 4\n").template_of(["owns", "size"])[0]
+
+
+def program_runs(words, folder, program=PROGRAM, **how):
+    """A program's status with these words, what it prints, and what it prints on standard error."""
+    done = subprocess.run([program, *words], cwd=folder, capture_output=True, stdin=subprocess.DEVNULL, timeout=60, **how)
+    return done.returncode, done.stdout.decode(), done.stderr.decode()
+
+
+def answers_of(lines):
+    """What a run that found no fault comes to, where it prints these lines."""
+    return 0, "".join(line + "\n" for line in lines), ""
+
+
+def write(folder, name, data):
+    with open(os.path.join(folder, name), "wb") as file:
+        file.write(data)
+
+
+def read(folder, name):
+    with open(os.path.join(folder, name), "rb") as file:
+        return file.read()
+
+
+class Recorder(reference.Files):
+    """Files on which a transcript is played, and the images and scripts that were run on them."""
+
+    def __init__(self):
+        self.runs = []
+
+    def play(self, words, given):
+        match words:
+            case ["xnsim", "run", image, script, *_]:
+                self.record(self[image], self[script])
+            case ["xnsim"]:
+                self.record(reference.formatted(BLOCKS, []), given)
+            case ["xnsim", "<", script]:
+                self.record(reference.formatted(BLOCKS, []), self[script])
+        return super().play(words, given)
+
+    def record(self, image, script):
+        """Keeps a run of a sound image."""
+        reference.Store(image)
+        self.runs.append((image, script))
+
+
+def runs_of(transcript):
+    """The runs that a transcript has, but those that print on standard error."""
+    files, lines = Recorder(), transcript.split("\n")
+    for command, given, first, end in reference.steps_of(lines):
+        if not any(line.startswith("2> ") for line in lines[first:end]):
+            files.answer(reference.shlex.split(command), given)
+    return files.runs
+
+
+def rows():
+    """The runs of the worked rows."""
+    with open(ROWS) as file:
+        transcripts = re.findall(r'"(\$ .*?)"', file.read(), re.S)
+    return [run for text in transcripts for run in runs_of(text.encode().decode("unicode_escape"))]
+
+
+def transcripts():
+    """The runs of all transcripts."""
+    found = []
+    for name in sorted(os.listdir(DATA)):
+        with open(os.path.join(DATA, name)) as file:
+            found += runs_of(file.read())
+    return found
+
+
+class Nothing(Exception):
+    """There is no block for a command."""
+
+
+class Author:
+    """Writes a random script of one file system of data and chains, and carries it out as it goes."""
+
+    def __init__(self, seed, templates):
+        self.random = random.Random(seed)
+        self.image = reference.formatted(BLOCKS, templates)
+        self.store = reference.Store(self.image)
+        self.lines = []
+
+    def blocks(self, holds):
+        return [b for b, life in self.store.living() if holds(life)]
+
+    def one(self, blocks):
+        """One of these blocks, and now and then any block."""
+        if self.random.random() < 0.03:
+            return self.random.randrange(BLOCKS + 1)
+        if not blocks:
+            raise Nothing
+        return self.random.choice(blocks)
+
+    def some_bytes(self):
+        return self.random.randbytes(self.random.randint(1, 6)).hex()
+
+    def init(self):
+        ty = self.random.choice([ty for ty in self.store.types if ty > 1])
+        return f"init 0 {ty} {self.some_bytes() if ty == 2 else '-'}"
+
+    def change(self):
+        block = self.one(self.blocks(lambda life: life.ty == 2))
+        after = f"@{self.random.randrange(1, self.store.next + 1)} " if self.random.random() < 0.3 else ""
+        return f"edit 0 {block} {after}{self.random.randrange(500)}={self.some_bytes()}"
+
+    def attach(self):
+        owner = self.one(self.blocks(lambda life: life.ty == 3))
+        target = self.one(self.blocks(lambda life: life.ty == 3 and life.status == reference.FRESH))
+        return f"edit 0 {owner} 0={target.to_bytes(4, 'little').hex()} +{target}:3"
+
+    def detach(self):
+        owned = self.blocks(lambda life: life.status[0] == "owned" and life.status[1])
+        target = self.one(owned)
+        owner = self.store.lives[target].status[1] if target in owned else 0
+        return f"edit 0 {owner} 0=00000000 -{target}"
+
+    def of_block(self, name, holds):
+        return f"{name} {self.one(self.blocks(holds))}"
+
+    def of_fresh(self, name):
+        return self.of_block(f"{name} 0", lambda life: life.status == reference.FRESH)
+
+    def of_begun(self, name):
+        return self.of_block(name, lambda life: life.begun is not None)
+
+    def crash(self):
+        return " ".join(["crash", *(str(b) for b in range(BLOCKS) if self.random.random() < 0.5)])
+
+    def command(self):
+        begin = lambda: self.of_block("begin", lambda life: life.begun is None and life.pending())
+        end = lambda: self.of_begun(self.random.choice(["land", "land", "sync", "sync", "failsync", "finish", "finish"]))
+        fail = lambda: self.of_begun("fail") + self.random.choice([" old", " new"])
+        tell = lambda: self.random.choice(["pick", "floor 0", "pending 0", f"read 0 {self.random.randrange(BLOCKS)}", "unroot 0", "drain"])
+        makers = [self.init, self.change, self.attach, self.detach, begin, end, fail, tell, self.crash]
+        makers += [lambda: self.of_fresh("root"), lambda: self.of_fresh("forget")]
+        return self.random.choices(makers, [4, 8, 5, 3, 9, 24, 3, 3, 1, 2, 1])[0]()
+
+    def script(self, length):
+        while len(self.lines) < length:
+            try:
+                line = self.command()
+            except Nothing:
+                continue
+            self.lines.append(line)
+            reference.run(self.store, line.encode())
+        return "\n".join(self.lines).encode() + b"\n"
+
+
+def random_runs(count, length=60):
+    """Random runs, the same each time; every other on a disk with a type of chains."""
+    authors = [Author(seed, [CHAIN] if seed % 2 else []) for seed in range(count)]
+    return [(author.image, author.script(length)) for author in authors]
