@@ -14,6 +14,10 @@ block_at-append_front xs ys k h = grind (arith, common_steps)
 pub block_at-append_last : (xs ys : List ℕ) (k : ℕ) → length xs ≡ 512 * k → length ys ≡ 512 → block_at (xs ++ ys) k ≡ ys
 block_at-append_last xs ys k h i = grind (arith, common_steps)
 
+pub block_at-take : (image : List ℕ) (n k : ℕ) → 512 * k + 512 ≤ n → n ≤ length image → block_at (take n image) k ≡ block_at image k
+block_at-take image n k h long =
+    sym (block_at-append_front (take n image) (drop n image) k (grind (arith, common_steps))) ∙ ap (λ xs. block_at xs k) (take-append-drop n image)
+
 pub length-block_at : (image : List ℕ) (k : ℕ) → 512 * k + 512 ≤ length image → length (block_at image k) ≡ 512
 length-block_at image k h = grind (arith, common_steps)
 

@@ -8,5 +8,5 @@ mod plan;
 
 pub use lane::{BLOCK_LEN, DeviceFault, Lane};
 pub use lanes::Lanes;
-pub use mem::{MemDisk, MemLane, fresh_lanes};
+pub use mem::{MemDisk, MemLane, fresh_lanes, lanes_from};
 pub use plan::PlanLane;

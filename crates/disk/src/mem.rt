@@ -1,4 +1,4 @@
-ghost use Rattle.std.specs.Prelude.{◌≡◌, ◌≢◌, IsErr, Contains, ◌⊎◌, ℕ, ◌+◌, ◌*◌, ◌/◌, ◌%◌, ◌^◌, ◌<◌, ◌≤◌, List, length, Option, Some, None, IfOk, OnOk, OnErr, IfErr, IsOk, IsNone, IsSome, IfSome, ◌↔◌, slice_get, slice_range, IsTrue, true, false};
+ghost use Rattle.std.specs.Prelude.{◌≡◌, ◌≢◌, IsErr, Contains, ◌⊎◌, ℕ, ◌+◌, ◌*◌, ◌/◌, ◌%◌, ◌^◌, ◌<◌, ◌≤◌, List, length, Option, Some, None, IfOk, OnOk, OnErr, IfErr, IsOk, IsNone, IsSome, IfSome, ◌↔◌, slice_get, slice_set, slice_range, take, IsTrue, true, false};
 ghost use Rattle.disk.specs.Lanes.{CountsOne};
 ghost use Rattle.disk.specs.Images.{HoldsBytes, block_at};
 ghost use Rattle.disk.specs.Mem.{MemoryLane, AreFreshLanes, fresh_lane, read_failed, write_failed, sync_failed, synced, crashed, memory_read, memory_write, memory_sync, memory_leaves, IsGivenAfterFault};
@@ -314,6 +314,49 @@ pub fn fresh_lanes(alloc: Global, image: &[u8]) -> Result<Lanes<MemLane>, AllocE
         places.push_reserved(Some(lane));
     }
     Ok(Lanes::of_places(places))
+}
+
+/// How many blocks' bytes are given back at a time.
+const GIVEN_BACK: usize = 64;
+
+/// The same, where the bytes are not wanted any more: what the lanes stand in is taken from the memory of those that have their lanes already, as
+/// memory that was used before costs less than new one. So it goes from the last block down.
+pub fn lanes_from(alloc: Global, mut image: Vec<u8>) -> Result<Lanes<MemLane>, AllocError>
+    requires whole { length image.items % 512 ≡ 0 }
+    requires small { length image.items < 512 * 2 ^ 32 }
+    ensures { IfOk result (λ lanes. AreFreshLanes image.items lanes) }
+{
+    let blocks = (image.len() / BLOCK_LEN) as u32;
+    let mut lanes = Lanes::new(alloc, blocks)?;
+    for done in 0..blocks {
+        let block = blocks - 1 - done;
+        let lane = MemLane::new(alloc, block, block_of(&image, block))?;
+        put_in_place(&mut lanes, lane);
+        give_back(&mut image, block as usize);
+    }
+    Ok(lanes)
+}
+
+/// Puts a lane into its empty place.
+fn put_in_place(lanes: &mut Lanes<MemLane>, lane: MemLane)
+    requires { slice_get lanes.old lane.number ≡ Some None }
+    ensures { lanes.new ≡ slice_set lanes.old lane.number (Some lane) }
+{
+    match lanes.give(lane) {
+        Ok(()) => {}
+        Err(_lane) => unreachable!(),
+    }
+}
+
+/// Keeps the bytes of so many blocks, and gives memory back now and then.
+fn give_back(image: &mut Vec<u8>, blocks: usize)
+    requires { blocks < 2 ^ 32 }
+    ensures { image.new.items ≡ take (512 * blocks) image.old.items }
+{
+    image.truncate(BLOCK_LEN * blocks);
+    if blocks % GIVEN_BACK == 0 {
+        image.shrink_to_fit();
+    }
 }
 
 /// The bytes of all lanes, one after another, unless one is missing or there is no memory.
