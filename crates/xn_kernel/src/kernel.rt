@@ -6,7 +6,8 @@ ghost use Rattle.xn_model.specs.Results.{Gives, GivesExactly, result_map};
 ghost use Rattle.xn_model.specs.Calls.{init_of, make_root_of, begun_of, settled_of, floor_of};
 ghost use Rattle.xn_model.specs.Worlds.{mounted_state};
 ghost use Rattle.xn_model.specs.Images.{blocks_in};
-ghost use Rattle.xn_model.specs.Lanes.{HoldImage};
+ghost use Rattle.xn_model.specs.Lanes.{FitLives, HoldImage};
+ghost use Rattle.xn_model.specs.Rules.{IsConsistent};
 ghost use Rattle.templates.specs.Tables.{types_of};
 ghost use Rattle.xn_state.specs.Mounts.{lives_in, AreFound};
 ghost use Rattle.xn_state.specs.States.{StateValue, types_in};
@@ -86,6 +87,16 @@ impl<L: Lane> Kernel<L> {
             Ok(state) => Ok(Kernel { id, lanes, state }),
             Err(_) => Err(lanes),
         }
+    }
+
+    /// A kernel over lanes that fit a state, and hold no write that isn't synced.
+    pub fn over(id: u64, lanes: Lanes<L>, state: State) -> Kernel<L>
+        requires rules { IsConsistent (types_in state) state.store }
+        requires fit { FitLives L.bytes_of lanes state.store.lives }
+        requires synced { AreSynced L.bytes_of L.crash_leaves lanes }
+        ensures { result ≡ record { id = id; lanes = lanes; state = state } }
+    {
+        Kernel { id, lanes, state }
     }
 
     /// Its rules.
