@@ -13,7 +13,7 @@ use Rattle.xn_model.specs.Types.{Types}
 use Rattle.xn_model.specs.Root.{HasBuiltIns}
 use Rattle.xn_model.specs.Images.{block_of, blocks_in, joined, IsSound}
 use Rattle.xn_model.specs.Lives.{Life, Lives, life_at}
-use Rattle.xn_model.specs.Lanes.{HoldImage}
+use Rattle.xn_model.specs.Lanes.{FitLives, HoldImage}
 use Rattle.xn_model.specs.Flights.{flight_of}
 use Rattle.xn_model.specs.Mounts.{IsRecovered, recovered}
 use Rattle.xn_model.specs.BareDisks.{mounted_disk}
@@ -24,10 +24,11 @@ use Rattle.image_model.specs.Report.{IsSoundImage}
 use Rattle.image_model.specs.declared.fault.ImageFault.{ImageFault}
 use Rattle.image_model.specs.declared.fault.ImageFault.TheVariants.{NoMemory}
 use Rattle.image_model.proofs.ForCallers.{verdict-unsound}
+use Rattle.xn_state.specs.States.{StateValue}
 use Rattle.xn_kernel.specs.Kernels.{KernelValue, TicketValue}
 use Rattle.crash_check.specs.Answers.{types_in}
 use Rattle.crash_check.specs.Reads.{Turn, IsTurn, IsTurnOf, is_failure, has_failed, is_missing, image_in}
-use Rattle.crash_check.specs.Mounts.{IsFault, IsMounted, IsMountFault, kernel_of}
+use Rattle.crash_check.specs.Mounts.{IsFault, IsMounted, IsMountFault, kernel_of, state_of}
 use Rattle.world.specs.Disks.{image_of, settled_image, given_to, ticket_at, IsCalm, IsAtRest, IsResting, IsUnmounted}
 use Rattle.xn_model.specs.Worlds.{none_given}
 use Rattle.world.specs.Worlds.{Tickets, value_of, world_with, ticket_flight, mounted_value, IsWorld}
@@ -61,10 +62,10 @@ calm_at [] home b lane at = absurd (none-some _ at)
 calm_at (o ∷ lanes) home zero lane at = subst IsResting (same_Some o (Some lane) at) home.0
 calm_at (o ∷ lanes) home (suc b) lane at = calm_at lanes home.1 b lane at
 
-pub never_away : (lanes : Lanes) → AllByRecursion IsResting lanes → (b : ℕ) → slice_get lanes b ≡ Some None → ⊥
-never_away [] home b at = none-some _ at
-never_away (o ∷ lanes) home zero at = subst IsResting (same_Some o None at) home.0
-never_away (o ∷ lanes) home (suc b) at = never_away lanes home.1 b at
+pub never_away : (P : Option MemoryLane → Type 0) → (P None → ⊥) → (lanes : Lanes) → AllByRecursion P lanes → (b : ℕ) → slice_get lanes b ≡ Some None → ⊥
+never_away P not [] home b at = none-some _ at
+never_away P not (o ∷ lanes) home zero at = not (subst P (same_Some o None at) home.0)
+never_away P not (o ∷ lanes) home (suc b) at = never_away P not lanes home.1 b at
 
 -- they hold no write
 settled_rests : (lanes : Lanes) (tickets : Tickets) → AllByRecursion IsResting lanes → settled_image lanes tickets ≡ image_of lanes tickets
@@ -167,21 +168,6 @@ module _ (lanes : Lanes) (tickets : Tickets) (is : IsUnmounted lanes tickets) wh
           mine = λ b ticket at. absurd (none-some ticket (sym (no_ticket (length lanes) b) ∙ (ap (λ (ts : Tickets). ticket_at ts b) (sym is.empty) ∙ at)));
         }
 
-    -- The kernel of a mount that is given the bytes
-
-    module _ (bytes_of_disk : List ℕ) (given : image ≡ blocks_in bytes_of_disk) (kernel : KernelValue MemoryLane) (k : kernel ≡ kernel_of id lanes (blocks_in bytes_of_disk)) (whole : IsSoundImage (types_in (blocks_in bytes_of_disk)) bytes_of_disk) where
-      given_is : kernel ≡ kernel_of id lanes image
-      given_is = k ∙ ap (kernel_of id lanes) (sym given)
-
-      pub given_sound : IsSound T (length image) (block_of image)
-      given_sound = subst (λ bs. IsSound (types_in bs) (length bs) (block_of bs)) (sym given) whole.blocks
-
-      pub given_world : IsWorld kernel tickets
-      given_world = subst (λ k. IsWorld k tickets) (sym given_is) (started given_sound)
-
-      pub given_value : value_of kernel tickets ≡ mounted_value image
-      given_value = ap (λ k. value_of k tickets) given_is ∙ start_value
-
     -- The kernel of a mount
 
     module _ (kernel : KernelValue MemoryLane) (m : IsMounted number bytes memory_leaves faults memory_sync memory_read lanes id kernel) where
@@ -201,6 +187,34 @@ module _ (lanes : Lanes) (tickets : Tickets) (is : IsUnmounted lanes tickets) wh
 
       pub mount_value : value_of kernel tickets ≡ mounted_value image
       mount_value = ap (λ k. value_of k tickets) kernel_is ∙ start_value
+
+  -- The kernel over what is known of its blocks
+
+  module _ (blocks : List (List ℕ)) (view : image ≡ blocks) (built : HasBuiltIns (types_in blocks)) (sound : IsSound (types_in blocks) (length blocks) (block_of blocks))
+      (state : StateValue) (known : state ≡ state_of blocks) where
+    built_here : HasBuiltIns T
+    built_here = subst (λ bs. HasBuiltIns (types_in bs)) (sym view) built
+
+    sound_here : IsSound T (length image) (block_of image)
+    sound_here = subst (λ bs. IsSound (types_in bs) (length bs) (block_of bs)) (sym view) sound
+
+    known_here : state ≡ state_of image
+    known_here = known ∙ ap state_of (sym view)
+
+    pub known_fit : FitLives bytes lanes state.store.lives
+    known_fit =
+        subst (λ (s : StateValue). FitLives bytes lanes s.store.lives) (sym known_here)
+        (lanes_mounted bytes lanes T image (recovered T image) (recovered_is T built_here image sound_here) (subst (HoldImage bytes lanes) image_is (hold_all lanes is.home)))
+
+    module _ (id : ℕ) (kernel : KernelValue MemoryLane) (k : kernel ≡ record { id = id; lanes = lanes; state = state }) where
+      over_here : kernel ≡ kernel_of id lanes image
+      over_here = k ∙ (λ i. record { id = id; lanes = lanes; state = known_here i })
+
+      pub known_world : IsWorld kernel tickets
+      known_world = subst (λ k. IsWorld k tickets) (sym over_here) (started built_here id sound_here)
+
+      pub known_value : value_of kernel tickets ≡ mounted_value blocks
+      known_value = ap (λ k. value_of k tickets) over_here ∙ (start_value built_here id ∙ ap mounted_value view)
 
   -- Its faults
 

@@ -10,7 +10,7 @@ ghost use Rattle.events.specs.Events.{event_of, reply_of, IsNoCrash};
 ghost use Rattle.world.specs.Worlds.{is_any_in_flight, world_with, value_of, IsWorld};
 
 use crate::tickets::Tickets;
-use crate::unmounted::{UnmountedDisk, crash_lanes, take_lanes_back};
+use crate::unmounted::{UnmountedDisk, bytes_of_all, crash_lanes, take_lanes_back};
 use disk::{BLOCK_LEN, MemLane};
 use events::{Event, Reply};
 use std::alloc::{AllocError, Global};
@@ -114,6 +114,19 @@ impl MountedDisk {
             image.extend_from_slice(self.block_bytes(block))?;
         }
         Ok(image)
+    }
+
+    /// The bytes that the disk holds, block after block. What the kernel knew is given up first, and they may stand in its memory.
+    pub fn into_image(self, alloc: Global) -> Result<Vec<u8>, AllocError>
+        ensures { IfOk result (λ image. image.items ≡ joined self.image) }
+    {
+        let MountedDisk {
+            kernel,
+            mut tickets,
+        } = self;
+        let mut lanes = kernel.into_lanes();
+        take_lanes_back(&mut lanes, &mut tickets);
+        bytes_of_all(alloc, &lanes)
     }
 
     /// Whether a write of the block is under way.

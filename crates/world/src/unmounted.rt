@@ -5,7 +5,10 @@ ghost use Rattle.std.specs.List.{AllByRecursion};
 ghost use Rattle.xn_model.specs.Root.{HasBuiltIns};
 ghost use Rattle.xn_model.specs.Images.{block_of, blocks_in, joined, IsSound};
 ghost use Rattle.image_model.specs.Walk.{verdict};
+ghost use Rattle.xn_model.specs.Rules.{IsConsistent};
+ghost use Rattle.templates.specs.Tables.{types_of};
 ghost use Rattle.crash_check.specs.Answers.{types_in};
+ghost use Rattle.crash_check.specs.Mounts.{state_of};
 ghost use Rattle.disk.specs.Mem.{crashed};
 ghost use Rattle.world.specs.Disks.{image_of, settled_image, given_to, lane_at, lanes_with, AreLong, AreWhole, HaveCrashed, IsHome, IsLong, IsUnmounted};
 ghost use Rattle.world.specs.Worlds.{mounted_value};
@@ -13,11 +16,13 @@ ghost use Rattle.world.specs.Worlds.{mounted_value};
 use crate::mounted::MountedDisk;
 use crate::ticket::DroppableTicket;
 use crate::tickets::Tickets;
-use crash_check::{ImageFault, mount, mount_image};
-use disk::{BLOCK_LEN, Lanes, MemLane, fresh_lanes};
+use crash_check::{ImageFault, mount};
+use disk::{BLOCK_LEN, Lanes, MemLane, lanes_from};
 use std::alloc::{AllocError, Global};
 use std::marker::Model;
 use std::thread::Threads;
+use xn_kernel::Kernel;
+use xn_state::State;
 
 /// A disk in memory whose lanes are all at home, and the empty places of its tickets.
 pub struct UnmountedDisk {
@@ -56,12 +61,12 @@ impl UnmountedDisk {
     }
 
     /// The disk of an image, which is whole blocks, with a place for the ticket of each block.
-    pub fn of_image(alloc: Global, image: &[u8]) -> Result<UnmountedDisk, AllocError>
-        requires whole { length image.now % 512 ≡ 0 }
-        requires small { length image.now < 512 * 2 ^ 32 }
-        ensures { IfOk result (λ disk. disk ≡ blocks_in image.now) }
+    pub fn of_image(alloc: Global, image: Vec<u8>) -> Result<UnmountedDisk, AllocError>
+        requires whole { length image.items % 512 ≡ 0 }
+        requires small { length image.items < 512 * 2 ^ 32 }
+        ensures { IfOk result (λ disk. disk ≡ blocks_in image.items) }
     {
-        let lanes = fresh_lanes(alloc, image)?;
+        let lanes = lanes_from(alloc, image)?;
         let tickets = Tickets::new(alloc, lanes.blocks())?;
         Ok(UnmountedDisk::new(lanes, tickets))
     }
@@ -88,25 +93,17 @@ impl UnmountedDisk {
         }
     }
 
-    /// Mounts the disk, of which the bytes are given beside it, by a kernel of this number: no lane is read. `Err` has the first fault.
-    pub fn mount_image(
-        self,
-        rt: &(impl Threads + Sync),
-        alloc: Global,
-        image: &[u8],
-        id: u64,
-    ) -> Result<MountedDisk, ImageFault>
+    /// Mounts the disk, which is sound and of which all is known, by a kernel of this number: no lane is read.
+    pub fn mount_known(self, id: u64, state: State) -> MountedDisk
         requires built_ins { HasBuiltIns (types_in self) }
-        requires bytes { self ≡ blocks_in image.now }
-        ensures ok { IfOk result (λ disk. disk ≡ mounted_value self) }
-        ensures sound { IfOk result (λ disk. IsSound (types_in self) (length self) (block_of self)) }
-        ensures fault { IfErr result (λ fault. (fault ≡ ImageFault.NoMemory) ⊎ (verdict (types_in self) image.now ≡ Err fault)) }
+        requires sound { IsSound (types_in self) (length self) (block_of self) }
+        requires rules { IsConsistent (types_of state.table) state.store }
+        requires known { state ≡ state_of self }
+        ensures { result ≡ mounted_value self }
     {
         let UnmountedDisk { lanes, tickets } = self;
-        match mount_image(rt, alloc, lanes, image, id) {
-            Ok(kernel) => Ok(MountedDisk::new(kernel, tickets)),
-            Err((fault, _lanes)) => Err(fault),
-        }
+        let kernel = Kernel::over(id, lanes, state);
+        MountedDisk::new(kernel, tickets)
     }
 
     /// The bytes that the disk holds now, block after block, in the memory of these where that is enough.
@@ -139,6 +136,31 @@ impl UnmountedDisk {
             Some(lane) => lane.bytes(),
             None => unreachable!(),
         }
+    }
+}
+
+/// The bytes of all lanes, block after block.
+pub fn bytes_of_all(alloc: Global, lanes: &Lanes<MemLane>) -> Result<Vec<u8>, AllocError>
+    requires { AllByRecursion IsHome lanes.now }
+    ensures { IfOk result (λ image. image.items ≡ joined (image_of lanes.now (replicate (length lanes.now) None))) }
+{
+    let blocks = lanes.blocks() as u32;
+    let mut image = Vec::with_capacity(alloc, BLOCK_LEN.saturating_mul(blocks as usize))?;
+    for block in 0..blocks {
+        image.extend_from_slice(bytes_at_home(lanes, block))?;
+    }
+    Ok(image)
+}
+
+/// The bytes of one block.
+fn bytes_at_home(lanes: &Lanes<MemLane>, block: u32) -> &[u8; 512]
+    requires home { AllByRecursion IsHome lanes.now }
+    requires within { block < length lanes.now }
+    ensures { result.now ≡ block_of (image_of lanes.now (replicate (length lanes.now) None)) block }
+{
+    match lanes.lane(block) {
+        Some(lane) => lane.bytes(),
+        None => unreachable!(),
     }
 }
 

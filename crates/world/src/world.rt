@@ -3,6 +3,7 @@
 ghost use Rattle.std.specs.Prelude.{◌≡◌, ◌≢◌, ◌⊎◌, ℕ, ◌<◌, List, All, length, map, Err, IfOk, IfErr, MatchResult, IsTrue, true, false};
 ghost use Rattle.xn_model.specs.Images.{block_of, blocks_in, joined, IsSound};
 ghost use Rattle.xn_model.specs.BareDisks.{mounted_disk};
+ghost use Rattle.xn_model.specs.Root.{HasBuiltIns};
 ghost use Rattle.xn_model.specs.Worlds as model;
 ghost use Rattle.xn_model.specs.Rules.{Holds, Agrees};
 ghost use Rattle.xn_history.specs.Histories.{Histories};
@@ -23,19 +24,15 @@ ghost use Rattle.world.specs.Worlds.{is_any_in_flight, world_with, world_value, 
 use crate::mounted::MountedDisk;
 use crate::running::Running;
 use crate::unmounted::UnmountedDisk;
-use crash_check::ImageFault;
-use disk::BLOCK_LEN;
+use crash_check::{ImageFault, state_of};
 use events::{Event, Reply};
 use ffs_model::{events_keep_cuts, image_is_cut};
 use std::alloc::{AllocError, Global};
 use std::marker::Model;
 use std::thread::Threads;
-use templates::{FormatFault, MAX_BLOCKS, Template, format_image};
+use templates::{FormatFault, Template, format_image};
 use xn_model::Refusal;
 use xn_state::{Answer, EditId, Landed, Stopped};
-
-/// How many bytes the image of the largest disk has.
-const GREATEST_IMAGE_LEN: usize = BLOCK_LEN * MAX_BLOCKS as usize;
 
 /// A disk in memory, its kernel, and the tickets of the writes that are under way. After a crash whose mount found no memory it
 /// is down, and has no kernel.
@@ -86,7 +83,7 @@ impl World {
     {
         are_templates(templates);
         let image = format_image(alloc, blocks, templates)?;
-        match World::open(rt, alloc, &image) {
+        match World::open_image(rt, alloc, image) {
             Ok(world) => Ok(world),
             Err(fault) => Err(want_of_memory(fault)),
         }
@@ -104,15 +101,28 @@ impl World {
         ensures table { IfOk result (λ world. world.table ≡ table_of_image (block_of (blocks_in image.now))) }
         ensures err { IfErr result (λ fault. (fault ≡ ImageFault.NoMemory) ⊎ (verdict (types_in (blocks_in image.now)) image.now ≡ Err fault)) }
     {
-        if image.len() % BLOCK_LEN != 0 || image.len() > GREATEST_IMAGE_LEN {
-            return Err(ImageFault::BadLength);
+        match Vec::from_slice(alloc, image) {
+            Ok(image) => World::open_image(rt, alloc, image),
+            Err(_) => Err(ImageFault::NoMemory),
         }
-        let Ok(disk) = UnmountedDisk::of_image(alloc, image) else {
-            return Err(ImageFault::NoMemory);
-        };
-        match disk.mount_image(rt, alloc, image, 1) {
-            Ok(disk) => Ok(World::mounted(alloc, 1, disk)),
-            Err(fault) => Err(fault),
+    }
+
+    /// The same, where the bytes are not wanted any more: the disk takes their memory over.
+    pub fn open_image(
+        rt: &(impl Threads + Sync),
+        alloc: Global,
+        image: Vec<u8>,
+    ) -> Result<World, ImageFault>
+        ensures ok { IfOk result (λ world. IsSoundImage (types_in (blocks_in image.items)) image.items
+            × (world_with world ≡ mounted_disk (types_in (blocks_in image.items)) (blocks_in image.items))) }
+        ensures table { IfOk result (λ world. world.table ≡ table_of_image (block_of (blocks_in image.items))) }
+        ensures err { IfErr result (λ fault. (fault ≡ ImageFault.NoMemory) ⊎ (verdict (types_in (blocks_in image.items)) image.items ≡ Err fault)) }
+    {
+        has_built_ins(&image);
+        let state = state_of(rt, alloc, &image)?;
+        match UnmountedDisk::of_image(alloc, image) {
+            Ok(disk) => Ok(World::mounted(alloc, 1, disk.mount_known(1, state))),
+            Err(_) => Err(ImageFault::NoMemory),
         }
     }
 
@@ -201,6 +211,25 @@ impl World {
             Some(disk) => disk.image_into(room),
             None => match &self.unmounted {
                 Some(disk) => disk.image_into(room),
+                None => unreachable!(),
+            },
+        }
+    }
+
+    /// The bytes that the disk holds, block after block, also while the world is down. The world is given up for them.
+    pub fn into_image(self) -> Result<Vec<u8>, AllocError>
+        ensures { IfOk result (λ image. image.items ≡ joined self.image) }
+    {
+        let World {
+            alloc,
+            kernel: _,
+            mounted,
+            unmounted,
+        } = self;
+        match mounted {
+            Some(disk) => disk.into_image(alloc),
+            None => match unmounted {
+                Some(disk) => disk.image_into(Vec::new(alloc)),
                 None => unreachable!(),
             },
         }
@@ -352,6 +381,13 @@ fn want_of_memory(_fault: ImageFault) -> FormatFault
     ensures { result ≡ FormatFault.NoMemory }
 {
     FormatFault::NoMemory
+}
+
+/// The types of an image's own catalogue have the built-in ones. This does nothing.
+fn has_built_ins(image: &[u8])
+    ensures { HasBuiltIns (types_in (blocks_in image.now)) }
+{
+    let _length = image.len();
 }
 
 /// Each template is one.

@@ -97,21 +97,15 @@ fn run_asked<'a, W: Write>(
     }
 }
 
-/// The bytes that are on the disk after a run, in the memory of these where that is enough.
-fn end_run<'a>(
-    world: World,
-    ran: Result<(), Fault<'a>>,
-    room: Vec<u8>,
-) -> Result<Vec<u8>, Fault<'a>>
+/// The bytes that are on the disk after a run.
+fn end_run<'a>(world: World, ran: Result<(), Fault<'a>>) -> Result<Vec<u8>, Fault<'a>>
     requires { IfErr ran IsRunFault }
     ensures ran { OnOk result (IsOk ran.entry) }
     ensures image { IfOk result (λ image. image.items ≡ joined world.image) }
     ensures fault { IfErr result IsRunFault }
 {
-    let image = world.image_into(room);
-    drop(world);
     ran?;
-    Ok(image?)
+    Ok(world.into_image()?)
 }
 
 /// Runs the events that these lines spell on a fresh disk of so many blocks with these templates, prints a reply an event, and
@@ -132,7 +126,7 @@ pub fn run_script<'a, W: Write>(
 {
     let mut world = fresh_world(rt, alloc, blocks, templates)?;
     let ran = run_lines(rt, alloc, &mut world, lines, out);
-    end_run(world, ran, Vec::new(alloc))
+    end_run(world, ran)
 }
 
 /// Runs the events that these lines spell on the disk of a sound image, to their end or to a stop before the block write that comes after so many,
@@ -149,11 +143,11 @@ pub fn run_on_image<'a, W: Write>(
     ensures run { IfOk result (λ after. RunsLines (map (λ line. line.now) lines.now) (λ events. IsAskedRun stop image.items events (W.contents out.old) (W.contents out.new) after.items)) }
     ensures fault { IfErr result (IsMountFault image.items) }
 {
-    let opened = World::open(rt, alloc, image.as_slice());
+    let opened = World::open_image(rt, alloc, image);
     match opened {
         Ok(mut world) => {
             let ran = run_asked(rt, alloc, &mut world, lines, stop, out);
-            end_run(world, ran, image)
+            end_run(world, ran)
         }
         Err(fault) => Err(Fault::Image(fault)),
     }

@@ -1,7 +1,7 @@
 use Rattle.std.proofs.Common.{◌≡◌, ◌∙◌, ℕ, List, Some, length, sym, ap, arith}
 use Rattle.std.specs.Option.{option_copied}
 use Rattle.xn_model.specs.Images.{block_of}
-use Rattle.world.specs.Disks.{image_of}
+use Rattle.world.specs.Disks.{image_of, IsResting}
 use Rattle.world.proofs.Images.{block_of-home, length-image_of}
 use Rattle.world.proofs.Mounting.{never_away}
 use Rattle.world.proofs.unmounted.UnmountedDisk.block_bytes.Goals as goal
@@ -14,7 +14,7 @@ lane-requires c =
     omega arith
 
 pub unreachable-requires : goal.unreachable-requires
-unreachable-requires c = never_away c.self.inside.lanes c.self.invariant.home c.args.block (c.lane.ensures ∙ ap (λ o. Some (option_copied o)) c.in-None.is)
+unreachable-requires c = never_away IsResting (λ none. none) c.self.inside.lanes c.self.invariant.home c.args.block (c.lane.ensures ∙ ap (λ o. Some (option_copied o)) c.in-None.is)
 
 pub returns : goal.returns
 returns c =
