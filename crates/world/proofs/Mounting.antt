@@ -20,7 +20,6 @@ use Rattle.xn_model.specs.BareDisks.{mounted_disk}
 use Rattle.xn_model.specs.Rules.{Holds}
 use Rattle.xn_model.proofs.ForCallers.{blocks_read, length-joined, lanes_mounted, mount_holds, recovered_is}
 use Rattle.image_model.specs.Walk.{verdict}
-use Rattle.image_model.specs.Report.{IsSoundImage}
 use Rattle.image_model.specs.declared.fault.ImageFault.{ImageFault}
 use Rattle.image_model.specs.declared.fault.ImageFault.TheVariants.{NoMemory}
 use Rattle.image_model.proofs.ForCallers.{verdict-unsound}

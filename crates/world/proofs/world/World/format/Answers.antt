@@ -1,4 +1,4 @@
-use Rattle.std.proofs.Common.{◌∙◌, ⊎_elim}
+use Rattle.std.proofs.Common.{⊎_elim}
 use Rattle.world.proofs.Formats.{fresh_world, never_faulty}
 use Rattle.world.proofs.world.World.format.Goals as goal
 

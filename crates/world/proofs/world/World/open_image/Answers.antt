@@ -1,4 +1,4 @@
-use Rattle.std.proofs.Common.{◌≡◌, ◌∙◌, length, sym, ap, subst}
+use Rattle.std.proofs.Common.{length, sym, subst}
 use Rattle.xn_model.specs.Root.{HasBuiltIns}
 use Rattle.xn_model.specs.Images.{block_of, blocks_in, IsSound}
 use Rattle.crash_check.specs.Answers.{types_in}
