@@ -10,7 +10,6 @@ use Rattle.disk.specs.declared.lane.DeviceFault.{DeviceFault}
 use Rattle.disk.specs.Lanes.{AreSynced}
 use Rattle.disk.specs.Mem.{MemoryLane, memory_leaves, memory_read, memory_sync, synced}
 use Rattle.xn_model.specs.Types.{Types}
-use Rattle.xn_model.specs.Root.{HasBuiltIns}
 use Rattle.xn_model.specs.Images.{block_of, blocks_in, joined, IsSound}
 use Rattle.xn_model.specs.Lives.{Life, Lives, life_at}
 use Rattle.xn_model.specs.Lanes.{HoldImage}
@@ -18,14 +17,14 @@ use Rattle.xn_model.specs.Flights.{flight_of}
 use Rattle.xn_model.specs.Mounts.{IsRecovered, recovered}
 use Rattle.xn_model.specs.BareDisks.{mounted_disk}
 use Rattle.xn_model.specs.Rules.{Holds}
-use Rattle.xn_model.proofs.ForCallers.{blocks_read, length-joined, lanes_mounted, mount_holds, recovered_is}
+use Rattle.xn_model.proofs.ForCallers.{blocks_read, built_ins_in, length-joined, lanes_mounted, mount_holds, recovered_is}
 use Rattle.image_model.specs.Walk.{verdict}
 use Rattle.image_model.specs.Report.{IsSoundImage}
 use Rattle.image_model.specs.declared.fault.ImageFault.{ImageFault}
 use Rattle.image_model.specs.declared.fault.ImageFault.TheVariants.{NoMemory}
 use Rattle.image_model.proofs.ForCallers.{verdict-unsound}
 use Rattle.xn_kernel.specs.Kernels.{KernelValue, TicketValue}
-use Rattle.crash_check.specs.Answers.{types_in}
+use Rattle.templates.specs.Language.{language, types_of_image}
 use Rattle.crash_check.specs.Reads.{Turn, IsTurn, IsTurnOf, is_failure, has_failed, is_missing, image_in}
 use Rattle.crash_check.specs.Mounts.{IsFault, IsMounted, IsMountFault, kernel_of}
 use Rattle.world.specs.Disks.{image_of, settled_image, given_to, ticket_at, IsCalm, IsAtRest, IsResting, IsUnmounted}
@@ -128,16 +127,19 @@ no_flight T image lives is b = go (life_at lives b) refl
         idle : (l : Life) → l.begun ≡ None → flight_of (Some l) ≡ None
         idle l e = ap (λ k. flight_of (Some (record l { begun = k }))) e
 
--- a mount of a sound disk begins with the rules
-pub mounted_holds : (image : List (List ℕ)) → HasBuiltIns (types_in image) → IsSound (types_in image) (length image) (block_of image) → Holds (mounted_disk (types_in image) image)
-mounted_holds image built sound = mount_holds (mounted_disk (types_in image) image) built sound (recovered (types_in image) image) (recovered_is (types_in image) built image sound)
+-- the lives of a mount of a sound disk, which begins with the rules
+pub sound_recovers : (image : List (List ℕ)) → IsSound (types_of_image image) (length image) (block_of image) → IsRecovered (types_of_image image) image (recovered (types_of_image image) image)
+sound_recovers image sound = recovered_is (types_of_image image) (built_ins_in language (block_of image)) image sound
+
+pub mounted_holds : (image : List (List ℕ)) → IsSound (types_of_image image) (length image) (block_of image) → Holds (mounted_disk language image)
+mounted_holds image sound = mount_holds (mounted_disk language image) sound (recovered (types_of_image image) image) (sound_recovers image sound)
 
 module _ (lanes : Lanes) (tickets : Tickets) (is : IsUnmounted lanes tickets) where
   abbrev image : List (List ℕ)
   image = image_of lanes tickets
 
   abbrev T : Types
-  T = types_in image
+  T = types_of_image image
 
   image_is : image_in bytes lanes ≡ image
   image_is = all_held lanes is.home ∙ ap (image_of lanes) (sym is.empty)
@@ -148,7 +150,7 @@ module _ (lanes : Lanes) (tickets : Tickets) (is : IsUnmounted lanes tickets) wh
   pub held_image : (bytes_of_disk : List ℕ) → image ≡ blocks_in bytes_of_disk → HoldImage bytes lanes (blocks_in bytes_of_disk)
   held_image bytes_of_disk given = subst (HoldImage bytes lanes) (image_is ∙ given) (hold_all lanes is.home)
 
-  module _ (built : HasBuiltIns T) (id : ℕ) where
+  module _ (id : ℕ) where
     abbrev start : KernelValue MemoryLane
     start = kernel_of id lanes image
 
@@ -157,9 +159,9 @@ module _ (lanes : Lanes) (tickets : Tickets) (is : IsUnmounted lanes tickets) wh
 
     started : IsSound T (length image) (block_of image) → IsWorld (kernel_of id lanes image) tickets
     started sound =
-        let found = recovered_is T built image sound in
+        let found = sound_recovers image sound in
         record {
-          holds = subst (λ v. Holds (world_with v)) (sym start_value) (mounted_holds image built sound);
+          holds = subst (λ v. Holds (world_with v)) (sym start_value) (mounted_holds image sound);
           fit = lanes_mounted bytes lanes T image (recovered T image) found (subst (HoldImage bytes lanes) image_is (hold_all lanes is.home));
           calm = calm_at lanes is.home;
           count = ap length is.empty ∙ length-replicate {A = Option (TicketValue MemoryLane)} (length lanes) None;
@@ -169,12 +171,12 @@ module _ (lanes : Lanes) (tickets : Tickets) (is : IsUnmounted lanes tickets) wh
 
     -- The kernel of a mount that is given the bytes
 
-    module _ (bytes_of_disk : List ℕ) (given : image ≡ blocks_in bytes_of_disk) (kernel : KernelValue MemoryLane) (k : kernel ≡ kernel_of id lanes (blocks_in bytes_of_disk)) (whole : IsSoundImage (types_in (blocks_in bytes_of_disk)) bytes_of_disk) where
+    module _ (bytes_of_disk : List ℕ) (given : image ≡ blocks_in bytes_of_disk) (kernel : KernelValue MemoryLane) (k : kernel ≡ kernel_of id lanes (blocks_in bytes_of_disk)) (whole : IsSoundImage (types_of_image (blocks_in bytes_of_disk)) bytes_of_disk) where
       given_is : kernel ≡ kernel_of id lanes image
       given_is = k ∙ ap (kernel_of id lanes) (sym given)
 
       pub given_sound : IsSound T (length image) (block_of image)
-      given_sound = subst (λ bs. IsSound (types_in bs) (length bs) (block_of bs)) (sym given) whole.blocks
+      given_sound = subst (λ bs. IsSound (types_of_image bs) (length bs) (block_of bs)) (sym given) whole.blocks
 
       pub given_world : IsWorld kernel tickets
       given_world = subst (λ k. IsWorld k tickets) (sym given_is) (started given_sound)
@@ -194,7 +196,7 @@ module _ (lanes : Lanes) (tickets : Tickets) (is : IsUnmounted lanes tickets) wh
       kernel_is = m.value ∙ (λ i. kernel_of id (lanes_stay i) (image_is i))
 
       pub mount_sound : IsSound T (length image) (block_of image)
-      mount_sound = subst (λ bs. IsSound T (length bs) (block_of bs)) blocks_are (subst (λ bs. IsSound (types_in bs) (length (blocks_in (joined bs))) (block_of (blocks_in (joined bs)))) image_is m.sound.blocks)
+      mount_sound = subst (λ bs. IsSound T (length bs) (block_of bs)) blocks_are (subst (λ bs. IsSound (types_of_image bs) (length (blocks_in (joined bs))) (block_of (blocks_in (joined bs)))) image_is m.sound.blocks)
 
       pub mount_world : IsWorld kernel tickets
       mount_world = subst (λ k. IsWorld k tickets) (sym kernel_is) (started mount_sound)
@@ -211,7 +213,7 @@ module _ (lanes : Lanes) (tickets : Tickets) (is : IsUnmounted lanes tickets) wh
       | inr h ↦
           let calm = turns_calm h.0 h.1.each (subst (AllByRecursion IsResting) h.1.before is.home) in (
             h.1.after ∙ (calm.2 ∙ sym h.1.before),
-            subst (λ bs. (fault ≡ NoMemory) ⊎ (verdict (types_in bs) (joined bs) ≡ Err fault)) image_is
+            subst (λ bs. (fault ≡ NoMemory) ⊎ (verdict (types_of_image bs) (joined bs) ≡ Err fault)) image_is
                 (subst (λ failed. IsFault failed false (image_in bytes lanes) fault) calm.0 (subst (λ missing. IsFault (list_any has_failed h.0) missing (image_in bytes lanes) fault) calm.1 h.2)),
           )
     ]
@@ -225,8 +227,8 @@ module _ (lanes : Lanes) (tickets : Tickets) (is : IsUnmounted lanes tickets) wh
     pub back_fault : (fault ≡ NoMemory) ⊎ (verdict T (joined image) ≡ Err fault)
     back_fault = judged.1
 
-    pub back_memory : HasBuiltIns T → IsSound T (length image) (block_of image) → fault ≡ NoMemory
-    back_memory built sound = ⊎_elim (λ none. none) (λ e. absurd (verdict-unsound T built (joined image) fault e (record {
+    pub back_memory : IsSound T (length image) (block_of image) → fault ≡ NoMemory
+    back_memory sound = ⊎_elim (λ none. none) (λ e. absurd (verdict-unsound T (built_ins_in language (block_of image)) (joined image) fault e (record {
       whole = length-joined image is.long ∙ ap (λ bs. 512 * length bs) (sym blocks_are);
       blocks = subst (λ bs. IsSound T (length bs) (block_of bs)) (sym blocks_are) sound;
     }))) judged.1

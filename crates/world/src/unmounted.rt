@@ -2,10 +2,9 @@
 
 ghost use Rattle.std.specs.Prelude.{◌≡◌, ◌≢◌, ◌⊎◌, ◌*◌, ◌%◌, ◌^◌, ◌<◌, List, All, length, replicate, Some, None, Err, IfOk, IfErr, IfSome, slice_get, slice_set, option_map};
 ghost use Rattle.std.specs.List.{AllByRecursion};
-ghost use Rattle.xn_model.specs.Root.{HasBuiltIns};
 ghost use Rattle.xn_model.specs.Images.{block_of, blocks_in, joined, IsSound};
 ghost use Rattle.image_model.specs.Walk.{verdict};
-ghost use Rattle.crash_check.specs.Answers.{types_in};
+ghost use Rattle.templates.specs.Language.{types_of_image};
 ghost use Rattle.disk.specs.Mem.{crashed};
 ghost use Rattle.world.specs.Disks.{image_of, settled_image, given_to, lane_at, lanes_with, AreLong, AreWhole, HaveCrashed, IsHome, IsLong, IsUnmounted};
 ghost use Rattle.world.specs.Worlds.{mounted_value};
@@ -74,12 +73,11 @@ impl UnmountedDisk {
         alloc: Global,
         id: u64,
     ) -> Result<MountedDisk, (ImageFault, UnmountedDisk)>
-        requires { HasBuiltIns (types_in self) }
         ensures ok { IfOk result (λ disk. disk ≡ mounted_value self) }
-        ensures sound { IfOk result (λ disk. IsSound (types_in self) (length self) (block_of self)) }
+        ensures sound { IfOk result (λ disk. IsSound (types_of_image self) (length self) (block_of self)) }
         ensures back { IfErr result (λ back. back.1 ≡ self) }
-        ensures fault { IfErr result (λ back. (back.0 ≡ ImageFault.NoMemory) ⊎ (verdict (types_in self) (joined self) ≡ Err back.0)) }
-        ensures memory { IfErr result (λ back. IsSound (types_in self) (length self) (block_of self) → back.0 ≡ ImageFault.NoMemory) }
+        ensures fault { IfErr result (λ back. (back.0 ≡ ImageFault.NoMemory) ⊎ (verdict (types_of_image self) (joined self) ≡ Err back.0)) }
+        ensures memory { IfErr result (λ back. IsSound (types_of_image self) (length self) (block_of self) → back.0 ≡ ImageFault.NoMemory) }
     {
         let UnmountedDisk { lanes, tickets } = self;
         match mount(rt, alloc, lanes, id) {
@@ -96,11 +94,10 @@ impl UnmountedDisk {
         image: &[u8],
         id: u64,
     ) -> Result<MountedDisk, ImageFault>
-        requires built_ins { HasBuiltIns (types_in self) }
-        requires bytes { self ≡ blocks_in image.now }
+        requires { self ≡ blocks_in image.now }
         ensures ok { IfOk result (λ disk. disk ≡ mounted_value self) }
-        ensures sound { IfOk result (λ disk. IsSound (types_in self) (length self) (block_of self)) }
-        ensures fault { IfErr result (λ fault. (fault ≡ ImageFault.NoMemory) ⊎ (verdict (types_in self) image.now ≡ Err fault)) }
+        ensures sound { IfOk result (λ disk. IsSound (types_of_image self) (length self) (block_of self)) }
+        ensures fault { IfErr result (λ fault. (fault ≡ ImageFault.NoMemory) ⊎ (verdict (types_of_image self) image.now ≡ Err fault)) }
     {
         let UnmountedDisk { lanes, tickets } = self;
         match mount_image(rt, alloc, lanes, image, id) {
@@ -187,7 +184,7 @@ fn crash_lane(lanes: &mut Lanes<MemLane>, block: u32, kept: bool)
 }
 
 /// A block has 512 bytes.
-fn is_whole(bytes: &[u8; BLOCK_LEN])
+pub fn is_whole(bytes: &[u8; BLOCK_LEN])
     ensures { length bytes.now ≡ 512 }
 {
     let _length = bytes.len();

@@ -1,7 +1,7 @@
 use Rattle.std.proofs.Common.{◌≡◌, ◌∙◌, ap, subst, map}
 use Rattle.xn_model.specs.Images.{blocks_in, joined}
 use Rattle.image_model.specs.Report.{IsSoundImage}
-use Rattle.crash_check.specs.Answers.{types_in}
+use Rattle.templates.specs.Language.{types_of_image}
 use Rattle.world.specs.Worlds.{world_with}
 use Rattle.xnsim_line.specs.Done.{IsMountFault, IsRunFault}
 use Rattle.xnsim_line.specs.Runs.{opened_world}
@@ -16,7 +16,7 @@ returns-in-Ok-clause-run g c =
     ended c.end_run.result c.run_asked-ran.result _ (λ after. after.items ≡ last) _ c.end_run.ensures.ran c.run_asked-ran.ensures.run c.end_run.ensures.image
     (λ after ran reached. asked_run c.args.stop c.args.image.items (world_with c.in-Ok.world) (map (λ line. line.now) c.args.lines.now)
     (g.W.Write.contents c.args.out.now) (g.W.Write.contents c.run_asked-ran.new.out) last after.items
-    (subst (λ i. IsSoundImage (types_in (blocks_in i)) i) same c.in-Ok.ensures.ok.0) (c.in-Ok.ensures.ok.1 ∙ ap opened_world same) reached ran)
+    (subst (λ i. IsSoundImage (types_of_image (blocks_in i)) i) same c.in-Ok.ensures.ok.0) (c.in-Ok.ensures.ok.1 ∙ ap opened_world same) reached ran)
 
 pub returns-in-Ok-clause-fault : goal.returns-in-Ok-clause-fault
 returns-in-Ok-clause-fault g c = fault_then c.end_run.result IsRunFault (IsMountFault c.args.image.items) c.end_run.ensures.fault (run_fault c.args.image.items)
