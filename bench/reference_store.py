@@ -22,7 +22,7 @@ from reference_images import BUILT_IN, TEMPLATES, Fault, check, number_at, owned
 REFUSALS = {
     2: "NoSuchBlock", 3: "NotInUse", 4: "NotYours", 5: "BadPatch", 6: "BadAfter", 7: "NotFresh", 8: "NotOwned", 9: "NotEmpty",
     10: "ClaimWrong", 11: "SizeWrong", 13: "TooManyPending", 14: "NoSpace", 15: "BadType", 16: "InFlight", 17: "NotMine",
-    19: "RootTaken", 20: "NothingSafe", 22: "Cycle", 23: "NotSynced",
+    19: "RootTaken", 20: "NothingSafe", 22: "Cycle", 23: "NotSynced", 24: "NoSlot", 25: "BadTemplate",
 }  # fmt: skip
 
 
@@ -66,6 +66,17 @@ class Life:
 FRESH = ("fresh", None)
 
 
+def entry_of(catalogue, ty):
+    """The block that a catalogue names as a type's template, and 0 where it names none."""
+    return number_at(catalogue, 8 + 4 * (ty - 3))
+
+
+def types_of(catalogue, block_at):
+    """The built-in types, and those whose templates a catalogue names."""
+    named = {ty: entry_of(catalogue, ty) for ty in range(3, 19)}
+    return BUILT_IN | {ty: read_template(block_at(c)) for ty, c in named.items() if c}
+
+
 class Store:
     def __init__(self, image, writes=None):
         """From the bytes of a sound image. So many block writes may come; None: any number."""
@@ -77,10 +88,8 @@ class Store:
         """Every block is synced, and then read."""
         self.settled, self.given = list(self.image), [None] * len(self.image)
         reached, free = check(b"".join(self.image))
-        self.types, self.lives, self.next = dict(BUILT_IN), [None] * len(self.image), 1
-        for i in range(16):
-            if c := number_at(self.image[0], 8 + 4 * i):
-                self.types[3 + i] = read_template(self.image[c])
+        self.types = types_of(self.image[0], self.image.__getitem__)
+        self.lives, self.next = [None] * len(self.image), 1
         roots = {number_at(self.image[0], 72 + 8 * fs): fs for fs in range(32)}
         self.lives[0] = Life(None, 0, FRESH, State(self.image[0]), 0)
         for b, ty in reached:
@@ -133,16 +142,22 @@ class Store:
 
     # What may be written.
 
-    def is_safe(self, state, earlier):
+    def has_type(self, ty, earlier):
+        """Whether a type is built in, or named by block 0 on the disk or by one of these states of it."""
+        root = self.lives[0]
+        return ty in BUILT_IN or any(entry_of(state.bytes, ty) for state in [root.states[root.durable], *earlier])
+
+    def is_safe(self, b, state, earlier):
         waits = {other.entry for _, life in self.living() for other in life.pending()} - {other.entry for other in earlier}
         is_added = all(self.lives[c].durable is not None for c, _ in state.adds)
-        return is_added and not any(self.lives[c].pending() for c in state.drops) and state.after not in waits
+        is_typed = all(self.has_type(ty, earlier if b == 0 else []) for _, ty in state.adds)
+        return is_added and is_typed and not any(self.lives[c].pending() for c in state.drops) and state.after not in waits
 
     def prefix(self, b):
         """How many pending entries are safe, from the first one on."""
         pending = self.lives[b].pending()
         for k, state in enumerate(pending):
-            if not self.is_safe(state, pending[:k]):
+            if not self.is_safe(b, state, pending[:k]):
                 return k
         return len(pending)
 
@@ -232,6 +247,25 @@ class Store:
 
     def pending(self, fs):
         return f"pending {len(self.numbers(fs))}"
+
+    # A type's template, which counts for no file system.
+
+    def install(self, content):
+        root = self.lives[0]
+        ty = next((ty for ty in range(3, 19) if not entry_of(root.newest(), ty)), None)
+        refuse(ty is None, 24)
+        refuse(len(root.pending()) >= 64, 13)
+        refuse(None not in self.lives, 14)
+        content = content.ljust(512, b"\0")
+        refuse(read_template(content) is None, 25)
+        b, first = self.lives.index(None), self.next
+        self.lives[b] = Life(None, 1, FRESH, State(content, first), None)
+        self.next += 1
+        new, at = root.newest(), 8 + 4 * (ty - 3)
+        new = new[:at] + b.to_bytes(4, "little") + new[at + 4 :]
+        self.accept(0, State(new, self.next, ((b, 1),)))
+        self.types = types_of(new, lambda c: self.lives[c].newest())
+        return f"type {ty} block {b} edits {first} {first + 1}"
 
     # Writes. Of each block the device has the newest bytes (the image), which a read gives, and the settled ones, which its last good sync
     # found. A write is open from the moment it is given to the device until a good sync; till then the bytes given are kept beside them.
@@ -332,6 +366,8 @@ def command_of(line):
     name, *words = line.split(" ")
     if name == "init":
         return name, [int(words[0]), int(words[1]), bytes.fromhex(words[2].strip("-"))]
+    if name == "install":
+        return name, [bytes.fromhex(words[0])]
     if name == "edit":
         patches = [word.split("=") for word in words if "=" in word]
         edit = Edit(

@@ -1,16 +1,17 @@
 -- What each call leaves of the places and the slab.
-use Rattle.std.proofs.Common.{◌≡◌, ℕ, ◌<◌, ◌≤◌, List, [], ◌∷◌, length, take, Option, Some, None, refl, sym, ◌∙◌, ap, arith, subst}
+use Rattle.std.proofs.Common.{◌≡◌, ℕ, ◌<◌, ◌≤◌, Bool, List, [], ◌∷◌, length, take, Option, Some, None, refl, sym, ◌∙◌, ap, arith, subst}
 use Rattle.std.specs.Prelude.{IsTrue, IfSome, is_some, option_map}
 use Rattle.slab.specs.Slab.{Slab, get, Updates}
 use Rattle.xn_model.specs.declared.status.Status.{Status}
 use Rattle.xn_model.specs.Lives as model
-use Rattle.xn_model.specs.Lives.{Life, Lives, life_at, change_at, with_state, settle, settled_at, begun_at, current}
+use Rattle.xn_model.specs.Lives.{Life, Lives, life_at, change_at, with_state, settle, settled_at, begun_at, current, root_on_disk}
 use Rattle.xn_model.specs.Calls.{life_pending, life_bytes, patched}
 use Rattle.block_cache.specs.declared.entry.Entry.{Entry}
 use Rattle.block_cache.specs.Claims.{state_of}
 use Rattle.block_cache.specs.Cached.{CachedLife}
+use Rattle.block_cache.specs.Named.{places_named}
 use Rattle.block_cache.specs.Undone.{life_of, lives_of}
-use Rattle.block_cache.specs.Kept.{IsApart, IsAmong, AreOf, IsKept, AreKept, place_at, change_place, appended, settled, with_status, with_begun, first_keys}
+use Rattle.block_cache.specs.Kept.{IsApart, IsAmong, AreOf, IsKept, AreKept, IsWhole, place_at, change_place, appended, settled, with_status, with_begun, first_keys}
 use Rattle.block_cache.proofs.Keys.{AreSame, same_keys, take_keys}
 use Rattle.block_cache.proofs.Used.{used_append, used_kept, used_settle}
 use Rattle.block_cache.proofs.WrittenPlaces.{KeepsOthers, life-life_at}
@@ -65,6 +66,12 @@ grown_kept old mid places same kept = record {
   each = λ b l at. let k = kept.each b l at in record { keys = same_keys old mid b l.keys (gets_same old mid same l.keys) k.keys; few = k.few; begun = k.begun; has_state = k.has_state };
   used = λ k e at. kept.used k e (sym (same k) ∙ at);
   few = kept.few;
+}
+
+pub grown_whole : (old mid : Slab Entry) (places : List (Option CachedLife)) (names : List Bool) (n : ℕ) → mid ≡ record old { capacity = n } → IsWhole old places names → IsWhole mid places names
+grown_whole old mid places names n e whole = record {
+  kept = grown_kept old mid places (same_gets old mid n e) whole.kept;
+  named = whole.named ∙ ap (λ (s : Slab Entry). places_named (root_on_disk (lives_of s places))) (sym e);
 }
 
 -- Appending

@@ -1,14 +1,17 @@
 -- What is kept beside the bytes and the entries.
-use Rattle.std.specs.Prelude.{◌≡◌, ◌≢◌, ◌⊎◌, ℕ, ◌^◌, ◌<◌, ◌≤◌, List, [], ◌∷◌, ◌++◌, length, take, drop, true, false, Option, Some, None, slice_get, slice_index_or, slice_set, unwrap_or, option_map, IsTrue, ◌||◌, nat_lt}
+use Rattle.std.specs.Prelude.{◌≡◌, ◌≢◌, ◌⊎◌, ℕ, ◌^◌, ◌<◌, ◌≤◌, Bool, List, [], ◌∷◌, ◌++◌, length, take, drop, true, false, Option, Some, None, slice_get, slice_index_or, slice_set, unwrap_or, option_map, IsTrue, ◌||◌, nat_lt}
 use Rattle.slab.specs.Slab.{Slab, get}
 use Rattle.xn_model.specs.declared.status.Status.{Status}
 use Rattle.xn_model.specs.declared.status.Status.TheVariants.{Fresh}
-use Rattle.edit_list.specs.declared.fs.Fs.{Fs}
 use Rattle.xn_model.specs.Images.{block_of}
+use Rattle.xn_model.specs.Lives.{root_on_disk}
 use Rattle.xn_model.specs.Rules.{IsCount}
 use Rattle.block_cache.specs.declared.entry.Entry.{Entry}
 use Rattle.block_cache.specs.declared.life.FoundLife.{FoundLife}
+use Rattle.block_cache.specs.Systems.{system_of}
+use Rattle.block_cache.specs.Named.{places_named}
 use Rattle.block_cache.specs.Cached.{CachedLife}
+use Rattle.block_cache.specs.Undone.{lives_of}
 
 -- the key has an entry of this block
 pub record IsOf (slab : Slab Entry) (block key : ℕ) : Type 0 where
@@ -54,6 +57,11 @@ pub record AreKept (slab : Slab Entry) (places : List (Option CachedLife)) : Typ
   pub used : AreUsed slab places
   pub few : length places < 2 ^ 32
 
+-- and the places that block 0's catalogue names on the disk are known
+pub record IsWhole (slab : Slab Entry) (places : List (Option CachedLife)) (names : List Bool) : Type 0 where
+  pub kept : AreKept slab places
+  pub named : names ≡ places_named (root_on_disk (lives_of slab places))
+
 -- the life at a place, and the places with it changed
 abbrev pub place_at : List (Option CachedLife) → ℕ → Option CachedLife
 place_at places b = unwrap_or (slice_get places b) None
@@ -63,12 +71,12 @@ change_place places b f = slice_set places b (option_map f (place_at places b))
 
 -- What a start leaves
 
-abbrev pub started : ℕ → ℕ → ℕ → List ℕ → CachedLife
-started k fs ty bytes = record { fs = Some fs; ty = ty; status = Fresh; current = bytes; is_durable = false; keys = k ∷ []; begun = None }
+abbrev pub started : ℕ → Option ℕ → ℕ → List ℕ → CachedLife
+started k fs ty bytes = record { fs = fs; ty = ty; status = Fresh; current = bytes; is_durable = false; keys = k ∷ []; begun = None }
 
 abbrev pub resting : FoundLife → List ℕ → CachedLife
 resting found bytes = record {
-  fs = option_map (λ (f : Fs). f.number) found.fs;
+  fs = system_of found.fs;
   ty = found.ty;
   status = found.status;
   current = bytes;

@@ -4,10 +4,13 @@ ghost use Rattle.std.specs.Prelude.{◌≡◌, ℕ, ◌+◌, ◌*◌, ◌^◌, �
 ghost use Rattle.std.specs.List.{list_any, range_with_len};
 ghost use Rattle.std.specs.Option.{option_copied, option_and_then};
 ghost use Rattle.slab.specs.Slab.{get};
-ghost use Rattle.xn_model.specs.Lives.{life_at, change_at, with_state, with_status, settled_at, begun_at, current, alive_and, is_for};
+ghost use Rattle.xn_model.specs.Root.{has_type};
+ghost use Rattle.xn_model.specs.Lives.{durable_bytes, root_on_disk, life_at, change_at, with_state, with_status, settled_at, begun_at, current, alive_and, is_for};
 ghost use Rattle.xn_model.specs.Calls.{new_life, life_bytes, life_pending, patched};
 ghost use Rattle.xn_model.specs.Rules.{IsCount};
 ghost use Rattle.xn_model.specs.Worlds.{all_pending};
+ghost use Rattle.block_cache.specs.Systems.{system_of};
+ghost use Rattle.block_cache.specs.Named.{places_named};
 ghost use Rattle.block_cache.specs.Claims.{state_of, claim_of};
 ghost use Rattle.block_cache.specs.Kept.{IsAmong, IsApart, first_keys, keys_of};
 ghost use Rattle.block_cache.specs.Views.{image_at, HasImage, facts_of, pending_at, rest_at};
@@ -15,6 +18,7 @@ ghost use Rattle.block_cache.specs.Views.{image_at, HasImage, facts_of, pending_
 use crate::claim::Claim;
 use crate::entry::Entry;
 use crate::life::{Facts, FoundLife, Life};
+use crate::named_places::NamedPlaces;
 use crate::places::Places;
 use crate::rollback;
 use edit_list::{EditId, Fs, Undo};
@@ -24,22 +28,23 @@ use std::marker::Model;
 use xn_model::Status;
 
 /// What each block has been since it was last free, by block number: of each life the newest bytes, and of each pending
-/// entry the bytes that it overwrote.
+/// entry the bytes that it overwrote. Beside them stands which places of the catalogue on the disk name a template.
 pub struct Cache {
     places: Places,
     entries: Slab<Entry>,
+    named: NamedPlaces,
 }
 
 impl Model for Cache {
     ghost use Rattle.xn_model.specs.Lives.{Lives};
     ghost use Rattle.block_cache.specs.Undone.{lives_of};
-    ghost use Rattle.block_cache.specs.Kept.{AreKept};
+    ghost use Rattle.block_cache.specs.Kept.{IsWhole};
 
     ghost Value = { Lives };
 
     ghost view = { λ a. lives_of a.entries a.places };
 
-    ghost invariant = { λ a. AreKept a.entries a.places };
+    ghost invariant = { λ a. IsWhole a.entries a.places a.named.places };
 }
 
 /// Written by hand, so that a function that drops one calls this: a derived drop is proved anew in each such function.
@@ -48,6 +53,7 @@ impl Drop for Cache {
         let Cache {
             places: _,
             entries: _,
+            named: _,
         } = self;
     }
 }
@@ -67,21 +73,22 @@ impl Cache {
         Ok(Cache {
             places: Places::found(alloc, found, blocks)?,
             entries: Slab::new(alloc),
+            named: named_in(found, blocks),
         })
     }
 
-    /// Starts a life on a free block.
+    /// Starts a life on a free block, a file system's or nobody's.
     pub fn start(
         &mut self,
         alloc: Global,
         block: u32,
         number: EditId,
-        fs: Fs,
+        fs: Option<Fs>,
         ty: u32,
         bytes: &[u8; 512],
     ) -> Result<(), AllocError>
         requires { slice_get self.old block ≡ Some None }
-        ensures ok { OnOk result (self.new ≡ slice_set self.old block (Some (new_life number fs.number ty bytes.now))) }
+        ensures ok { OnOk result (self.new ≡ slice_set self.old block (Some (new_life number (system_of fs) ty bytes.now))) }
         ensures err { OnErr result (self.new ≡ self.old) }
     {
         self.entries.reserve(1)?;
@@ -103,6 +110,7 @@ impl Cache {
         let life = self.places.life(block);
         forget_all(&mut self.entries, life);
         self.places.set(block, None);
+        self.named = self.named.without(block);
     }
 
     /// How many blocks there are.
@@ -184,6 +192,13 @@ impl Cache {
         Some(&entry.claim)
     }
 
+    /// Whether block 0 has a type on the disk: it is built in, or the catalogue there names its template.
+    pub fn has_type_on_disk(&self, ty: u32) -> bool
+        ensures { result ≡ has_type (root_on_disk self.now) ty }
+    {
+        self.named.has_type(ty)
+    }
+
     /// The newest bytes of a block in use.
     pub fn current(&self, block: u32) -> Option<&[u8; 512]>
         ensures { option_copied result ≡ option_map current (life_at self.now block) }
@@ -256,9 +271,37 @@ impl Cache {
         requires within { count ≤ life_pending (life_at self.old block) }
         ensures { self.new ≡ settled_at self.old block count }
     {
+        let named = self.named_after(block, count);
         let life = self.places.life(block);
         forget_first(&mut self.entries, life, count as usize);
         self.places.settle(block, count);
+        self.named = named;
+    }
+
+    /// Which places of the catalogue on the disk name a template once the first entries of a block are there.
+    fn named_after(&self, block: u32, count: u32) -> NamedPlaces
+        requires some { 1 ≤ count }
+        requires within { count ≤ life_pending (life_at self.now block) }
+        ensures { result.places ≡ places_named (root_on_disk (settled_at self.now block count)) }
+    {
+        if block != 0 {
+            return self.named;
+        }
+        match self.image_of(0, count) {
+            Some(root) => NamedPlaces::of(&root),
+            None => NamedPlaces::none(),
+        }
+    }
+}
+
+/// Which places of an image's catalogue name a template: none where block 0 is not found.
+fn named_in(found: &[Option<FoundLife>], blocks: &[[u8; 512]]) -> NamedPlaces
+    requires { length found.now ≤ length blocks.now }
+    ensures { result.places ≡ places_named (durable_bytes (rest_at found.now blocks.now 0)) }
+{
+    match found.first() {
+        Some(Some(_)) => NamedPlaces::of(&blocks[0]),
+        _ => NamedPlaces::none(),
     }
 }
 

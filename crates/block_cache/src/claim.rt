@@ -1,8 +1,10 @@
 // What an entry says beside the bytes that it leaves.
 
-ghost use Rattle.std.specs.Prelude.{◌≡◌, ◌≤◌, Some, length, IfOk};
+ghost use Rattle.std.specs.Prelude.{◌≡◌, ◌≤◌, length, IfOk};
+ghost use Rattle.xn_model.specs.Lives.{is_for};
 ghost use Rattle.block_cache.specs.Claims.{first_claim};
 ghost use Rattle.block_cache.specs.Rest.{rest_adds, rest_drops, rest_after};
+ghost use Rattle.block_cache.specs.Systems.{system_of};
 
 use edit_list::{EditId, Fs};
 use smallvec::SmallVec;
@@ -39,15 +41,16 @@ impl Drop for Lists {
 }
 
 /// What an entry says beside the bytes that it leaves: its number, the blocks that it adds, each with its type, those that
-/// it drops, at most 128, the entry that it comes after, and the file system for which it counts.
+/// it drops, at most 128, the entry that it comes after, and the file system for which it counts, if it is not nobody's.
 pub struct Claim {
     entry: EditId,
-    fs: Fs,
+    fs: Option<Fs>,
     rest: Rest,
 }
 
 impl Model for Claim {
-    ghost use Rattle.std.specs.Prelude.{◌≤◌, length, Some};
+    ghost use Rattle.std.specs.Prelude.{◌≤◌, length};
+    ghost use Rattle.block_cache.specs.Systems.{system_of};
     ghost use Rattle.block_cache.specs.Claims.{ClaimValue};
     ghost use Rattle.block_cache.specs.Rest.{rest_adds, rest_drops, rest_after};
 
@@ -58,7 +61,7 @@ impl Model for Claim {
       adds = rest_adds a.rest;
       drops = rest_drops a.rest;
       after = rest_after a.rest;
-      fs = Some a.fs.number;
+      fs = system_of a.fs;
     } };
 
     ghost invariant = { λ a. length (rest_drops a.rest) ≤ 128 };
@@ -77,8 +80,8 @@ impl Drop for Claim {
 
 impl Claim {
     /// That of the first entry of a life, which adds, drops and waits for nothing.
-    pub fn first(entry: EditId, fs: Fs) -> Claim
-        ensures { result ≡ first_claim entry fs.number }
+    pub fn first(entry: EditId, fs: Option<Fs>) -> Claim
+        ensures { result ≡ first_claim entry (system_of fs) }
     {
         Claim {
             entry,
@@ -94,10 +97,10 @@ impl Claim {
         adds: &[(u32, u32)],
         drops: &[u32],
         after: Option<EditId>,
-        fs: Fs,
+        fs: Option<Fs>,
     ) -> Result<Claim, AllocError>
         requires { length drops.now ≤ 128 }
-        ensures { IfOk result (λ claim. claim ≡ record { entry = entry; adds = adds.now; drops = drops.now; after = after; fs = Some fs.number }) }
+        ensures { IfOk result (λ claim. claim ≡ record { entry = entry; adds = adds.now; drops = drops.now; after = after; fs = system_of fs }) }
     {
         let rest = rest_of(alloc, adds, drops, after)?;
         Ok(Claim { entry, fs, rest })
@@ -144,11 +147,21 @@ impl Claim {
         }
     }
 
-    /// The file system for which it counts.
-    pub fn fs(&self) -> Fs
-        ensures { self.now.fs ≡ Some result.number }
+    /// The file system for which it counts, or `None` where it is nobody's.
+    pub fn fs(&self) -> Option<Fs>
+        ensures { self.now.fs ≡ system_of result }
     {
         self.fs
+    }
+
+    /// Whether it counts for a file system.
+    pub fn is_for(&self, fs: Fs) -> bool
+        ensures { result ≡ is_for fs.number self.now.fs }
+    {
+        match self.fs {
+            Some(system) => system.number() == fs.number(),
+            None => false,
+        }
     }
 }
 

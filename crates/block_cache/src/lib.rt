@@ -7,6 +7,7 @@ mod entry;
 mod freeing;
 mod life;
 mod life_list;
+mod named_places;
 mod places;
 mod rollback;
 mod totals;

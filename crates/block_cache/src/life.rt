@@ -2,6 +2,7 @@
 
 ghost use Rattle.std.specs.Prelude.{◌≡◌, ◌≤◌, ◌&&◌, ◌==◌, true, false, is_some, [], ◌∷◌, ◌++◌, length, drop, option_map, Some, None, IfOk, OnOk, OnErr};
 ghost use Rattle.xn_model.specs.Lives.{is_dropped, is_for, is_fresh, is_owned_by};
+ghost use Rattle.block_cache.specs.Systems.{system_of};
 ghost use Rattle.block_cache.specs.Kept.{started, resting};
 
 use edit_list::Fs;
@@ -23,13 +24,13 @@ pub struct Life {
 }
 
 impl Model for Life {
-    ghost use Rattle.std.specs.Prelude.{option_map};
+    ghost use Rattle.block_cache.specs.Systems.{system_of};
     ghost use Rattle.block_cache.specs.Cached.{CachedLife};
 
     ghost Value = { CachedLife };
 
     ghost view = { λ a. record {
-      fs = option_map (λ f. f.number) a.fs;
+      fs = system_of a.fs;
       ty = a.ty;
       status = a.status;
       current = a.current;
@@ -108,20 +109,20 @@ impl Facts {
 }
 
 impl Life {
-    /// A life that no owner names, with its first entry.
+    /// A life that no owner names, a file system's or nobody's, with its first entry.
     pub fn start(
         alloc: Global,
         key: usize,
-        fs: Fs,
+        fs: Option<Fs>,
         ty: u32,
         bytes: &[u8; 512],
     ) -> Result<Life, AllocError>
-        ensures { IfOk result (λ life. life ≡ started key fs.number ty bytes.now) }
+        ensures { IfOk result (λ life. life ≡ started key (system_of fs) ty bytes.now) }
     {
         let mut keys = Vec::with_capacity(alloc, 1)?;
         keys.push_reserved(key);
         Ok(Life {
-            fs: Some(fs),
+            fs,
             ty,
             status: Status::Fresh,
             current: *bytes,

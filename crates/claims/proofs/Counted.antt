@@ -30,7 +30,7 @@ begun_counts counts lives b k h =
     same_counts counts lives (begun_at lives b k) h (length-set lives b (option_map (begun_with k) (life_at lives b)))
     (λ e. count_kept e lives b (begun_with k) (λ l. refl))
 
-pub started_counts : (counts : List ℕ) (lives : Lives) (b n f ty : ℕ) (bytes : List ℕ) → AreOwnedCounts counts lives → life_at lives b ≡ None →
+pub started_counts : (counts : List ℕ) (lives : Lives) (b n : ℕ) (f : Option ℕ) (ty : ℕ) (bytes : List ℕ) → AreOwnedCounts counts lives → life_at lives b ≡ None →
     AreOwnedCounts counts (slice_set lives b (Some (new_life n f ty bytes)))
 started_counts counts lives b n f ty bytes h free =
     same_counts counts lives (slice_set lives b (Some (new_life n f ty bytes))) h (length-set lives b (Some (new_life n f ty bytes)))

@@ -124,7 +124,7 @@ settled_decided T sets lives b k drops h =
 pub ended_decided : (T : Types) (sets : List (Option ReadSet)) (lives : Lives) (b : ℕ) → AreDecided T sets lives → AreDecided T sets (slice_set lives b None)
 ended_decided T sets lives b h = same_decided T sets lives (slice_set lives b None) h (length-set lives b None) (ended_newest lives b)
 
-pub started_decided : (T : Types) (sets : List (Option ReadSet)) (lives : Lives) (b n f ty : ℕ) (bytes : List ℕ) → AreDecided T sets lives →
+pub started_decided : (T : Types) (sets : List (Option ReadSet)) (lives : Lives) (b n : ℕ) (f : Option ℕ) (ty : ℕ) (bytes : List ℕ) → AreDecided T sets lives →
     AreDecided T (slice_set sets b None) (slice_set lives b (Some (new_life n f ty bytes)))
 started_decided T sets lives b n f ty bytes h =
     put_decided T sets lives (slice_set lives b (Some (new_life n f ty bytes))) b None h (length-set lives b (Some (new_life n f ty bytes)))

@@ -1,11 +1,12 @@
 -- Candidates: what is none is not ready, and blocks come and go.
 use Rattle.std.proofs.Common.{◌≡◌, ℕ, zero, suc, ◌+◌, ◌<◌, ◌≤◌, ◌⊎◌, Bool, true, false, List, [], ◌∷◌, length, Option, Some, None, refl, sym, ◌∙◌, ap, arith, inl, inr, subst, slice_get}
-use Rattle.std.specs.Prelude.{◌&&◌, ◌||◌, Contains, not, is_none, is_some, nat_lt, option_map, slice_set, slice_index_or}
-use Rattle.std.specs.List.{list_all}
+use Rattle.std.specs.Prelude.{◌&&◌, ◌||◌, ◌==◌, Contains, not, is_none, is_some, nat_lt, option_map, slice_set, slice_index_or}
+use Rattle.std.specs.List.{list_all, list_any}
 use Rattle.std.proofs.lemmas.Bool.{false≢true, cases_eq, cases_lt, lt-ltb}
 use Rattle.std.proofs.lemmas.List.{length-set}
 use Rattle.std.proofs.lemmas.Option.{slice_get_within}
-use Rattle.xn_model.specs.Lives.{BlockState, Life, Lives, has_durable, has_entry, is_after_met, is_all_durable, life_at, no_states, safe_count}
+use Rattle.xn_model.specs.Root.{has_type}
+use Rattle.xn_model.specs.Lives.{BlockState, Life, Lives, durable_bytes, has_durable, has_entry, is_after_met, is_all_durable, is_type_met, life_at, no_states, root_on_disk, safe_count}
 use Rattle.xn_model.specs.Calls.{first_pending, is_ready, life_pending}
 use Rattle.xn_model.proofs.ForCallers.{all_at, place_from}
 use Rattle.block_cache.specs.declared.life.Facts.{Facts}
@@ -16,7 +17,7 @@ use Rattle.wait_lists.specs.Waiting.{at, Releases}
 use Rattle.wait_lists.proofs.ForCallers.{at_other, at_same, within}
 use Rattle.dependencies.specs.Candidates.{AreCandidates, CandidatesValue, IsAccounted, Parks, Wakes, is_candidate, is_idle_with_entries}
 use Rattle.dependencies.specs.Pending.{pends}
-use Rattle.dependencies.specs.Safety.{is_claim_safe, is_safe_at}
+use Rattle.dependencies.specs.Safety.{is_claim_safe, is_safe_at, life_type}
 use Rattle.dependencies.specs.Waiting.{Misses, WaitsFor, first_of}
 use Rattle.dependencies.proofs.Dirty.{FailsBelow}
 use Rattle.dependencies.proofs.Numbered.{pending_found}
@@ -52,7 +53,7 @@ ready_is lives l = ap (λ t. is_none l.begun && t) (by (is_safe_at lives (Some l
     by : (t : Bool) → is_safe_at lives (Some l) 0 ≡ t → ((0 < length l.pending) ⊎ (length l.pending ≤ 0)) → nat_lt 0 (rest_safe lives 0 (Some l)) ≡ is_safe_at lives (Some l) 0
     by t e (inr none) = nothing l.pending none
       where
-        nothing : (ps : List BlockState) → length ps ≤ 0 → nat_lt 0 (safe_count lives [] ps) ≡ is_safe_at lives (Some (record l { pending = ps })) 0
+        nothing : (ps : List BlockState) → length ps ≤ 0 → nat_lt 0 (safe_count lives l.ty [] ps) ≡ is_safe_at lives (Some (record l { pending = ps })) 0
         nothing [] none = refl
         nothing (p ∷ ps) none = absurd (omega (arith, none))
     by true e (inl some) = ap (nat_lt 0) (safe_more lives (Some l) 0 some e) ∙ (lt-ltb 0 (1 + rest_safe lives (0 + 1) (Some l)) (omega arith) ∙ sym e)
@@ -82,29 +83,50 @@ none_first : (o : Option Life) (n : ℕ) → has_entry (first_pending 0 o) n ≡
 none_first None n = refl
 none_first (Some l) n = refl
 
-pub unsafe_claim : (lives : Lives) (o : Option Life) (claim : ClaimValue) (c : ℕ) → Misses claim c (life_at lives c) → is_claim_safe lives (first_pending 0 o) claim ≡ false
-unsafe_claim lives o claim c (inl added) =
-    ap (λ t. t && (list_all (is_all_durable lives) claim.drops && is_after_met lives (first_pending 0 o) claim.after))
-    (not_all (λ (p : ℕ × ℕ). has_durable lives p.0) claim.adds (c, added.0) added.1 added.2)
-unsafe_claim lives o claim c (inr (inl dropped)) =
-    ap (λ t. list_all (λ (p : ℕ × ℕ). has_durable lives p.0) claim.adds && (t && is_after_met lives (first_pending 0 o) claim.after)) (not_all (is_all_durable lives) claim.drops c dropped.0 dropped.1)
-    ∙ and_false (list_all (λ (p : ℕ × ℕ). has_durable lives p.0) claim.adds)
-unsafe_claim lives o claim c (inr (inr after)) =
-    let found = pending_found lives after.0 c (pends_within lives c after.0 after.2) after.2 in
-    let unmet : is_after_met lives (first_pending 0 o) claim.after ≡ false =
-    ap (is_after_met lives (first_pending 0 o)) after.1 ∙ ((λ i. not (found i) || none_first o after.0 i)) in
-    ap (λ t. list_all (λ (p : ℕ × ℕ). has_durable lives p.0) claim.adds && (list_all (is_all_durable lives) claim.drops && t)) unmet
-    ∙ (ap (λ t. list_all (λ (p : ℕ × ℕ). has_durable lives p.0) claim.adds && t) (and_false (list_all (is_all_durable lives) claim.drops))
-    ∙ and_false (list_all (λ (p : ℕ × ℕ). has_durable lives p.0) claim.adds))
+-- before the first entry stands none that could have a type
+none_typed : (lives : Lives) (t u : ℕ) (o : Option Life) → has_type (root_on_disk lives) u ≡ false → is_type_met lives t (first_pending 0 o) u ≡ false
+none_typed lives t u o lacks = (λ i. lacks i || ((t == 0) && none o i)) ∙ and_false (t == 0)
+  where
+    none : (o : Option Life) → list_any (λ (s : BlockState). has_type s.bytes u) (first_pending 0 o) ≡ false
+    none None = refl
+    none (Some l) = refl
+
+pub unsafe_claim : (lives : Lives) (t : ℕ) (o : Option Life) (claim : ClaimValue) (c : ℕ) → Misses claim c (life_at lives c) → is_claim_safe lives t (first_pending 0 o) claim ≡ false
+unsafe_claim lives t o claim c misses = by misses
+  where
+    states : Bool
+    states = list_all (λ (p : ℕ × ℕ). has_durable lives p.0) claim.adds
+
+    types : Bool
+    types = list_all (λ (p : ℕ × ℕ). is_type_met lives t (first_pending 0 o) p.1) claim.adds
+
+    drops : Bool
+    drops = list_all (is_all_durable lives) claim.drops
+
+    after : Bool
+    after = is_after_met lives (first_pending 0 o) claim.after
+
+    by : Misses claim c (life_at lives c) → ((states && types) && (drops && after)) ≡ false
+    by (inl added) = ap (λ t. (t && types) && (drops && after)) (not_all (λ (p : ℕ × ℕ). has_durable lives p.0) claim.adds (c, added.0) added.1 added.2)
+    by (inr (inl lacks)) =
+        let u = lacks.1.1 in
+        let unmet = none_typed lives t u o (ap (λ k. has_type (durable_bytes (life_at lives k)) u) (sym lacks.0) ∙ lacks.1.3) in
+        ap (λ t. (states && t) && (drops && after)) (not_all (λ (p : ℕ × ℕ). is_type_met lives t (first_pending 0 o) p.1) claim.adds (lacks.1.0, u) lacks.1.2 unmet)
+        ∙ ap (λ t. t && (drops && after)) (and_false states)
+    by (inr (inr (inl dropped))) = ap (λ t. (states && types) && (t && after)) (not_all (is_all_durable lives) claim.drops c dropped.0 dropped.1) ∙ and_false (states && types)
+    by (inr (inr (inr later))) =
+        let found = pending_found lives later.0 c (pends_within lives c later.0 later.2) later.2 in
+        let unmet : after ≡ false = ap (is_after_met lives (first_pending 0 o)) later.1 ∙ ((λ i. not (found i) || none_first o later.0 i)) in
+        ap (λ t. (states && types) && (drops && t)) unmet ∙ (ap (λ t. (states && types) && t) (and_false drops) ∙ and_false (states && types))
 
 unsafe_first : (lives : Lives) (b c : ℕ) → WaitsFor lives b c → is_safe_at lives (life_at lives b) 0 ≡ false
 unsafe_first lives b c w = by (life_at lives b) w.first
   where
     by : (o : Option Life) → first_of o ≡ Some w.claim → is_safe_at lives o 0 ≡ false
-    by o e = ap (λ x. is_safe_with x) e ∙ unsafe_claim lives o w.claim c w.misses
+    by o e = ap (λ x. is_safe_with x) e ∙ unsafe_claim lives (life_type o) o w.claim c w.misses
       where
         is_safe_with : Option ClaimValue → Bool
-        is_safe_with x = elim x [ None ↦ false | Some claim ↦ is_claim_safe lives (first_pending 0 o) claim ]
+        is_safe_with x = elim x [ None ↦ false | Some claim ↦ is_claim_safe lives (life_type o) (first_pending 0 o) claim ]
 
 -- What is no candidate is not ready
 
@@ -112,7 +134,7 @@ idle_ready : (lives : Lives) (o : Option Life) → is_idle_with_entries o ≡ fa
 idle_ready lives None e = refl
 idle_ready lives (Some l) e = by (is_none l.begun) l.pending e
   where
-    by : (t : Bool) (ps : List BlockState) → (t && not (no_states ps)) ≡ false → (t && nat_lt 0 (safe_count lives [] ps)) ≡ false
+    by : (t : Bool) (ps : List BlockState) → (t && not (no_states ps)) ≡ false → (t && nat_lt 0 (safe_count lives l.ty [] ps)) ≡ false
     by true [] e = refl
     by true (p ∷ ps) e = absurd (false≢true (sym e))
     by false ps e = refl

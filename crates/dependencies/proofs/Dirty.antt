@@ -48,7 +48,7 @@ pub not_ready : (lives : Lives) (o : Option Life) → life_pending o ≡ 0 → i
 not_ready lives None none = refl
 not_ready lives (Some l) none = by (is_none l.begun) l.pending none
   where
-    by : (t : Bool) (ps : List BlockState) → length ps ≡ 0 → (t && nat_lt 0 (safe_count lives [] ps)) ≡ false
+    by : (t : Bool) (ps : List BlockState) → length ps ≡ 0 → (t && nat_lt 0 (safe_count lives l.ty [] ps)) ≡ false
     by t [] e = and_none t
     by t (p ∷ ps) e = absurd (omega arith)
 

@@ -115,7 +115,7 @@ set_life [] b l n e = absurd (false≢true e)
 set_life (o ∷ os) zero l n e = e
 set_life (o ∷ os) (suc b) l n e = set_life os b l n e
 
-pub started_homes : (lives : Lives) (homes : List (ℕ × ℕ)) (b number f ty : ℕ) (bytes : List ℕ) → number % length homes < length homes → AreHomes lives homes →
+pub started_homes : (lives : Lives) (homes : List (ℕ × ℕ)) (b number : ℕ) (f : Option ℕ) (ty : ℕ) (bytes : List ℕ) → number % length homes < length homes → AreHomes lives homes →
     ((x : ℕ) → pends number (life_at lives x) ≡ false) → AreHomes (slice_set lives b (Some (new_life number f ty bytes))) (with_home homes number b)
 started_homes lives homes b number f ty bytes within are fresh =
     let life = new_life number f ty bytes in

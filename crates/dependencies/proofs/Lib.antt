@@ -11,3 +11,4 @@ pub mod OldestChanges
 pub mod Early
 pub mod Trimming
 pub mod ForCallers
+pub mod Types

@@ -4,11 +4,13 @@ use Rattle.std.specs.Prelude.{◌&&◌, ◌||◌, ◌==◌, Contains, not, is_no
 use Rattle.std.proofs.lemmas.Bool.{false≢true, cases_eq, eqb-true, lt-ltb}
 use Rattle.std.proofs.lemmas.List.{length-map, length-set}
 use Rattle.std.proofs.lemmas.Option.{slice_get_within}
-use Rattle.xn_model.specs.Lives.{BlockState, Life, Lives, accepted_at, begun_at, change_at, dropped_after, freed, has_entry, life_at, no_states, owned_after, settle, settled_at, with_state, with_status}
+use Rattle.xn_model.specs.Root.{has_type, pointer}
+use Rattle.xn_model.specs.Lives.{BlockState, Life, Lives, accepted_at, begun_at, change_at, dropped_after, durable_bytes, freed, has_entry, life_at, no_states, owned_after, settle, settled_at, with_state, with_status}
 use Rattle.xn_model.specs.declared.status.Status.TheVariants.{Dropped, Owned}
 use Rattle.xn_model.specs.Calls.{life_pending, new_life}
 use Rattle.xn_model.proofs.ForCallers.{Contains-head, Contains-tail, accepted, accepted_is, change_same, each_at, place_from, set_other}
 use Rattle.block_cache.specs.Claims.{ClaimValue}
+use Rattle.block_cache.proofs.ForCallers.{pointer_none}
 use Rattle.wait_lists.specs.Waiting.{at}
 use Rattle.dependencies.specs.Candidates.{AreCandidates, CandidatesValue, IsAccounted, Wakes, is_candidate, is_idle_with_entries, with_candidate}
 use Rattle.dependencies.specs.Pending.{is_dirty, pends}
@@ -20,14 +22,24 @@ use Rattle.dependencies.proofs.Dirty.{clean_at, pends_not}
 
 -- what a block misses, by the life of the other
 misses_if : (claim : ClaimValue) (c : ℕ) (o p : Option Life) → (has_state o ≡ false → has_state p ≡ false) → (is_written o ≡ false → is_written p ≡ false) →
-    ((n : ℕ) → pends n o ≡ true → pends n p ≡ true) → Misses claim c o → Misses claim c p
-misses_if claim c o p states written pending (inl added) = inl (added.0, added.1, states added.2)
-misses_if claim c o p states written pending (inr (inl dropped)) = inr (inl (dropped.0, written dropped.1))
-misses_if claim c o p states written pending (inr (inr after)) = inr (inr (after.0, after.1, pending after.0 after.2))
+    ((n : ℕ) → pends n o ≡ true → pends n p ≡ true) → ((u : ℕ) → has_type (durable_bytes o) u ≡ false → has_type (durable_bytes p) u ≡ false) → Misses claim c o → Misses claim c p
+misses_if claim c o p states written pending types (inl added) = inl (added.0, added.1, states added.2)
+misses_if claim c o p states written pending types (inr (inl lacks)) = inr (inl (lacks.0, (lacks.1.0, lacks.1.1, lacks.1.2, types lacks.1.1 lacks.1.3)))
+misses_if claim c o p states written pending types (inr (inr (inl dropped))) = inr (inr (inl (dropped.0, written dropped.1)))
+misses_if claim c o p states written pending types (inr (inr (inr after))) = inr (inr (inr (after.0, after.1, pending after.0 after.2)))
+
+-- no bytes have a type that others lack
+no_type : (m : List ℕ) (u : ℕ) → has_type m u ≡ false → has_type [] u ≡ false
+no_type m u lacks = by (nat_lt u 3) (nat_lt u 19) lacks
+  where
+    by : (low high : Bool) → (low || (high && not (pointer m (u - 3) == 0))) ≡ false → (low || (high && not (pointer [] (u - 3) == 0))) ≡ false
+    by true high e = e
+    by false true e = ap (λ n. not (n == 0)) (pointer_none (u - 3))
+    by false false e = refl
 
 -- a life with nothing pending ends
 misses_gone : (claim : ClaimValue) (c : ℕ) (o : Option Life) → life_pending o ≡ 0 → Misses claim c o → Misses claim c None
-misses_gone claim c o none = misses_if claim c o None (λ e. refl) (λ e. refl) (λ n e. absurd (false≢true (sym (pends_not n o none) ∙ e)))
+misses_gone claim c o none = misses_if claim c o None (λ e. refl) (λ e. refl) (λ n e. absurd (false≢true (sym (pends_not n o none) ∙ e))) (no_type (durable_bytes o))
 
 -- a block is accounted for that is as it was
 still : (lives new : Lives) (q r : CandidatesValue) (b : ℕ) → (is_idle_with_entries (life_at lives b) ≡ false → is_idle_with_entries (life_at new b) ≡ false) →
@@ -188,7 +200,7 @@ forgotten_accounts lives q r b are wakes = woken_accounts lives (slice_set lives
 
 -- A life starts
 
-pub started_accounts : (lives : Lives) (q : CandidatesValue) (b n f ty : ℕ) (bytes : List ℕ) → AreCandidates lives q → slice_get lives b ≡ Some None →
+pub started_accounts : (lives : Lives) (q : CandidatesValue) (b n : ℕ) (f : Option ℕ) (ty : ℕ) (bytes : List ℕ) → AreCandidates lives q → slice_get lives b ≡ Some None →
     AreCandidates (slice_set lives b (Some (new_life n f ty bytes))) (with_candidate q b true)
 started_accounts lives q b n f ty bytes are free = record {
   long = length-set q.blocks b true ∙ (are.long ∙ sym (length-set lives b (Some life)));
@@ -209,8 +221,8 @@ started_accounts lives q b n f ty bytes are free = record {
     none : life_at lives b ≡ None
     none = ap (λ o. unwrap_or o None) free
 
-    fresh : (c : ℕ) (claim : ClaimValue) (o : Option Life) → has_state o ≡ false → is_written o ≡ false → Misses claim c None → Misses claim c o
-    fresh c claim o states written = misses_if claim c None o (λ e. states) (λ e. written) (λ m e. absurd (false≢true e))
+    fresh : (c : ℕ) (claim : ClaimValue) (o : Option Life) → has_state o ≡ false → is_written o ≡ false → ((u : ℕ) → has_type (durable_bytes o) u ≡ has_type [] u) → Misses claim c None → Misses claim c o
+    fresh c claim o states written types = misses_if claim c None o (λ e. states) (λ e. written) (λ m e. absurd (false≢true e)) (λ u e. types u ∙ e)
 
     at_new : life_at new b ≡ Some life
     at_new = by lives b free
@@ -225,7 +237,7 @@ started_accounts lives q b n f ty bytes are free = record {
       | inl same ↦
           let now : life_at new c ≡ Some life = ap (life_at new) same ∙ at_new in
           let was : life_at lives c ≡ None = ap (life_at lives) same ∙ none in
-          fresh c claim (life_at new c) (ap has_state now) (ap is_written now) (subst (λ (o : Option Life). Misses claim c o) was m)
+          fresh c claim (life_at new c) (ap has_state now) (ap is_written now) (λ u. ap (λ (o : Option Life). has_type (durable_bytes o) u) now) (subst (λ (o : Option Life). Misses claim c o) was m)
       | inr apart ↦ subst (λ (o : Option Life). Misses claim c o) (sym (set_other lives b c (Some life) apart)) m
     ]
 
@@ -262,7 +274,7 @@ not_empty (p ∷ ps) s = refl
 
 misses_accepted : (b : ℕ) (s : BlockState) (claim : ClaimValue) (c : ℕ) (o : Option Life) → Misses claim c o → Misses claim c (option_map (accepted b s c) o)
 misses_accepted b s claim c None m = m
-misses_accepted b s claim c (Some l) m = misses_if claim c (Some l) (Some (accepted b s c l)) (λ e. e) (written (c == b)) (pending (c == b)) m
+misses_accepted b s claim c (Some l) m = misses_if claim c (Some l) (Some (accepted b s c l)) (λ e. e) (written (c == b)) (pending (c == b)) (λ u e. e) m
   where
     written : (t : Bool) → (is_some l.durable && no_states l.pending) ≡ false → (is_some l.durable && no_states (cond t (l.pending ++ s ∷ []) l.pending)) ≡ false
     written true e = ap (λ t. is_some l.durable && t) (not_empty l.pending s) ∙ and_none (is_some l.durable)

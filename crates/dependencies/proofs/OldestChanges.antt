@@ -137,9 +137,9 @@ set_life fs (o ∷ os) zero l n e = e
 set_life fs (o ∷ os) (suc b) l n e = set_life fs os b l n e
 
 pub started_oldest : (lives : Lives) (oldest : List ℕ) (b number f ty : ℕ) (bytes : List ℕ) (pending : ℕ) → f < length oldest → pending ≡ sum_by (pending_in f) lives → AreOldest lives oldest →
-    AreOldest (slice_set lives b (Some (new_life number f ty bytes))) (with_entry oldest f number pending)
+    AreOldest (slice_set lives b (Some (new_life number (Some f) ty bytes))) (with_entry oldest f number pending)
 started_oldest lives oldest b number f ty bytes pending within count are =
-    let life = new_life number f ty bytes in
+    let life = new_life number (Some f) ty bytes in
     more_oldest lives (slice_set lives b (Some life)) oldest f number pending within count are (λ fs n x here. elim (cases_eq x b) [
       | inl same ↦
           let both = and_both (f == fs) (number == n) (or_none ((f == fs) && (number == n)) (set_life fs lives b life n (sym (ap (λ y. pends_for fs n (life_at (slice_set lives b (Some life)) y)) same) ∙ here))) in
@@ -172,6 +172,34 @@ pub accepted_oldest : (lives : Lives) (oldest : List ℕ) (b f : ℕ) (s : Block
     AreOldest (accepted_at lives b s) (with_entry oldest f s.entry pending)
 accepted_oldest lives oldest b f s pending within count for are =
     more_oldest lives (accepted_at lives b s) oldest f s.entry pending within count are (λ fs n x here. accepted_pends b x f s fs n (life_at lives x) for
+    (sym (ap (pends_for fs n) (ap (λ ls. life_at ls x) (accepted_is lives b s) ∙ each_at (accepted b s) lives x)) ∙ here))
+
+-- One more entry of nobody
+
+pub started_nobody : (lives : Lives) (oldest : List ℕ) (b number ty : ℕ) (bytes : List ℕ) → AreOldest lives oldest → AreOldest (slice_set lives b (Some (new_life number None ty bytes))) oldest
+started_nobody lives oldest b number ty bytes are =
+    let life = new_life number None ty bytes in
+    fewer_oldest lives (slice_set lives b (Some life)) oldest are (λ fs n x here. elim (cases_eq x b) [
+      | inl same ↦ absurd (false≢true (set_life fs lives b life n (sym (ap (λ y. pends_for fs n (life_at (slice_set lives b (Some life)) y)) same) ∙ here)))
+      | inr apart ↦ sym (ap (pends_for fs n) (set_other lives b x (Some life) apart)) ∙ here
+    ])
+
+not_for : (fs n : ℕ) (s : BlockState) → s.fs ≡ None → is_entry_for fs n s ≡ false
+not_for fs n s nobody = ap (λ (o : Option ℕ). is_for fs o && (s.entry == n)) nobody
+
+nobody_pends : (b x : ℕ) (s : BlockState) (fs n : ℕ) (o : Option Life) → s.fs ≡ None → pends_for fs n (option_map (accepted b s x) o) ≡ true → pends_for fs n o ≡ true
+nobody_pends b x s fs n None nobody e = e
+nobody_pends b x s fs n (Some l) nobody e = by (x == b) e
+  where
+    by : (t : Bool) → has_for fs (cond t (l.pending ++ s ∷ []) l.pending) n ≡ true → has_for fs l.pending n ≡ true
+    by false e = e
+    by true e = elim (has_pushed fs l.pending s n e) [
+      | inl old ↦ old
+      | inr new ↦ absurd (false≢true (sym (not_for fs n s nobody) ∙ new))
+    ]
+
+pub accepted_nobody : (lives : Lives) (oldest : List ℕ) (b : ℕ) (s : BlockState) → s.fs ≡ None → AreOldest lives oldest → AreOldest (accepted_at lives b s) oldest
+accepted_nobody lives oldest b s nobody are = fewer_oldest lives (accepted_at lives b s) oldest are (λ fs n x here. nobody_pends b x s fs n (life_at lives x) nobody
     (sym (ap (pends_for fs n) (ap (λ ls. life_at ls x) (accepted_is lives b s) ∙ each_at (accepted b s) lives x)) ∙ here))
 
 -- A number is moved on

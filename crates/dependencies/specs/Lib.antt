@@ -1,3 +1,4 @@
+pub mod Typed
 pub mod Safety
 pub mod Numbers
 pub mod Pending

@@ -1,6 +1,7 @@
 -- Why the first pending entry of a block may not be written yet.
 use Rattle.std.specs.Prelude.{◌≡◌, ℕ, Bool, true, false, ◌&&◌, ◌⊎◌, List, Option, Some, Contains, is_some, option_map, slice_get}
-use Rattle.xn_model.specs.Lives.{Life, Lives, alive_and, life_at, no_states}
+use Rattle.xn_model.specs.Root.{has_type}
+use Rattle.xn_model.specs.Lives.{Life, Lives, alive_and, durable_bytes, life_at, no_states}
 use Rattle.block_cache.specs.Claims.{ClaimValue, claim_of}
 use Rattle.block_cache.specs.Views.{pending_at}
 use Rattle.dependencies.specs.Pending.{pends}
@@ -21,6 +22,10 @@ is_written o = alive_and (λ l. is_some l.durable && no_states l.pending) o
 abbrev pub IsAddedEarly : List (ℕ × ℕ) → ℕ → Option Life → Type 0
 IsAddedEarly adds c o = (u : ℕ) × Contains adds (c, u) × (has_state o ≡ false)
 
+-- a block is added of a type that block 0, which is block c, has not on the disk
+abbrev pub LacksType : List (ℕ × ℕ) → ℕ → Option Life → Type 0
+LacksType adds c o = (c ≡ 0) × ((x : ℕ) × (u : ℕ) × Contains adds (x, u) × (has_type (durable_bytes o) u ≡ false))
+
 -- a block is dropped whose newest state is not there
 abbrev pub IsDroppedEarly : List ℕ → ℕ → Option Life → Type 0
 IsDroppedEarly drops c o = Contains drops c × (is_written o ≡ false)
@@ -31,7 +36,7 @@ ComesAfter after o = (n : ℕ) × (after ≡ Some n) × (pends n o ≡ true)
 
 -- An entry of this claim, the first of its block, may not be written because of block c, which has this life.
 abbrev pub Misses : ClaimValue → ℕ → Option Life → Type 0
-Misses claim c o = IsAddedEarly claim.adds c o ⊎ (IsDroppedEarly claim.drops c o ⊎ ComesAfter claim.after o)
+Misses claim c o = IsAddedEarly claim.adds c o ⊎ (LacksType claim.adds c o ⊎ (IsDroppedEarly claim.drops c o ⊎ ComesAfter claim.after o))
 
 -- The first pending entry of block b may not be written because of block c.
 pub record WaitsFor (lives : Lives) (b c : ℕ) : Type 0 where

@@ -51,7 +51,7 @@ fn least_with(claim: Option<&Claim>, fs: Fs, most: u64) -> u64
 {
     match claim {
         Some(claim) => {
-            if claim.fs().number() == fs.number() {
+            if claim.is_for(fs) {
                 claim.entry().number().min(most)
             } else {
                 most
@@ -78,7 +78,7 @@ fn count_one(claim: Option<&Claim>, fs: Fs) -> u32
     ensures few { result ≤ 1 }
 {
     match claim {
-        Some(claim) => u32::from(claim.fs().number() == fs.number()),
+        Some(claim) => u32::from(claim.is_for(fs)),
         None => 0,
     }
 }

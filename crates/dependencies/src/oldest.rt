@@ -1,7 +1,9 @@
 // From which number on the pending entries of a file system lie.
 
-ghost use Rattle.std.specs.Prelude.{◌≡◌, ◌+◌, ◌-◌, ◌^◌, ◌<◌, ◌≤◌, ℕ, length, min, true, false, Some, option_map, slice_get, IfSome, IfNone, IsTrue};
+ghost use Rattle.std.specs.Prelude.{◌≡◌, ◌+◌, ◌-◌, ◌^◌, ◌<◌, ◌≤◌, ℕ, length, min, true, false, option_map, slice_get, IfSome, IfNone, IsTrue};
+ghost use Rattle.std.specs.Option.{option_and_then};
 ghost use Rattle.xn_model.specs.Lives.{life_at};
+ghost use Rattle.block_cache.specs.Systems.{system_of};
 ghost use Rattle.block_cache.specs.Claims.{claim_of};
 ghost use Rattle.block_cache.specs.Views.{pending_at};
 ghost use Rattle.dependencies.specs.Homes.{AreHomes, home_of};
@@ -16,7 +18,7 @@ fn is_for_at(cache: &Cache, block: u32, place: usize, fs: Fs, number: u64) -> bo
     ensures { result ≡ is_number_for fs.number number (option_map claim_of (slice_get (pending_at (life_at cache.now block)) place)) }
 {
     match cache.claim(block, place) {
-        Some(claim) => claim.fs().number() == fs.number() && claim.entry().number() == number,
+        Some(claim) => claim.is_for(fs) && claim.entry().number() == number,
         None => false,
     }
 }
@@ -101,10 +103,10 @@ pub fn move_on(oldest: &mut [u64; 32], cache: &Cache, homes: &Homes, fs: Option<
     }
 }
 
-/// The file system of the oldest pending entry of a block.
+/// The file system of the oldest pending entry of a block: `None` where nothing is pending, or that entry is nobody's.
 pub fn first_system(cache: &Cache, block: u32) -> Option<Fs>
-    ensures { option_map (λ f. Some f.number) result ≡ option_map (λ c. c.fs) (first_of (life_at cache.now block)) }
+    ensures { system_of result ≡ option_and_then (λ c. c.fs) (first_of (life_at cache.now block)) }
 {
     let claim = cache.claim(block, 0)?;
-    Some(claim.fs())
+    claim.fs()
 }

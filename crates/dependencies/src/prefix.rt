@@ -5,6 +5,7 @@ ghost use Rattle.xn_model.specs.Lives.{life_at, prefix_of};
 ghost use Rattle.xn_model.specs.Calls.{is_tainted, life_pending};
 ghost use Rattle.dependencies.specs.Homes.{AreHomes};
 ghost use Rattle.dependencies.specs.Pending.{is_dirty};
+ghost use Rattle.dependencies.specs.Typed.{FindsTypes};
 
 use crate::homes::Homes;
 use crate::safe::is_safe_at;
@@ -15,6 +16,7 @@ use block_set::BlockSet;
 pub fn safe_prefix(cache: &Cache, dirty: &BlockSet, homes: &Homes, block: u32) -> u32
     requires dirty { dirty.now ≡ map is_dirty cache.now }
     requires homes { AreHomes cache.now homes.now }
+    requires typed { FindsTypes cache.now }
     ensures count { result ≡ prefix_of cache.now (life_at cache.now block) }
     ensures within { result ≤ life_pending (life_at cache.now block) }
 {
@@ -31,6 +33,7 @@ pub fn safe_prefix(cache: &Cache, dirty: &BlockSet, homes: &Homes, block: u32) -
 pub fn is_tainted(cache: &Cache, dirty: &BlockSet, homes: &Homes, block: u32) -> bool
     requires dirty { dirty.now ≡ map is_dirty cache.now }
     requires homes { AreHomes cache.now homes.now }
+    requires typed { FindsTypes cache.now }
     ensures { result ≡ is_tainted cache.now (life_at cache.now block) }
 {
     (safe_prefix(cache, dirty, homes, block) as usize) < cache.pending(block)

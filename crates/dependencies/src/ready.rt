@@ -6,6 +6,7 @@ ghost use Rattle.xn_model.specs.Calls.{is_ready};
 ghost use Rattle.dependencies.specs.Candidates.{AreCandidates};
 ghost use Rattle.dependencies.specs.Homes.{AreHomes};
 ghost use Rattle.dependencies.specs.Pending.{is_dirty};
+ghost use Rattle.dependencies.specs.Typed.{FindsTypes};
 
 use crate::candidates::Candidates;
 use crate::homes::Homes;
@@ -17,6 +18,7 @@ use block_set::BlockSet;
 pub fn is_ready(cache: &Cache, dirty: &BlockSet, homes: &Homes, block: u32) -> bool
     requires dirty { dirty.now ≡ map is_dirty cache.now }
     requires homes { AreHomes cache.now homes.now }
+    requires typed { FindsTypes cache.now }
     ensures { result ≡ is_ready cache.now (life_at cache.now block) }
 {
     match cache.facts(block) {
@@ -29,6 +31,7 @@ pub fn is_ready(cache: &Cache, dirty: &BlockSet, homes: &Homes, block: u32) -> b
 pub fn pick(cache: &Cache, dirty: &BlockSet, homes: &Homes, candidates: &Candidates) -> Option<u32>
     requires dirty { dirty.now ≡ map is_dirty cache.now }
     requires homes { AreHomes cache.now homes.now }
+    requires typed { FindsTypes cache.now }
     requires candidates { AreCandidates cache.now candidates.now }
     ensures { result ≡ position (is_ready cache.now) cache.now }
 {

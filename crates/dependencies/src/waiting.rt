@@ -4,7 +4,7 @@ ghost use Rattle.std.specs.Prelude.{◌≡◌, ℕ, map, IfSome, IfNone};
 ghost use Rattle.xn_model.specs.Lives.{life_at};
 ghost use Rattle.dependencies.specs.Homes.{AreHomes};
 ghost use Rattle.dependencies.specs.Pending.{is_dirty};
-ghost use Rattle.dependencies.specs.Waiting.{ComesAfter, IsAddedEarly, IsDroppedEarly, Misses, WaitsFor};
+ghost use Rattle.dependencies.specs.Waiting.{ComesAfter, IsAddedEarly, IsDroppedEarly, LacksType, Misses, WaitsFor};
 
 use crate::after::pending_block;
 use crate::homes::Homes;
@@ -20,6 +20,19 @@ fn added_early(cache: &Cache, adds: &[(u32, u32)]) -> Option<u32>
     for add in adds {
         if !has_durable(cache, add.0) {
             return Some(add.0);
+        }
+    }
+    None
+}
+
+/// Block 0, where it has not the type of one of these blocks on the disk.
+fn type_lacked(cache: &Cache, adds: &[(u32, u32)]) -> Option<u32>
+    ensures some { IfSome result (λ c. LacksType adds.now c (life_at cache.now c)) }
+    ensures none { IfNone result ((c : ℕ) → LacksType adds.now c (life_at cache.now c) → ⊥) }
+{
+    for add in adds {
+        if !cache.has_type_on_disk(add.1) {
+            return Some(0);
         }
     }
     None
@@ -59,6 +72,9 @@ fn missed_by(cache: &Cache, dirty: &BlockSet, homes: &Homes, claim: &Claim) -> O
     ensures none { IfNone result ((c : ℕ) → Misses claim.now c (life_at cache.now c) → ⊥) }
 {
     if let Some(block) = added_early(cache, claim.adds()) {
+        return Some(block);
+    }
+    if let Some(block) = type_lacked(cache, claim.adds()) {
         return Some(block);
     }
     if let Some(block) = dropped_early(cache, claim.drops()) {

@@ -9,6 +9,7 @@ use Rattle.events.specs.declared.reply.Reply.TheVariants as reply
 
 abbrev pub event_of : Event → model.Event
 event_of (event.Call fs call) = model.Client fs.number (call_of call)
+event_of (event.Install bytes) = model.Install bytes
 event_of (event.Begin block) = model.Begin block
 event_of (event.Land block) = model.Land block
 event_of (event.Fail block stays) = model.Fail block stays
@@ -22,6 +23,7 @@ IsNoCrash event = model.is_crash (event_of event) ≡ false
 
 abbrev pub reply_of : Reply → model.Reply
 reply_of (reply.Answered answer) = reply_of_answer answer
+reply_of (reply.Installed made) = model.Installed made.ty made.block made.edits.0 made.edits.1
 reply_of (reply.Begun entries) = model.Begun entries
 reply_of reply.Landed = model.Landed
 reply_of reply.Synced = model.Synced

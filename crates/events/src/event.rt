@@ -7,6 +7,8 @@ use xn_state::{Call, Fs};
 pub enum Event {
     /// A client's call, for its file system.
     Call(Fs, Call),
+    /// The template in these bytes is installed.
+    Install([u8; 512]),
     /// A write of the block begins.
     Begin(u32),
     /// The begun write of the block is carried out.

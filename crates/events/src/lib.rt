@@ -6,4 +6,4 @@ mod reply;
 
 pub use event::Event;
 pub use reply::Reply;
-pub use xn_state::{Answer, Call, Landed, Stopped};
+pub use xn_state::{Answer, Call, Installed, Landed, Stopped};

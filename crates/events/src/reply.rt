@@ -1,13 +1,15 @@
 // What a world answers.
 
 use xn_model::Refusal;
-use xn_state::{Answer, Landed};
+use xn_state::{Answer, Installed, Landed};
 
 /// The reply to an event.
 #[derive(Clone, Copy, Debug, PartialEq, Eq)]
 pub enum Reply {
     /// The answer to a client's call.
     Answered(Answer),
+    /// The template was installed.
+    Installed(Installed),
     /// How many entries the begun write carries.
     Begun { entries: u32 },
     /// The write was carried out.
@@ -24,6 +26,6 @@ pub enum Reply {
     NoTicket,
     /// The last crash's mount found no memory; only another crash is taken.
     Down,
-    /// The begin of the write was refused.
+    /// The template or the begin of the write was refused.
     Refused(Refusal),
 }

@@ -50,7 +50,7 @@ holds_started T old new fs ty begun made done c bytes h =
     let ne : c ≢ made.0 = λ e. none-some h.life (sym r.free ∙ (ap (life_at old.lives) (sym e) ∙ h.alive)) in
     record {
       life = h.life;
-      alive = ap (λ xs. life_at xs c) r.lives ∙ (set_other old.lives made.0 c (Some (new_life old.next fs ty begun)) ne ∙ h.alive);
+      alive = ap (λ xs. life_at xs c) r.lives ∙ (set_other old.lives made.0 c (Some (new_life old.next (Some fs) ty begun)) ne ∙ h.alive);
       all = h.all;
       counts = h.counts;
     }

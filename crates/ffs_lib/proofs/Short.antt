@@ -63,7 +63,7 @@ number_later T old new fs block edit same entry e done = propose_later T old new
 pub begun_addable : (T : Types) (old new : StoreState) (fs ty block number : ℕ) (bytes : List ℕ) → Gives (init_of T old fs ty bytes) old new (Ok (block, number)) → may_add new fs (block, ty) ≡ true
 begun_addable T old new fs ty block number bytes done =
     let s = started T old new fs ty bytes (block, number) (gives_ok (init_of T old fs ty bytes) old new (block, number) done) in
-    let alive : life_at new.lives block ≡ Some (new_life old.next fs ty bytes) = ap (λ lives. life_at lives block) s.lives ∙ set_same old.lives block (Some (new_life old.next fs ty bytes)) s.within in
+    let alive : life_at new.lives block ≡ Some (new_life old.next (Some fs) ty bytes) = ap (λ lives. life_at lives block) s.lives ∙ set_same old.lives block (Some (new_life old.next (Some fs) ty bytes)) s.within in
     ap (alive_and (λ l. is_fresh l.status && ((l.ty == ty) && is_for fs l.fs))) alive ∙ and_from (ty == ty) (fs == fs) (eq-eqb ty ty refl) (eq-eqb fs fs refl)
 
 -- a free inode

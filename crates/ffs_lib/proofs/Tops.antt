@@ -190,7 +190,7 @@ module _ (T : Types) (fs : ℕ) (block number : ℕ) (zeroth first second third 
       set : (slot (latest second.lives 0) fs ≡ (block, 3)) × ((c : ℕ) → c ≢ 0 → latest second.lives c ≡ latest first.lives c) × ((p : ℕ × ℕ) → p.0 ≢ block → may_add second fs p ≡ may_add first fs p)
       set =
           let r = started T zeroth first fs 3 zeros (block, number) done in
-          made_ok rules (new_life zeroth.next fs 3 zeros) (ap (λ xs. life_at xs block) r.lives ∙ set_same zeroth.lives block (Some (new_life zeroth.next fs 3 zeros)) r.within)
+          made_ok rules (new_life zeroth.next (Some fs) 3 zeros) (ap (λ xs. life_at xs block) r.lives ∙ set_same zeroth.lives block (Some (new_life zeroth.next (Some fs) 3 zeros)) r.within)
 
       is_root : IsConsistent T zeroth → IsRoot (latest second.lives) fs block
       is_root h = record { at = set.0; there = there h }
@@ -214,7 +214,7 @@ module _ (T : Types) (fs : ℕ) (block number : ℕ) (zeroth first second third 
         addable = λ p may.
             let r = started T zeroth first fs 3 zeros (block, number) done in
             let ne : p.0 ≢ block = λ z. not_free (λ l. is_fresh l.status && ((l.ty == p.1) && is_for fs l.fs)) (life_at zeroth.lives p.0) (ap (life_at zeroth.lives) z ∙ r.free) may in
-            set.2 p ne ∙ (ap (alive_and (λ l. is_fresh l.status && ((l.ty == p.1) && is_for fs l.fs))) (ap (λ xs. life_at xs p.0) r.lives ∙ set_other zeroth.lives block p.0 (Some (new_life zeroth.next fs 3 zeros)) ne) ∙ may);
+            set.2 p ne ∙ (ap (alive_and (λ l. is_fresh l.status && ((l.ty == p.1) && is_for fs l.fs))) (ap (λ xs. life_at xs p.0) r.lives ∙ set_other zeroth.lives block p.0 (Some (new_life zeroth.next (Some fs) 3 zeros)) ne) ∙ may);
       }
         where
           not_free : (P : Life → Bool) (o : Option Life) → o ≡ None → alive_and P o ≡ true → ⊥
@@ -236,7 +236,7 @@ own_new state fs b l alive kept mine = ap (own_place fs) (place_from state.lives
 
 module _ (T : Types) (fs : ℕ) (zeroth first : StoreState) (h : IsConsistent T zeroth) (fits : fs < 32) (ty block number : ℕ) (bytes : List ℕ) (given : Gives (init_of T zeroth fs ty bytes) zeroth first (Ok (block, number))) where
   abbrev life : Life
-  life = new_life zeroth.next fs ty bytes
+  life = new_life zeroth.next (Some fs) ty bytes
 
   new_done : init_of T zeroth fs ty bytes ≡ Ok ((block, number), first)
   new_done = gives_ok (init_of T zeroth fs ty bytes) zeroth first (block, number) given
@@ -363,7 +363,7 @@ module _ (T : Types) (lib : IsLibrary T) (fs : ℕ) (few : fs < 32) (block numbe
   holds : latest second.lives block ≡ put zeros 0 (new_inode 2)
   holds =
       let r = started T zeroth first fs 4 bytes (block, number) done in
-      ready.kept block (new_life zeroth.next fs 4 bytes) there (ap (λ xs. life_at xs block) r.lives ∙ set_same zeroth.lives block (Some (new_life zeroth.next fs 4 bytes)) r.within)
+      ready.kept block (new_life zeroth.next (Some fs) 4 bytes) there (ap (λ xs. life_at xs block) r.lives ∙ set_same zeroth.lives block (Some (new_life zeroth.next (Some fs) 4 bytes)) r.within)
       ∙ (started_here T zeroth first fs 4 bytes (block, number) done ∙ is)
 
   pub made_volume : {A : Type 0} (third fourth : StoreState) (attached : Result A FfsFault) (x : A) → Ok x ≡ attached → OnOk attached (MakesTop T fs block second third) → fourth ≡ third → MadeVolume (latest zeroth.lives) (latest fourth.lives) fs

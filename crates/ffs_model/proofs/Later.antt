@@ -6,10 +6,11 @@ use Rattle.std.proofs.lemmas.Bool.{and_from, and_parts, ltb-true, lt-ltb}
 use Rattle.std.proofs.lemmas.List.Elements.{Contains-append_right, Contains-push}
 use Rattle.xn_model.specs.declared.refusal.Refusal.TheVariants.{NoSpace}
 use Rattle.xn_model.specs.Types.{Types}
+use Rattle.xn_model.specs.Languages.{Language}
 use Rattle.xn_model.specs.Lives.{BlockState, Life, StoreState, life_at, states, bytes_of, lowest_free, begun_at}
-use Rattle.xn_model.specs.Calls.{Edit, accepts, begun_of, begun_place, drop_root_of, drop_root_refusal, edited, forget_at, forget_of, forget_refusal, init_at, init_of, init_refusal, life_bytes, make_root_at, make_root_of, make_root_refusal, new_life, propose_of, root_state, settled_after, settled_of, settled_place, slot_now, was_given}
+use Rattle.xn_model.specs.Calls.{Edit, accepts, begun_of, begun_place, drop_root_of, drop_root_refusal, edited, forget_at, forget_of, forget_refusal, init_at, init_of, install_of, init_refusal, life_bytes, make_root_at, make_root_of, make_root_refusal, new_life, propose_of, root_state, settled_after, settled_of, settled_place, slot_now, was_given}
 use Rattle.xn_model.specs.Rules.{IsConsistent, Rises, StartsPlain}
-use Rattle.xn_model.proofs.ForCallers.{accept, accepted, accepted_same, each_forth, last_of, given_ok, map_ok, never_ok, own_then, same_ok}
+use Rattle.xn_model.proofs.ForCallers.{accept, accepted, accepted_same, each_forth, last_of, given_ok, installed_is, map_ok, never_ok, own_then, same_ok}
 use Rattle.ffs_model.specs.Cuts.{latest}
 use Rattle.ffs_model.proofs.Given.{proposed}
 
@@ -20,7 +21,7 @@ begun_next T state new fs t bytes made e = go (lowest_free state.lives) (given_o
   where
     go : (o : Option ℕ) → init_at state fs t bytes o ≡ Ok (made, new) → new.next ≡ state.next + 1
     go None g = absurd (never_ok NoSpace (made, new) g)
-    go (Some b) g = ap (λ (y : (ℕ × ℕ) × StoreState). y.1.next) (sym (same_ok ((b, state.next), record { lives = slice_set state.lives b (Some (new_life state.next fs t bytes)); next = state.next + 1 }) (made, new) g))
+    go (Some b) g = ap (λ (y : (ℕ × ℕ) × StoreState). y.1.next) (sym (same_ok ((b, state.next), record { lives = slice_set state.lives b (Some (new_life state.next (Some fs) t bytes)); next = state.next + 1 }) (made, new) g))
 
 pub proposed_next : (T : Types) (state new : StoreState) (fs b : ℕ) (edit : Edit) (entry : ℕ) → propose_of T state fs b edit ≡ Ok (entry, new) → new.next ≡ state.next + 1
 proposed_next T state new fs b edit entry e = (proposed T state new fs b edit entry e).next
@@ -52,6 +53,12 @@ pub settle_next : (state new : StoreState) (b : ℕ) (bytes : List ℕ) (done : 
 settle_next state new b bytes done e =
     let m = map_ok (settled_after state b) (settled_place bytes (slice_get state.lives b)) (done, new) e in
     ap (λ (y : (ℕ × ℕ) × StoreState). y.1.next) (sym m.2)
+
+pub installed_next : (L : Language) (state new : StoreState) (bytes : List ℕ) (made : ℕ × ℕ × ℕ) → install_of L state bytes ≡ Ok (made, new) → state.next ≤ new.next
+installed_next L state new bytes made e =
+    let x = installed_is L state bytes made new e in
+    let next : state.next + 1 + 1 ≡ new.next = ap (λ (y : StoreState). y.next) x.is in
+    omega arith
 
 -- what is one more, or the same, is no less
 pub one_later : (m n : ℕ) → m ≡ n + 1 → n ≤ m

@@ -32,6 +32,7 @@ no_call fs block words none f Drain spells = absurd (omega (arith, ap first_byte
 pub no_edit : (fs block : List ℕ) (words : List (List ℕ)) → ((edit : model.Edit) → SpellsEdit words edit → ⊥) → SpellNothing (codes "edit" ∷ fs ∷ block ∷ words)
 unfolding first_byte
 no_edit fs block words none (event.Call f call) spells = no_call fs block words none f.number call spells
+no_edit fs block words none (event.Install bytes) spells = absurd (omega (arith, ap first_byte spells.1))
 no_edit fs block words none (event.Begin b) spells = absurd (omega (arith, ap first_byte spells.1))
 no_edit fs block words none (event.Land b) spells = absurd (omega (arith, ap first_byte spells.1))
 no_edit fs block words none (event.Fail b stays) spells = absurd (omega (arith, ap first_byte spells.1))

@@ -8,25 +8,26 @@ use Rattle.script.specs.declared.told.LineEvent.TheVariants as line
 use Rattle.script.specs.Events.{Spells}
 use Rattle.script.specs.Told.{Tells}
 
--- any but a fresh block
-pub told_event : (words : List (List ℕ)) (told : LineEvent) → ((fs : _) (ty : _) (text : _) → told ≡ line.Init fs ty text → ⊥) → Tells words told → (e : Event) × Spells words e
-told_event words (line.Init fs ty text) other tells = absurd (other fs ty text refl)
-told_event words (line.Edit fs block edit) other tells = (event.Call fs (Propose block edit), tells)
-told_event words (line.MakeRoot fs block) other tells = (event.Call fs (MakeRoot block), tells)
-told_event words (line.DropRoot fs) other tells = (event.Call fs DropRoot, tells)
-told_event words (line.Forget fs block) other tells = (event.Call fs (Forget block), tells)
-told_event words (line.Read fs block) other tells = (event.Call fs (Read block), tells)
-told_event words (line.Pending fs) other tells = (event.Call fs Pending, tells)
-told_event words (line.Floor fs) other tells = (event.Call fs Floor, tells)
-told_event words (line.Pick fs) other tells = (event.Call fs Pick, tells)
-told_event words (line.Drain fs) other tells = (event.Call fs Drain, tells)
-told_event words (line.Begin block) other tells = (event.Begin block, tells)
-told_event words (line.Land block) other tells = (event.Land block, tells)
-told_event words (line.Fail block stays) other tells = (event.Fail block stays, tells)
-told_event words (line.Sync block) other tells = (event.Sync block, tells)
-told_event words (line.FailSync block) other tells = (event.FailSync block, tells)
-told_event words (line.Finish block) other tells = (event.Finish block, tells)
-told_event words (line.Crash kept) other tells = (event.Crash kept, tells)
+-- any but a fresh block and a template
+pub told_event : (words : List (List ℕ)) (told : LineEvent) → ((fs : _) (ty : _) (text : _) → told ≡ line.Init fs ty text → ⊥) → ((text : _) → told ≡ line.Install text → ⊥) → Tells words told → (e : Event) × Spells words e
+told_event words (line.Init fs ty text) other more tells = absurd (other fs ty text refl)
+told_event words (line.Edit fs block edit) other more tells = (event.Call fs (Propose block edit), tells)
+told_event words (line.MakeRoot fs block) other more tells = (event.Call fs (MakeRoot block), tells)
+told_event words (line.DropRoot fs) other more tells = (event.Call fs DropRoot, tells)
+told_event words (line.Forget fs block) other more tells = (event.Call fs (Forget block), tells)
+told_event words (line.Read fs block) other more tells = (event.Call fs (Read block), tells)
+told_event words (line.Pending fs) other more tells = (event.Call fs Pending, tells)
+told_event words (line.Floor fs) other more tells = (event.Call fs Floor, tells)
+told_event words (line.Pick fs) other more tells = (event.Call fs Pick, tells)
+told_event words (line.Drain fs) other more tells = (event.Call fs Drain, tells)
+told_event words (line.Install text) other more tells = absurd (more text refl)
+told_event words (line.Begin block) other more tells = (event.Begin block, tells)
+told_event words (line.Land block) other more tells = (event.Land block, tells)
+told_event words (line.Fail block stays) other more tells = (event.Fail block stays, tells)
+told_event words (line.Sync block) other more tells = (event.Sync block, tells)
+told_event words (line.FailSync block) other more tells = (event.FailSync block, tells)
+told_event words (line.Finish block) other more tells = (event.Finish block, tells)
+told_event words (line.Crash kept) other more tells = (event.Crash kept, tells)
 
 -- from what each answer says follows something else
 pub match_then : {A B C D : Type 0} (b : Bool) → (A → C) → (B → D) → MatchBool b A B → MatchBool b C D

@@ -5,7 +5,7 @@ use Rattle.xn_state.specs.declared.call.Call.TheVariants.{Init, Propose, MakeRoo
 use Rattle.events.specs.declared.event.Event.{Event}
 use Rattle.events.specs.declared.event.Event.TheVariants as event
 use Rattle.script_words.specs.Edits.{SpellsEdit}
-use Rattle.script_words.specs.Hex.{IsBlockText, SpellsBlock}
+use Rattle.script_words.specs.Hex.{IsBlockText, IsHex, SpellsBlock}
 use Rattle.script_words.specs.Numbers.{SpellsNumber, SpellNumbers}
 
 -- the words of a client's call
@@ -38,6 +38,7 @@ stays_word false = codes "old"
 -- the words of an event
 abbrev pub Spells : List (List ℕ) → Event → Type 0
 Spells words (event.Call fs call) = SpellsCall words fs.number call
+Spells words (event.Install bytes) = (block : List ℕ) × (words ≡ codes "install" ∷ block ∷ []) × IsHex block × SpellsBlock block bytes
 Spells words (event.Begin block) = (number : List ℕ) × (words ≡ codes "begin" ∷ number ∷ []) × SpellsNumber number block
 Spells words (event.Land block) = (number : List ℕ) × (words ≡ codes "land" ∷ number ∷ []) × SpellsNumber number block
 Spells words (event.Fail block stays) = (number : List ℕ) × (words ≡ codes "fail" ∷ number ∷ stays_word stays ∷ []) × SpellsNumber number block

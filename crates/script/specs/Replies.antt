@@ -7,6 +7,7 @@ use Rattle.xn_state.specs.declared.answer.Answer.{Answer}
 use Rattle.xn_state.specs.declared.answer.Answer.TheVariants as answer
 use Rattle.events.specs.declared.reply.Reply.{Reply}
 use Rattle.events.specs.declared.reply.Reply.TheVariants as reply
+use Rattle.xn_state.specs.declared.installed.Installed.{Installed}
 use Rattle.script_words.specs.Bytes.{bytes_text}
 
 -- a block, or that there is none
@@ -43,8 +44,13 @@ answer_text (answer.Pick block) = codes "pick " ++ block_text block
 answer_text (answer.Drain (Ok writes)) = codes "writes " ++ decimal writes
 answer_text (answer.Drain (Err stopped)) = codes "refused " ++ refusal_text stopped.refusal
 
+-- the type, the block, and both entries
+abbrev pub installed_text : Installed → List ℕ
+installed_text made = codes "type " ++ decimal made.ty ++ codes " block " ++ decimal made.block ++ codes " edits " ++ decimal made.edits.0 ++ codes " " ++ decimal made.edits.1
+
 abbrev pub reply_text : Reply → List ℕ
 reply_text (reply.Answered given) = answer_text given
+reply_text (reply.Installed made) = installed_text made
 reply_text (reply.Begun entries) = codes "begun " ++ decimal entries
 reply_text reply.Landed = codes "landed"
 reply_text reply.Synced = codes "synced"

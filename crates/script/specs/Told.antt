@@ -4,10 +4,11 @@ use Rattle.xn_state.specs.declared.call.Call.TheVariants.{Init, Propose, MakeRoo
 use Rattle.events.specs.declared.event.Event.TheVariants as event
 use Rattle.script.specs.declared.told.LineEvent.{LineEvent}
 use Rattle.script.specs.declared.told.LineEvent.TheVariants as line
-use Rattle.script_words.specs.Hex.{IsBlockText, SpellsBlock}
+use Rattle.script_words.specs.Hex.{IsBlockText, IsHex, SpellsBlock}
 use Rattle.script.specs.Events.{Spells, SpellNothing}
 
--- The words tell this: they spell its event. Of a fresh block they do where the text spells its bytes; where it spells none, they spell nothing.
+-- The words tell this: they spell its event. Of a fresh block and of a template they do where the text spells its bytes; where it spells none, they
+-- spell nothing.
 abbrev pub Tells : List (List ℕ) → LineEvent → Type 0
 Tells words (line.Init fs ty text) =
     ((bytes : List ℕ) → IsBlockText text.now → SpellsBlock text.now bytes → Spells words (event.Call fs (Init ty bytes)))
@@ -21,6 +22,9 @@ Tells words (line.Pending fs) = Spells words (event.Call fs Pending)
 Tells words (line.Floor fs) = Spells words (event.Call fs Floor)
 Tells words (line.Pick fs) = Spells words (event.Call fs Pick)
 Tells words (line.Drain fs) = Spells words (event.Call fs Drain)
+Tells words (line.Install text) =
+    ((bytes : List ℕ) → IsHex text.now → SpellsBlock text.now bytes → Spells words (event.Install bytes))
+    × (¬ IsHex text.now → SpellNothing words)
 Tells words (line.Begin block) = Spells words (event.Begin block)
 Tells words (line.Land block) = Spells words (event.Land block)
 Tells words (line.Fail block stays) = Spells words (event.Fail block stays)

@@ -3,9 +3,9 @@
 ghost use Rattle.std.specs.Prelude.{◌≡◌, ◌++◌, OnOk, codes};
 ghost use Rattle.std.specs.Io.KnownBytes.{Appends};
 ghost use Rattle.xn_model.specs.Refusals.{refusal_text};
-ghost use Rattle.script.specs.Replies.{answer_text, block_text, edit_text, reply_line, reply_text, result_text};
+ghost use Rattle.script.specs.Replies.{answer_text, block_text, edit_text, installed_text, reply_line, reply_text, result_text};
 
-use events::Reply;
+use events::{Installed, Reply};
 use script_words::print_bytes;
 use std::io;
 use std::io::Write;
@@ -26,6 +26,7 @@ fn print_text<W: Write>(out: &mut W, reply: &Reply) -> io::Result<()>
 {
     match reply {
         Reply::Answered(answer) => print_answer(out, answer),
+        Reply::Installed(made) => print_installed(out, made),
         Reply::Begun { entries } => write!(out, "begun {entries}"),
         Reply::Landed => write!(out, "landed"),
         Reply::Synced => write!(out, "synced"),
@@ -38,6 +39,21 @@ fn print_text<W: Write>(out: &mut W, reply: &Reply) -> io::Result<()>
         Reply::Down => write!(out, "down"),
         Reply::Refused(refusal) => print_refusal(out, *refusal),
     }
+}
+
+/// Prints the type, the block and the entries of an installed template.
+fn print_installed<W: Write>(out: &mut W, made: &Installed) -> io::Result<()>
+    ensures { OnOk result (Appends (W.contents out.old) (W.contents out.new) (installed_text made.now)) }
+{
+    let (first, second) = made.edits;
+    write!(
+        out,
+        "type {} block {} edits {} {}",
+        made.ty,
+        made.block,
+        first.number(),
+        second.number()
+    )
 }
 
 /// Prints the text of an answer.

@@ -1,6 +1,7 @@
 ghost use Rattle.std.specs.Prelude.{◌≡◌, ◌↔◌, ◌≢◌, ◌<◌, ◌==◌, ℕ, List, IfOk, IfErr, IfSome, IfNone, IsSome, [], ◌∷◌, codes, map, option_copied, MatchBool};
 ghost use Rattle.std.specs.Fmt.{decimal};
 ghost use Rattle.std.specs.List.{slice_split};
+ghost use Rattle.script_words.specs.Hex.{IsHex, SpellsBlock};
 ghost use Rattle.script.specs.Events.{Spells, SpellNothing, IsNoWrite};
 ghost use Rattle.script.specs.Told.{Tells};
 ghost use Rattle.events.specs.declared.event.Event.{Event};
@@ -19,6 +20,17 @@ fn parse_fs(word: &str) -> Option<Fs>
 {
     let number = parse_number(word, 31)?;
     Fs::new(number as u8)
+}
+
+/// The block that 1 to 512 pairs of lower-case digits spell; the bytes behind them are zero.
+fn parse_template(text: &str) -> Option<[u8; 512]>
+    ensures readable { IsSome result ↔ IsHex text.now }
+    ensures block { IfSome result (SpellsBlock text.now) }
+{
+    match text {
+        "-" => None,
+        _ => parse_block(text),
+    }
 }
 
 /// The event of the words `init`, these two and the words behind them.
@@ -94,7 +106,7 @@ fn parse_triple<'a>(name: &str, first: &str, second: &str) -> Option<LineEvent<'
 /// The event of a name and one word behind it, a file system.
 fn parse_system<'a>(name: &str, word: &str) -> Option<LineEvent<'a>>
     ensures some { IfSome result (Tells (name.now ∷ word.now ∷ [])) }
-    ensures none { IfNone result (IsNoWrite name.now → name.now ≢ codes "crash" → SpellNothing (name.now ∷ word.now ∷ [])) }
+    ensures none { IfNone result (IsNoWrite name.now → name.now ≢ codes "install" → name.now ≢ codes "crash" → SpellNothing (name.now ∷ word.now ∷ [])) }
 {
     let fs = parse_fs(word)?;
     match name {
@@ -106,11 +118,12 @@ fn parse_system<'a>(name: &str, word: &str) -> Option<LineEvent<'a>>
 }
 
 /// The event of a name and one word behind it.
-fn parse_short<'a>(name: &str, word: &str) -> Option<LineEvent<'a>>
+fn parse_short<'a>(name: &str, word: &'a str) -> Option<LineEvent<'a>>
     ensures some { IfSome result (Tells (name.now ∷ word.now ∷ [])) }
     ensures none { IfNone result (name.now ≢ codes "crash" → SpellNothing (name.now ∷ word.now ∷ [])) }
 {
     match name {
+        "install" => Some(LineEvent::Install(word)),
         "begin" => Some(LineEvent::Begin(parse_u32(word)?)),
         "land" => Some(LineEvent::Land(parse_u32(word)?)),
         "sync" => Some(LineEvent::Sync(parse_u32(word)?)),
@@ -263,6 +276,10 @@ pub fn parse_line(alloc: Global, line: &str) -> Result<Option<Event>, AllocError
         LineEvent::Floor(fs) => Ok(Some(Event::Call(fs, Call::Floor))),
         LineEvent::Pick(fs) => Ok(Some(Event::Call(fs, Call::Pick))),
         LineEvent::Drain(fs) => Ok(Some(Event::Call(fs, Call::Drain))),
+        LineEvent::Install(text) => match parse_template(text) {
+            Some(bytes) => Ok(Some(Event::Install(bytes))),
+            None => Ok(None),
+        },
         LineEvent::Begin(block) => Ok(Some(Event::Begin(block))),
         LineEvent::Land(block) => Ok(Some(Event::Land(block))),
         LineEvent::Fail(block, new_bytes_stay) => Ok(Some(Event::Fail(block, new_bytes_stay))),
@@ -273,7 +290,7 @@ pub fn parse_line(alloc: Global, line: &str) -> Result<Option<Event>, AllocError
     }
 }
 
-/// Whether what a line tells is an event: the text of a fresh block's bytes has to spell them.
+/// Whether what a line tells is an event: the text of a fresh block's bytes or of a template's has to spell them.
 fn is_event(told: &LineEvent) -> bool
     ensures { MatchBool result
         ((words : List (List ℕ)) → Tells words told.now → (event : Event) × Spells words event)
@@ -281,6 +298,10 @@ fn is_event(told: &LineEvent) -> bool
 {
     match told {
         LineEvent::Init(_, _, text) => match parse_block(text) {
+            Some(_block) => true,
+            None => false,
+        },
+        LineEvent::Install(text) => match parse_template(text) {
             Some(_block) => true,
             None => false,
         },

@@ -1,8 +1,8 @@
 use edit_list::Edit;
 use xn_state::Fs;
 
-/// An event as its line tells it: the bytes of a fresh block are still the text that spells them, or that spells none. It takes few bytes, where
-/// an `Event` has room for a block and is long to copy.
+/// An event as its line tells it: the bytes of a fresh block or of a template are still the text that spells them, or that spells none. It takes few
+/// bytes, where an `Event` has room for a block and is long to copy.
 #[derive(Drop)]
 pub enum LineEvent<'a> {
     Init(Fs, u32, &'a str),
@@ -15,6 +15,7 @@ pub enum LineEvent<'a> {
     Floor(Fs),
     Pick(Fs),
     Drain(Fs),
+    Install(&'a str),
     Begin(u32),
     Land(u32),
     Fail(u32, bool),

@@ -111,10 +111,10 @@ set_rises fs n m le lives b o h = rising fs n m le lives (slice_set lives b o)
 abbrev store : Lives → ℕ → StoreState
 store lives next = record { lives = lives; next = next }
 
-starts : (state : StoreState) (fs t b : ℕ) (bytes : List ℕ) → FloorsRise state (store (slice_set state.lives b (Some (new_life state.next fs t bytes))) (state.next + 1))
-starts state fs t b bytes g = set_rises g state.next (state.next + 1) (omega arith) state.lives b (Some (new_life state.next fs t bytes)) new
+starts : (state : StoreState) (fs t b : ℕ) (bytes : List ℕ) → FloorsRise state (store (slice_set state.lives b (Some (new_life state.next (Some fs) t bytes))) (state.next + 1))
+starts state fs t b bytes g = set_rises g state.next (state.next + 1) (omega arith) state.lives b (Some (new_life state.next (Some fs) t bytes)) new
   where
-    new : (p : Option Life) → Rises g state.next p (Some (new_life state.next fs t bytes))
+    new : (p : Option Life) → Rises g state.next p (Some (new_life state.next (Some fs) t bytes))
     new p k le =
         let low = least_low (entries_at g p) k in
         cond_both (is_for g (Some fs)) (state.next ∷ []) [] (λ ys. least_to k (entries_at g p) ≤ least_to k ys) (λ t. omega arith) (λ f. low)

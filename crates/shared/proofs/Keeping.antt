@@ -61,52 +61,52 @@ begun_below words old new b r h gives = below words old new h (begun_rises old n
 pub finish_rises : {L A B : Type 0} (old new : KernelValue L) (mine unsynced : Bool) (b : ℕ) (bytes : List ℕ) (result : Result A B) (counts : A → ℕ × ℕ) (refusal : B → Refusal) (Foreign Unsynced Fault : B → Type 0) →
     (mine ≡ false → IsErrAnd result Foreign) →
     (IsTrue mine → IsTrue unsynced → IsErrAnd result Unsynced) →
-    (IsTrue mine → unsynced ≡ false → GivesExactly (settled_of old.state.store b bytes) old.state.store new.state.store (result_map counts (result_map_err refusal result)) ⊎ IsErrAnd result Fault) →
-    OnErr result (new ≡ old) → FloorsRise old.state.store new.state.store
-finish_rises old new mine unsynced b bytes (Err back) counts refusal Foreign Unsynced Fault foreign refused ours same = rises_by old.state.store new.state.store (ap (λ k. k.state.store) same)
+    (IsTrue mine → unsynced ≡ false → GivesExactly (settled_of old.state b bytes) old.state new.state (result_map counts (result_map_err refusal result)) ⊎ IsErrAnd result Fault) →
+    OnErr result (new ≡ old) → FloorsRise old.state new.state
+finish_rises old new mine unsynced b bytes (Err back) counts refusal Foreign Unsynced Fault foreign refused ours same = rises_by old.state new.state (ap (λ k. k.state) same)
 finish_rises old new true true b bytes (Ok landed) counts refusal Foreign Unsynced Fault foreign refused ours same = absurd (refused refl refl)
 finish_rises old new true false b bytes (Ok landed) counts refusal Foreign Unsynced Fault foreign refused ours same =
-    ⊎_elim (λ gives. settled_rises old.state.store new.state.store b bytes (Ok (counts landed)) gives) (λ fault. absurd fault) (ours refl refl)
+    ⊎_elim (λ gives. settled_rises old.state new.state b bytes (Ok (counts landed)) gives) (λ fault. absurd fault) (ours refl refl)
 finish_rises old new false unsynced b bytes (Ok landed) counts refusal Foreign Unsynced Fault foreign refused ours same = absurd (foreign refl)
 
 -- A drain
 
 module _ {L : Type 0} (bytes : L → List ℕ) (faults : L → ℕ) (writes : WritesTo L) (syncs reads : Reads L) where
-  round_rises : (old new : KernelValue L) → Round bytes faults writes syncs reads old new → FloorsRise old.state.store new.state.store
+  round_rises : (old new : KernelValue L) → Round bytes faults writes syncs reads old new → FloorsRise old.state new.state
   round_rises old new r =
-      let one = begun_ok_rises old.state.store r.begun r.ticket.block (r.ticket.bytes, r.ticket.count) r.written.begins in
+      let one = begun_ok_rises old.state r.begun r.ticket.block (r.ticket.bytes, r.ticket.count) r.written.begins in
       let two = settled_ok_rises r.begun r.store r.ticket.block r.ticket.bytes (r.ticket.count, r.freed) r.settles in
-      let three = rises_by r.store new.state.store (ap (λ k. k.state.store) r.next) in
-      rises_on old.state.store r.begun new.state.store one (rises_on r.begun r.store new.state.store two three)
+      let three = rises_by r.store new.state (ap (λ k. k.state) r.next) in
+      rises_on old.state r.begun new.state one (rises_on r.begun r.store new.state two three)
 
-  rounds_rise : (n : ℕ) (old new : KernelValue L) → Rounds bytes faults writes syncs reads n old new → FloorsRise old.state.store new.state.store
-  rounds_rise zero old new e = rises_by old.state.store new.state.store (ap (λ k. k.state.store) e)
-  rounds_rise (suc n) old new r = rises_on old.state.store r.0.state.store new.state.store (round_rises old r.0 r.1) (rounds_rise n r.0 new r.2)
+  rounds_rise : (n : ℕ) (old new : KernelValue L) → Rounds bytes faults writes syncs reads n old new → FloorsRise old.state new.state
+  rounds_rise zero old new e = rises_by old.state new.state (ap (λ k. k.state) e)
+  rounds_rise (suc n) old new r = rises_on old.state r.0.state new.state (round_rises old r.0 r.1) (rounds_rise n r.0 new r.2)
 
   -- a write is begun, and stays so
   begins_then : (old begun new : StoreState) (b : ℕ) (what : List ℕ × ℕ) → begun_of old b ≡ Ok (what, begun) → new ≡ begun → FloorsRise old new
   begins_then old begun new b what begins next = rises_on old begun new (begun_ok_rises old begun b what begins) (rises_by begun new next)
 
-  stops_rise : (old new : KernelValue L) (ticket : Option (TicketValue L)) (refusal : Refusal) → Stops bytes faults writes syncs reads old ticket refusal new → FloorsRise old.state.store new.state.store
+  stops_rise : (old new : KernelValue L) (ticket : Option (TicketValue L)) (refusal : Refusal) → Stops bytes faults writes syncs reads old ticket refusal new → FloorsRise old.state new.state
   stops_rise old new None refusal s =
       let u = s.1 in
-      let one = begun_ok_rises old.state.store u.begun u.ticket.block (u.ticket.bytes, u.ticket.count) u.written.begins in
+      let one = begun_ok_rises old.state u.begun u.ticket.block (u.ticket.bytes, u.ticket.count) u.written.begins in
       let two = settled_ok_rises u.begun u.store u.ticket.block (bytes u.settled) (0, 0) u.settles in
-      let three = rises_by u.store new.state.store (ap (λ k. k.state.store) u.next) in
-      rises_on old.state.store u.begun new.state.store one (rises_on u.begun u.store new.state.store two three)
+      let three = rises_by u.store new.state (ap (λ k. k.state) u.next) in
+      rises_on old.state u.begun new.state one (rises_on u.begun u.store new.state two three)
   stops_rise old new (Some back) refusal s = ⊎_elim
-      (λ u. begins_then old.state.store u.begun new.state.store u.ticket.block (u.ticket.bytes, u.ticket.count) u.written.begins (ap (λ k. k.state.store) u.next))
-      (λ u. begins_then old.state.store u.begun new.state.store u.ticket.block (u.ticket.bytes, u.ticket.count) u.written.begins (ap (λ k. k.state.store) u.next))
+      (λ u. begins_then old.state u.begun new.state u.ticket.block (u.ticket.bytes, u.ticket.count) u.written.begins (ap (λ k. k.state) u.next))
+      (λ u. begins_then old.state u.begun new.state u.ticket.block (u.ticket.bytes, u.ticket.count) u.written.begins (ap (λ k. k.state) u.next))
       s.1
 
-  refuses_rise : (old new : KernelValue L) (n : ℕ) (ticket : Option (TicketValue L)) (refusal : Refusal) → Refuses bytes faults writes syncs reads old n ticket refusal new → FloorsRise old.state.store new.state.store
+  refuses_rise : (old new : KernelValue L) (n : ℕ) (ticket : Option (TicketValue L)) (refusal : Refusal) → Refuses bytes faults writes syncs reads old n ticket refusal new → FloorsRise old.state new.state
   refuses_rise old new n ticket refusal h = ⊎_elim
-      (λ busy. rises_by old.state.store new.state.store (ap (λ k. k.state.store) busy.4))
-      (λ s. rises_on old.state.store s.0.state.store new.state.store (rounds_rise n old s.0 s.1) (stops_rise s.0 new ticket refusal s.2))
+      (λ busy. rises_by old.state new.state (ap (λ k. k.state) busy.4))
+      (λ s. rises_on old.state s.0.state new.state (rounds_rise n old s.0 s.1) (stops_rise s.0 new ticket refusal s.2))
       h
 
   pub drain_rises : {S : Type 0} (old new : KernelValue L) (result : Result ℕ S) (count : S → ℕ) (ticket : S → Option (TicketValue L)) (refusal : S → Refusal) →
       IfOk result (λ n. Rounds bytes faults writes syncs reads n old new) →
-      IfErr result (λ stop. Refuses bytes faults writes syncs reads old (count stop) (ticket stop) (refusal stop) new) → FloorsRise old.state.store new.state.store
+      IfErr result (λ stop. Refuses bytes faults writes syncs reads old (count stop) (ticket stop) (refusal stop) new) → FloorsRise old.state new.state
   drain_rises old new (Ok n) count ticket refusal ok err = rounds_rise n old new ok
   drain_rises old new (Err stop) count ticket refusal ok err = refuses_rise old new (count stop) (ticket stop) (refusal stop) err

@@ -9,7 +9,7 @@ use Rattle.xn_model.specs.Calls.{floor_of}
 use Rattle.xn_state.specs.declared.call.Call.{Call}
 use Rattle.xn_state.specs.declared.answer.Answer.{Answer}
 use Rattle.xn_state.specs.Answers.{Answers}
-use Rattle.xn_state.specs.States.{types_in}
+use Rattle.xn_state.specs.States.{own_types}
 use Rattle.xn_kernel.specs.Kernels.{KernelValue, IsKernel}
 
 -- a kernel, and what its publisher knows of the words
@@ -19,7 +19,7 @@ pub record HubValue (L : Type 0) : Type 0 where
 
 -- the hub with this store
 abbrev pub with_store : {L : Type 0} → HubValue L → StoreState → HubValue L
-with_store hub store = record hub { kernel = record hub.kernel { state = record hub.kernel.state { store = store } } }
+with_store hub store = record hub { kernel = record hub.kernel { state = store } }
 
 abbrev pub NoWordAbove : List ℕ → StoreState → Type 0
 NoWordAbove words state = (fs : ℕ) → slice_index words fs ≤ floor_of state fs
@@ -28,15 +28,15 @@ pub record IsHub {L : Type 0} (bytes_of : L → List ℕ) (crash_leaves : L → 
   -- the rules over all lives; a lane at home holds its block's durable bytes, also after a crash, and a lane is away exactly while a
   -- write is under way
   pub kept : IsKernel bytes_of crash_leaves hub.kernel.lanes hub.kernel.state
-  pub below : NoWordAbove hub.words hub.kernel.state.store
+  pub below : NoWordAbove hub.words hub.kernel.state
 
 abbrev pub AllRaised : {L : Type 0} → HubValue L → Type 0
-AllRaised hub = (fs : ℕ) → fs < 32 → slice_index hub.words fs ≡ floor_of hub.kernel.state.store fs
+AllRaised hub = (fs : ℕ) → fs < 32 → slice_index hub.words fs ≡ floor_of hub.kernel.state fs
 
 -- On some hub that was found under the lock, this call may answer so, and it left the other.
 pub record MayAnswer {L : Type 0} (bytes_of : L → List ℕ) (crash_leaves : L → List ℕ → Type 0) (fs : ℕ) (call : Call) (answer : Answer) : Type 0 where
   pub found : HubValue L
   pub left : HubValue L
   pub sound : IsHub bytes_of crash_leaves found
-  pub answers : Answers (types_in found.kernel.state) found.kernel.state.store fs call left.kernel.state.store answer
-  pub rest : left ≡ with_store found left.kernel.state.store
+  pub answers : Answers (own_types found.kernel.state) found.kernel.state fs call left.kernel.state answer
+  pub rest : left ≡ with_store found left.kernel.state

@@ -7,7 +7,7 @@ ghost use Rattle.xn_model.specs.Results.{GivesExactly, result_map};
 ghost use Rattle.xn_model.specs.Calls.{begun_of, settled_of, floor_of};
 ghost use Rattle.xn_model.specs.Worlds.{all_pending};
 ghost use Rattle.xn_model.specs.Rules.{IsIdle};
-ghost use Rattle.xn_state.specs.States.{StateValue};
+ghost use Rattle.xn_model.specs.Lives.{StoreState};
 ghost use Rattle.xn_kernel.specs.Kernels.{KernelValue, TicketValue, is_mine, result_map_err};
 ghost use Rattle.xn_kernel.specs.Drains.{Rounds, Refuses, with_home};
 ghost use Rattle.shared.specs.Hubs.{HubValue, NoWordAbove, AllRaised};
@@ -42,7 +42,7 @@ impl<L: Lane, K: Naming> Model for Hub<L, K> {
 
     ghost view = { λ h. record { kernel = h.kernel; words = h.publisher.seen } };
 
-    ghost invariant = { λ h. (h.publisher.floor ≡ K.floor) × (arc_value h.floor ≡ K.floor) × NoWordAbove h.publisher.seen h.kernel.state.store };
+    ghost invariant = { λ h. (h.publisher.floor ≡ K.floor) × (arc_value h.floor ≡ K.floor) × NoWordAbove h.publisher.seen h.kernel.state };
 }
 
 /// Written by hand, so that a function that drops one calls this: a derived drop is proved anew in each such function.
@@ -76,7 +76,7 @@ impl<L: Lane, K: Naming> Hub<L, K> {
     pub fn new(kernel: Kernel<L>, publisher: Publisher, floor: Arc<Floor, Global>) -> Hub<L, K>
         requires publisher { publisher.floor ≡ K.floor }
         requires floor { arc_value floor ≡ K.floor }
-        requires below { NoWordAbove publisher.seen kernel.state.store }
+        requires below { NoWordAbove publisher.seen kernel.state }
         ensures { result ≡ record { kernel = kernel; words = publisher.seen } }
     {
         Hub {
@@ -103,7 +103,7 @@ impl<L: Lane, K: Naming> Hub<L, K> {
     /// Tells a reader the floor of a file system: all entries of it below are durable, or of lives that have ended.
     pub fn meet(&mut self, fs: Fs, reader: &mut Reader) -> u64
         requires { reader.old.floor ≡ K.floor }
-        ensures exact { result ≡ floor_of self.old.kernel.state.store fs.number }
+        ensures exact { result ≡ floor_of self.old.kernel.state fs.number }
         ensures grows { slice_index reader.old.seen fs.number ≤ result }
         ensures seen { reader.new ≡ record reader.old { seen = slice_set reader.old.seen fs.number result } }
         ensures kernel { self.new.kernel ≡ self.old.kernel }
@@ -121,12 +121,12 @@ impl<L: Lane, K: Naming> Hub<L, K> {
         ensures unsynced { IsTrue (is_mine self.old.kernel ticket) → IsTrue ticket.unsynced →
             IsErrAnd result (λ back. (back.0 ≡ ticket) × (back.1 ≡ Refusal.NotSynced)) }
         ensures mine { IsTrue (is_mine self.old.kernel ticket) → ticket.unsynced ≡ false →
-            GivesExactly (settled_of self.old.kernel.state.store ticket.block (L.bytes_of ticket.lane)) self.old.kernel.state.store self.new.kernel.state.store
+            GivesExactly (settled_of self.old.kernel.state ticket.block (L.bytes_of ticket.lane)) self.old.kernel.state self.new.kernel.state
             (result_map (λ landed. (landed.durable, landed.freed)) (result_map_err (λ back. back.1) result))
             ⊎ IsErrAnd result (λ back. (back.1 ≡ Refusal.Device) × CountsOne (L.faults_of ticket.lane) (L.faults_of back.0.lane)) }
         ensures given { OnOk result ((lane : L) × (L.bytes_of lane ≡ L.bytes_of ticket.lane) × (L.faults_of lane ≡ L.faults_of ticket.lane)
             × L.read_gives ticket.lane (Ok tt) lane
-            × (self.new.kernel ≡ with_home self.old.kernel ticket.block lane self.new.kernel.state.store)) }
+            × (self.new.kernel ≡ with_home self.old.kernel ticket.block lane self.new.kernel.state)) }
         ensures err { OnErr result (self.new.kernel ≡ self.old.kernel) }
         ensures back { IfErr result (λ back. (back.0 ≡ record ticket { lane = back.0.lane }) × (L.bytes_of back.0.lane ≡ L.bytes_of ticket.lane)) }
         ensures unread { IfErr result (λ back. back.1 ≡ Refusal.Device → (fault : DeviceFault) × L.read_gives ticket.lane (Err fault) back.0.lane) }
@@ -143,9 +143,9 @@ impl<L: Lane, K: Naming> Hub<L, K> {
     /// system's floor.
     pub fn drain(&mut self) -> Result<u32, DrainStop<L>>
         ensures rounds { IfOk result (λ writes. Rounds L.bytes_of L.faults_of L.write_gives L.sync_gives L.read_gives writes self.old.kernel self.new.kernel) }
-        ensures idle { OnOk result (IsIdle self.old.kernel.state.store.lives) }
-        ensures done { OnOk result (all_pending self.new.kernel.state.store.lives ≡ 0) }
-        ensures few { IfOk result (λ writes. writes ≤ all_pending self.old.kernel.state.store.lives) }
+        ensures idle { OnOk result (IsIdle self.old.kernel.state.lives) }
+        ensures done { OnOk result (all_pending self.new.kernel.state.lives ≡ 0) }
+        ensures few { IfOk result (λ writes. writes ≤ all_pending self.old.kernel.state.lives) }
         ensures err { IfErr result (λ stop.
             Refuses L.bytes_of L.faults_of L.write_gives L.sync_gives L.read_gives self.old.kernel stop.writes stop.ticket stop.refusal self.new.kernel) }
         ensures raised { AllRaised self.new }
@@ -159,10 +159,10 @@ impl<L: Lane, K: Naming> Hub<L, K> {
 /// Raises each word to its file system's floor.
 fn raise_all<L: Lane>(kernel: &Kernel<L>, floor: &Floor, publisher: &mut Publisher)
     requires floor { publisher.old.floor ≡ floor.now }
-    requires below { NoWordAbove publisher.old.seen kernel.now.state.store }
+    requires below { NoWordAbove publisher.old.seen kernel.now.state }
     ensures floor { publisher.new.floor ≡ publisher.old.floor }
-    ensures below { NoWordAbove publisher.new.seen kernel.now.state.store }
-    ensures raised { (fs : ℕ) → fs < 32 → slice_index publisher.new.seen fs ≡ floor_of kernel.now.state.store fs }
+    ensures below { NoWordAbove publisher.new.seen kernel.now.state }
+    ensures raised { (fs : ℕ) → fs < 32 → slice_index publisher.new.seen fs ≡ floor_of kernel.now.state fs }
 {
     for number in 0..32 {
         let Some(fs) = Fs::new(number) else {

@@ -11,15 +11,15 @@ use Rattle.templates.specs.Tables.{TableValue, IsTable, no_templates, template_o
 use Rattle.templates.proofs.TablePlaces.{get_or-none, at_place, not_absent}
 use Rattle.templates.proofs.CataloguePairs.{catalogue_owns}
 
-root_size : (m : List ℕ) → answer_of root_template.size m ≡ 328
+pub root_size : (m : List ℕ) → answer_of root_template.size m ≡ 328
 unfolding answer_of root_template
 root_size m = refl
 
-leaf_size : (m : List ℕ) → answer_of leaf_template.size m ≡ 512
+pub leaf_size : (m : List ℕ) → answer_of leaf_template.size m ≡ 512
 unfolding answer_of leaf_template
 leaf_size m = refl
 
-leaf_owns : (m : List ℕ) → owned_by leaf_template.owns m ≡ []
+pub leaf_owns : (m : List ℕ) → owned_by leaf_template.owns m ≡ []
 unfolding owned_by leaf_template
 leaf_owns m = refl
 

@@ -2,6 +2,8 @@
 pub use Rattle.templates.proofs.BuiltInTypes.{tables_have_built_ins}
 pub use Rattle.templates.proofs.FreshDisks.{formatted_has_its_blocks, formatted_has_its_templates, formatted_holds, formatted_is_found, formatted_is_sound, mount_recovers}
 pub use Rattle.templates.proofs.FreshRoots.{distinct_named, get_or-named, length-named, named, slot_blank}
+pub use Rattle.templates.proofs.Installed.{language_none, language_ok, language_some, none_there, put_types}
+pub use Rattle.templates.proofs.Meanings.{tables_are_catalogues}
 pub use Rattle.templates.proofs.OneSpelling.{blocks_are_templates}
 pub use Rattle.templates.proofs.Ranges.{range-more}
 pub use Rattle.templates.proofs.TablePlaces.{at_place}

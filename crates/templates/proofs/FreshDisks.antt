@@ -19,7 +19,10 @@ use Rattle.xn_model.specs.Rules.{Holds}
 use Rattle.templates.specs.Templates.{TemplateValue, IsTemplate, template_bytes}
 use Rattle.templates.specs.BuiltIns.{root_template}
 use Rattle.templates.specs.Reading.{template_of_bytes}
+use Rattle.xn_model.specs.Languages.{types_in}
+use Rattle.templates.specs.Language.{language}
 use Rattle.templates.specs.Tables.{types_of, template_named, table_of_image}
+use Rattle.templates.proofs.Meanings.{tables_are_catalogues}
 use Rattle.templates.specs.Formats.{formatted_root, formatted, root_found, template_found, fresh_found, table_of}
 use Rattle.templates.proofs.TablePlaces.{get_or-none}
 use Rattle.templates.proofs.OneSpelling.{templates_are_read}
@@ -282,11 +285,16 @@ module _ (count : ℕ) (ts : List TemplateValue) (size : IsDiskSize count) (few 
   pub mount_recovers : IsRecovered T image (recovered T image)
   mount_recovers = recovered_is T built_ins image whole_sound
 
-  pub holds : Holds (mounted_disk T image)
-  holds = mount_holds (mounted_disk T image) built_ins whole_sound (recovered T image) mount_recovers
+  -- the types are those of its catalogue
+  types_are : T ≡ types_in language content
+  types_are = ap types_of (sym table_is) ∙ tables_are_catalogues content
+
+  pub holds : Holds (mounted_disk language image)
+  holds = mount_holds (mounted_disk language image) (subst (λ S. IsSound S (length image) content) types_are whole_sound) (recovered (types_in language content) image)
+      (subst (λ S. IsRecovered S image (recovered S image)) types_are mount_recovers)
 
 pub formatted_holds : (count : ℕ) (templates : List TemplateValue) → IsDiskSize count → length templates ≤ 16 → All IsTemplate templates →
-    Holds (mounted_disk (types_of (table_of templates)) (formatted count templates))
+    Holds (mounted_disk language (formatted count templates))
 formatted_holds = holds
 
 pub formatted_is_found : (count : ℕ) (templates : List TemplateValue) → IsDiskSize count → length templates ≤ 16 → All IsTemplate templates →

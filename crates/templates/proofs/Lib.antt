@@ -6,6 +6,8 @@ pub mod TablePlaces
 pub mod FreshImages
 pub mod CataloguePairs
 pub mod BuiltInTypes
+pub mod Meanings
+pub mod Installed
 pub mod OneSpelling
 pub mod FreshRoots
 pub mod FreshDisks

@@ -3,6 +3,7 @@ pub mod BuiltIns
 pub mod Reading
 pub mod Meaning
 pub mod Tables
+pub mod Language
 pub mod RootFields
 pub mod Formats
 pub mod Faults

@@ -4,12 +4,14 @@ ghost use Rattle.std.specs.Prelude.{◌≡◌, ◌≢◌, ◌≤◌, ◌<◌, �
 ghost use Rattle.xn_model.specs.Root.{HasBuiltIns};
 ghost use Rattle.xn_model.specs.Images.{IsSound, IsDiskSize, block_of};
 ghost use Rattle.xn_model.specs.BareDisks.{built_ins, bare_disk, mounted_disk};
+ghost use Rattle.xn_model.specs.Languages.{types_in};
 ghost use Rattle.xn_model.specs.Rules.{Holds};
 ghost use Rattle.xn_model.specs.Mounts.{found};
 ghost use Rattle.templates.specs.declared.fault.TemplateFault.TheVariants.{NoMemory};
 ghost use Rattle.templates.specs.Templates.{TemplateValue, IsTemplate, template_bytes};
 ghost use Rattle.templates.specs.Reading.{template_of_bytes};
 ghost use Rattle.templates.specs.Tables.{TableValue, IsTable, no_templates, types_of, table_of_image};
+ghost use Rattle.templates.specs.Language.{language};
 ghost use Rattle.templates.specs.Formats.{formatted, fresh_found, table_of};
 
 /// A template is read from its block.
@@ -30,6 +32,11 @@ pub fn blocks_want_no_memory()
 /// Every table gives the built-in types their meaning.
 pub fn tables_have_built_ins()
     ensures { (table : TableValue) → IsTable table → HasBuiltIns (types_of table) }
+{}
+
+/// The table of an image gives the types that the model takes from the image's catalogue.
+pub fn tables_are_catalogues()
+    ensures { (content : ℕ → List ℕ) → types_of (table_of_image content) ≡ types_in language content }
 {}
 
 /// A table without templates has the built-in types alone.
@@ -70,5 +77,5 @@ pub fn formatted_is_found()
 /// So its first mount begins with the rules.
 pub fn formatted_holds()
     ensures { (count : ℕ) (templates : List TemplateValue) → IsDiskSize count → length templates ≤ 16 → All IsTemplate templates →
-        Holds (mounted_disk (types_of (table_of templates)) (formatted count templates)) }
+        Holds (mounted_disk language (formatted count templates)) }
 {}

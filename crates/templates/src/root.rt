@@ -1,9 +1,10 @@
 // Block 0: a mark, the count of blocks, 16 pointers to templates and 32 root slots. Numbers are four bytes, the lowest
 // byte first.
 
-ghost use Rattle.std.specs.Prelude.{◌≡◌, ◌+◌, ◌*◌, ◌<◌, ◌≤◌, ◌&&◌, ◌==◌, ℕ};
+ghost use Rattle.std.specs.Prelude.{IfSome, ◌≡◌, ◌+◌, ◌*◌, ◌<◌, ◌≤◌, ◌&&◌, ◌==◌, ℕ};
 ghost use Rattle.std.specs.Int.{w32, to_le_bytes};
-ghost use Rattle.xn_model.specs.Root.{word_at, marked, pointer, slot, with_slot};
+ghost use Rattle.xn_model.specs.Root.{word_at, marked, pointer, slot, with_pointer, with_slot};
+ghost use Rattle.xn_model.specs.Calls.{empty_place};
 ghost use Rattle.templates.specs.Meaning.{pair_of};
 ghost use Rattle.templates.specs.RootFields.{has_mark, slot_bytes};
 
@@ -62,7 +63,39 @@ pub fn pointer(block: &[u8; 512], i: usize) -> u32
     requires { i < 16 }
     ensures { result ≡ pointer block.now i }
 {
-    word_at(block, POINTERS_START + 4 * i)
+    word_at(block, pointer_start(i))
+}
+
+/// The lowest place of the catalogue that names no template.
+pub fn empty_place(block: &[u8; 512]) -> Option<usize>
+    ensures place { result ≡ empty_place block.now }
+    ensures few { IfSome result (λ place. place < 16) }
+{
+    for place in 0..CATALOGUE_PLACES {
+        if pointer(block, place) == 0 {
+            return Some(place);
+        }
+    }
+    None
+}
+
+/// The byte at which the pointer of template `i`, from 0 to 15, stands.
+pub fn pointer_start(i: usize) -> usize
+    requires { i < 16 }
+    ensures { result ≡ 8 + 4 * i }
+{
+    POINTERS_START + 4 * i
+}
+
+/// The block with the pointer of template `i`, from 0 to 15, set.
+pub fn with_pointer(block: &[u8; 512], i: usize, pointer: u32) -> [u8; 512]
+    requires { i < 16 }
+    ensures { result ≡ with_pointer block.now i pointer }
+{
+    let mut bytes = *block;
+    let at = pointer_start(i);
+    bytes[at..at + 4].copy_from_slice(&number_bytes(pointer));
+    bytes
 }
 
 /// The byte at which the root slot of file system `i`, from 0 to 31, stands.

@@ -15,8 +15,11 @@ use std::marker::Model;
 use udf_run::{Pair, ReadSet, owns, owns_tracked, size};
 use udf_verify::Role;
 
+/// The type of blocks that hold a template.
+pub const TEMPLATE_TYPE: u32 = 1;
+
 /// The type of the catalogue's first place.
-const FIRST_PLACE: u32 = 3;
+pub const FIRST_INSTALLED_TYPE: u32 = 3;
 
 /// Whether blocks of the type point to nothing and may use all their bytes, as those of templates and of data: no program is run for them.
 fn is_leaf(ty: u32) -> bool
@@ -77,7 +80,7 @@ impl Table {
         ensures { self.new ≡ slice_set self.old (ty - 3) (Some template) }
     {
         prove!(template.owns().role() == Role::Owns);
-        self.places[(ty - FIRST_PLACE) as usize] = Some(template);
+        self.places[(ty - FIRST_INSTALLED_TYPE) as usize] = Some(template);
     }
 
     /// What is known of every table. This does nothing.
@@ -95,7 +98,7 @@ impl Table {
         match ty {
             0 => Some(&self.root),
             1 | 2 => Some(&self.leaf),
-            _ => match self.places.get((ty - FIRST_PLACE) as usize) {
+            _ => match self.places.get((ty - FIRST_INSTALLED_TYPE) as usize) {
                 Some(place) => place.as_ref(),
                 None => None,
             },

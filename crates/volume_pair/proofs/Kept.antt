@@ -1,14 +1,15 @@
 -- What is known of a file system stays over the calls of others, over what the device does, and over a crash.
-use Rattle.std.proofs.Common.{◌≡◌, ◌≢◌, ℕ, ◌<◌, ◌≤◌, List, Option, Some, None, Result, refl, sym, ap, inl, inr, subst}
-use Rattle.std.specs.Prelude.{IfSome, IsSomeAnd}
+use Rattle.std.proofs.Common.{◌∙◌, lit≤, ◌≡◌, ◌≢◌, ℕ, ◌<◌, ◌≤◌, List, Option, Some, None, Result, refl, sym, ap, inl, inr, subst}
+use Rattle.std.specs.Prelude.{IfSome, IsSomeAnd, IsTrue}
 use Rattle.xn_model.specs.declared.refusal.Refusal.{Refusal}
 use Rattle.xn_model.specs.Types.{Types}
 use Rattle.xn_model.specs.Lives.{StoreState}
 use Rattle.xn_model.specs.Results.{Gives, GivesExactly}
 use Rattle.xn_model.specs.Calls.{Edit, init_of, propose_of, make_root_of, forget_of}
-use Rattle.xn_model.specs.Worlds.{World, Event, Reply, Crash, Step, IsEvent}
-use Rattle.xn_model.specs.Rules.{IsConsistent, Holds}
-use Rattle.xn_model.proofs.ForCallers.{gives_keeps, gives_exactly_keeps, step_keeps}
+use Rattle.xn_model.specs.Worlds.{World, Event, Reply, Crash, Step, IsEvent, is_crash, types_now}
+use Rattle.xn_model.specs.Rules.{IsConsistent, IsKeptType, Holds, Keeps}
+use Rattle.xn_model.proofs.ForCallers.{gives_keeps, gives_exactly_keeps, step_keeps, types_grow, types_stay}
+use Rattle.xn_model.proofs.ForCallers as model
 use Rattle.ffs_model.specs.Cuts.{CutsFrom}
 use Rattle.ffs_model.specs.Events.{IsForeign}
 use Rattle.ffs_model.specs.Library.{library_layout, IsLibrary}
@@ -17,7 +18,7 @@ use Rattle.ffs_lib.specs.declared.volume.Volume.{Volume}
 use Rattle.events.specs.declared.event.Event as world_event
 use Rattle.events.specs.declared.event.Event.TheVariants as event
 use Rattle.events.specs.Events.{event_of}
-use Rattle.volume_pair.specs.Kept.{IsDevice, IsKept, Recovers, Stays, array_of}
+use Rattle.volume_pair.specs.Kept.{HasLibrary, IsDevice, IsKept, Lasts, Recovers, Stays, array_of}
 
 pub if_some : {A : Type 0} (P Q : A → Type 0) (o : Option A) → ((x : A) → o ≡ Some x → P x → Q x) → IfSome o P → IfSome o Q
 if_some P Q None f h = tt
@@ -41,7 +42,7 @@ pub cuts_keep : (T : Types) (old new : StoreState) (fs : ℕ) (volume : Option V
 cuts_keep T old new fs volume h from k = record {
   library = k.library;
   few = k.few;
-  keeps = volume_from T library_layout (library_reads T k.library) fs k.few (array_of volume) old new h from.1 from.0 k.keeps;
+  keeps = volume_from T T library_layout (library_reads T k.library) fs k.few (array_of volume) old new h from.1 from.0 k.keeps;
   mine = k.mine;
 }
 
@@ -66,32 +67,84 @@ module _ (T : Types) (old new : StoreState) (h : IsConsistent T new) (fs : ℕ) 
       (gives_exactly_keeps (Follows fs old) (forget_of T old x b) old new r given (follows_same fs old)
       (λ done e. (forget_cuts T old k.keeps.consistent fs x b done new h e, none_later new.next old.next (forgot_next T old new x b done e)))) k
 
--- what stays for every file system
-pub stays_kept : (T : Types) (old new : StoreState) (fs : ℕ) (volume : Option Volume) → Stays T old new → IsKept T old fs volume → IsKept T new fs volume
-stays_kept T old new fs volume stays k = record { library = k.library; few = k.few; keeps = stays k.library fs (array_of volume) k.few k.keeps; mine = k.mine }
+-- the library's types stay over calls
 
-pub event_stays : (w w' : World) (e : Event) (r : Reply) → IsEvent e → Holds w → Step w e r w' → ((fs : ℕ) → IsForeign fs e) → (w'.types ≡ w.types) × Stays w.types w.state w'.state
-event_stays w w' e r ok h s quiet = (
-  (event_cuts 0 w e r w' ok h s (quiet 0)).0,
-  λ library fs array few v.
-      let x = event_cuts fs w e r w' ok h s (quiet fs) in
-      let h' = step_keeps w e r w' ok h s in
-      volume_from w.types library_layout (library_reads w.types library) fs few array w.state w'.state (subst (λ T. IsConsistent T w'.state) x.0 h'.state) x.2 x.1 v,
-)
+pub retyped_library : (T T' : Types) (state : StoreState) → T' ≡ T → HasLibrary T state → HasLibrary T' state
+retyped_library T T' state e has = subst (λ U. HasLibrary U state) (sym e) has
+
+pub has_still : (T : Types) (old new : StoreState) → HasLibrary T old → Keeps T old new → HasLibrary T new
+has_still T old new has k = record { rules = k.consistent; library = has.library; there = λ t low high. k.there t (has.there t low high) }
+
+module _ (T : Types) (old new : StoreState) (has : HasLibrary T old) where
+  pub init_has : (fs ty : ℕ) (bytes : List ℕ) (r : Result (ℕ × ℕ) Refusal) → Gives (init_of T old fs ty bytes) old new r → HasLibrary T new
+  init_has fs ty bytes r given = gives_keeps (HasLibrary T) (init_of T old fs ty bytes) old new r given has (λ made e. has_still T old new has (model.init_keeps T old has.rules fs ty bytes made new e))
+
+  pub propose_has : (fs b : ℕ) (edit : Edit) (r : Result ℕ Refusal) → Gives (propose_of T old fs b edit) old new r → HasLibrary T new
+  propose_has fs b edit r given = gives_keeps (HasLibrary T) (propose_of T old fs b edit) old new r given has (λ entry e. has_still T old new has (model.propose_keeps T old has.rules fs b edit entry new e))
+
+  pub make_root_has : (fs b : ℕ) (r : Result ℕ Refusal) → fs < 32 → Gives (make_root_of old fs b) old new r → HasLibrary T new
+  make_root_has fs b r few given = gives_keeps (HasLibrary T) (make_root_of old fs b) old new r given has (λ entry e. has_still T old new has (model.make_root_keeps T old has.rules fs few b entry new e))
+
+  pub forget_has : (fs b : ℕ) (r : Result (Unit {0}) Refusal) → GivesExactly (forget_of T old fs b) old new r → HasLibrary T new
+  forget_has fs b r given = gives_exactly_keeps (HasLibrary T) (forget_of T old fs b) old new r given has (λ done e. has_still T old new has (model.forget_keeps T old has.rules fs b done new e))
+
+-- types that mean the same are the library's
+pub library_same : (T T' : Types) → ((t : ℕ) → 3 ≤ t → t ≤ 5 → IsTrue (T'.installed t) × (T'.owned t ≡ T.owned t) × (T'.size t ≡ T.size t)) → IsLibrary T → IsLibrary T'
+library_same T T' same l =
+    let three = same 3 (lit≤ tt) (lit≤ tt) in
+    let four = same 4 (lit≤ tt) (lit≤ tt) in
+    let five = same 5 (lit≤ tt) (lit≤ tt) in
+    record {
+      installed = λ t low high. (same t low high).0;
+      root = λ m. ap (λ (f : List ℕ → List (ℕ × ℕ)). f m) three.1 ∙ l.root m;
+      inodes = λ m. ap (λ (f : List ℕ → List (ℕ × ℕ)). f m) four.1 ∙ l.inodes m;
+      indirect = λ m. ap (λ (f : List ℕ → List (ℕ × ℕ)). f m) five.1 ∙ l.indirect m;
+      root_size = λ m. ap (λ (f : List ℕ → ℕ). f m) three.2 ∙ l.root_size m;
+      inodes_size = λ m. ap (λ (f : List ℕ → ℕ). f m) four.2 ∙ l.inodes_size m;
+      indirect_size = λ m. ap (λ (f : List ℕ → ℕ). f m) five.2 ∙ l.indirect_size m;
+    }
+
+-- the library is there after each step, and after a crash too
+pub step_has : (w w' : World) (e : Event) (r : Reply) → IsEvent e → Holds w → Step w e r w' → HasLibrary (types_now w) w.state → HasLibrary (types_now w') w'.state
+step_has w w' e r ok h s has =
+    let kept : (t : ℕ) → 3 ≤ t → t ≤ 5 → IsKeptType w w' t = λ t low high. types_stay w e r w' ok h s t (has.there t low high) (has.library.installed t low high) in
+    record {
+      rules = (step_keeps w e r w' ok h s).state;
+      library = library_same (types_now w) (types_now w') (λ t low high. let k = kept t low high in (k.installed, k.owned, k.size)) has.library;
+      there = λ t low high. (kept t low high).there;
+    }
+
+-- what stays for every file system
+pub stays_kept : (T : Types) (old : StoreState) (T' : Types) (new : StoreState) (fs : ℕ) (volume : Option Volume) → Lasts T old T' new → IsKept T old fs volume → IsKept T' new fs volume
+stays_kept T old T' new fs volume lasts k = record { library = lasts.has.library; few = k.few; keeps = lasts.keeps fs (array_of volume) k.few k.keeps; mine = k.mine }
+
+pub event_stays : (w w' : World) (e : Event) (r : Reply) → IsEvent e → Holds w → Step w e r w' → ((fs : ℕ) → IsForeign fs e) → Stays (types_now w) w.state (types_now w') w'.state
+event_stays w w' e r ok h s quiet has =
+    let has' = step_has w w' e r ok h s has in
+    record {
+      has = has';
+      keeps = λ fs array few v.
+          let x = event_cuts fs w e r w' ok h s (quiet fs) in
+          volume_from (types_now w) (types_now w') library_layout (library_reads (types_now w') has'.library) fs few array w.state w'.state has'.rules x.1 x.0 v;
+    }
 
 -- after a crash no volume is open
-pub crash_recovers : (w w' : World) (kept : List ℕ) (r : Reply) → Holds w → Step w (Crash kept) r w' → Recovers w.types w.state w'.types w'.state
-crash_recovers w w' kept r h s fs volume k =
-    let same : w'.types ≡ w.types = elim s.2 [ inl up ↦ ap (λ (x : World). x.types) up.1 | inr down ↦ ap (λ (x : World). x.types) down.1 ] in
+pub crash_recovers : (w w' : World) (kept : List ℕ) (r : Reply) → Holds w → Step w (Crash kept) r w' → HasLibrary (types_now w) w.state → Recovers (types_now w) w.state (types_now w') w'.state
+crash_recovers w w' kept r h s has =
+    let has' = step_has w w' (Crash kept) r tt h s has in
     record {
-      library = subst IsLibrary (sym same) k.library;
-      few = k.few;
-      keeps = crash_keeps w kept r w' library_layout (library_reads w.types k.library) fs k.few (array_of volume) h k.keeps s;
-      mine = tt;
+      has = has';
+      kept = λ fs volume k. record {
+        library = has'.library;
+        few = k.few;
+        keeps = crash_keeps w kept r w' library_layout (library_reads (types_now w) k.library) (library_reads (types_now w') has'.library) fs k.few (array_of volume) h k.keeps s;
+        mine = tt;
+      };
     }
 
 -- what the device does is no edit
 pub device_event : (e : world_event.Event) → IsDevice e → IsEvent (event_of e) × ((fs : ℕ) → IsForeign fs (event_of e))
+device_event (event.Install bytes) d = (d, λ fs. tt)
 device_event (event.Begin block) d = (tt, λ fs. tt)
 device_event (event.Land block) d = (tt, λ fs. tt)
 device_event (event.Fail block stays) d = (tt, λ fs. tt)

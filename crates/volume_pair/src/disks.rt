@@ -11,8 +11,7 @@ use xn_state::{Fs, Store};
 pub trait Disk: Store {
     /// Writes all that is pending, and answers how many writes it took; `None` where it was refused.
     fn drain(&mut self, fs: Fs) -> Option<u32>
-        ensures types { Self.types_of self.new ≡ Self.types_of self.old }
-        ensures stays { Stays (Self.types_of self.old) (Self.state_of self.old) (Self.state_of self.new) };
+        ensures { Stays (Self.types_of self.old) (Self.state_of self.old) (Self.types_of self.new) (Self.state_of self.new) };
 
     /// How many pending entries count for a file system.
     fn pending(&self, fs: Fs) -> u32

@@ -2,7 +2,7 @@
 
 ghost use Rattle.std.specs.Prelude.{◌≡◌, ◌<◌, ℕ};
 ghost use Rattle.ffs_lib.specs.Volumes.{IsVolume};
-ghost use Rattle.volume_pair.specs.Kept.{IsKept};
+ghost use Rattle.volume_pair.specs.Kept.{HasLibrary, IsKept};
 
 use crate::disks::Disk;
 use crate::guarded::{Guarded, Other};
@@ -95,7 +95,8 @@ fn act<S: Store>(alloc: Global, store: &mut S, volume: &mut Volume, action: &Act
 impl<S: Disk + Drop> Files<S> {
     /// Two file systems on a store, of which no volume is open.
     pub fn new(store: S, first: Fs, second: Fs) -> Files<S>
-        requires { (fs : ℕ) → fs < 32 → IsKept (S.types_of store) (S.state_of store) fs None }
+        requires has { HasLibrary (S.types_of store) (S.state_of store) }
+        requires kept { (fs : ℕ) → fs < 32 → IsKept (S.types_of store) (S.state_of store) fs None }
     {
         let other = Other {
             fs: second,
@@ -223,6 +224,7 @@ impl<S: Disk + Drop> Files<S> {
         let Some(store) = &mut self.store else {
             return None;
         };
+        store.has_library();
         store.drain(self.fs)
     }
 

@@ -1,8 +1,8 @@
 // A store on which one file system makes calls beside another one.
 
 ghost use Rattle.std.specs.Prelude.{◌≡◌, ◌≢◌, Some, None, IfSome, IsSomeAnd};
-ghost use Rattle.templates.specs.Tables.{types_of};
-ghost use Rattle.volume_pair.specs.Kept.{IsDevice, IsKept, Recovers, Stays};
+ghost use Rattle.xn_state.specs.States.{own_types};
+ghost use Rattle.volume_pair.specs.Kept.{HasLibrary, IsDevice, IsKept, Lasts, Recovers};
 
 use crate::disks::Disk;
 use ffs_lib::{EditId, Fs, Volume};
@@ -19,7 +19,7 @@ pub struct Other {
     pub volume: Option<Volume>,
 }
 
-/// A store, and what is known of a file system beside the one that makes calls.
+/// A store on whose disk the library's types are, and what is known of a file system beside the one that makes calls.
 pub struct Guarded<S: Disk> {
     store: S,
     other: Option<Other>,
@@ -27,13 +27,13 @@ pub struct Guarded<S: Disk> {
 
 impl<S: Disk> Model for Guarded<S> {
     ghost use Rattle.std.specs.Prelude.{IfSome};
-    ghost use Rattle.volume_pair.specs.Kept.{IsKept};
+    ghost use Rattle.volume_pair.specs.Kept.{HasLibrary, IsKept};
 
     ghost Value = { S };
 
     ghost view = { λ a. a.store };
 
-    ghost invariant = { λ a. IfSome a.other (λ other. IsKept (S.types_of a.store) (S.state_of a.store) other.fs.number other.volume) };
+    ghost invariant = { λ a. HasLibrary (S.types_of a.store) (S.state_of a.store) × IfSome a.other (λ other. IsKept (S.types_of a.store) (S.state_of a.store) other.fs.number other.volume) };
 }
 
 impl<S: Disk + Drop> Drop for Guarded<S> {
@@ -45,7 +45,8 @@ impl<S: Disk + Drop> Drop for Guarded<S> {
 impl<S: Disk> Guarded<S> {
     /// The store, with this file system beside the one that makes calls.
     pub fn new(store: S, other: Option<Other>) -> Guarded<S>
-        requires { IfSome other (λ other. IsKept (S.types_of store) (S.state_of store) other.fs.number other.volume) }
+        requires has { HasLibrary (S.types_of store) (S.state_of store) }
+        requires other { IfSome other (λ other. IsKept (S.types_of store) (S.state_of store) other.fs.number other.volume) }
         ensures { result ≡ store }
     {
         Guarded { store, other }
@@ -54,10 +55,18 @@ impl<S: Disk> Guarded<S> {
     /// The store, and the other file system.
     pub fn into_parts(self) -> (S, Option<Other>)
         ensures store { result.0 ≡ self }
+        ensures has { HasLibrary (S.types_of self) (S.state_of self) }
         ensures other { IfSome result.1 (λ other. IsKept (S.types_of self) (S.state_of self) other.fs.number other.volume) }
     {
         let Guarded { store, other } = self;
         (store, other)
+    }
+
+    /// The library's types are on its disk.
+    pub fn has_library(&self)
+        ensures { HasLibrary (S.types_of self.now) (S.state_of self.now) }
+    {
+        let _other = &self.other;
     }
 
     /// Puts a file system in the other one's place, which may make calls from now on.
@@ -97,7 +106,8 @@ fn crashed(
     running: Running,
     kept: Vec<u32>,
 ) -> Option<(Running, u32, u32)>
-    ensures { IfSome result (λ r. Recovers (types_of running.table) running.state (types_of r.0.table) r.0.state) }
+    requires library { HasLibrary (own_types running.state) running.state }
+    ensures { IfSome result (λ r. Recovers (own_types running.state) running.state (own_types r.0.state) r.0.state) }
 {
     let mut world = running.into_world();
     world.rules();
@@ -166,11 +176,10 @@ impl<S: Disk> Disk for Guarded<S> {
 }
 
 impl Guarded<Running> {
-    /// One event that is of the device.
+    /// One event that is of the device, or an installation.
     pub fn step(&mut self, event: &Event) -> Reply
         requires { IsDevice event.now }
-        ensures types { types_of self.new.table ≡ types_of self.old.table }
-        ensures stays { Stays (types_of self.old.table) self.old.state self.new.state }
+        ensures { Lasts (own_types self.old.state) self.old.state (own_types self.new.state) self.new.state }
     {
         self.store.rules();
         self.store.step(event)
@@ -184,7 +193,7 @@ impl Guarded<Running> {
         rt: &(impl Threads + Sync),
         kept: Vec<u32>,
     ) -> Option<(Guarded<Running>, u32, u32)>
-        ensures { IfSome result (λ r. Recovers (types_of self.table) self.state (types_of r.0.table) r.0.state) }
+        ensures { IfSome result (λ r. Recovers (own_types self.state) self.state (own_types r.0.state) r.0.state) }
     {
         let (running, other) = self.into_parts();
         let (store, reached, free) = crashed(rt, running, kept)?;

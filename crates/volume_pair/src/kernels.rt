@@ -4,8 +4,8 @@ ghost use Rattle.std.specs.Prelude.{◌≡◌, ◌%◌, ◌<◌, ◌≤◌, ℕ,
 ghost use Rattle.xn_model.specs.Images.{blocks_in};
 ghost use Rattle.crash_check.specs.Mounts.{kernel_of};
 ghost use Rattle.templates.specs.Templates.{IsTemplate};
-ghost use Rattle.xn_state.specs.States.{types_in};
-ghost use Rattle.volume_pair.specs.Kept.{IsKept};
+ghost use Rattle.xn_state.specs.States.{own_types};
+ghost use Rattle.volume_pair.specs.Kept.{HasLibrary, IsKept};
 
 use crate::disks::Disk;
 use crash_check::mount_image;
@@ -59,7 +59,7 @@ impl Disk for Kernel<MemLane> {
 }
 
 /// Each template is one.
-fn are_templates(templates: &[Template])
+pub(crate) fn are_templates(templates: &[Template])
     ensures { All IsTemplate templates.now }
 {
     for at in 0..templates.len() {
@@ -90,7 +90,8 @@ pub fn fresh_kernel(
     alloc: Global,
     blocks: u32,
 ) -> Result<Kernel<MemLane>, AllocError>
-    ensures { IfOk result (λ kernel. (fs : ℕ) → fs < 32 → IsKept (types_in kernel.state) kernel.state.store fs None) }
+    ensures has { IfOk result (λ kernel. HasLibrary (own_types kernel.state) kernel.state) }
+    ensures kept { IfOk result (λ kernel. (fs : ℕ) → fs < 32 → IsKept (own_types kernel.state) kernel.state fs None) }
 {
     let templates = templates(alloc)?;
     templates_are_the_librarys();

@@ -1331,3 +1331,115 @@ durable 1 freed 0
 ",
     )
 }
+
+/// A template is installed on a bare disk. A write of block 0 names it, together with the root of the first block of its type.
+#[test]
+fn a_template_is_installed_on_a_bare_disk(rt: HostRuntime) -> Result<(), PlayFault> {
+    plays(
+        &rt,
+        rt.alloc(),
+        "$ xnsim <<EOF
+install 585405010c0100000e000100010203000d0102001100000001000400
+init 0 3 -
+root 0 2
+begin 2
+land 2
+sync 2
+finish 2
+begin 0
+begin 1
+land 1
+sync 1
+finish 1
+begin 0
+land 0
+sync 0
+finish 0
+crash
+EOF
+type 3 block 1 edits 1 2
+block 2 edit 3
+edit 4
+begun 1
+landed
+synced
+durable 1 freed 0
+refused 20 NothingSafe
+begun 1
+landed
+synced
+durable 1 freed 0
+begun 2
+landed
+synced
+durable 2 freed 0
+mounted 3 29
+",
+    )
+}
+
+/// A block that owns one of an installed type is written only once block 0 names the template on the disk.
+#[test]
+fn a_block_waits_for_the_type_that_it_owns(rt: HostRuntime) -> Result<(), PlayFault> {
+    plays(
+        &rt,
+        rt.alloc(),
+        "$ cat > owns <<EOF
+LD4 1 0
+IFLT 0 1
+SET 2 4
+EMIT 1 2
+END
+EOF
+$ cat > size <<EOF
+SET 0 4
+EOF
+$ xnsim asm owns size block
+template owns 5 size 1
+$ xnsim format disk 32 block
+blocks 32 templates 1
+$ cat > script <<EOF
+init 0 3 -
+root 0 2
+drain
+install 585405010c0100000e000100010203000d0102001100000001000400
+init 0 4 -
+edit 0 2 0=04000000 +4:4
+begin 4
+land 4
+sync 4
+finish 4
+begin 2
+drain
+crash
+EOF
+$ xnsim run disk script
+block 2 edit 1
+edit 2
+writes 2
+type 4 block 3 edits 3 4
+block 4 edit 5
+edit 6
+begun 1
+landed
+synced
+durable 1 freed 0
+refused 20 NothingSafe
+writes 3
+mounted 5 27
+",
+    )
+}
+
+#[test]
+fn zero_bytes_are_no_template(rt: HostRuntime) -> Result<(), PlayFault> {
+    plays(
+        &rt,
+        rt.alloc(),
+        "$ xnsim <<EOF
+install 00
+EOF
+refused 25 BadTemplate
+",
+    )
+}

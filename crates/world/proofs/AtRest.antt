@@ -4,21 +4,21 @@ use Rattle.std.specs.Prelude.{is_some}
 use Rattle.std.specs.List.{list_any}
 use Rattle.std.proofs.lemmas.Bool.{false≢true, or_from, or_left, or_right}
 use Rattle.xn_model.specs.Lives.{Life, Lives, life_at, alive_and}
-use Rattle.xn_model.specs.Mounts.{recovered, IsRecovered}
+use Rattle.xn_model.specs.Mounts.{recovered}
 use Rattle.xn_model.specs.Worlds.{mounted_state}
-use Rattle.xn_model.proofs.ForCallers.{recovered_is}
-use Rattle.crash_check.specs.Answers.{types_in}
+use Rattle.templates.specs.Language.{types_of_image}
 use Rattle.xn_kernel.specs.Kernels.{is_in_flight}
 use Rattle.world.specs.Worlds.{is_any_in_flight, world_value, IsSoundDisk, IsWorldOf}
+use Rattle.world.proofs.Mounting.{sound_recovers}
 
 calm : (o : Option Life) → ((l : Life) → o ≡ Some l → l.begun ≡ None) → alive_and (λ l. is_some l.begun) o ≡ false
 calm None idle = refl
 calm (Some l) idle = ap is_some (idle l refl)
 
-down_is_calm : (image : List (List ℕ)) (b : ℕ) → IsSoundDisk image → is_in_flight (mounted_state (recovered (types_in image) image)) b ≡ false
+down_is_calm : (image : List (List ℕ)) (b : ℕ) → IsSoundDisk image → is_in_flight (mounted_state (recovered (types_of_image image) image)) b ≡ false
 down_is_calm image b disk =
-    let lives = recovered (types_in image) image in
-    let recovers : IsRecovered (types_in image) image lives = recovered_is (types_in image) disk.built_ins image disk.sound in
+    let lives = recovered (types_of_image image) image in
+    let recovers = sound_recovers image disk in
     calm (life_at lives b) (λ l here. (recovers.only b l here).idle)
 
 pub unmounted_is_calm : (unmounted : Option (List (List ℕ))) (b : ℕ) → IsWorldOf None unmounted → is_in_flight (world_value None unmounted).state b ≡ false

@@ -1,58 +1,44 @@
 -- What a crash leaves, and a world that is down.
-use Rattle.std.proofs.Common.{◌≡◌, ◌∙◌, ◌<◌, zero, suc, [], ◌∷◌, arith, List, length, Option, Some, None, refl, sym, ap, inl, inr, subst, true, false, ℕ}
+use Rattle.std.proofs.Common.{◌≡◌, ◌∙◌, ◌<◌, zero, suc, [], ◌∷◌, arith, List, length, Option, Some, None, refl, sym, ap, inl, inr, subst, ℕ}
 use Rattle.std.proofs.lemmas.Option.{none-some}
-use Rattle.xn_model.specs.Root.{HasBuiltIns}
-use Rattle.xn_model.specs.Images.{block_of, IsSound}
-use Rattle.xn_model.specs.Mounts.{IsRecovered, recovered}
+use Rattle.xn_model.specs.Images.{block_of}
+use Rattle.xn_model.specs.Mounts.{recovered}
 use Rattle.xn_model.specs.Worlds as model
-use Rattle.xn_model.specs.Worlds.{World, Down, given_at, none_given, left_at, left, crashed, mounted, mounted_state, mount_reply, AfterCrash}
+use Rattle.xn_model.specs.Worlds.{Down, given_at, none_given, left_at, left, mount_reply, AfterCrash}
 use Rattle.xn_model.specs.Rules.{Holds}
-use Rattle.xn_model.proofs.ForCallers.{crash_sound, recovered_is}
 use Rattle.xn_model.specs.Lists.{has_number}
 use Rattle.std.specs.Prelude.{unwrap_or}
 use Rattle.std.proofs.lemmas.Bool.{cond_both, false≢true}
 use Rattle.std.proofs.lemmas.List.{ext_get_or}
 use Rattle.std.proofs.lemmas.List.FromFn.{get_or-map-range_with_len, length-map-range_with_len}
-use Rattle.crash_check.specs.Answers.{types_in}
+use Rattle.templates.specs.Language.{types_of_image}
 use Rattle.events.specs.declared.event.Event.{Event}
 use Rattle.events.specs.declared.event.Event.TheVariants as event
 use Rattle.events.specs.Events.{event_of, IsNoCrash}
 use Rattle.world.specs.Worlds.{WorldValue, world_with, world_value, mounted_value, down_value, IsSoundDisk, IsWorldOf}
-use Rattle.world.proofs.Mounting.{mounted_holds}
+use Rattle.world.proofs.Mounting.{mounted_holds, sound_recovers}
 
-module _ (value : WorldValue) (kept : List ℕ) (own : (world_with value).types ≡ types_in (left (world_with value) kept)) (disk : IsSoundDisk (left (world_with value) kept)) where
+-- the mount is that of the image that is left, under the types of its own catalogue
+module _ (value : WorldValue) (kept : List ℕ) (disk : IsSoundDisk (left (world_with value) kept)) where
   abbrev image : List (List ℕ)
   image = left (world_with value) kept
 
-  -- the lives of a mount, under the world's own types
-  found : IsRecovered (world_with value).types image (recovered (world_with value).types image)
-  found = subst (λ T. IsRecovered T image (recovered T image)) (sym own) (recovered_is (types_in image) disk.built_ins image disk.sound)
-
-  same : world_with (mounted_value image) ≡ mounted (crashed (world_with value) kept) (recovered (world_with value).types image)
-  same = λ i. record { types = sym own i; image = image; settled = image; given = none_given image; state = mounted_state (recovered (sym own i) image); down = false }
-
-  pub crash_mounts : AfterCrash (world_with value) kept (mount_reply (recovered (types_in image) image)) (world_with (mounted_value image))
-  crash_mounts = (recovered (world_with value).types image, found, inl (ap (λ T. mount_reply (recovered T image)) (sym own), same))
+  pub crash_mounts : AfterCrash (world_with value) kept (mount_reply (recovered (types_of_image image) image)) (world_with (mounted_value image))
+  crash_mounts = (recovered (types_of_image image) image, sound_recovers image disk, inl (refl, refl))
 
   pub crash_stops : AfterCrash (world_with value) kept Down (world_with (down_value image))
-  crash_stops = (recovered (world_with value).types image, found, inr (refl, ap (λ (w : World). record w { down = true }) same))
+  crash_stops = (recovered (types_of_image image) image, sound_recovers image disk, inr (refl, refl))
 
 -- The rules of a world that is down
 
 pub down_holds : (image : List (List ℕ)) → IsSoundDisk image → Holds (world_with (down_value image))
-down_holds image disk = let h = mounted_holds image disk.built_ins disk.sound in
+down_holds image disk = let h = mounted_holds image disk in
     record { state = h.state; count = h.count; settled_count = h.settled_count; given_count = h.given_count; placed = h.placed; newest = h.newest; unsynced = h.unsynced }
 
 pub down_rules : (mounted : Option WorldValue) (unmounted : Option (List (List ℕ))) → IsWorldOf mounted unmounted → mounted ≡ None → Holds (world_with (world_value mounted unmounted))
 down_rules (Some value) unmounted is none = absurd (none-some value (sym none))
 down_rules None (Some image) is none = down_holds image is
 down_rules None None is none = absurd is
-
--- what a crash leaves of a world is a sound disk
-pub sound_disk : (value : WorldValue) (kept : List ℕ) → (world_with value).types ≡ types_in (left (world_with value) kept) → Holds (world_with value) → IsSoundDisk (left (world_with value) kept)
-sound_disk value kept own h =
-    let image = left (world_with value) kept in
-    record { built_ins = subst HasBuiltIns own h.state.built_ins; sound = subst (λ T. IsSound T (length image) (block_of image)) own (crash_sound (world_with value) h kept) }
 
 -- of a disk at rest that is its image
 pub rests_left : (image : List (List ℕ)) (kept : List ℕ) → left (world_with (down_value image)) kept ≡ image
@@ -69,6 +55,7 @@ rests_left image kept = ext_get_or [] (left (world_with (down_value image)) kept
 -- while a world is down nothing is done
 pub down_stays : (blocks : List (List ℕ)) (e : Event) → IsNoCrash e → model.Step (world_with (down_value blocks)) (event_of e) Down (world_with (down_value blocks))
 down_stays blocks (event.Call fs call) other = inl (refl, refl)
+down_stays blocks (event.Install bytes) other = inl (refl, refl)
 down_stays blocks (event.Begin b) other = inl (refl, refl)
 down_stays blocks (event.Land b) other = inl (refl, refl)
 down_stays blocks (event.Fail b stays) other = inl (refl, refl)

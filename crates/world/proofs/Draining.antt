@@ -18,7 +18,7 @@ use Rattle.xn_model.specs.Worlds.{World, Reply, Client, Drained, Refused, write_
 use Rattle.xn_model.specs.Rules.{Holds, IsIdle}
 use Rattle.xn_model.proofs.ForCallers.{picked_life, wrote_out, none_picked, begun_keeps, write_out_keeps}
 use Rattle.xn_model.proofs.ForCallers as lemmas
-use Rattle.xn_state.specs.States.{types_in}
+use Rattle.xn_state.specs.States.{own_types}
 use Rattle.xn_kernel.specs.Kernels.{KernelValue, TicketValue}
 use Rattle.xn_kernel.specs.Drains.{with_home, Round, Rounds, Unwritten, Unsynced, Unread, Refuses}
 use Rattle.xn_kernel.proofs.ForCallers.{set_twice}
@@ -85,8 +85,8 @@ module _ (kernel : KernelValue MemoryLane) (tickets : Tickets) (is : IsWorld ker
 
   finished_is_world : IsWorld finished tickets
   finished_is_world =
-      let T = types_in kernel.state in
-      let store = kernel.state.store in
+      let T = own_types kernel.state in
+      let store = kernel.state in
       let picked = picked_life store b r.written.picked in
       let begins = begun_keeps T store is.holds.state b (r.ticket.bytes, r.ticket.count) r.begun r.written.begins in
       let started = lemmas.flights_begun store r.begun b (r.ticket.bytes, r.ticket.count) r.written.begins in
@@ -131,11 +131,11 @@ module _ (tickets : Tickets) (next : KernelValue MemoryLane) where
   none_left zero writes w none = refl
   none_left (suc fuel) writes w none = ap (λ o. elim o as (λ _. ℕ × World) [ None ↦ (writes, w) | Some b ↦ drain_for fuel (writes + 1) (write_out w b) ]) none
 
-  rounds_drain : (n fuel writes : ℕ) (kernel : KernelValue MemoryLane) → IsWorld kernel tickets → Rounds bytes faults memory_write memory_sync memory_read n kernel next → n ≤ fuel → pick_of next.state.store ≡ None →
+  rounds_drain : (n fuel writes : ℕ) (kernel : KernelValue MemoryLane) → IsWorld kernel tickets → Rounds bytes faults memory_write memory_sync memory_read n kernel next → n ≤ fuel → pick_of next.state ≡ None →
       drain_for fuel writes (world_of kernel tickets) ≡ (writes + n, world_of next tickets)
   rounds_drain zero fuel writes kernel is e le none =
       let same : writes + 0 ≡ writes = omega arith in
-      none_left fuel writes (world_of kernel tickets) (ap (λ (k : KernelValue MemoryLane). pick_of k.state.store) (sym e) ∙ none)
+      none_left fuel writes (world_of kernel tickets) (ap (λ (k : KernelValue MemoryLane). pick_of k.state) (sym e) ∙ none)
       ∙ (λ i. (sym same i, world_of (sym e i) tickets))
   rounds_drain (suc n) zero writes kernel is rounds le none = absurd (omega arith)
   rounds_drain (suc n) (suc fuel) writes kernel is rounds le none =
@@ -157,15 +157,15 @@ module _ (kernel : KernelValue MemoryLane) (tickets : Tickets) (is : IsWorld ker
   told reply after acts = inl (sym (ap (λ (x : Reply × World). x.0) acts), sym (ap (λ (x : Reply × World). x.1) acts))
 
   -- what a drain says of the number of its writes
-  pub drain_step : (n : ℕ) → Rounds bytes faults memory_write memory_sync memory_read n kernel next → IsIdle kernel.state.store.lives → all_pending next.state.store.lives ≡ 0 → n ≤ all_pending kernel.state.store.lives →
+  pub drain_step : (n : ℕ) → Rounds bytes faults memory_write memory_sync memory_read n kernel next → IsIdle kernel.state.lives → all_pending next.state.lives ≡ 0 → n ≤ all_pending kernel.state.lives →
       Step (world_of kernel tickets) (Client fs model.Drain) (Drained n) (world_of next tickets)
   drain_step n rounds idle done few =
       let w = world_of kernel tickets in
-      let fuel = all_pending kernel.state.store.lives in
+      let fuel = all_pending kernel.state.lives in
       let all : 0 + n ≡ n = omega arith in
       told (Drained n) (world_of next tickets)
-      (ap (λ t. cond {A = Reply × World} t (Refused InFlight, w) (let r = drain_for fuel 0 w in (Drained r.0, r.1))) (none_begun kernel.state.store.lives idle)
-      ∙ (ap (λ (r : ℕ × World). (Drained r.0, r.1)) (rounds_drain tickets next n fuel 0 kernel is rounds few (none_picked next.state.store done)) ∙ ap {A = ℕ} (λ m. (Drained m, world_of next tickets)) all))
+      (ap (λ t. cond {A = Reply × World} t (Refused InFlight, w) (let r = drain_for fuel 0 w in (Drained r.0, r.1))) (none_begun kernel.state.lives idle)
+      ∙ (ap (λ (r : ℕ × World). (Drained r.0, r.1)) (rounds_drain tickets next n fuel 0 kernel is rounds few (none_picked next.state done)) ∙ ap {A = ℕ} (λ m. (Drained m, world_of next tickets)) all))
 
   never_unwritten : (mid : KernelValue MemoryLane) → IsWorld mid tickets → Unwritten bytes faults memory_write memory_sync memory_read mid next → ⊥
   never_unwritten mid mid_is u = false≢true (ap is_some (sym (mid_is.calm u.ticket.block u.written.home u.written.taken).0.0) ∙ u.written.gives.0)
@@ -187,7 +187,7 @@ module _ (kernel : KernelValue MemoryLane) (tickets : Tickets) (is : IsWorld ker
       (ticket ≡ None) × Step (world_of kernel tickets) (Client fs model.Drain) (Refused refusal) (world_of next tickets) × IsWorld next tickets
   drain_refused n ticket refusal (inl h) =
       let w = world_of kernel tickets in
-      let fuel = all_pending kernel.state.store.lives in (
+      let fuel = all_pending kernel.state.lives in (
         h.2,
         told (Refused refusal) (world_of next tickets)
             (ap (λ t. cond {A = Reply × World} t (Refused InFlight, w) (let r = drain_for fuel 0 w in (Drained r.0, r.1))) h.0

@@ -1,22 +1,20 @@
--- The image of a fresh disk is sound, and its table is that of its templates.
+-- The image of a fresh disk is sound.
 use Rattle.std.proofs.Common.{◌≡◌, ◌≤◌, ℕ, List, length, sym, ◌∙◌, ap, arith, subst, Bool, true, false, ◌&&◌, Some, None, refl, Err}
 use Rattle.std.specs.Prelude.{All, nat_le, if◌then◌else◌}
 use Rattle.std.proofs.lemmas.Bool.{leb-true}
 use Rattle.std.proofs.lemmas.Option.{none-some}
-use Rattle.xn_model.specs.Root.{HasBuiltIns}
 use Rattle.xn_model.specs.Images.{IsDiskSize, IsSound, block_of, blocks_in, joined}
 use Rattle.xn_model.specs.BareDisks.{mounted_disk}
 use Rattle.xn_model.specs.Worlds.{World}
-use Rattle.xn_model.proofs.ForCallers.{blocks_read, length-joined}
+use Rattle.xn_model.proofs.ForCallers.{blocks_read, built_ins_in, length-joined, world_sound}
 use Rattle.image_model.specs.Walk.{verdict}
 use Rattle.image_model.specs.declared.fault.ImageFault.{ImageFault}
 use Rattle.image_model.proofs.ForCallers.{verdict-unsound}
 use Rattle.templates.specs.declared.fault.FormatFault.TheVariants.{BadCount, TooManyTemplates}
 use Rattle.templates.specs.Templates.{TemplateValue, IsTemplate}
-use Rattle.templates.specs.Tables.{types_of}
-use Rattle.templates.specs.Formats.{formatted, format_fault, table_of}
-use Rattle.templates.proofs.ForCallers.{formatted_has_its_blocks, formatted_has_its_templates, formatted_holds, formatted_is_sound}
-use Rattle.crash_check.specs.Answers.{types_in}
+use Rattle.templates.specs.Formats.{formatted, format_fault}
+use Rattle.templates.proofs.ForCallers.{formatted_has_its_blocks, formatted_holds}
+use Rattle.templates.specs.Language.{language, types_of_image}
 use Rattle.world.proofs.Openings.{whole_image}
 
 -- a disk and templates of which formatting has no fault
@@ -42,19 +40,14 @@ module _ (count : ℕ) (ts : List TemplateValue) (none : format_fault count (len
   blocks_are : blocks_in image ≡ formatted count ts
   blocks_are = ap blocks_in is ∙ blocks_read (formatted count ts) long.1
 
-  types_are : types_in (blocks_in image) ≡ types_of (table_of ts)
-  types_are = ap types_in blocks_are ∙ ap types_of (formatted_has_its_templates count ts size few all)
+  pub fresh_world : (w : World) → w ≡ mounted_disk language (blocks_in image) → w ≡ mounted_disk language (formatted count ts)
+  fresh_world w e = e ∙ ap (mounted_disk language) blocks_are
 
-  pub fresh_world : (w : World) → w ≡ mounted_disk (types_in (blocks_in image)) (blocks_in image) → w ≡ mounted_disk (types_of (table_of ts)) (formatted count ts)
-  fresh_world w e = e ∙ (λ i. mounted_disk (types_are i) (blocks_are i))
+  sound : IsSound (types_of_image (blocks_in image)) (length (blocks_in image)) (block_of (blocks_in image))
+  sound = subst (λ bs. IsSound (types_of_image bs) (length bs) (block_of bs)) (sym blocks_are)
+      (world_sound (mounted_disk language (formatted count ts)) (formatted_holds count ts size few all))
 
-  sound : IsSound (types_in (blocks_in image)) (length (blocks_in image)) (block_of (blocks_in image))
-  sound = subst (λ T. IsSound T (length (blocks_in image)) (block_of (blocks_in image))) (sym types_are)
-      (subst (λ bs. IsSound (types_of (table_of ts)) (length bs) (block_of bs)) (sym blocks_are)
-      (subst (λ n. IsSound (types_of (table_of ts)) n (block_of (formatted count ts))) (sym long.0) (formatted_is_sound count ts size few all)))
-
-  pub never_faulty : (fault : ImageFault) → verdict (types_in (blocks_in image)) image ≡ Err fault → ⊥
+  pub never_faulty : (fault : ImageFault) → verdict (types_of_image (blocks_in image)) image ≡ Err fault → ⊥
   never_faulty fault e =
       let bytes = ap length is ∙ length-joined (formatted count ts) long.1 in
-      verdict-unsound (types_in (blocks_in image)) (subst HasBuiltIns (sym types_are) (formatted_holds count ts size few all).state.built_ins) image fault e
-      (whole_image image (omega arith) sound)
+      verdict-unsound (types_of_image (blocks_in image)) (built_ins_in language (block_of (blocks_in image))) image fault e (whole_image image (omega arith) sound)

@@ -8,7 +8,6 @@ pub mod Draining
 pub mod Views
 pub mod Tellings
 -- mounts
-pub mod Catalogues
 pub mod Returns
 pub mod Crashing
 pub mod Openings

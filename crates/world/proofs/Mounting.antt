@@ -10,22 +10,20 @@ use Rattle.disk.specs.declared.lane.DeviceFault.{DeviceFault}
 use Rattle.disk.specs.Lanes.{AreSynced}
 use Rattle.disk.specs.Mem.{MemoryLane, memory_leaves, memory_read, memory_sync, synced}
 use Rattle.xn_model.specs.Types.{Types}
-use Rattle.xn_model.specs.Root.{HasBuiltIns}
 use Rattle.xn_model.specs.Images.{block_of, blocks_in, joined, IsSound}
-use Rattle.xn_model.specs.Lives.{Life, Lives, life_at}
+use Rattle.xn_model.specs.Lives.{Life, Lives, StoreState, life_at}
 use Rattle.xn_model.specs.Lanes.{FitLives, HoldImage}
 use Rattle.xn_model.specs.Flights.{flight_of}
 use Rattle.xn_model.specs.Mounts.{IsRecovered, recovered}
 use Rattle.xn_model.specs.BareDisks.{mounted_disk}
 use Rattle.xn_model.specs.Rules.{Holds}
-use Rattle.xn_model.proofs.ForCallers.{blocks_read, length-joined, lanes_mounted, mount_holds, recovered_is}
+use Rattle.xn_model.proofs.ForCallers.{blocks_read, built_ins_in, length-joined, lanes_mounted, mount_holds, recovered_is}
 use Rattle.image_model.specs.Walk.{verdict}
 use Rattle.image_model.specs.declared.fault.ImageFault.{ImageFault}
 use Rattle.image_model.specs.declared.fault.ImageFault.TheVariants.{NoMemory}
 use Rattle.image_model.proofs.ForCallers.{verdict-unsound}
-use Rattle.xn_state.specs.States.{StateValue}
 use Rattle.xn_kernel.specs.Kernels.{KernelValue, TicketValue}
-use Rattle.crash_check.specs.Answers.{types_in}
+use Rattle.templates.specs.Language.{language, types_of_image}
 use Rattle.crash_check.specs.Reads.{Turn, IsTurn, IsTurnOf, is_failure, has_failed, is_missing, image_in}
 use Rattle.crash_check.specs.Mounts.{IsFault, IsMounted, IsMountFault, kernel_of, state_of}
 use Rattle.world.specs.Disks.{image_of, settled_image, given_to, ticket_at, IsCalm, IsAtRest, IsResting, IsUnmounted}
@@ -128,16 +126,19 @@ no_flight T image lives is b = go (life_at lives b) refl
         idle : (l : Life) → l.begun ≡ None → flight_of (Some l) ≡ None
         idle l e = ap (λ k. flight_of (Some (record l { begun = k }))) e
 
--- a mount of a sound disk begins with the rules
-pub mounted_holds : (image : List (List ℕ)) → HasBuiltIns (types_in image) → IsSound (types_in image) (length image) (block_of image) → Holds (mounted_disk (types_in image) image)
-mounted_holds image built sound = mount_holds (mounted_disk (types_in image) image) built sound (recovered (types_in image) image) (recovered_is (types_in image) built image sound)
+-- the lives of a mount of a sound disk, which begins with the rules
+pub sound_recovers : (image : List (List ℕ)) → IsSound (types_of_image image) (length image) (block_of image) → IsRecovered (types_of_image image) image (recovered (types_of_image image) image)
+sound_recovers image sound = recovered_is (types_of_image image) (built_ins_in language (block_of image)) image sound
+
+pub mounted_holds : (image : List (List ℕ)) → IsSound (types_of_image image) (length image) (block_of image) → Holds (mounted_disk language image)
+mounted_holds image sound = mount_holds (mounted_disk language image) sound (recovered (types_of_image image) image) (sound_recovers image sound)
 
 module _ (lanes : Lanes) (tickets : Tickets) (is : IsUnmounted lanes tickets) where
   abbrev image : List (List ℕ)
   image = image_of lanes tickets
 
   abbrev T : Types
-  T = types_in image
+  T = types_of_image image
 
   image_is : image_in bytes lanes ≡ image
   image_is = all_held lanes is.home ∙ ap (image_of lanes) (sym is.empty)
@@ -148,7 +149,7 @@ module _ (lanes : Lanes) (tickets : Tickets) (is : IsUnmounted lanes tickets) wh
   pub held_image : (bytes_of_disk : List ℕ) → image ≡ blocks_in bytes_of_disk → HoldImage bytes lanes (blocks_in bytes_of_disk)
   held_image bytes_of_disk given = subst (HoldImage bytes lanes) (image_is ∙ given) (hold_all lanes is.home)
 
-  module _ (built : HasBuiltIns T) (id : ℕ) where
+  module _ (id : ℕ) where
     abbrev start : KernelValue MemoryLane
     start = kernel_of id lanes image
 
@@ -157,9 +158,9 @@ module _ (lanes : Lanes) (tickets : Tickets) (is : IsUnmounted lanes tickets) wh
 
     started : IsSound T (length image) (block_of image) → IsWorld (kernel_of id lanes image) tickets
     started sound =
-        let found = recovered_is T built image sound in
+        let found = sound_recovers image sound in
         record {
-          holds = subst (λ v. Holds (world_with v)) (sym start_value) (mounted_holds image built sound);
+          holds = subst (λ v. Holds (world_with v)) (sym start_value) (mounted_holds image sound);
           fit = lanes_mounted bytes lanes T image (recovered T image) found (subst (HoldImage bytes lanes) image_is (hold_all lanes is.home));
           calm = calm_at lanes is.home;
           count = ap length is.empty ∙ length-replicate {A = Option (TicketValue MemoryLane)} (length lanes) None;
@@ -179,7 +180,7 @@ module _ (lanes : Lanes) (tickets : Tickets) (is : IsUnmounted lanes tickets) wh
       kernel_is = m.value ∙ (λ i. kernel_of id (lanes_stay i) (image_is i))
 
       pub mount_sound : IsSound T (length image) (block_of image)
-      mount_sound = subst (λ bs. IsSound T (length bs) (block_of bs)) blocks_are (subst (λ bs. IsSound (types_in bs) (length (blocks_in (joined bs))) (block_of (blocks_in (joined bs)))) image_is m.sound.blocks)
+      mount_sound = subst (λ bs. IsSound T (length bs) (block_of bs)) blocks_are (subst (λ bs. IsSound (types_of_image bs) (length (blocks_in (joined bs))) (block_of (blocks_in (joined bs)))) image_is m.sound.blocks)
 
       pub mount_world : IsWorld kernel tickets
       mount_world = subst (λ k. IsWorld k tickets) (sym kernel_is) (started mount_sound)
@@ -189,31 +190,27 @@ module _ (lanes : Lanes) (tickets : Tickets) (is : IsUnmounted lanes tickets) wh
 
   -- The kernel over what is known of its blocks
 
-  module _ (blocks : List (List ℕ)) (view : image ≡ blocks) (built : HasBuiltIns (types_in blocks)) (sound : IsSound (types_in blocks) (length blocks) (block_of blocks))
-      (state : StateValue) (known : state ≡ state_of blocks) where
-    built_here : HasBuiltIns T
-    built_here = subst (λ bs. HasBuiltIns (types_in bs)) (sym view) built
-
+  module _ (blocks : List (List ℕ)) (view : image ≡ blocks) (sound : IsSound (types_of_image blocks) (length blocks) (block_of blocks)) (state : StoreState) (known : state ≡ state_of blocks) where
     sound_here : IsSound T (length image) (block_of image)
-    sound_here = subst (λ bs. IsSound (types_in bs) (length bs) (block_of bs)) (sym view) sound
+    sound_here = subst (λ bs. IsSound (types_of_image bs) (length bs) (block_of bs)) (sym view) sound
 
     known_here : state ≡ state_of image
     known_here = known ∙ ap state_of (sym view)
 
-    pub known_fit : FitLives bytes lanes state.store.lives
+    pub known_fit : FitLives bytes lanes state.lives
     known_fit =
-        subst (λ (s : StateValue). FitLives bytes lanes s.store.lives) (sym known_here)
-        (lanes_mounted bytes lanes T image (recovered T image) (recovered_is T built_here image sound_here) (subst (HoldImage bytes lanes) image_is (hold_all lanes is.home)))
+        subst (λ (s : StoreState). FitLives bytes lanes s.lives) (sym known_here)
+        (lanes_mounted bytes lanes T image (recovered T image) (sound_recovers image sound_here) (subst (HoldImage bytes lanes) image_is (hold_all lanes is.home)))
 
     module _ (id : ℕ) (kernel : KernelValue MemoryLane) (k : kernel ≡ record { id = id; lanes = lanes; state = state }) where
       over_here : kernel ≡ kernel_of id lanes image
       over_here = k ∙ (λ i. record { id = id; lanes = lanes; state = known_here i })
 
       pub known_world : IsWorld kernel tickets
-      known_world = subst (λ k. IsWorld k tickets) (sym over_here) (started built_here id sound_here)
+      known_world = subst (λ k. IsWorld k tickets) (sym over_here) (started id sound_here)
 
       pub known_value : value_of kernel tickets ≡ mounted_value blocks
-      known_value = ap (λ k. value_of k tickets) over_here ∙ (start_value built_here id ∙ ap mounted_value view)
+      known_value = ap (λ k. value_of k tickets) over_here ∙ (start_value id ∙ ap mounted_value view)
 
   -- Its faults
 
@@ -224,7 +221,7 @@ module _ (lanes : Lanes) (tickets : Tickets) (is : IsUnmounted lanes tickets) wh
       | inr h ↦
           let calm = turns_calm h.0 h.1.each (subst (AllByRecursion IsResting) h.1.before is.home) in (
             h.1.after ∙ (calm.2 ∙ sym h.1.before),
-            subst (λ bs. (fault ≡ NoMemory) ⊎ (verdict (types_in bs) (joined bs) ≡ Err fault)) image_is
+            subst (λ bs. (fault ≡ NoMemory) ⊎ (verdict (types_of_image bs) (joined bs) ≡ Err fault)) image_is
                 (subst (λ failed. IsFault failed false (image_in bytes lanes) fault) calm.0 (subst (λ missing. IsFault (list_any has_failed h.0) missing (image_in bytes lanes) fault) calm.1 h.2)),
           )
     ]
@@ -238,8 +235,8 @@ module _ (lanes : Lanes) (tickets : Tickets) (is : IsUnmounted lanes tickets) wh
     pub back_fault : (fault ≡ NoMemory) ⊎ (verdict T (joined image) ≡ Err fault)
     back_fault = judged.1
 
-    pub back_memory : HasBuiltIns T → IsSound T (length image) (block_of image) → fault ≡ NoMemory
-    back_memory built sound = ⊎_elim (λ none. none) (λ e. absurd (verdict-unsound T built (joined image) fault e (record {
+    pub back_memory : IsSound T (length image) (block_of image) → fault ≡ NoMemory
+    back_memory sound = ⊎_elim (λ none. none) (λ e. absurd (verdict-unsound T (built_ins_in language (block_of image)) (joined image) fault e (record {
       whole = length-joined image is.long ∙ ap (λ bs. 512 * length bs) (sym blocks_are);
       blocks = subst (λ bs. IsSound T (length bs) (block_of bs)) (sym blocks_are) sound;
     }))) judged.1

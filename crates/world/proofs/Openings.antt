@@ -18,7 +18,7 @@ use Rattle.image_model.specs.Walk.{catalogue_fault, count_of, has_length, head_f
 use Rattle.image_model.specs.Walk.{block_at as block_at_image}
 use Rattle.image_model.specs.Report.{IsSoundImage}
 use Rattle.image_model.specs.declared.fault.ImageFault.TheVariants.{BadCount, BadLength, BadMark}
-use Rattle.crash_check.specs.Answers.{types_in}
+use Rattle.templates.specs.Language.{types_of_image}
 use Rattle.image_model.proofs.ForCallers.{length-blocks, block-long}
 use Rattle.world.specs.Disks.{image_of, IsResting, IsUnmounted}
 use Rattle.world.specs.Worlds.{Tickets}
@@ -117,5 +117,5 @@ bad_length T image bad =
     (or_fault (catalogue_fault T (count_of image) (block_at_image image)) (walk_all T (count_of image) (block_at_image image)))) (no_length image bad)
 
 -- a sound disk's bytes are a sound image
-pub whole_image : (image : List ℕ) → length image % 512 ≡ 0 → IsSound (types_in (blocks_in image)) (length (blocks_in image)) (block_of (blocks_in image)) → IsSoundImage (types_in (blocks_in image)) image
+pub whole_image : (image : List ℕ) → length image % 512 ≡ 0 → IsSound (types_of_image (blocks_in image)) (length (blocks_in image)) (block_of (blocks_in image)) → IsSoundImage (types_of_image (blocks_in image)) image
 whole_image image whole sound = record { whole = let n = length-blocks image in omega arith; blocks = sound }

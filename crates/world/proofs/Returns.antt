@@ -45,7 +45,7 @@ module _ (kernel : KernelValue MemoryLane) (tickets : Tickets) (is : IsWorld ker
       by : (b : ℕ) → b < length kernel.lanes → (o : Option MemoryLane) → lane_at kernel.lanes b ≡ o → (t : Option (TicketValue MemoryLane)) → ticket_at tickets b ≡ t → IsSomewhere b o t
       by b within (Some lane) e None f = (is.calm b lane (full_get kernel.lanes b lane e)).0
       by b within (Some lane) e (Some t) f =
-          let idle = home_idle lane (life_at kernel.state.store.lives b) (fits_at kernel.lanes kernel.state.store.lives b (Some lane) is.fit (full_get kernel.lanes b lane e)) in
+          let idle = home_idle lane (life_at kernel.state.lives b) (fits_at kernel.lanes kernel.state.lives b (Some lane) is.fit (full_get kernel.lanes b lane e)) in
           absurd (none-some (t.count, t.bytes) (sym idle ∙ (sym (is.flights b) ∙ ap ticket_flight f)))
       by b within None e None f = absurd (nowhere kernel tickets is b (let long = is.count in omega arith) e f)
       by b within None e (Some t) f = let m = is.mine b t f in (m.block_is, m.calm)

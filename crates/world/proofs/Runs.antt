@@ -4,7 +4,6 @@ use Rattle.std.proofs.lemmas.List.{take_more, map-append}
 use Rattle.xn_model.specs.Images.{block_of, IsSound}
 use Rattle.xn_model.specs.Worlds as model
 use Rattle.xn_model.specs.Worlds.{Run, Step}
-use Rattle.templates.specs.Tables.{types_of}
 use Rattle.xn_model.specs.Rules.{Holds, Agrees}
 use Rattle.xn_model.proofs.ForCallers.{left_agrees, left_sound}
 use Rattle.events.specs.declared.event.Event.{Event}
@@ -33,8 +32,8 @@ ran_more old mid after events at default replies new reply within more run step 
     (run_more (world_with old) (map event_of (take at events)) (map reply_of replies) (world_with mid) (event_of event) (reply_of reply) (world_with after) run step))
 
 -- what the rules say of every image that a crash may leave
-pub rules_agree : (value : WorldValue) → Holds (world_with value) → (image : List (List ℕ)) → model.MayLeave (world_with value) image → Agrees (types_of value.table) (length image) (block_of image) value.state.lives
+pub rules_agree : (value : WorldValue) → Holds (world_with value) → (image : List (List ℕ)) → model.MayLeave (world_with value) image → Agrees (model.types_on (world_with value) image) (length image) (block_of image) value.state.lives
 rules_agree value holds image may = left_agrees (world_with value) holds image may
 
-pub rules_sound : (value : WorldValue) → Holds (world_with value) → (image : List (List ℕ)) → model.MayLeave (world_with value) image → IsSound (types_of value.table) (length image) (block_of image)
+pub rules_sound : (value : WorldValue) → Holds (world_with value) → (image : List (List ℕ)) → model.MayLeave (world_with value) image → IsSound (model.types_on (world_with value) image) (length image) (block_of image)
 rules_sound value holds image may = left_sound (world_with value) holds image may

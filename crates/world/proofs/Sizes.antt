@@ -7,13 +7,9 @@ use Rattle.disk.specs.Mem.{MemoryLane}
 use Rattle.xn_model.specs.Lives.{Life, Lives, life_at}
 use Rattle.xn_model.specs.Worlds.{begun_count}
 use Rattle.xn_model.specs.Lanes.{FitsLife, FitLives}
-use Rattle.xn_model.specs.Images.{block_of}
-use Rattle.xn_state.specs.States.{types_in}
-use Rattle.xn_model.specs.Rules.{Agrees}
-use Rattle.xn_model.proofs.ForCallers.{agreement, left_placed}
 use Rattle.xn_kernel.specs.Kernels.{KernelValue}
 use Rattle.world.specs.Disks.{image_of, ticket_at}
-use Rattle.world.specs.Worlds.{Tickets, world_of, ticket_flight, IsWorld}
+use Rattle.world.specs.Worlds.{Tickets, ticket_flight, IsWorld}
 use Rattle.world.proofs.Images.{length-image_of}
 use Rattle.world.proofs.Places.{place_at, empty_get}
 use Rattle.world.proofs.Flights.{not_flying}
@@ -41,11 +37,7 @@ module _ (kernel : KernelValue MemoryLane) (tickets : Tickets) (is : IsWorld ker
   pub nowhere : (b : ℕ) → b < length tickets → place_at kernel.lanes b ≡ None → ticket_at tickets b ≡ None → ⊥
   nowhere b within home ticket =
       let count = is.count in
-      let life = away_life kernel.lanes kernel.state.store.lives b is.fit (empty_get kernel.lanes b home (omega arith)) in
-      let idle = not_flying (life_at kernel.state.store.lives b) (sym (is.flights b) ∙ ap ticket_flight ticket) in
+      let life = away_life kernel.lanes kernel.state.lives b is.fit (empty_get kernel.lanes b home (omega arith)) in
+      let idle = not_flying (life_at kernel.state.lives b) (sym (is.flights b) ∙ ap ticket_flight ticket) in
       let begun : life.0.begun ≡ None = sym (ap begun_count life.1) ∙ idle in
       false≢true (sym (ap is_some begun) ∙ life.2)
-
-  -- the image agrees with the lives
-  pub agrees : Agrees (types_in kernel.state) (length kernel.state.store.lives) (block_of (image_of kernel.lanes tickets)) kernel.state.store.lives
-  agrees = agreement (types_in kernel.state) kernel.state.store is.holds.state (block_of (image_of kernel.lanes tickets)) (left_placed (world_of kernel tickets) is.holds (image_of kernel.lanes tickets) is.holds.newest)

@@ -66,6 +66,7 @@ impl MountedDisk {
         self.rules();
         match event {
             Event::Call(fs, call) => self.call(*fs, call, reply),
+            Event::Install(template) => self.install(template, reply),
             Event::Begin(block) => self.begin(*block, reply),
             Event::Land(block) => self.land(*block, reply),
             Event::Fail(block, new_bytes_stay) => self.fail(*block, *new_bytes_stay, reply),

@@ -6,7 +6,7 @@ ghost use Rattle.xn_model.specs.Calls.{pending_of, floor_of, free_of, pick_of};
 ghost use Rattle.xn_model.specs.Worlds as model;
 ghost use Rattle.xn_model.specs.Rules.{Holds};
 ghost use Rattle.events.specs.Events.{event_of, reply_of, IsNoCrash};
-ghost use Rattle.world.specs.Worlds.{WorldValue, world_with, HasOwnTypes};
+ghost use Rattle.world.specs.Worlds.{WorldValue, world_with};
 
 use crate::mounted::MountedDisk;
 use crate::world::World;
@@ -26,13 +26,11 @@ pub struct Running {
 }
 
 impl Model for Running {
-    ghost use Rattle.world.specs.Worlds.{WorldValue, world_with, HasOwnTypes};
+    ghost use Rattle.world.specs.Worlds.{WorldValue};
 
     ghost Value = { WorldValue };
 
     ghost view = { λ a. a.disk };
-
-    ghost invariant = { λ a. HasOwnTypes (world_with a.disk) };
 }
 
 /// Written by hand, so that a function that drops one calls this: a derived drop is proved anew in each such function.
@@ -49,7 +47,6 @@ impl Drop for Running {
 impl Running {
     /// Of a mounted disk, with the number of its kernel.
     pub(crate) fn new(alloc: Global, kernel: u64, disk: MountedDisk) -> Running
-        requires { HasOwnTypes (world_with disk) }
         ensures { result ≡ disk }
     {
         Running {
@@ -127,31 +124,35 @@ impl Running {
 }
 
 impl Store for Running {
-    ghost use Rattle.templates.specs.Tables.{types_of};
+    ghost use Rattle.xn_state.specs.States.{own_types};
 
-    ghost types_of = { λ running. types_of running.table };
+    ghost types_of = { λ running. own_types running.state };
 
     ghost state_of = { λ running. running.state };
 
     fn init(&mut self, fs: Fs, ty: u32, bytes: &[u8; 512]) -> Result<(u32, EditId), Refusal> {
+        self.disk.rules();
         let made = self.disk.init(fs, ty, bytes);
         self.disk.rules();
         made
     }
 
     fn propose(&mut self, fs: Fs, block: u32, edit: &Edit) -> Result<EditId, Refusal> {
+        self.disk.rules();
         let made = self.disk.propose(fs, block, edit);
         self.disk.rules();
         made
     }
 
     fn make_root(&mut self, fs: Fs, block: u32) -> Result<EditId, Refusal> {
+        self.disk.rules();
         let made = self.disk.make_root(fs, block);
         self.disk.rules();
         made
     }
 
     fn forget(&mut self, fs: Fs, block: u32) -> Result<(), Refusal> {
+        self.disk.rules();
         let done = self.disk.forget(fs, block);
         self.disk.rules();
         done

@@ -2,12 +2,9 @@
 
 ghost use Rattle.std.specs.Prelude.{◌≡◌, ◌≢◌, ◌⊎◌, ◌*◌, ◌%◌, ◌^◌, ◌<◌, List, All, length, replicate, Some, None, Err, IfOk, IfErr, IfSome, slice_get, slice_set, option_map};
 ghost use Rattle.std.specs.List.{AllByRecursion};
-ghost use Rattle.xn_model.specs.Root.{HasBuiltIns};
 ghost use Rattle.xn_model.specs.Images.{block_of, blocks_in, joined, IsSound};
 ghost use Rattle.image_model.specs.Walk.{verdict};
-ghost use Rattle.xn_model.specs.Rules.{IsConsistent};
-ghost use Rattle.templates.specs.Tables.{types_of};
-ghost use Rattle.crash_check.specs.Answers.{types_in};
+ghost use Rattle.templates.specs.Language.{types_of_image};
 ghost use Rattle.crash_check.specs.Mounts.{state_of};
 ghost use Rattle.disk.specs.Mem.{crashed};
 ghost use Rattle.world.specs.Disks.{image_of, settled_image, given_to, lane_at, lanes_with, AreLong, AreWhole, HaveCrashed, IsHome, IsLong, IsUnmounted};
@@ -79,12 +76,11 @@ impl UnmountedDisk {
         alloc: Global,
         id: u64,
     ) -> Result<MountedDisk, (ImageFault, UnmountedDisk)>
-        requires { HasBuiltIns (types_in self) }
         ensures ok { IfOk result (λ disk. disk ≡ mounted_value self) }
-        ensures sound { IfOk result (λ disk. IsSound (types_in self) (length self) (block_of self)) }
+        ensures sound { IfOk result (λ disk. IsSound (types_of_image self) (length self) (block_of self)) }
         ensures back { IfErr result (λ back. back.1 ≡ self) }
-        ensures fault { IfErr result (λ back. (back.0 ≡ ImageFault.NoMemory) ⊎ (verdict (types_in self) (joined self) ≡ Err back.0)) }
-        ensures memory { IfErr result (λ back. IsSound (types_in self) (length self) (block_of self) → back.0 ≡ ImageFault.NoMemory) }
+        ensures fault { IfErr result (λ back. (back.0 ≡ ImageFault.NoMemory) ⊎ (verdict (types_of_image self) (joined self) ≡ Err back.0)) }
+        ensures memory { IfErr result (λ back. IsSound (types_of_image self) (length self) (block_of self) → back.0 ≡ ImageFault.NoMemory) }
     {
         let UnmountedDisk { lanes, tickets } = self;
         match mount(rt, alloc, lanes, id) {
@@ -95,9 +91,7 @@ impl UnmountedDisk {
 
     /// Mounts the disk, which is sound and of which all is known, by a kernel of this number: no lane is read.
     pub fn mount_known(self, id: u64, state: State) -> MountedDisk
-        requires built_ins { HasBuiltIns (types_in self) }
-        requires sound { IsSound (types_in self) (length self) (block_of self) }
-        requires rules { IsConsistent (types_of state.table) state.store }
+        requires sound { IsSound (types_of_image self) (length self) (block_of self) }
         requires known { state ≡ state_of self }
         ensures { result ≡ mounted_value self }
     {
@@ -209,7 +203,7 @@ fn crash_lane(lanes: &mut Lanes<MemLane>, block: u32, kept: bool)
 }
 
 /// A block has 512 bytes.
-fn is_whole(bytes: &[u8; BLOCK_LEN])
+pub fn is_whole(bytes: &[u8; BLOCK_LEN])
     ensures { length bytes.now ≡ 512 }
 {
     let _length = bytes.len();

@@ -3,7 +3,6 @@
 ghost use Rattle.std.specs.Prelude.{◌≡◌, ◌≢◌, ◌⊎◌, ℕ, ◌<◌, List, All, length, map, Err, IfOk, IfErr, MatchResult, IsTrue, true, false};
 ghost use Rattle.xn_model.specs.Images.{block_of, blocks_in, joined, IsSound};
 ghost use Rattle.xn_model.specs.BareDisks.{mounted_disk};
-ghost use Rattle.xn_model.specs.Root.{HasBuiltIns};
 ghost use Rattle.xn_model.specs.Worlds as model;
 ghost use Rattle.xn_model.specs.Rules.{Holds, Agrees};
 ghost use Rattle.xn_history.specs.Histories.{Histories};
@@ -14,16 +13,15 @@ ghost use Rattle.image_model.specs.Report.{IsSoundImage};
 ghost use Rattle.ffs_model.specs.Cuts.{Choice, IsCut, IsCutImage, SameUnder, seen};
 ghost use Rattle.ffs_model.specs.Events.{IsForeign};
 ghost use Rattle.templates.specs.Templates.{IsTemplate};
-ghost use Rattle.templates.specs.Tables.{table_of_image, types_of};
-ghost use Rattle.templates.specs.Formats.{formatted, format_fault, table_of, IsFormatFault};
-ghost use Rattle.crash_check.specs.Answers.{types_in};
+ghost use Rattle.templates.specs.Formats.{formatted, format_fault, IsFormatFault};
+ghost use Rattle.templates.specs.Language.{language, types_of_image};
 ghost use Rattle.xn_kernel.specs.Kernels.{is_in_flight};
 ghost use Rattle.events.specs.Events.{event_of, reply_of, IsNoCrash};
-ghost use Rattle.world.specs.Worlds.{is_any_in_flight, world_with, world_value, HasOwnTypes, IsSoundDisk, IsWorldOf};
+ghost use Rattle.world.specs.Worlds.{is_any_in_flight, world_with, world_value, IsSoundDisk, IsWorldOf};
 
 use crate::mounted::MountedDisk;
 use crate::running::Running;
-use crate::unmounted::UnmountedDisk;
+use crate::unmounted::{UnmountedDisk, is_whole};
 use crash_check::{ImageFault, state_of};
 use events::{Event, Reply};
 use ffs_model::{events_keep_cuts, image_is_cut};
@@ -78,7 +76,7 @@ impl World {
     ) -> Result<World, FormatFault>
         ensures { MatchResult result
             (λ world. (format_fault blocks (length templates.now) ≡ None)
-            × (world_with world ≡ mounted_disk (types_of (table_of templates.now)) (formatted blocks templates.now)))
+            × (world_with world ≡ mounted_disk language (formatted blocks templates.now)))
             (IsFormatFault blocks (length templates.now)) }
     {
         are_templates(templates);
@@ -96,10 +94,9 @@ impl World {
         alloc: Global,
         image: &[u8],
     ) -> Result<World, ImageFault>
-        ensures ok { IfOk result (λ world. IsSoundImage (types_in (blocks_in image.now)) image.now
-            × (world_with world ≡ mounted_disk (types_in (blocks_in image.now)) (blocks_in image.now))) }
-        ensures table { IfOk result (λ world. world.table ≡ table_of_image (block_of (blocks_in image.now))) }
-        ensures err { IfErr result (λ fault. (fault ≡ ImageFault.NoMemory) ⊎ (verdict (types_in (blocks_in image.now)) image.now ≡ Err fault)) }
+        ensures ok { IfOk result (λ world. IsSoundImage (types_of_image (blocks_in image.now)) image.now
+            × (world_with world ≡ mounted_disk language (blocks_in image.now))) }
+        ensures err { IfErr result (λ fault. (fault ≡ ImageFault.NoMemory) ⊎ (verdict (types_of_image (blocks_in image.now)) image.now ≡ Err fault)) }
     {
         match Vec::from_slice(alloc, image) {
             Ok(image) => World::open_image(rt, alloc, image),
@@ -113,12 +110,10 @@ impl World {
         alloc: Global,
         image: Vec<u8>,
     ) -> Result<World, ImageFault>
-        ensures ok { IfOk result (λ world. IsSoundImage (types_in (blocks_in image.items)) image.items
-            × (world_with world ≡ mounted_disk (types_in (blocks_in image.items)) (blocks_in image.items))) }
-        ensures table { IfOk result (λ world. world.table ≡ table_of_image (block_of (blocks_in image.items))) }
-        ensures err { IfErr result (λ fault. (fault ≡ ImageFault.NoMemory) ⊎ (verdict (types_in (blocks_in image.items)) image.items ≡ Err fault)) }
+        ensures ok { IfOk result (λ world. IsSoundImage (types_of_image (blocks_in image.items)) image.items
+            × (world_with world ≡ mounted_disk language (blocks_in image.items))) }
+        ensures err { IfErr result (λ fault. (fault ≡ ImageFault.NoMemory) ⊎ (verdict (types_of_image (blocks_in image.items)) image.items ≡ Err fault)) }
     {
-        has_built_ins(&image);
         let state = state_of(rt, alloc, &image)?;
         match UnmountedDisk::of_image(alloc, image) {
             Ok(disk) => Ok(World::mounted(alloc, 1, disk.mount_known(1, state))),
@@ -135,12 +130,14 @@ impl World {
         ensures step { model.Step (world_with self.old) (event_of event.now) (reply_of result) (world_with self.new) }
         ensures rules { Holds (world_with self.new) }
         ensures agrees { (image : List (List ℕ)) → model.MayLeave (world_with self.new) image →
-            Agrees (types_of self.new.table) (length image) (block_of image) self.new.state.lives }
+            Agrees (model.types_on (world_with self.new) image) (length image) (block_of image) self.new.state.lives }
         ensures cuts { (fs : ℕ) → fs < 32 → IsForeign fs (event_of event.now) → (k : Choice) → IsCut self.new.state.lives k →
-            (j : Choice) × IsCut self.old.state.lives j × SameUnder (types_of self.old.table) (seen self.new.state.lives k) (seen self.old.state.lives j) fs }
+            (j : Choice) × IsCut self.old.state.lives j
+            × SameUnder (model.types_now (world_with self.old)) (seen self.new.state.lives k) (seen self.old.state.lives j) fs
+            × SameUnder (model.types_now (world_with self.new)) (seen self.new.state.lives k) (seen self.old.state.lives j) fs }
         ensures images { (image : List (List ℕ)) → model.MayLeave (world_with self.new) image → (fs : ℕ) → fs < 32 →
             (k : Choice) × IsCut self.new.state.lives k × IsCutImage self.new.state.lives k (block_of image) ×
-            SameUnder (types_of self.new.table) (seen self.new.state.lives k) (block_of image) fs }
+            SameUnder (model.types_now (world_with self.new)) (seen self.new.state.lives k) (block_of image) fs }
     {
         let mut reply = Reply::Down;
         self.step_into(rt, event, &mut reply);
@@ -153,14 +150,17 @@ impl World {
         ensures step { model.Step (world_with self.old) (event_of event.now) (reply_of reply.new) (world_with self.new) }
         ensures rules { Holds (world_with self.new) }
         ensures agrees { (image : List (List ℕ)) → model.MayLeave (world_with self.new) image →
-            Agrees (types_of self.new.table) (length image) (block_of image) self.new.state.lives }
+            Agrees (model.types_on (world_with self.new) image) (length image) (block_of image) self.new.state.lives }
         ensures cuts { (fs : ℕ) → fs < 32 → IsForeign fs (event_of event.now) → (k : Choice) → IsCut self.new.state.lives k →
-            (j : Choice) × IsCut self.old.state.lives j × SameUnder (types_of self.old.table) (seen self.new.state.lives k) (seen self.old.state.lives j) fs }
+            (j : Choice) × IsCut self.old.state.lives j
+            × SameUnder (model.types_now (world_with self.old)) (seen self.new.state.lives k) (seen self.old.state.lives j) fs
+            × SameUnder (model.types_now (world_with self.new)) (seen self.new.state.lives k) (seen self.old.state.lives j) fs }
         ensures images { (image : List (List ℕ)) → model.MayLeave (world_with self.new) image → (fs : ℕ) → fs < 32 →
             (k : Choice) × IsCut self.new.state.lives k × IsCutImage self.new.state.lives k (block_of image) ×
-            SameUnder (types_of self.new.table) (seen self.new.state.lives k) (block_of image) fs }
+            SameUnder (model.types_now (world_with self.new)) (seen self.new.state.lives k) (block_of image) fs }
     {
         self.rules();
+        is_event(event);
         events_keep_cuts();
         image_is_cut();
         self.take(rt, event, reply);
@@ -179,13 +179,14 @@ impl World {
         ensures kept { IfErr result (λ error. self.new ≡ self.old) }
         ensures rules { Holds (world_with self.new) }
         ensures agrees { (image : List (List ℕ)) → model.MayLeave (world_with self.new) image →
-            Agrees (types_of self.new.table) (length image) (block_of image) self.new.state.lives }
-        ensures sound { (image : List (List ℕ)) → model.MayLeave (world_with self.new) image → IsSound (types_of self.new.table) (length image) (block_of image) }
+            Agrees (model.types_on (world_with self.new) image) (length image) (block_of image) self.new.state.lives }
+        ensures sound { (image : List (List ℕ)) → model.MayLeave (world_with self.new) image → IsSound (model.types_on (world_with self.new) image) (length image) (block_of image) }
         ensures told { IfOk result (λ replies. (hs : Histories) → IsMoment (world_with self.old) hs → (hs' : Histories) × IsMoment (world_with self.new) hs' ×
             RunWhere Anything (world_with self.old) hs (map event_of events.now) (map reply_of replies.items) (world_with self.new) hs' ×
-            ((image : List (List ℕ)) → model.MayLeave (world_with self.new) image → ImageHolds (types_of self.new.table) image hs')) }
+            ((image : List (List ℕ)) → model.MayLeave (world_with self.new) image → ImageHolds (world_with self.new) image hs')) }
     {
         self.rules();
+        are_events(events);
         // The prover looks for the types within a reply among those that this function names.
         let _types: Option<(Answer, EditId, Landed, Refusal, Stopped)> = None;
         let mut replies = Vec::with_capacity(self.alloc(), events.len())?;
@@ -290,7 +291,6 @@ impl World {
 
     /// The world of a mounted disk, with the number of its kernel.
     pub(crate) fn mounted(alloc: Global, kernel: u64, disk: MountedDisk) -> World
-        requires { HasOwnTypes (world_with disk) }
         ensures { result ≡ disk }
     {
         World {
@@ -309,6 +309,7 @@ impl World {
         match event {
             Event::Crash(kept) => self.crash_into(rt, kept, reply),
             Event::Call(_, _)
+            | Event::Install(_)
             | Event::Begin(_)
             | Event::Land(_)
             | Event::Fail(_, _)
@@ -383,19 +384,30 @@ fn want_of_memory(_fault: ImageFault) -> FormatFault
     FormatFault::NoMemory
 }
 
-/// The types of an image's own catalogue have the built-in ones. This does nothing.
-fn has_built_ins(image: &[u8])
-    ensures { HasBuiltIns (types_in (blocks_in image.now)) }
-{
-    let _length = image.len();
-}
-
 /// Each template is one.
 fn are_templates(templates: &[Template])
     ensures { All IsTemplate templates.now }
 {
     for at in 0..templates.len() {
         let _owns = templates[at].owns();
+    }
+}
+
+/// An event's template is a block.
+fn is_event(event: &Event)
+    ensures { model.IsEvent (event_of event.now) }
+{
+    if let Event::Install(template) = event {
+        is_whole(template);
+    }
+}
+
+/// Each event is one.
+fn are_events(events: &[Event])
+    ensures { All (λ e. model.IsEvent (event_of e)) events.now }
+{
+    for at in 0..events.len() {
+        is_event(&events[at]);
     }
 }
 
@@ -407,7 +419,6 @@ fn taken(
 ) -> UnmountedDisk
     requires { IsWorldOf mounted unmounted }
     ensures image { result ≡ model.left (world_with (world_value mounted unmounted)) kept.now }
-    ensures types { (world_with (world_value mounted unmounted)).types ≡ types_in result }
     ensures sound { IsSoundDisk result }
 {
     match mounted {

@@ -44,7 +44,7 @@ module _ (T : Types) (old : Lives) (hs : Histories) (known : AreHistoriesOf old 
     | inl here ↦
         let t = eq-eqb c b here in
         subst (λ h. Turn T s.entry drops (Some b ≡ Some c) (Some l) (Some x) (accepted b s c l) h) (ap (λ t. cond t (option_map (accepting s) (Some x)) (Some x)) (sym t))
-        (turn.accepts T s.entry drops (Some b ≡ Some c) l (accepted b s c l) x s m refl refl (ap (λ t. cond t (l.pending ++ s ∷ []) l.pending) t) refl refl (ap Some (sym here))
+        (turn.accepts T s.entry drops (Some b ≡ Some c) l (accepted b s c l) x s m refl refl (ap (λ t. cond t (l.pending ++ s ∷ []) l.pending) t) refl (omega arith) (ap Some (sym here))
         (keeps l x (ap (life_at old) (sym here) ∙ e) (ap hs (sym here) ∙ f) m))
     | inr other ↦
         let t = ne_eqb c b other in
@@ -64,7 +64,7 @@ module _ (T : Types) (old : Lives) (hs : Histories) (known : AreHistoriesOf old 
 
 module _ (T : Types) (state new : StoreState) (h : IsConsistent T state) (hs : Histories) (known : AreHistoriesOf state.lives hs) where
   -- what a newest state names, and does not drop, the next one names
-  keeps_by : (l : Life) (x : History) (s : BlockState) (drops : List ℕ) → IsHistoryOf l x →
+  pub keeps_by : (l : Life) (x : History) (s : BlockState) (drops : List ℕ) → IsHistoryOf l x →
       ((d u : ℕ) → Contains (T.owned l.ty (current l)) (d, u) → (Contains drops d → ⊥) → Contains (T.owned l.ty s.bytes) (d, u)) → Keeps T drops x s
   keeps_by l x s drops m stay d u names out =
       let before : Contains (T.owned l.ty (current l)) (d, u) = subst (λ t. Contains (T.owned t (current l)) (d, u)) m.ty (subst (λ bytes. Contains (T.owned x.ty bytes) (d, u)) (sym (current_is l x m)) names) in
@@ -111,7 +111,7 @@ module _ (T : Types) (state new : StoreState) (h : IsConsistent T state) (hs : H
   root_is : root_now state ≡ current h.lives_sound.root.life
   root_is = ap life_bytes h.lives_sound.root.alive
 
-  root_long : length (root_now state) ≡ 512
+  pub root_long : length (root_now state) ≡ 512
   root_long =
       let r = h.lives_sound.root in
       let linked = h.linked 0 r.life r.alive in
@@ -185,12 +185,12 @@ module _ (T : Types) (state new : StoreState) (h : IsConsistent T state) (hs : H
 
 -- A life begins
 
-starts : (T : Types) (state : StoreState) (hs : Histories) → AreHistoriesOf state.lives hs → (b entry fs t : ℕ) (m : List ℕ) → b < length state.lives → life_at state.lives b ≡ None → entry ≡ state.next →
-    Turns T state.next [] None state.lives hs (slice_set state.lives b (Some (new_life state.next fs t m))) (start_in hs b (record { fs = Some fs; ty = t; told = []; untold = first_state entry fs m ∷ [] }))
+pub starts : (T : Types) (state : StoreState) (hs : Histories) → AreHistoriesOf state.lives hs → (b entry : ℕ) (fs : Option ℕ) (t : ℕ) (m : List ℕ) → b < length state.lives → life_at state.lives b ≡ None → entry ≡ state.next →
+    Turns T state.next [] None state.lives hs (slice_set state.lives b (Some (new_life state.next fs t m))) (start_in hs b (record { fs = fs; ty = t; told = []; untold = first_state entry fs m ∷ [] }))
 starts T state hs known b entry fs t m within free number c l' e = elim (cases_eq c b) [
   | inl here ↦
       let start : Life = new_life state.next fs t m in
-      let begins : History = record { fs = Some fs; ty = t; told = []; untold = first_state entry fs m ∷ [] } in
+      let begins : History = record { fs = fs; ty = t; told = []; untold = first_state entry fs m ∷ [] } in
       let is : start ≡ l' = same_Some start l' (sym (ap (life_at (slice_set state.lives b (Some start))) here ∙ set_same state.lives b (Some start) within) ∙ e) in
       let never : hs c ≡ None = unmatched (life_at state.lives c) (hs c) (known c) (ap (life_at state.lives) here ∙ free) in
       subst (λ l. Turn T state.next [] (None ≡ Some c) (life_at state.lives c) (hs c) l (cond (c == b) (Some begins) (hs c))) is (record {
@@ -201,35 +201,35 @@ starts T state hs known b entry fs t m within free number c l' e = elim (cases_e
         ty = λ x f. absurd (none-some x (sym never ∙ f));
         extends = λ x f. absurd (none-some x (sym never ∙ f));
         states = λ x f s i. absurd (none-some x (sym never ∙ f));
-        entries = λ s i. inl (elim (Contains-cons (first_state state.next fs m) [] s i) [ inl same ↦ ap (λ (z : BlockState). z.entry) (sym same) | inr none ↦ absurd (Contains-none s none) ]);
+        entries = λ s i. inl (elim (Contains-cons (first_state state.next fs m) [] s i) [ inl same ↦ let e : state.next ≡ s.entry = ap (λ (z : BlockState). z.entry) same in omega arith | inr none ↦ absurd (Contains-none s none) ]);
       })
   | inr other ↦
       let alive : life_at state.lives c ≡ Some l' = sym (set_other state.lives b c (Some (new_life state.next fs t m)) other) ∙ e in
       let x = matched (life_at state.lives c) (hs c) (known c) l' alive in
-      let begins : History = record { fs = Some fs; ty = t; told = []; untold = first_state entry fs m ∷ [] } in
+      let begins : History = record { fs = fs; ty = t; told = []; untold = first_state entry fs m ∷ [] } in
       placed (λ o h. Turn T state.next [] (None ≡ Some c) o h l' (cond (c == b) (Some begins) h)) (life_at state.lives c) (hs c) l' x.0 alive x.1
       (subst (λ t. Turn T state.next [] (None ≡ Some c) (Some l') (Some x.0) l' (cond t (Some begins) (Some x.0))) (sym (ne_eqb c b other)) (turn.stays T state.next [] (None ≡ Some c) l' l' x.0 x.2 refl refl refl refl))
 ]
 
 inits_at : (T : Types) (state new : StoreState) (hs : Histories) → AreHistoriesOf state.lives hs → (fs t : ℕ) (m : List ℕ) (o : Option ℕ) (made : ℕ × ℕ) → lowest_free state.lives ≡ o → init_at state fs t m o ≡ Ok (made, new) →
-    Turns T state.next [] None state.lives hs new.lives (start_in hs made.0 (record { fs = Some fs; ty = t; told = []; untold = first_state made.1 fs m ∷ [] })) × (state.next ≤ new.next)
+    Turns T state.next [] None state.lives hs new.lives (start_in hs made.0 (record { fs = Some fs; ty = t; told = []; untold = first_state made.1 (Some fs) m ∷ [] })) × (state.next ≤ new.next)
 inits_at T state new hs known fs t m None made at e = absurd (never_ok NoSpace (made, new) e)
 inits_at T state new hs known fs t m (Some b) made at e =
     let r = lowest_is state.lives b at in
-    let after : StoreState = record { lives = slice_set state.lives b (Some (new_life state.next fs t m)); next = state.next + 1 } in
+    let after : StoreState = record { lives = slice_set state.lives b (Some (new_life state.next (Some fs) t m)); next = state.next + 1 } in
     let p = same_ok ((b, state.next), after) (made, new) e in
     let block : b ≡ made.0 = ap (λ (x : (ℕ × ℕ) × StoreState). x.0.0) p in
     let entry : state.next ≡ made.1 = ap (λ (x : (ℕ × ℕ) × StoreState). x.0.1) p in
     let lives : after.lives ≡ new.lives = ap (λ (x : (ℕ × ℕ) × StoreState). x.1.lives) p in
     let more : state.next + 1 ≡ new.next = ap (λ (x : (ℕ × ℕ) × StoreState). x.1.next) p in (
-      subst (λ xs. Turns T state.next [] None state.lives hs xs (start_in hs made.0 (record { fs = Some fs; ty = t; told = []; untold = first_state made.1 fs m ∷ [] }))) lives
-          (subst (λ c. Turns T state.next [] None state.lives hs after.lives (start_in hs c (record { fs = Some fs; ty = t; told = []; untold = first_state made.1 fs m ∷ [] }))) block
-          (starts T state hs known b made.1 fs t m r.0 r.1 (sym entry))),
+      subst (λ xs. Turns T state.next [] None state.lives hs xs (start_in hs made.0 (record { fs = Some fs; ty = t; told = []; untold = first_state made.1 (Some fs) m ∷ [] }))) lives
+          (subst (λ c. Turns T state.next [] None state.lives hs after.lives (start_in hs c (record { fs = Some fs; ty = t; told = []; untold = first_state made.1 (Some fs) m ∷ [] }))) block
+          (starts T state hs known b made.1 (Some fs) t m r.0 r.1 (sym entry))),
       omega arith,
     )
 
 pub init_turns : (T : Types) (state new : StoreState) (hs : Histories) → AreHistoriesOf state.lives hs → (fs t : ℕ) (m : List ℕ) (made : ℕ × ℕ) → init_of T state fs t m ≡ Ok (made, new) →
-    Turns T state.next [] None state.lives hs new.lives (start_in hs made.0 (record { fs = Some fs; ty = t; told = []; untold = first_state made.1 fs m ∷ [] })) × (state.next ≤ new.next)
+    Turns T state.next [] None state.lives hs new.lives (start_in hs made.0 (record { fs = Some fs; ty = t; told = []; untold = first_state made.1 (Some fs) m ∷ [] })) × (state.next ≤ new.next)
 init_turns T state new hs known fs t m made e =
     inits_at T state new hs known fs t m (lowest_free state.lives) made refl (given_ok (init_refusal T state fs t m) (init_at state fs t m (lowest_free state.lives)) (made, new) e)
 

@@ -9,7 +9,7 @@ use Rattle.std.proofs.lemmas.List.Elements.{Contains-append_cases, Contains-appe
 use Rattle.xn_model.specs.Images.{block_of, Reach}
 use Rattle.xn_model.specs.Lives.{BlockState, Life, Lives, life_at, carried, bytes_of, durable_after, on_disk}
 use Rattle.xn_model.specs.Mounts.{IsRecovered}
-use Rattle.xn_model.specs.Worlds.{World, MayLeave}
+use Rattle.xn_model.specs.Worlds.{World, MayLeave, types_now, types_on}
 use Rattle.xn_model.specs.Rules.{Holds, HoldsState}
 use Rattle.xn_model.proofs.ForCallers.{Contains-none, Contains-head, Contains-cons, Contains-tail, left_agrees, carried_pending}
 use Rattle.xn_history.specs.Histories.{History, Histories, last_told, since, up_to, has_bytes, told_by, found_with}
@@ -91,21 +91,21 @@ finds m l x of s i e = elim (cases_Bool (has_bytes m (last_told x))) [
 
 module _ (w : World) (h : Holds w) (hs : Histories) (known : AreHistoriesOf w.state.lives hs) (image : List (List ℕ)) (may : MayLeave w image) where
   -- the bytes of a reached block are those of a state of its history
-  pub reached_finds : (c u : ℕ) → Reach w.types (length image) (block_of image) c u → (x : History) × (hs c ≡ Some x) × (x.ty ≡ u) × Finds (block_of image c) x
+  pub reached_finds : (c u : ℕ) → Reach (types_on w image) (length image) (block_of image) c u → (x : History) × (hs c ≡ Some x) × (x.ty ≡ u) × Finds (block_of image c) x
   reached_finds c u r =
       let holds : HoldsState (block_of image) w.state.lives c u = (left_agrees w h image may).states c u r in
       let x = matched (life_at w.state.lives c) (hs c) (known c) holds.life holds.alive in
       (x.0, x.1, x.2.ty ∙ holds.ty, finds (block_of image c) holds.life x.0 x.2 holds.state holds.among (sym holds.there))
 
-  pub crash_turn : (lives : Lives) → IsRecovered w.types image lives → (next : ℕ) (drops : List ℕ) (Edited : Type 0) (c : ℕ) (l : Life) → life_at lives c ≡ Some l →
-      Turn w.types next drops Edited (life_at w.state.lives c) (hs c) l (found_with (Some l) (hs c))
+  pub crash_turn : (lives : Lives) → IsRecovered (types_on w image) image lives → (next : ℕ) (drops : List ℕ) (Edited : Type 0) (c : ℕ) (l : Life) → life_at lives c ≡ Some l →
+      Turn (types_now w) next drops Edited (life_at w.state.lives c) (hs c) l (found_with (Some l) (hs c))
   crash_turn lives rec' next drops Edited c l at =
       let found = rec'.only c l at in
       let x = reached_finds c l.ty found.reached in
       let old = living (life_at w.state.lives c) (hs c) (known c) x.0 x.1 in
       let m : block_of image c ≡ bytes_of l.durable = sym (ap bytes_of found.durable) in
       let f : Finds (bytes_of l.durable) x.0 = subst (λ m. Finds m x.0) m x.3 in
-      subst (λ o. Turn w.types next drops Edited (life_at w.state.lives c) o l (found_with (Some l) o)) (sym x.1) (record {
+      subst (λ o. Turn (types_now w) next drops Edited (life_at w.state.lives c) o l (found_with (Some l) o)) (sym x.1) (record {
         history = record { fs = x.0.fs; ty = x.0.ty; told = told_by (bytes_of l.durable) x.0; untold = [] };
         is = refl;
         of = record {

@@ -5,7 +5,7 @@ use Rattle.std.specs.List.{AllByRecursion}
 use Rattle.std.proofs.lemmas.Bool.{cases_eq, eqb-false}
 use Rattle.std.proofs.lemmas.Option.{none-some, same_Some}
 use Rattle.xn_model.specs.Lives.{Life, life_at}
-use Rattle.xn_model.specs.Worlds.{World, Call, Init, Propose, MakeRoot, DropRoot, Forget, Read, Root, Kind, Tainted, Pending, Floor, FreeCount, Pick, Drain, Event, Client, Begin, Land, Fail, Sync, FailSync, Finish, Crash, Reply, Edited, Step, Run, IsEvent}
+use Rattle.xn_model.specs.Worlds.{World, types_now, Call, Init, Propose, MakeRoot, DropRoot, Forget, Read, Root, Kind, Tainted, Pending, Floor, FreeCount, Pick, Drain, Event, Client, Install, Begin, Land, Fail, Sync, FailSync, Finish, Crash, Reply, Edited, Installed, Step, Run, IsEvent}
 use Rattle.xn_model.specs.Rules.{Holds, IsInFileSystem, NamedIn}
 use Rattle.xn_model.proofs.ForCallers.{Contains-none, Contains-cons, last_of, step_keeps, fresh_owned}
 use Rattle.xn_history.specs.Histories.{History, Histories, type_in, edited_block, dropped_blocks, histories_after}
@@ -30,18 +30,18 @@ module _ (w : World) (h : Holds w) (hs : Histories) (known : AreHistoriesOf w.st
       same_Some g fs (sym j.same ∙ (ap (λ (l : Life). l.fs) same ∙ i.same))
 
   -- an owner is of the same file system
-  owner_system : (fs a c : ℕ) → Names w.types hs a c → a ≢ 0 → IsInFileSystem w.state.lives (Some fs) c → IsInFileSystem w.state.lives (Some fs) a
+  owner_system : (fs a c : ℕ) → Names (types_now w) hs a c → a ≢ 0 → IsInFileSystem w.state.lives (Some fs) c → IsInFileSystem w.state.lives (Some fs) a
   owner_system fs a c n ne i =
       let l = living (life_at w.state.lives a) (hs a) (known a) n.history n.known in
       let linked = h.state.linked a l.0 l.1 in
       let named = named_newest w h hs known a c n l.0 l.1 in
       let in' = (h.state.lives_sound.each a l.0 l.1).same_system linked.last c (type_in (hs c)) ne (last_of l.0.durable l.0.pending linked.last linked.is_last)
-      (subst (λ o. NamedIn w.types l.0.ty o (c, type_in (hs c))) linked.is_last named) in
+      (subst (λ o. NamedIn (types_now w) l.0.ty o (c, type_in (hs c))) linked.is_last named) in
       let same : in'.life ≡ i.life = same_Some in'.life i.life (sym in'.alive ∙ i.alive) in
       record { life = l.0; alive = l.1; same = sym in'.same ∙ (ap (λ (x : Life). x.fs) same ∙ i.same) }
 
   -- so each block of a chain but block 0 is
-  chain_system : (fs c : ℕ) (blocks : List ℕ) → IsChain w.types hs (c ∷ blocks) → IsInFileSystem w.state.lives (Some fs) c → (d : ℕ) → Contains (c ∷ blocks) d → (d ≡ 0) ⊎ IsInFileSystem w.state.lives (Some fs) d
+  chain_system : (fs c : ℕ) (blocks : List ℕ) → IsChain (types_now w) hs (c ∷ blocks) → IsInFileSystem w.state.lives (Some fs) c → (d : ℕ) → Contains (c ∷ blocks) d → (d ≡ 0) ⊎ IsInFileSystem w.state.lives (Some fs) d
   chain_system fs c [] chain i d among = elim (Contains-cons c [] d among) [ inl same ↦ inl (sym same ∙ chain) | inr none ↦ absurd (Contains-none d none) ]
   chain_system fs c (a ∷ blocks) chain i d among = elim (Contains-cons c (a ∷ blocks) d among) [
     | inl same ↦ inr (subst (IsInFileSystem w.state.lives (Some fs)) same i)
@@ -51,7 +51,7 @@ module _ (w : World) (h : Holds w) (hs : Histories) (known : AreHistoriesOf w.st
     ]
   ]
     where
-      only_root : (a : ℕ) (blocks : List ℕ) → a ≡ 0 → IsChain w.types hs (a ∷ blocks) → (d : ℕ) → Contains (a ∷ blocks) d → d ≡ 0
+      only_root : (a : ℕ) (blocks : List ℕ) → a ≡ 0 → IsChain (types_now w) hs (a ∷ blocks) → (d : ℕ) → Contains (a ∷ blocks) d → d ≡ 0
       only_root a [] zero chain d among = elim (Contains-cons a [] d among) [ inl same ↦ sym same ∙ zero | inr none ↦ absurd (Contains-none d none) ]
       only_root a (b ∷ blocks) zero chain d among =
           let r = h.state.lives_sound.root in
@@ -59,7 +59,7 @@ module _ (w : World) (h : Holds w) (hs : Histories) (known : AreHistoriesOf w.st
           let same : r.life ≡ o.life = same_Some r.life o.life (sym r.alive ∙ (ap (life_at w.state.lives) (sym zero) ∙ o.alive)) in
           absurd (fresh_owned b (sym r.unowned ∙ (ap (λ (l : Life). l.status) same ∙ o.status)))
 
-  module _ (fs b : ℕ) (blocks : List ℕ) (chain : IsChain w.types hs (b ∷ blocks)) (mine : IsInFileSystem w.state.lives (Some fs) b) where
+  module _ (fs b : ℕ) (blocks : List ℕ) (chain : IsChain (types_now w) hs (b ∷ blocks)) (mine : IsInFileSystem w.state.lives (Some fs) b) where
     -- a call of another file system
     foreign : (g : ℕ) (c : Call) (r : Reply) (hs' : Histories) → g ≢ fs → IsOwnCall w h hs known g c r → LeavesAlone b (b ∷ blocks) hs (Client g c) r hs'
     foreign g c r hs' other own = (
@@ -78,6 +78,10 @@ module _ (w : World) (h : Holds w) (hs : Histories) (known : AreHistoriesOf w.st
     root_edit g x (Edited n) e = sym (same_Some 0 b e)
     root_edit g x r e = absurd (none-some b e)
 
+    install_edit : (m : List ℕ) (r : Reply) → edited_block (Install m) r ≡ Some b → b ≡ 0
+    install_edit m (Installed t c first second) e = sym (same_Some 0 b e)
+    install_edit m r e = absurd (none-some b e)
+
     pub left_alone : (e : Event) (r : Reply) (w' : World) (hs' : Histories) → IsEvent e → IsNoEditBy fs e → Step w e r w' → LeavesAlone b (b ∷ blocks) hs e r hs'
     left_alone (Client g (Propose c e)) r w' hs' few none s = foreign g (Propose c e) r hs' (eqb-false g fs none) (own_step w h hs known g few (Propose c e) r w' s)
     left_alone (Client g DropRoot) r w' hs' few none s = foreign g DropRoot r hs' (eqb-false g fs none) (own_step w h hs known g few DropRoot r w' s)
@@ -93,6 +97,7 @@ module _ (w : World) (h : Holds w) (hs : Histories) (known : AreHistoriesOf w.st
     left_alone (Client g FreeCount) r w' hs' few none s = harmless (Client g FreeCount) r hs' refl (λ e. absurd (none-some b e))
     left_alone (Client g Pick) r w' hs' few none s = harmless (Client g Pick) r hs' refl (λ e. absurd (none-some b e))
     left_alone (Client g Drain) r w' hs' few none s = harmless (Client g Drain) r hs' refl (λ e. absurd (none-some b e))
+    left_alone (Install m) r w' hs' few none s = harmless (Install m) r hs' refl (install_edit m r)
     left_alone (Begin c) r w' hs' few none s = harmless (Begin c) r hs' refl (λ e. absurd (none-some b e))
     left_alone (Land c) r w' hs' few none s = harmless (Land c) r hs' refl (λ e. absurd (none-some b e))
     left_alone (Fail c stays) r w' hs' few none s = harmless (Fail c stays) r hs' refl (λ e. absurd (none-some b e))
@@ -103,7 +108,7 @@ module _ (w : World) (h : Holds w) (hs : Histories) (known : AreHistoriesOf w.st
 
 -- A run without an edit by the block's file system leaves it alone.
 pub run_leaves_alone : (fs b : ℕ) (blocks : List ℕ) (w : World) (hs : Histories) (es : List Event) (rs : List Reply) (w' : World) → AllByRecursion IsEvent es → AllByRecursion (IsNoEditBy fs) es → Holds w → AreHistoriesOf w.state.lives hs →
-    IsChain w.types hs (b ∷ blocks) → (x : History) → hs b ≡ Some x → x.fs ≡ Some fs → Run w es rs w' → (hs' : Histories) × RunWhere (LeavesAlone b (b ∷ blocks)) w hs es rs w' hs'
+    IsChain (types_now w) hs (b ∷ blocks) → (x : History) → hs b ≡ Some x → x.fs ≡ Some fs → Run w es rs w' → (hs' : Histories) × RunWhere (LeavesAlone b (b ∷ blocks)) w hs es rs w' hs'
 run_leaves_alone fs b blocks w hs [] [] w' each none h known chain x at mine run = (hs, (run, refl))
 run_leaves_alone fs b blocks w hs [] (r ∷ rs) w' each none h known chain x at mine run = absurd run
 run_leaves_alone fs b blocks w hs (e ∷ es) [] w' each none h known chain x at mine run = absurd run

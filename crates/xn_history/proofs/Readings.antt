@@ -8,7 +8,7 @@ use Rattle.xn_model.specs.Lives.{Life, life_at, bytes_of, current}
 use Rattle.xn_model.specs.declared.refusal.Refusal.{Refusal}
 use Rattle.xn_model.specs.Results.{result_and_then, result_map}
 use Rattle.xn_model.specs.Calls.{own_life}
-use Rattle.xn_model.specs.Worlds.{World, Event, Client, Read, Drain, Reply, Bytes, Drained, Down, call, reply_alone, Step, Run, IsEvent}
+use Rattle.xn_model.specs.Worlds.{World, types_there, Event, Client, Read, Drain, Reply, Bytes, Drained, Down, call, reply_alone, Step, Run, IsEvent}
 use Rattle.xn_model.specs.Rules.{Holds}
 use Rattle.xn_model.proofs.ForCallers.{step_keeps, IsOwn, own_then, same_ok}
 use Rattle.xn_history.specs.Histories.{History, Histories, last_told, histories_after}
@@ -40,7 +40,7 @@ read_is w fs b m w' s = elim s [
 ]
 
 pub read_survives : (w : World) → Holds w → (hs : Histories) → AreHistoriesOf w.state.lives hs → (g n : ℕ) (drained : World) → g < 32 → Step w (Client g Drain) (Drained n) drained →
-    (fs c u : ℕ) (m : List ℕ) (read : World) → Step drained (Client fs (Read c)) (Bytes m) read → Reach drained.types (length drained.image) (block_of drained.image) c u →
+    (fs c u : ℕ) (m : List ℕ) (read : World) → Step drained (Client fs (Read c)) (Bytes m) read → Reach (types_there drained) (length drained.image) (block_of drained.image) c u →
     (es : List Event) (rs : List Reply) (after : World) → AllByRecursion IsEvent es → AllByRecursion (IsNoEditBy fs) es → Run read es rs after →
     EveryImageHas after c u m
 read_survives w h hs known g n drained few s fs c u m read answer reached es rs after each none run =

@@ -11,7 +11,7 @@ use Rattle.xn_model.specs.Lives.{Life, StoreState, life_at, newest, current, byt
 use Rattle.xn_model.specs.declared.refusal.Refusal.{Refusal}
 use Rattle.xn_model.specs.declared.refusal.Refusal.TheVariants.{NoMemory, TooManyPending, Exhausted, BadPatch, BadAfter, NotFresh, Cycle, NotOwned, NotEmpty, ClaimWrong, SizeWrong}
 use Rattle.xn_model.specs.Calls.{Edit, patched, accepts, edited, propose_of, propose_at, too_many, exhausted, within_limits, was_given, may_add, may_drop, is_empty, root_now, slot_now, life_bytes, init_of, make_root_of, life_pending, root_state, drop_root_of}
-use Rattle.xn_model.specs.Worlds.{World, Call, Init, Propose, MakeRoot, DropRoot, Forget, Read, Root, Kind, Tainted, Pending, Floor, FreeCount, Pick, Drain, Client, Reply, Started, Edited, Down, Refused, call, AfterCall}
+use Rattle.xn_model.specs.Worlds.{World, types_now, Call, Init, Propose, MakeRoot, DropRoot, Forget, Read, Root, Kind, Tainted, Pending, Floor, FreeCount, Pick, Drain, Client, Reply, Started, Edited, Down, Refused, call, AfterCall}
 use Rattle.xn_model.specs.Rules.{Holds, IsInFileSystem, IsOwnedBy, NamedIn}
 use Rattle.xn_model.proofs.ForCallers.{Contains-none, Contains-cons, all_at, last_of, own_then, unless_ok, droppable, not_root}
 use Rattle.xn_history.specs.Histories.{Histories, rooted, edited_block, dropped_blocks}
@@ -56,14 +56,14 @@ module _ (w : World) (h : Holds w) (hs : Histories) (known : AreHistoriesOf w.st
       let linked = h.state.linked b l alive in
       let n = h.state.statuses.owned d o.life b o.alive o.status in
       let same : n.life ≡ l = same_Some n.life l (sym n.alive ∙ alive) in
-      let named : NamedIn w.types l.ty (newest l) (d, o.life.ty) = subst (λ (z : Life). NamedIn w.types z.ty (newest z) (d, o.life.ty)) same n.names in
+      let named : NamedIn (types_now w) l.ty (newest l) (d, o.life.ty) = subst (λ (z : Life). NamedIn (types_now w) z.ty (newest z) (d, o.life.ty)) same n.names in
       let in' = (h.state.lives_sound.each b l alive).same_system linked.last d o.life.ty ne (last_of l.durable l.pending linked.last linked.is_last)
-      (subst (λ o'. NamedIn w.types l.ty o' (d, o.life.ty)) linked.is_last named) in
+      (subst (λ o'. NamedIn (types_now w) l.ty o' (d, o.life.ty)) linked.is_last named) in
       record { life = in'.life; alive = in'.alive; same = in'.same ∙ mine }
 
-  own_propose : (fs b : ℕ) (e : Edit) (given : ℕ × StoreState) → propose_of w.types w.state fs b e ≡ Ok given → IsOwnCall fs (Propose b e) (Edited given.0)
+  own_propose : (fs b : ℕ) (e : Edit) (given : ℕ × StoreState) → propose_of (types_now w) w.state fs b e ≡ Ok given → IsOwnCall fs (Propose b e) (Edited given.0)
   own_propose fs b e given done =
-      let own = own_then w.state fs b (propose_at w.types w.state fs b e) given done in
+      let own = own_then w.state fs b (propose_at (types_now w) w.state fs b e) given done in
       let l : Life = own.0 in
       let m = patched (current l) e.patches in
       let u = unless_ok (
@@ -74,29 +74,29 @@ module _ (w : World) (h : Holds w) (hs : Histories) (known : AreHistoriesOf w.st
       ∷ (not (list_all (may_add w.state fs) e.adds && distinct (blocks_of e.adds)), NotFresh)
       ∷ (has_number (blocks_of e.adds) (chain_end w.state.lives b), Cycle)
       ∷ (not (list_all (may_drop w.state b) e.drops && distinct e.drops), NotOwned)
-      ∷ (not (list_all (is_empty w.types w.state) e.drops), NotEmpty)
-      ∷ (not (claims w.types l.ty (current l) m e.adds e.drops && named_once w.types l.ty m), ClaimWrong)
-      ∷ (not (within_size w.types l.ty m), SizeWrong)
+      ∷ (not (list_all (is_empty (types_now w) w.state) e.drops), NotEmpty)
+      ∷ (not (claims (types_now w) l.ty (current l) m e.adds e.drops && named_once (types_now w) l.ty m), ClaimWrong)
+      ∷ (not (within_size (types_now w) l.ty m), SizeWrong)
       ∷ []) (Ok (accepts w.state b (edited w.state.next fs e l))) given own.2 in
       let drops = (and_parts (list_all (may_drop w.state b) e.drops) (distinct e.drops) (not-false (list_all (may_drop w.state b) e.drops && distinct e.drops) u.0.1.1.1.1.1.1.0)).0 in
       record {
-        drops = λ d i. owned_system fs b l own.1.alive own.1.mine (not_root w.types w.state h.state fs b l own.1.alive own.1.mine) d (droppable w.state b d (all_at (may_drop w.state b) e.drops d drops i));
+        drops = λ d i. owned_system fs b l own.1.alive own.1.mine (not_root (types_now w) w.state h.state fs b l own.1.alive own.1.mine) d (droppable w.state b d (all_at (may_drop w.state b) e.drops d drops i));
         edits = λ c e' ne. subst (IsInFileSystem w.state.lives (Some fs)) (same_Some b c e') (record { life = l; alive = own.1.alive; same = own.1.mine });
       }
 
-  own_drop_root : (fs : ℕ) → fs < 32 → (given : ℕ × StoreState) → drop_root_of w.types w.state fs ≡ Ok given → IsOwnCall fs DropRoot (Edited given.0)
+  own_drop_root : (fs : ℕ) → fs < 32 → (given : ℕ × StoreState) → drop_root_of (types_now w) w.state fs ≡ Ok given → IsOwnCall fs DropRoot (Edited given.0)
   own_drop_root fs few given done =
       let next = root_state w.state fs (0, 0) [] ((slot_now w.state fs).0 ∷ []) in
       let u = unless_ok (
       ((slot_now w.state fs).0 == 0, NotOwned)
-      ∷ (not (is_empty w.types w.state (slot_now w.state fs).0), NotEmpty)
+      ∷ (not (is_empty (types_now w) w.state (slot_now w.state fs).0), NotEmpty)
       ∷ (too_many w.state fs (life_pending (life_at w.state.lives 0)), TooManyPending)
       ∷ (exhausted w.state, Exhausted)
       ∷ []) (Ok (accepts w.state 0 next)) given done in
       let r = h.state.lives_sound.root in
       let linked = h.state.linked 0 r.life r.alive in
       let bytes : root_now w.state ≡ linked.last.bytes = ap life_bytes r.alive ∙ ap bytes_of linked.is_last in
-      let slot_is : rooted hs fs ≡ (slot linked.last.bytes fs).0 = ap (λ m. (slot m fs).0) (root_bytes w.types w.state w.state h.state hs known ∙ bytes) in
+      let slot_is : rooted hs fs ≡ (slot linked.last.bytes fs).0 = ap (λ m. (slot m fs).0) (root_bytes (types_now w) w.state w.state h.state hs known ∙ bytes) in
       record {
         drops = λ d i. elim (Contains-cons (rooted hs fs) [] d i) [
           | inl same ↦ r.slots linked.last fs d (last_of r.life.durable r.life.pending linked.last linked.is_last) few (sym slot_is ∙ same)
@@ -110,10 +110,10 @@ module _ (w : World) (h : Holds w) (hs : Histories) (known : AreHistoriesOf w.st
   own_make_root fs b entry = record { drops = λ d i. absurd (Contains-none d i); edits = λ c e ne. absurd (ne (sym (same_Some 0 c e))) }
 
   own_call : (fs : ℕ) → fs < 32 → (c : Call) → IsOwnCall fs c (call w fs c).0
-  own_call fs few (Init t m) = answered (λ x. IsOwnCall fs (Init t m) x.0) (λ made. Started made.0 made.1) w (init_of w.types w.state fs t m) (λ x. own_refused fs (Init t m) x) (λ given e. own_none fs (Init t m) (Started given.0.0 given.0.1) refl refl)
-  own_call fs few (Propose b e) = answered (λ x. IsOwnCall fs (Propose b e) x.0) Edited w (propose_of w.types w.state fs b e) (λ x. own_refused fs (Propose b e) x) (λ given d. own_propose fs b e given d)
+  own_call fs few (Init t m) = answered (λ x. IsOwnCall fs (Init t m) x.0) (λ made. Started made.0 made.1) w (init_of (types_now w) w.state fs t m) (λ x. own_refused fs (Init t m) x) (λ given e. own_none fs (Init t m) (Started given.0.0 given.0.1) refl refl)
+  own_call fs few (Propose b e) = answered (λ x. IsOwnCall fs (Propose b e) x.0) Edited w (propose_of (types_now w) w.state fs b e) (λ x. own_refused fs (Propose b e) x) (λ given d. own_propose fs b e given d)
   own_call fs few (MakeRoot b) = answered (λ x. IsOwnCall fs (MakeRoot b) x.0) Edited w (make_root_of w.state fs b) (λ x. own_refused fs (MakeRoot b) x) (λ given e. own_make_root fs b given.0)
-  own_call fs few DropRoot = answered (λ x. IsOwnCall fs DropRoot x.0) Edited w (drop_root_of w.types w.state fs) (λ x. own_refused fs DropRoot x) (λ given e. own_drop_root fs few given e)
+  own_call fs few DropRoot = answered (λ x. IsOwnCall fs DropRoot x.0) Edited w (drop_root_of (types_now w) w.state fs) (λ x. own_refused fs DropRoot x) (λ given e. own_drop_root fs few given e)
   own_call fs few (Forget b) = own_none fs (Forget b) (call w fs (Forget b)).0 refl refl
   own_call fs few (Read b) = own_none fs (Read b) (call w fs (Read b)).0 refl refl
   own_call fs few Root = own_none fs Root (call w fs Root).0 refl refl

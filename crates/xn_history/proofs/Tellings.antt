@@ -6,9 +6,9 @@ use Rattle.std.proofs.lemmas.Bool.{eq-eqb}
 use Rattle.std.proofs.lemmas.Option.{none-some, same_Some}
 use Rattle.xn_model.specs.Images.{block_of, Reach, root, step}
 use Rattle.xn_model.specs.Lives.{BlockState, Life, life_at, bytes_of}
-use Rattle.xn_model.specs.Worlds.{World, MayLeave, Event, Client, Drain, Finish, Reply, Drained, Finished, Step, Run, IsEvent}
+use Rattle.xn_model.specs.Worlds.{World, MayLeave, types_now, types_on, types_there, Event, Client, Drain, Finish, Reply, Drained, Finished, Step, Run, IsEvent}
 use Rattle.xn_model.specs.Rules.{Holds, IsInFileSystem}
-use Rattle.xn_model.proofs.ForCallers.{Contains-none, Contains-cons, step_keeps}
+use Rattle.xn_model.proofs.ForCallers.{Contains-none, Contains-cons, left_owned, step_keeps}
 use Rattle.xn_history.specs.Histories.{History, Histories, last_told, since, newest_bytes, type_in, telling, telling_all, while_alive, heard, histories_after}
 use Rattle.xn_history.specs.Moments.{RunWhere, AreHistoriesOf}
 use Rattle.xn_history.specs.Promises.{EveryImageHas, Names, IsChain, LeavesAlone, IsTold, IsNoEditBy}
@@ -30,12 +30,12 @@ module _ (w : World) (h : Holds w) (hs : Histories) (known : AreHistoriesOf w.st
   last_is : (c : ℕ) (x : History) → hs c ≡ Some x → (s : BlockState) → Contains (since x) s → last_told x ≡ Some s
   last_is c x at s i = only (last_told x) s (subst (λ xs. Contains (option_to_list (last_told x) ++ xs) s) (all c x at) i)
 
-  pub told_of : (c u : ℕ) → Reach w.types (length image) (block_of image) c u → IsTold hs c u (block_of image c)
+  pub told_of : (c u : ℕ) → Reach (types_on w image) (length image) (block_of image) c u → IsTold hs c u (block_of image c)
   told_of c u r =
       let x = reached_finds w h hs known image may c u r in
       record { history = x.0; known = x.1; ty = x.2; all = all c x.0 x.1; last = x.3.state; is_last = last_is c x.0 x.1 x.3.state x.3.among; has = x.3.there }
 
-  names_of : (b t c u : ℕ) → Reach w.types (length image) (block_of image) b t → Reach w.types (length image) (block_of image) c u → Contains (w.types.owned t (block_of image b)) (c, u) → Names w.types hs b c
+  names_of : (b t c u : ℕ) → Reach (types_on w image) (length image) (block_of image) b t → Reach (types_on w image) (length image) (block_of image) c u → Contains ((types_now w).owned t (block_of image b)) (c, u) → Names (types_now w) hs b c
   names_of b t c u r q names =
       let x = reached_finds w h hs known image may b t r in
       let y = reached_finds w h hs known image may c u q in
@@ -46,12 +46,12 @@ module _ (w : World) (h : Holds w) (hs : Histories) (known : AreHistoriesOf w.st
         names = λ s i.
             let same : x.3.state ≡ s = same_Some x.3.state s (sym (last_is b x.0 x.1 x.3.state x.3.among) ∙ last_is b x.0 x.1 s i) in
             let bytes : block_of image b ≡ s.bytes = sym x.3.there ∙ ap (λ (z : BlockState). z.bytes) same in
-            subst (λ v. Contains (w.types.owned x.0.ty s.bytes) (c, v)) (sym ty) (subst (λ v. Contains (w.types.owned v s.bytes) (c, u)) (sym x.2) (subst (λ m. Contains (w.types.owned t m) (c, u)) bytes names));
+            subst (λ v. Contains ((types_now w).owned x.0.ty s.bytes) (c, v)) (sym ty) (subst (λ v. Contains ((types_now w).owned v s.bytes) (c, u)) (sym x.2) (subst (λ m. Contains ((types_now w).owned t m) (c, u)) bytes names));
       }
 
-  pub chain_of : (c u : ℕ) → Reach w.types (length image) (block_of image) c u → (owners : List ℕ) × IsChain w.types hs (c ∷ owners)
+  pub chain_of : (c u : ℕ) → Reach (types_on w image) (length image) (block_of image) c u → (owners : List ℕ) × IsChain (types_now w) hs (c ∷ owners)
   chain_of c u root = ([], refl)
-  chain_of c u (step {b} {t} r lt inst names) = let more = chain_of b t r in (b ∷ more.0, (names_of b t c u r (step r lt inst names) names, more.1))
+  chain_of c u (step {b} {t} r lt inst names) = let more = chain_of b t r in (b ∷ more.0, (names_of b t c u r (step r lt inst names) (subst (λ (o : List ℕ → List (ℕ × ℕ)). Contains (o (block_of image b)) (c, u)) (left_owned w h image may b t r) names), more.1))
 
 -- A drain
 
@@ -61,7 +61,7 @@ all_drained (Some l) None x e = absurd (none-some x e)
 all_drained (Some l) (Some y) x e = ap (λ (z : History). z.untold) (sym (same_Some (telling_all y) x e))
 
 pub drained_survive : (w : World) → Holds w → (hs : Histories) → AreHistoriesOf w.state.lives hs → (g n : ℕ) (w' : World) → g < 32 → Step w (Client g Drain) (Drained n) w' →
-    (fs c u : ℕ) → Reach w'.types (length w'.image) (block_of w'.image) c u → IsInFileSystem w'.state.lives (Some fs) c →
+    (fs c u : ℕ) → Reach (types_there w') (length w'.image) (block_of w'.image) c u → IsInFileSystem w'.state.lives (Some fs) c →
     (es : List Event) (rs : List Reply) (after : World) → AllByRecursion IsEvent es → AllByRecursion (IsNoEditBy fs) es → Run w' es rs after →
     EveryImageHas after c u (block_of w'.image c)
 drained_survive w h hs known g n w' few s fs c u reached mine es rs after each none run =
@@ -97,7 +97,7 @@ finished_bytes k x le s i =
     ap bytes_of (sym newest)
 
 pub finished_survive : (w : World) → Holds w → (hs : Histories) → AreHistoriesOf w.state.lives hs → (b k freed : ℕ) (w' : World) → Step w (Finish b) (Finished k freed) w' →
-    (x : History) → hs b ≡ Some x → length x.untold ≤ k → (owners : List ℕ) → IsChain w.types hs (b ∷ owners) →
+    (x : History) → hs b ≡ Some x → length x.untold ≤ k → (owners : List ℕ) → IsChain (types_now w) hs (b ∷ owners) →
     (es : List Event) (rs : List Reply) (after : World) (hs' : Histories) → AllByRecursion IsEvent es → RunWhere (LeavesAlone b (b ∷ owners)) w' (histories_after hs (Finish b) (Finished k freed) w'.state.lives) es rs after hs' →
     EveryImageHas after b x.ty (newest_bytes x)
 finished_survive w h hs known b k freed w' s x at le owners chain es rs after hs' each run =

@@ -1,5 +1,5 @@
 -- What one event may do to a block that is alive after it, and to its history.
-use Rattle.std.proofs.Common.{◌≡◌, ◌⊎◌, ℕ, List, [], ◌∷◌, ◌++◌, take, drop, Option, Some, None, refl, sym, ◌∙◌, ap, inl, inr, subst}
+use Rattle.std.proofs.Common.{◌≡◌, ◌⊎◌, ◌≤◌, ℕ, List, [], ◌∷◌, ◌++◌, take, drop, Option, Some, None, refl, sym, ◌∙◌, ap, inl, inr, subst, arith}
 use Rattle.std.specs.Prelude.{Contains, option_to_list}
 use Rattle.std.specs.List.{last_or}
 use Rattle.std.proofs.lemmas.Option.{same_Some, none-some}
@@ -73,12 +73,25 @@ pub record Turn (T : Types) (next : ℕ) (drops : List ℕ) (Edited : Type 0) (o
   pub ty : (x : History) → h ≡ Some x → history.ty ≡ x.ty
   pub extends : (x : History) → h ≡ Some x → (more : List BlockState) × (history.told ≡ x.told ++ more)
   pub states : (x : History) → h ≡ Some x → (s : BlockState) → Contains (since history) s → Contains (since x) s ⊎ (Edited × Keeps T drops x s)
-  -- what is pending was pending, or has the next number
-  pub entries : (s : BlockState) → Contains l.pending s → (s.entry ≡ next) ⊎ ((m : Life) × (o ≡ Some m) × Contains m.pending s)
+  -- what is pending was pending, or has a new number
+  pub entries : (s : BlockState) → Contains l.pending s → (next ≤ s.entry) ⊎ ((m : Life) × (o ≡ Some m) × Contains m.pending s)
 
 -- What holds of one place is put where it stands.
 pub placed : (P : Option Life → Option History → Type 0) (o : Option Life) (h : Option History) (l : Life) (x : History) → o ≡ Some l → h ≡ Some x → P (Some l) (Some x) → P o h
 placed P o h l x e f p = subst (λ a. P a h) (sym e) (subst (λ b. P (Some l) b) (sym f) p)
+
+-- new numbers are above earlier ones
+pub turn_earlier : (T : Types) (next later : ℕ) (drops : List ℕ) (Edited : Type 0) (o : Option Life) (h : Option History) (l : Life) (h' : Option History) → next ≤ later → Turn T later drops Edited o h l h' → Turn T next drops Edited o h l h'
+turn_earlier T next later drops Edited o h l h' le t = record {
+  history = t.history;
+  is = t.is;
+  of = t.of;
+  fs = t.fs;
+  ty = t.ty;
+  extends = t.extends;
+  states = t.states;
+  entries = λ s i. elim (t.entries s i) [ inl new ↦ inl (omega arith) | inr old ↦ inr old ];
+}
 
 module _ (T : Types) (next : ℕ) (drops : List ℕ) (Edited : Type 0) where
   -- nothing
@@ -95,7 +108,7 @@ module _ (T : Types) (next : ℕ) (drops : List ℕ) (Edited : Type 0) where
   }
 
   -- one more state
-  pub accepts : (l l' : Life) (x : History) (s : BlockState) → IsHistoryOf l x → l'.fs ≡ l.fs → l'.ty ≡ l.ty → l'.pending ≡ l.pending ++ s ∷ [] → l'.durable ≡ l.durable → s.entry ≡ next → Edited → Keeps T drops x s →
+  pub accepts : (l l' : Life) (x : History) (s : BlockState) → IsHistoryOf l x → l'.fs ≡ l.fs → l'.ty ≡ l.ty → l'.pending ≡ l.pending ++ s ∷ [] → l'.durable ≡ l.durable → next ≤ s.entry → Edited → Keeps T drops x s →
       Turn T next drops Edited (Some l) (Some x) l' (Some (accepting s x))
   accepts l l' x s m fs ty pending durable number edited keeps = record {
     history = accepting s x;
@@ -107,7 +120,7 @@ module _ (T : Types) (next : ℕ) (drops : List ℕ) (Edited : Type 0) where
     states = λ y e t i. subst (λ (z : History). Contains (since z) t ⊎ (Edited × Keeps T drops z t)) (same_Some x y e) (older t i);
     entries = λ t i. elim (Contains-append_cases l.pending (s ∷ []) t (subst (λ xs. Contains xs t) pending i)) [
       | inl old ↦ inr (l, refl, old)
-      | inr new ↦ inl (elim (Contains-cons s [] t new) [ inl same ↦ ap (λ (z : BlockState). z.entry) (sym same) ∙ number | inr none ↦ absurd (Contains-none t none) ])
+      | inr new ↦ inl (elim (Contains-cons s [] t new) [ inl same ↦ subst (λ (z : BlockState). next ≤ z.entry) same number | inr none ↦ absurd (Contains-none t none) ])
     ];
   }
     where

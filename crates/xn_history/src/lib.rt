@@ -3,14 +3,13 @@
 
 ghost use Rattle.std.specs.Prelude.{◌≡◌, ◌≢◌, ◌≤◌, ◌<◌, ◌⊎◌, ℕ, List, [], ◌∷◌, Option, None, Some, false, length, take};
 ghost use Rattle.std.specs.List.{AllByRecursion};
-ghost use Rattle.xn_model.specs.Root.{HasBuiltIns};
 ghost use Rattle.xn_model.specs.Images.{IsSound, block_of};
 ghost use Rattle.xn_model.specs.Lives.{Lives};
 ghost use Rattle.xn_model.specs.Calls.{floor_of};
 ghost use Rattle.xn_model.specs.Mounts.{IsRecovered};
-ghost use Rattle.xn_model.specs.Worlds.{World, Event, Client, Init, Read, Floor, Drain, Finish, Crash, Reply, Started, Bytes, FloorIs, Drained, Finished, IsEvent, Step, Run, MayLeave, mounted, left, is_crash};
+ghost use Rattle.xn_model.specs.Worlds.{World, types_now, types_there, Event, Client, Init, Read, Floor, Drain, Finish, Crash, Reply, Started, Bytes, FloorIs, Drained, Finished, IsEvent, Step, Run, MayLeave, mounted, left, is_crash};
 ghost use Rattle.xn_model.specs.Rules.{Holds, IsInFileSystem};
-ghost use Rattle.xn_model.specs.Rows.{first_row, dropped_row, landed_row, lost_row};
+ghost use Rattle.xn_model.specs.Rows.{first_row, dropped_row, landed_row, lost_row, installed_row};
 ghost use Rattle.xn_history.specs.Histories.{History, Histories, newest_bytes, histories_after};
 ghost use Rattle.xn_history.specs.Moments.{RunWhere, Anything, IsMoment, AreHistoriesOf};
 ghost use Rattle.xn_history.specs.Promises.{IsReached, EveryImageHas, HoldsAccepted, ImageHolds, StaysTold, LivesOn, IsForgotten, IsDropped, IsLost, IsChain, Spares, LeavesAlone, IsNoEditBy, IsTold, GoesOn, AreToldBelow};
@@ -19,8 +18,8 @@ ghost use Rattle.xn_history.specs.Rows.{left_by};
 /// Every run from a mount of a sound image has its histories, and so has every run from there on, and
 /// every step.
 pub fn runs_have_histories()
-    ensures mount { (disk w : World) (lives : Lives) (es : List Event) (rs : List Reply) → HasBuiltIns disk.types →
-        IsSound disk.types (length disk.image) (block_of disk.image) → IsRecovered disk.types disk.image lives → AllByRecursion IsEvent es →
+    ensures mount { (disk w : World) (lives : Lives) (es : List Event) (rs : List Reply) →
+        IsSound (types_there disk) (length disk.image) (block_of disk.image) → IsRecovered (types_there disk) disk.image lives → AllByRecursion IsEvent es →
         Run (mounted disk lives) es rs w → (hs : Histories) × IsMoment w hs }
     ensures run { (w after : World) (hs : Histories) (es : List Event) (rs : List Reply) → IsMoment w hs → AllByRecursion IsEvent es → Run w es rs after →
         (hs' : Histories) × RunWhere Anything w hs es rs after hs' × IsMoment after hs' }
@@ -43,8 +42,8 @@ pub fn lives_begin_anew()
 /// leave holds a state that its present life has accepted: the last that was told durable, or a later one.
 /// So it is in the newest bytes.
 pub fn images_hold_what_was_told()
-    ensures left { (w : World) (hs : Histories) (image : List (List ℕ)) → IsMoment w hs → MayLeave w image → ImageHolds w.types image hs }
-    ensures newest { (w : World) (hs : Histories) → IsMoment w hs → ImageHolds w.types w.image hs }
+    ensures left { (w : World) (hs : Histories) (image : List (List ℕ)) → IsMoment w hs → MayLeave w image → ImageHolds w image hs }
+    ensures newest { (w : World) (hs : Histories) → IsMoment w hs → ImageHolds w w.image hs }
 {}
 
 /// What was told durable stays told, through crashes too, until the life ends. It ends when its file
@@ -61,12 +60,12 @@ pub fn told_stays_told()
 /// A crash ends no life of a block that is reached in the image that it leaves, and no other life goes
 /// on. What that image holds is told durable, and what was accepted after it is lost.
 pub fn crashes_keep_what_is_reached()
-    ensures goes_on { (w after : World) (hs : Histories) (kept : List ℕ) (r : Reply) (c u : ℕ) → IsMoment w hs → Step w (Crash kept) r after → IsReached w.types (left w kept) c u →
+    ensures goes_on { (w after : World) (hs : Histories) (kept : List ℕ) (r : Reply) (c u : ℕ) → IsMoment w hs → Step w (Crash kept) r after → IsReached w (left w kept) c u →
         (h : History) × (hs c ≡ Some h) × StaysTold h (histories_after hs (Crash kept) r after.state.lives c) }
     ensures found { (w after : World) (hs : Histories) (kept : List ℕ) (r : Reply) (c : ℕ) (h : History) → IsMoment w hs → Step w (Crash kept) r after →
         histories_after hs (Crash kept) r after.state.lives c ≡ Some h → IsTold (histories_after hs (Crash kept) r after.state.lives) c h.ty (block_of (left w kept) c) }
     ensures reached { (w after : World) (hs : Histories) (kept : List ℕ) (r : Reply) (c : ℕ) (h : History) → IsMoment w hs → Step w (Crash kept) r after →
-        histories_after hs (Crash kept) r after.state.lives c ≡ Some h → IsReached w.types (left w kept) c h.ty }
+        histories_after hs (Crash kept) r after.state.lives c ≡ Some h → IsReached w (left w kept) c h.ty }
 {}
 
 /// Until the next crash, a state that isn't told durable has no number below a floor that was
@@ -83,13 +82,13 @@ pub fn floors_tell()
 /// of its owners. So no image misses a state of it that was told durable.
 pub fn attached_lives_go_on()
     ensures reached { (w : World) (hs : Histories) (image : List (List ℕ)) (c : ℕ) (blocks : List ℕ) (h : History) → IsMoment w hs → MayLeave w image →
-        IsChain w.types hs (c ∷ blocks) → hs c ≡ Some h → IsReached w.types image c h.ty }
+        IsChain (types_now w) hs (c ∷ blocks) → hs c ≡ Some h → IsReached w image c h.ty }
     ensures goes_on { (w after : World) (hs hs' : Histories) (es : List Event) (rs : List Reply) (c : ℕ) (blocks : List ℕ) (h : History) → IsMoment w hs → AllByRecursion IsEvent es →
-        IsChain w.types hs (c ∷ blocks) → hs c ≡ Some h → RunWhere (Spares (c ∷ blocks)) w hs es rs after hs' →
-        StaysTold h (hs' c) × IsChain after.types hs' (c ∷ blocks) }
+        IsChain (types_now w) hs (c ∷ blocks) → hs c ≡ Some h → RunWhere (Spares (c ∷ blocks)) w hs es rs after hs' →
+        StaysTold h (hs' c) × IsChain (types_now after) hs' (c ∷ blocks) }
     ensures held { (w after : World) (hs hs' : Histories) (es : List Event) (rs : List Reply) (c : ℕ) (blocks : List ℕ) (h : History) → IsMoment w hs → AllByRecursion IsEvent es →
-        IsChain w.types hs (c ∷ blocks) → hs c ≡ Some h → RunWhere (Spares (c ∷ blocks)) w hs es rs after hs' →
-        (image : List (List ℕ)) → MayLeave after image → IsReached after.types image c h.ty × HoldsAccepted (block_of image) hs' c h.ty }
+        IsChain (types_now w) hs (c ∷ blocks) → hs c ≡ Some h → RunWhere (Spares (c ∷ blocks)) w hs es rs after hs' →
+        (image : List (List ℕ)) → MayLeave after image → IsReached after image c h.ty × HoldsAccepted (block_of image) hs' c h.ty }
 {}
 
 /// Where the reply to a block's finish counted all that the block had accepted, and it is attached,
@@ -97,7 +96,7 @@ pub fn attached_lives_go_on()
 /// whenever it crashes, while no call edits the block or drops it or one of its owners.
 pub fn finished_edits_survive()
     ensures { (w mid after : World) (hs hs' : Histories) (es : List Event) (rs : List Reply) (b durable freed : ℕ) (h : History) (owners : List ℕ) → IsMoment w hs →
-        hs b ≡ Some h → IsChain w.types hs (b ∷ owners) → Step w (Finish b) (Finished durable freed) mid → length h.untold ≤ durable → AllByRecursion IsEvent es →
+        hs b ≡ Some h → IsChain (types_now w) hs (b ∷ owners) → Step w (Finish b) (Finished durable freed) mid → length h.untold ≤ durable → AllByRecursion IsEvent es →
         RunWhere (LeavesAlone b (b ∷ owners)) mid (histories_after hs (Finish b) (Finished durable freed) mid.state.lives) es rs after hs' →
         EveryImageHas after b h.ty (newest_bytes h) }
 {}
@@ -107,7 +106,7 @@ pub fn finished_edits_survive()
 /// drops it or one of its owners.
 pub fn told_edits_survive()
     ensures { (w after : World) (hs hs' : Histories) (es : List Event) (rs : List Reply) (b u : ℕ) (owners bytes : List ℕ) → IsMoment w hs → AllByRecursion IsEvent es →
-        IsChain w.types hs (b ∷ owners) → IsTold hs b u bytes → RunWhere (LeavesAlone b (b ∷ owners)) w hs es rs after hs' →
+        IsChain (types_now w) hs (b ∷ owners) → IsTold hs b u bytes → RunWhere (LeavesAlone b (b ∷ owners)) w hs es rs after hs' →
         EveryImageHas after b u bytes }
 {}
 
@@ -115,7 +114,7 @@ pub fn told_edits_survive()
 /// nothing, whatever the others do.
 pub fn others_leave_alone()
     ensures { (w after : World) (hs : Histories) (es : List Event) (rs : List Reply) (fs b u : ℕ) (owners bytes : List ℕ) (h : History) → IsMoment w hs →
-        AllByRecursion IsEvent es → AllByRecursion (IsNoEditBy fs) es → IsChain w.types hs (b ∷ owners) → IsTold hs b u bytes → hs b ≡ Some h → h.fs ≡ Some fs → Run w es rs after →
+        AllByRecursion IsEvent es → AllByRecursion (IsNoEditBy fs) es → IsChain (types_now w) hs (b ∷ owners) → IsTold hs b u bytes → hs b ≡ Some h → h.fs ≡ Some fs → Run w es rs after →
         EveryImageHas after b u bytes }
 {}
 
@@ -124,21 +123,21 @@ pub fn others_leave_alone()
 /// whenever it crashes, while its own file system edits nothing. And these are the bytes that the
 /// file system reads there.
 pub fn drained_blocks_survive()
-    ensures blocks { (disk w drained after : World) (lives : Lives) (es es' : List Event) (rs rs' : List Reply) (g writes fs c u : ℕ) → HasBuiltIns disk.types →
-        IsSound disk.types (length disk.image) (block_of disk.image) → IsRecovered disk.types disk.image lives →
+    ensures blocks { (disk w drained after : World) (lives : Lives) (es es' : List Event) (rs rs' : List Reply) (g writes fs c u : ℕ) →
+        IsSound (types_there disk) (length disk.image) (block_of disk.image) → IsRecovered (types_there disk) disk.image lives →
         AllByRecursion IsEvent es → Run (mounted disk lives) es rs w → g < 32 → Step w (Client g Drain) (Drained writes) drained →
-        IsReached drained.types drained.image c u → IsInFileSystem drained.state.lives (Some fs) c →
+        IsReached drained drained.image c u → IsInFileSystem drained.state.lives (Some fs) c →
         AllByRecursion IsEvent es' → AllByRecursion (IsNoEditBy fs) es' → Run drained es' rs' after →
         EveryImageHas after c u (block_of drained.image c) }
-    ensures read { (disk w drained read after : World) (lives : Lives) (es es' : List Event) (rs rs' : List Reply) (g writes fs c u : ℕ) (bytes : List ℕ) → HasBuiltIns disk.types →
-        IsSound disk.types (length disk.image) (block_of disk.image) → IsRecovered disk.types disk.image lives →
+    ensures read { (disk w drained read after : World) (lives : Lives) (es es' : List Event) (rs rs' : List Reply) (g writes fs c u : ℕ) (bytes : List ℕ) →
+        IsSound (types_there disk) (length disk.image) (block_of disk.image) → IsRecovered (types_there disk) disk.image lives →
         AllByRecursion IsEvent es → Run (mounted disk lives) es rs w → g < 32 → Step w (Client g Drain) (Drained writes) drained →
-        IsReached drained.types drained.image c u → Step drained (Client fs (Read c)) (Bytes bytes) read →
+        IsReached drained drained.image c u → Step drained (Client fs (Read c)) (Bytes bytes) read →
         AllByRecursion IsEvent es' → AllByRecursion (IsNoEditBy fs) es' → Run read es' rs' after →
         EveryImageHas after c u bytes }
 {}
 
-/// Rows of commands on a disk with the built-in types, with the entries that were told durable of a
+/// Rows of commands on a bare disk, with the entries that were told durable of a
 /// block, and those that were not.
 pub fn rows()
     ensures first { left_by first_row 1 ≡ Some (1 ∷ [], []) }
@@ -147,5 +146,8 @@ pub fn rows()
     ensures lost { left_by lost_row 1 ≡ Some (1 ∷ [], []) }
     ensures landed { left_by landed_row 1 ≡ Some (1 ∷ 3 ∷ [], []) }
     ensures ended { left_by (take 19 dropped_row) 1 ≡ None }
+    ensures named { left_by (take 3 installed_row) 0 ≡ Some (0 ∷ [], 2 ∷ 4 ∷ []) }
+    ensures installed { left_by installed_row 0 ≡ Some (0 ∷ 2 ∷ 4 ∷ [], []) }
+    ensures template { left_by installed_row 1 ≡ Some (1 ∷ [], []) }
     ensures anew { left_by dropped_row 1 ≡ Some ([], 5 ∷ []) }
 {}

@@ -16,7 +16,7 @@ use Rattle.xn_model.specs.Calls.{begun_place, begun_of, bytes_at, first_pending,
 use Rattle.xn_model.specs.Rules.{IsIdle}
 use Rattle.xn_model.specs.Worlds.{all_pending}
 use Rattle.xn_model.proofs.ForCallers.{unless_ok, never_ok, none_from, same_ok, map_ok, gives_exactly-ok, life_from, place_from, change_same, positive, round_leaves}
-use Rattle.xn_state.specs.States.{types_in}
+use Rattle.xn_state.specs.States.{own_types}
 use Rattle.xn_kernel.specs.Kernels.{KernelValue, TicketValue, IsKernel, is_in_flight, is_mine}
 use Rattle.xn_kernel.specs.Drains.{Reads, WritesTo, Writes, with_home, Round, Rounds, Unwritten, Unsynced, Unread}
 
@@ -152,22 +152,22 @@ module _ {L : Type 0} (bytes : L → List ℕ) (crash : L → List ℕ → Type 
       go (suc n) a rounds = (rounds.0, rounds.1, go n rounds.0 rounds.2)
 
   -- a round leaves no write under way, and less pending
-  pub round_ends : (old new : KernelValue L) → IsKernel bytes crash old.lanes old.state → IsIdle old.state.store.lives → Round bytes faults writes syncs reads old new →
-      IsIdle new.state.store.lives × (all_pending new.state.store.lives < all_pending old.state.store.lives)
+  pub round_ends : (old new : KernelValue L) → IsKernel bytes crash old.lanes old.state → IsIdle old.state.lives → Round bytes faults writes syncs reads old new →
+      IsIdle new.state.lives × (all_pending new.state.lives < all_pending old.state.lives)
   round_ends old new is idle r =
-      let left = round_leaves (types_in old.state) old.state.store r.begun r.store r.ticket.block r.ticket.bytes r.ticket.count (r.ticket.count, r.freed) is.rules idle r.written.picked r.written.begins r.settles in
-      subst (λ (k : KernelValue L). IsIdle k.state.store.lives × (all_pending k.state.store.lives < all_pending old.state.store.lives)) (sym r.next) left
+      let left = round_leaves (own_types old.state) old.state r.begun r.store r.ticket.block r.ticket.bytes r.ticket.count (r.ticket.count, r.freed) is.rules idle r.written.picked r.written.begins r.settles in
+      subst (λ (k : KernelValue L). IsIdle k.state.lives × (all_pending k.state.lives < all_pending old.state.lives)) (sym r.next) left
 
   -- a block is begun and its lane written
-  module _ (old : KernelValue L) (is : IsKernel bytes crash old.lanes old.state) (first : TicketValue L) (begun : StoreState) (picked : pick_of old.state.store ≡ Some first.block)
-      (begins : begun_of old.state.store first.block ≡ Ok ((first.bytes, first.count), begun)) (ours : first.kernel ≡ old.id) (taken : slice_get old.lanes first.block ≡ Some (Some first.lane))
+  module _ (old : KernelValue L) (is : IsKernel bytes crash old.lanes old.state) (first : TicketValue L) (begun : StoreState) (picked : pick_of old.state ≡ Some first.block)
+      (begins : begun_of old.state first.block ≡ Ok ((first.bytes, first.count), begun)) (ours : first.kernel ≡ old.id) (taken : slice_get old.lanes first.block ≡ Some (Some first.lane))
       (answer : Result (Unit {0}) DeviceFault) (lane : L) (gives : writes first.lane first.bytes answer lane) (counts : OnErr answer (CountsOne (faults first.lane) (faults lane)))
       (after : (bytes lane ≡ first.bytes) ⊎ ((bytes lane ≡ bytes first.lane) × ((fault : DeviceFault) × (answer ≡ Err fault)))) where
     abbrev ticket : TicketValue L
     ticket = record first { lane = lane; unsynced = true }
 
     abbrev away : KernelValue L
-    away = record old { lanes = slice_set old.lanes first.block None; state = record old.state { store = begun } }
+    away = record old { lanes = slice_set old.lanes first.block None; state = begun }
 
     written : Writes faults writes old answer ticket begun
     written = record { picked = picked; begins = begins; ours = ours; home = first.lane; taken = taken; gives = gives; counts = counts; unsynced = refl }
@@ -175,11 +175,11 @@ module _ {L : Type 0} (bytes : L → List ℕ) (crash : L → List ℕ → Type 
     -- what it holds settles
     pub settles_some : (n : ℕ) × (settled_of begun first.block (bytes lane) ≡ Ok (settled_after begun first.block n))
     settles_some =
-        let b = began old.state.store begun first.block first.bytes first.count begins in
+        let b = began old.state begun first.block first.bytes first.count begins in
         ⊎_elim
-        (λ new. (first.count, settles_all old.state.store begun first.block first.bytes first.count begins (bytes lane) new))
-        (λ kept. settles_old old.state.store begun first.block first.bytes first.count begins (bytes lane)
-        (held b.life.durable (fits_at bytes old.lanes old.state.store.lives first.block first.lane b.life is.fit taken b.alive) kept.0))
+        (λ new. (first.count, settles_all old.state begun first.block first.bytes first.count begins (bytes lane) new))
+        (λ kept. settles_old old.state begun first.block first.bytes first.count begins (bytes lane)
+        (held b.life.durable (fits_at bytes old.lanes old.state.lives first.block first.lane b.life is.fit taken b.alive) kept.0))
         after
       where
         held : (o : Option BlockState) → IfSome o (λ s. bytes first.lane ≡ s.bytes) → bytes lane ≡ bytes first.lane → IfSome o (λ s. bytes lane ≡ s.bytes)
@@ -236,7 +236,7 @@ module _ {L : Type 0} (bytes : L → List ℕ) (crash : L → List ℕ → Type 
         left = with_home old first.block home store
 
         says : ((bytes settled ≡ first.bytes) × (durable ≡ first.count)) ⊎ ((durable ≡ 0) × (freed ≡ 0))
-        says = settles_says old.state.store begun first.block first.bytes first.count begins (bytes settled) durable freed store settles
+        says = settles_says old.state begun first.block first.bytes first.count begins (bytes settled) durable freed store settles
 
         -- the begun bytes are there
         pub ends_well : 0 < durable → Round bytes faults writes syncs reads old left
@@ -291,11 +291,11 @@ module _ {L : Type 0} (bytes : L → List ℕ) (crash : L → List ℕ → Type 
             after_sync
           where
             some : 1 ≤ first.count
-            some = (began old.state.store begun first.block first.bytes first.count begins).some
+            some = (began old.state begun first.block first.bytes first.count begins).some
 
             never : bytes settled ≡ first.bytes → ⊥
             never new =
-                let all = settles_all old.state.store begun first.block first.bytes first.count begins (bytes settled) new in
+                let all = settles_all old.state begun first.block first.bytes first.count begins (bytes settled) new in
                 let same = same_ok ((durable, freed), store) (settled_after begun first.block first.count) (sym settles ∙ all) in
                 let count : durable ≡ first.count = ap (λ (p : (ℕ × ℕ) × StoreState). p.0.0) same in
                 let few = some in
@@ -307,12 +307,12 @@ module _ {L : Type 0} (bytes : L → List ℕ) (crash : L → List ℕ → Type 
       -- The ticket is finished
 
       mine : is_mine away synced_ticket ≡ true
-      mine = (λ i. eq-eqb first.kernel old.id ours i && is_in_flight begun first.block) ∙ in_flight old.state.store begun first.block first.bytes first.count begins
+      mine = (λ i. eq-eqb first.kernel old.id ours i && is_in_flight begun first.block) ∙ in_flight old.state begun first.block first.bytes first.count begins
 
       -- what a finish says of a refusal, and of the rest
       abbrev Refused : KernelValue L → TicketValue L → Type 0
       Refused mid given = (new : KernelValue L) (back : TicketValue L) (refusal : Refusal) →
-          (is_mine mid given ≡ true → given.unsynced ≡ false → GivesExactly (settled_of mid.state.store given.block (bytes given.lane)) mid.state.store new.state.store (Err refusal) ⊎ ((refusal ≡ Device) × CountsOne (faults given.lane) (faults back.lane))) →
+          (is_mine mid given ≡ true → given.unsynced ≡ false → GivesExactly (settled_of mid.state given.block (bytes given.lane)) mid.state new.state (Err refusal) ⊎ ((refusal ≡ Device) × CountsOne (faults given.lane) (faults back.lane))) →
           (refusal ≡ Device → (fault : DeviceFault) × reads given.lane (Err fault) back.lane) → back ≡ record given { lane = back.lane } → bytes back.lane ≡ bytes given.lane → new ≡ mid →
           Unread bytes faults writes syncs reads old back new
 
@@ -321,16 +321,16 @@ module _ {L : Type 0} (bytes : L → List ℕ) (crash : L → List ℕ → Type 
         where
           at_away : Refused away synced_ticket
           at_away new back refusal told unread rest kept is = ⊎_elim
-              (λ gives. absurd (never_err (settled_of begun first.block (bytes settled)) (settled_after begun first.block settles_synced.0) begun new.state.store refusal settles_synced.1 gives))
+              (λ gives. absurd (never_err (settled_of begun first.block (bytes settled)) (settled_after begun first.block settles_synced.0) begun new.state refusal settles_synced.1 gives))
               (λ device. let read = unread device.0 in
               subst (λ k. Unread bytes faults writes syncs reads old back k) (sym is) (ends_unread read.0 back read.1 device.1 (kept ∙ same) rest))
               (told mine refl)
 
       abbrev Done : KernelValue L → TicketValue L → Type 0
       Done mid given = (new : KernelValue L) (durable freed : ℕ) →
-          (is_mine mid given ≡ true → given.unsynced ≡ false → GivesExactly (settled_of mid.state.store given.block (bytes given.lane)) mid.state.store new.state.store (Ok (durable, freed)) ⊎ ⊥) →
+          (is_mine mid given ≡ true → given.unsynced ≡ false → GivesExactly (settled_of mid.state given.block (bytes given.lane)) mid.state new.state (Ok (durable, freed)) ⊎ ⊥) →
           (home : L) → bytes home ≡ bytes given.lane → reads given.lane (Ok tt) home →
-          new ≡ record mid { lanes = slice_set mid.lanes given.block (Some home); state = record mid.state { store = new.state.store } } →
+          new ≡ record mid { lanes = slice_set mid.lanes given.block (Some home); state = new.state } →
           (0 < durable → Round bytes faults writes syncs reads old new) × (durable ≡ 0 → Unwritten bytes faults writes syncs reads old new)
 
       pub finish_done : (mid : KernelValue L) (given : TicketValue L) → mid ≡ away → given ≡ synced_ticket → Done mid given
@@ -339,9 +339,9 @@ module _ {L : Type 0} (bytes : L → List ℕ) (crash : L → List ℕ → Type 
           at_away : Done away synced_ticket
           at_away new durable freed told home kept read next =
               let gives = ⊎_elim (λ g. g) (λ none. absurd none) (told mine refl) in
-              let settles = gives_exactly-ok (settled_of begun first.block (bytes settled)) begun new.state.store (durable, freed) gives in
-              let is_left : new ≡ with_home old first.block home new.state.store =
-              next ∙ ap (λ lanes. record old { lanes = lanes; state = record old.state { store = new.state.store } }) (set_twice old.lanes first.block None (Some home)) in (
-                λ some. subst (λ k. Round bytes faults writes syncs reads old k) (sym is_left) (ends_well home read kept durable freed new.state.store settles some),
-                λ none. subst (λ k. Unwritten bytes faults writes syncs reads old k) (sym is_left) (ends_unwritten home read kept durable freed new.state.store settles none),
+              let settles = gives_exactly-ok (settled_of begun first.block (bytes settled)) begun new.state (durable, freed) gives in
+              let is_left : new ≡ with_home old first.block home new.state =
+              next ∙ ap (λ lanes. record old { lanes = lanes; state = new.state }) (set_twice old.lanes first.block None (Some home)) in (
+                λ some. subst (λ k. Round bytes faults writes syncs reads old k) (sym is_left) (ends_well home read kept durable freed new.state settles some),
+                λ none. subst (λ k. Unwritten bytes faults writes syncs reads old k) (sym is_left) (ends_unwritten home read kept durable freed new.state settles none),
               )

@@ -1,5 +1,4 @@
 pub mod Homes
 pub mod Keeping
-pub mod Forgetting
 pub mod Draining
 pub mod ForCallers

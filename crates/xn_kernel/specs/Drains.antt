@@ -23,8 +23,8 @@ WritesTo L = L → List ℕ → Result (Unit {0}) DeviceFault → L → Type 0
 
 -- the block that is picked, with its safe entries begun, was written once through its lane: the ticket after that, and the state
 pub record Writes {L : Type 0} (faults : L → ℕ) (writes : WritesTo L) (kernel : KernelValue L) (answer : Result (Unit {0}) DeviceFault) (ticket : TicketValue L) (begun : StoreState) : Type 0 where
-  pub picked : pick_of kernel.state.store ≡ Some ticket.block
-  pub begins : begun_of kernel.state.store ticket.block ≡ Ok ((ticket.bytes, ticket.count), begun)
+  pub picked : pick_of kernel.state ≡ Some ticket.block
+  pub begins : begun_of kernel.state ticket.block ≡ Ok ((ticket.bytes, ticket.count), begun)
   pub ours : ticket.kernel ≡ kernel.id
   -- the lane before the write
   pub home : L
@@ -35,7 +35,7 @@ pub record Writes {L : Type 0} (faults : L → ℕ) (writes : WritesTo L) (kerne
 
 -- the kernel with a lane at home, in this state
 abbrev pub with_home : {L : Type 0} → KernelValue L → ℕ → L → StoreState → KernelValue L
-with_home kernel block lane store = record kernel { lanes = slice_set kernel.lanes block (Some lane); state = record kernel.state { store = store } }
+with_home kernel block lane store = record kernel { lanes = slice_set kernel.lanes block (Some lane); state = store }
 
 -- the begun bytes are read back, and the write's entries are durable; the write itself may have been answered Err
 pub record Round {L : Type 0} (bytes : L → List ℕ) (faults : L → ℕ) (writes : WritesTo L) (syncs reads : Reads L) (old new : KernelValue L) : Type 0 where
@@ -91,7 +91,7 @@ pub record Unsynced {L : Type 0} (bytes : L → List ℕ) (faults : L → ℕ) (
   pub counts : CountsOne (faults ticket.lane) (faults back.lane)
   pub kept : bytes back.lane ≡ bytes ticket.lane
   pub rest : back ≡ record ticket { lane = back.lane }
-  pub next : new ≡ record old { lanes = slice_set old.lanes ticket.block None; state = record old.state { store = begun } }
+  pub next : new ≡ record old { lanes = slice_set old.lanes ticket.block None; state = begun }
 
 -- The block could not be read back: it stays in flight, and its lane is with the ticket.
 pub record Unread {L : Type 0} (bytes : L → List ℕ) (faults : L → ℕ) (writes : WritesTo L) (syncs reads : Reads L) (old : KernelValue L) (back : TicketValue L) (new : KernelValue L) : Type 0 where
@@ -106,7 +106,7 @@ pub record Unread {L : Type 0} (bytes : L → List ℕ) (faults : L → ℕ) (wr
   pub counts : CountsOne (faults settled) (faults back.lane)
   pub kept : bytes back.lane ≡ bytes ticket.lane
   pub rest : back ≡ record ticket { lane = back.lane; unsynced = false }
-  pub next : new ≡ record old { lanes = slice_set old.lanes ticket.block None; state = record old.state { store = begun } }
+  pub next : new ≡ record old { lanes = slice_set old.lanes ticket.block None; state = begun }
 
 -- after the last good round a write is answered Err and leaves the old bytes, or a block cannot be synced or read back
 abbrev pub Stops : {L : Type 0} → (L → List ℕ) → (L → ℕ) → WritesTo L → Reads L → Reads L → KernelValue L → Option (TicketValue L) → Refusal → KernelValue L → Type 0
@@ -117,5 +117,5 @@ Stops {L} bytes faults writes syncs reads old (Some back) refusal new =
 -- a drain that is refused: before its first round, as a write is under way; or after some rounds, as a lane failed
 abbrev pub Refuses : {L : Type 0} → (L → List ℕ) → (L → ℕ) → WritesTo L → Reads L → Reads L → KernelValue L → ℕ → Option (TicketValue L) → Refusal → KernelValue L → Type 0
 Refuses {L} bytes faults writes syncs reads old n ticket refusal new =
-    (IsBusy old.state.store × (n ≡ 0) × (ticket ≡ None) × (refusal ≡ InFlight) × (new ≡ old))
+    (IsBusy old.state × (n ≡ 0) × (ticket ≡ None) × (refusal ≡ InFlight) × (new ≡ old))
     ⊎ ((mid : KernelValue L) × Rounds bytes faults writes syncs reads n old mid × Stops bytes faults writes syncs reads mid ticket refusal new)

@@ -9,8 +9,9 @@ ghost use Rattle.xn_model.specs.Images.{blocks_in};
 ghost use Rattle.xn_model.specs.Lanes.{FitLives, HoldImage};
 ghost use Rattle.xn_model.specs.Rules.{IsConsistent};
 ghost use Rattle.templates.specs.Tables.{types_of};
-ghost use Rattle.xn_state.specs.Mounts.{lives_in, AreFound};
-ghost use Rattle.xn_state.specs.States.{StateValue, types_in};
+ghost use Rattle.xn_state.specs.Mounts.{image_types, lives_in, AreFound};
+ghost use Rattle.xn_model.specs.Lives.{StoreState};
+ghost use Rattle.xn_state.specs.States.{own_types};
 ghost use Rattle.xn_kernel.specs.Kernels.{KernelValue, TicketValue, IsKernel, is_in_flight, is_mine, result_map_err};
 
 use crate::ticket::Ticket;
@@ -25,6 +26,7 @@ mod call;
 mod drain;
 mod edits;
 mod forget;
+mod install;
 mod kept;
 
 pub use drain::DrainStop;
@@ -37,8 +39,6 @@ pub struct Kernel<L: Lane> {
 }
 
 impl<L: Lane> Model for Kernel<L> {
-    ghost use Rattle.templates.specs.Tables.{types_of};
-    ghost use Rattle.xn_state.specs.States.{StateValue, types_in};
     ghost use Rattle.xn_kernel.specs.Kernels.{KernelValue, IsKernel};
 
     ghost Value = { KernelValue L };
@@ -62,9 +62,9 @@ impl<L: Lane + Drop> Drop for Kernel<L> {
 impl<L: Lane> Kernel<L> {
     ghost use Rattle.disk.specs.declared.lane.DeviceFault.{DeviceFault};
 
-    /// A kernel over a disk whose lanes hold a sound image and no write that isn't synced, of which these are the reached blocks, each once, with the types of the
-    /// image's table. Each of them has one state, the durable one, and entry numbers start at 1. `Err` gives the lanes
-    /// back and comes only for want of memory.
+    /// A kernel over a disk whose lanes hold a sound image and no write that isn't synced, of which these are the reached blocks, each
+    /// once, with the table that the image's catalogue names. Each of them has one state, the durable one, and entry numbers
+    /// start at 1. `Err` gives the lanes back and comes only for want of memory.
     pub fn start(
         alloc: Global,
         lanes: Lanes<L>,
@@ -75,11 +75,12 @@ impl<L: Lane> Kernel<L> {
     ) -> Result<Kernel<L>, Lanes<L>>
         requires held { HoldImage L.bytes_of lanes (blocks_in image.now) }
         requires synced { AreSynced L.bytes_of L.crash_leaves lanes }
-        requires found { AreFound (types_of table) image.now found.now }
+        requires own { types_of table ≡ image_types image.now }
+        requires found { AreFound image.now found.now }
         ensures ok { IfOk result (λ kernel. kernel ≡ record {
           id = id;
           lanes = lanes;
-          state = record { table = table; store = mounted_state (lives_in image.now found.now) };
+          state = mounted_state (lives_in image.now found.now);
         }) }
         ensures err { IfErr result (λ back. back ≡ lanes) }
     {
@@ -91,11 +92,11 @@ impl<L: Lane> Kernel<L> {
 
     /// A kernel over lanes that fit a state, and hold no write that isn't synced.
     pub fn over(id: u64, lanes: Lanes<L>, state: State) -> Kernel<L>
-        requires rules { IsConsistent (types_in state) state.store }
-        requires fit { FitLives L.bytes_of lanes state.store.lives }
+        requires fit { FitLives L.bytes_of lanes state.lives }
         requires synced { AreSynced L.bytes_of L.crash_leaves lanes }
         ensures { result ≡ record { id = id; lanes = lanes; state = state } }
     {
+        state.keeps_rules();
         Kernel { id, lanes, state }
     }
 
@@ -108,23 +109,23 @@ impl<L: Lane> Kernel<L> {
 
     /// Starts a life with these bytes on the lowest free block.
     pub fn init(&mut self, fs: Fs, ty: u32, bytes: &[u8; 512]) -> Result<(u32, EditId), Refusal>
-        ensures state { Gives (init_of (types_in self.old.state) self.old.state.store fs.number ty bytes.now) self.old.state.store self.new.state.store result }
-        ensures rest { self.new ≡ record self.old { state = record self.old.state { store = self.new.state.store } } }
+        ensures state { Gives (init_of (own_types self.old.state) self.old.state fs.number ty bytes.now) self.old.state self.new.state result }
+        ensures rest { self.new ≡ record self.old { state = self.new.state } }
     {
         self.state.init(fs, ty, bytes)
     }
 
     /// Sets the file system's root slot, in block 0, to a fresh block.
     pub fn make_root(&mut self, fs: Fs, block: u32) -> Result<EditId, Refusal>
-        ensures state { Gives (make_root_of self.old.state.store fs.number block) self.old.state.store self.new.state.store result }
-        ensures rest { self.new ≡ record self.old { state = record self.old.state { store = self.new.state.store } } }
+        ensures state { Gives (make_root_of self.old.state fs.number block) self.old.state self.new.state result }
+        ensures rest { self.new ≡ record self.old { state = self.new.state } }
     {
         self.state.make_root(fs, block)
     }
 
     /// The least pending entry of a file system, or the next number to be given.
     pub fn floor(&self, fs: Fs) -> u64
-        ensures { result ≡ floor_of self.now.state.store fs.number }
+        ensures { result ≡ floor_of self.now.state fs.number }
     {
         self.state.floor(fs)
     }
@@ -155,11 +156,11 @@ impl<L: Lane> Kernel<L> {
 
     /// Begins a write of a block: the ticket has its lane, and the bytes that its safe entries leave.
     pub fn begin(&mut self, block: u32) -> Result<Ticket<L>, Refusal>
-        ensures state { GivesExactly (begun_of self.old.state.store block) self.old.state.store self.new.state.store
+        ensures state { GivesExactly (begun_of self.old.state block) self.old.state self.new.state
             (result_map (λ ticket. (ticket.bytes, ticket.count)) result) }
         ensures ticket { IfOk result (λ ticket. (ticket.kernel ≡ self.old.id) × (ticket.block ≡ block)
             × (slice_get self.old.lanes block ≡ Some (Some ticket.lane)) × (ticket.unsynced ≡ false)) }
-        ensures lanes { OnOk result (self.new ≡ record self.old { lanes = slice_set self.old.lanes block None; state = record self.old.state { store = self.new.state.store } }) }
+        ensures lanes { OnOk result (self.new ≡ record self.old { lanes = slice_set self.old.lanes block None; state = self.new.state }) }
         ensures err { OnErr result (self.new ≡ self.old) }
     {
         let (bytes, count) = self.state.begun(block)?;
@@ -186,13 +187,13 @@ impl<L: Lane> Kernel<L> {
         ensures foreign { is_mine self.old ticket ≡ false → IsErrAnd result (λ back. (back.0 ≡ ticket) × (back.1 ≡ Refusal.NotMine)) }
         ensures unsynced { IsTrue (is_mine self.old ticket) → IsTrue ticket.unsynced → IsErrAnd result (λ back. (back.0 ≡ ticket) × (back.1 ≡ Refusal.NotSynced)) }
         ensures mine { IsTrue (is_mine self.old ticket) → ticket.unsynced ≡ false →
-            GivesExactly (settled_of self.old.state.store ticket.block (L.bytes_of ticket.lane)) self.old.state.store self.new.state.store
+            GivesExactly (settled_of self.old.state ticket.block (L.bytes_of ticket.lane)) self.old.state self.new.state
             (result_map (λ landed. (landed.durable, landed.freed)) (result_map_err (λ back. back.1) result))
             ⊎ IsErrAnd result (λ back. (back.1 ≡ Refusal.Device) × CountsOne (L.faults_of ticket.lane) (L.faults_of back.0.lane)) }
 
         // The lane comes back with its bytes.
         ensures given { OnOk result ((lane : L) × (L.bytes_of lane ≡ L.bytes_of ticket.lane) × (L.faults_of lane ≡ L.faults_of ticket.lane)
-            × L.read_gives ticket.lane (Ok tt) lane × (self.new ≡ record self.old { lanes = slice_set self.old.lanes ticket.block (Some lane); state = record self.old.state { store = self.new.state.store } })) }
+            × L.read_gives ticket.lane (Ok tt) lane × (self.new ≡ record self.old { lanes = slice_set self.old.lanes ticket.block (Some lane); state = self.new.state })) }
 
         // A refusal changes nothing but what the lane keeps beside its bytes.
         ensures err { OnErr result (self.new ≡ self.old) }

@@ -6,4 +6,6 @@ mod ticket;
 
 pub use kernel::{DrainStop, Kernel};
 pub use ticket::Ticket;
-pub use xn_state::{Answer, Call, Edit, EditId, Found, Fs, Landed, Patch, Refusal, Stopped, Store};
+pub use xn_state::{
+    Answer, Call, Edit, EditId, Found, Fs, Installed, Landed, Patch, Refusal, Stopped, Store,
+};

@@ -1,6 +1,6 @@
 -- A block accepts a state, and the blocks that it adds and drops change their status.
 use Rattle.std.proofs.Common.{◌≡◌, ℕ, false, ◌+◌, ◌<◌, ◌≤◌, length, ◌⊎◌, List, [], ◌∷◌, Option, Some, None, refl, sym, ◌∙◌, ap, inl, inr, arith, subst}
-use Rattle.std.specs.Prelude.{Contains, option_to_list}
+use Rattle.std.specs.Prelude.{Contains, IsTrue, option_to_list}
 use Rattle.std.specs.List.{last_or}
 use Rattle.std.proofs.lemmas.Bool.{cases_eq, cases_Bool, false≢true}
 use Rattle.std.proofs.lemmas.Option.{same_Some}
@@ -8,17 +8,21 @@ use Rattle.std.proofs.lemmas.List.Elements.{Contains-append_cases, Contains-appe
 use Rattle.xn_model.specs.Lists.{has_number, blocks_of}
 use Rattle.xn_model.specs.Types.{Types}
 use Rattle.xn_model.specs.Images.{IsDiskSize}
-use Rattle.xn_model.specs.Calls.{accepts}
-use Rattle.xn_model.specs.Lives.{StoreState, BlockState, Owned, Dropped, Life, Lives, life_at, states, carried, newest, is_dropped}
-use Rattle.xn_model.specs.Rules.{ArePlaced, Keeps, IsConsistent, IsBy, IsOlder, WaitsForOlder, IsRootLife, IsSoundLife, IsLinkedLife, IsPlaced, NamedIn, HasExactStatuses, IsNamer, IsCount, IsOwnedBy, IsFreshBlock, ChainsEnd}
+use Rattle.xn_model.specs.Root.{pointer, has_type}
+use Rattle.xn_model.specs.Languages.{Language}
+use Rattle.xn_model.specs.Calls.{accepts, root_now, types_of, latest, life_bytes}
+use Rattle.xn_model.specs.Lives.{StoreState, BlockState, Owned, Dropped, Life, Lives, life_at, states, carried, newest, is_dropped, current, bytes_of, root_on_disk}
+use Rattle.xn_model.specs.Rules.{ArePlaced, Keeps, IsConsistent, IsBy, IsOlder, IsOlderType, PointersStay, KeepsTypesThere, WaitsForOlder, IsRootLife, IsSoundLife, IsLinkedLife, IsPlaced, NamedIn, HasExactStatuses, IsNamer, IsCount, IsOwnedBy, IsFreshBlock, ChainsEnd}
 use Rattle.xn_model.proofs.Changes.{accepted, accept, status_after}
-use Rattle.xn_model.proofs.Lists.{Contains-none, last_of, blocks_of_at, has_number_at, has_number_from}
+use Rattle.xn_model.proofs.Catalogue.{on_disk_each, pointers_push}
+use Rattle.xn_model.proofs.Languages.{kept_types, latest_each}
+use Rattle.xn_model.proofs.Lists.{Contains-none, Contains-cons, last_of, blocks_of_at, has_number_at, has_number_from}
 use Rattle.xn_model.proofs.Lives.{each_forth, each_back, accepted_is, length_accepted}
-use Rattle.xn_model.proofs.Carry.{Carries}
+use Rattle.xn_model.proofs.Carry.{Carries, types_still}
 use Rattle.xn_model.proofs.Chains.{HasChain, alone, below, chain_of, chain_ends, ends_at, goes_on}
 use Rattle.xn_model.proofs.Orders.{AreBelow, below_next, ordered_accept}
 use Rattle.xn_model.proofs.States.{MayBeRoot, MayAccept, last_push, states_push, carried_still, with_state, accepted_other, accepted_same, status_cases, status_stays, fresh_owned, same_owner, owned_dropped}
-use Rattle.xn_model.proofs.AcceptedLives.{now, added_fresh, fresh_after, dropped_other, carries, held_other, kept_other, held_grown, kept_grown, owned_added}
+use Rattle.xn_model.proofs.AcceptedLives.{now, template_other, added_fresh, fresh_after, dropped_other, carries, held_other, kept_other, held_grown, kept_grown, owned_added}
 
 module _ (T : Types) (state : StoreState) (h : IsConsistent T state) (b : ℕ) (l : Life) (s : BlockState) (alive : life_at state.lives b ≡ Some l) (may : MayAccept T state.lives b l s) (number : s.entry ≡ state.next)
     (may_root : b ≡ 0 → MayBeRoot T state.lives h.lives_sound.root s) where
@@ -28,8 +32,8 @@ module _ (T : Types) (state : StoreState) (h : IsConsistent T state) (b : ℕ) (
   same_life : (c : ℕ) (m : Life) → life_at state.lives c ≡ Some m → c ≡ b → m ≡ l
   same_life c m e same = same_Some m l (sym e ∙ (ap (life_at state.lives) same ∙ alive))
 
-  latest : (t : BlockState) → Contains (states l) t → t.entry < s.entry
-  latest t m = let lt = h.numbers b l t alive m in let e = number in omega arith
+  newer : (t : BlockState) → Contains (states l) t → t.entry < s.entry
+  newer t m = let lt = h.numbers b l t alive m in let e = number in omega arith
 
   carries_next : Carries T state.lives next_lives
   unfolding next_lives now
@@ -41,7 +45,7 @@ module _ (T : Types) (state : StoreState) (h : IsConsistent T state) (b : ℕ) (
     | inl same ↦
         let is : with_state s (status_after b s c m.status) l ≡ accepted b s c m = sym (accepted_same b s c m same ∙ ap (with_state s (status_after b s c m.status)) (same_life c m e same)) in
         subst (λ x. IsSoundLife T next_lives c x) is (subst (λ x. IsSoundLife T next_lives x (with_state s (status_after b s c m.status) l)) (sym same)
-        (held_grown T state.lives b l s alive may h.lives_sound.root (h.lives_sound.each b l alive) (h.linked b l alive) latest (status_after b s c m.status)))
+        (held_grown T state.lives b l s alive may h.lives_sound.root (h.lives_sound.each b l alive) (h.linked b l alive) newer (status_after b s c m.status)))
     | inr other ↦ subst (IsSoundLife T next_lives c) (sym (accepted_other b s c m other)) (held_other T state.lives b l s alive may h.lives_sound.root c m (status_after b s c m.status) (h.lives_sound.each c m e))
   ]
 
@@ -51,7 +55,7 @@ module _ (T : Types) (state : StoreState) (h : IsConsistent T state) (b : ℕ) (
     | inl same ↦
         let is : with_state s (status_after b s c m.status) l ≡ accepted b s c m = sym (accepted_same b s c m same ∙ ap (with_state s (status_after b s c m.status)) (same_life c m e same)) in
         subst (λ x. IsLinkedLife T next_lives c x) is (subst (λ x. IsLinkedLife T next_lives x (with_state s (status_after b s c m.status) l)) (sym same)
-        (kept_grown T state.lives b l s alive may h.lives_sound.root (h.lives_sound.each b l alive) (h.linked b l alive) latest (status_after b s c m.status)))
+        (kept_grown T state.lives b l s alive may h.lives_sound.root (h.lives_sound.each b l alive) (h.linked b l alive) newer (status_after b s c m.status)))
     | inr other ↦ subst (IsLinkedLife T next_lives c) (sym (accepted_other b s c m other)) (kept_other T state.lives b l s alive may h.lives_sound.root c m (status_after b s c m.status) other (h.linked c m e))
   ]
 
@@ -90,11 +94,33 @@ module _ (T : Types) (state : StoreState) (h : IsConsistent T state) (b : ℕ) (
         state = r.state;
         durable = r.durable;
         mark = λ t i. elim (state_from 0 r.life t i) [ inl old ↦ rw carries_next.count (r.mark t old) | inr new ↦ rw (carries_next.count, ← new.0) (may_root (sym new.1)).mark ];
-        head = λ t i. elim (state_from 0 r.life t i) [ inl old ↦ r.head t old | inr new ↦ rw (← new.0) (may_root (sym new.1)).head ];
+        pointers = root_pointers;
         long = λ t i. elim (state_from 0 r.life t i) [ inl old ↦ r.long t old | inr new ↦ rw (← new.0) (may_root (sym new.1)).long ];
         templates = λ t c u i n. elim (state_from 0 r.life t i) [ inl old ↦ carries_next.template c (r.templates t c u old n) | inr new ↦ carries_next.template c ((may_root (sym new.1)).templates c u (rw new.0 n)) ];
+        types = λ t c u i n. elim (state_from 0 r.life t i) [ inl old ↦ r.types t c u old n | inr new ↦ rw (← new.0) ((may_root (sym new.1)).types c u (rw new.0 n)) ];
+        all_types = root_types;
         slots = λ t j c i lt e ne. carries_next.system (Some j) c (elim (state_from 0 r.life t i) [ inl old ↦ r.slots t j c old lt e ne | inr new ↦ (may_root (sym new.1)).slots j c lt (rw new.0 e) ne ]);
       }
+    where
+      root_pointers : PointersStay (states (accepted b s 0 h.lives_sound.root.life))
+      root_pointers =
+          let r = h.lives_sound.root in
+          let k = h.linked 0 r.life r.alive in
+          elim (cases_eq 0 b) [
+            | inl same ↦ subst (λ x. PointersStay (states x)) (sym (accepted_same b s 0 r.life same))
+                (pointers_push r.life.durable r.life.pending s k.last r.pointers k.is_last ((may_root (sym same)).pointers k.last k.is_last))
+            | inr other ↦ subst (λ x. PointersStay (states x)) (sym (accepted_other b s 0 r.life other)) r.pointers
+          ]
+
+      root_types : (t : BlockState) (u : ℕ) → newest (accepted b s 0 h.lives_sound.root.life) ≡ Some t → IsTrue (T.installed u) → IsTrue (has_type t.bytes u)
+      root_types t u e i =
+          let r = h.lives_sound.root in
+          elim (cases_eq 0 b) [
+            | inl same ↦
+                let is : s ≡ t = same_Some s t (sym (ap newest (accepted_same b s 0 r.life same) ∙ last_push r.life.durable r.life.pending s) ∙ e) in
+                subst (λ (x : BlockState). IsTrue (has_type x.bytes u)) is ((may_root (sym same)).all_types u i)
+            | inr other ↦ r.all_types t u (sym (ap newest (accepted_other b s 0 r.life other)) ∙ e) i
+          ]
 
   -- the same of pending states
   pending_from : (c : ℕ) (m : Life) (t : BlockState) → Contains (accepted b s c m).pending t → Contains m.pending t ⊎ ((s ≡ t) × (c ≡ b))
@@ -112,6 +138,34 @@ module _ (T : Types) (state : StoreState) (h : IsConsistent T state) (b : ℕ) (
   older_next : (c n : ℕ) → IsOlder state.lives c n → IsOlder next_lives c n
   unfolding next_lives
   older_next c n o = record { life = accepted b s c o.life; alive = each_forth (accepted b s) state.lives c o.life o.alive; older = elim o.older [ inl d ↦ inl d | inr t ↦ inr (t.0, pending_still c o.life t.0 t.1, t.2) ] }
+
+  older_type_next : (u n : ℕ) → IsOlderType state.lives u n → IsOlderType next_lives u n
+  unfolding next_lives
+  older_type_next u n o = record {
+    life = accepted b s 0 o.life;
+    alive = each_forth (accepted b s) state.lives 0 o.life o.alive;
+    older = elim o.older [ inl d ↦ inl d | inr t ↦ inr (t.0, pending_still 0 o.life t.0 t.1, t.2, t.3) ];
+  }
+
+  -- a type that there is stands in block 0
+  older_installed : (u : ℕ) → IsTrue (T.installed u) → IsOlderType state.lives u s.entry
+  older_installed u i =
+      let r = h.lives_sound.root in
+      let k = h.linked 0 r.life r.alive in
+      let in' = last_of r.life.durable r.life.pending k.last k.is_last in
+      let has = r.all_types k.last u k.is_last i in
+      record {
+        life = r.life;
+        alive = r.alive;
+        older = elim (Contains-append_cases (option_to_list r.life.durable) r.life.pending k.last in') [
+          | inl d ↦ inl (k.last, some_is r.life.durable k.last d, has)
+          | inr p ↦ inr (k.last, p, let lt = h.numbers 0 r.life k.last r.alive in' in let e' = number in omega arith, has)
+        ];
+      }
+    where
+      some_is : (o : Option BlockState) (x : BlockState) → Contains (option_to_list o) x → o ≡ Some x
+      some_is None x i = absurd (Contains-none x i)
+      some_is (Some y) x i = elim (Contains-cons y [] x i) [ inl e ↦ ap Some e | inr none ↦ absurd (Contains-none x none) ]
 
   -- a living block is older than the new state
   older_alive : (c : ℕ) (m : Life) → life_at state.lives c ≡ Some m → IsOlder state.lives c s.entry
@@ -152,6 +206,14 @@ module _ (T : Types) (state : StoreState) (h : IsConsistent T state) (b : ℕ) (
                 subst (λ y. Contains (T.owned y t.bytes) (c, u)) (sym is) named,
                 older_next c t.entry (subst (λ (y : BlockState). IsOlder state.lives c y.entry) new.0 (older_alive c x.life x.alive)),
               )
+        ];
+    types = λ a m t c u e i n. let r = each_back (accepted b s) state.lives a m e in
+        elim (pending_from a r.0 t (subst (λ (x : Life). Contains x.pending t) r.2 i)) [
+          | inl old ↦ older_type_next u t.entry (h.waits.types a r.0 t c u r.1 old n)
+          | inr new ↦
+              let x = may.adds c u (subst (λ (x : BlockState). Contains x.adds (c, u)) (sym new.0) n) in
+              older_type_next u t.entry (subst (λ (y : BlockState). IsOlderType state.lives u y.entry) new.0
+              (older_installed u (subst (λ y. IsTrue (T.installed y)) x.ty (h.linked c x.life x.alive).installed)))
         ];
     drops = λ a m t c x y e i d f j. let r = each_back (accepted b s) state.lives a m e in let p = each_back (accepted b s) state.lives c x f in
         let y_in = pending_from c p.0 y (subst (λ (z : Life). Contains z.pending y) p.2 j) in
@@ -344,10 +406,38 @@ module _ (T : Types) (state : StoreState) (h : IsConsistent T state) (b : ℕ) (
 
 -- What a call that has a block accept a state leaves
 
+-- the disk is the same
+pub accept_there : (state : StoreState) (b : ℕ) (s : BlockState) → KeepsTypesThere state.lives (accepts state b s).1.lives
+accept_there state b s = types_still state.lives (accepts state b s).1.lives (ap root_on_disk (accepted_is state.lives b s) ∙ on_disk_each (accepted b s) state.lives (λ x. refl))
+
+-- no type is new where block 0's pointers are the same
+accept_types : (T : Types) (state : StoreState) (h : IsConsistent T state) (b : ℕ) (l : Life) (s : BlockState) (alive : life_at state.lives b ≡ Some l) → MayAccept T state.lives b l s →
+    (b ≡ 0 → (i : ℕ) → i < 16 → pointer s.bytes i ≡ pointer (root_now state) i) → (L : Language) → types_of L (accept b s state.lives) ≡ types_of L state.lives
+accept_types T state h b l s alive may same =
+    let r = h.lives_sound.root in
+    let k = h.linked 0 r.life r.alive in
+    kept_types T state.lives (accept b s state.lives) r k.last k.is_last
+    (λ i lt. elim (cases_eq 0 b) [
+      | inl zero' ↦ ap (λ m. pointer m i) (now_newest zero') ∙ same (sym zero') i lt
+      | inr other ↦ ap (λ m. pointer m i) (still 0 other)
+    ])
+    (λ c n t. still c (template_other T state.lives b l s alive may r c t))
+  where
+    still : (c : ℕ) → (c ≡ b → ⊥) → latest (accept b s state.lives) c ≡ latest state.lives c
+    still c ne = latest_each (accepted b s) state.lives c (λ x e. ap current (accepted_other b s c x ne))
+
+    now_newest : 0 ≡ b → latest (accept b s state.lives) 0 ≡ s.bytes
+    now_newest zero' =
+        let r = h.lives_sound.root in
+        ap life_bytes (each_forth (accepted b s) state.lives 0 r.life r.alive)
+        ∙ (ap current (accepted_same b s 0 r.life zero') ∙ ap bytes_of (last_push r.life.durable r.life.pending s))
+
 pub accepts_keeps : (T : Types) (state : StoreState) (h : IsConsistent T state) (b : ℕ) (l : Life) (s : BlockState) (alive : life_at state.lives b ≡ Some l) → MayAccept T state.lives b l s → s.entry ≡ state.next →
-    (b ≡ 0 → MayBeRoot T state.lives h.lives_sound.root s) → Keeps T state (accepts state b s).1
+    (b ≡ 0 → MayBeRoot T state.lives h.lives_sound.root s) → (b ≡ 0 → (i : ℕ) → i < 16 → pointer s.bytes i ≡ pointer (root_now state) i) → Keeps T state (accepts state b s).1
 unfolding next_lives
-accepts_keeps T state h b l s alive may number may_root = record {
+accepts_keeps T state h b l s alive may number may_root same = record {
+  types = λ L. ap (types_of L) (accepted_is state.lives b s) ∙ accept_types T state h b l s alive may same L;
+  there = accept_there state b s;
   consistent = subst (λ xs. IsConsistent T (record { lives = xs; next = state.next + 1 })) (sym (accepted_is state.lives b s)) (accept_keeps T state h b l s alive may number may_root);
   count = length_accepted state.lives b s;
   placed = λ content p. subst (ArePlaced content) (sym (accepted_is state.lives b s)) (accept_places T state h b l s alive may number may_root content p);

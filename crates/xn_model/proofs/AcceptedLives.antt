@@ -8,10 +8,11 @@ use Rattle.xn_model.specs.Lists.{has_number, blocks_of}
 use Rattle.xn_model.specs.Types.{Types, fits}
 use Rattle.xn_model.specs.Lives.{BlockState, Status, Fresh, Owned, Dropped, Life, Lives, life_at, states, carried, newest, first_states, is_dropped}
 use Rattle.xn_model.specs.Rules.{IsBy, BelongsTo, IsInFileSystem, IsTemplate, IsRootLife, IsSoundLife, IsLinkedLife, NamedIn, NoneNames, NoneDrops, Rises, IsDroppedBy, IsOwnedBy}
-use Rattle.xn_model.proofs.Changes.{accepted, accept, status_after}
+use Rattle.xn_model.proofs.Changes.{accepted, accept, status_after, each}
+use Rattle.xn_model.proofs.Catalogue.{on_disk_each}
 use Rattle.xn_model.proofs.Lists.{Contains-none, Contains-cons, last_of, has_number_at, has_number_from, blocks_of_at, blocks_of_has}
 use Rattle.xn_model.proofs.Lives.{each_forth, length_revised}
-use Rattle.xn_model.proofs.Carry.{Carries}
+use Rattle.xn_model.proofs.Carry.{Carries, types_still}
 use Rattle.xn_model.proofs.Reached.{carried_pending}
 use Rattle.xn_model.proofs.States.{MayAccept, rises_push, last_push, start_push, grows_push, stays_push, stays_last, states_push, carried_still, count_more, with_state, with_status, status_cases, fresh_owned, same_owner, fresh_dropped, owned_dropped}
 
@@ -64,7 +65,7 @@ module _ (T : Types) (lives : Lives) (b : ℕ) (l : Life) (s : BlockState) (aliv
   pending_other : (c : ℕ) (x : Life) → (c ≡ b → ⊥) → (accepted b s c x).pending ≡ x.pending
   pending_other c x ne = ap (λ t. cond t (x.pending ++ s ∷ []) x.pending) (ne_eqb c b ne)
 
-  template_other : (c : ℕ) → IsTemplate T lives c → c ≡ b → ⊥
+  pub template_other : (c : ℕ) → IsTemplate T lives c → c ≡ b → ⊥
   template_other c t e =
       let same : t.life ≡ l = one b t.life l (ap (life_at lives) (sym e) ∙ t.alive) alive in
       let zero' : b ≡ 0 = may.editable (ap (λ (y : Life). y.fs) (sym same) ∙ t.nobody) in
@@ -86,9 +87,10 @@ module _ (T : Types) (lives : Lives) (b : ℕ) (l : Life) (s : BlockState) (aliv
     belongs = λ a c u r. record { life = accepted b s c r.life; alive = each_forth (accepted b s) lives c r.life r.alive; ty = r.ty; by = by_after a c r.life r.alive r.by };
     system = λ fs c r. record { life = accepted b s c r.life; alive = each_forth (accepted b s) lives c r.life r.alive; same = r.same };
     disk = λ c r. record { life = accepted b s c r.life; alive = each_forth (accepted b s) lives c r.life r.alive; state = r.state; durable = r.durable };
-    template = λ c r. record { life = accepted b s c r.life; alive = each_forth (accepted b s) lives c r.life r.alive; nobody = r.nobody; ty = r.ty; state = r.state; durable = r.durable; only = pending_other c r.life (template_other c r) ∙ r.only; bytes = r.bytes };
+    template = λ c r. record { life = accepted b s c r.life; alive = each_forth (accepted b s) lives c r.life r.alive; nobody = r.nobody; ty = r.ty; state = r.state; only = ap (λ xs. option_to_list r.life.durable ++ xs) (pending_other c r.life (template_other c r)) ∙ r.only; bytes = r.bytes };
     dropped = λ a c r. record { life = accepted b s c r.life; alive = each_forth (accepted b s) lives c r.life r.alive; status = dropped_after a c r.life r.alive r.status };
     resting = λ a c d r. record { life = accepted b s c r.life; alive = each_forth (accepted b s) lives c r.life r.alive; nothing = pending_other c r.life (dropped_other a c d) ∙ r.nothing };
+    types = types_still lives (each (accepted b s) lives) (on_disk_each (accepted b s) lives (λ x. refl));
   }
 
   -- the targets
@@ -117,6 +119,7 @@ module _ (T : Types) (lives : Lives) (b : ℕ) (l : Life) (s : BlockState) (aliv
     named = λ r x u i n. carries.belongs c x u (h.named r x u i n);
     same_system = λ r x u ne i n. carries.system m.fs x (h.same_system r x u ne i n);
     ready = λ r x u i n. carries.disk x (h.ready r x u i n);
+    typed = λ r x u ne i n. carries.types u (h.typed r x u ne i n);
     rising = h.rising;
   }
 
@@ -200,6 +203,7 @@ module _ (T : Types) (lives : Lives) (b : ℕ) (l : Life) (s : BlockState) (aliv
         | inr e ↦ elim (may.names c u (rw e n)) [ inl before ↦ system_in_newest (newest l) refl c u ne before.0 | inr add ↦ may.systems c u ne add ]
       ]);
       ready = λ t c u m n. carries.disk c (held.ready t c u (subst (λ xs. Contains (option_to_list l.durable ++ xs) t) carried_same m) n);
+      typed = λ t c u ne m n. carries.types u (held.typed t c u ne (subst (λ xs. Contains (option_to_list l.durable ++ xs) t) carried_same m) n);
       rising = subst Rises (append_assoc (option_to_list l.durable) l.pending (s ∷ [])) (rises_push (states l) s held.rising latest);
     }
 

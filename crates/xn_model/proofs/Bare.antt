@@ -5,12 +5,16 @@ use Rattle.std.specs.List.{last_or}
 use Rattle.std.proofs.lemmas.List.Elements.{Contains-append_right}
 use Rattle.xn_model.specs.Types.{Types}
 use Rattle.xn_model.specs.Images.{IsDiskSize}
-use Rattle.xn_model.specs.Lives.{BlockState, Life, Lives, StoreState, life_at, states, carried, newest, on_disk, durable_after}
-use Rattle.xn_model.specs.Rules.{IsSoundLife, IsLinkedLife, IsPlaced, ArePlaced, IsConsistent, NamedIn, StartsPlain, Grows, Rises, HasExactStatuses, IsNamer, IsRootLife}
+use Rattle.xn_model.specs.Lives.{BlockState, Life, Lives, StoreState, life_at, states, carried, newest, on_disk, durable_after, bytes_of, root_on_disk}
+use Rattle.xn_model.specs.Rules.{IsSoundLife, IsLinkedLife, IsPlaced, ArePlaced, IsConsistent, NamedIn, StartsPlain, Grows, Rises, HasExactStatuses, IsNamer, IsRootLife, IsOlderType, PointersStay}
 use Rattle.xn_model.proofs.Changes.{each, bared}
 use Rattle.xn_model.proofs.Lists.{Contains-head, Contains-cons}
 use Rattle.xn_model.proofs.Lives.{each_forth, each_back, length_revised}
-use Rattle.xn_model.proofs.Carry.{Carries}
+use Rattle.xn_model.proofs.Carry.{Carries, types_still}
+use Rattle.xn_model.proofs.Catalogue.{on_disk_each}
+use Rattle.xn_model.proofs.Languages.{latest_each}
+use Rattle.xn_model.specs.Calls.{latest}
+use Rattle.std.proofs.lemmas.Option.{same_Some}
 use Rattle.xn_model.proofs.Chains.{chains_each}
 use Rattle.xn_model.proofs.Orders.{ordered_bare}
 use Rattle.xn_model.proofs.Queue.{Shrinks, queued_each}
@@ -57,7 +61,7 @@ bare_grows T ty true (Some d) [] h = tt
 bare_grows T ty true (Some d) (x ∷ xs) h = (h.0, h.1)
 
 -- the newest state names what it did
-abbrev last_if : Bool → Option BlockState → List BlockState → Option BlockState
+abbrev pub last_if : Bool → Option BlockState → List BlockState → Option BlockState
 last_if t o xs = last_or (cond t (durable_after o) o) xs
 
 named_if : (T : Types) (ty : ℕ) (t : Bool) (o : Option BlockState) (xs : List BlockState) (p : ℕ × ℕ) → NamedIn T ty (last_if t o xs) p → NamedIn T ty (last_or o xs) p
@@ -78,6 +82,47 @@ some_last true None xs s e = (s, e)
 some_last true (Some d) [] s e = (on_disk d.bytes, refl)
 some_last true (Some d) (x ∷ xs) s e = (s, e)
 
+-- a list of one state has one still
+bare_only : (t : Bool) (o : Option BlockState) (xs : List BlockState) (s : BlockState) → option_to_list o ++ xs ≡ s ∷ [] → (r : BlockState) × (option_to_list (cond t (durable_after o) o) ++ xs ≡ r ∷ []) × (r.bytes ≡ s.bytes)
+bare_only false o xs s e = (s, e, refl)
+bare_only true None xs s e = (s, e, refl)
+bare_only true (Some d) xs s e = (on_disk d.bytes, ap (λ ys. on_disk d.bytes ∷ rest ys) e, ap first e)
+  where
+    rest : List BlockState → List BlockState
+    rest [] = []
+    rest (y ∷ ys) = ys
+
+    first : List BlockState → List ℕ
+    first [] = []
+    first (y ∷ ys) = y.bytes
+
+bare_bytes : (t : Bool) (o : Option BlockState) → bytes_of (cond t (durable_after o) o) ≡ bytes_of o
+bare_bytes false o = refl
+bare_bytes true None = refl
+bare_bytes true (Some d) = refl
+
+bare_pointers : (t : Bool) (o : Option BlockState) (xs : List BlockState) → PointersStay (option_to_list o ++ xs) → PointersStay (option_to_list (cond t (durable_after o) o) ++ xs)
+bare_pointers false o xs h = h
+bare_pointers true None xs h = h
+bare_pointers true (Some d) [] h = tt
+bare_pointers true (Some d) (x ∷ xs) h = (h.0, h.1)
+
+last_bytes : (t : Bool) (o : Option BlockState) (xs : List BlockState) (s : BlockState) → last_if t o xs ≡ Some s → (r : BlockState) × (last_or o xs ≡ Some r) × (r.bytes ≡ s.bytes)
+last_bytes false o xs s e = (s, e, refl)
+last_bytes true None xs s e = (s, e, refl)
+last_bytes true (Some d) [] s e = (d, refl, ap (λ (x : BlockState). x.bytes) (same_Some (on_disk d.bytes) s e))
+last_bytes true (Some d) (x ∷ xs) s e = (s, e, refl)
+
+-- the newest bytes are the same
+pub bare_newest : (t : Bool) (l : Life) → bytes_of (last_if t l.durable l.pending) ≡ bytes_of (newest l)
+bare_newest t l = go t l.durable l.pending
+  where
+    go : (t : Bool) (o : Option BlockState) (xs : List BlockState) → bytes_of (last_if t o xs) ≡ bytes_of (last_or o xs)
+    go false o xs = refl
+    go true None xs = refl
+    go true (Some d) [] = refl
+    go true (Some d) (x ∷ xs) = refl
+
 module _ (T : Types) (state : StoreState) (h : IsConsistent T state) (b : ℕ) where
   abbrev now : Lives
   now = each (bared b) state.lives
@@ -91,10 +136,11 @@ module _ (T : Types) (state : StoreState) (h : IsConsistent T state) (b : ℕ) w
     belongs = λ a c u r. record { life = bared b c r.life; alive = forth c r.life r.alive; ty = r.ty; by = r.by };
     system = λ fs c r. record { life = bared b c r.life; alive = forth c r.life r.alive; same = r.same };
     disk = λ c r. let d = bare_some (c == b) r.life.durable r.state r.durable in record { life = bared b c r.life; alive = forth c r.life r.alive; state = d.0; durable = d.1 };
-    template = λ c r. let d = bare_some (c == b) r.life.durable r.state r.durable in
-        record { life = bared b c r.life; alive = forth c r.life r.alive; nobody = r.nobody; ty = r.ty; state = d.0; durable = d.1; only = r.only; bytes = rw d.2 r.bytes };
+    template = λ c r. let d = bare_only (c == b) r.life.durable r.life.pending r.state r.only in
+        record { life = bared b c r.life; alive = forth c r.life r.alive; nobody = r.nobody; ty = r.ty; state = d.0; only = d.1; bytes = rw d.2 r.bytes };
     dropped = λ a c r. record { life = bared b c r.life; alive = forth c r.life r.alive; status = r.status };
     resting = λ a c d r. record { life = bared b c r.life; alive = forth c r.life r.alive; nothing = r.nothing };
+    types = types_still state.lives now (on_disk_each (bared b) state.lives (λ l. bare_bytes (0 == b) l.durable));
   }
 
   held_bare : (c : ℕ) (l : Life) → IsSoundLife T state.lives c l → IsSoundLife T now c (bared b c l)
@@ -103,6 +149,7 @@ module _ (T : Types) (state : StoreState) (h : IsConsistent T state) (b : ℕ) w
     named = λ s x u i n. let r = state_if (c == b) l.durable l.pending s i in carries.belongs c x u (k.named r.0 x u r.1 (rw r.2 n));
     same_system = λ s x u ne i n. let r = state_if (c == b) l.durable l.pending s i in carries.system l.fs x (k.same_system r.0 x u ne r.1 (rw r.2 n));
     ready = λ s x u i n. let r = state_if (c == b) l.durable (carried l) s i in carries.disk x (k.ready r.0 x u r.1 (rw r.2 n));
+    typed = λ s x u ne i n. let r = state_if (c == b) l.durable (carried l) s i in carries.types u (k.typed r.0 x u ne r.1 (rw r.2 n));
     rising = bare_rises (c == b) l.durable l.pending k.rising;
   }
 
@@ -136,14 +183,26 @@ module _ (T : Types) (state : StoreState) (h : IsConsistent T state) (b : ℕ) w
         state = d.0;
         durable = d.1;
         mark = λ s i. let x = state_if (0 == b) r.life.durable r.life.pending s i in rw (carries.count, ← x.2) (r.mark x.0 x.1);
-        head = λ s i. let x = state_if (0 == b) r.life.durable r.life.pending s i in rw (← x.2, d.2) (r.head x.0 x.1);
+        pointers = bare_pointers (0 == b) r.life.durable r.life.pending r.pointers;
         long = λ s i. let x = state_if (0 == b) r.life.durable r.life.pending s i in rw (← x.2) (r.long x.0 x.1);
         templates = λ s c u i n. let x = state_if (0 == b) r.life.durable r.life.pending s i in carries.template c (r.templates x.0 c u x.1 (rw x.2 n));
+        types = λ s c u i n. let x = state_if (0 == b) r.life.durable r.life.pending s i in rw (← x.2) (r.types x.0 c u x.1 (rw x.2 n));
+        all_types = λ s t e i. let x = last_bytes (0 == b) r.life.durable r.life.pending s e in rw (← x.2) (r.all_types x.0 t x.1 i);
         slots = λ s j c i lt e ne. let x = state_if (0 == b) r.life.durable r.life.pending s i in carries.system (Some j) c (r.slots x.0 j c x.1 lt (rw x.2 e) ne);
       }
 
   bare_shrinks : (c : ℕ) (l : Life) → Shrinks l (bared b c l)
   bare_shrinks c l = record { ty = refl; status = refl; fewer = λ t i. i; stored = λ s e. let d = bare_some (c == b) l.durable s e in (d.0, d.1); leaves = λ t i. inr i }
+
+  bare_older : (u n : ℕ) → IsOlderType state.lives u n → IsOlderType now u n
+  bare_older u n o = record {
+    life = bared b 0 o.life;
+    alive = forth 0 o.life o.alive;
+    older = elim o.older [
+      | inl d ↦ let r = bare_some (0 == b) o.life.durable d.0 d.1 in inl (r.0, r.1, rw r.2 d.2)
+      | inr t ↦ inr t
+    ];
+  }
 
   exact_bare : HasExactStatuses T now
   exact_bare = record {
@@ -172,12 +231,18 @@ module _ (T : Types) (state : StoreState) (h : IsConsistent T state) (b : ℕ) w
     size = subst IsDiskSize (sym carries.count) h.size;
     lives_sound = record { root = root_bare; each = λ c m e. let r = each_back (bared b) state.lives c m e in subst (IsSoundLife T now c) (sym r.2) (held_bare c r.0 (h.lives_sound.each c r.0 r.1)) };
     linked = λ c m e. let r = each_back (bared b) state.lives c m e in subst (IsLinkedLife T now c) (sym r.2) (kept_bare c r.0 (h.linked c r.0 r.1));
-    waits = queued_each T state.lives (bared b) (λ c l e. bare_shrinks c l) h.waits;
+    waits = queued_each T state.lives (bared b) (λ c l e. bare_shrinks c l) bare_older h.waits;
     order = ordered_bare state.lives b h.order;
     statuses = exact_bare;
     chains = chains_each state.lives (bared b) (λ c l. refl) h.chains;
     numbers = λ c m s e i. let r = each_back (bared b) state.lives c m e in entry_below (c == b) r.0.durable r.0.pending (λ t j. h.numbers c r.0 t r.1 j) s (subst (λ x. Contains (states x) s) r.2 i);
   }
+
+pub bare_latest : (b : ℕ) (lives : Lives) (c : ℕ) → latest (each (bared b) lives) c ≡ latest lives c
+bare_latest b lives c = latest_each (bared b) lives c (λ l e. bare_newest (c == b) l)
+
+pub bare_there : (b : ℕ) (lives : Lives) → root_on_disk (each (bared b) lives) ≡ root_on_disk lives
+bare_there b lives = on_disk_each (bared b) lives (λ l. bare_bytes (0 == b) l.durable)
 
 pub bare_placed : (content : ℕ → List ℕ) (lives : Lives) (b : ℕ) → ArePlaced content lives → ArePlaced content (each (bared b) lives)
 bare_placed content lives b p c m s e d =

@@ -1,43 +1,51 @@
 -- A write begins, or is given up.
-use Rattle.std.proofs.Common.{◌≡◌, ℕ, ◌≤◌, true, List, [], ◌∷◌, length, Option, Some, None, refl, sym, ◌∙◌, ap, inl, inr, subst}
+use Rattle.std.proofs.Common.{◌≡◌, ◌≢◌, ℕ, ◌≤◌, true, List, [], ◌∷◌, length, Option, Some, None, refl, sym, ◌∙◌, ap, inl, inr, subst}
 use Rattle.std.specs.Prelude.{Contains, is_some, option_to_list, ◌==◌, Ok, slice_get, option_map}
 use Rattle.std.specs.List.{last_or}
 use Rattle.std.proofs.lemmas.Bool.{cases_eq, eqb-false}
 use Rattle.std.proofs.lemmas.Option.{same_Some}
 use Rattle.std.proofs.lemmas.List.Elements.{Contains-append_cases, Contains-append_left}
 use Rattle.xn_model.specs.Types.{Types}
-use Rattle.xn_model.specs.Lives.{StoreState, begun_at, BlockState, Life, Lives, life_at, states, carried, first_states, prefix_of, safe_count}
+use Rattle.xn_model.specs.Lives.{StoreState, begun_at, BlockState, Life, Lives, life_at, states, carried, first_states, prefix_of, safe_count, root_on_disk}
+use Rattle.xn_model.specs.Root.{has_type}
 use Rattle.xn_model.specs.Images.{IsDiskSize}
 use Rattle.xn_model.specs.Results.{NoSuchBlock, NotInUse, InFlight, NothingSafe}
-use Rattle.xn_model.specs.Calls.{begun_of, begun_place, bytes_at}
+use Rattle.xn_model.specs.Calls.{begun_of, begun_place, bytes_at, types_of, latest}
 use Rattle.xn_model.specs.Rules.{Keeps, ArePlaced, IsOnDisk, IsRootLife, IsSoundLife, IsLinkedLife, IsPlaced, IsConsistent, NamedIn, IsCount, IsOwnedBy}
 use Rattle.xn_model.proofs.Changes.{each, with_begun}
 use Rattle.xn_model.proofs.Lists.{Contains-none, Contains-take, last_is_in}
 use Rattle.xn_model.proofs.Lives.{each_forth, each_back, length_revised, begun_is, life_from}
-use Rattle.xn_model.proofs.Carry.{Carries, held_still, kept_still, root_still, carries_begun, owned_begun, with_begun_other, with_begun_same, begun_if}
+use Rattle.xn_model.proofs.Catalogue.{on_disk_each}
+use Rattle.xn_model.proofs.Carry.{Carries, types_still, held_still, kept_still, root_still, carries_begun, owned_begun, with_begun_other, with_begun_same, begun_if}
 use Rattle.xn_model.proofs.Chains.{chains_each}
 use Rattle.xn_model.proofs.Orders.{CarriesAfters, prefix_carries, ordered_begun}
-use Rattle.xn_model.proofs.Queue.{queued_each, begun_shrinks}
+use Rattle.xn_model.proofs.Queue.{queued_each, begun_shrinks, begun_types}
+use Rattle.xn_model.proofs.Languages.{types_all, latest_each}
 use Rattle.xn_model.proofs.Statuses.{exact_each, begun_same}
-use Rattle.xn_model.proofs.Tests.{none_from, prefix_safe, prefix_ready, safe_count_within, safe_drops, unless_ok, never_ok, same_ok, map_ok}
+use Rattle.xn_model.proofs.Tests.{none_from, prefix_safe, prefix_ready, prefix_typed, safe_count_within, safe_drops, unless_ok, never_ok, same_ok, map_ok}
 use Rattle.xn_model.proofs.Reached.{carried_pending, durable_in, positive}
 
 -- A begun write, or none, of which all is known that is to hold
 pub record MayCarry (T : Types) (lives : Lives) (l : Life) (k : Option ℕ) : Type 0 where
   pub count : IsCount k (length l.pending)
   pub ready : (s : BlockState) (c u : ℕ) → Contains (first_states k l.pending) s → Contains (T.owned l.ty s.bytes) (c, u) → IsOnDisk lives c
+  pub typed : (s : BlockState) (c u : ℕ) → (l.ty ≡ 0 → ⊥) → Contains (first_states k l.pending) s → Contains (T.owned l.ty s.bytes) (c, u) → has_type (root_on_disk lives) u ≡ true
   pub resting : (s : BlockState) (c : ℕ) → Contains (first_states k l.pending) s → Contains s.drops c → (r : Life) × (life_at lives c ≡ Some r) × (r.pending ≡ [])
   pub pending : (s : BlockState) → Contains (first_states k l.pending) s → Contains l.pending s
 
 -- A life with such a write
-held_begun : (T : Types) (old new : Lives) (b : ℕ) (l : Life) (k : Option ℕ) → Carries T old new → MayCarry T old l k → IsSoundLife T old b l → IsSoundLife T new b (begun_if true k l)
-held_begun T old new b l k c may h = record {
+held_begun : (T : Types) (old new : Lives) (b : ℕ) (l : Life) (k : Option ℕ) → (b ≢ 0 → l.ty ≡ 0 → ⊥) → Carries T old new → MayCarry T old l k → IsSoundLife T old b l → IsSoundLife T new b (begun_if true k l)
+held_begun T old new b l k apart c may h = record {
   fit = h.fit;
   named = λ s x u m n. c.belongs b x u (h.named s x u m n);
   same_system = λ s x u ne m n. c.system l.fs x (h.same_system s x u ne m n);
   ready = λ s x u m n. c.disk x (elim (Contains-append_cases (option_to_list l.durable) (first_states k l.pending) s m) [
     | inl d ↦ h.ready s x u (Contains-append_left (option_to_list l.durable) (carried l) s d) n
     | inr i ↦ may.ready s x u i n
+  ]);
+  typed = λ s x u ne m n. c.types u (elim (Contains-append_cases (option_to_list l.durable) (first_states k l.pending) s m) [
+    | inl d ↦ h.typed s x u ne (Contains-append_left (option_to_list l.durable) (carried l) s d) n
+    | inr i ↦ may.typed s x u (apart ne) i n
   ]);
   rising = h.rising;
 }
@@ -65,7 +73,7 @@ module _ (T : Types) (state : StoreState) (h : IsConsistent T state) (b : ℕ) (
   unfolding now
   root_now =
       let r = h.lives_sound.root in
-      root_still T state.lives now (carries_begun T b k state.lives) r (with_begun b k 0 r.life) r.state (each_forth (with_begun b k) state.lives 0 r.life r.alive) r.ty r.nobody r.unowned r.durable (λ t m. m)
+      root_still T state.lives now (carries_begun T b k state.lives) r (with_begun b k 0 r.life) r.state (each_forth (with_begun b k) state.lives 0 r.life r.alive) r.ty r.nobody r.unowned r.durable (λ t m. m) r.pointers refl
 
   -- which life it was
   same_life : (c : ℕ) (m : Life) → life_at state.lives c ≡ Some m → c ≡ b → l ≡ m
@@ -75,7 +83,7 @@ module _ (T : Types) (state : StoreState) (h : IsConsistent T state) (b : ℕ) (
   unfolding now
   held_at c m e = elim (cases_eq c b) [
     | inl same ↦ subst (IsSoundLife T now c) (sym (with_begun_same b k c m same))
-        (held_begun T state.lives now c m k (carries_begun T b k state.lives) (subst (λ x. MayCarry T state.lives x k) (same_life c m e same) may) (h.lives_sound.each c m e))
+        (held_begun T state.lives now c m k (λ ne z. ne ((h.linked c m e).root_alone z)) (carries_begun T b k state.lives) (subst (λ x. MayCarry T state.lives x k) (same_life c m e same) may) (h.lives_sound.each c m e))
     | inr other ↦ subst (IsSoundLife T now c) (sym (with_begun_other b k c m other)) (held_still T state.lives now c m (carries_begun T b k state.lives) (h.lives_sound.each c m e))
   ]
 
@@ -100,7 +108,7 @@ module _ (T : Types) (state : StoreState) (h : IsConsistent T state) (b : ℕ) (
   unfolding now
   carries_on afters = record {
     order = ordered_begun state.lives b l k alive afters h.order;
-    waits = queued_each T state.lives (with_begun b k) (λ c x e. begun_shrinks b k c x) h.waits;
+    waits = queued_each T state.lives (with_begun b k) (λ c x e. begun_shrinks b k c x) (begun_types b k state.lives) h.waits;
     statuses = exact_each T state.lives (with_begun b k) (begun_same b k) h.statuses;
     chains = chains_each state.lives (with_begun b k) (λ c x. refl) h.chains;
     built_ins = h.built_ins;
@@ -110,23 +118,33 @@ module _ (T : Types) (state : StoreState) (h : IsConsistent T state) (b : ℕ) (
     numbers = λ c m s e i. let r = each_back (with_begun b k) state.lives c m e in h.numbers c r.0 s r.1 (subst (λ x. Contains (states x) s) r.2 i);
   }
 
+-- the newest bytes are the same
+pub begun_latest : (b : ℕ) (k : Option ℕ) (lives : Lives) (c : ℕ) → latest (each (with_begun b k) lives) c ≡ latest lives c
+begun_latest b k lives c = latest_each (with_begun b k) lives c (λ l e. refl)
+
 -- The safe prefix may be carried
-may_begin : (T : Types) (lives : Lives) (b : ℕ) (l : Life) → IsSoundLife T lives b l → IsLinkedLife T lives b l → 1 ≤ safe_count lives [] l.pending → MayCarry T lives l (Some (safe_count lives [] l.pending))
-may_begin T lives b l h k some = record {
-  count = (some, safe_count_within lives [] l.pending);
+may_begin : (T : Types) (lives : Lives) (b : ℕ) (l : Life) → (b ≡ 0 → l.ty ≡ 0) → IsSoundLife T lives b l → IsLinkedLife T lives b l → 1 ≤ safe_count lives l.ty [] l.pending → MayCarry T lives l (Some (safe_count lives l.ty [] l.pending))
+may_begin T lives b l root_type h k some = record {
+  count = (some, safe_count_within lives l.ty [] l.pending);
   ready = prefix_ready T lives l.ty l.durable [] l.pending k.grows (λ c u n. from_durable l.durable refl c u n);
-  resting = λ s c m n. let r = prefix_safe lives [] l.pending s m in let d = safe_drops lives r.0 s c r.1 n in (d.life, d.alive, d.nothing);
-  pending = λ s m. Contains-take (safe_count lives [] l.pending) l.pending s m;
+  typed = λ s c u ne m n. prefix_typed T lives l.ty l.durable [] l.pending ne k.grows (λ c u n. types_durable (λ z. ne (root_type z)) l.durable refl c u n) s c u m n;
+  resting = λ s c m n. let r = prefix_safe lives l.ty [] l.pending s m in let d = safe_drops lives l.ty r.0 s c r.1 n in (d.life, d.alive, d.nothing);
+  pending = λ s m. Contains-take (safe_count lives l.ty [] l.pending) l.pending s m;
 }
   where
     from_durable : (o : Option BlockState) → l.durable ≡ o → (c u : ℕ) → NamedIn T l.ty o (c, u) → IsOnDisk lives c
     from_durable None e c u n = absurd n
     from_durable (Some s) e c u n = h.ready s c u (durable_in l s e) n
 
+    types_durable : (b ≢ 0) → (o : Option BlockState) → l.durable ≡ o → (c u : ℕ) → NamedIn T l.ty o (c, u) → has_type (root_on_disk lives) u ≡ true
+    types_durable ne None e c u n = absurd n
+    types_durable ne (Some s) e c u n = h.typed s c u ne (durable_in l s e) n
+
 no_write : (T : Types) (lives : Lives) (l : Life) → MayCarry T lives l None
 no_write T lives l = record {
   count = tt;
   ready = λ s c u m n. absurd (Contains-none s m);
+  typed = λ s c u ne m n. absurd (Contains-none s m);
   resting = λ s c m n. absurd (Contains-none s m);
   pending = λ s m. absurd (Contains-none s m);
 }
@@ -144,7 +162,7 @@ pub record Begins (T : Types) (state : StoreState) (b : ℕ) (given : List ℕ �
   pub alive : life_at state.lives b ≡ Some life
   pub idle : life.begun ≡ None
   pub some : 1 ≤ given.1
-  pub count : given.1 ≡ safe_count state.lives [] life.pending
+  pub count : given.1 ≡ safe_count state.lives life.ty [] life.pending
 
 begun_from : (T : Types) (state : StoreState) (b : ℕ) (o : Option (Option Life)) (given : List ℕ × ℕ) → slice_get state.lives b ≡ o → begun_place state.lives o ≡ Ok given → Begins T state b given
 begun_from T state b None given at e = absurd (never_ok NoSuchBlock given e)
@@ -161,6 +179,12 @@ begun_from T state b (Some (Some l)) given at e =
       count = sym same;
     }
 
+-- block 0 is of type 0
+root_typed : (T : Types) (state : StoreState) → IsConsistent T state → (b : ℕ) (l : Life) → life_at state.lives b ≡ Some l → b ≡ 0 → l.ty ≡ 0
+root_typed T state h b l e z =
+    let r = h.lives_sound.root in
+    ap (λ (x : Life). x.ty) (same_Some l r.life (sym e ∙ (ap (life_at state.lives) z ∙ r.alive))) ∙ r.ty
+
 pub begun_keeps : (T : Types) (state : StoreState) → IsConsistent T state → (b : ℕ) (given : List ℕ × ℕ) (new : StoreState) → begun_of state b ≡ Ok (given, new) → Keeps T state new
 begun_keeps T state h b given new e =
     let m = map_ok (λ (x : List ℕ × ℕ). (x, record state { lives = begun_at state.lives b x.1 })) (begun_place state.lives (slice_get state.lives b)) (given, new) e in
@@ -168,10 +192,12 @@ begun_keeps T state h b given new e =
     let is : record state { lives = begun_at state.lives b m.0.1 } ≡ new = ap (λ (x : (List ℕ × ℕ) × StoreState). x.1) m.2 in
     let r = begun_from T state b (slice_get state.lives b) m.0 refl m.1 in
     let may : MayCarry T state.lives r.life (Some m.0.1) = subst (λ n. MayCarry T state.lives r.life (Some n)) (sym r.count)
-    (may_begin T state.lives b r.life (h.lives_sound.each b r.life r.alive) (h.linked b r.life r.alive) (subst (λ n. 1 ≤ n) r.count r.some)) in
+    (may_begin T state.lives b r.life (root_typed T state h b r.life r.alive) (h.lives_sound.each b r.life r.alive) (h.linked b r.life r.alive) (subst (λ n. 1 ≤ n) r.count r.some)) in
     subst (Keeps T state) is (record {
       consistent = subst (λ xs. IsConsistent T (record state { lives = xs })) (sym (begun_is state.lives b m.0.1)) (carries_on T state h b r.life r.alive (Some m.0.1) may
           (subst (λ n. CarriesAfters state.lives b r.life (Some n)) (sym r.count) (prefix_carries state.lives b r.life h.order r.alive)));
+      types = λ L. ap (types_of L) (begun_is state.lives b m.0.1) ∙ types_all state.lives (each (with_begun b (Some m.0.1)) state.lives) (begun_latest b (Some m.0.1) state.lives) L;
+      there = types_still state.lives (begun_at state.lives b m.0.1) (ap root_on_disk (begun_is state.lives b m.0.1) ∙ on_disk_each (with_begun b (Some m.0.1)) state.lives (λ l. refl));
       count = ap length (begun_is state.lives b m.0.1) ∙ length_revised (λ c o. option_map (with_begun b (Some m.0.1) c) o) state.lives;
       placed = λ content p. subst (ArePlaced content) (sym (begun_is state.lives b m.0.1))
           (carries_places T state h b r.life r.alive (Some m.0.1) may content p (idle_settled content state.lives p b r.life r.alive r.idle));

@@ -1,15 +1,18 @@
 -- What a change of the lives leaves of the facts on single blocks, which the facts on a life name.
-use Rattle.std.proofs.Common.{◌≡◌, ℕ, zero, suc, Bool, true, false, cond, List, [], ◌∷◌, ◌++◌, length, take, drop, Option, Some, None, refl, sym, ◌∙◌, ap, inl, inr, subst, eqb}
-use Rattle.std.specs.Prelude.{Contains, option_map, option_to_list}
+use Rattle.std.proofs.Common.{arith, ◌≡◌, ℕ, zero, suc, Bool, true, false, cond, List, [], ◌∷◌, ◌++◌, length, take, drop, Option, Some, None, refl, sym, ◌∙◌, ap, inl, inr, subst, eqb}
+use Rattle.std.specs.Prelude.{Contains, IsTrue, option_map, option_to_list}
 use Rattle.std.specs.List.{last_or}
-use Rattle.std.proofs.lemmas.Bool.{eq-eqb, ne_eqb}
+use Rattle.std.proofs.lemmas.Bool.{eq-eqb, ne_eqb, false≢true}
+use Rattle.std.proofs.lemmas.Option.{same_Some}
 use Rattle.std.proofs.lemmas.List.Elements.{Contains-append_left, Contains-append_right}
 use Rattle.xn_model.specs.Types.{Types}
-use Rattle.xn_model.specs.Lives.{BlockState, Fresh, Life, Lives, life_at, states, carried}
-use Rattle.xn_model.specs.Rules.{BelongsTo, IsInFileSystem, IsOnDisk, IsTemplate, IsDroppedBy, IsAtRest, IsOwnedBy, IsRootLife, IsSoundLife, IsLinkedLife, Rises, StartsPlain, Grows, StaysDropped, NoneNames, NoneDrops}
+use Rattle.xn_model.specs.Root.{has_type}
+use Rattle.xn_model.specs.Lives.{BlockState, Fresh, Life, Lives, life_at, states, carried, newest, root_on_disk}
+use Rattle.xn_model.specs.Rules.{BelongsTo, IsInFileSystem, IsOnDisk, IsTemplate, IsDroppedBy, IsAtRest, IsOwnedBy, IsRootLife, IsSoundLife, IsLinkedLife, PointersStay, Rises, StartsPlain, Grows, StaysDropped, NoneNames, NoneDrops}
 use Rattle.xn_model.proofs.Changes.{each, with_begun, settled}
 use Rattle.xn_model.proofs.Lists.{Contains-head, Contains-cons, Contains-none, Contains-drop}
 use Rattle.xn_model.proofs.Lives.{each_forth, length_revised}
+use Rattle.xn_model.proofs.Catalogue.{has_keeps, pointers_last, pointers_settled, pointers_taken, on_disk_is, on_disk_each}
 
 pub record Carries (T : Types) (old new : Lives) : Type 0 where
   pub count : length new ≡ length old
@@ -19,6 +22,11 @@ pub record Carries (T : Types) (old new : Lives) : Type 0 where
   pub template : (c : ℕ) → IsTemplate T old c → IsTemplate T new c
   pub dropped : (b c : ℕ) → IsDroppedBy old b c → IsDroppedBy new b c
   pub resting : (b c : ℕ) → IsDroppedBy old b c → IsAtRest old c → IsAtRest new c
+  pub types : (u : ℕ) → IsTrue (has_type (root_on_disk old) u) → IsTrue (has_type (root_on_disk new) u)
+
+-- where block 0's bytes on the disk are the same
+pub types_still : (old new : Lives) → root_on_disk new ≡ root_on_disk old → (u : ℕ) → IsTrue (has_type (root_on_disk old) u) → IsTrue (has_type (root_on_disk new) u)
+types_still old new e u h = subst (λ m. IsTrue (has_type m u)) (sym e) h
 
 -- A life that stays as it is
 pub held_still : (T : Types) (old new : Lives) (b : ℕ) (l : Life) → Carries T old new → IsSoundLife T old b l → IsSoundLife T new b l
@@ -27,6 +35,7 @@ held_still T old new b l c h = record {
   named = λ s x u m n. c.belongs b x u (h.named s x u m n);
   same_system = λ s x u ne m n. c.system l.fs x (h.same_system s x u ne m n);
   ready = λ s x u m n. c.disk x (h.ready s x u m n);
+  typed = λ s x u ne m n. c.types u (h.typed s x u ne m n);
   rising = h.rising;
 }
 
@@ -46,9 +55,9 @@ kept_still T old new b l c own in' k = record {
 }
 
 -- Block 0 with no new state
-pub root_still : (T : Types) (old new : Lives) → Carries T old new → (r : IsRootLife T old) (l : Life) (s : BlockState) → life_at new 0 ≡ Some l → l.ty ≡ 0 → l.fs ≡ None → l.status ≡ Fresh → l.durable ≡ Some s → ((t : BlockState) → Contains (states l) t → Contains (states r.life) t) → IsRootLife T new
-root_still T old new c r l s alive ty nobody fresh durable fewer =
-    let mine : Contains (states l) s = Contains-append_left (option_to_list l.durable) l.pending s (subst (λ o. Contains (option_to_list o) s) (sym durable) (Contains-head s [])) in
+pub root_still : (T : Types) (old new : Lives) → Carries T old new → (r : IsRootLife T old) (l : Life) (s : BlockState) → life_at new 0 ≡ Some l → l.ty ≡ 0 → l.fs ≡ None → l.status ≡ Fresh → l.durable ≡ Some s → ((t : BlockState) → Contains (states l) t → Contains (states r.life) t) →
+    PointersStay (states l) → newest l ≡ newest r.life → IsRootLife T new
+root_still T old new c r l s alive ty nobody fresh durable fewer pointers last =
     record {
       life = l;
       alive = alive;
@@ -58,9 +67,11 @@ root_still T old new c r l s alive ty nobody fresh durable fewer =
       state = s;
       durable = durable;
       mark = λ t m. rw c.count (r.mark t (fewer t m));
-      head = λ t m. r.head t (fewer t m) ∙ sym (r.head s (fewer s mine));
+      pointers = pointers;
       long = λ t m. r.long t (fewer t m);
       templates = λ t x u m n. c.template x (r.templates t x u (fewer t m) n);
+      types = λ t x u m n. r.types t x u (fewer t m) n;
+      all_types = λ t u e i. r.all_types t u (sym last ∙ e) i;
       slots = λ t i x m lt e ne. c.system (Some i) x (r.slots t i x (fewer t m) lt e ne);
     }
 
@@ -84,9 +95,10 @@ carries_begun T b k lives = record {
   belongs = λ a c u r. record { life = with_begun b k c r.life; alive = each_forth (with_begun b k) lives c r.life r.alive; ty = r.ty; by = r.by };
   system = λ fs c r. record { life = with_begun b k c r.life; alive = each_forth (with_begun b k) lives c r.life r.alive; same = r.same };
   disk = λ c r. record { life = with_begun b k c r.life; alive = each_forth (with_begun b k) lives c r.life r.alive; state = r.state; durable = r.durable };
-  template = λ c r. record { life = with_begun b k c r.life; alive = each_forth (with_begun b k) lives c r.life r.alive; nobody = r.nobody; ty = r.ty; state = r.state; durable = r.durable; only = r.only; bytes = r.bytes };
+  template = λ c r. record { life = with_begun b k c r.life; alive = each_forth (with_begun b k) lives c r.life r.alive; nobody = r.nobody; ty = r.ty; state = r.state; only = r.only; bytes = r.bytes };
   dropped = λ a c r. record { life = with_begun b k c r.life; alive = each_forth (with_begun b k) lives c r.life r.alive; status = r.status };
   resting = λ a c d r. record { life = with_begun b k c r.life; alive = each_forth (with_begun b k) lives c r.life r.alive; nothing = r.nothing };
+  types = types_still lives (each (with_begun b k) lives) (on_disk_each (with_begun b k) lives (λ l. refl));
 }
 
 -- A settled one
@@ -124,9 +136,19 @@ some_state : (t : Bool) (k : ℕ) (l : Life) (s : BlockState) → l.durable ≡ 
 some_state true k l s e = still_some l.durable s (take k l.pending) e
 some_state false k l s e = (s, e)
 
-same_state : (t : Bool) (k : ℕ) (l : Life) → l.pending ≡ [] → (settled_if t k l).durable ≡ l.durable
-same_state true k l e = ap (last_or l.durable) (take_none k l.pending e)
-same_state false k l e = refl
+-- a life with one state has that one
+one_state : (t : Bool) (k : ℕ) (l : Life) (s : BlockState) → states l ≡ s ∷ [] → states (settled_if t k l) ≡ s ∷ []
+one_state true k l s e = go l.durable k l.pending e
+  where
+    go : (o : Option BlockState) (k : ℕ) (xs : List BlockState) → option_to_list o ++ xs ≡ s ∷ [] → option_to_list (last_or o (take k xs)) ++ drop k xs ≡ s ∷ []
+    go o zero xs f = f
+    go o (suc k) [] f = f
+    go None (suc k) (x ∷ xs) f = go (Some x) k xs f
+    go (Some d) (suc k) (x ∷ xs) f = absurd (two d x xs f)
+      where
+        two : (d x : BlockState) (xs : List BlockState) → d ∷ x ∷ xs ≡ s ∷ [] → ⊥
+        two d x xs f = let n : length (d ∷ x ∷ xs) ≡ 1 = ap length f in omega arith
+one_state false k l s e = e
 
 still_none : (t : Bool) (k : ℕ) (l : Life) → l.pending ≡ [] → (settled_if t k l).pending ≡ []
 still_none true k l e = drop_none k l.pending e
@@ -135,13 +157,36 @@ still_none false k l e = e
 pub owned_settled : (b k : ℕ) (lives : Lives) (a c : ℕ) → IsOwnedBy lives a c → IsOwnedBy (each (settled b k) lives) a c
 owned_settled b k lives a c r = record { life = settled b k c r.life; alive = each_forth (settled b k) lives c r.life r.alive; status = r.status }
 
-pub carries_settled : (T : Types) (b k : ℕ) (lives : Lives) → Carries T lives (each (settled b k) lives)
-carries_settled T b k lives = record {
+-- the pointers along the states that are left
+pub root_pointers : (t : Bool) (k : ℕ) (l : Life) → PointersStay (states l) → PointersStay (states (settled_if t k l))
+root_pointers true k l h = pointers_settled l.durable k l.pending h
+root_pointers false k l h = h
+
+-- what settles has the types of all states up to it
+pub settled_types : (t : Bool) (k : ℕ) (l : Life) (s r : BlockState) (u : ℕ) → PointersStay (states l) → (settled_if t k l).durable ≡ Some r → Contains (option_to_list l.durable ++ take k l.pending) s → t ≡ true → IsTrue (has_type s.bytes u) → IsTrue (has_type r.bytes u)
+settled_types true k l s r u h e i same has = has_keeps s.bytes r.bytes u (pointers_last l.durable (take k l.pending) r (pointers_taken l.durable k l.pending h) e s i) has
+settled_types false k l s r u h e i same has = absurd (false≢true same)
+
+pub settled_disk : (T : Types) (b k : ℕ) (lives : Lives) (r : IsRootLife T lives) (u : ℕ) → IsTrue (has_type (root_on_disk lives) u) → IsTrue (has_type (root_on_disk (each (settled b k) lives)) u)
+settled_disk T b k lives r u h =
+    let d = some_state (eqb 0 b) k r.life r.state r.durable in
+    let new : root_on_disk (each (settled b k) lives) ≡ d.0.bytes = on_disk_is (each (settled b k) lives) (settled b k 0 r.life) d.0 (each_forth (settled b k) lives 0 r.life r.alive) d.1 in
+    let was : IsTrue (has_type r.state.bytes u) = subst (λ m. IsTrue (has_type m u)) (on_disk_is lives r.life r.state r.alive r.durable) h in
+    subst (λ m. IsTrue (has_type m u)) (sym new) (go (eqb 0 b) refl d was)
+  where
+    go : (t : Bool) → eqb 0 b ≡ t → (d : (x : BlockState) × ((settled_if t k r.life).durable ≡ Some x)) → IsTrue (has_type r.state.bytes u) → IsTrue (has_type d.0.bytes u)
+    go true e d was = settled_types true k r.life r.state d.0 u r.pointers d.1
+        (Contains-append_left (option_to_list r.life.durable) (take k r.life.pending) r.state (subst (λ o. Contains (option_to_list o) r.state) (sym r.durable) (Contains-head r.state []))) refl was
+    go false e d was = subst (λ (x : BlockState). IsTrue (has_type x.bytes u)) (same_Some r.state d.0 (sym r.durable ∙ d.1)) was
+
+pub carries_settled : (T : Types) (b k : ℕ) (lives : Lives) → IsRootLife T lives → Carries T lives (each (settled b k) lives)
+carries_settled T b k lives root = record {
+  types = settled_disk T b k lives root;
   count = length_revised (λ c o. option_map (settled b k c) o) lives;
   belongs = λ a c u r. record { life = settled b k c r.life; alive = each_forth (settled b k) lives c r.life r.alive; ty = r.ty; by = r.by };
   system = λ fs c r. record { life = settled b k c r.life; alive = each_forth (settled b k) lives c r.life r.alive; same = r.same };
   disk = λ c r. let d = some_state (eqb c b) k r.life r.state r.durable in record { life = settled b k c r.life; alive = each_forth (settled b k) lives c r.life r.alive; state = d.0; durable = d.1 };
-  template = λ c r. record { life = settled b k c r.life; alive = each_forth (settled b k) lives c r.life r.alive; nobody = r.nobody; ty = r.ty; state = r.state; durable = same_state (eqb c b) k r.life r.only ∙ r.durable; only = still_none (eqb c b) k r.life r.only; bytes = r.bytes };
+  template = λ c r. record { life = settled b k c r.life; alive = each_forth (settled b k) lives c r.life r.alive; nobody = r.nobody; ty = r.ty; state = r.state; only = one_state (eqb c b) k r.life r.state r.only; bytes = r.bytes };
   dropped = λ a c r. record { life = settled b k c r.life; alive = each_forth (settled b k) lives c r.life r.alive; status = r.status };
   resting = λ a c d r. record { life = settled b k c r.life; alive = each_forth (settled b k) lives c r.life r.alive; nothing = still_none (eqb c b) k r.life r.nothing };
 }

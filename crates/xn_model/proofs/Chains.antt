@@ -1,7 +1,7 @@
 -- Chains of owners: the walk from owner to owner finds where a chain ends, and what a change of the lives leaves of chains.
 use Rattle.std.proofs.Common.{◌≡◌, ℕ, zero, suc, ◌<◌, ◌≤◌, true, false, not, List, [], ◌∷◌, length, Option, Some, None, refl, sym, ◌∙◌, ap, inl, inr, arith, subst}
 use Rattle.std.specs.Prelude.{Contains, ⊤}
-use Rattle.std.proofs.lemmas.Bool.{cases_lt, and_from, false_from_ne_true}
+use Rattle.std.proofs.lemmas.Bool.{and_from, false_from_ne_true}
 use Rattle.std.proofs.lemmas.Option.{same_Some, none-some}
 use Rattle.xn_model.specs.Lists.{distinct, has_number}
 use Rattle.xn_model.specs.Types.{Types}
@@ -9,7 +9,7 @@ use Rattle.xn_model.specs.Lives.{Status, Fresh, Owned, Dropped, Life, Lives, lif
 use Rattle.xn_model.specs.Rules.{IsFreshBlock, IsOwnedBy, ChainsEnd, NamedIn, HasExactStatuses}
 use Rattle.xn_model.proofs.Changes.{each, free}
 use Rattle.xn_model.proofs.Lists.{Contains-none, Contains-cons, has_number_at}
-use Rattle.xn_model.proofs.Lives.{past, each_forth, each_back, free_forth, free_back}
+use Rattle.xn_model.proofs.Lives.{in_lives, each_forth, each_back, free_forth, free_back}
 use Rattle.xn_model.proofs.FoundBlocks.{few_below}
 
 -- Block r is fresh, and n owners above block b.
@@ -120,15 +120,9 @@ path_apart lives (suc n) r b c = and_from (not (has_number (path lives n r c.0 c
     omega arith)))
     (path_apart lives n r c.0 c.2)
 
-alive_within : (lives : Lives) (c : ℕ) (l : Life) → life_at lives c ≡ Some l → c < length lives
-alive_within lives c l e = elim (cases_lt c (length lives)) [
-  | inl lt ↦ lt
-  | inr ge ↦ absurd (none-some l (sym (past lives c ge) ∙ e))
-]
-
 above_alive : (lives : Lives) (n r b : ℕ) → IsAbove lives n r b → b < length lives
-above_alive lives zero r b c = alive_within lives b c.1.life c.1.alive
-above_alive lives (suc n) r b c = alive_within lives b c.1.life c.1.alive
+above_alive lives zero r b c = in_lives lives b c.1.life c.1.alive
+above_alive lives (suc n) r b c = in_lives lives b c.1.life c.1.alive
 
 few_owners : (lives : Lives) (n r b : ℕ) → IsAbove lives n r b → n < length lives
 few_owners lives n r b c =

@@ -12,13 +12,12 @@ use Rattle.xn_model.specs.Images.{block_of}
 use Rattle.xn_model.specs.Lives.{BlockState, Life, Lives, StoreState, life_at, alive_and, prefix_of, safe_count, drops_of, begun_at}
 use Rattle.xn_model.specs.Results.{Refusal, InFlight, NothingSafe, NotMine, NotSynced, result_map}
 use Rattle.xn_model.specs.Calls.{begun_place, bytes_at, first_pending, is_durable, settled_count, settled_place, settled_after, pick_of, is_ready, life_pending}
-use Rattle.xn_model.specs.Worlds.{World, Reply, Refused, Begun, Landed, Finished, reply_and_world, begin, begun_count, begun_bytes, land, sync, finish, read_back, write, settle_bytes, given_at, Synced, with_ticket, write_out, all_pending, drain_for, drain, Drained}
+use Rattle.xn_model.specs.Worlds.{World, types_now, Reply, Refused, Begun, Landed, Finished, reply_and_world, begin, begun_count, begun_bytes, land, sync, finish, read_back, write, settle_bytes, given_at, Synced, with_ticket, write_out, all_pending, drain_for, drain, Drained}
 use Rattle.xn_model.specs.Rules.{Holds, IsIdle}
 use Rattle.xn_model.proofs.Changes.{bared, each, free, with_begun, settled}
 use Rattle.xn_model.proofs.Lists.{Contains-head}
-use Rattle.xn_model.proofs.Lives.{each_at, each_forth, each_back, free_at, free_back, length_revised, begun_is, settled_is, place_from}
+use Rattle.xn_model.proofs.Lives.{in_lives, each_at, each_forth, each_back, free_at, free_back, length_revised, begun_is, settled_is, place_from}
 use Rattle.xn_model.proofs.Tests.{unless_passed, none_from, safe_count_within}
-use Rattle.xn_model.proofs.Reached.{in_range}
 use Rattle.xn_model.proofs.Lands.{none_given_at}
 use Rattle.xn_model.proofs.Runs.{write_out_keeps}
 use Rattle.xn_model.proofs.Least.{progress}
@@ -61,7 +60,7 @@ picked_life state b e =
 
 -- One round
 
-module _ (w : World) (h : Holds w) (idle : IsIdle w.state.lives) (b : ℕ) (l : Life) (alive : life_at w.state.lives b ≡ Some l) (ready : 1 ≤ prefix_of w.state.lives (Some l)) where
+module _ (w : World) (count : length w.image ≡ length w.state.lives) (idle : IsIdle w.state.lives) (b : ℕ) (l : Life) (alive : life_at w.state.lives b ≡ Some l) (ready : 1 ≤ prefix_of w.state.lives (Some l)) where
   abbrev k : ℕ
   k = prefix_of w.state.lives (Some l)
 
@@ -106,7 +105,7 @@ module _ (w : World) (h : Holds w) (idle : IsIdle w.state.lives) (b : ℕ) (l : 
   -- the bytes that are read back
   there : block_of landed.image b ≡ bytes_at k l'
   there =
-      let within : b < length w.image = subst (λ n. b < n) (sym h.count) (in_range w.types w.state h.state b l alive) in
+      let within : b < length w.image = subst (λ n. b < n) (sym count) (in_lives w.state.lives b l alive) in
       get_or-set_same w.image b (begun_bytes k (life_at began.state.lives b)) [] within ∙ ap (begun_bytes k) life_began
 
   counts : settled_place (block_of landed.image b) (slice_get landed.state.lives b) ≡ Ok k
@@ -176,8 +175,8 @@ module _ (w : World) (h : Holds w) (idle : IsIdle w.state.lives) (b : ℕ) (l : 
       let now : life_pending o ≡ length (drop k l.pending) = ap (λ x. life_pending (option_map (settled b k b) (option_map (with_begun b (Some k) b) x))) alive ∙ ap (λ t. length (cond t (drop k l.pending) l.pending)) (eq-eqb b b refl) in
       let was : life_pending (life_at w.state.lives b) ≡ length l.pending = ap life_pending alive in
       let cut : length (drop k l.pending) ≡ length l.pending - k = length-drop k l.pending in
-      let is : k ≡ safe_count w.state.lives [] l.pending = refl in
-      let within = safe_count_within w.state.lives [] l.pending in
+      let is : k ≡ safe_count w.state.lives l.ty [] l.pending = refl in
+      let within = safe_count_within w.state.lives l.ty [] l.pending in
       omega arith
 
   bared_pending : (c : ℕ) → life_pending (life_at (each (bared b) (free ended mid)) c) ≡ life_pending (life_at (free ended mid) c)
@@ -190,7 +189,7 @@ module _ (w : World) (h : Holds w) (idle : IsIdle w.state.lives) (b : ℕ) (l : 
   fewer : all_pending (each (bared b) (free ended mid)) < all_pending w.state.lives
   fewer = sum_lt w.state.lives (each (bared b) (free ended mid)) b
       (length_revised (λ c o. option_map (bared b c) o) (free ended mid) ∙ (length_revised (λ c o. cond (has_number ended c) None o) mid ∙ (length_revised (λ c o. option_map (settled b k c) o) began.state.lives ∙ length_revised (λ c o. option_map (with_begun b (Some k) c) o) w.state.lives)))
-      (in_range w.types w.state h.state b l alive) (λ c. let e = bared_pending c in let le = less c in omega arith) (let e = bared_pending b in let lt = less_here in omega arith)
+      (in_lives w.state.lives b l alive) (λ c. let e = bared_pending c in let le = less c in omega arith) (let e = bared_pending b in let lt = less_here in omega arith)
 
   pub round_ends : IsIdle (write_out w b).state.lives × (all_pending (write_out w b).state.lives < all_pending w.state.lives)
   round_ends = subst (λ (x : World). IsIdle x.state.lives × (all_pending x.state.lives < all_pending w.state.lives)) (sym round) (bared_idle, fewer)
@@ -217,11 +216,11 @@ drains (suc n) writes w h idle le = go (pick_of w.state) refl (λ b l e r f. dra
           | inl some ↦
               let r = sum_some w.state.lives (omega arith) in
               let s = first r.1.pending r.3 in
-              absurd (false≢true (ap is_some (sym e) ∙ progress w.types w.state h.state idle r.0 r.1 s.0 r.2 s.1))
+              absurd (false≢true (ap is_some (sym e) ∙ progress (types_now w) w.state h.state idle r.0 r.1 s.0 r.2 s.1))
         ]
     go (Some b) e more =
         let p = picked_life w.state b e in
-        let r = more b p.0 p.1 p.3 (round_ends w h idle b p.0 p.1 p.3) in
+        let r = more b p.0 p.1 p.3 (round_ends w h.count idle b p.0 p.1 p.3) in
         (r.0, let le' = r.1 in omega arith)
 
 none_begun : (lives : Lives) → IsIdle lives → list_any (alive_and (λ l. is_some l.begun)) lives ≡ false

@@ -141,4 +141,4 @@ propose_keeps T state h fs b e entry new done =
     (not-false (within_size T l.ty m) t.1.1.1.1.1.1.1.1.1.0)
     (not-false (was_given state e.after) t.1.1.1.0) (not-false (list_all (is_empty T state) e.drops) t.1.1.1.1.1.1.1.0) t.1.1.1.1.1.0)
     refl
-    (λ zero'. absurd (not_root T state h fs b l own.1.alive own.1.mine zero')))
+    (λ zero'. absurd (not_root T state h fs b l own.1.alive own.1.mine zero')) (λ zero'. absurd (not_root T state h fs b l own.1.alive own.1.mine zero')))

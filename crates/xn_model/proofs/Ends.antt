@@ -1,22 +1,25 @@
 -- Lives that end: those that a finished write drops, and those that are forgotten.
 use Rattle.std.proofs.Common.{arith, suc, Option, ◌≡◌, ◌≢◌, ◌<◌, ◌⊎◌, zero, suc, ℕ, Bool, true, false, cond, not, List, [], ◌∷◌, length, take, Some, None, refl, sym, ◌∙◌, ap, inl, inr, subst, eqb}
-use Rattle.std.specs.Prelude.{Contains, is_some, option_to_list, option_map, bytes_eq, slice_get, Ok, Err, if◌then◌else◌}
-use Rattle.std.proofs.lemmas.Bool.{not-false}
+use Rattle.std.specs.Prelude.{Contains, IsTrue, is_some, option_to_list, option_map, bytes_eq, slice_get, Ok, Err, if◌then◌else◌}
+use Rattle.std.proofs.lemmas.Bool.{not-false, cond-false, false_from_ne_true}
 use Rattle.std.proofs.lemmas.Slice.Eq.{bytes_eq-Decides}
 use Rattle.std.proofs.lemmas.Option.{same_Some, none-some}
 use Rattle.std.proofs.lemmas.List.Elements.{Contains-append_cases, Contains-append_left, Contains-append_right}
 use Rattle.xn_model.specs.Lists.{has_number}
 use Rattle.xn_model.specs.Types.{Types}
-use Rattle.xn_model.specs.Root.{slot, templates_of, roots_of, owned_by_root}
-use Rattle.xn_model.specs.Lives.{StoreState, freed, settled_at, BlockState, Status, Fresh, Dropped, Life, Lives, life_at, states, drops_of, is_fresh, current, newest}
+use Rattle.xn_model.specs.Root.{pointer, has_type, slot, templates_of, roots_of, owned_by_root}
+use Rattle.xn_model.specs.Languages.{Language}
+use Rattle.xn_model.specs.Lives.{StoreState, freed, settled_at, BlockState, Status, Fresh, Dropped, Life, Lives, life_at, states, drops_of, is_fresh, current, newest, durable_bytes, bytes_of, root_on_disk}
 use Rattle.xn_model.specs.Images.{IsDiskSize}
 use Rattle.xn_model.specs.Results.{NotMine, NotFresh, NotEmpty, TooManyPending, InFlight}
-use Rattle.xn_model.specs.Calls.{bytes_at, is_durable, settled_count, settled_place, settled_with, settled_after, settled_of, first_pending, forget_of, forget_at, is_untouched, owns_nothing}
-use Rattle.xn_model.specs.Rules.{Keeps, ArePlaced, IsBy, IsRootLife, IsSoundLife, IsLinkedLife, IsConsistent, IsDroppedBy, NamedIn}
+use Rattle.xn_model.specs.Calls.{bytes_at, is_durable, settled_count, settled_place, settled_with, settled_after, settled_of, first_pending, forget_of, forget_at, is_untouched, owns_nothing, types_of, life_bytes}
+use Rattle.xn_model.specs.Rules.{Keeps, ArePlaced, IsBy, IsRootLife, IsSoundLife, IsLinkedLife, IsConsistent, IsDroppedBy, KeepsTypesThere, NamedIn}
 use Rattle.xn_model.proofs.Changes.{bared, with_begun, each, free, settled}
-use Rattle.xn_model.proofs.Lists.{Contains-none, Contains-head, Contains-cons, Contains-take, Contains-drop, Contains-tail, last_of}
-use Rattle.xn_model.proofs.Lives.{life_from, freed_is, settled_is, settled_none, each_back, free_forth, free_back, length_revised}
-use Rattle.xn_model.proofs.Carry.{settled_same, settled_if, settled_gone}
+use Rattle.xn_model.proofs.Lists.{has_number_at, Contains-none, Contains-head, Contains-cons, Contains-take, Contains-drop, Contains-tail, last_of}
+use Rattle.xn_model.proofs.Languages.{kept_types, types_all, latest_each}
+use Rattle.xn_model.proofs.Lives.{life_from, free_at, freed_is, settled_is, settled_none, each_back, free_forth, free_back, length_revised}
+use Rattle.xn_model.proofs.Catalogue.{on_disk_each}
+use Rattle.xn_model.proofs.Carry.{settled_disk, settled_same, settled_if, settled_gone, types_still}
 use Rattle.xn_model.proofs.Statuses.{exact_free, named_same, settled_newest, names_none}
 use Rattle.xn_model.proofs.Chains.{chains_free}
 use Rattle.xn_model.proofs.Orders.{ordered_free}
@@ -24,9 +27,12 @@ use Rattle.xn_model.proofs.Queue.{queued_free}
 use Rattle.xn_model.proofs.Tests.{unless_ok, never_ok, same_ok, map_ok, own_then, fresh_from}
 use Rattle.xn_model.proofs.RootBytes.{roots_from}
 use Rattle.xn_model.proofs.Reached.{carried_pending, among_states}
-use Rattle.xn_model.proofs.Bare.{bare_consistent, bare_placed}
-use Rattle.xn_model.proofs.Begin.{given_up_consistent, given_up_placed}
+use Rattle.xn_model.proofs.Bare.{bare_consistent, bare_latest, bare_placed, bare_there}
+use Rattle.xn_model.proofs.Begin.{begun_latest, given_up_consistent, given_up_placed}
 use Rattle.xn_model.proofs.Writes.{settles, settles_places, states_fewer}
+
+free_same : (blocks : List ℕ) (lives : Lives) (c : ℕ) → (Contains blocks c → ⊥) → life_at (free blocks lives) c ≡ life_at lives c
+free_same blocks lives c out = free_at blocks lives c ∙ cond-false (has_number blocks c) None (life_at lives c) (false_from_ne_true (has_number blocks c) (λ t. out (has_number_at blocks c t)))
 
 -- Blocks that nothing names or drops
 pub record MayFree (T : Types) (lives : Lives) (blocks : List ℕ) : Type 0 where
@@ -71,10 +77,12 @@ module _ (T : Types) (state : StoreState) (h : IsConsistent T state) (blocks : L
         state = r.state;
         durable = r.durable;
         mark = λ s m. rw (length_revised (λ c o. cond (has_number blocks c) None o) state.lives) (r.mark s m);
-        head = r.head;
+        pointers = r.pointers;
         long = r.long;
         templates = λ s c u m n. let t = r.templates s c u m n in
-            record { life = t.life; alive = free_forth blocks state.lives c t.life (template_stays s c u m n) t.alive; nobody = t.nobody; ty = t.ty; state = t.state; durable = t.durable; only = t.only; bytes = t.bytes };
+            record { life = t.life; alive = free_forth blocks state.lives c t.life (template_stays s c u m n) t.alive; nobody = t.nobody; ty = t.ty; state = t.state; only = t.only; bytes = t.bytes };
+        types = r.types;
+        all_types = r.all_types;
         slots = λ s i c m lt e ne. let t = r.slots s i c m lt e ne in record { life = t.life; alive = free_forth blocks state.lives c t.life (slot_stays s i c m lt e ne) t.alive; same = t.same };
       }
 
@@ -87,6 +95,7 @@ module _ (T : Types) (state : StoreState) (h : IsConsistent T state) (blocks : L
         named = λ s c u m n. let r = k.named s c u m n in record { life = r.life; alive = free_forth blocks state.lives c r.life (λ i. may.unnamed c i b l s u e m n) r.alive; ty = r.ty; by = r.by };
         same_system = λ s c u ne m n. let r = k.same_system s c u ne m n in record { life = r.life; alive = free_forth blocks state.lives c r.life (λ i. may.unnamed c i b l s u e m n) r.alive; same = r.same };
         ready = λ s c u m n. let r = k.ready s c u m n in record { life = r.life; alive = free_forth blocks state.lives c r.life (λ i. may.unnamed c i b l s u e (among_states l s m) n) r.alive; state = r.state; durable = r.durable };
+        typed = λ s c u ne m n. ap (λ m. has_type m u) (ap durable_bytes (free_same blocks state.lives 0 may.not_root)) ∙ k.typed s c u ne m n;
         rising = k.rising;
       }
 
@@ -111,7 +120,7 @@ module _ (T : Types) (state : StoreState) (h : IsConsistent T state) (blocks : L
   pub free_keeps : IsConsistent T (record state { lives = free blocks state.lives })
   unfolding now
   free_keeps = record {
-    waits = queued_free T state.lives blocks (λ c i a l s u e j n. may.unnamed c i a l s u e (Contains-append_right (option_to_list l.durable) l.pending s j) n) h.waits;
+    waits = queued_free T state.lives blocks (λ c i a l s u e j n. may.unnamed c i a l s u e (Contains-append_right (option_to_list l.durable) l.pending s j) n) may.not_root h.waits;
     order = ordered_free state.lives blocks h.order;
     statuses = exact_free T state.lives blocks may.empty h.statuses;
     chains = chains_free T state.lives blocks may.empty h.statuses h.chains;
@@ -121,6 +130,14 @@ module _ (T : Types) (state : StoreState) (h : IsConsistent T state) (blocks : L
     linked = λ c l e. kept_free c l (free_back blocks state.lives c l e).1;
     numbers = λ c l s e i. h.numbers c l s (free_back blocks state.lives c l e).1 i;
   }
+
+  -- no template ends
+  pub free_types : (L : Language) → types_of L (free blocks state.lives) ≡ types_of L state.lives
+  free_types =
+      let r = h.lives_sound.root in
+      let k = h.linked 0 r.life r.alive in
+      kept_types T state.lives (free blocks state.lives) r k.last k.is_last (λ i lt. ap (λ o. pointer (life_bytes o) i) (free_same blocks state.lives 0 may.not_root))
+      (λ c n t. ap life_bytes (free_same blocks state.lives c (λ i. template_stays k.last c 1 (last_of r.life.durable r.life.pending k.last k.is_last) n i)))
 
 -- What a write that settled drops may end
 
@@ -253,6 +270,38 @@ module _ (T : Types) (state : StoreState) (h : IsConsistent T state) (b : ℕ) (
       given_up zero e s = subst (λ xs. IsConsistent T (record state { lives = xs })) (sym (left_none s)) (bare_consistent T (record state { lives = each (with_begun b None) state.lives }) (given_up_consistent T state h b s.life s.alive) b)
       given_up (suc k) e s = absurd (omega arith)
 
+  left_types : (k : ℕ) (s : Settles state.lives b bytes k) (L : Language) → types_of L (left_by k s) ≡ types_of L state.lives
+  left_types k s L = elim s.case [
+    | inl there ↦
+        let drops = drops_of (take k s.life.pending) in
+        let settled_state : StoreState = record state { lives = each (settled b k) state.lives } in
+        ap (types_of L) (left_is k s)
+        ∙ (types_all (free drops (each (settled b k) state.lives)) (each (bared b) (free drops (each (settled b k) state.lives))) (bare_latest b (free drops (each (settled b k) state.lives))) L
+        ∙ (free_types T settled_state (settles T state h b s.life s.alive k there.0) drops (settled_may_free T state h b s.life s.alive k) L
+        ∙ types_all state.lives (each (settled b k) state.lives) (λ c. latest_each (settled b k) state.lives c (λ l e. ap bytes_of (settled_newest b k c l).newest)) L))
+    | inr none ↦ given_up k none.0 s
+  ]
+    where
+      given_up : (k : ℕ) → k ≡ 0 → (s : Settles state.lives b bytes k) → types_of L (left_by k s) ≡ types_of L state.lives
+      given_up zero e s = ap (types_of L) (left_none s) ∙ types_all state.lives (each (bared b) (each (with_begun b None) state.lives)) (λ c. bare_latest b (each (with_begun b None) state.lives) c ∙ begun_latest b None state.lives c) L
+      given_up (suc k) e s = absurd (omega arith)
+
+  left_there : (k : ℕ) (s : Settles state.lives b bytes k) → KeepsTypesThere state.lives (left_by k s)
+  left_there k s t has = elim s.case [
+    | inl there ↦
+        let drops = drops_of (take k s.life.pending) in
+        let may = settled_may_free T state h b s.life s.alive k in
+        let settled_there = settled_disk T b k state.lives h.lives_sound.root t has in
+        subst (λ m. IsTrue (has_type m t)) (sym (ap root_on_disk (left_is k s)
+        ∙ (bare_there b (free drops (each (settled b k) state.lives)) ∙ ap durable_bytes (free_same drops (each (settled b k) state.lives) 0 may.not_root)))) settled_there
+    | inr none ↦ given_up k none.0 s
+  ]
+    where
+      given_up : (k : ℕ) → k ≡ 0 → (s : Settles state.lives b bytes k) → IsTrue (has_type (root_on_disk (left_by k s)) t)
+      given_up zero e s = subst (λ m. IsTrue (has_type m t)) (sym (ap root_on_disk (left_none s)
+          ∙ (bare_there b (each (with_begun b None) state.lives) ∙ on_disk_each (with_begun b None) state.lives (λ l. refl)))) has
+      given_up (suc k) e s = absurd (omega arith)
+
   left_placed : (k : ℕ) (s : Settles state.lives b bytes k) (content : ℕ → List ℕ) → ArePlaced content state.lives → content b ≡ bytes → ArePlaced content (left_by k s)
   left_placed k s content p there = elim s.case [
     | inl landed ↦ subst (ArePlaced content) (sym (left_is k s))
@@ -266,15 +315,15 @@ module _ (T : Types) (state : StoreState) (h : IsConsistent T state) (b : ℕ) (
       given_up (suc k) e s stands = absurd (omega arith)
 
   pub settled_keeps : (given : ℕ × ℕ) (new : StoreState) → settled_of state b bytes ≡ Ok (given, new) →
-      IsConsistent T new × (length new.lives ≡ length state.lives) × ((content : ℕ → List ℕ) → ArePlaced content state.lives → content b ≡ bytes → ArePlaced content new.lives)
+      IsConsistent T new × (length new.lives ≡ length state.lives) × ((L : Language) → types_of L new.lives ≡ types_of L state.lives) × KeepsTypesThere state.lives new.lives × ((content : ℕ → List ℕ) → ArePlaced content state.lives → content b ≡ bytes → ArePlaced content new.lives)
   unfolding left_by
   settled_keeps given new e =
       let m = map_ok (settled_after state b) (settled_place bytes (slice_get state.lives b)) (given, new) e in
       let s = settles_place state.lives b bytes (slice_get state.lives b) m.0 refl m.1 in
       let first : first_pending m.0 (life_at state.lives b) ≡ take m.0 s.life.pending = ap (first_pending m.0) s.alive in
       let is : record state { lives = left_by m.0 s } ≡ new = ap (λ xs. (settled_with state b (drops_of xs) m.0).1) (sym first) ∙ ap (λ (x : (ℕ × ℕ) × StoreState). x.1) m.2 in
-      subst (λ (x : StoreState). IsConsistent T x × (length x.lives ≡ length state.lives) × ((content : ℕ → List ℕ) → ArePlaced content state.lives → content b ≡ bytes → ArePlaced content x.lives)) is
-      (left_consistent m.0 s, length_left m.0 s, left_placed m.0 s)
+      subst (λ (x : StoreState). IsConsistent T x × (length x.lives ≡ length state.lives) × ((L : Language) → types_of L x.lives ≡ types_of L state.lives) × KeepsTypesThere state.lives x.lives × ((content : ℕ → List ℕ) → ArePlaced content state.lives → content b ≡ bytes → ArePlaced content x.lives)) is
+      (left_consistent m.0 s, length_left m.0 s, left_types m.0 s, left_there m.0 s, left_placed m.0 s)
     where
       length_left : (k : ℕ) (s : Settles state.lives b bytes k) → length (left_by k s) ≡ length state.lives
       length_left k s = ap length (left_is k s) ∙ (length_revised (λ c o. option_map (bared b c) o) (free (drops_of (take k s.life.pending)) (each (settled b k) state.lives)) ∙ (length_revised (λ c o. cond (has_number (drops_of (take k s.life.pending)) c) None o) (each (settled b k) state.lives) ∙ length_revised (λ c o. option_map (settled b k c) o) state.lives))
@@ -315,6 +364,10 @@ forget_keeps T state h fs b none new done =
     subst (Keeps T state) is (record {
       consistent = subst (λ xs. IsConsistent T (record state { lives = xs })) (sym (freed_is state.lives (b ∷ [])))
           (free_keeps T state h (b ∷ []) (forgotten_may T state h fs b l own.1.alive own.1.mine (fresh_from l.status (not-false (is_fresh l.status) u.0.0)) (not-false (owns_nothing T l.ty (current l)) u.0.1.0)));
+      types = λ L. ap (types_of L) (freed_is state.lives (b ∷ []))
+          ∙ free_types T state h (b ∷ []) (forgotten_may T state h fs b l own.1.alive own.1.mine (fresh_from l.status (not-false (is_fresh l.status) u.0.0)) (not-false (owns_nothing T l.ty (current l)) u.0.1.0)) L;
+      there = types_still state.lives (freed state.lives (b ∷ [])) (ap root_on_disk (freed_is state.lives (b ∷ []))
+          ∙ ap durable_bytes (free_same (b ∷ []) state.lives 0 (forgotten_may T state h fs b l own.1.alive own.1.mine (fresh_from l.status (not-false (is_fresh l.status) u.0.0)) (not-false (owns_nothing T l.ty (current l)) u.0.1.0)).not_root));
       count = ap length (freed_is state.lives (b ∷ [])) ∙ length_revised (λ c o. cond (has_number (b ∷ []) c) None o) state.lives;
       placed = λ content p. subst (ArePlaced content) (sym (freed_is state.lives (b ∷ []))) (free_placed content state.lives (b ∷ []) p);
     })

@@ -6,9 +6,10 @@ use Rattle.std.proofs.lemmas.Bool.{cases_eq}
 use Rattle.std.proofs.lemmas.List.{take-append-le}
 use Rattle.xn_model.specs.Lists.{has_number}
 use Rattle.xn_model.specs.Types.{Types}
+use Rattle.xn_model.specs.Languages.{Language}
 use Rattle.xn_model.specs.Lives.{BlockState, Life, Lives, StoreState, life_at, bytes_of, lowest_free, prefix_of, accepted_at, begun_at, settle, settled_at, freed, drops_of}
 use Rattle.xn_model.specs.Results.{Refusal, NoSuchBlock, NotInUse, InFlight, NothingSafe, NoSpace, first_refusal}
-use Rattle.xn_model.specs.Calls.{Edit, accepts, edited, new_life, bytes_at, init_at, init_refusal, init_of, propose_refusal, propose_at, propose_of, make_root_refusal, make_root_at, make_root_of, drop_root_refusal, drop_root_of, forget_of, root_state, slot_now, begun_of, begun_place, settled_of, settled_place, settled_after, settled_with, first_pending}
+use Rattle.xn_model.specs.Calls.{Edit, accepts, install_of, types_of, started, catalogue_state, edited, new_life, bytes_at, init_at, init_refusal, init_of, propose_refusal, propose_at, propose_of, make_root_refusal, make_root_at, make_root_of, drop_root_refusal, drop_root_of, forget_of, root_state, slot_now, begun_of, begun_place, settled_of, settled_place, settled_after, settled_with, first_pending}
 use Rattle.xn_model.specs.Rules.{IsConsistent, IsCount}
 use Rattle.xn_model.specs.Flights.{flight_of, HaveSameFlights, HaveSameFlightsBut}
 use Rattle.xn_model.proofs.Changes.{accepted}
@@ -18,6 +19,7 @@ use Rattle.xn_model.specs.Worlds.{begun_count, begun_bytes}
 use Rattle.std.proofs.lemmas.Option.{same_Some, none-some}
 use Rattle.xn_model.proofs.Tests.{map_ok, given_ok, own_then, same_ok, never_ok, unless_ok, none_from}
 use Rattle.xn_model.proofs.Init.{lowest_is}
+use Rattle.xn_model.proofs.Install.{installed_is, begun_kept}
 use Rattle.xn_model.proofs.Ends.{settles_place}
 use Rattle.xn_model.proofs.Lanes.{ended_idle}
 use Rattle.xn_model.proofs.LaneCalls.{forgets}
@@ -79,7 +81,7 @@ flights_at : (state new : StoreState) (fs t : ℕ) (bytes : List ℕ) (o : Optio
 flights_at state new fs t bytes None made at e = absurd (never_ok NoSpace (made, new) e)
 flights_at state new fs t bytes (Some b) made at e =
     let r = lowest_is state.lives b at in
-    let life = new_life state.next fs t bytes in
+    let life = new_life state.next (Some fs) t bytes in
     let is : slice_set state.lives b (Some life) ≡ new.lives =
     ap (λ (x : (ℕ × ℕ) × StoreState). x.1.lives) (same_ok ((b, state.next), record { lives = slice_set state.lives b (Some life); next = state.next + 1 }) (made, new) e) in
     subst (HaveSameFlights state.lives) is (flights_start state.lives b life r.0 r.1 refl)
@@ -87,6 +89,17 @@ flights_at state new fs t bytes (Some b) made at e =
 pub flights_init : (T : Types) (state new : StoreState) (fs t : ℕ) (bytes : List ℕ) (made : ℕ × ℕ) → init_of T state fs t bytes ≡ Ok (made, new) → HaveSameFlights state.lives new.lives
 flights_init T state new fs t bytes made e =
     flights_at state new fs t bytes (lowest_free state.lives) made refl (given_ok (init_refusal T state fs t bytes) (init_at state fs t bytes (lowest_free state.lives)) (made, new) e)
+
+-- a template's
+pub flights_install : (L : Language) (state new : StoreState) (bytes : List ℕ) (made : ℕ × ℕ × ℕ) → IsConsistent (types_of L state.lives) state → length bytes ≡ 512 →
+    install_of L state bytes ≡ Ok (made, new) → HaveSameFlights state.lives new.lives
+flights_install L state new bytes made h whole e =
+    let x = installed_is L state bytes made new e in
+    let r = lowest_is state.lives x.block x.free in
+    let begun = started state None 1 bytes x.block in
+    let k = begun_kept L state h bytes whole x.block x.free in
+    subst (HaveSameFlights state.lives) (ap (λ (y : StoreState). y.lives) x.is) (λ c.
+    flights_accepted (types_of L state.lives) begun k.consistent 0 (catalogue_state begun x.place x.block) c ∙ flights_start state.lives x.block (new_life state.next None 1 bytes) r.0 r.1 refl c)
 
 -- One life fewer
 

@@ -8,12 +8,15 @@ use Rattle.std.proofs.lemmas.List.Quantifiers.{position-Some}
 use Rattle.xn_model.specs.Lists.{blocks_of, distinct}
 use Rattle.xn_model.specs.Types.{Types, named_once, within_size}
 use Rattle.xn_model.specs.Images.{IsDiskSize}
-use Rattle.xn_model.specs.Lives.{BlockState, Life, Lives, life_at, states, lowest_free, Owned, Dropped, Fresh, StoreState}
+use Rattle.xn_model.specs.Root.{pointer}
+use Rattle.xn_model.specs.Languages.{Language}
+use Rattle.xn_model.specs.Lives.{BlockState, Life, Lives, life_at, states, durable_bytes, lowest_free, Owned, Dropped, Fresh, StoreState}
 use Rattle.xn_model.specs.Results.{NoSpace, BadType, TooManyPending, Exhausted, SizeWrong, ClaimWrong}
-use Rattle.xn_model.specs.Calls.{first_state, init_of, new_life, init_at, owns_nothing, too_many, exhausted}
+use Rattle.xn_model.specs.Calls.{first_state, init_of, new_life, started, init_at, types_of, life_bytes, owns_nothing, too_many, exhausted}
 use Rattle.xn_model.specs.Rules.{Keeps, IsBy, WaitsForOlder, IsSoundLife, IsLinkedLife, IsConsistent, HasExactStatuses, AreOrdered, ChainsEnd}
 use Rattle.xn_model.proofs.Lists.{Contains-none, Contains-cons}
-use Rattle.xn_model.proofs.Carry.{Carries, held_still, kept_still, root_still}
+use Rattle.xn_model.proofs.Languages.{kept_types}
+use Rattle.xn_model.proofs.Carry.{Carries, types_still, held_still, kept_still, root_still}
 use Rattle.xn_model.proofs.Chains.{alone, chain_of, chain_ends, goes_on}
 use Rattle.xn_model.proofs.Tests.{unless_ok, never_ok, same_ok}
 use Rattle.xn_model.proofs.Lives.{set_other, set_same}
@@ -54,6 +57,13 @@ module _ (T : Types) (state : StoreState) (h : IsConsistent T state) (b : ℕ) (
     | inr other ↦ inr (sym (set_other state.lives b c (Some start) other) ∙ e)
   ]
 
+  other_same : (c : ℕ) (l : Life) → life_at state.lives c ≡ Some l → life_at now c ≡ life_at state.lives c
+  unfolding now
+  other_same c l e = forth c l e ∙ sym e
+
+  root_same : life_at now 0 ≡ life_at state.lives 0
+  root_same = let r = h.lives_sound.root in other_same 0 r.life r.alive
+
   carries_start : Carries T state.lives now
   unfolding now
   carries_start = record {
@@ -61,9 +71,10 @@ module _ (T : Types) (state : StoreState) (h : IsConsistent T state) (b : ℕ) (
     belongs = λ a c u r. record { life = r.life; alive = forth c r.life r.alive; ty = r.ty; by = r.by };
     system = λ fs c r. record { life = r.life; alive = forth c r.life r.alive; same = r.same };
     disk = λ c r. record { life = r.life; alive = forth c r.life r.alive; state = r.state; durable = r.durable };
-    template = λ c r. record { life = r.life; alive = forth c r.life r.alive; nobody = r.nobody; ty = r.ty; state = r.state; durable = r.durable; only = r.only; bytes = r.bytes };
+    template = λ c r. record { life = r.life; alive = forth c r.life r.alive; nobody = r.nobody; ty = r.ty; state = r.state; only = r.only; bytes = r.bytes };
     dropped = λ a c r. record { life = r.life; alive = forth c r.life r.alive; status = r.status };
     resting = λ a c d r. record { life = r.life; alive = forth c r.life r.alive; nothing = r.nothing };
+    types = types_still state.lives now (ap durable_bytes root_same);
   }
 
   -- a new life waits for nothing, and nothing waits for it
@@ -72,6 +83,10 @@ module _ (T : Types) (state : StoreState) (h : IsConsistent T state) (b : ℕ) (
     adds = λ a l s c u e i m. elim (back a l e) [
       | inl new ↦ absurd (no_adds s (c, u) (subst (λ (x : Life). Contains x.pending s) (sym new.1) i) m)
       | inr old ↦ let x = h.waits.adds a l s c u old i m in (x.0, record { life = x.1.life; alive = forth c x.1.life x.1.alive; older = x.1.older })
+    ];
+    types = λ a l s c u e i m. elim (back a l e) [
+      | inl new ↦ absurd (no_adds s (c, u) (subst (λ (x : Life). Contains x.pending s) (sym new.1) i) m)
+      | inr old ↦ let o = h.waits.types a l s c u old i m in record { life = o.life; alive = forth 0 o.life o.alive; older = o.older }
     ];
     drops = λ a l s c m t e i d f j. elim (back a l e) [
       | inl new ↦ absurd (no_drops s c (subst (λ (x : Life). Contains x.pending s) (sym new.1) i) d)
@@ -118,6 +133,13 @@ module _ (T : Types) (state : StoreState) (h : IsConsistent T state) (b : ℕ) (
   unfolding now
   start_order s one idle below = ordered_start state.lives b start s one idle below back h.order
 
+  -- block 0 and the templates are alive before
+  start_types : (L : Language) → types_of L now ≡ types_of L state.lives
+  start_types =
+      let r = h.lives_sound.root in
+      let k = h.linked 0 r.life r.alive in
+      kept_types T state.lives now r k.last k.is_last (λ i lt. ap (λ o. pointer (life_bytes o) i) root_same) (λ c n t. ap life_bytes (other_same c t.life t.alive))
+
   start_keeps : IsSoundLife T now b start → IsLinkedLife T now b start → start.durable ≡ None → ((s : BlockState) → Contains (states start) s → s.entry < state.next + 1) →
       ((s : BlockState) (p : ℕ × ℕ) → Contains start.pending s → Contains s.adds p → ⊥) → ((s : BlockState) (c : ℕ) → Contains start.pending s → Contains s.drops c → ⊥) → ((s : BlockState) (n : ℕ) → Contains start.pending s → s.after ≡ Some n → ⊥) → (IsBy b start.status → ⊥) → start.status ≡ Fresh → AreOrdered now →
       Keeps T state (record { lives = slice_set state.lives b (Some start); next = state.next + 1 })
@@ -131,7 +153,7 @@ module _ (T : Types) (state : StoreState) (h : IsConsistent T state) (b : ℕ) (
       built_ins = h.built_ins;
       size = subst IsDiskSize (sym carries_start.count) h.size;
       lives_sound = record {
-        root = let r = h.lives_sound.root in root_still T state.lives now carries_start r r.life r.state (forth 0 r.life r.alive) r.ty r.nobody r.unowned r.durable (λ t m. m);
+        root = let r = h.lives_sound.root in root_still T state.lives now carries_start r r.life r.state (forth 0 r.life r.alive) r.ty r.nobody r.unowned r.durable (λ t m. m) r.pointers refl;
         each = λ c m e. elim (back c m e) [
           | inl new ↦ subst (λ x. IsSoundLife T now x m) (sym new.0) (subst (IsSoundLife T now b) new.1 held)
           | inr old ↦ held_still T state.lives now c m carries_start (h.lives_sound.each c m old)
@@ -146,6 +168,8 @@ module _ (T : Types) (state : StoreState) (h : IsConsistent T state) (b : ℕ) (
         | inr old ↦ let lt = h.numbers c m s old i in omega arith
       ];
     };
+    types = start_types;
+    there = carries_start.types;
     count = carries_start.count;
     placed = λ content p c m s e d. elim (back c m e) [
       | inl new ↦ absurd (none-some s (sym none ∙ (ap (λ (x : Life). x.durable) new.1 ∙ d)))
@@ -154,16 +178,16 @@ module _ (T : Types) (state : StoreState) (h : IsConsistent T state) (b : ℕ) (
   }
 
 -- the one state of a life that begins
-only_state : (state : StoreState) (fs t : ℕ) (m : List ℕ) (s : BlockState) → Contains (states (new_life state.next fs t m)) s → (s.bytes ≡ m) × (s.entry ≡ state.next)
+only_state : (state : StoreState) (fs : Option ℕ) (t : ℕ) (m : List ℕ) (s : BlockState) → Contains (states (new_life state.next fs t m)) s → (s.bytes ≡ m) × (s.entry ≡ state.next)
 only_state state fs t m s i = elim (Contains-cons (first_state state.next fs m) [] s i) [
   | inl e ↦ (ap (λ (x : BlockState). x.bytes) (sym e), ap (λ (x : BlockState). x.entry) (sym e))
   | inr none ↦ absurd (Contains-none s none)
 ]
 
-init_at_keeps : (T : Types) (state : StoreState) → IsConsistent T state → (fs t : ℕ) (m : List ℕ) → IsTrue (T.installed t) → (t ≡ 0 → ⊥) → T.owned t m ≡ [] → within_size T t m ≡ true →
-    (o : Option ℕ) → lowest_free state.lives ≡ o → (y : (ℕ × ℕ) × StoreState) → init_at state fs t m o ≡ Ok y → Keeps T state y.1
-init_at_keeps T state h fs t m installed not_root nothing size None e y made = absurd (never_ok NoSpace y made)
-init_at_keeps T state h fs t m installed not_root nothing size (Some b) e y made = subst (λ (x : (ℕ × ℕ) × StoreState). Keeps T state x.1) (same_ok ((b, state.next), record { lives = slice_set state.lives b (Some (new_life state.next fs t m)); next = state.next + 1 }) y made) (
+-- a life begins on the lowest free block, a file system's or nobody's
+pub started_keeps : (T : Types) (state : StoreState) → IsConsistent T state → (fs : Option ℕ) (t : ℕ) (m : List ℕ) → IsTrue (T.installed t) → (t ≡ 0 → ⊥) → T.owned t m ≡ [] → within_size T t m ≡ true →
+    (b : ℕ) → lowest_free state.lives ≡ Some b → Keeps T state (started state fs t m b)
+started_keeps T state h fs t m installed not_root nothing size b e =
     let at = lowest_is state.lives b e in
     let unnamed : (s : BlockState) (p : ℕ × ℕ) → Contains (states (new_life state.next fs t m)) s → Contains (T.owned t s.bytes) p → ⊥ =
     λ s p i n. Contains-none p (subst (λ ps. Contains ps p) (ap (T.owned t) (only_state state fs t m s i).0 ∙ nothing) n) in
@@ -173,6 +197,7 @@ init_at_keeps T state h fs t m installed not_root nothing size (Some b) e y made
       named = λ s c u i n. absurd (unnamed s (c, u) i n);
       same_system = λ s c u ne i n. absurd (unnamed s (c, u) i n);
       ready = λ s c u i n. absurd (Contains-none s i);
+      typed = λ s c u ne i n. absurd (Contains-none s i);
       rising = tt;
     })
     (record {
@@ -191,7 +216,7 @@ init_at_keeps T state h fs t m installed not_root nothing size (Some b) e y made
     refl
     (λ s i. let same = (only_state state fs t m s i).1 in omega arith)
     (λ s p i n. adds_none s p i n) (λ s c i n. drops_none s c i n) (λ s n i e. after_none s n i e) (λ by. by) refl
-    (start_order T state h b (new_life state.next fs t m) at.1 at.0 (first_state state.next fs m) refl refl (below_next T state h)))
+    (start_order T state h b (new_life state.next fs t m) at.1 at.0 (first_state state.next fs m) refl refl (below_next T state h))
   where
     adds_none : (s : BlockState) (p : ℕ × ℕ) → Contains (new_life state.next fs t m).pending s → Contains s.adds p → ⊥
     adds_none s p i n = elim (Contains-cons (first_state state.next fs m) [] s i) [
@@ -210,6 +235,12 @@ init_at_keeps T state h fs t m installed not_root nothing size (Some b) e y made
       | inl e ↦ Contains-none c (subst (λ (x : BlockState). Contains x.drops c) (sym e) n)
       | inr none ↦ Contains-none s none
     ]
+
+init_at_keeps : (T : Types) (state : StoreState) → IsConsistent T state → (fs t : ℕ) (m : List ℕ) → IsTrue (T.installed t) → (t ≡ 0 → ⊥) → T.owned t m ≡ [] → within_size T t m ≡ true →
+    (o : Option ℕ) → lowest_free state.lives ≡ o → (y : (ℕ × ℕ) × StoreState) → init_at state fs t m o ≡ Ok y → Keeps T state y.1
+init_at_keeps T state h fs t m installed not_root nothing size None e y made = absurd (never_ok NoSpace y made)
+init_at_keeps T state h fs t m installed not_root nothing size (Some b) e y made =
+    subst (λ (x : (ℕ × ℕ) × StoreState). Keeps T state x.1) (same_ok ((b, state.next), started state (Some fs) t m b) y made) (started_keeps T state h (Some fs) t m installed not_root nothing size b e)
 
 pub init_keeps : (T : Types) (state : StoreState) → IsConsistent T state → (fs t : ℕ) (m : List ℕ) (made : ℕ × ℕ) (new : StoreState) → init_of T state fs t m ≡ Ok (made, new) → Keeps T state new
 init_keeps T state h fs t m made new e =

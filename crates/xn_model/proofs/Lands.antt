@@ -11,10 +11,10 @@ use Rattle.xn_model.specs.Images.{block_of}
 use Rattle.xn_model.specs.Lives.{BlockState, Life, StoreState, life_at, first_states, bytes_of}
 use Rattle.xn_model.specs.Results.{Refusal, NotSynced}
 use Rattle.xn_model.specs.Flights.{flight_of, HaveSameFlights}
-use Rattle.xn_model.specs.Calls.{begun_of, settled_of, bytes_at}
-use Rattle.xn_model.specs.Worlds.{World, Reply, Begun, Landed, Fault, Finished, reply_and_world, begin, begun_count, begun_bytes, with_ticket, on_ticket, land, fail, sync, fail_sync, finish, read_back, write, settle_bytes, given_at, MayLeave, left_at, left, Synced, Refused}
-use Rattle.xn_model.specs.Rules.{Keeps, IsPlaced, ArePlaced, Holds}
-use Rattle.xn_model.proofs.Reached.{in_range}
+use Rattle.xn_model.specs.Calls.{types_of, begun_of, settled_of, bytes_at}
+use Rattle.xn_model.specs.Worlds.{World, types_now, Reply, Begun, Landed, Fault, Finished, reply_and_world, begin, begun_count, begun_bytes, with_ticket, on_ticket, land, fail, sync, fail_sync, finish, read_back, write, settle_bytes, given_at, MayLeave, left_at, left, Synced, Refused}
+use Rattle.xn_model.specs.Rules.{IsConsistent, Keeps, IsPlaced, ArePlaced, Holds}
+use Rattle.xn_model.proofs.Lives.{in_lives}
 use Rattle.xn_model.proofs.Begin.{begun_keeps}
 use Rattle.xn_model.proofs.Writes.{begun_last}
 use Rattle.xn_model.proofs.Ends.{settled_keeps}
@@ -25,16 +25,21 @@ pub told_keeps : {A : Type 0} (P : World → Type 0) (reply : A → Reply) (w : 
 told_keeps P reply w (Ok given) p q = q given refl
 told_keeps P reply w (Err refusal) p q = p
 
-pub next_holds : (w : World) → Holds w → (new : StoreState) → Keeps w.types w.state new → HaveSameFlights w.state.lives new.lives → Holds (record w { state = new })
-next_holds w h new k flights = record {
-  state = k.consistent;
-  count = h.count ∙ sym k.count;
-  settled_count = h.settled_count ∙ sym k.count;
-  given_count = h.given_count ∙ sym k.count;
-  placed = k.placed (block_of w.settled) h.placed;
+-- a new state of which the same disk keeps the rules
+pub next_fits : (w : World) → Holds w → (new : StoreState) → IsConsistent (types_of w.language new.lives) new → length new.lives ≡ length w.state.lives →
+    ((content : ℕ → List ℕ) → ArePlaced content w.state.lives → ArePlaced content new.lives) → HaveSameFlights w.state.lives new.lives → Holds (record w { state = new })
+next_fits w h new consistent count placed flights = record {
+  state = consistent;
+  count = h.count ∙ sym count;
+  settled_count = h.settled_count ∙ sym count;
+  given_count = h.given_count ∙ sym count;
+  placed = placed (block_of w.settled) h.placed;
   newest = h.newest;
   unsynced = λ b bytes e. let f = h.unsynced b bytes e in (f.0, flights b ∙ f.1);
 }
+
+pub next_holds : (w : World) → Holds w → (new : StoreState) → Keeps (types_now w) w.state new → HaveSameFlights w.state.lives new.lives → Holds (record w { state = new })
+next_holds w h new k flights = next_fits w h new (subst (λ T. IsConsistent T new) (sym (k.types w.language)) k.consistent) k.count k.placed flights
 
 -- What a crash may leave
 
@@ -105,7 +110,7 @@ with_ticket_keeps : (P : World → Type 0) (w : World) (o : Option ℕ) (go : �
 with_ticket_keeps P w None go p q = p
 with_ticket_keeps P w (Some k) go p q = q k refl
 
-on_ticket_keeps : (P : World → Type 0) (w : World) (b : ℕ) (go : ℕ → Reply × World) → P w → ((l : Life) (k : ℕ) → life_at w.state.lives b ≡ Some l → l.begun ≡ Some k → P (go k).1) → P (on_ticket w b go).1
+pub on_ticket_keeps : (P : World → Type 0) (w : World) (b : ℕ) (go : ℕ → Reply × World) → P w → ((l : Life) (k : ℕ) → life_at w.state.lives b ≡ Some l → l.begun ≡ Some k → P (go k).1) → P (on_ticket w b go).1
 on_ticket_keeps P w b go p q = with_ticket_keeps P w (begun_count (life_at w.state.lives b)) go p (λ k e. let r = ticket_from (life_at w.state.lives b) k e in q r.0 k r.1 r.2)
 
 -- The block write
@@ -115,7 +120,7 @@ module _ (w : World) (h : Holds w) (b : ℕ) (l : Life) (alive : life_at w.state
   bytes = begun_bytes k (life_at w.state.lives b)
 
   within : b < length w.state.lives
-  within = in_range w.types w.state h.state b l alive
+  within = in_lives w.state.lives b l alive
 
   carries : flight_of (life_at w.state.lives b) ≡ Some (k, bytes)
   carries = ap flight_of alive ∙ (ap (option_map (λ j. (j, bytes_at j l))) begun ∙ ap (λ o. Some (k, begun_bytes k o)) (sym alive))
@@ -213,9 +218,9 @@ fail_sync_keeps w h b = on_ticket_keeps Holds w b (λ k. (Fault, w)) h (λ l k e
 
 pub begin_keeps : (w : World) → Holds w → (b : ℕ) → Holds (begin w b).1
 begin_keeps w h b = told_keeps Holds (λ begun. Begun begun.1) w (begun_of w.state b) h (λ given e.
-    let k = begun_keeps w.types w.state h.state b given.0 given.1 e in
+    let k = begun_keeps (types_now w) w.state h.state b given.0 given.1 e in
     record {
-      state = k.consistent;
+      state = subst (λ T. IsConsistent T given.1) (sym (k.types w.language)) k.consistent;
       count = h.count ∙ sym k.count;
       settled_count = h.settled_count ∙ sym k.count;
       given_count = h.given_count ∙ sym k.count;
@@ -229,17 +234,17 @@ begin_keeps w h b = told_keeps Holds (λ begun. Begun begun.1) w (begun_of w.sta
 
 read_back_keeps : (w : World) → Holds w → (b : ℕ) → given_at w.given b ≡ None → Holds (read_back w b).1
 read_back_keeps w h b none = told_keeps Holds (λ done. Finished done.0 done.1) w (settled_of w.state b (block_of w.image b)) h (λ given g.
-    let r = settled_keeps w.types w.state h.state b (block_of w.image b) given.0 given.1 g in
+    let r = settled_keeps (types_now w) w.state h.state b (block_of w.image b) given.0 given.1 g in
     record {
-      state = r.0;
+      state = subst (λ T. IsConsistent T given.1) (sym (r.2 w.language)) r.0;
       count = h.count ∙ sym r.1;
       settled_count = h.settled_count ∙ sym r.1;
       given_count = h.given_count ∙ sym r.1;
-      placed = r.2 (block_of w.settled) h.placed (none_open w h b none);
+      placed = r.4 (block_of w.settled) h.placed (none_open w h b none);
       newest = h.newest;
       unsynced = λ c bytes e. let f = h.unsynced c bytes e in elim (cases_eq c b) [
         | inl same ↦ absurd (none-some bytes (sym none ∙ (ap (given_at w.given) (sym same) ∙ e)))
-        | inr other ↦ (f.0, (flights_settled w.types w.state given.1 b (block_of w.image b) given.0 h.state g).1 c other ∙ f.1)
+        | inr other ↦ (f.0, (flights_settled (types_now w) w.state given.1 b (block_of w.image b) given.0 h.state g).1 c other ∙ f.1)
       ];
     })
 

@@ -3,15 +3,17 @@ use Rattle.std.proofs.Common.{◌≡◌, ℕ, zero, suc, ◌+◌, not, List, [],
 use Rattle.std.proofs.lemmas.Option.{same_Some, none-some}
 use Rattle.std.specs.Prelude.{Contains, IfSome, slice_set, slice_get, is_some, Result, Ok}
 use Rattle.xn_model.specs.Types.{Types}
+use Rattle.xn_model.specs.Languages.{Language}
 use Rattle.xn_model.specs.Lives.{BlockState, on_disk, is_fresh, current, lowest_free, Life, StoreState, Lives, life_at, begun_at, freed, settled_at, drops_of}
 use Rattle.xn_model.specs.Results.{Refusal, NoSpace, NotFresh, NotEmpty, TooManyPending, InFlight}
-use Rattle.xn_model.specs.Calls.{Edit, accepts, edited, new_life, init_at, init_refusal, init_of, propose_refusal, propose_at, propose_of, make_root_refusal, make_root_at, make_root_of, drop_root_refusal, drop_root_of, forget_at, forget_of, root_state, slot_now, is_untouched, owns_nothing, begun_of, begun_place, settled_of, settled_place, settled_after, settled_with, first_pending}
+use Rattle.xn_model.specs.Calls.{Edit, accepts, install_of, started, catalogue_state, edited, new_life, init_at, init_refusal, init_of, propose_refusal, propose_at, propose_of, make_root_refusal, make_root_at, make_root_of, drop_root_refusal, drop_root_of, forget_at, forget_of, root_state, slot_now, is_untouched, owns_nothing, begun_of, begun_place, settled_of, settled_place, settled_after, settled_with, first_pending}
 use Rattle.xn_model.specs.Rules.{IsConsistent, IsPlaced, ArePlaced}
 use Rattle.xn_model.specs.Images.{block_of}
 use Rattle.xn_model.specs.Mounts.{IsRecovered}
 use Rattle.xn_model.specs.Lanes.{FitsLife, FitLives, HoldsBlock, HoldImage}
 use Rattle.xn_model.proofs.Tests.{map_ok, given_ok, own_then, same_ok, never_ok, unless_ok, none_from}
 use Rattle.xn_model.proofs.Init.{lowest_is}
+use Rattle.xn_model.proofs.Install.{installed_is}
 use Rattle.xn_model.proofs.Lists.{Contains-cons, Contains-none}
 use Rattle.xn_model.proofs.Begin.{begun_alive}
 use Rattle.xn_model.proofs.Ends.{settles_place}
@@ -59,9 +61,9 @@ module _ {L : Type 0} (read : L → List ℕ) (lanes : List (Option L)) where
   init_fits state new fs t bytes None made at e z = absurd (never_ok NoSpace (made, new) e)
   init_fits state new fs t bytes (Some b) made at e z =
       let r = lowest_is state.lives b at in
-      let is : slice_set state.lives b (Some (new_life state.next fs t bytes)) ≡ new.lives =
-      ap (λ (x : (ℕ × ℕ) × StoreState). x.1.lives) (same_ok ((b, state.next), record { lives = slice_set state.lives b (Some (new_life state.next fs t bytes)); next = state.next + 1 }) (made, new) e) in
-      subst (FitLives read lanes) is (fit_new read lanes state.lives b (new_life state.next fs t bytes) r.0 r.1 refl refl z)
+      let is : slice_set state.lives b (Some (new_life state.next (Some fs) t bytes)) ≡ new.lives =
+      ap (λ (x : (ℕ × ℕ) × StoreState). x.1.lives) (same_ok ((b, state.next), record { lives = slice_set state.lives b (Some (new_life state.next (Some fs) t bytes)); next = state.next + 1 }) (made, new) e) in
+      subst (FitLives read lanes) is (fit_new read lanes state.lives b (new_life state.next (Some fs) t bytes) r.0 r.1 refl refl z)
 
   pub lanes_init : (T : Types) (state new : StoreState) (fs t : ℕ) (bytes : List ℕ) (made : ℕ × ℕ) → init_of T state fs t bytes ≡ Ok (made, new) → FitLives read lanes state.lives → FitLives read lanes new.lives
   lanes_init T state new fs t bytes made e z =
@@ -69,6 +71,14 @@ module _ {L : Type 0} (read : L → List ℕ) (lanes : List (Option L)) where
 
   accepts_fits : (state new : StoreState) (b : ℕ) (s : BlockState) (entry : ℕ) → ◌≡◌ {A = Result (ℕ × StoreState) Refusal} (Ok (accepts state b s)) (Ok (entry, new)) → FitLives read lanes state.lives → FitLives read lanes new.lives
   accepts_fits state new b s entry e z = subst (FitLives read lanes) (ap (λ (x : ℕ × StoreState). x.1.lives) (same_ok (accepts state b s) (entry, new) e)) (fit_accepted read lanes state.lives b s z)
+
+  pub lanes_install : (G : Language) (state new : StoreState) (bytes : List ℕ) (made : ℕ × ℕ × ℕ) → install_of G state bytes ≡ Ok (made, new) → FitLives read lanes state.lives → FitLives read lanes new.lives
+  lanes_install G state new bytes made e z =
+      let x = installed_is G state bytes made new e in
+      let r = lowest_is state.lives x.block x.free in
+      let begun = started state None 1 bytes x.block in
+      subst (FitLives read lanes) (ap (λ (y : StoreState). y.lives) x.is)
+      (fit_accepted read lanes begun.lives 0 (catalogue_state begun x.place x.block) (fit_new read lanes state.lives x.block (new_life state.next None 1 bytes) r.0 r.1 refl refl z))
 
   pub lanes_propose : (T : Types) (state new : StoreState) (fs b : ℕ) (e : Edit) (entry : ℕ) → propose_of T state fs b e ≡ Ok (entry, new) → FitLives read lanes state.lives → FitLives read lanes new.lives
   lanes_propose T state new fs b e entry done z =

@@ -1,16 +1,18 @@
 -- With nothing in flight and something pending, some block has a safe prefix: the least pending number is safe.
 use Rattle.std.proofs.Common.{◌≡◌, ℕ, zero, suc, ◌<◌, ◌≤◌, Bool, true, false, cond, not, ◌&&◌, ◌||◌, List, [], ◌∷◌, ◌++◌, map, length, Option, Some, None, refl, sym, ◌∙◌, ap, inl, inr, arith, subst, eqb}
-use Rattle.std.specs.Prelude.{Contains, option_to_list, is_some, is_none, flat_map, nat_lt, position}
+use Rattle.std.specs.Prelude.{Contains, option_to_list, is_some, is_none, flat_map, nat_lt, position, ◌==◌}
 use Rattle.std.specs.List.{position_or_len, last_or, list_any, list_all}
 use Rattle.std.proofs.lemmas.Bool.{cases_lt, cases_Bool, false≢true, and_from, or_left, eqb-true, lt-ltb, ltb-false, cond-true, false_from_ne_true}
 use Rattle.std.proofs.lemmas.Option.{none-some, unwrap_or-slice_get}
 use Rattle.std.proofs.lemmas.List.Sums.{fails_before_first}
 use Rattle.std.proofs.lemmas.List.Elements.{Contains-append_cases, Contains-append_left, Contains-append_right}
-use Rattle.xn_model.specs.Lists.{blocks_of}
+use Rattle.xn_model.specs.Lists.{blocks_of, types_of_pairs}
+use Rattle.xn_model.specs.Root.{has_type}
 use Rattle.xn_model.specs.Types.{Types}
-use Rattle.xn_model.specs.Lives.{BlockState, Life, Lives, life_at, alive_and, has_entry, is_pending, no_states, has_durable, is_all_durable, is_after_met, safe, safe_count, prefix, prefix_of, StoreState}
+use Rattle.xn_model.specs.Lives.{BlockState, Life, Lives, life_at, alive_and, has_entry, is_pending, no_states, has_durable, is_all_durable, is_after_met, is_type_met, root_on_disk, safe, safe_count, prefix, prefix_of, StoreState}
 use Rattle.xn_model.specs.Calls.{pick_of, is_ready}
 use Rattle.xn_model.specs.Rules.{IsConsistent, Rises}
+use Rattle.xn_model.proofs.Catalogue.{on_disk_is}
 use Rattle.xn_model.proofs.Lists.{Contains-none, Contains-head, Contains-tail, Contains-cons, any_at, blocks_of_at}
 
 -- the entries that a life, and all lives, have pending
@@ -96,10 +98,12 @@ module _ (T : Types) (state : StoreState) (h : IsConsistent T state) (n : ℕ) (
   none_older b l t e i lt = let le = least t.entry (waits_from state.lives b l t e i) in omega arith
 
   -- the state of the least number is safe, wherever it stands
-  least_safe : (b : ℕ) (l : Life) (s : BlockState) (earlier : List BlockState) → life_at state.lives b ≡ Some l → Contains l.pending s → s.entry ≡ n → safe state.lives earlier s ≡ true
+  least_safe : (b : ℕ) (l : Life) (s : BlockState) (earlier : List BlockState) → life_at state.lives b ≡ Some l → Contains l.pending s → s.entry ≡ n → safe state.lives l.ty earlier s ≡ true
   least_safe b l s earlier alive i e =
-      and_from (list_all (has_durable state.lives) (blocks_of s.adds)) (list_all (is_all_durable state.lives) s.drops && is_after_met state.lives earlier s.after)
+      and_from (list_all (has_durable state.lives) (blocks_of s.adds) && list_all (is_type_met state.lives l.ty earlier) (types_of_pairs s.adds)) (list_all (is_all_durable state.lives) s.drops && is_after_met state.lives earlier s.after)
+      (and_from (list_all (has_durable state.lives) (blocks_of s.adds)) (list_all (is_type_met state.lives l.ty earlier) (types_of_pairs s.adds))
       (all_from (has_durable state.lives) (blocks_of s.adds) (λ c k. let p = blocks_of_at s.adds c k in added c p.0 p.1))
+      (all_from (is_type_met state.lives l.ty earlier) (types_of_pairs s.adds) (λ u k. let p = types_at s.adds u k in typed p.0 u p.1)))
       (and_from (list_all (is_all_durable state.lives) s.drops) (is_after_met state.lives earlier s.after)
       (all_from (is_all_durable state.lives) s.drops (λ c k. dropped c k))
       (after s.after refl))
@@ -111,6 +115,22 @@ module _ (T : Types) (state : StoreState) (h : IsConsistent T state) (n : ℕ) (
             | inl d ↦ ap (alive_and (λ x. is_some x.durable)) o.alive ∙ ap is_some d.1
             | inr t ↦ absurd (none_older c o.life t.0 o.alive t.1 (let lt = t.2 in omega arith))
           ]
+
+      -- the entry that block 0's type came with is older
+      typed : (c u : ℕ) → Contains s.adds (c, u) → is_type_met state.lives l.ty earlier u ≡ true
+      typed c u k =
+          let o = h.waits.types b l s c u alive i k in
+          or_left (has_type (root_on_disk state.lives) u) ((l.ty == 0) && list_any (λ x. has_type x.bytes u) earlier) (elim o.older [
+            | inl d ↦ ap (λ m. has_type m u) (on_disk_is state.lives o.life d.0 o.alive d.1) ∙ d.2
+            | inr t ↦ absurd (none_older 0 o.life t.0 o.alive t.1 (let lt = t.2 in omega arith))
+          ])
+
+      types_at : (ps : List (ℕ × ℕ)) (u : ℕ) → Contains (types_of_pairs ps) u → (c : ℕ) × Contains ps (c, u)
+      types_at [] u k = absurd (Contains-none u k)
+      types_at (p ∷ ps) u k = elim (Contains-cons p.1 (types_of_pairs ps) u k) [
+        | inl e ↦ (p.0, subst (λ t. Contains (p ∷ ps) (p.0, t)) e (Contains-head p ps))
+        | inr j ↦ let r = types_at ps u j in (r.0, Contains-tail p ps (r.0, u) r.1)
+      ]
 
       settled_if_none : (c : ℕ) (m : Life) → life_at state.lives c ≡ Some m → (xs : List BlockState) → m.pending ≡ xs → ((t : BlockState) → Contains xs t → ⊥) → is_all_durable state.lives c ≡ true
       settled_if_none c m f [] p none =
@@ -138,14 +158,14 @@ module _ (T : Types) (state : StoreState) (h : IsConsistent T state) (n : ℕ) (
   least_prefix : (b : ℕ) (l : Life) (s : BlockState) → life_at state.lives b ≡ Some l → Contains l.pending s → s.entry ≡ n → 1 ≤ prefix state.lives b
   least_prefix b l s alive i e = subst (λ o. 1 ≤ prefix_of state.lives o) (sym alive) (first l.pending refl)
     where
-      first : (xs : List BlockState) → l.pending ≡ xs → 1 ≤ safe_count state.lives [] xs
+      first : (xs : List BlockState) → l.pending ≡ xs → 1 ≤ safe_count state.lives l.ty [] xs
       first [] p = absurd (Contains-none s (subst (λ ys. Contains ys s) p i))
       first (x ∷ xs) p =
           let here : Contains l.pending x = subst (λ ys. Contains ys x) (sym p) (Contains-head x xs) in
           let le : x.entry ≤ s.entry = first_least l.durable x xs s (subst (λ ys. Rises (option_to_list l.durable ++ ys)) p (h.lives_sound.each b l alive).rising) (subst (λ ys. Contains ys s) p i) in
           let ge = least x.entry (waits_from state.lives b l x alive here) in
           let is : x.entry ≡ n = omega arith in
-          subst (λ k. 1 ≤ k) (sym (cond-true (safe state.lives [] x) (suc (safe_count state.lives ([] ++ x ∷ []) xs)) 0 (least_safe b l x [] alive here is))) (omega arith)
+          subst (λ k. 1 ≤ k) (sym (cond-true (safe state.lives l.ty [] x) (suc (safe_count state.lives l.ty ([] ++ x ∷ []) xs)) 0 (least_safe b l x [] alive here is))) (omega arith)
 
 -- a ready block is found
 picked : (lives os : Lives) (b : ℕ) (l : Life) → life_at os b ≡ Some l → is_ready lives (Some l) ≡ true → is_some (position (is_ready lives) os) ≡ true

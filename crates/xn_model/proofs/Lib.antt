@@ -6,12 +6,15 @@ pub mod Least
 pub mod Puts
 -- block 0
 pub mod RootBytes
+pub mod PointerBytes
 -- lives and their changes
 pub mod Lives
 pub mod Statuses
 pub mod Chains
 pub mod States
 pub mod Changes
+pub mod Catalogue
+pub mod Languages
 pub mod Accept
 pub mod AcceptedLives
 pub mod Carry
@@ -21,6 +24,8 @@ pub mod Given
 pub mod Init
 pub mod Edits
 pub mod Roots
+pub mod MoreTypes
+pub mod Install
 pub mod Begin
 pub mod Ends
 pub mod Floors
@@ -42,6 +47,7 @@ pub mod Mount
 -- runs
 pub mod Acts
 pub mod Runs
+pub mod Growth
 pub mod Examples
 -- what crates above cite
 pub mod ForCallers

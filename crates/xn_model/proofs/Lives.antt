@@ -69,6 +69,12 @@ free_back blocks lives c l e =
 pub past : (lives : Lives) (c : ℕ) → length lives ≤ c → life_at lives c ≡ None
 past lives c le = ap (λ o. unwrap_or o None) (slice_get_past lives c le)
 
+-- a block that is alive is one of the disk's
+pub in_lives : (lives : Lives) (c : ℕ) (l : Life) → life_at lives c ≡ Some l → c < length lives
+in_lives [] c l e = absurd (none-some l e)
+in_lives (o ∷ os) zero l e = omega arith
+in_lives (o ∷ os) (suc c) l e = let lt = in_lives os c l e in omega arith
+
 pub life_from : (lives : Lives) (b : ℕ) (l : Life) → slice_get lives b ≡ Some (Some l) → life_at lives b ≡ Some l
 life_from lives b l e = ap (λ o. unwrap_or o None) e
 

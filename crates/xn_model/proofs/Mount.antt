@@ -7,23 +7,33 @@ use Rattle.std.proofs.lemmas.List.{get_or_default, length-map}
 use Rattle.std.proofs.lemmas.List.Elements.{Contains-append_right}
 use Rattle.xn_model.specs.Lists.{distinct, blocks_of}
 use Rattle.xn_model.specs.Types.{Types, fits, named_once, within_size}
-use Rattle.xn_model.specs.Root.{HasBuiltIns, header, marked, slot, templates_of, roots_of, owned_by_root}
+use Rattle.xn_model.specs.Root.{HasBuiltIns, pointer, has_type, marked, slot, templates_of, roots_of, owned_by_root}
+use Rattle.xn_model.specs.Languages.{Language, types_in}
 use Rattle.xn_model.specs.Images.{IsDiskSize, block_of, Reach, root, step, Owns, IsSound}
-use Rattle.xn_model.specs.Lives.{on_disk, BlockState, Status, Owned, Life, Lives, life_at, states, newest, Dropped, Fresh}
+use Rattle.xn_model.specs.Lives.{on_disk, BlockState, Status, Owned, Life, Lives, life_at, states, newest, Dropped, Fresh, root_on_disk}
+use Rattle.xn_model.specs.Calls.{types_of, latest, life_bytes}
 use Rattle.xn_model.specs.Mounts.{IsRecoveredLife, IsRecovered}
-use Rattle.xn_model.specs.Worlds.{World, mounted, none_given, given_at}
-use Rattle.xn_model.specs.Rules.{IsBy, WaitsForOlder, IsTemplate, IsInFileSystem, IsRootLife, IsSoundLife, AreSoundLives, IsLinkedLife, IsPlaced, Holds, HasExactStatuses, IsNamer, NamedIn, ChainsEnd}
+use Rattle.xn_model.specs.Worlds.{World, mounted, none_given, given_at, mounted_state, types_there}
+use Rattle.xn_model.specs.Rules.{IsBy, IsConsistent, PointersStay, WaitsForOlder, IsTemplate, IsInFileSystem, IsRootLife, IsSoundLife, AreSoundLives, IsLinkedLife, IsPlaced, Holds, HasExactStatuses, IsNamer, NamedIn, ChainsEnd}
 use Rattle.xn_model.proofs.Lives.{past}
-use Rattle.xn_model.proofs.Lists.{Contains-none, Contains-cons}
+use Rattle.xn_model.proofs.Catalogue.{on_disk_is}
+use Rattle.xn_model.proofs.Languages.{built_ins_in, installed_has, types_same}
+use Rattle.xn_model.proofs.Lists.{Contains-none, Contains-cons, last_of}
 use Rattle.xn_model.proofs.Chains.{HasChain, alone, below, chain_ends}
 use Rattle.xn_model.proofs.Orders.{ordered_empty}
-use Rattle.xn_model.proofs.RootBytes.{slots_apart, templates_apart, template_type, template_owned, roots_from}
+use Rattle.xn_model.proofs.RootBytes.{templates_from, slots_apart, templates_apart, template_type, template_owned, roots_from}
 
 -- a life with one state, on the disk
 abbrev at_rest : Option ℕ → ℕ → Status → List ℕ → Life
 at_rest fs t st m = record { fs = fs; ty = t; status = st; durable = Some (on_disk m); pending = []; begun = None }
 
-module _ (T : Types) (built_ins : HasBuiltIns T) (image : List (List ℕ)) (sound : IsSound T (length image) (block_of image)) (lives : Lives) (rec' : IsRecovered T image lives) where
+module _ (L : Language) (image : List (List ℕ)) (sound : IsSound (types_in L (block_of image)) (length image) (block_of image)) (lives : Lives) (rec' : IsRecovered (types_in L (block_of image)) image lives) where
+  abbrev T : Types
+  T = types_in L (block_of image)
+
+  abbrev built_ins : HasBuiltIns T
+  built_ins = built_ins_in L (block_of image)
+
   life_is : (c : ℕ) (l : Life) → IsRecoveredLife T image lives c l → at_rest l.fs l.ty l.status (block_of image c) ≡ l
   life_is c l r = λ i. record { fs = l.fs; ty = l.ty; status = l.status; durable = sym r.durable i; pending = sym r.nothing i; begun = sym r.idle i }
 
@@ -77,6 +87,10 @@ module _ (T : Types) (built_ins : HasBuiltIns T) (image : List (List ℕ)) (soun
         ];
       }
 
+  -- block 0 on the disk
+  root_bytes : root_on_disk lives ≡ block_of image 0
+  root_bytes = let m = rec'.all 0 0 root in on_disk_is lives m.0 (on_disk (block_of image 0)) m.1 (rec'.only 0 m.0 m.1).durable
+
   held_rest : (c : ℕ) (l : Life) → life_at lives c ≡ Some l → IsSoundLife T lives c (at_rest l.fs l.ty l.status (block_of image c))
   held_rest c l e = record {
     fit = λ s i. subst (λ (x : BlockState). IsTrue (fits T l.ty x.bytes)) (sym (only_state (block_of image c) s i)) (sound.fit c l.ty (rec'.only c l e).reached);
@@ -85,6 +99,8 @@ module _ (T : Types) (built_ins : HasBuiltIns T) (image : List (List ℕ)) (soun
     same_system = λ s x u ne i n. target_system c l e ne x u (subst (λ (y : BlockState). Contains (T.owned l.ty y.bytes) (x, u)) (only_state (block_of image c) s i) n);
     ready = λ s x u i n. let t = target c l e x u (subst (λ (y : BlockState). Contains (T.owned l.ty y.bytes) (x, u)) (only_state (block_of image c) s i) n) in
         record { life = t.0; alive = t.1; state = on_disk (block_of image x); durable = (rec'.only x t.0 t.1).durable };
+    typed = λ s x u ne i n. let t = target c l e x u (subst (λ (y : BlockState). Contains (T.owned l.ty y.bytes) (x, u)) (only_state (block_of image c) s i) n) in
+        ap (λ m. has_type m u) root_bytes ∙ installed_has L (block_of image) u (sound.types c l.ty x u (rec'.only c l e).reached (subst (λ (y : BlockState). Contains (T.owned l.ty y.bytes) (x, u)) (only_state (block_of image c) s i) n)).1;
     rising = tt;
   }
 
@@ -140,8 +156,7 @@ module _ (T : Types) (built_ins : HasBuiltIns T) (image : List (List ℕ)) (soun
         ];
         ty = t.2 ∙ template_type (block_of image 0) c u n;
         state = on_disk (block_of image c);
-        durable = r.durable;
-        only = r.nothing;
+        only = ap states (sym (life_is c t.0 r));
         bytes = (sound.templates c u n).1;
       }
 
@@ -181,9 +196,12 @@ module _ (T : Types) (built_ins : HasBuiltIns T) (image : List (List ℕ)) (soun
         state = on_disk m;
         durable = root_rec.durable;
         mark = λ s i. subst (λ (x : BlockState). IsTrue (marked (length lives) x.bytes)) (sym (root_only s i)) (subst (λ n. IsTrue (marked n m)) (sym rec'.count) sound.head);
-        head = λ s i. ap (λ (x : BlockState). header x.bytes) (root_only s i);
+        pointers = subst (λ x. PointersStay (states x)) (life_is 0 root_life.0 root_rec) tt;
         long = λ s i. ap (λ (x : BlockState). length x.bytes) (root_only s i) ∙ sound.long;
         templates = λ s c u i n. template_rec c u (subst (λ (x : BlockState). Contains (templates_of x.bytes) (c, u)) (root_only s i) n);
+        types = λ s c u i n. ap (λ (x : BlockState). has_type x.bytes u) (root_only s i)
+            ∙ installed_has L (block_of image) u (sound.types 0 0 c u root (subst (λ ps. Contains ps (c, u)) (sym (built_ins.root_owns m)) (subst (λ (x : BlockState). Contains (owned_by_root x.bytes) (c, u)) (root_only s i) n))).1;
+        all_types = λ s t e i. ap (λ (x : BlockState). has_type x.bytes t) (root_only s (last_of root_life.0.durable root_life.0.pending s e)) ∙ installed_has L (block_of image) t i;
         slots = λ s i c k lt e ne. slot_system i c lt (ap (λ (x : BlockState). (slot x.bytes i).0) (sym (root_only s k)) ∙ e) ne;
       }
 
@@ -249,6 +267,7 @@ module _ (T : Types) (built_ins : HasBuiltIns T) (image : List (List ℕ)) (soun
   queued_recovered : WaitsForOlder T lives
   queued_recovered = record {
     adds = λ b l s c u e i n. absurd (nothing_pending b l s e i);
+    types = λ b l s c u e i n. absurd (nothing_pending b l s e i);
     drops = λ b l s c m t e i d f j. absurd (nothing_pending b l s e i);
     after = λ b l s n e i f. absurd (nothing_pending b l s e i);
     apart = λ c l e by. elim (cases_eq c 0) [
@@ -261,29 +280,39 @@ module _ (T : Types) (built_ins : HasBuiltIns T) (image : List (List ℕ)) (soun
     ];
   }
 
+  -- the types of the lives are those of the image
+  alive_latest : (c : ℕ) (l : Life) → life_at lives c ≡ Some l → latest lives c ≡ block_of image c
+  alive_latest c l e = ap life_bytes (e ∙ ap Some (sym (life_is c l (rec'.only c l e))))
+
+  pub types_recovered : types_of L lives ≡ T
+  types_recovered = types_same L (block_of image) (latest lives) (λ i lt. ap (λ m. pointer m i) (alive_latest 0 root_life.0 root_life.1))
+      (λ i lt ne. let t = template_rec (pointer (block_of image 0) i) 1 (templates_from (block_of image 0) i (pointer (block_of image 0) i) lt refl ne) in alive_latest (pointer (block_of image 0) i) t.life t.alive)
+
 pub never_given : (image : List (List ℕ)) (c : ℕ) → given_at (none_given image) c ≡ None
 never_given [] c = refl
 never_given (m ∷ image) zero = refl
 never_given (m ∷ image) (suc c) = never_given image c
 
 -- The world after a mount, up or down
-pub mount_holds : (w : World) → HasBuiltIns w.types → IsSound w.types (length w.image) (block_of w.image) → (lives : Lives) → IsRecovered w.types w.image lives → Holds (mounted w lives)
-mount_holds w b sound lives r = record {
-  state = record {
-    built_ins = b;
-    size = subst IsDiskSize (sym r.count) sound.size;
-    lives_sound = held_recovered w.types b w.image sound lives r;
-    linked = kept_recovered w.types b w.image sound lives r;
-    waits = queued_recovered w.types b w.image sound lives r;
-    order = ordered_empty lives (nothing_pending w.types b w.image sound lives r);
-    statuses = exact_recovered w.types b w.image sound lives r;
-    chains = chains_recovered w.types b w.image sound lives r;
-    numbers = numbers_recovered w.types b w.image sound lives r;
-  };
-  count = sym r.count;
-  settled_count = sym r.count;
-  given_count = length-map w.image (λ bytes. None) ∙ sym r.count;
-  placed = placed_recovered w.types b w.image sound lives r;
-  newest = (refl, λ c. inl refl);
-  unsynced = λ c bytes e. absurd (none-some bytes (sym (never_given w.image c) ∙ e));
-}
+pub mount_holds : (w : World) → IsSound (types_there w) (length w.image) (block_of w.image) → (lives : Lives) → IsRecovered (types_there w) w.image lives → Holds (mounted w lives)
+mount_holds w sound lives r =
+    let L = w.language in
+    record {
+      state = subst (λ T. IsConsistent T (mounted_state lives)) (sym (types_recovered L w.image sound lives r)) (record {
+        built_ins = built_ins_in L (block_of w.image);
+        size = subst IsDiskSize (sym r.count) sound.size;
+        lives_sound = held_recovered L w.image sound lives r;
+        linked = kept_recovered L w.image sound lives r;
+        waits = queued_recovered L w.image sound lives r;
+        order = ordered_empty lives (nothing_pending L w.image sound lives r);
+        statuses = exact_recovered L w.image sound lives r;
+        chains = chains_recovered L w.image sound lives r;
+        numbers = numbers_recovered L w.image sound lives r;
+      });
+      count = sym r.count;
+      settled_count = sym r.count;
+      given_count = length-map w.image (λ bytes. None) ∙ sym r.count;
+      placed = placed_recovered L w.image sound lives r;
+      newest = (refl, λ c. inl refl);
+      unsynced = λ c bytes e. absurd (none-some bytes (sym (never_given w.image c) ∙ e));
+    }

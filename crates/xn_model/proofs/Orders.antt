@@ -199,10 +199,10 @@ pending_from (o ∷ os) c m t n e i at = any_from (alive_and (λ l. has_entry l.
 abbrev IsEarlier : List BlockState → List BlockState → ℕ → Type 0
 IsEarlier earlier xs n = (t : BlockState) × (t.entry ≡ n) × (Contains earlier t ⊎ Contains xs t)
 
-prefix_after : (lives : Lives) (earlier xs : List BlockState) (s : BlockState) (n : ℕ) → Contains (take (safe_count lives earlier xs) xs) s → s.after ≡ Some n → is_pending lives n ≡ true →
-    IsEarlier earlier (take (safe_count lives earlier xs) xs) n
-prefix_after lives earlier [] s n i a p = absurd (Contains-none s i)
-prefix_after lives earlier (x ∷ xs) s n i a p = go (safe lives earlier x) refl (λ k. prefix_after lives (earlier ++ x ∷ []) xs s n k a p) i
+prefix_after : (lives : Lives) (t : ℕ) (earlier xs : List BlockState) (s : BlockState) (n : ℕ) → Contains (take (safe_count lives t earlier xs) xs) s → s.after ≡ Some n → is_pending lives n ≡ true →
+    IsEarlier earlier (take (safe_count lives t earlier xs) xs) n
+prefix_after lives t earlier [] s n i a p = absurd (Contains-none s i)
+prefix_after lives t earlier (x ∷ xs) s n i a p = go (safe lives t earlier x) refl (λ k. prefix_after lives t (earlier ++ x ∷ []) xs s n k a p) i
   where
     from_test : (y : Option ℕ) → y ≡ Some n → is_after_met lives earlier y ≡ true → (t : BlockState) × (t.entry ≡ n) × Contains earlier t
     from_test None e h = absurd (none-some n e)
@@ -213,10 +213,10 @@ prefix_after lives earlier (x ∷ xs) s n i a p = go (safe lives earlier x) refl
           | inr has ↦ let r = any_at (λ s. eqb s.entry z) earlier has in (r.0, eqb-true r.0.entry z r.2 ∙ same, r.1)
         ]
 
-    go : (t : Bool) → safe lives earlier x ≡ t → (Contains (take (safe_count lives (earlier ++ x ∷ []) xs) xs) s → IsEarlier (earlier ++ x ∷ []) (take (safe_count lives (earlier ++ x ∷ []) xs) xs) n) →
-        Contains (take (cond t (suc (safe_count lives (earlier ++ x ∷ []) xs)) 0) (x ∷ xs)) s → IsEarlier earlier (take (cond t (suc (safe_count lives (earlier ++ x ∷ []) xs)) 0) (x ∷ xs)) n
+    go : (b : Bool) → safe lives t earlier x ≡ b → (Contains (take (safe_count lives t (earlier ++ x ∷ []) xs) xs) s → IsEarlier (earlier ++ x ∷ []) (take (safe_count lives t (earlier ++ x ∷ []) xs) xs) n) →
+        Contains (take (cond b (suc (safe_count lives t (earlier ++ x ∷ []) xs)) 0) (x ∷ xs)) s → IsEarlier earlier (take (cond b (suc (safe_count lives t (earlier ++ x ∷ []) xs)) 0) (x ∷ xs)) n
     go false e deeper i = absurd (Contains-none s i)
-    go true e deeper i = elim (Contains-cons x (take (safe_count lives (earlier ++ x ∷ []) xs) xs) s i) [
+    go true e deeper i = elim (Contains-cons x (take (safe_count lives t (earlier ++ x ∷ []) xs) xs) s i) [
       | inl same ↦
           let parts = and_parts _ _ (and_parts _ _ e).1 in
           let r = from_test x.after (ap (λ (z : BlockState). z.after) same ∙ a) parts.1 in (r.0, r.1, inl r.2)
@@ -227,7 +227,7 @@ prefix_after lives earlier (x ∷ xs) s n i a p = go (safe lives earlier x) refl
             elim r.2 [
               | inl b ↦ elim (Contains-append_cases earlier (x ∷ []) r.0 b) [
                 | inl c ↦ inl c
-                | inr d ↦ elim (Contains-cons x [] r.0 d) [ inl f ↦ inr (subst (λ z. Contains (x ∷ take (safe_count lives (earlier ++ x ∷ []) xs) xs) z) f (Contains-head x _)) | inr g ↦ absurd (Contains-none r.0 g) ]
+                | inr d ↦ elim (Contains-cons x [] r.0 d) [ inl f ↦ inr (subst (λ z. Contains (x ∷ take (safe_count lives t (earlier ++ x ∷ []) xs) xs) z) f (Contains-head x _)) | inr g ↦ absurd (Contains-none r.0 g) ]
               ]
               | inr b ↦ inr (Contains-tail x _ r.0 b)
             ],
@@ -239,14 +239,14 @@ abbrev pub CarriesAfters : Lives → ℕ → Life → Option ℕ → Type 0
 CarriesAfters lives b l k = (s : BlockState) (n c : ℕ) (m : Life) (t : BlockState) → Contains (first_states k l.pending) s → s.after ≡ Some n →
     life_at lives c ≡ Some m → Contains m.pending t → t.entry ≡ n → (c ≡ b) × Contains (first_states k l.pending) t
 
-pub prefix_carries : (lives : Lives) (b : ℕ) (l : Life) → AreOrdered lives → life_at lives b ≡ Some l → CarriesAfters lives b l (Some (safe_count lives [] l.pending))
+pub prefix_carries : (lives : Lives) (b : ℕ) (l : Life) → AreOrdered lives → life_at lives b ≡ Some l → CarriesAfters lives b l (Some (safe_count lives l.ty [] l.pending))
 prefix_carries lives b l o alive s n c m t i a f j at =
-    let r = prefix_after lives [] l.pending s n i a (pending_from lives c m t n f j at) in
+    let r = prefix_after lives l.ty [] l.pending s n i a (pending_from lives c m t n f j at) in
     elim r.2 [
       | inl none ↦ absurd (Contains-none r.0 none)
       | inr there ↦
-          let u = o.pending_once c b m l t r.0 f alive j (Contains-take (safe_count lives [] l.pending) l.pending r.0 there) (at ∙ sym r.1) in
-          (u.0, subst (λ y. Contains (take (safe_count lives [] l.pending) l.pending) y) (sym u.1) there)
+          let u = o.pending_once c b m l t r.0 f alive j (Contains-take (safe_count lives l.ty [] l.pending) l.pending r.0 there) (at ∙ sym r.1) in
+          (u.0, subst (λ y. Contains (take (safe_count lives l.ty [] l.pending) l.pending) y) (sym u.1) there)
     ]
 
 pub ordered_begun : (lives : Lives) (b : ℕ) (l : Life) (k : Option ℕ) → life_at lives b ≡ Some l → CarriesAfters lives b l k → AreOrdered lives → AreOrdered (each (with_begun b k) lives)

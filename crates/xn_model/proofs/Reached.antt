@@ -1,18 +1,25 @@
 -- What the lives hold of the image: each reached block holds a state of its life, and has one owner.
-use Rattle.std.proofs.Common.{◌≡◌, ℕ, zero, suc, ◌<◌, ◌≤◌, ◌≢◌, List, [], ◌∷◌, ◌++◌, length, get_or, Option, Some, None, refl, sym, ◌∙◌, ap, inl, inr, arith, subst}
+use Rattle.std.proofs.Common.{◌≡◌, ℕ, zero, suc, ◌<◌, ◌≤◌, ◌≢◌, true, List, [], ◌∷◌, ◌++◌, length, get_or, Option, Some, None, refl, sym, ◌∙◌, ap, inl, inr, arith, subst}
 use Rattle.std.specs.Prelude.{Contains, IsTrue, option_to_list}
+use Rattle.std.specs.List.{last_or}
 use Rattle.std.proofs.lemmas.Bool.{and_parts}
 use Rattle.std.proofs.lemmas.Option.{same_Some, none-some}
 use Rattle.std.proofs.lemmas.List.{get_or_default, length-map}
-use Rattle.std.proofs.lemmas.Bool.{cases_lt}
+use Rattle.std.proofs.lemmas.Bool.{cases_lt, cases_eq}
 use Rattle.std.proofs.lemmas.List.Elements.{Contains-append_cases, Contains-append_left, Contains-append_right, Contains-get_or}
 use Rattle.xn_model.specs.Lists.{blocks_of}
 use Rattle.xn_model.specs.Types.{Types, fits, named_once, within_size}
+use Rattle.xn_model.specs.Root.{pointer, has_type, templates_of}
+use Rattle.xn_model.specs.Languages.{Language, types_in, template_of}
 use Rattle.xn_model.specs.Images.{Reach, root, step, Owns, HasOneOwner, IsSound}
-use Rattle.xn_model.specs.Lives.{BlockState, Status, Fresh, Owned, Dropped, Life, Lives, life_at, states, carried, first_states, StoreState}
-use Rattle.xn_model.specs.Rules.{HoldsState, Agrees, IsBy, BelongsTo, IsTemplate, IsConsistent, ArePlaced}
+use Rattle.xn_model.specs.Lives.{BlockState, Status, Fresh, Owned, Dropped, Life, Lives, life_at, states, carried, first_states, bytes_of, root_on_disk, StoreState}
+use Rattle.xn_model.specs.Calls.{types_of, latest, life_bytes}
+use Rattle.xn_model.specs.Rules.{HoldsState, Agrees, IsBy, BelongsTo, IsTemplate, IsRootLife, PointersStay, IsConsistent, ArePlaced}
 use Rattle.xn_model.proofs.Lives.{past}
-use Rattle.xn_model.proofs.Lists.{Contains-head, Contains-take, last_is_in, distinct_places, Contains-none}
+use Rattle.xn_model.proofs.RootBytes.{template_owned, templates_from}
+use Rattle.xn_model.proofs.Catalogue.{has_built_in, has_keeps, pointers_first, pointers_last, on_disk_is}
+use Rattle.xn_model.proofs.Languages.{same_template, same_installed, same_owned, same_size, same_templates, fits_same}
+use Rattle.xn_model.proofs.Lists.{Contains-head, Contains-cons, Contains-take, last_is_in, distinct_places, Contains-none}
 
 -- what is carried is pending
 pub carried_pending : (l : Life) (s : BlockState) → Contains (carried l) s → Contains l.pending s
@@ -51,7 +58,14 @@ in_range T state h c l e = elim (cases_lt c (length state.lives)) [
   | inr past' ↦ absurd (none-some l (sym (past state.lives c past') ∙ e))
 ]
 
-module _ (T : Types) (state : StoreState) (h : IsConsistent T state) (content : ℕ → List ℕ) (placed : ArePlaced content state.lives) where
+module _ (L : Language) (state : StoreState) (h : IsConsistent (types_of L state.lives) state) (content : ℕ → List ℕ) (placed : ArePlaced content state.lives) where
+  -- the types of the lives, and those of the catalogue on the disk
+  abbrev T : Types
+  T = types_of L state.lives
+
+  abbrev there : Types
+  there = types_in L content
+
   -- the disk holds the durable state or the begun one
   holds_state : (c u : ℕ) → IsStored state.lives c u → HoldsState content state.lives c u
   holds_state c u k = elim (placed c k.life k.state k.alive k.durable) [
@@ -59,30 +73,159 @@ module _ (T : Types) (state : StoreState) (h : IsConsistent T state) (content : 
     | inr f ↦ record { life = k.life; alive = k.alive; ty = k.ty; state = f.0; among = Contains-append_right (option_to_list k.life.durable) (carried k.life) f.0 (last_is_in (carried k.life) f.0 f.1); there = f.2 }
   ]
 
-  -- what a stored block names on the disk is stored
-  named_stored : (b t c u : ℕ) → IsStored state.lives b t → Contains (T.owned t (content b)) (c, u) → IsStored state.lives c u × BelongsTo state.lives b c u
+  -- block 0
+
+  abbrev root_rule : IsRootLife T state.lives
+  root_rule = h.lives_sound.root
+
+  root_stored : IsStored state.lives 0 0
+  root_stored = record { life = root_rule.life; alive = root_rule.alive; ty = root_rule.ty; state = root_rule.state; durable = root_rule.durable }
+
+  root_holds : HoldsState content state.lives 0 0
+  root_holds = holds_state 0 0 root_stored
+
+  root_same : (s : HoldsState content state.lives 0 0) → s.life ≡ root_rule.life
+  root_same s = same_Some s.life root_rule.life (sym s.alive ∙ root_rule.alive)
+
+  root_among : (s : HoldsState content state.lives 0 0) → Contains (option_to_list root_rule.life.durable ++ carried root_rule.life) s.state
+  root_among s = subst (λ (l : Life). Contains (option_to_list l.durable ++ carried l) s.state) (root_same s) s.among
+
+  root_state : (s : HoldsState content state.lives 0 0) → Contains (states root_rule.life) s.state
+  root_state s = among_states root_rule.life s.state (root_among s)
+
+  -- what block 0 has on the disk, the contents have
+  pub has_there : (u : ℕ) → has_type (root_on_disk state.lives) u ≡ true → has_type (content 0) u ≡ true
+  has_there u has =
+      let s = root_holds in
+      let r = root_rule in
+      let from : PointersStay (r.state ∷ r.life.pending) = subst (λ o. PointersStay (option_to_list o ++ r.life.pending)) r.durable r.pointers in
+      let at : Contains (r.state ∷ r.life.pending) s.state = subst (λ o. Contains (option_to_list o ++ r.life.pending) s.state) r.durable (root_state s) in
+      ap (λ m. has_type m u) s.there ∙ has_keeps r.state.bytes s.state.bytes u (pointers_first r.state r.life.pending from s.state at) (ap (λ m. has_type m u) (sym (on_disk_is state.lives r.life r.state r.alive r.durable)) ∙ has)
+
+  -- a block with one state, which is on the disk, has that one newest, and the disk holds it
+  one_there : (c : ℕ) (l : Life) (s d : BlockState) → life_at state.lives c ≡ Some l → states l ≡ s ∷ [] → l.durable ≡ Some d → (content c ≡ s.bytes) × (latest state.lives c ≡ s.bytes)
+  one_there c l s d e only at =
+      let list : d ∷ l.pending ≡ s ∷ [] = ap (λ o. option_to_list o ++ l.pending) (sym at) ∙ only in
+      let nothing : l.pending ≡ [] = ap rest list in
+      let same : d ≡ s = first_of d l.pending s list in (
+        elim (placed c l d e at) [
+          | inl x ↦ x ∙ ap (λ (y : BlockState). y.bytes) same
+          | inr f ↦ absurd (Contains-none f.0 (subst (λ xs. Contains xs f.0) nothing (carried_pending l f.0 (last_is_in (carried l) f.0 f.1))))
+        ],
+        ap life_bytes e ∙ (ap (λ xs. bytes_of (last_or l.durable xs)) nothing ∙ (ap bytes_of at ∙ ap (λ (y : BlockState). y.bytes) same)),
+      )
+    where
+      rest : List BlockState → List BlockState
+      rest [] = []
+      rest (x ∷ xs) = xs
+
+      first_of : (d : BlockState) (xs : List BlockState) (s : BlockState) → d ∷ xs ≡ s ∷ [] → d ≡ s
+      first_of d xs s e = elim (Contains-cons s [] d (subst (λ ys. Contains ys d) e (Contains-head d xs))) [ inl same ↦ sym same | inr none ↦ absurd (Contains-none d none) ]
+
+  -- a template that the contents name stands there
+  template_there : (c u : ℕ) → Contains (templates_of (content 0)) (c, u) → (t : IsTemplate T state.lives c) × (content c ≡ t.state.bytes) × (latest state.lives c ≡ t.state.bytes)
+  template_there c u n =
+      let s = root_holds in
+      let r = root_rule in
+      let at : Contains (templates_of s.state.bytes) (c, u) = subst (λ m. Contains (templates_of m) (c, u)) s.there n in
+      let t = r.templates s.state c u (root_state s) at in
+      let owns : Contains (T.owned r.life.ty s.state.bytes) (c, u) =
+      subst (λ y. Contains (T.owned y s.state.bytes) (c, u)) (sym r.ty) (subst (λ ps. Contains ps (c, u)) (sym (h.built_ins.root_owns s.state.bytes)) (template_owned s.state.bytes c u at)) in
+      let d = (h.lives_sound.each 0 r.life r.alive).ready s.state c u (root_among s) owns in
+      let same : d.life ≡ t.life = same_Some d.life t.life (sym d.alive ∙ t.alive) in
+      let x = one_there c t.life t.state d.state t.alive t.only (ap (λ (l : Life). l.durable) (sym same) ∙ d.durable) in
+      (t, x.0, x.1)
+
+  -- so the types of the contents are those of the lives that block 0 has there
+  pub template_same : (t : ℕ) → has_type (content 0) t ≡ true → template_of L content t ≡ template_of L (latest state.lives) t
+  template_same t has = sym (same_template L content (latest state.lives) t has (λ i lt ne. (pointer_same i lt ne, bytes_same i lt ne)))
+    where
+      pointer_same : (i : ℕ) → i < 16 → pointer (content 0) i ≢ 0 → pointer (latest state.lives 0) i ≡ pointer (content 0) i
+      pointer_same i lt ne =
+          let s = root_holds in
+          let k = h.linked 0 root_rule.life root_rule.alive in
+          let newest_is : latest state.lives 0 ≡ k.last.bytes = ap life_bytes root_rule.alive ∙ ap bytes_of k.is_last in
+          let keeps = pointers_last root_rule.life.durable root_rule.life.pending k.last root_rule.pointers k.is_last s.state (root_state s) in
+          ap (λ m. pointer m i) newest_is ∙ (keeps i lt (λ z. ne (ap (λ m. pointer m i) s.there ∙ z)) ∙ ap (λ m. pointer m i) (sym s.there))
+
+      bytes_same : (i : ℕ) → i < 16 → pointer (content 0) i ≢ 0 → latest state.lives (pointer (content 0) i) ≡ content (pointer (content 0) i)
+      bytes_same i lt ne = let x = template_there (pointer (content 0) i) 1 (templates_from (content 0) i (pointer (content 0) i) lt refl ne) in x.2 ∙ sym x.1
+
+  owned_same : (t : ℕ) → has_type (content 0) t ≡ true → there.owned t ≡ T.owned t
+  owned_same t has = same_owned L (latest state.lives) content t (template_same t has)
+
+  names_now : (t : ℕ) (m : List ℕ) (c u : ℕ) → has_type (content 0) t ≡ true → Contains (there.owned t m) (c, u) → Contains (T.owned t m) (c, u)
+  names_now t m c u has n = subst (λ (o : List ℕ → List (ℕ × ℕ)). Contains (o m) (c, u)) (owned_same t has) n
+
+  -- what a stored block names on the disk is stored, and its type stands there
+  named_stored : (b t c u : ℕ) → IsStored state.lives b t → Contains (T.owned t (content b)) (c, u) → IsStored state.lives c u × (BelongsTo state.lives b c u × (has_type (content 0) u ≡ true))
   named_stored b t c u k names =
       let s = holds_state b t k in
       let each = h.lives_sound.each b s.life s.alive in
       let at_state : Contains (T.owned s.life.ty s.state.bytes) (c, u) = rw (s.ty, ← s.there) names in
       let disk = each.ready s.state c u s.among at_state in
       let by = each.named s.state c u (among_states s.life s.state s.among) at_state in
-      let same : by.life ≡ disk.life = same_Some by.life disk.life (sym by.alive ∙ disk.alive) in
-      (record { life = disk.life; alive = disk.alive; ty = ap (λ (l : Life). l.ty) (sym same) ∙ by.ty; state = disk.state; durable = disk.durable }, by)
+      let same : by.life ≡ disk.life = same_Some by.life disk.life (sym by.alive ∙ disk.alive) in (
+        record { life = disk.life; alive = disk.alive; ty = ap (λ (l : Life). l.ty) (sym same) ∙ by.ty; state = disk.state; durable = disk.durable },
+        (by, elim (cases_eq b 0) [ inl zero' ↦ of_root t k zero' names | inr ne ↦ has_there u (each.typed s.state c u ne s.among at_state) ]),
+      )
+    where
+      of_root : (t : ℕ) → IsStored state.lives b t → b ≡ 0 → Contains (T.owned t (content b)) (c, u) → has_type (content 0) u ≡ true
+      of_root t k zero' names =
+          let s = root_holds in
+          let r = root_rule in
+          let same : k.life ≡ r.life = same_Some k.life r.life (sym k.alive ∙ (ap (life_at state.lives) zero' ∙ r.alive)) in
+          let ty : t ≡ 0 = sym k.ty ∙ (ap (λ (l : Life). l.ty) same ∙ r.ty) in
+          let at : Contains (T.owned 0 s.state.bytes) (c, u) = subst (λ m. Contains (T.owned 0 m) (c, u)) (ap content zero' ∙ s.there) (subst (λ y. Contains (T.owned y (content b)) (c, u)) ty names) in
+          ap (λ m. has_type m u) s.there ∙ r.types s.state c u (root_state s) (subst (λ ps. Contains ps (c, u)) (h.built_ins.root_owns s.state.bytes) at)
 
-  reached_stored : (c u : ℕ) → Reach T (length state.lives) content c u → IsStored state.lives c u
-  reached_stored c u root = let r = h.lives_sound.root in record { life = r.life; alive = r.alive; ty = r.ty; state = r.state; durable = r.durable }
-  reached_stored c u (step {b} {t} r lt inst names) = (named_stored b t c u (reached_stored b t r) names).0
+  reached_has : (c u : ℕ) → Reach there (length state.lives) content c u → IsStored state.lives c u × (has_type (content 0) u ≡ true)
+  reached_has c u root = (root_stored, has_built_in (content 0) 0 (omega arith))
+  reached_has c u (step {b} {t} r lt inst names) =
+      let k = reached_has b t r in
+      let n = named_stored b t c u k.0 (names_now t (content b) c u k.1 names) in
+      (n.0, n.1.1)
 
-  installed : (c u : ℕ) → IsStored state.lives c u → IsTrue (T.installed u)
-  installed c u k = subst (λ t. IsTrue (T.installed t)) k.ty (h.linked c k.life k.alive).installed
+  reached_stored : (c u : ℕ) → Reach there (length state.lives) content c u → IsStored state.lives c u
+  reached_stored c u r = (reached_has c u r).0
+
+  -- what a reached block names
+  reached_names : (b t c u : ℕ) → Reach there (length state.lives) content b t → Contains (there.owned t (content b)) (c, u) → IsStored state.lives c u × (BelongsTo state.lives b c u × (has_type (content 0) u ≡ true))
+  reached_names b t c u r names = let k = reached_has b t r in named_stored b t c u k.0 (names_now t (content b) c u k.1 names)
+
+  installed : (c u : ℕ) → IsStored state.lives c u → has_type (content 0) u ≡ true → IsTrue (there.installed u)
+  installed c u k has = same_installed L (latest state.lives) content u (template_same u has) ∙ subst (λ t. IsTrue (T.installed t)) k.ty (h.linked c k.life k.alive).installed
+
+  -- a type that is reached is one of both, and means the same
+  pub reached_owned : (c u : ℕ) → Reach there (length state.lives) content c u → there.owned u ≡ T.owned u
+  reached_owned c u r = owned_same u (reached_has c u r).1
+
+  pub reached_installed : (c u : ℕ) → Reach there (length state.lives) content c u → IsTrue (there.installed u) × IsTrue (T.installed u)
+  reached_installed c u r =
+      let k = reached_has c u r in
+      (installed c u k.0 k.1, subst (λ t. IsTrue (T.installed t)) k.0.ty (h.linked c k.0.life k.0.alive).installed)
+
+  -- the same is reached under the types of the lives
+  pub reached_now : (c u : ℕ) → Reach there (length state.lives) content c u → Reach T (length state.lives) content c u
+  reached_now c u root = root
+  reached_now c u (step {b} {t} r lt inst names) =
+      let k = reached_has b t r in
+      step (reached_now b t r) lt (subst (λ x. IsTrue (T.installed x)) k.0.ty (h.linked b k.0.life k.0.alive).installed) (names_now t (content b) c u k.1 names)
+
+  pub now_reached : (c u : ℕ) → Reach T (length state.lives) content c u → Reach there (length state.lives) content c u
+  now_reached c u root = root
+  now_reached c u (step {b} {t} r lt inst names) =
+      let q = now_reached b t r in
+      let k = reached_has b t q in
+      step q lt (installed b t k.0 k.1) (subst (λ (o : List ℕ → List (ℕ × ℕ)). Contains (o (content b)) (c, u)) (sym (owned_same t k.1)) names)
 
   -- the bytes of a stored block fit
-  stored_fit : (c u : ℕ) → IsStored state.lives c u → IsTrue (fits T u (content c))
-  stored_fit c u k =
+  stored_fit : (c u : ℕ) → IsStored state.lives c u → has_type (content 0) u ≡ true → IsTrue (fits there u (content c))
+  stored_fit c u k has =
       let s = holds_state c u k in
       let f = (h.lives_sound.each c s.life s.alive).fit s.state (among_states s.life s.state s.among) in
-      rw (← s.ty, s.there) f
+      let now : IsTrue (fits T u (content c)) = rw (← s.ty, s.there) f in
+      fits_same T there u (content c) (owned_same u has) (same_size L (latest state.lives) content u (template_same u has)) now
 
   -- two blocks that name one
   same_by : (b a : ℕ) (s : Status) → IsBy b s → IsBy a s → b ≡ a
@@ -97,9 +240,9 @@ module _ (T : Types) (state : StoreState) (h : IsConsistent T state) (content : 
   block_at (p ∷ ps) (suc i) = block_at ps i
 
   -- an owner's pair, with its type
-  owner_pair : (b i c : ℕ) (o : Owns T (length state.lives) content b i c) → (u : ℕ) × Contains (T.owned o.ty (content b)) (c, u)
+  owner_pair : (b i c : ℕ) (o : Owns there (length state.lives) content b i c) → (u : ℕ) × Contains (there.owned o.ty (content b)) (c, u)
   owner_pair b i c o =
-      let ps = T.owned o.ty (content b) in
+      let ps = there.owned o.ty (content b) in
       let pair : ℕ × ℕ = get_or ps i (0, 0) in
       let P : ℕ → Type 0 = λ x. Contains ps (x, pair.1) in
       (pair.1, subst P o.names (Contains-get_or ps i (0, 0) o.within))
@@ -110,23 +253,23 @@ module _ (T : Types) (state : StoreState) (h : IsConsistent T state) (content : 
       let same : k.life ≡ m.life = same_Some k.life m.life (sym k.alive ∙ (ap (life_at state.lives) e ∙ m.alive)) in
       sym k.ty ∙ (ap (λ (l : Life). l.ty) same ∙ m.ty)
 
-  only_owner : (b t i c u : ℕ) → Reach T (length state.lives) content b t → Contains (T.owned t (content b)) (c, u) → i < length (T.owned t (content b)) → (get_or (T.owned t (content b)) i (0, 0)).0 ≡ c →
-      (a j : ℕ) → Owns T (length state.lives) content a j c → (a ≡ b) × (j ≡ i)
+  only_owner : (b t i c u : ℕ) → Reach there (length state.lives) content b t → Contains (there.owned t (content b)) (c, u) → i < length (there.owned t (content b)) → (get_or (there.owned t (content b)) i (0, 0)).0 ≡ c →
+      (a j : ℕ) → Owns there (length state.lives) content a j c → (a ≡ b) × (j ≡ i)
   only_owner b t i c u r names lt at a j o =
       let stored = reached_stored b t r in
-      let here = (named_stored b t c u stored names).1 in
-      let there = (named_stored a o.ty c (owner_pair a j c o).0 (reached_stored a o.ty o.reached) (owner_pair a j c o).1).1 in
-      let life : there.life ≡ here.life = same_Some there.life here.life (sym there.alive ∙ here.alive) in
-      let block : a ≡ b = same_by a b there.life.status there.by (rw (sym life) at here.by) in
+      let here = (reached_names b t c u r names).1.0 in
+      let other = (reached_names a o.ty c (owner_pair a j c o).0 o.reached (owner_pair a j c o).1).1.0 in
+      let life : other.life ≡ here.life = same_Some other.life here.life (sym other.alive ∙ here.alive) in
+      let block : a ≡ b = same_by a b other.life.status other.by (rw (sym life) at here.by) in
       let types : o.ty ≡ t = same_type a o.ty b t (reached_stored a o.ty o.reached) stored block in
-      let lists : T.owned o.ty (content a) ≡ T.owned t (content b) = λ k. T.owned (types k) (content (block k)) in
-      let once = (and_parts (named_once T t (content b)) (within_size T t (content b)) (stored_fit b t stored)).0 in
-      let ps = T.owned t (content b) in
+      let lists : there.owned o.ty (content a) ≡ there.owned t (content b) = λ k. there.owned (types k) (content (block k)) in
+      let once = (and_parts (named_once there t (content b)) (within_size there t (content b)) (stored_fit b t stored (reached_has b t r).1)).0 in
+      let ps = there.owned t (content b) in
       (block, distinct_places (blocks_of ps) j i once (rw length-map (rw lists at o.within)) (rw length-map lt) (block_at ps j ∙ (ap (λ (qs : List (ℕ × ℕ)). (get_or qs j (0, 0)).0) (sym lists) ∙ (o.names ∙ sym (block_at ps i ∙ at)))))
 
-  one_owner : (b t c u : ℕ) → Reach T (length state.lives) content b t → Contains (T.owned t (content b)) (c, u) → HasOneOwner T (length state.lives) content c
+  one_owner : (b t c u : ℕ) → Reach there (length state.lives) content b t → Contains (there.owned t (content b)) (c, u) → HasOneOwner there (length state.lives) content c
   one_owner b t c u r names =
-      let ps = T.owned t (content b) in
+      let ps = there.owned t (content b) in
       let at : (get_or ps names.0 (0, 0)).0 ≡ c = ap (λ (p : ℕ × ℕ). p.0) (get_or_default ps names.0 (0, 0) (c, u) names.1 ∙ names.2) in
       record {
         owner = b;
@@ -135,49 +278,32 @@ module _ (T : Types) (state : StoreState) (h : IsConsistent T state) (content : 
         only = only_owner b t names.0 c u r names names.1 at;
       }
 
-  owner : (c u : ℕ) → Reach T (length state.lives) content c u → c ≢ 0 → HasOneOwner T (length state.lives) content c
+  owner : (c u : ℕ) → Reach there (length state.lives) content c u → c ≢ 0 → HasOneOwner there (length state.lives) content c
   owner c u root ne = absurd (ne refl)
   owner c u (step {b} {t} r lt inst names) ne = one_owner b t c u r names
 
   -- each reached block holds a state of its life, and has one owner
-  pub agreement : Agrees T (length state.lives) content state.lives
+  pub agreement : Agrees there (length state.lives) content state.lives
   agreement = record { states = λ c u r. holds_state c u (reached_stored c u r); owner = owner }
 
   -- block 0 is named by none
-  never_root : (b t c u : ℕ) → Reach T (length state.lives) content b t → Contains (T.owned t (content b)) (c, u) → c ≡ 0 → ⊥
+  never_root : (b t c u : ℕ) → Reach there (length state.lives) content b t → Contains (there.owned t (content b)) (c, u) → c ≡ 0 → ⊥
   never_root b t c u r names e =
-      let by = (named_stored b t c u (reached_stored b t r) names).1 in
+      let by = (reached_names b t c u r names).1.0 in
       let r0 = h.lives_sound.root in
       let same : by.life ≡ r0.life = same_Some by.life r0.life (sym by.alive ∙ (ap (life_at state.lives) e ∙ r0.alive)) in
       subst (λ s. IsBy b s) (ap (λ (l : Life). l.status) same ∙ r0.unowned) by.by
 
-  root_holds : HoldsState content state.lives 0 0
-  root_holds = holds_state 0 0 (reached_stored 0 0 root)
-
-  root_state : (s : HoldsState content state.lives 0 0) → Contains (states h.lives_sound.root.life) s.state
-  root_state s =
-      let same : s.life ≡ h.lives_sound.root.life = same_Some s.life h.lives_sound.root.life (sym s.alive ∙ h.lives_sound.root.alive) in
-      subst (λ (l : Life). Contains (states l) s.state) same (among_states s.life s.state s.among)
-
-  -- a template stands on the disk
-  template_there : (c : ℕ) → IsTemplate T state.lives c → (c < length state.lives) × IsTrue (T.template (content c))
-  template_there c k = (
-    in_range T state h c k.life k.alive,
-    elim (placed c k.life k.state k.alive k.durable) [
-      | inl e ↦ rw e k.bytes
-      | inr f ↦ absurd (Contains-none f.0 (rw k.only at (carried_pending k.life f.0 (last_is_in (carried k.life) f.0 f.1))))
-    ],
-  )
-
   -- so the image is sound
-  pub soundness : IsSound T (length state.lives) content
+  pub soundness : IsSound there (length state.lives) content
   soundness = record {
     size = h.size;
-    long = let s = root_holds in ap length s.there ∙ h.lives_sound.root.long s.state (root_state s);
-    head = let s = root_holds in rw s.there (h.lives_sound.root.mark s.state (root_state s));
-    templates = λ c u names. let s = root_holds in template_there c (h.lives_sound.root.templates s.state c u (root_state s) (rw s.there at names));
-    fit = λ b t r. stored_fit b t (reached_stored b t r);
-    range = λ b t c u r names. let k = (named_stored b t c u (reached_stored b t r) names).0 in (positive c (never_root b t c u r names), in_range T state h c k.life k.alive);
-    types = λ b t c u r names. let k = (named_stored b t c u (reached_stored b t r) names).0 in (positive u (λ e. never_root b t c u r names ((h.linked c k.life k.alive).root_alone (k.ty ∙ e))), installed c u k);
+    long = let s = root_holds in ap length s.there ∙ root_rule.long s.state (root_state s);
+    head = let s = root_holds in rw s.there (root_rule.mark s.state (root_state s));
+    templates = λ c u names. let x = template_there c u names in
+        (in_range T state h c x.0.life x.0.alive, ap (λ f. f (content c)) (same_templates L (latest state.lives) content) ∙ (ap T.template x.1 ∙ x.0.bytes));
+    fit = λ b t r. let k = reached_has b t r in stored_fit b t k.0 k.1;
+    range = λ b t c u r names. let k = (reached_names b t c u r names).0 in (positive c (never_root b t c u r names), in_range T state h c k.life k.alive);
+    types = λ b t c u r names. let k = reached_names b t c u r names in (positive u (λ e. never_root b t c u r names ((h.linked c k.0.life k.0.alive).root_alone (k.0.ty ∙ e))), installed c u k.0 k.1.1);
     owner = one_owner;
   }

@@ -12,7 +12,7 @@ use Rattle.std.proofs.lemmas.Bool.{cases_lt}
 use Rattle.std.proofs.lemmas.List.Elements.{Contains-append_cases, Contains-append_left, Contains-append_right}
 use Rattle.xn_model.specs.Lists.{has_number, blocks_of, distinct, put, blank}
 use Rattle.xn_model.specs.Types.{Types, fits, named_once, within_size}
-use Rattle.xn_model.specs.Root.{word_at, header, marked, pointer, slot, with_slot, unless_empty, templates_of, roots_of, owned_by_root, HasBuiltIns}
+use Rattle.xn_model.specs.Root.{word_at, header, marked, pointer, slot, with_slot, unless_empty, templates_of, roots_of, owned_by_root, HasBuiltIns, KeepsPointers}
 use Rattle.xn_model.proofs.Puts.{bytes_apart, drop_past, drop_put, length_put, take_put}
 use Rattle.xn_model.proofs.Lists.{Contains-none, Contains-head, Contains-cons, Contains-tail, has_number_at, has_number_from, blocks_of_has}
 
@@ -24,7 +24,7 @@ word_before m at bs fits j le = bytes_apart m at bs fits 4 j (inl le)
 
 -- Numbers that are not 0
 
-abbrev nonzero : List ℕ → List ℕ
+abbrev pub nonzero : List ℕ → List ℕ
 nonzero [] = []
 nonzero (zero ∷ ns) = nonzero ns
 nonzero (suc n ∷ ns) = suc n ∷ nonzero ns
@@ -67,7 +67,7 @@ set_from (n ∷ ns) (suc k) v x h = elim (nonzero_cons n (set ns k v) x h) [
   | inr i ↦ elim (set_from ns k v x i) [ inl e ↦ inl e | inr j ↦ inr (nonzero_tail n ns x j) ]
 ]
 
-different_set : (ns : List ℕ) (k v : ℕ) → distinct (nonzero ns) ≡ true → (v ≢ 0 → Contains (nonzero ns) v → ⊥) → distinct (nonzero (set ns k v)) ≡ true
+pub different_set : (ns : List ℕ) (k v : ℕ) → distinct (nonzero ns) ≡ true → (v ≢ 0 → Contains (nonzero ns) v → ⊥) → distinct (nonzero (set ns k v)) ≡ true
 different_set [] k v d out = d
 different_set (n ∷ ns) zero v d out = different_cons v ns (different_tail n ns d) (λ ne i. out ne (nonzero_tail n ns v i))
 different_set (n ∷ ns) (suc k) v d out = different_cons n (set ns k v) (different_set ns k v (different_tail n ns d) (λ ne i. out ne (nonzero_tail n ns v i)))
@@ -100,7 +100,7 @@ nonzero_once (n ∷ ns) (suc i) (suc j) x d lt k e f ne = ap suc (nonzero_once n
 
 -- The numbers that block 0 has
 
-abbrev numbers_of : List ℕ → List ℕ
+abbrev pub numbers_of : List ℕ → List ℕ
 numbers_of m = map (λ i. pointer m i) (range_with_len 0 16) ++ map (λ i. (slot m i).0) (range_with_len 0 32)
 
 nonzero-append : (xs ys : List ℕ) → nonzero (xs ++ ys) ≡ nonzero xs ++ nonzero ys
@@ -118,7 +118,7 @@ unless_empty_blocks : (f : ℕ → ℕ × ℕ) (is : List ℕ) → blocks_of (fi
 unless_empty_blocks f [] = refl
 unless_empty_blocks f (i ∷ is) = one_block (f i) (filter_map (λ i. unless_empty (f i)) is) (map (λ i. (f i).0) is) (unless_empty_blocks f is) (f i).0 refl
 
-named_numbers : (m : List ℕ) → blocks_of (owned_by_root m) ≡ nonzero (numbers_of m)
+pub named_numbers : (m : List ℕ) → blocks_of (owned_by_root m) ≡ nonzero (numbers_of m)
 unfolding owned_by_root templates_of roots_of
 named_numbers m =
     map-append (λ (p : ℕ × ℕ). p.0) (templates_of m) (roots_of m)
@@ -136,7 +136,7 @@ range_from : (a n x : ℕ) → a ≤ x → x < a + n → Contains (range_with_le
 range_from a zero x lo hi = absurd (omega arith)
 range_from a (suc n) x lo hi = elim (cases_eq a x) [ inl e ↦ subst (λ y. Contains (range_with_len a (suc n)) y) e (Contains-head a (range_with_len (a + 1) n)) | inr ne ↦ Contains-tail a (range_with_len (a + 1) n) x (range_from (a + 1) n x (omega arith) (omega arith)) ]
 
-map_agree : {A B : Type 0} (f g : A → B) (xs : List A) → ((x : A) → Contains xs x → f x ≡ g x) → map f xs ≡ map g xs
+pub map_agree : {A B : Type 0} (f g : A → B) (xs : List A) → ((x : A) → Contains xs x → f x ≡ g x) → map f xs ≡ map g xs
 map_agree f g [] h = refl
 map_agree f g (x ∷ xs) h = λ i. h x (Contains-head x xs) i ∷ map_agree f g xs (λ y m. h y (Contains-tail x xs y m)) i
 
@@ -144,7 +144,7 @@ filter_map_agree : {A B : Type 0} (f g : A → Option B) (xs : List A) → ((x :
 filter_map_agree f g [] h = refl
 filter_map_agree f g (x ∷ xs) h = λ i. cons_option (h x (Contains-head x xs) i) (filter_map_agree f g xs (λ y m. h y (Contains-tail x xs y m)) i)
 
-map_set : (f g : ℕ → ℕ) (a n k v : ℕ) → g (a + k) ≡ v → ((i : ℕ) → i ≢ a + k → g i ≡ f i) → k < n → map g (range_with_len a n) ≡ set (map f (range_with_len a n)) k v
+pub map_set : (f g : ℕ → ℕ) (a n k v : ℕ) → g (a + k) ≡ v → ((i : ℕ) → i ≢ a + k → g i ≡ f i) → k < n → map g (range_with_len a n) ≡ set (map f (range_with_len a n)) k v
 map_set f g a zero k v here other lt = absurd (omega arith)
 map_set f g a (suc n) zero v here other lt = λ i. (ap g (sym (add-zero a)) ∙ here) i ∷ map_agree g f (range_with_len (a + 1) n) (λ x m. other x (let r = range_at (a + 1) n x m in let lo : a + 1 ≤ x = r.0 in omega arith)) i
 map_set f g a (suc n) (suc k) v here other lt = λ i. other a (omega arith) i ∷ map_set f g (a + 1) n k v (ap g (omega arith) ∙ here) (λ x ne. other x (omega arith)) (omega arith) i
@@ -208,6 +208,20 @@ pub template_owned : (m : List ℕ) (c u : ℕ) → Contains (templates_of m) (c
 unfolding owned_by_root
 template_owned m c u h = Contains-append_left (templates_of m) (roots_of m) (c, u) h
 
+pub templates_from : (m : List ℕ) (i c : ℕ) → i < 16 → pointer m i ≡ c → c ≢ 0 → Contains (templates_of m) (c, 1)
+unfolding templates_of
+templates_from m i c lt e ne =
+    filter_map_from (λ i. unless_empty (pointer m i, 1)) (range_with_len 0 16) i (c, 1) (range_from 0 16 i (omega arith) (omega arith))
+    (ap (λ n. unless_empty (n, 1)) e ∙ is_not_empty (c, 1) ne)
+
+pub templates_at : (m : List ℕ) (c u : ℕ) → Contains (templates_of m) (c, u) → (i : ℕ) × (i < 16) × (pointer m i ≡ c) × (c ≢ 0)
+unfolding templates_of
+templates_at m c u h =
+    let r = filter_map_at (λ i. unless_empty (pointer m i, 1)) (range_with_len 0 16) (c, u) h in
+    let q = not_empty (pointer m r.0, 1) (c, u) r.2 in
+    let hi : r.0 < 0 + 16 = (range_at 0 16 r.0 r.1).1 in
+    (r.0, omega arith, ap (λ (x : ℕ × ℕ). x.0) q.0, λ z. q.1 (ap (λ (x : ℕ × ℕ). x.0) q.0 ∙ z))
+
 pub roots_at : (m : List ℕ) (c u : ℕ) → Contains (roots_of m) (c, u) → (i : ℕ) × (i < 32) × (slot m i ≡ (c, u)) × (c ≢ 0)
 unfolding roots_of
 roots_at m c u h =
@@ -240,6 +254,10 @@ pub templates_by_header : (m m' : List ℕ) → header m ≡ header m' → templ
 unfolding templates_of pointer
 templates_by_header m m' e = filter_map_agree (λ i. unless_empty (pointer m i, 1)) (λ i. unless_empty (pointer m' i, 1)) (range_with_len 0 16)
     (λ i k. ap (λ n. unless_empty (n, 1)) (word_by_header m m' (8 + 4 * i) (let hi : i < 0 + 16 = (range_at 0 16 i k).1 in omega arith) e))
+
+pub pointer_by_header : (m m' : List ℕ) (i : ℕ) → i < 16 → header m ≡ header m' → pointer m i ≡ pointer m' i
+unfolding pointer
+pointer_by_header m m' i lt e = word_by_header m m' (8 + 4 * i) (omega arith) e
 
 pointers_by_header : (m m' : List ℕ) → header m ≡ header m' → map (λ i. pointer m i) (range_with_len 0 16) ≡ map (λ i. pointer m' i) (range_with_len 0 16)
 unfolding pointer
@@ -280,6 +298,10 @@ module _ (m : List ℕ) (fs : ℕ) (p : ℕ × ℕ) (long : length m ≡ 512) (f
   pub slot_past : drop 328 (with_slot m fs p) ≡ drop 328 m
   unfolding with_slot bytes
   slot_past = drop_past m (72 + 8 * fs) (to_le_bytes w32 p.0 ++ to_le_bytes w32 p.1) room 328 (let e : length (to_le_bytes w32 p.0 ++ to_le_bytes w32 p.1) ≡ 8 = refl in omega arith)
+
+  -- a change of a slot changes no pointer
+  pub slot_keeps : KeepsPointers m (with_slot m fs p)
+  slot_keeps i lt ne = pointer_by_header (with_slot m fs p) m i lt slot_header
 
   word_other : (j : ℕ) → (j + 4 ≤ 72 + 8 * fs) ⊎ (72 + 8 * fs + 8 ≤ j) → word_at (with_slot m fs p) j ≡ word_at m j
   unfolding with_slot word_at bytes

@@ -5,15 +5,16 @@ use Rattle.std.proofs.lemmas.Bool.{cases_eq, not-false, eqb-false, eqb-true}
 use Rattle.std.proofs.lemmas.Option.{same_Some, none-some}
 use Rattle.std.proofs.lemmas.List.Elements.{Contains-append_right}
 use Rattle.xn_model.specs.Types.{Types, fits}
-use Rattle.xn_model.specs.Root.{header, marked, slot, with_slot, templates_of, roots_of, owned_by_root}
-use Rattle.xn_model.specs.Lives.{Fresh, Owned, Life, life_at, states, newest, bytes_of, is_fresh, is_dropped, chain_end, StoreState}
+use Rattle.xn_model.specs.Root.{pointer, has_type, header, marked, slot, with_slot, templates_of, roots_of, owned_by_root}
+use Rattle.xn_model.specs.Lives.{BlockState, Fresh, Owned, Life, life_at, states, newest, bytes_of, is_fresh, is_dropped, chain_end, StoreState}
 use Rattle.xn_model.specs.Results.{RootTaken, NotFresh, TooManyPending, Exhausted, NotOwned, NotEmpty}
 use Rattle.xn_model.specs.Calls.{drop_root_of, make_root_of, root_now, slot_now, root_state, life_bytes, life_pending, make_root_at, accepts, too_many, exhausted, is_empty}
 use Rattle.xn_model.specs.Rules.{Keeps, IsInFileSystem, IsOwnedBy, IsLinkedLife, IsConsistent, NamedIn, IsFreshBlock}
 use Rattle.xn_model.proofs.Lists.{Contains-none, Contains-head, Contains-cons, last_of, blocks_of_at}
 use Rattle.xn_model.proofs.Tests.{unless_ok, own_then, same_ok, fresh_from}
 use Rattle.xn_model.proofs.Reached.{in_range}
-use Rattle.xn_model.proofs.RootBytes.{slot_other, slot_same, slot_header, slot_length, slot_fits, slot_names, slot_owned, slot_drops, marked_by_header, templates_by_header, roots_from, slot_stays}
+use Rattle.xn_model.proofs.Catalogue.{has_keeps}
+use Rattle.xn_model.proofs.RootBytes.{pointer_by_header, slot_other, slot_same, slot_header, slot_length, slot_fits, slot_names, slot_owned, slot_drops, marked_by_header, templates_by_header, roots_from, slot_stays}
 use Rattle.xn_model.proofs.Chains.{ends_itself}
 use Rattle.xn_model.proofs.States.{IsAddable, MayBeRoot, MayAccept}
 use Rattle.xn_model.proofs.Accept.{accepts_keeps}
@@ -21,42 +22,61 @@ use Rattle.xn_model.proofs.Edits.{not_root, in_newest, from_newest, dropped_empt
 
 module _ (T : Types) (state : StoreState) (h : IsConsistent T state) where
   -- what is linked of block 0, and its newest bytes
-  abbrev kept_root : IsLinkedLife T state.lives 0 h.lives_sound.root.life
+  abbrev pub kept_root : IsLinkedLife T state.lives 0 h.lives_sound.root.life
   kept_root = h.linked 0 h.lives_sound.root.life h.lives_sound.root.alive
 
-  newest_is : root_now state ≡ kept_root.last.bytes
+  pub newest_is : root_now state ≡ kept_root.last.bytes
   newest_is = ap life_bytes h.lives_sound.root.alive ∙ ap bytes_of kept_root.is_last
 
-  in_states : Contains (states h.lives_sound.root.life) kept_root.last
+  pub in_states : Contains (states h.lives_sound.root.life) kept_root.last
   in_states = last_of h.lives_sound.root.life.durable h.lives_sound.root.life.pending kept_root.last kept_root.is_last
 
-  long : length (root_now state) ≡ 512
+  pub long : length (root_now state) ≡ 512
   long = ap length newest_is ∙ h.lives_sound.root.long kept_root.last in_states
 
-  head : header (root_now state) ≡ header h.lives_sound.root.state.bytes
-  head = ap header newest_is ∙ h.lives_sound.root.head kept_root.last in_states
-
-  fit : IsTrue (fits T 0 (root_now state))
+  pub fit : IsTrue (fits T 0 (root_now state))
   fit =
       let f = (h.lives_sound.each 0 h.lives_sound.root.life h.lives_sound.root.alive).fit kept_root.last in_states in
       subst (λ m. IsTrue (fits T 0 m)) (sym newest_is) (subst (λ t. IsTrue (fits T t kept_root.last.bytes)) h.lives_sound.root.ty f)
 
-  mark : IsTrue (marked (length state.lives) (root_now state))
+  pub mark : IsTrue (marked (length state.lives) (root_now state))
   mark = subst (λ m. IsTrue (marked (length state.lives) m)) (sym newest_is) (h.lives_sound.root.mark kept_root.last in_states)
 
   -- what its bytes name, its newest state names
-  root_named : (c u : ℕ) → Contains (owned_by_root (root_now state)) (c, u) → NamedIn T h.lives_sound.root.life.ty (newest h.lives_sound.root.life) (c, u)
+  pub root_named : (c u : ℕ) → Contains (owned_by_root (root_now state)) (c, u) → NamedIn T h.lives_sound.root.life.ty (newest h.lives_sound.root.life) (c, u)
   root_named c u n =
       let one : Contains (T.owned 0 (root_now state)) (c, u) = subst (λ ps. Contains ps (c, u)) (sym (h.built_ins.root_owns (root_now state))) n in
       let two : Contains (T.owned h.lives_sound.root.life.ty (root_now state)) (c, u) = subst (λ t. Contains (T.owned t (root_now state)) (c, u)) (sym h.lives_sound.root.ty) one in
       in_newest T state.lives 0 h.lives_sound.root.life kept_root (c, u) (subst (λ m. Contains (T.owned h.lives_sound.root.life.ty m) (c, u)) (ap life_bytes h.lives_sound.root.alive) two)
 
-  root_owns : (c u : ℕ) → Contains (owned_by_root (root_now state)) (c, u) → IsOwnedBy state.lives 0 c
+  pub root_owns : (c u : ℕ) → Contains (owned_by_root (root_now state)) (c, u) → IsOwnedBy state.lives 0 c
   root_owns c u n = kept_root.owned c u (root_named c u n)
 
   -- block 0 has no owner
-  root_fresh : IsFreshBlock state.lives 0
+  pub root_fresh : IsFreshBlock state.lives 0
   root_fresh = record { life = h.lives_sound.root.life; alive = h.lives_sound.root.alive; status = h.lives_sound.root.unowned }
+
+  -- what the newest state names, its bytes name
+  pub root_lists : (c u : ℕ) → NamedIn T h.lives_sound.root.life.ty (newest h.lives_sound.root.life) (c, u) → Contains (owned_by_root (root_now state)) (c, u)
+  root_lists c u n =
+      let one : Contains (T.owned h.lives_sound.root.life.ty (root_now state)) (c, u) =
+      subst (λ m. Contains (T.owned h.lives_sound.root.life.ty m) (c, u)) (sym (ap life_bytes h.lives_sound.root.alive)) (from_newest T state.lives 0 h.lives_sound.root.life kept_root (c, u) n) in
+      subst (λ ps. Contains ps (c, u)) (h.built_ins.root_owns (root_now state)) (subst (λ t. Contains (T.owned t (root_now state)) (c, u)) h.lives_sound.root.ty one)
+
+  pub never_zero : (c u : ℕ) → Contains (owned_by_root (root_now state)) (c, u) → c ≡ 0 → ⊥
+  never_zero c u n z =
+      let o = root_owns c u n in
+      let same : h.lives_sound.root.life ≡ o.life = same_Some h.lives_sound.root.life o.life (sym h.lives_sound.root.alive ∙ (ap (life_at state.lives) (sym z) ∙ o.alive)) in
+      let clash : Fresh ≡ Owned 0 = sym h.lives_sound.root.unowned ∙ (ap (λ (x : Life). x.status) same ∙ o.status) in
+      absurd cc
+
+  -- a block and its type fit a root slot
+  pub small_life : (b : ℕ) (l : Life) → life_at state.lives b ≡ Some l → (b < 2 ^ 32) × (l.ty < 2 ^ 32)
+  small_life b l alive =
+      let lt : b < length state.lives = in_range T state h b l alive in
+      let top : length state.lives ≤ 32768 = h.size.1 in
+      let low = h.built_ins.few l.ty (h.linked b l alive).installed in
+      (omega arith, omega arith)
 
   module _ (fs : ℕ) (few : fs < 32) where
     -- what a slot names is of its file system
@@ -69,11 +89,31 @@ module _ (T : Types) (state : StoreState) (h : IsConsistent T state) where
           (ap (λ m. (slot m i).0) (sym newest_is) ∙ (ap (λ (x : ℕ × ℕ). x.0) (sym (slot_other (root_now state) fs p long few i other)) ∙ e)) ne
     ]
 
-    may_be_root : (p : ℕ × ℕ) (adds : List (ℕ × ℕ)) (drops : List ℕ) → p.0 < 2 ^ 32 → p.1 < 2 ^ 32 → (p.0 ≢ 0 → IsInFileSystem state.lives (Some fs) p.0) → MayBeRoot T state.lives h.lives_sound.root (root_state state fs p adds drops)
-    may_be_root p adds drops small small' own = record {
+    -- the types that the newest state has
+    now_has : (p : ℕ × ℕ) (u : ℕ) → has_type kept_root.last.bytes u ≡ true → has_type (with_slot (root_now state) fs p) u ≡ true
+    now_has p u has = has_keeps kept_root.last.bytes (with_slot (root_now state) fs p) u
+        (λ i lt ne. pointer_by_header (with_slot (root_now state) fs p) kept_root.last.bytes i lt (slot_header (root_now state) fs p long few ∙ ap header newest_is)) has
+
+    types_after : (p : ℕ × ℕ) → p.0 < 2 ^ 32 → p.1 < 2 ^ 32 → (p.0 ≢ 0 → IsTrue (T.installed p.1)) → (c u : ℕ) → Contains (owned_by_root (with_slot (root_now state) fs p)) (c, u) → has_type (with_slot (root_now state) fs p) u ≡ true
+    types_after p small small' own c u n = now_has p u (elim (slot_names (root_now state) fs p long few small small' c u n) [
+      | inl new ↦
+          let same : u ≡ p.1 = ap (λ (x : ℕ × ℕ). x.1) new.0 in
+          let at : c ≡ p.0 = ap (λ (x : ℕ × ℕ). x.0) new.0 in
+          h.lives_sound.root.all_types kept_root.last u kept_root.is_last (subst (λ t. IsTrue (T.installed t)) (sym same) (own (λ z. new.1 (at ∙ z))))
+      | inr old ↦ h.lives_sound.root.types kept_root.last c u in_states (subst (λ m. Contains (owned_by_root m) (c, u)) newest_is old)
+    ])
+
+    -- a change of a slot changes no pointer
+    same_pointers : (p : ℕ × ℕ) (i : ℕ) → i < 16 → pointer (with_slot (root_now state) fs p) i ≡ pointer (root_now state) i
+    same_pointers p i lt = pointer_by_header (with_slot (root_now state) fs p) (root_now state) i lt (slot_header (root_now state) fs p long few)
+
+    may_be_root : (p : ℕ × ℕ) (adds : List (ℕ × ℕ)) (drops : List ℕ) → p.0 < 2 ^ 32 → p.1 < 2 ^ 32 → (p.0 ≢ 0 → IsInFileSystem state.lives (Some fs) p.0) → (p.0 ≢ 0 → IsTrue (T.installed p.1)) → MayBeRoot T state.lives h.lives_sound.root (root_state state fs p adds drops)
+    may_be_root p adds drops small small' own own_type = record {
       slots = slots_after p small small' own;
       mark = marked_by_header (length state.lives) (with_slot (root_now state) fs p) (root_now state) (slot_header (root_now state) fs p long few) ∙ mark;
-      head = slot_header (root_now state) fs p long few ∙ head;
+      pointers = λ last e i lt ne. pointer_by_header (with_slot (root_now state) fs p) last.bytes i lt (slot_header (root_now state) fs p long few ∙ ap header (newest_is ∙ ap (λ (x : BlockState). x.bytes) (same_Some kept_root.last last (sym kept_root.is_last ∙ e))));
+      types = types_after p small small' own_type;
+      all_types = λ t i. now_has p t (h.lives_sound.root.all_types kept_root.last t kept_root.is_last i);
       long = slot_length (root_now state) fs p long few;
       templates = λ c u i. h.lives_sound.root.templates kept_root.last c u in_states
           (subst (λ ps. Contains ps (c, u)) (templates_by_header (with_slot (root_now state) fs p) kept_root.last.bytes (slot_header (root_now state) fs p long few ∙ ap header newest_is)) i);
@@ -85,28 +125,6 @@ module _ (T : Types) (state : StoreState) (h : IsConsistent T state) where
 
     named_after : (p : ℕ × ℕ) (c u : ℕ) → Contains (owned_by_root (with_slot (root_now state) fs p)) (c, u) → Contains (T.owned h.lives_sound.root.life.ty (with_slot (root_now state) fs p)) (c, u)
     named_after p c u n = subst (λ t. Contains (T.owned t (with_slot (root_now state) fs p)) (c, u)) (sym h.lives_sound.root.ty) (subst (λ ps. Contains ps (c, u)) (sym (h.built_ins.root_owns (with_slot (root_now state) fs p))) n)
-
-    -- what the newest state names, its bytes name
-    root_lists : (c u : ℕ) → NamedIn T h.lives_sound.root.life.ty (newest h.lives_sound.root.life) (c, u) → Contains (owned_by_root (root_now state)) (c, u)
-    root_lists c u n =
-        let one : Contains (T.owned h.lives_sound.root.life.ty (root_now state)) (c, u) =
-        subst (λ m. Contains (T.owned h.lives_sound.root.life.ty m) (c, u)) (sym (ap life_bytes h.lives_sound.root.alive)) (from_newest T state.lives 0 h.lives_sound.root.life kept_root (c, u) n) in
-        subst (λ ps. Contains ps (c, u)) (h.built_ins.root_owns (root_now state)) (subst (λ t. Contains (T.owned t (root_now state)) (c, u)) h.lives_sound.root.ty one)
-
-    never_zero : (c u : ℕ) → Contains (owned_by_root (root_now state)) (c, u) → c ≡ 0 → ⊥
-    never_zero c u n z =
-        let o = root_owns c u n in
-        let same : h.lives_sound.root.life ≡ o.life = same_Some h.lives_sound.root.life o.life (sym h.lives_sound.root.alive ∙ (ap (life_at state.lives) (sym z) ∙ o.alive)) in
-        let clash : Fresh ≡ Owned 0 = sym h.lives_sound.root.unowned ∙ (ap (λ (x : Life). x.status) same ∙ o.status) in
-        absurd cc
-
-    -- a block and its type fit a root slot
-    small_life : (b : ℕ) (l : Life) → life_at state.lives b ≡ Some l → (b < 2 ^ 32) × (l.ty < 2 ^ 32)
-    small_life b l alive =
-        let lt : b < length state.lives = in_range T state h b l alive in
-        let top : length state.lives ≤ 32768 = h.size.1 in
-        let low = h.built_ins.few l.ty (h.linked b l alive).installed in
-        (omega arith, omega arith)
 
     make_may : (slot_now state fs).0 ≡ 0 → (b : ℕ) (l : Life) → life_at state.lives b ≡ Some l → l.status ≡ Fresh → b ≢ 0 → MayAccept T state.lives 0 h.lives_sound.root.life (root_state state fs (b, l.ty) ((b, l.ty) ∷ []) [])
     make_may vacant b l alive fresh ne =
@@ -160,7 +178,7 @@ module _ (T : Types) (state : StoreState) (h : IsConsistent T state) where
         subst (λ (x : ℕ × StoreState). Keeps T state x.1) (same_ok (accepts state 0 next) (entry, new) u.1)
         (accepts_keeps T state h 0 h.lives_sound.root.life next h.lives_sound.root.alive
         (make_may (eqb-true (slot_now state fs).0 0 (not-false ((slot_now state fs).0 == 0) u.0.0)) b l own.1.alive (fresh_from l.status (not-false (is_fresh l.status) u.0.1.0)) (not_root T state h fs b l own.1.alive own.1.mine)) refl
-        (λ e. may_be_root (b, l.ty) ((b, l.ty) ∷ []) [] (small_life b l own.1.alive).0 (small_life b l own.1.alive).1 (λ ne. record { life = l; alive = own.1.alive; same = own.1.mine })))
+        (λ e. may_be_root (b, l.ty) ((b, l.ty) ∷ []) [] (small_life b l own.1.alive).0 (small_life b l own.1.alive).1 (λ ne. record { life = l; alive = own.1.alive; same = own.1.mine }) (λ ne. (h.linked b l own.1.alive).installed)) (λ e. same_pointers (b, l.ty)))
 
     owned_slot : (slot_now state fs).0 ≢ 0 → Contains (owned_by_root (root_now state)) ((slot_now state fs).0, (slot_now state fs).1)
     unfolding owned_by_root
@@ -214,4 +232,4 @@ module _ (T : Types) (state : StoreState) (h : IsConsistent T state) where
         ∷ []) (Ok (accepts state 0 next)) (entry, new) done in
         subst (λ (x : ℕ × StoreState). Keeps T state x.1) (same_ok (accepts state 0 next) (entry, new) u.1)
         (accepts_keeps T state h 0 h.lives_sound.root.life next h.lives_sound.root.alive
-        (drop_may (eqb-false (slot_now state fs).0 0 u.0.0) (not-false (is_empty T state (slot_now state fs).0) u.0.1.0)) refl (λ e. may_be_root (0, 0) [] ((slot_now state fs).0 ∷ []) (omega arith) (omega arith) (λ ne. absurd (ne refl))))
+        (drop_may (eqb-false (slot_now state fs).0 0 u.0.0) (not-false (is_empty T state (slot_now state fs).0) u.0.1.0)) refl (λ e. may_be_root (0, 0) [] ((slot_now state fs).0 ∷ []) (omega arith) (omega arith) (λ ne. absurd (ne refl)) (λ ne. absurd (ne refl))) (λ e. same_pointers (0, 0)))

@@ -2,54 +2,31 @@
 use Rattle.std.proofs.Common.{cond, ◌≡◌, ℕ, zero, suc, ◌<◌, ◌≤◌, true, false, List, [], ◌∷◌, length, map, Option, Some, None, Result, Ok, refl, sym, ◌∙◌, ap, inl, inr, arith, subst}
 use Rattle.std.specs.Prelude.{is_some, slice_set, ◌==◌}
 use Rattle.std.proofs.lemmas.Bool.{cases_lt, false≢true, ne_eqb}
-use Rattle.std.proofs.lemmas.Option.{none-some}
 use Rattle.std.proofs.lemmas.List.{get_or-set_same, set-set, length-map}
 use Rattle.xn_model.specs.Types.{Types}
 use Rattle.xn_model.specs.Images.{block_of}
-use Rattle.xn_model.specs.Lives.{BlockState, Life, Lives, StoreState, life_at, bytes_of, prefix_of, begun_at}
+use Rattle.xn_model.specs.Lives.{Lives, StoreState, life_at, durable_bytes, prefix_of, begun_at}
+use Rattle.xn_model.specs.BareDisks.{no_templates}
 use Rattle.xn_model.specs.Results.{Refusal, InFlight, NothingSafe, NotSynced, result_map}
 use Rattle.xn_model.specs.Calls.{begun_place, begun_of, bytes_at, settled_of, pick_of, life_pending}
 use Rattle.xn_model.specs.Worlds.{World, Reply, Begun, Landed, Synced, Finished, Refused, reply_and_world, begin, land, sync, finish, read_back, write, settle_bytes, given_at, none_given, with_ticket, write_out, all_pending}
-use Rattle.xn_model.specs.Rules.{IsConsistent, Holds, IsIdle}
+use Rattle.xn_model.specs.Rules.{IsConsistent, IsIdle}
 use Rattle.xn_model.proofs.Lives.{place_from}
 use Rattle.xn_model.proofs.Tests.{unless_passed, safe_count_within}
 use Rattle.xn_model.proofs.Reached.{in_range}
 use Rattle.xn_model.proofs.Least.{progress}
 use Rattle.xn_model.proofs.Flights.{flights_begun, flight_count, flight_bytes}
 use Rattle.xn_model.proofs.Lands.{none_given_at}
-use Rattle.xn_model.proofs.Mount.{never_given}
 use Rattle.xn_model.proofs.Drains.{sum_some, picked_life, round_ends, first}
 
 -- A disk that holds what is durable
 
-durable_bytes : Option Life → List ℕ
-durable_bytes None = []
-durable_bytes (Some l) = bytes_of l.durable
-
 abbrev at_rest : Lives → List (List ℕ)
 at_rest lives = map durable_bytes lives
 
-rests : (lives : Lives) (b : ℕ) (l : Life) (s : BlockState) → life_at lives b ≡ Some l → l.durable ≡ Some s → block_of (at_rest lives) b ≡ s.bytes
-unfolding durable_bytes
-rests [] b l s e d = absurd (none-some l e)
-rests (o ∷ os) (suc b) l s e d = rests os b l s e d
-rests (o ∷ os) zero l s e d = ap durable_bytes e ∙ ap bytes_of d
-
-abbrev world_at : Types → StoreState → World
-world_at T state = record { types = T; image = at_rest state.lives; settled = at_rest state.lives; given = none_given (at_rest state.lives); state = state; down = false }
-
-rests_well : (T : Types) (state : StoreState) → IsConsistent T state → Holds (world_at T state)
-rests_well T state h =
-    let count : length (at_rest state.lives) ≡ length state.lives = length-map state.lives durable_bytes in
-    record {
-      state = h;
-      count = count;
-      settled_count = count;
-      given_count = length-map (at_rest state.lives) (λ bytes. None) ∙ count;
-      placed = λ b l s e d. inl (rests state.lives b l s e d);
-      newest = (refl, λ c. inl refl);
-      unsynced = λ c bytes e. absurd (none-some bytes (sym (never_given (at_rest state.lives) c) ∙ e));
-    }
+-- which templates there are does not matter
+abbrev world_at : StoreState → World
+world_at state = record { language = no_templates; image = at_rest state.lives; settled = at_rest state.lives; given = none_given (at_rest state.lives); state = state; down = false }
 
 -- the block is written with what is begun, and that is settled
 pub wrote_out : (w : World) (b : ℕ) (bytes : List ℕ) (count : ℕ) (begun : StoreState) (done : ℕ × ℕ) (after : StoreState) → begun_of w.state b ≡ Ok ((bytes, count), begun) →
@@ -84,8 +61,8 @@ round_leaves T state begun after b bytes count done h idle picks begins settles 
     let p = picked_life state b picks in
     let within : b < length (at_rest state.lives) = subst (λ n. b < n) (sym (length-map state.lives durable_bytes)) (in_range T state h b p.0 p.1) in
     subst (λ (x : World). IsIdle x.state.lives × (all_pending x.state.lives < all_pending state.lives))
-    (wrote_out (world_at T state) b bytes count begun done after begins settles within)
-    (round_ends (world_at T state) (rests_well T state h) idle b p.0 p.1 p.3)
+    (wrote_out (world_at state) b bytes count begun done after begins settles within)
+    (round_ends (world_at state) (length-map state.lives durable_bytes) idle b p.0 p.1 p.3)
 
 -- what pick answers can be begun
 pub picked_begins : (state : StoreState) (b : ℕ) → pick_of state ≡ Some b → (bytes : List ℕ) × (count : ℕ) × (1 ≤ count) × (begun_of state b ≡ Ok ((bytes, count), record state { lives = begun_at state.lives b count }))
@@ -128,5 +105,5 @@ none_picked state none = go (pick_of state) refl
         let among = pending_among state.lives b in
         let here : life_pending (life_at state.lives b) ≡ length p.0.pending = ap life_pending p.1 in
         let some : 1 ≤ prefix_of state.lives (Some p.0) = p.3 in
-        let within : prefix_of state.lives (Some p.0) ≤ length p.0.pending = safe_count_within state.lives [] p.0.pending in
+        let within : prefix_of state.lives (Some p.0) ≤ length p.0.pending = safe_count_within state.lives p.0.ty [] p.0.pending in
         absurd (omega arith)

@@ -7,7 +7,7 @@ use Rattle.std.proofs.lemmas.List.{take-append-le, take_all}
 use Rattle.std.proofs.lemmas.List.Elements.{Contains-append_cases, Contains-append_left, Contains-append_right, Contains-push_cases}
 use Rattle.xn_model.specs.Lists.{has_number, blocks_of}
 use Rattle.xn_model.specs.Types.{Types, fits}
-use Rattle.xn_model.specs.Root.{header, marked, slot, templates_of}
+use Rattle.xn_model.specs.Root.{has_type, KeepsPointers, marked, slot, templates_of, owned_by_root}
 use Rattle.xn_model.specs.Lives.{BlockState, Status, Fresh, Owned, Dropped, Life, Lives, life_at, newest, first_states, is_dropped, chain_end}
 use Rattle.xn_model.specs.Rules.{IsTemplate, IsInFileSystem, IsRootLife, NamedIn, StartsPlain, Grows, StaysDropped, NoneNames, NoneDrops, IsCount, Rises, IsOwnedBy}
 use Rattle.xn_model.proofs.Changes.{accepted, status_after}
@@ -24,9 +24,11 @@ pub record IsAddable (lives : Lives) (c u : ℕ) : Type 0 where
 -- A state that block 0 may accept
 pub record MayBeRoot (T : Types) (lives : Lives) (r : IsRootLife T lives) (s : BlockState) : Type 0 where
   pub mark : IsTrue (marked (length lives) s.bytes)
-  pub head : header s.bytes ≡ header r.state.bytes
+  pub pointers : (last : BlockState) → newest r.life ≡ Some last → KeepsPointers last.bytes s.bytes
   pub long : length s.bytes ≡ 512
   pub templates : (c u : ℕ) → Contains (templates_of s.bytes) (c, u) → IsTemplate T lives c
+  pub types : (c u : ℕ) → Contains (owned_by_root s.bytes) (c, u) → IsTrue (has_type s.bytes u)
+  pub all_types : (t : ℕ) → IsTrue (T.installed t) → IsTrue (has_type s.bytes t)
   pub slots : (i c : ℕ) → i < 32 → (slot s.bytes i).0 ≡ c → c ≢ 0 → IsInFileSystem lives (Some i) c
 
 -- A state that a life may accept

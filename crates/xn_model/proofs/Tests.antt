@@ -1,16 +1,17 @@
 -- What the tests on lives tell.
 use Rattle.std.proofs.Common.{◌≡◌, ℕ, suc, ◌≤◌, ◌⊎◌, Bool, true, false, cond, not, ◌&&◌, List, [], ◌∷◌, ◌++◌, length, take, Option, Some, None, refl, sym, ◌∙◌, ap, inl, inr, arith, subst}
-use Rattle.std.specs.Prelude.{Contains, is_some, ⊤, Result, Ok, Err, if◌then◌else◌, slice_get}
-use Rattle.std.specs.List.{list_all}
-use Rattle.std.proofs.lemmas.Bool.{false≢true, true≢false, and_parts, eqb-true, not-false}
-use Rattle.xn_model.specs.Lists.{blocks_of}
+use Rattle.std.specs.Prelude.{◌==◌, Contains, is_some, ⊤, Result, Ok, Err, if◌then◌else◌, slice_get}
+use Rattle.std.specs.List.{list_all, list_any}
+use Rattle.std.proofs.lemmas.Bool.{false≢true, true≢false, and_parts, or_cases, eqb-true, not-false}
+use Rattle.xn_model.specs.Lists.{blocks_of, types_of_pairs}
+use Rattle.xn_model.specs.Root.{has_type}
 use Rattle.xn_model.specs.Types.{Types}
-use Rattle.xn_model.specs.Lives.{StoreState, BlockState, Status, Fresh, Owned, Dropped, Life, Lives, life_at, alive_and, is_fresh, is_dropped, is_owned_by, no_states, has_durable, is_all_durable, safe, safe_count, is_after_met, is_for}
+use Rattle.xn_model.specs.Lives.{StoreState, BlockState, Status, Fresh, Owned, Dropped, Life, Lives, life_at, alive_and, is_fresh, is_dropped, is_owned_by, no_states, has_durable, is_all_durable, safe, safe_count, root_on_disk, is_type_met, is_after_met, is_for}
 use Rattle.xn_model.specs.Results.{Refusal, NotInUse, NotYours, NoSuchBlock, first_refusal, unless, result_map, result_and_then}
 use Rattle.xn_model.specs.Calls.{own_place, own_life}
 use Rattle.xn_model.specs.Rules.{IsOnDisk, IsAtRest, Grows, NamedIn}
 use Rattle.xn_model.proofs.Lives.{life_from}
-use Rattle.xn_model.proofs.Lists.{Contains-none, Contains-cons, all_at, blocks_of_has}
+use Rattle.xn_model.proofs.Lists.{Contains-none, Contains-head, Contains-tail, Contains-cons, all_at, blocks_of_has}
 
 pub alive_from : (test : Life → Bool) (o : Option Life) → alive_and test o ≡ true → (l : Life) × (o ≡ Some l) × (test l ≡ true)
 alive_from test None e = absurd (false≢true e)
@@ -53,22 +54,47 @@ settled_from lives c e =
     let r = alive_from (λ l. is_some l.durable && no_states l.pending) (life_at lives c) e in
     record { life = r.0; alive = r.1; nothing = no_states_from r.0.pending (and_parts (is_some r.0.durable) (no_states r.0.pending) r.2).1 }
 
-pub safe_adds : (lives : Lives) (earlier : List BlockState) (s : BlockState) (c u : ℕ) → safe lives earlier s ≡ true → Contains s.adds (c, u) → IsOnDisk lives c
-safe_adds lives earlier s c u e m =
-    let parts = and_parts (list_all (has_durable lives) (blocks_of s.adds)) (list_all (is_all_durable lives) s.drops && is_after_met lives earlier s.after) e in
-    kept_from lives c (all_at (has_durable lives) (blocks_of s.adds) c parts.0 (blocks_of_has s.adds (c, u) m))
+-- the three tests of a pending state
+abbrev adds_met : Lives → ℕ → List BlockState → BlockState → Bool
+adds_met lives t earlier s = list_all (has_durable lives) (blocks_of s.adds) && list_all (is_type_met lives t earlier) (types_of_pairs s.adds)
 
-pub safe_drops : (lives : Lives) (earlier : List BlockState) (s : BlockState) (c : ℕ) → safe lives earlier s ≡ true → Contains s.drops c → IsAtRest lives c
-safe_drops lives earlier s c e m =
-    let parts = and_parts (list_all (has_durable lives) (blocks_of s.adds)) (list_all (is_all_durable lives) s.drops && is_after_met lives earlier s.after) e in
+abbrev rest_met : Lives → List BlockState → BlockState → Bool
+rest_met lives earlier s = list_all (is_all_durable lives) s.drops && is_after_met lives earlier s.after
+
+pub safe_adds : (lives : Lives) (t : ℕ) (earlier : List BlockState) (s : BlockState) (c u : ℕ) → safe lives t earlier s ≡ true → Contains s.adds (c, u) → IsOnDisk lives c
+safe_adds lives t earlier s c u e m =
+    let parts = and_parts (adds_met lives t earlier s) (rest_met lives earlier s) e in
+    let adds = and_parts (list_all (has_durable lives) (blocks_of s.adds)) (list_all (is_type_met lives t earlier) (types_of_pairs s.adds)) parts.0 in
+    kept_from lives c (all_at (has_durable lives) (blocks_of s.adds) c adds.0 (blocks_of_has s.adds (c, u) m))
+
+-- a block that is not block 0 names types that block 0 has on the disk
+pub safe_types : (lives : Lives) (t : ℕ) (earlier : List BlockState) (s : BlockState) (c u : ℕ) → (t ≡ 0 → ⊥) → safe lives t earlier s ≡ true → Contains s.adds (c, u) → has_type (root_on_disk lives) u ≡ true
+safe_types lives t earlier s c u ne e m =
+    let parts = and_parts (adds_met lives t earlier s) (rest_met lives earlier s) e in
+    let adds = and_parts (list_all (has_durable lives) (blocks_of s.adds)) (list_all (is_type_met lives t earlier) (types_of_pairs s.adds)) parts.0 in
+    elim (or_cases (has_type (root_on_disk lives) u) ((t == 0) && list_any (λ s. has_type s.bytes u) earlier) (all_at (is_type_met lives t earlier) (types_of_pairs s.adds) u adds.1 (types_have s.adds (c, u) m))) [
+      | inl has ↦ has
+      | inr here ↦ absurd (ne (eqb-true t 0 (and_parts (t == 0) (list_any (λ s. has_type s.bytes u) earlier) here).0))
+    ]
+  where
+    types_have : (ps : List (ℕ × ℕ)) (p : ℕ × ℕ) → Contains ps p → Contains (types_of_pairs ps) p.1
+    types_have [] p h = absurd (Contains-none p h)
+    types_have (q ∷ ps) p h = elim (Contains-cons q ps p h) [
+      | inl same ↦ subst (λ (x : ℕ × ℕ). Contains (q.1 ∷ types_of_pairs ps) x.1) same (Contains-head q.1 (types_of_pairs ps))
+      | inr i ↦ Contains-tail q.1 (types_of_pairs ps) p.1 (types_have ps p i)
+    ]
+
+pub safe_drops : (lives : Lives) (t : ℕ) (earlier : List BlockState) (s : BlockState) (c : ℕ) → safe lives t earlier s ≡ true → Contains s.drops c → IsAtRest lives c
+safe_drops lives t earlier s c e m =
+    let parts = and_parts (adds_met lives t earlier s) (rest_met lives earlier s) e in
     let drops = and_parts (list_all (is_all_durable lives) s.drops) (is_after_met lives earlier s.after) parts.1 in
     settled_from lives c (all_at (is_all_durable lives) s.drops c drops.0 m)
 
 -- The safe prefix
 
-pub safe_count_within : (lives : Lives) (earlier xs : List BlockState) → safe_count lives earlier xs ≤ length xs
-safe_count_within lives earlier [] = omega arith
-safe_count_within lives earlier (x ∷ xs) = within (safe lives earlier x) (safe_count lives (earlier ++ x ∷ []) xs) (length xs) (safe_count_within lives (earlier ++ x ∷ []) xs)
+pub safe_count_within : (lives : Lives) (t : ℕ) (earlier xs : List BlockState) → safe_count lives t earlier xs ≤ length xs
+safe_count_within lives t earlier [] = omega arith
+safe_count_within lives t earlier (x ∷ xs) = within (safe lives t earlier x) (safe_count lives t (earlier ++ x ∷ []) xs) (length xs) (safe_count_within lives t (earlier ++ x ∷ []) xs)
   where
     within : (b : Bool) (n m : ℕ) → n ≤ m → cond b (suc n) 0 ≤ suc m
     within true n m h = omega arith
@@ -79,23 +105,36 @@ in_first true n x xs s h = (refl, Contains-cons x (take n xs) s h)
 in_first false n x xs s h = absurd (Contains-none s h)
 
 -- each state of the prefix is safe
-pub prefix_safe : (lives : Lives) (earlier xs : List BlockState) (s : BlockState) → Contains (take (safe_count lives earlier xs) xs) s → (before : List BlockState) × (safe lives before s ≡ true)
-prefix_safe lives earlier [] s h = absurd (Contains-none s h)
-prefix_safe lives earlier (x ∷ xs) s h =
-    let r = in_first (safe lives earlier x) (safe_count lives (earlier ++ x ∷ []) xs) x xs s h in
-    elim r.1 [ inl e ↦ (earlier, ap (safe lives earlier) (sym e) ∙ r.0) | inr i ↦ prefix_safe lives (earlier ++ x ∷ []) xs s i ]
+pub prefix_safe : (lives : Lives) (t : ℕ) (earlier xs : List BlockState) (s : BlockState) → Contains (take (safe_count lives t earlier xs) xs) s → (before : List BlockState) × (safe lives t before s ≡ true)
+prefix_safe lives t earlier [] s h = absurd (Contains-none s h)
+prefix_safe lives t earlier (x ∷ xs) s h =
+    let r = in_first (safe lives t earlier x) (safe_count lives t (earlier ++ x ∷ []) xs) x xs s h in
+    elim r.1 [ inl e ↦ (earlier, ap (safe lives t earlier) (sym e) ∙ r.0) | inr i ↦ prefix_safe lives t (earlier ++ x ∷ []) xs s i ]
 
 -- and names only what has a state on the disk
 pub prefix_ready : (T : Types) (lives : Lives) (t : ℕ) (before : Option BlockState) (earlier xs : List BlockState) → Grows T t before xs →
     ((c u : ℕ) → NamedIn T t before (c, u) → IsOnDisk lives c) →
-    (s : BlockState) (c u : ℕ) → Contains (take (safe_count lives earlier xs) xs) s → Contains (T.owned t s.bytes) (c, u) → IsOnDisk lives c
+    (s : BlockState) (c u : ℕ) → Contains (take (safe_count lives t earlier xs) xs) s → Contains (T.owned t s.bytes) (c, u) → IsOnDisk lives c
 prefix_ready T lives t before earlier [] g known s c u h n = absurd (Contains-none s h)
 prefix_ready T lives t before earlier (x ∷ xs) g known s c u h n =
-    let r = in_first (safe lives earlier x) (safe_count lives (earlier ++ x ∷ []) xs) x xs s h in
-    let here : (c u : ℕ) → Contains (T.owned t x.bytes) (c, u) → IsOnDisk lives c = λ c u m. elim (g.0 c u m) [ inl old ↦ known c u old | inr add ↦ safe_adds lives earlier x c u r.0 add ] in
+    let r = in_first (safe lives t earlier x) (safe_count lives t (earlier ++ x ∷ []) xs) x xs s h in
+    let here : (c u : ℕ) → Contains (T.owned t x.bytes) (c, u) → IsOnDisk lives c = λ c u m. elim (g.0 c u m) [ inl old ↦ known c u old | inr add ↦ safe_adds lives t earlier x c u r.0 add ] in
     elim r.1 [
       | inl e ↦ here c u (rw e n)
       | inr i ↦ prefix_ready T lives t (Some x) (earlier ++ x ∷ []) xs g.1 here s c u i n
+    ]
+
+-- and, unless the block is block 0, only types that block 0 has on the disk
+pub prefix_typed : (T : Types) (lives : Lives) (t : ℕ) (before : Option BlockState) (earlier xs : List BlockState) → (t ≡ 0 → ⊥) → Grows T t before xs →
+    ((c u : ℕ) → NamedIn T t before (c, u) → has_type (root_on_disk lives) u ≡ true) →
+    (s : BlockState) (c u : ℕ) → Contains (take (safe_count lives t earlier xs) xs) s → Contains (T.owned t s.bytes) (c, u) → has_type (root_on_disk lives) u ≡ true
+prefix_typed T lives t before earlier [] ne g known s c u h n = absurd (Contains-none s h)
+prefix_typed T lives t before earlier (x ∷ xs) ne g known s c u h n =
+    let r = in_first (safe lives t earlier x) (safe_count lives t (earlier ++ x ∷ []) xs) x xs s h in
+    let here : (c u : ℕ) → Contains (T.owned t x.bytes) (c, u) → has_type (root_on_disk lives) u ≡ true = λ c u m. elim (g.0 c u m) [ inl old ↦ known c u old | inr add ↦ safe_types lives t earlier x c u ne r.0 add ] in
+    elim r.1 [
+      | inl e ↦ here c u (rw e n)
+      | inr i ↦ prefix_typed T lives t (Some x) (earlier ++ x ∷ []) xs ne g.1 here s c u i n
     ]
 
 -- Refusals

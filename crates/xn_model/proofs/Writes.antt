@@ -14,11 +14,11 @@ use Rattle.xn_model.specs.Rules.{ArePlaced, IsRootLife, IsSoundLife, IsLinkedLif
 use Rattle.xn_model.proofs.Changes.{each, settled}
 use Rattle.xn_model.proofs.Lists.{Contains-none, Contains-cons, Contains-drop, last_of}
 use Rattle.xn_model.proofs.Lives.{each_forth, each_back}
-use Rattle.xn_model.proofs.Carry.{Carries, held_still, kept_still, root_still, carries_settled, owned_settled, settled_other, settled_same, settled_if, settled_fewer, settled_rises, settled_start, settled_grows, settled_stays, settled_last}
+use Rattle.xn_model.proofs.Carry.{Carries, held_still, kept_still, root_still, carries_settled, owned_settled, settled_other, settled_same, settled_if, settled_fewer, settled_rises, settled_start, settled_grows, settled_stays, settled_last, root_pointers}
 use Rattle.xn_model.proofs.Statuses.{exact_each, settled_newest}
 use Rattle.xn_model.proofs.Chains.{chains_each}
 use Rattle.xn_model.proofs.Orders.{ordered_settle}
-use Rattle.xn_model.proofs.Queue.{queued_each, settled_shrinks}
+use Rattle.xn_model.proofs.Queue.{queued_each, settled_shrinks, settled_older}
 use Rattle.xn_model.proofs.Reached.{carried_pending}
 
 -- The begun state
@@ -45,6 +45,7 @@ held_settled T old new b k l c begun h = record {
   named = λ s x u m n. c.belongs b x u (h.named s x u (settled_fewer l.durable k l.pending s m) n);
   same_system = λ s x u ne m n. c.system l.fs x (h.same_system s x u ne (settled_fewer l.durable k l.pending s m) n);
   ready = λ s x u m n. c.disk x (h.ready s x u (among s m) n);
+  typed = λ s x u ne m n. c.types u (h.typed s x u ne (among s m) n);
   rising = settled_rises l.durable k l.pending h.rising;
 }
   where
@@ -92,7 +93,7 @@ module _ (T : Types) (state : StoreState) (h : IsConsistent T state) (b : ℕ) (
 
   carries : Carries T state.lives now
   unfolding now
-  carries = carries_settled T b k state.lives
+  carries = carries_settled T b k state.lives h.lives_sound.root
 
   root_settled : IsRootLife T now
   unfolding now
@@ -100,6 +101,7 @@ module _ (T : Types) (state : StoreState) (h : IsConsistent T state) (b : ℕ) (
       let r = h.lives_sound.root in
       let d = settled_durable (eqb 0 b) k r.life r.state r.durable in
       root_still T state.lives now carries r (settled b k 0 r.life) d.0 (each_forth (settled b k) state.lives 0 r.life r.alive) r.ty r.nobody r.unowned d.1 (λ t m. states_fewer (eqb 0 b) k r.life t m)
+      (root_pointers (eqb 0 b) k r.life r.pointers) (settled_newest b k 0 r.life).newest
 
   same_life : (c : ℕ) (m : Life) → life_at state.lives c ≡ Some m → c ≡ b → l ≡ m
   same_life c m e same = same_Some l m (sym alive ∙ (ap (life_at state.lives) (sym same) ∙ e))
@@ -147,7 +149,7 @@ module _ (T : Types) (state : StoreState) (h : IsConsistent T state) (b : ℕ) (
   pub settles : IsConsistent T (record state { lives = each (settled b k) state.lives })
   unfolding now
   settles = record {
-    waits = queued_each T state.lives (settled b k) (λ c x e. settled_shrinks b k (let bounds : IsCount (Some k) (length l.pending) = subst (λ o. IsCount o (length l.pending)) begun (h.linked b l alive).flight in bounds.0) c x) h.waits;
+    waits = queued_each T state.lives (settled b k) (λ c x e. settled_shrinks b k (let bounds : IsCount (Some k) (length l.pending) = subst (λ o. IsCount o (length l.pending)) begun (h.linked b l alive).flight in bounds.0) c x) (settled_older T b k state.lives h.lives_sound.root) h.waits;
     order = ordered_settle state.lives b k h.order;
     statuses = exact_each T state.lives (settled b k) (settled_newest b k) h.statuses;
     chains = chains_each state.lives (settled b k) (λ c x. refl) h.chains;

@@ -1,11 +1,14 @@
 -- A disk as it is after formatting, with the built-in types alone.
 --     built_ins              the types without any template
+--     no_templates           the language in which no block is one
 --     bare_disk count        its blocks: block 0 with a mark and the count, all else 0
---     mounted_disk T image   a disk with the state of its mount
-use Rattle.std.specs.Prelude.{ℕ, ◌-◌, false, cond, nat_lt, List, [], ◌∷◌, ◌++◌, replicate}
+--     mounted_disk L image   a disk with the state of its mount
+use Rattle.std.specs.Prelude.{ℕ, ◌-◌, false, cond, nat_lt, List, [], ◌∷◌, ◌++◌, replicate, None}
 use Rattle.std.specs.Int.{w32, to_le_bytes}
 use Rattle.xn_model.specs.Types.{Types}
 use Rattle.xn_model.specs.Root.{owned_by_root}
+use Rattle.xn_model.specs.Languages.{Language, types_in}
+use Rattle.xn_model.specs.Images.{block_of}
 use Rattle.xn_model.specs.Mounts.{recovered}
 use Rattle.xn_model.specs.Worlds.{World, mounted_state, none_given}
 
@@ -18,6 +21,9 @@ built_ins = record {
   template = λ m. false;
 }
 
+abbrev pub no_templates : Language
+no_templates m = None
+
 abbrev pub zeros : ℕ → List ℕ
 zeros n = replicate n 0
 
@@ -28,6 +34,6 @@ bare_root count = (88 ∷ 78 ∷ 57 ∷ 55 ∷ []) ++ (to_le_bytes w32 count ++ 
 abbrev pub bare_disk : ℕ → List (List ℕ)
 bare_disk count = bare_root count ∷ replicate (count - 1) (zeros 512)
 
--- a disk, mounted under types
-abbrev pub mounted_disk : Types → List (List ℕ) → World
-mounted_disk T image = record { types = T; image = image; settled = image; given = none_given image; state = mounted_state (recovered T image); down = false }
+-- a disk, mounted in a language
+abbrev pub mounted_disk : Language → List (List ℕ) → World
+mounted_disk L image = record { language = L; image = image; settled = image; given = none_given image; state = mounted_state (recovered (types_in L (block_of image)) image); down = false }

@@ -1,14 +1,16 @@
 -- What each call answers and leaves, as a function of the state.
 --     init_of, propose_of, make_root_of, drop_root_of, forget_of    the clients' changes
+--     install_of    a template's
 --     read_of, kind_of, root_of, tainted_of, pending_of, floor_of, free_of, pick_of    answers that change nothing
 --     begun_of, settled_of    a write begins; its bytes are read back
-use Rattle.std.specs.Prelude.{ℕ, ◌+◌, ◌-◌, ◌^◌, Bool, true, false, not, ◌&&◌, ◌||◌, List, [], ◌∷◌, length, take, Option, Some, None, is_some, is_none, Result, Ok, Err, slice_get, slice_set, ◌==◌, nat_le, nat_lt, count_by, sum_by, bytes_eq, position, if◌then◌else◌}
-use Rattle.std.specs.List.{list_all, last_or}
+use Rattle.std.specs.Prelude.{ℕ, ◌+◌, ◌-◌, ◌^◌, Bool, true, false, not, ◌&&◌, ◌||◌, List, [], ◌∷◌, length, take, Option, Some, None, is_some, is_none, unwrap_or, find, Result, Ok, Err, slice_get, slice_set, ◌==◌, nat_le, nat_lt, count_by, sum_by, bytes_eq, position, if◌then◌else◌}
+use Rattle.std.specs.List.{list_all, last_or, range_with_len}
 use Rattle.xn_model.specs.Lists.{blocks_of, distinct, has_number, put}
 use Rattle.xn_model.specs.Types.{Types, claims, named_once, within_size}
-use Rattle.xn_model.specs.Root.{slot, with_slot}
+use Rattle.xn_model.specs.Root.{pointer, with_pointer, slot, with_slot}
+use Rattle.xn_model.specs.Languages.{Language, types_in}
 use Rattle.xn_model.specs.Lives.{BlockState, Fresh, Life, Lives, StoreState, life_at, bytes_of, current, is_fresh, is_dropped, is_owned_by, alive_and, chain_end, no_states, prefix_of, accepted_at, begun_at, settled_at, freed, drops_of, lowest_free, is_for, floor}
-use Rattle.xn_model.specs.Results.{Refusal, NoSuchBlock, NotInUse, NotYours, BadPatch, BadAfter, NotFresh, NotOwned, NotEmpty, ClaimWrong, SizeWrong, TooManyPending, NoSpace, BadType, InFlight, NotMine, RootTaken, NothingSafe, Exhausted, Cycle, first_refusal, unless, result_map, result_and_then}
+use Rattle.xn_model.specs.Results.{Refusal, NoSuchBlock, NotInUse, NotYours, BadPatch, BadAfter, NotFresh, NotOwned, NotEmpty, ClaimWrong, SizeWrong, TooManyPending, NoSpace, BadType, InFlight, NotMine, RootTaken, NothingSafe, Exhausted, Cycle, NoSlot, BadTemplate, first_refusal, unless, result_map, result_and_then}
 
 -- A file system's own block
 
@@ -45,16 +47,20 @@ is_empty T state c = alive_and (λ l. owns_nothing T l.ty (current l)) (life_at 
 
 -- init
 
--- the first state of a life, which adds, drops and waits for nothing
-abbrev pub first_state : ℕ → ℕ → List ℕ → BlockState
-first_state entry fs bytes = record { bytes = bytes; entry = entry; adds = []; drops = []; after = None; fs = Some fs }
+-- the first state of a life, a file system's or nobody's, which adds, drops and waits for nothing
+abbrev pub first_state : ℕ → Option ℕ → List ℕ → BlockState
+first_state entry fs bytes = record { bytes = bytes; entry = entry; adds = []; drops = []; after = None; fs = fs }
 
-abbrev pub new_life : ℕ → ℕ → ℕ → List ℕ → Life
-new_life entry fs t bytes = record { fs = Some fs; ty = t; status = Fresh; durable = None; pending = first_state entry fs bytes ∷ []; begun = None }
+abbrev pub new_life : ℕ → Option ℕ → ℕ → List ℕ → Life
+new_life entry fs t bytes = record { fs = fs; ty = t; status = Fresh; durable = None; pending = first_state entry fs bytes ∷ []; begun = None }
+
+-- with such a life on a free block
+abbrev pub started : StoreState → Option ℕ → ℕ → List ℕ → ℕ → StoreState
+started state fs t bytes b = record { lives = slice_set state.lives b (Some (new_life state.next fs t bytes)); next = state.next + 1 }
 
 abbrev pub init_at : StoreState → ℕ → ℕ → List ℕ → Option ℕ → Result ((ℕ × ℕ) × StoreState) Refusal
 init_at state fs t bytes None = Err NoSpace
-init_at state fs t bytes (Some b) = Ok ((b, state.next), record { lives = slice_set state.lives b (Some (new_life state.next fs t bytes)); next = state.next + 1 })
+init_at state fs t bytes (Some b) = Ok ((b, state.next), started state (Some fs) t bytes b)
 
 abbrev pub init_refusal : Types → StoreState → ℕ → ℕ → List ℕ → Option Refusal
 init_refusal T state fs t bytes = first_refusal (
@@ -148,9 +154,17 @@ abbrev pub life_pending : Option Life → ℕ
 life_pending None = 0
 life_pending (Some l) = length l.pending
 
--- block 0's newest bytes
+-- the newest bytes of each block, and none of a free one
+abbrev pub latest : Lives → ℕ → List ℕ
+latest lives b = life_bytes (life_at lives b)
+
+-- block 0's
 abbrev pub root_now : StoreState → List ℕ
-root_now state = life_bytes (life_at state.lives 0)
+root_now state = latest state.lives 0
+
+-- the types of block 0's newest catalogue
+abbrev pub types_of : Language → Lives → Types
+types_of L lives = types_in L (latest lives)
 
 abbrev pub slot_now : StoreState → ℕ → ℕ × ℕ
 slot_now state fs = slot (root_now state) fs
@@ -185,6 +199,34 @@ drop_root_refusal T state fs = first_refusal (
 -- the entry
 abbrev pub drop_root_of : Types → StoreState → ℕ → Result (ℕ × StoreState) Refusal
 drop_root_of T state fs = unless (drop_root_refusal T state fs) (Ok (accepts state 0 (root_state state fs (0, 0) [] ((slot_now state fs).0 ∷ []))))
+
+-- install
+
+-- the lowest place of the catalogue that names no template
+abbrev pub empty_place : List ℕ → Option ℕ
+empty_place m = find (λ i. pointer m i == 0) (range_with_len 0 16)
+
+-- block 0 with place i naming block b
+abbrev pub catalogue_state : StoreState → ℕ → ℕ → BlockState
+catalogue_state state i b = record { bytes = with_pointer (root_now state) i b; entry = state.next; adds = (b, 1) ∷ []; drops = []; after = None; fs = None }
+
+abbrev pub install_refusal : Language → StoreState → List ℕ → Option Refusal
+install_refusal L state bytes = first_refusal (
+    (is_none (empty_place (root_now state)), NoSlot)
+    ∷ (nat_le 64 (life_pending (life_at state.lives 0)), TooManyPending)
+    ∷ (nat_le (2 ^ 64 - 1) (state.next + 1), Exhausted)
+    ∷ (is_none (lowest_free state.lives), NoSpace)
+    ∷ (is_none (L bytes), BadTemplate)
+    ∷ [])
+
+-- two entries: block b begins a life of nobody with these bytes, and place i names it
+abbrev pub install_at : StoreState → List ℕ → ℕ → ℕ → StoreState
+install_at state bytes i b = let begun = started state None 1 bytes b in (accepts begun 0 (catalogue_state begun i b)).1
+
+-- the type, the block, and the first entry
+abbrev pub install_of : Language → StoreState → List ℕ → Result ((ℕ × ℕ × ℕ) × StoreState) Refusal
+install_of L state bytes = unless (install_refusal L state bytes)
+    (let i = unwrap_or (empty_place (root_now state)) 0 in let b = unwrap_or (lowest_free state.lives) 0 in Ok ((3 + i, b, state.next), install_at state bytes i b))
 
 -- forget
 

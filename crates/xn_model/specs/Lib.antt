@@ -1,6 +1,7 @@
 pub mod Lists
 pub mod Types
 pub mod Root
+pub mod Languages
 pub mod Images
 pub mod Lives
 pub mod Results

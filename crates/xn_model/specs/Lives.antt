@@ -6,7 +6,8 @@
 --     chain_end            where the owners of a block's owners end
 use Rattle.std.specs.Prelude.{ℕ, zero, suc, Bool, true, false, cond, not, ◌&&◌, ◌||◌, List, [], ◌∷◌, ◌++◌, length, take, drop, fold, Option, Some, None, is_some, is_none, unwrap_or, slice_get, slice_set, ◌==◌, option_to_list, option_map, min, flat_map, position}
 use Rattle.std.specs.List.{list_any, list_all, last_or}
-use Rattle.xn_model.specs.Lists.{blocks_of}
+use Rattle.xn_model.specs.Lists.{blocks_of, types_of_pairs}
+use Rattle.xn_model.specs.Root.{has_type}
 pub use Rattle.xn_model.specs.declared.status.Status.{Status}
 pub use Rattle.xn_model.specs.declared.status.Status.TheVariants.{Fresh, Owned, Dropped}
 
@@ -136,20 +137,32 @@ abbrev pub is_after_met : Lives → List BlockState → Option ℕ → Bool
 is_after_met lives earlier None = true
 is_after_met lives earlier (Some n) = not (is_pending lives n) || has_entry earlier n
 
--- a pending state, behind the earlier ones of its block
-abbrev pub safe : Lives → List BlockState → BlockState → Bool
-safe lives earlier s =
-    list_all (has_durable lives) (blocks_of s.adds)
+abbrev pub durable_bytes : Option Life → List ℕ
+durable_bytes None = []
+durable_bytes (Some l) = bytes_of l.durable
+
+-- block 0's bytes on the disk
+abbrev pub root_on_disk : Lives → List ℕ
+root_on_disk lives = durable_bytes (life_at lives 0)
+
+-- block 0 has the type on the disk or, for a state of block 0 (a block of type 0), in an earlier one
+abbrev pub is_type_met : Lives → ℕ → List BlockState → ℕ → Bool
+is_type_met lives t earlier u = has_type (root_on_disk lives) u || ((t == 0) && list_any (λ s. has_type s.bytes u) earlier)
+
+-- a pending state of a block of type t, behind the earlier ones of its block
+abbrev pub safe : Lives → ℕ → List BlockState → BlockState → Bool
+safe lives t earlier s =
+    (list_all (has_durable lives) (blocks_of s.adds) && list_all (is_type_met lives t earlier) (types_of_pairs s.adds))
     && (list_all (is_all_durable lives) s.drops && is_after_met lives earlier s.after)
 
 -- how many pending states from the first on are safe
-abbrev pub safe_count : Lives → List BlockState → List BlockState → ℕ
-safe_count lives earlier [] = 0
-safe_count lives earlier (s ∷ states) = cond (safe lives earlier s) (suc (safe_count lives (earlier ++ s ∷ []) states)) 0
+abbrev pub safe_count : Lives → ℕ → List BlockState → List BlockState → ℕ
+safe_count lives t earlier [] = 0
+safe_count lives t earlier (s ∷ states) = cond (safe lives t earlier s) (suc (safe_count lives t (earlier ++ s ∷ []) states)) 0
 
 abbrev pub prefix_of : Lives → Option Life → ℕ
 prefix_of lives None = 0
-prefix_of lives (Some l) = safe_count lives [] l.pending
+prefix_of lives (Some l) = safe_count lives l.ty [] l.pending
 
 -- the length of the safe prefix of a block, 0 for none
 abbrev pub prefix : Lives → ℕ → ℕ

@@ -1,7 +1,7 @@
 -- How a refusal is printed: its number and its name.
 use Rattle.std.specs.Prelude.{ℕ, List, codes}
 use Rattle.xn_model.specs.declared.refusal.Refusal.{Refusal}
-use Rattle.xn_model.specs.declared.refusal.Refusal.TheVariants.{NoMemory, NoSuchBlock, NotInUse, NotYours, BadPatch, BadAfter, NotFresh, NotOwned, NotEmpty, ClaimWrong, SizeWrong, TooManyPending, NoSpace, BadType, InFlight, NotMine, Device, RootTaken, NothingSafe, Exhausted, Cycle, NotSynced}
+use Rattle.xn_model.specs.declared.refusal.Refusal.TheVariants.{NoMemory, NoSuchBlock, NotInUse, NotYours, BadPatch, BadAfter, NotFresh, NotOwned, NotEmpty, ClaimWrong, SizeWrong, TooManyPending, NoSpace, BadType, InFlight, NotMine, Device, RootTaken, NothingSafe, Exhausted, Cycle, NotSynced, NoSlot, BadTemplate}
 
 abbrev pub refusal_text : Refusal → List ℕ
 refusal_text NoMemory = codes "1 NoMemory"
@@ -26,3 +26,5 @@ refusal_text NothingSafe = codes "20 NothingSafe"
 refusal_text Exhausted = codes "21 Exhausted"
 refusal_text Cycle = codes "22 Cycle"
 refusal_text NotSynced = codes "23 NotSynced"
+refusal_text NoSlot = codes "24 NoSlot"
+refusal_text BadTemplate = codes "25 BadTemplate"

@@ -1,12 +1,12 @@
 -- Rows of commands on small disks, with their replies.
-use Rattle.std.specs.Prelude.{ℕ, zero, suc, map, length, filter_map, flat_map, ◌==◌, ◌*◌, ◌+◌, ◌-◌, true, false, cond, List, [], ◌∷◌, ◌++◌, replicate, nat_lt, Option, Some, None}
+use Rattle.std.specs.Prelude.{ℕ, zero, suc, map, length, filter_map, flat_map, ◌==◌, ◌*◌, ◌+◌, ◌-◌, true, false, cond, List, [], ◌∷◌, ◌++◌, replicate, Option, Some, None, bytes_eq}
 use Rattle.std.specs.Int.{w32, to_le_bytes}
-use Rattle.xn_model.specs.Types.{Types}
-use Rattle.xn_model.specs.Root.{owned_by_root, word_at, unless_empty}
-use Rattle.xn_model.specs.Results.{NotSynced, NothingSafe, NotYours, NotInUse, NoSuchBlock, RootTaken, ClaimWrong, NotOwned, BadAfter, TooManyPending, NotFresh, NotEmpty, Cycle}
+use Rattle.xn_model.specs.Root.{word_at, unless_empty}
+use Rattle.xn_model.specs.Languages.{Language, Template}
+use Rattle.xn_model.specs.Results.{NotSynced, NothingSafe, NotYours, NotInUse, NoSuchBlock, RootTaken, ClaimWrong, NotOwned, BadAfter, TooManyPending, NotFresh, NotEmpty, Cycle, NoSlot, BadType, BadTemplate}
 use Rattle.xn_model.specs.Calls.{Edit}
 use Rattle.xn_model.specs.BareDisks.{zeros}
-use Rattle.xn_model.specs.Worlds.{Event, Client, Begin, Land, Fail, Sync, FailSync, Finish, Crash, Init, Propose, MakeRoot, DropRoot, Forget, Read, Floor, Pending, Drain, Reply, Started, Edited, Bytes, Begun, Landed, Synced, Finished, FloorIs, Refused, Mounted, Drained, Fault, Forgotten, PendingIs, NoTicket}
+use Rattle.xn_model.specs.Worlds.{Event, Client, Install, Begin, Land, Fail, Sync, FailSync, Finish, Crash, Init, Propose, MakeRoot, DropRoot, Forget, Read, Floor, Pending, Drain, Reply, Started, Installed, Edited, Bytes, Begun, Landed, Synced, Finished, FloorIs, Refused, Mounted, Drained, Fault, Forgotten, PendingIs, NoTicket}
 use Rattle.std.specs.List.{range_with_len}
 
 -- bytes with zeros up to a block's end
@@ -32,6 +32,10 @@ edit fs b e = Client fs (Propose b e)
 
 abbrev pub start : ℕ → ℕ → List ℕ → Event
 start fs t bytes = Client fs (Init t (block bytes))
+
+-- begin, land, sync, finish
+abbrev pub written : ℕ → ℕ → ℕ → Row
+written b entries freed = (Begin b, Begun entries) ∷ (Land b, Landed) ∷ (Sync b, Synced) ∷ (Finish b, Finished entries freed) ∷ []
 
 abbrev pub first_row : Row
 first_row =
@@ -206,38 +210,30 @@ drained_row =
 abbrev pub words_from : ℕ → ℕ → List ℕ → ℕ → List (ℕ × ℕ)
 words_from at count m t = filter_map (λ i. unless_empty (word_at m (at + 4 * i), t)) (range_with_len 0 count)
 
+abbrev pub first_byte : List ℕ → ℕ
+first_byte [] = 0
+first_byte (x ∷ xs) = x
+
 -- the pairs of the inode at a place of its block
 abbrev pub inode_pairs : List ℕ → ℕ → List (ℕ × ℕ)
 inode_pairs m i = words_from (64 * i + 8) 12 m 2 ++ words_from (64 * i + 56) 1 m 5
 
-abbrev pub library_owned : ℕ → List ℕ → List (ℕ × ℕ)
-library_owned t m =
-    elim (t == 0) [
-      | true ↦ owned_by_root m
-      | false ↦
-          elim (t == 3) [
-            | true ↦ words_from 0 16 m 4
-            | false ↦
-                elim (t == 4) [
-                  | true ↦ flat_map (inode_pairs m) (range_with_len 0 8)
-                  | false ↦
-                      elim (t == 5) [ true ↦ words_from 0 128 m 2 | false ↦ [] ]
-                ]
-          ]
-    ]
+-- blocks whose first byte is 3, 4 or 5 stand for the three templates
+abbrev pub library : Language
+library m =
+    let n = first_byte m in
+    cond (n == 3) (Some (record { owned = λ x. words_from 0 16 x 4; size = λ x. 64 }))
+    (cond (n == 4) (Some (record { owned = λ x. flat_map (inode_pairs x) (range_with_len 0 8); size = λ x. 512 }))
+    (cond (n == 5) (Some (record { owned = λ x. words_from 0 128 x 2; size = λ x. 512 })) None))
 
-abbrev pub library : Types
-library = record {
-  installed = λ t. nat_lt t 6;
-  owned = library_owned;
-  size = λ t m. cond (t == 0) 328 (cond (t == 3) 64 512);
-  template = λ m. true;
-}
+-- block 0 that names templates in the first blocks, with these; all else is 0
+abbrev pub disk_with : ℕ → List (List ℕ) → List (List ℕ)
+disk_with count templates =
+    block ((88 ∷ 78 ∷ 57 ∷ 55 ∷ []) ++ (to_le_bytes w32 count ++ flat_map (λ i. to_le_bytes w32 (i + 1)) (range_with_len 0 (length templates))))
+    ∷ (templates ++ replicate (count - 1 - length templates) (zeros 512))
 
--- templates in blocks 1 to 3, whose bytes this table does not read
 abbrev pub library_disk : ℕ → List (List ℕ)
-library_disk count =
-    ((88 ∷ 78 ∷ 57 ∷ 55 ∷ []) ++ (to_le_bytes w32 count ++ (to_le_bytes w32 1 ++ (to_le_bytes w32 2 ++ (to_le_bytes w32 3 ++ zeros 492))))) ∷ replicate (count - 1) (zeros 512)
+library_disk count = disk_with count (block (3 ∷ []) ∷ block (4 ∷ []) ∷ block (5 ∷ []) ∷ [])
 
 abbrev pub rolled_back_row : Row
 rolled_back_row =
@@ -296,27 +292,22 @@ attached_row =
     ∷ (Client 0 (Read 4), Bytes (block []))
     ∷ []
 
--- A template of blocks that name one more of their kind
+-- Templates of blocks with one pointer
 
-abbrev pub chain_owned : ℕ → List ℕ → List (ℕ × ℕ)
-chain_owned t m =
-    elim (t == 0) [
-      | true ↦ owned_by_root m
-      | false ↦ elim (t == 3) [ true ↦ words_from 0 1 m 3 | false ↦ [] ]
-    ]
+-- the one of a pointer to a block of type t, as its programs are spelled
+abbrev pub chain_bytes : ℕ → List ℕ
+chain_bytes t = block ((88 ∷ 84 ∷ 5 ∷ 1 ∷ []) ++ ((12 ∷ 1 ∷ 0 ∷ 0 ∷ []) ++ ((14 ∷ 0 ∷ 1 ∷ 0 ∷ []) ++ ((1 ∷ 2 ∷ t ∷ 0 ∷ []) ++ ((13 ∷ 1 ∷ 2 ∷ 0 ∷ []) ++ ((17 ∷ 0 ∷ 0 ∷ 0 ∷ []) ++ (1 ∷ 0 ∷ 4 ∷ 0 ∷ [])))))))
 
-abbrev pub chain : Types
-chain = record {
-  installed = λ t. nat_lt t 4;
-  owned = chain_owned;
-  size = λ t m. cond (t == 0) 328 (cond (t == 3) 4 512);
-  template = λ m. true;
-}
+abbrev pub chain_to : ℕ → Template
+chain_to t = record { owned = λ x. words_from 0 1 x t; size = λ x. 4 }
 
--- the template in block 1
-abbrev pub chain_disk : ℕ → List (List ℕ)
-chain_disk count =
-    ((88 ∷ 78 ∷ 57 ∷ 55 ∷ []) ++ (to_le_bytes w32 count ++ (to_le_bytes w32 1 ++ zeros 500))) ∷ replicate (count - 1) (zeros 512)
+-- type 3 or type 4
+abbrev pub chains : Language
+chains m = cond (bytes_eq m (chain_bytes 3)) (Some (chain_to 3)) (cond (bytes_eq m (chain_bytes 4)) (Some (chain_to 4)) None)
+
+-- a disk with such a template to type t
+abbrev pub chain_disk : ℕ → ℕ → List (List ℕ)
+chain_disk t count = disk_with count (chain_bytes t ∷ [])
 
 -- no chain of owners comes back to where it was
 abbrev pub cycle_row : Row
@@ -328,3 +319,81 @@ cycle_row =
     ∷ (edit 0 3 (patch 0 (2 ∷ 0 ∷ 0 ∷ 0 ∷ []) ((2, 3) ∷ []) [] None), Refused Cycle)
     ∷ (edit 0 3 (patch 0 (3 ∷ 0 ∷ 0 ∷ 0 ∷ []) ((3, 3) ∷ []) [] None), Refused NotFresh)
     ∷ []
+
+-- Templates that are installed
+
+-- block 0 may be written once the template's block is on the disk
+abbrev pub installed_row : Row
+installed_row =
+    ((Install (chain_bytes 3), Installed 3 1 1 2) ∷ (start 0 3 [], Started 2 3) ∷ (Client 0 (MakeRoot 2), Edited 4) ∷ [])
+    ++ (written 2 1 0
+    ++ ((Begin 0, Refused NothingSafe) ∷ []
+    ++ (written 1 1 0
+    ++ (written 0 2 0
+    ++ ((Crash [], Mounted 3 29) ∷ [])))))
+
+-- a block that names one of a new type waits for block 0
+abbrev pub used_row : Row
+used_row =
+    ((start 0 3 [], Started 2 1)
+    ∷ (Client 0 (MakeRoot 2), Edited 2)
+    ∷ (Client 0 Drain, Drained 2)
+    ∷ (Install (chain_bytes 3), Installed 4 3 3 4)
+    ∷ (start 0 4 [], Started 4 5)
+    ∷ (edit 0 2 (patch 0 (4 ∷ 0 ∷ 0 ∷ 0 ∷ []) ((4, 4) ∷ []) [] None), Edited 6)
+    ∷ [])
+    ++ (written 4 1 0
+    ++ ((Begin 2, Refused NothingSafe)
+    ∷ (Client 0 Drain, Drained 3)
+    ∷ (Crash [], Mounted 5 27)
+    ∷ (Install (zeros 512), Refused BadTemplate)
+    ∷ []))
+
+-- a type is gone after a crash where block 0 is not written, and stays where it is
+abbrev pub gone_row : Row
+gone_row =
+    ((Install (chain_bytes 3), Installed 3 1 1 2) ∷ [])
+    ++ (written 1 1 0
+    ++ (((Crash [], Mounted 1 31)
+    ∷ (start 0 3 [], Refused BadType)
+    ∷ (Install (chain_bytes 4), Installed 3 1 1 2)
+    ∷ (start 0 3 [], Started 2 3)
+    ∷ (Client 0 (MakeRoot 2), Edited 4)
+    ∷ [])
+    ++ (written 1 1 0
+    ++ (written 0 1 0
+    ++ ((Crash [], Mounted 2 30) ∷ (start 0 3 [], Started 2 1) ∷ [])))))
+
+-- 16 templates and no more
+abbrev pub numbered_templates : ℕ → ℕ → Row
+numbered_templates zero n = []
+numbered_templates (suc k) n = (Install (chain_bytes 3), Installed (n + 3) (n + 1) (2 * n + 1) (2 * n + 2)) ∷ numbered_templates k (n + 1)
+
+abbrev pub full_row : Row
+full_row = numbered_templates 16 0 ++ ((Install (chain_bytes 3), Refused NoSlot) ∷ (start 0 19 [], Refused BadType) ∷ (start 0 18 [], Started 17 33) ∷ [])
+
+-- A subtree of an installed type is attached whole, and block 0 names the type and it in one write. That write is open, and a
+-- crash may keep it.
+abbrev pub subtree_row : Row
+subtree_row =
+    ((Install (chain_bytes 3), Installed 3 1 1 2)
+    ∷ (start 0 3 [], Started 2 3)
+    ∷ (start 0 3 [], Started 3 4)
+    ∷ (edit 0 2 (patch 0 (3 ∷ 0 ∷ 0 ∷ 0 ∷ []) ((3, 3) ∷ []) [] None), Edited 5)
+    ∷ (Client 0 (MakeRoot 2), Edited 6)
+    ∷ (Begin 0, Refused NothingSafe)
+    ∷ [])
+    ++ (written 1 1 0
+    ++ (written 3 1 0
+    ++ (written 2 1 0
+    ++ ((Begin 2, Refused NothingSafe)
+    ∷ (Begin 0, Begun 2)
+    ∷ (Land 0, Landed)
+    ∷ (Begin 2, Refused NothingSafe)
+    ∷ []))))
+
+abbrev pub subtree_kept_row : Row
+subtree_kept_row = subtree_row ++ ((Crash (0 ∷ []), Mounted 3 29) ∷ (Client 0 (Read 2), Bytes (block [])) ∷ (start 0 3 [], Started 3 1) ∷ [])
+
+abbrev pub subtree_lost_row : Row
+subtree_lost_row = subtree_row ++ ((Crash [], Mounted 1 31) ∷ (Client 0 (Read 2), Refused NotInUse) ∷ (start 0 3 [], Refused BadType) ∷ [])

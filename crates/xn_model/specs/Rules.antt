@@ -6,11 +6,13 @@
 use Rattle.std.specs.Prelude.{◌≡◌, ℕ, ◌<◌, ◌≤◌, ◌≢◌, List, [], ◌∷◌, ◌++◌, length, Option, Some, None, Contains, IsTrue, ◌⊎◌, ⊤, option_to_list, false}
 use Rattle.std.specs.List.{last_or}
 use Rattle.xn_model.specs.Types.{Types, fits}
-use Rattle.xn_model.specs.Root.{HasBuiltIns, header, marked, slot, templates_of}
+use Rattle.xn_model.specs.Root.{HasBuiltIns, has_type, KeepsPointers, marked, slot, templates_of, owned_by_root}
+use Rattle.xn_model.specs.Languages.{Language, Extends}
 use Rattle.xn_model.specs.Images.{block_of, Reach, HasOneOwner, IsDiskSize}
-use Rattle.xn_model.specs.Lives.{BlockState, Status, Fresh, Owned, Dropped, Life, Lives, StoreState, life_at, states, carried, newest, is_dropped, chain_end}
+use Rattle.xn_model.specs.Lives.{BlockState, Status, Fresh, Owned, Dropped, Life, Lives, StoreState, life_at, states, carried, newest, is_dropped, chain_end, root_on_disk}
+use Rattle.xn_model.specs.Calls.{types_of}
 use Rattle.xn_model.specs.Flights.{flight_of}
-use Rattle.xn_model.specs.Worlds.{World, MayLeave, given_at}
+use Rattle.xn_model.specs.Worlds.{World, MayLeave, given_at, types_now}
 
 -- The image against the lives
 
@@ -61,16 +63,15 @@ pub record IsInFileSystem (lives : Lives) (fs : Option ℕ) (c : ℕ) : Type 0 w
   pub alive : life_at lives c ≡ Some life
   pub same : life.fs ≡ fs
 
--- Block c is a template: of no file system, of type 1, with nothing pending.
+-- Block c is a template: of no file system, of type 1, with one state.
 pub record IsTemplate (T : Types) (lives : Lives) (c : ℕ) : Type 0 where
   pub life : Life
   pub alive : life_at lives c ≡ Some life
   pub nobody : life.fs ≡ None
   pub ty : life.ty ≡ 1
-  -- its one state, which is on the disk
+  -- its one state, on the disk or pending
   pub state : BlockState
-  pub durable : life.durable ≡ Some state
-  pub only : life.pending ≡ []
+  pub only : states life ≡ state ∷ []
   -- the bytes are a template's
   pub bytes : IsTrue (T.template state.bytes)
 
@@ -104,7 +105,19 @@ pub record IsOlder (lives : Lives) (c n : ℕ) : Type 0 where
   pub alive : life_at lives c ≡ Some life
   pub older : ((s : BlockState) × (life.durable ≡ Some s)) ⊎ ((t : BlockState) × Contains life.pending t × (t.entry < n))
 
+-- Block 0 has type u on the disk, or in a pending state whose number is below n.
+pub record IsOlderType (lives : Lives) (u n : ℕ) : Type 0 where
+  pub life : Life
+  pub alive : life_at lives 0 ≡ Some life
+  pub older : ((s : BlockState) × (life.durable ≡ Some s) × IsTrue (has_type s.bytes u)) ⊎ ((t : BlockState) × Contains life.pending t × (t.entry < n) × IsTrue (has_type t.bytes u))
+
 -- What the states of a life name
+
+-- Each state of block 0 keeps the catalogue's pointers, where they are not 0, of the one before.
+abbrev pub PointersStay : List BlockState → Type 0
+PointersStay [] = ⊤
+PointersStay (s ∷ []) = ⊤
+PointersStay (s ∷ t ∷ states) = KeepsPointers s.bytes t.bytes × PointersStay (t ∷ states)
 
 -- Block 0's life.
 pub record IsRootLife (T : Types) (lives : Lives) : Type 0 where
@@ -119,12 +132,15 @@ pub record IsRootLife (T : Types) (lives : Lives) : Type 0 where
   pub durable : life.durable ≡ Some state
   -- each of its states has the mark and the count of blocks
   pub mark : (s : BlockState) → Contains (states life) s → IsTrue (marked (length lives) s.bytes)
-  -- each has the same mark, count and catalogue
-  pub head : (s : BlockState) → Contains (states life) s → header s.bytes ≡ header state.bytes
+  -- each names the templates that the one before it names
+  pub pointers : PointersStay (states life)
   -- each is a block long
   pub long : (s : BlockState) → Contains (states life) s → length s.bytes ≡ 512
   -- what the catalogue names is a template
   pub templates : (s : BlockState) (c u : ℕ) → Contains (states life) s → Contains (templates_of s.bytes) (c, u) → IsTemplate T lives c
+  -- a state has the types of the blocks that it names, and the newest one has all types that there are
+  pub types : (s : BlockState) (c u : ℕ) → Contains (states life) s → Contains (owned_by_root s.bytes) (c, u) → IsTrue (has_type s.bytes u)
+  pub all_types : (s : BlockState) (t : ℕ) → newest life ≡ Some s → IsTrue (T.installed t) → IsTrue (has_type s.bytes t)
   -- what root slot i names is of file system i
   pub slots : (s : BlockState) (i c : ℕ) → Contains (states life) s → i < 32 → (slot s.bytes i).0 ≡ c → c ≢ 0 → IsInFileSystem lives (Some i) c
 
@@ -144,6 +160,8 @@ pub record IsSoundLife (T : Types) (lives : Lives) (b : ℕ) (l : Life) : Type 0
   pub same_system : (s : BlockState) (c u : ℕ) → b ≢ 0 → Contains (states l) s → Contains (T.owned l.ty s.bytes) (c, u) → IsInFileSystem lives l.fs c
   -- what the durable state or a begun one names has a state on the disk
   pub ready : (s : BlockState) (c u : ℕ) → Contains (option_to_list l.durable ++ carried l) s → Contains (T.owned l.ty s.bytes) (c, u) → IsOnDisk lives c
+  -- and its type stands in block 0 on the disk, unless this is block 0
+  pub typed : (s : BlockState) (c u : ℕ) → b ≢ 0 → Contains (option_to_list l.durable ++ carried l) s → Contains (T.owned l.ty s.bytes) (c, u) → IsTrue (has_type (root_on_disk lives) u)
   -- entry numbers rise
   pub rising : Rises (states l)
 
@@ -226,6 +244,8 @@ pub record WaitsForOlder (T : Types) (lives : Lives) : Type 0 where
   -- what a state adds it names, and that has a state on the disk or an older pending one
   pub adds : (b : ℕ) (l : Life) (s : BlockState) (c u : ℕ) → life_at lives b ≡ Some l → Contains l.pending s → Contains s.adds (c, u) →
       Contains (T.owned l.ty s.bytes) (c, u) × IsOlder lives c s.entry
+  -- and its type stands in block 0 on the disk or in an older pending state
+  pub types : (b : ℕ) (l : Life) (s : BlockState) (c u : ℕ) → life_at lives b ≡ Some l → Contains l.pending s → Contains s.adds (c, u) → IsOlderType lives u s.entry
   -- what a state drops has older pending states only
   pub drops : (b : ℕ) (l : Life) (s : BlockState) (c : ℕ) (m : Life) (t : BlockState) → life_at lives b ≡ Some l → Contains l.pending s → Contains s.drops c →
       life_at lives c ≡ Some m → Contains m.pending t → t.entry < s.entry
@@ -300,7 +320,7 @@ ArePlaced content lives = (b : ℕ) (l : Life) (s : BlockState) → life_at live
 -- The rules of a world.
 pub record Holds (w : World) : Type 0 where
   -- the state is consistent
-  pub state : IsConsistent w.types w.state
+  pub state : IsConsistent (types_now w) w.state
   -- the disk has a block for each place of the lives
   pub count : length w.image ≡ length w.state.lives
   pub settled_count : length w.settled ≡ length w.state.lives
@@ -312,10 +332,39 @@ pub record Holds (w : World) : Type 0 where
   -- a write is open only where one is under way, and was given its bytes
   pub unsynced : (b : ℕ) (bytes : List ℕ) → given_at w.given b ≡ Some bytes → (k : ℕ) × (flight_of (life_at w.state.lives b) ≡ Some (k, bytes))
 
--- What a call that writes no block leaves.
+-- The types that block 0 has on the disk it has there still.
+abbrev pub KeepsTypesThere : Lives → Lives → Type 0
+KeepsTypesThere old new = (t : ℕ) → IsTrue (has_type (root_on_disk old) t) → IsTrue (has_type (root_on_disk new) t)
+
+-- A type that there is and that block 0 has on the disk is there after it, and means the same.
+pub record IsKeptType (w w' : World) (t : ℕ) : Type 0 where
+  pub there : IsTrue (has_type (root_on_disk w'.state.lives) t)
+  pub installed : IsTrue ((types_now w').installed t)
+  pub owned : (types_now w').owned t ≡ (types_now w).owned t
+  pub size : (types_now w').size t ≡ (types_now w).size t
+
+abbrev pub KeepsType : World → World → ℕ → Type 0
+KeepsType w w' t = IsTrue (has_type (root_on_disk w.state.lives) t) → IsTrue ((types_now w).installed t) → IsKeptType w w' t
+
+-- What a call that writes no block and installs no template leaves.
 pub record Keeps (T : Types) (old new : StoreState) : Type 0 where
   -- the state is consistent
   pub consistent : IsConsistent T new
+  -- the types are the same
+  pub types : (L : Language) → types_of L new.lives ≡ types_of L old.lives
+  pub there : KeepsTypesThere old.lives new.lives
+  -- there are as many blocks
+  pub count : length new.lives ≡ length old.lives
+  -- a disk that fitted the lives fits them still
+  pub placed : (content : ℕ → List ℕ) → ArePlaced content old.lives → ArePlaced content new.lives
+
+-- What the installation of a template leaves, in a language.
+pub record Installs (L : Language) (old new : StoreState) : Type 0 where
+  -- the state is consistent under its new types
+  pub consistent : IsConsistent (types_of L new.lives) new
+  -- which are the old ones and more
+  pub types : Extends (types_of L old.lives) (types_of L new.lives)
+  pub there : KeepsTypesThere old.lives new.lives
   -- there are as many blocks
   pub count : length new.lives ≡ length old.lives
   -- a disk that fitted the lives fits them still

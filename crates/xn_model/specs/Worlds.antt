@@ -7,14 +7,16 @@ use Rattle.std.specs.Prelude.{◌≡◌, ◌<◌, ◌⊎◌, ⊤, ℕ, zero, suc
 use Rattle.std.specs.List.{list_any, range_with_len}
 use Rattle.xn_model.specs.Lists.{has_number}
 use Rattle.xn_model.specs.Types.{Types}
+use Rattle.xn_model.specs.Languages.{Language, types_in}
 use Rattle.xn_model.specs.Images.{block_of}
 use Rattle.xn_model.specs.Lives.{Life, Lives, StoreState, life_at, alive_and}
 use Rattle.xn_model.specs.Results.{Refusal, NoMemory, InFlight, NotSynced}
-use Rattle.xn_model.specs.Calls.{Edit, init_of, propose_of, make_root_of, drop_root_of, forget_of, read_of, root_of, kind_of, tainted_of, pending_of, floor_of, free_of, pick_of, begun_of, settled_of, life_pending, bytes_at}
+use Rattle.xn_model.specs.Calls.{Edit, init_of, propose_of, make_root_of, drop_root_of, install_of, types_of, forget_of, read_of, root_of, kind_of, tainted_of, pending_of, floor_of, free_of, pick_of, begun_of, settled_of, life_pending, bytes_at}
 use Rattle.xn_model.specs.Mounts.{recovered, IsRecovered}
 
 pub record World : Type 0 where
-  pub types : Types
+  -- what blocks say as templates
+  pub language : Language
   -- the newest bytes of each block on the disk, which a read gives
   pub image : List (List ℕ)
   -- its settled bytes: those that its last good sync found
@@ -23,6 +25,16 @@ pub record World : Type 0 where
   pub given : List (Option (List ℕ))
   pub state : StoreState
   pub down : Bool
+
+-- the types of its lives, those of an image's own catalogue, and those of the newest image's
+abbrev pub types_now : World → Types
+types_now w = types_of w.language w.state.lives
+
+abbrev pub types_on : World → List (List ℕ) → Types
+types_on w image = types_in w.language (block_of image)
+
+abbrev pub types_there : World → Types
+types_there w = types_on w w.image
 
 -- What a crash leaves
 
@@ -62,6 +74,7 @@ pub data Call : Type 0 where
 
 pub data Event : Type 0 where
   Client : (fs : ℕ) → Call → Event
+  Install : (bytes : List ℕ) → Event
   Begin : (block : ℕ) → Event
   Land : (block : ℕ) → Event
   Fail : (block : ℕ) → (stays : Bool) → Event
@@ -73,6 +86,7 @@ pub data Event : Type 0 where
 pub data Reply : Type 0 where
   Started : (block : ℕ) → (entry : ℕ) → Reply
   Edited : (entry : ℕ) → Reply
+  Installed : (ty : ℕ) → (block : ℕ) → (first : ℕ) → (second : ℕ) → Reply
   Forgotten : Reply
   Bytes : List ℕ → Reply
   RootIs : Option ℕ → Reply
@@ -175,11 +189,11 @@ drain w = cond (list_any (alive_and (λ l. is_some l.begun)) w.state.lives) (Ref
 -- Calls
 
 abbrev pub call : World → ℕ → Call → Reply × World
-call w fs (Init t m) = reply_and_world (λ made. Started made.0 made.1) w (init_of w.types w.state fs t m)
-call w fs (Propose b e) = reply_and_world Edited w (propose_of w.types w.state fs b e)
+call w fs (Init t m) = reply_and_world (λ made. Started made.0 made.1) w (init_of (types_now w) w.state fs t m)
+call w fs (Propose b e) = reply_and_world Edited w (propose_of (types_now w) w.state fs b e)
 call w fs (MakeRoot b) = reply_and_world Edited w (make_root_of w.state fs b)
-call w fs DropRoot = reply_and_world Edited w (drop_root_of w.types w.state fs)
-call w fs (Forget b) = reply_and_world (λ done. Forgotten) w (forget_of w.types w.state fs b)
+call w fs DropRoot = reply_and_world Edited w (drop_root_of (types_now w) w.state fs)
+call w fs (Forget b) = reply_and_world (λ done. Forgotten) w (forget_of (types_now w) w.state fs b)
 call w fs (Read b) = (reply_alone Bytes (read_of w.state fs b), w)
 call w fs Root = (RootIs (root_of w.state fs), w)
 call w fs (Kind b) = (reply_alone KindIs (kind_of w.state fs b), w)
@@ -189,6 +203,11 @@ call w fs Floor = (FloorIs (floor_of w.state fs), w)
 call w fs FreeCount = (FreeIs (free_of w.state), w)
 call w fs Pick = (Picked (pick_of w.state), w)
 call w fs Drain = drain w
+
+-- A template
+
+abbrev pub install : World → List ℕ → Reply × World
+install w m = reply_and_world (λ made. Installed made.0 made.1 made.2 (made.2 + 1)) w (install_of w.language w.state m)
 
 -- A mount
 
@@ -209,12 +228,13 @@ abbrev pub crashed : World → List ℕ → World
 crashed w kept = record w { image = left w kept }
 
 abbrev pub crash : World → List ℕ → Reply × World
-crash w kept = let lives = recovered w.types (left w kept) in (mount_reply lives, mounted (crashed w kept) lives)
+crash w kept = let lives = recovered (types_on w (left w kept)) (left w kept) in (mount_reply lives, mounted (crashed w kept) lives)
 
 -- What each event does
 
 abbrev pub act_up : World → Event → Reply × World
 act_up w (Client fs c) = call w fs c
+act_up w (Install m) = install w m
 act_up w (Begin b) = begin w b
 act_up w (Land b) = land w b
 act_up w (Fail b stays) = fail w b stays
@@ -225,6 +245,7 @@ act_up w (Crash kept) = crash w kept
 
 abbrev pub is_crash : Event → Bool
 is_crash (Client fs c) = false
+is_crash (Install m) = false
 is_crash (Begin b) = false
 is_crash (Land b) = false
 is_crash (Fail b stays) = false
@@ -246,12 +267,13 @@ world_after w (e ∷ es) = world_after (act w e).1 es
 
 -- What may happen
 
--- calls that ask for memory
+-- events that ask for memory
 abbrev pub asks_memory : Event → Bool
 asks_memory (Client fs (Init t m)) = true
 asks_memory (Client fs (Propose b e)) = true
 asks_memory (Client fs (MakeRoot b)) = true
 asks_memory (Client fs DropRoot) = true
+asks_memory (Install m) = true
 asks_memory _ = false
 
 abbrev pub is_refusal : Reply → Bool
@@ -260,7 +282,7 @@ is_refusal _ = false
 
 -- A mount of the image that is left, or the world is down till the next.
 abbrev pub AfterCrash : World → List ℕ → Reply → World → Type 0
-AfterCrash w kept r w' = (lives : Lives) × IsRecovered w.types (left w kept) lives
+AfterCrash w kept r w' = (lives : Lives) × IsRecovered (types_on w (left w kept)) (left w kept) lives
     × (((r ≡ mount_reply lives) × (w' ≡ mounted (crashed w kept) lives)) ⊎ ((r ≡ Down) × (w' ≡ record (mounted (crashed w kept) lives) { down = true })))
 
 -- What act gives, or a growth that is refused last of all.
@@ -273,9 +295,10 @@ abbrev pub Step : World → Event → Reply → World → Type 0
 Step w (Crash kept) r w' = AfterCrash w kept r w'
 Step w e r w' = AfterCall w e r w'
 
--- a file system has one of 32 root slots
+-- a file system has one of 32 root slots, and a template is a block
 abbrev pub IsEvent : Event → Type 0
 IsEvent (Client fs c) = fs < 32
+IsEvent (Install m) = length m ≡ 512
 IsEvent _ = ⊤
 
 abbrev pub Run : World → List Event → List Reply → World → Type 0

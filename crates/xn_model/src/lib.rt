@@ -1,20 +1,21 @@
 //! The abstract model of a block store with soft updates, and its laws.
 #![tactic(auto)]
 
-ghost use Rattle.std.specs.Prelude.{◌≡◌, ◌≤◌, ◌<◌, ◌⊎◌, ℕ, List, Option, length, slice_get, slice_set, Some, None, Ok, All, Contains, IsSome, ◌*◌};
+ghost use Rattle.std.specs.Prelude.{◌≡◌, ◌≢◌, ◌≤◌, ◌<◌, ◌⊎◌, ℕ, List, Option, length, slice_get, slice_set, Some, None, Ok, All, Contains, IsSome, IsTrue, ◌*◌, false};
 ghost use Rattle.std.specs.List.{AllByRecursion};
 ghost use Rattle.xn_model.specs.Types.{Types};
-ghost use Rattle.xn_model.specs.Root.{HasBuiltIns};
-ghost use Rattle.xn_model.specs.Images.{IsSound, IsDiskSize, block_of, blocks_in, joined};
-ghost use Rattle.xn_model.specs.Lives.{Lives, Life, StoreState, BlockState, life_at, floor, entries_of};
-ghost use Rattle.xn_model.specs.Calls.{Edit, init_of, propose_of, make_root_of, drop_root_of, forget_of, begun_of, settled_of, pick_of, pending_of};
+ghost use Rattle.xn_model.specs.Languages.{Language, Extends, types_in, template_of};
+ghost use Rattle.xn_model.specs.Root.{HasBuiltIns, has_type};
+ghost use Rattle.xn_model.specs.Images.{IsSound, IsDiskSize, Reach, block_of, blocks_in, joined};
+ghost use Rattle.xn_model.specs.Lives.{Lives, Life, StoreState, BlockState, life_at, floor, entries_of, root_on_disk};
+ghost use Rattle.xn_model.specs.Calls.{Edit, init_of, propose_of, make_root_of, drop_root_of, install_of, latest, types_of, forget_of, begun_of, settled_of, pick_of, pending_of};
 ghost use Rattle.xn_model.specs.Mounts.{recovered, IsRecovered};
-ghost use Rattle.xn_model.specs.Worlds.{World, Event, Reply, Drained, Crash, replies, world_after, mounted, none_given, drain, all_pending, IsEvent, Step, Run, MayLeave, given_at, left};
+ghost use Rattle.xn_model.specs.Worlds.{World, types_now, types_on, types_there, Event, Reply, Drained, Crash, replies, world_after, mounted, none_given, drain, all_pending, is_crash, IsEvent, Step, Run, MayLeave, given_at, left};
 ghost use Rattle.xn_model.specs.Lanes.{FitLives, HoldImage};
 ghost use Rattle.xn_model.specs.Flights.{flight_of, HaveSameFlights, HaveSameFlightsBut};
-ghost use Rattle.xn_model.specs.BareDisks.{built_ins, bare_disk, mounted_disk};
-ghost use Rattle.xn_model.specs.Rules.{IsConsistent, Keeps, Holds, IsIdle, IsPlaced, ArePlaced, Agrees};
-ghost use Rattle.xn_model.specs.Rows.{sent, answered, library, library_disk, first_row, dropped_row, landed_row, lost_row, open_lost_row, open_kept_row, synced_row, failed_sync_row, failed_kept_row, failed_new_row, failed_old_row, many_row, refused_row, after_row, drained_row, rolled_back_row, claimed_row, attached_row, chain, chain_disk, cycle_row};
+ghost use Rattle.xn_model.specs.BareDisks.{no_templates, bare_disk, mounted_disk};
+ghost use Rattle.xn_model.specs.Rules.{IsConsistent, IsKeptType, KeepsType, Keeps, Installs, Holds, IsIdle, IsPlaced, ArePlaced, Agrees};
+ghost use Rattle.xn_model.specs.Rows.{sent, answered, library, library_disk, first_row, dropped_row, landed_row, lost_row, open_lost_row, open_kept_row, synced_row, failed_sync_row, failed_kept_row, failed_new_row, failed_old_row, many_row, refused_row, after_row, drained_row, rolled_back_row, claimed_row, attached_row, chains, chain_disk, cycle_row, installed_row, used_row, gone_row, full_row, subtree_kept_row, subtree_lost_row};
 
 mod refusal;
 mod status;
@@ -23,21 +24,29 @@ pub use refusal::Refusal;
 pub use status::Status;
 
 /// Where the rules hold, for all contents that have the durable or the begun state in each block
-/// with a durable one: each reached block holds a state of its life, from the durable one to the
-/// begun one, and has one owner.
+/// with a durable one: each block that is reached under the types of their own catalogue holds a
+/// state of its life, from the durable one to the begun one, and has one owner.
 pub fn agreement()
-    ensures { (T : Types) (state : StoreState) (content : ℕ → List ℕ) → IsConsistent T state → ArePlaced content state.lives →
-        Agrees T (length state.lives) content state.lives }
+    ensures { (L : Language) (state : StoreState) (content : ℕ → List ℕ) → IsConsistent (types_of L state.lives) state → ArePlaced content state.lives →
+        Agrees (types_in L content) (length state.lives) content state.lives }
+{}
+
+/// The same blocks are reached under the types of the lives, which may be more.
+pub fn same_reach()
+    ensures now { (L : Language) (state : StoreState) (content : ℕ → List ℕ) (c u : ℕ) → IsConsistent (types_of L state.lives) state → ArePlaced content state.lives →
+        Reach (types_in L content) (length state.lives) content c u → Reach (types_of L state.lives) (length state.lives) content c u }
+    ensures there { (L : Language) (state : StoreState) (content : ℕ → List ℕ) (c u : ℕ) → IsConsistent (types_of L state.lives) state → ArePlaced content state.lives →
+        Reach (types_of L state.lives) (length state.lives) content c u → Reach (types_in L content) (length state.lives) content c u }
 {}
 
 /// And a crash that leaves such contents meets a sound image.
 pub fn soundness()
-    ensures { (T : Types) (state : StoreState) (content : ℕ → List ℕ) → IsConsistent T state → ArePlaced content state.lives →
-        IsSound T (length state.lives) content }
+    ensures { (L : Language) (state : StoreState) (content : ℕ → List ℕ) → IsConsistent (types_of L state.lives) state → ArePlaced content state.lives →
+        IsSound (types_in L content) (length state.lives) content }
 {}
 
-/// A client's call that is done keeps the state consistent, and a disk that fitted it fits on; so
-/// does the begin of a write.
+/// A client's call that is done keeps the state consistent and its types as they are, and a disk that
+/// fitted it fits on; so does the begin of a write.
 pub fn init_keeps()
     ensures { (T : Types) (state new : StoreState) (fs ty : ℕ) (bytes : List ℕ) (made : ℕ × ℕ) → IsConsistent T state → init_of T state fs ty bytes ≡ Ok (made, new) → Keeps T state new }
 {}
@@ -58,6 +67,21 @@ pub fn forget_keeps()
     ensures { (T : Types) (state new : StoreState) (fs block : ℕ) (done : Unit {0}) → IsConsistent T state → forget_of T state fs block ≡ Ok (done, new) → Keeps T state new }
 {}
 
+/// An installed template keeps the state consistent under the types that it has then, which are the
+/// old ones and one more.
+pub fn install_keeps()
+    ensures { (L : Language) (state new : StoreState) (bytes : List ℕ) (made : ℕ × ℕ × ℕ) → IsConsistent (types_of L state.lives) state → length bytes ≡ 512 →
+        install_of L state bytes ≡ Ok (made, new) → Installs L state new }
+{}
+
+/// The new type means what its template says, and every other type what it meant, or nothing still.
+pub fn installed_types()
+    ensures own { (L : Language) (state new : StoreState) (bytes : List ℕ) (made : ℕ × ℕ × ℕ) → IsConsistent (types_of L state.lives) state → length bytes ≡ 512 →
+        install_of L state bytes ≡ Ok (made, new) → template_of L (latest new.lives) made.0 ≡ L bytes }
+    ensures others { (L : Language) (state new : StoreState) (bytes : List ℕ) (made : ℕ × ℕ × ℕ) (t : ℕ) → IsConsistent (types_of L state.lives) state → length bytes ≡ 512 →
+        install_of L state bytes ≡ Ok (made, new) → t ≢ made.0 → template_of L (latest new.lives) t ≡ template_of L (latest state.lives) t }
+{}
+
 pub fn begun_keeps()
     ensures { (T : Types) (state new : StoreState) (block : ℕ) (begun : List ℕ × ℕ) → IsConsistent T state → begun_of state block ≡ Ok (begun, new) → Keeps T state new }
 {}
@@ -66,6 +90,8 @@ pub fn begun_keeps()
 pub fn settled_keeps()
     ensures state { (T : Types) (state new : StoreState) (block : ℕ) (bytes : List ℕ) (done : ℕ × ℕ) → IsConsistent T state →
         settled_of state block bytes ≡ Ok (done, new) → IsConsistent T new × (length new.lives ≡ length state.lives) }
+    ensures types { (L : Language) (T : Types) (state new : StoreState) (block : ℕ) (bytes : List ℕ) (done : ℕ × ℕ) → IsConsistent T state →
+        settled_of state block bytes ≡ Ok (done, new) → types_of L new.lives ≡ types_of L state.lives }
     ensures placed { (T : Types) (state new : StoreState) (block : ℕ) (bytes : List ℕ) (done : ℕ × ℕ) (content : ℕ → List ℕ) → IsConsistent T state →
         settled_of state block bytes ≡ Ok (done, new) → ArePlaced content state.lives → content block ≡ bytes → ArePlaced content new.lives }
 {}
@@ -80,6 +106,8 @@ pub fn lanes_kept<L>()
         make_root_of state fs block ≡ Ok (entry, new) → FitLives read lanes state.lives → FitLives read lanes new.lives }
     ensures drop_root { (read : L → List ℕ) (lanes : List (Option L)) (T : Types) (state new : StoreState) (fs entry : ℕ) →
         drop_root_of T state fs ≡ Ok (entry, new) → FitLives read lanes state.lives → FitLives read lanes new.lives }
+    ensures install { (read : L → List ℕ) (lanes : List (Option L)) (language : Language) (state new : StoreState) (bytes : List ℕ) (made : ℕ × ℕ × ℕ) →
+        install_of language state bytes ≡ Ok (made, new) → FitLives read lanes state.lives → FitLives read lanes new.lives }
     ensures forget { (read : L → List ℕ) (lanes : List (Option L)) (T : Types) (state new : StoreState) (fs block : ℕ) (done : Unit {0}) →
         forget_of T state fs block ≡ Ok (done, new) → FitLives read lanes state.lives → FitLives read lanes new.lives }
 {}
@@ -124,6 +152,8 @@ pub fn flights_kept()
         make_root_of state fs block ≡ Ok (entry, new) → HaveSameFlights state.lives new.lives }
     ensures drop_root { (T : Types) (state new : StoreState) (fs entry : ℕ) → IsConsistent T state →
         drop_root_of T state fs ≡ Ok (entry, new) → HaveSameFlights state.lives new.lives }
+    ensures install { (L : Language) (state new : StoreState) (bytes : List ℕ) (made : ℕ × ℕ × ℕ) → IsConsistent (types_of L state.lives) state → length bytes ≡ 512 →
+        install_of L state bytes ≡ Ok (made, new) → HaveSameFlights state.lives new.lives }
     ensures forget { (T : Types) (state new : StoreState) (fs block : ℕ) (done : Unit {0}) →
         forget_of T state fs block ≡ Ok (done, new) → HaveSameFlights state.lives new.lives }
 {}
@@ -147,6 +177,20 @@ pub fn step_keeps()
     ensures { (w : World) (e : Event) (r : Reply) (after : World) → IsEvent e → Holds w → Step w e r after → Holds after }
 {}
 
+/// Until the next crash all types stay as they are, and more may come. A mount has those of the image.
+pub fn types_grow()
+    ensures step { (w : World) (e : Event) (r : Reply) (after : World) → IsEvent e → is_crash e ≡ false → Holds w → Step w e r after → Extends (types_now w) (types_now after) }
+    ensures mount { (w : World) (lives : Lives) → IsSound (types_there w) (length w.image) (block_of w.image) → IsRecovered (types_there w) w.image lives →
+        types_now (mounted w lives) ≡ types_there w }
+{}
+
+/// A type that block 0 has on the disk stays, over crashes too. One that it has there after an event means what it meant before, if it was there.
+pub fn types_stay()
+    ensures stay { (w : World) (e : Event) (r : Reply) (after : World) → IsEvent e → Holds w → Step w e r after → (t : ℕ) → KeepsType w after t }
+    ensures same { (w : World) (e : Event) (r : Reply) (after : World) → IsEvent e → Holds w → Step w e r after → (t : ℕ) →
+        IsTrue (has_type (root_on_disk after.state.lives) t) → IsTrue ((types_now w).installed t) → IsKeptType w after t }
+{}
+
 /// The blocks of an image are read back from its bytes.
 pub fn blocks_are_read()
     ensures blocks { (blocks : List (List ℕ)) → All (λ block. length block ≡ 512) blocks → blocks_in (joined blocks) ≡ blocks }
@@ -157,8 +201,8 @@ pub fn blocks_are_read()
 /// of them, and so is what a crash leaves that keeps some open writes and no others. A block whose write isn't
 /// under way has no open write, and its settled bytes are its newest.
 pub fn left_images()
-    ensures agrees { (w : World) (image : List (List ℕ)) → Holds w → MayLeave w image → Agrees w.types (length image) (block_of image) w.state.lives }
-    ensures sound { (w : World) (image : List (List ℕ)) → Holds w → MayLeave w image → IsSound w.types (length image) (block_of image) }
+    ensures agrees { (w : World) (image : List (List ℕ)) → Holds w → MayLeave w image → Agrees (types_on w image) (length image) (block_of image) w.state.lives }
+    ensures sound { (w : World) (image : List (List ℕ)) → Holds w → MayLeave w image → IsSound (types_on w image) (length image) (block_of image) }
     ensures newest { (w : World) → Holds w → MayLeave w w.image }
     ensures kept { (w : World) (kept : List ℕ) → Holds w → MayLeave w (left w kept) }
     ensures idle { (w : World) (b : ℕ) → Holds w → flight_of (life_at w.state.lives b) ≡ None →
@@ -168,29 +212,29 @@ pub fn left_images()
 /// After a crash the disk is what it left, with no write open and the lives that are read off it.
 pub fn crash_mounts()
     ensures { (w : World) (kept : List ℕ) (r : Reply) (after : World) → Step w (Crash kept) r after → (after.image ≡ left w kept)
-        × (after.settled ≡ after.image) × (after.given ≡ none_given after.image) × IsRecovered after.types after.image after.state.lives }
+        × (after.settled ≡ after.image) × (after.given ≡ none_given after.image) × IsRecovered (types_there after) after.image after.state.lives }
 {}
 
 /// A mount of a sound image begins with the rules.
 pub fn mount_holds()
-    ensures { (w : World) (lives : Lives) → HasBuiltIns w.types → IsSound w.types (length w.image) (block_of w.image) →
-        IsRecovered w.types w.image lives → Holds (mounted w lives) }
+    ensures { (w : World) (lives : Lives) → IsSound (types_there w) (length w.image) (block_of w.image) →
+        IsRecovered (types_there w) w.image lives → Holds (mounted w lives) }
 {}
 
 /// After every run from a mount of a sound image the rules hold, and every image that a crash may leave,
 /// as the newest one, agrees with the lives and is sound.
 pub fn every_run()
-    ensures holds { (w : World) (lives : Lives) (es : List Event) (rs : List Reply) (after : World) → HasBuiltIns w.types →
-        IsSound w.types (length w.image) (block_of w.image) → IsRecovered w.types w.image lives → AllByRecursion IsEvent es →
+    ensures holds { (w : World) (lives : Lives) (es : List Event) (rs : List Reply) (after : World) →
+        IsSound (types_there w) (length w.image) (block_of w.image) → IsRecovered (types_there w) w.image lives → AllByRecursion IsEvent es →
         Run (mounted w lives) es rs after → Holds after }
-    ensures agrees { (w : World) (lives : Lives) (es : List Event) (rs : List Reply) (after : World) → HasBuiltIns w.types →
-        IsSound w.types (length w.image) (block_of w.image) → IsRecovered w.types w.image lives → AllByRecursion IsEvent es →
-        Run (mounted w lives) es rs after → (image : List (List ℕ)) → MayLeave after image → Agrees after.types (length image) (block_of image) after.state.lives }
-    ensures sound { (w : World) (lives : Lives) (es : List Event) (rs : List Reply) (after : World) → HasBuiltIns w.types →
-        IsSound w.types (length w.image) (block_of w.image) → IsRecovered w.types w.image lives → AllByRecursion IsEvent es →
-        Run (mounted w lives) es rs after → (image : List (List ℕ)) → MayLeave after image → IsSound after.types (length image) (block_of image) }
-    ensures newest { (w : World) (lives : Lives) (es : List Event) (rs : List Reply) (after : World) → HasBuiltIns w.types →
-        IsSound w.types (length w.image) (block_of w.image) → IsRecovered w.types w.image lives → AllByRecursion IsEvent es →
+    ensures agrees { (w : World) (lives : Lives) (es : List Event) (rs : List Reply) (after : World) →
+        IsSound (types_there w) (length w.image) (block_of w.image) → IsRecovered (types_there w) w.image lives → AllByRecursion IsEvent es →
+        Run (mounted w lives) es rs after → (image : List (List ℕ)) → MayLeave after image → Agrees (types_on after image) (length image) (block_of image) after.state.lives }
+    ensures sound { (w : World) (lives : Lives) (es : List Event) (rs : List Reply) (after : World) →
+        IsSound (types_there w) (length w.image) (block_of w.image) → IsRecovered (types_there w) w.image lives → AllByRecursion IsEvent es →
+        Run (mounted w lives) es rs after → (image : List (List ℕ)) → MayLeave after image → IsSound (types_on after image) (length image) (block_of image) }
+    ensures newest { (w : World) (lives : Lives) (es : List Event) (rs : List Reply) (after : World) →
+        IsSound (types_there w) (length w.image) (block_of w.image) → IsRecovered (types_there w) w.image lives → AllByRecursion IsEvent es →
         Run (mounted w lives) es rs after → MayLeave after after.image }
 {}
 
@@ -228,25 +272,31 @@ pub fn acts_run()
     ensures { (w : World) (es : List Event) → Holds w → AllByRecursion IsEvent es → Run w es (replies w es) (world_after w es) }
 {}
 
-/// Rows of commands on a disk with the built-in types, with their replies.
+/// Rows of commands on small disks, with their replies.
 pub fn rows()
-    ensures first { replies (mounted_disk built_ins (bare_disk 32)) (sent first_row) ≡ answered first_row }
-    ensures dropped { replies (mounted_disk built_ins (bare_disk 32)) (sent dropped_row) ≡ answered dropped_row }
-    ensures landed { replies (mounted_disk built_ins (bare_disk 32)) (sent landed_row) ≡ answered landed_row }
-    ensures lost { replies (mounted_disk built_ins (bare_disk 32)) (sent lost_row) ≡ answered lost_row }
-    ensures open_lost { replies (mounted_disk built_ins (bare_disk 32)) (sent open_lost_row) ≡ answered open_lost_row }
-    ensures open_kept { replies (mounted_disk built_ins (bare_disk 32)) (sent open_kept_row) ≡ answered open_kept_row }
-    ensures synced { replies (mounted_disk built_ins (bare_disk 32)) (sent synced_row) ≡ answered synced_row }
-    ensures failed_sync { replies (mounted_disk built_ins (bare_disk 32)) (sent failed_sync_row) ≡ answered failed_sync_row }
-    ensures failed_kept { replies (mounted_disk built_ins (bare_disk 32)) (sent failed_kept_row) ≡ answered failed_kept_row }
-    ensures failed_new { replies (mounted_disk built_ins (bare_disk 32)) (sent failed_new_row) ≡ answered failed_new_row }
-    ensures failed_old { replies (mounted_disk built_ins (bare_disk 32)) (sent failed_old_row) ≡ answered failed_old_row }
-    ensures many { replies (mounted_disk built_ins (bare_disk 32)) (sent many_row) ≡ answered many_row }
-    ensures refused { replies (mounted_disk built_ins (bare_disk 32)) (sent refused_row) ≡ answered refused_row }
-    ensures after { replies (mounted_disk built_ins (bare_disk 32)) (sent after_row) ≡ answered after_row }
-    ensures drained { replies (mounted_disk built_ins (bare_disk 32)) (sent drained_row) ≡ answered drained_row }
+    ensures first { replies (mounted_disk no_templates (bare_disk 32)) (sent first_row) ≡ answered first_row }
+    ensures dropped { replies (mounted_disk no_templates (bare_disk 32)) (sent dropped_row) ≡ answered dropped_row }
+    ensures landed { replies (mounted_disk no_templates (bare_disk 32)) (sent landed_row) ≡ answered landed_row }
+    ensures lost { replies (mounted_disk no_templates (bare_disk 32)) (sent lost_row) ≡ answered lost_row }
+    ensures open_lost { replies (mounted_disk no_templates (bare_disk 32)) (sent open_lost_row) ≡ answered open_lost_row }
+    ensures open_kept { replies (mounted_disk no_templates (bare_disk 32)) (sent open_kept_row) ≡ answered open_kept_row }
+    ensures synced { replies (mounted_disk no_templates (bare_disk 32)) (sent synced_row) ≡ answered synced_row }
+    ensures failed_sync { replies (mounted_disk no_templates (bare_disk 32)) (sent failed_sync_row) ≡ answered failed_sync_row }
+    ensures failed_kept { replies (mounted_disk no_templates (bare_disk 32)) (sent failed_kept_row) ≡ answered failed_kept_row }
+    ensures failed_new { replies (mounted_disk no_templates (bare_disk 32)) (sent failed_new_row) ≡ answered failed_new_row }
+    ensures failed_old { replies (mounted_disk no_templates (bare_disk 32)) (sent failed_old_row) ≡ answered failed_old_row }
+    ensures many { replies (mounted_disk no_templates (bare_disk 32)) (sent many_row) ≡ answered many_row }
+    ensures refused { replies (mounted_disk no_templates (bare_disk 32)) (sent refused_row) ≡ answered refused_row }
+    ensures after { replies (mounted_disk no_templates (bare_disk 32)) (sent after_row) ≡ answered after_row }
+    ensures drained { replies (mounted_disk no_templates (bare_disk 32)) (sent drained_row) ≡ answered drained_row }
     ensures rolled_back { replies (mounted_disk library (library_disk 32)) (sent rolled_back_row) ≡ answered rolled_back_row }
     ensures claimed { replies (mounted_disk library (library_disk 32)) (sent claimed_row) ≡ answered claimed_row }
     ensures attached { replies (mounted_disk library (library_disk 32)) (sent attached_row) ≡ answered attached_row }
-    ensures cycle { replies (mounted_disk chain (chain_disk 32)) (sent cycle_row) ≡ answered cycle_row }
+    ensures cycle { replies (mounted_disk chains (chain_disk 3 32)) (sent cycle_row) ≡ answered cycle_row }
+    ensures installed { replies (mounted_disk chains (bare_disk 32)) (sent installed_row) ≡ answered installed_row }
+    ensures used { replies (mounted_disk chains (chain_disk 4 32)) (sent used_row) ≡ answered used_row }
+    ensures gone { replies (mounted_disk chains (bare_disk 32)) (sent gone_row) ≡ answered gone_row }
+    ensures full { replies (mounted_disk chains (bare_disk 32)) (sent full_row) ≡ answered full_row }
+    ensures subtree_kept { replies (mounted_disk chains (bare_disk 32)) (sent subtree_kept_row) ≡ answered subtree_kept_row }
+    ensures subtree_lost { replies (mounted_disk chains (bare_disk 32)) (sent subtree_lost_row) ≡ answered subtree_lost_row }
 {}

@@ -52,6 +52,10 @@ pub enum Refusal {
     Cycle,
     /// The block was written, well or not, after its last good sync.
     NotSynced,
+    /// The catalogue has 16 templates.
+    NoSlot,
+    /// The bytes are no template's block.
+    BadTemplate,
 }
 
 impl Refusal {
@@ -85,6 +89,8 @@ impl Refusal {
             Refusal::Exhausted => "21 Exhausted",
             Refusal::Cycle => "22 Cycle",
             Refusal::NotSynced => "23 NotSynced",
+            Refusal::NoSlot => "24 NoSlot",
+            Refusal::BadTemplate => "25 BadTemplate",
         }
     }
 }

@@ -1,6 +1,6 @@
 -- What is counted of lives, where one of them changes.
 use Rattle.std.proofs.Common.{◌≡◌, ℕ, zero, suc, ◌+◌, ◌<◌, Bool, true, false, cond, not, List, [], ◌∷◌, length, map, take, get_or, Option, Some, None, refl, sym, ◌∙◌, ap, arith, inl, inr, slice_get}
-use Rattle.std.specs.Prelude.{sum_by, count_by, position, unwrap_or, slice_set, slice_index, slice_index_or, is_none, is_some, IsTrue, nat_lt, option_map, ◌==◌}
+use Rattle.std.specs.Prelude.{IfSome, sum_by, count_by, position, unwrap_or, slice_set, slice_index, slice_index_or, is_none, is_some, IsTrue, nat_lt, option_map, ◌==◌}
 use Rattle.std.specs.List.{sum, position_or_len}
 use Rattle.std.proofs.Math.Seq.{map-set_same}
 use Rattle.std.proofs.lemmas.Bool.{cases_eq, eq-eqb, ne_eqb, false≢true}
@@ -16,7 +16,11 @@ use Rattle.xn_model.proofs.ForCallers.{place_from}
 use Rattle.block_set.specs.Members.{is_member}
 pub use Rattle.dependencies.proofs.ForCallers.{counted, counts_for, place_is}
 use Rattle.xn_state.specs.Kept.{IsCounted}
-use Rattle.xn_state.specs.Counts.{given}
+use Rattle.edit_list.specs.declared.fs.Fs.{Fs}
+use Rattle.block_cache.specs.Systems.{system_of}
+use Rattle.dependencies.specs.Oldest.{AreOldest}
+use Rattle.dependencies.proofs.ForCallers.{accepted_nobody, accepted_oldest, started_nobody, started_oldest}
+use Rattle.xn_state.specs.Counts.{counted_for, given, noted_for}
 
 -- Which blocks are free
 
@@ -135,8 +139,13 @@ one_more pending f fs within = elim (cases_eq fs f) [
       omega (arith, same, none)
 ]
 
-started_more : (fs : ℕ) (lives : Lives) (b n f ty : ℕ) (bytes : List ℕ) → b < length lives → life_at lives b ≡ None →
-    counted fs (slice_set lives b (Some (new_life n f ty bytes))) ≡ counted fs lives + cond (f == fs) 1 0
+-- or for none
+pub counted_more : (pending : List ℕ) (f : Option ℕ) (fs : ℕ) → IfSome f (λ x. x < length pending) → slice_index (counted_for f pending) fs ≡ slice_index pending fs + cond (is_for fs f) 1 0
+counted_more pending None fs within = omega arith
+counted_more pending (Some f) fs within = one_more pending f fs within
+
+started_more : (fs : ℕ) (lives : Lives) (b n : ℕ) (f : Option ℕ) (ty : ℕ) (bytes : List ℕ) → b < length lives → life_at lives b ≡ None →
+    counted fs (slice_set lives b (Some (new_life n f ty bytes))) ≡ counted fs lives + cond (is_for fs f) 1 0
 started_more fs lives b n f ty bytes within free =
     let moved = sum_by-set (pending_in fs) lives b (Some (new_life n f ty bytes)) None within in
     let before = ap (pending_in fs) (sym free ∙ place_is lives b) in
@@ -152,14 +161,14 @@ least_is_free lives b lowest =
     none_of None f = refl
     none_of (Some l) f = absurd (false≢true f)
 
-pub started_counted : (lives : Lives) (free : List Bool) (pending : List ℕ) (b n f ty : ℕ) (bytes : List ℕ) → IsCounted lives free pending → f < length pending → slice_get lives b ≡ Some None →
-    IsCounted (slice_set lives b (Some (new_life n f ty bytes))) (slice_set free b false) (slice_set pending f (slice_index_or pending f 0 + 1))
+pub started_counted : (lives : Lives) (free : List Bool) (pending : List ℕ) (b n : ℕ) (f : Option ℕ) (ty : ℕ) (bytes : List ℕ) → IsCounted lives free pending → IfSome f (λ x. x < length pending) → slice_get lives b ≡ Some None →
+    IsCounted (slice_set lives b (Some (new_life n f ty bytes))) (slice_set free b false) (counted_for f pending)
 started_counted lives free pending b n f ty bytes h few none =
     let within = slice_get_within lives b None none in
     let empty = ap (λ o. unwrap_or o None) none in
     record {
       marked = ap (λ ts. slice_set ts b false) h.marked ∙ sym (marks-set lives b (Some (new_life n f ty bytes)));
-      counts = λ fs low. one_more pending f fs few ∙ (ap (λ n. n + cond (f == fs) 1 0) (h.counts fs low) ∙ sym (started_more fs lives b n f ty bytes within empty));
+      counts = λ fs low. counted_more pending f fs few ∙ (ap (λ n. n + cond (is_for fs f) 1 0) (h.counts fs low) ∙ sym (started_more fs lives b n f ty bytes within empty));
     }
 
 appended_more : (fs : ℕ) (lives : Lives) (b : ℕ) (s : BlockState) (l : Life) → life_at lives b ≡ Some l → b < length lives → counted fs (change_at lives b (with_state s)) ≡ counted fs lives + cond (counts_for fs s) 1 0
@@ -182,20 +191,49 @@ owned_counted : (fs b : ℕ) (lives : Lives) (adds : List (ℕ × ℕ)) → coun
 owned_counted fs b lives [] = refl
 owned_counted fs b lives (p ∷ ps) = owned_counted fs b (change_at lives p.0 (with_status (Owned b))) ps ∙ status_counted fs (Owned b) lives p.0
 
-accepted_more : (fs f : ℕ) (lives : Lives) (b : ℕ) (s : BlockState) → IsTrue (is_some (life_at lives b)) → s.fs ≡ Some f → counted fs (accepted_at lives b s) ≡ counted fs lives + cond (f == fs) 1 0
-accepted_more fs f lives b s alive for =
+accepted_more : (fs : ℕ) (lives : Lives) (b : ℕ) (s : BlockState) → IsTrue (is_some (life_at lives b)) → counted fs (accepted_at lives b s) ≡ counted fs lives + cond (counts_for fs s) 1 0
+accepted_more fs lives b s alive =
     let pushed = change_at lives b (with_state s) in
     owned_counted fs b (dropped_after b pushed s.drops) s.adds
-    ∙ (dropped_counted fs b pushed s.drops ∙ (by (life_at lives b) refl alive ∙ ap (λ o. counted fs lives + cond (is_for fs o) 1 0) for))
+    ∙ (dropped_counted fs b pushed s.drops ∙ by (life_at lives b) refl alive)
   where
     by : (o : Option Life) → life_at lives b ≡ o → IsTrue (is_some o) → counted fs (change_at lives b (with_state s)) ≡ counted fs lives + cond (counts_for fs s) 1 0
     by None e t = absurd (false≢true t)
     by (Some l) e t = appended_more fs lives b s l e (alive_within lives b l e)
 
 -- a block accepts one more state
-pub accepted_counted : (lives : Lives) (free : List Bool) (pending : List ℕ) (b f : ℕ) (s : BlockState) → IsCounted lives free pending → f < length pending → IsTrue (is_some (life_at lives b)) →
-    s.fs ≡ Some f → IsCounted (accepted_at lives b s) free (slice_set pending f (slice_index_or pending f 0 + 1))
+pub accepted_counted : (lives : Lives) (free : List Bool) (pending : List ℕ) (b : ℕ) (f : Option ℕ) (s : BlockState) → IsCounted lives free pending → IfSome f (λ x. x < length pending) → IsTrue (is_some (life_at lives b)) →
+    s.fs ≡ f → IsCounted (accepted_at lives b s) free (counted_for f pending)
 accepted_counted lives free pending b f s h few alive for = record {
   marked = h.marked ∙ sym (marks-accepted lives b s);
-  counts = λ fs low. one_more pending f fs few ∙ (ap (λ n. n + cond (f == fs) 1 0) (h.counts fs low) ∙ sym (accepted_more fs f lives b s alive for));
+  counts = λ fs low. counted_more pending f fs few ∙ ((λ i. h.counts fs low i + cond (is_for fs (sym for i)) 1 0) ∙ sym (accepted_more fs lives b s alive));
 }
+
+-- From which number on the entries lie
+
+-- there are 32 file systems
+pub system_few : (fs : Option Fs) → IfSome (system_of fs) (λ x. x < 32)
+system_few None = tt
+system_few (Some fs) = fs.few
+
+pub system_within : (fs : Option Fs) (pending : List ℕ) → length pending ≡ 32 → IfSome (system_of fs) (λ x. x < length pending)
+system_within None pending long = tt
+system_within (Some fs) pending long = let few = fs.few in omega (arith, few, long)
+
+-- few entries of a file system are pending
+abbrev pub FewFor : Lives → Option Fs → Type 0
+FewFor lives fs = IfSome fs (λ (f : Fs). counted f.number lives < 4096)
+
+pub few_counted : (lives : Lives) (pending : List ℕ) (fs : Option Fs) → ((f : ℕ) → f < 32 → slice_index pending f ≡ counted f lives) → FewFor lives fs → IfSome fs (λ (f : Fs). slice_index pending f.number < 4096)
+few_counted lives pending None counts few = tt
+few_counted lives pending (Some fs) counts few = let same = counts fs.number fs.few in omega (arith, same, few)
+
+pub started_noted : (lives : Lives) (oldest pending : List ℕ) (b n : ℕ) (f : Option ℕ) (ty : ℕ) (bytes : List ℕ) → IfSome f (λ x. x < length oldest) → IfSome f (λ x. x < 32) →
+    ((fs : ℕ) → fs < 32 → slice_index pending fs ≡ counted fs lives) → AreOldest lives oldest → AreOldest (slice_set lives b (Some (new_life n f ty bytes))) (noted_for f n pending oldest)
+started_noted lives oldest pending b n None ty bytes within few counts are = started_nobody lives oldest b n ty bytes are
+started_noted lives oldest pending b n (Some f) ty bytes within few counts are = started_oldest lives oldest b n f ty bytes (slice_index pending f) within (counts f few) are
+
+pub accepted_noted : (lives : Lives) (oldest pending : List ℕ) (b : ℕ) (f : Option ℕ) (s : BlockState) → IfSome f (λ x. x < length oldest) → IfSome f (λ x. x < 32) →
+    ((fs : ℕ) → fs < 32 → slice_index pending fs ≡ counted fs lives) → s.fs ≡ f → AreOldest lives oldest → AreOldest (accepted_at lives b s) (noted_for f s.entry pending oldest)
+accepted_noted lives oldest pending b None s within few counts for are = accepted_nobody lives oldest b s for are
+accepted_noted lives oldest pending b (Some f) s within few counts for are = accepted_oldest lives oldest b f s (slice_index pending f) within (counts f few) for are

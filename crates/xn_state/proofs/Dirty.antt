@@ -49,7 +49,7 @@ begun_with k l = record l { begun = Some k }
 pub begun_dirty : (dirty : List Bool) (lives : Lives) (b k : ℕ) → dirty ≡ dirt lives → dirty ≡ dirt (begun_at lives b k)
 begun_dirty dirty lives b k e = e ∙ sym (dirt-change lives b (begun_with k) (λ l. refl))
 
-pub started_dirty : (dirty : List Bool) (lives : Lives) (b n f ty : ℕ) (bytes : List ℕ) → dirty ≡ dirt lives → slice_set dirty b true ≡ dirt (slice_set lives b (Some (new_life n f ty bytes)))
+pub started_dirty : (dirty : List Bool) (lives : Lives) (b n : ℕ) (f : Option ℕ) (ty : ℕ) (bytes : List ℕ) → dirty ≡ dirt lives → slice_set dirty b true ≡ dirt (slice_set lives b (Some (new_life n f ty bytes)))
 started_dirty dirty lives b n f ty bytes e = ap (λ ts. slice_set ts b true) e ∙ sym (map-set is_dirty lives b (Some (new_life n f ty bytes)))
 
 pub forgotten_dirty : (dirty : List Bool) (lives : Lives) (b : ℕ) → dirty ≡ dirt lives → slice_set dirty b false ≡ dirt (slice_set lives b None)

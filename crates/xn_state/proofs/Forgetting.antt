@@ -10,7 +10,7 @@ use Rattle.xn_model.specs.Types.{Types}
 use Rattle.xn_model.specs.Lives.{StoreState, Life, Lives, life_at}
 use Rattle.xn_model.specs.Results.{unless, result_map, result_and_then}
 use Rattle.xn_model.specs.Calls.{first_pending, life_pending, pending_in, own_life, forget_refusal, forget_at, forget_of}
-use Rattle.xn_model.specs.Rules.{IsConsistent}
+use Rattle.xn_model.specs.Rules.{IsConsistent, Keeps}
 use Rattle.xn_model.proofs.ForCallers.{place_from, IsOwn, map_ok, same_ok, never_ok, own_then, forget_keeps}
 use Rattle.xn_state.specs.Kept.{IsCounted}
 use Rattle.xn_state.specs.Forgets.{forget_plan, forget_plan_at}
@@ -98,11 +98,11 @@ refused T state b (Err refusal) e h = cc
 pub forget_refused : (T : Types) (state : StoreState) (fs b : ℕ) (e : Refusal) → forget_plan T state fs b ≡ Err e → forget_of T state fs b ≡ Err e
 forget_refused T state fs b e h = refused T state b (own_life state fs b) e h
 
-pub forgotten_consistent : (T : Types) (lives : Lives) (next fs b : ℕ) (done : Unit {0}) → IsConsistent T (state_of lives next) → forget_plan T (state_of lives next) fs b ≡ Ok done →
-    IsConsistent T (state_of (slice_set lives b None) next)
-forgotten_consistent T lives next fs b done h e =
+pub forgotten_keeps : (T : Types) (lives : Lives) (next fs b : ℕ) (done : Unit {0}) → IsConsistent T (state_of lives next) → forget_plan T (state_of lives next) fs b ≡ Ok done →
+    Keeps T (state_of lives next) (state_of (slice_set lives b None) next)
+forgotten_keeps T lives next fs b done h e =
     let state = state_of lives next in
-    (forget_keeps T state h fs b tt (state_of (slice_set lives b None) next) (planned T state b (own_life state fs b) done e)).consistent
+    forget_keeps T state h fs b tt (state_of (slice_set lives b None) next) (planned T state b (own_life state fs b) done e)
 
 pub facts_installed : (T : Types) (state : StoreState) (b : ℕ) (facts : Facts) → IsConsistent T state → Some facts ≡ option_map facts_of (life_at state.lives b) → IsTrue (T.installed facts.ty)
 facts_installed T state b facts h e = by (life_at state.lives b) refl e

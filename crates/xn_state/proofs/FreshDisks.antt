@@ -14,9 +14,10 @@ use Rattle.xn_model.proofs.ForCallers.{blocks_read}
 use Rattle.templates.specs.Templates.{TemplateValue, IsTemplate}
 use Rattle.templates.specs.Tables.{types_of}
 use Rattle.templates.specs.Formats.{formatted, template_found, fresh_found, table_of}
-use Rattle.templates.proofs.ForCallers.{distinct_named, formatted_has_its_blocks, formatted_is_found, formatted_is_sound, get_or-named, length-named, mount_recovers, named}
+use Rattle.templates.proofs.ForCallers.{distinct_named, formatted_has_its_blocks, formatted_has_its_templates, formatted_is_found, formatted_is_sound, get_or-named, length-named, mount_recovers, named, tables_are_catalogues}
 use Rattle.xn_state.specs.declared.found.Found.{Found}
-use Rattle.xn_state.specs.Mounts.{found_of, AreFound}
+use Rattle.templates.specs.Language.{types_of_image}
+use Rattle.xn_state.specs.Mounts.{found_of, image_types, AreFound}
 use Rattle.xn_state.proofs.Finding.{numbers}
 
 -- the numbers of its blocks
@@ -80,18 +81,27 @@ module _ (count : ℕ) (ts : List TemplateValue) (found' : List Found) (size : I
   recovered_here : IsRecovered T image (lives_found image (map found_of found'))
   recovered_here = subst (λ fs. IsRecovered T image (lives_found image fs)) (formatted_is_found count ts size few all ∙ sym are) (mount_recovers count ts size few all)
 
-  pub found_here : AreFound T (joined image) found'
-  found_here = record {
-    sound = subst (λ bs. IsSound T (length bs) (block_of bs)) (sym blocks) sound;
-    within = λ k d lt.
-        let small = fresh_small n k 0 (omega (arith, lt, length-found)) in
-        let same = sym (get_or-map (λ (f : Found). f.block) found' k d 0 lt) ∙ ap (λ ns. get_or ns k 0) found_numbers in
-        let least = size.0 in
-        omega (arith, small, same, counted, least, few);
-    once = subst (λ ns. IsTrue (distinct ns)) (sym found_numbers) (fresh_distinct n);
-    recovered = subst (λ bs. IsRecovered T bs (lives_found bs (map found_of found'))) (sym blocks) recovered_here;
-  }
+  -- the types of its image
+  types_are : image_types (joined image) ≡ T
+  types_are = ap types_of_image blocks ∙ (sym (tables_are_catalogues (block_of image)) ∙ ap types_of (formatted_has_its_templates count ts size few all))
+
+  pub found_here : AreFound (joined image) found' × (image_types (joined image) ≡ T)
+  found_here = (
+    record {
+      sound = subst (λ U. IsSound U (length (blocks_in (joined image))) (block_of (blocks_in (joined image)))) (sym types_are) (subst (λ bs. IsSound T (length bs) (block_of bs)) (sym blocks) sound);
+      within = λ k d lt.
+          let small = fresh_small n k 0 (omega (arith, lt, length-found)) in
+          let same = sym (get_or-map (λ (f : Found). f.block) found' k d 0 lt) ∙ ap (λ ns. get_or ns k 0) found_numbers in
+          let least = size.0 in
+          omega (arith, small, same, counted, least, few);
+      once = subst (λ ns. IsTrue (distinct ns)) (sym found_numbers) (fresh_distinct n);
+      recovered = subst (λ U. IsRecovered U (blocks_in (joined image)) (lives_found (blocks_in (joined image)) (map found_of found'))) (sym types_are)
+          (subst (λ bs. IsRecovered T bs (lives_found bs (map found_of found'))) (sym blocks) recovered_here);
+    },
+    types_are,
+  )
 
 pub fresh_disks_are_found : (count : ℕ) (templates : List TemplateValue) (found : List Found) → IsDiskSize count → length templates ≤ 16 → All IsTemplate templates →
-    map found_of found ≡ fresh_found (length templates) → AreFound (types_of (table_of templates)) (joined (formatted count templates)) found
+    map found_of found ≡ fresh_found (length templates) →
+    AreFound (joined (formatted count templates)) found × (image_types (joined (formatted count templates)) ≡ types_of (table_of templates))
 fresh_disks_are_found = found_here

@@ -1,7 +1,11 @@
 pub mod Lasts
 pub mod FirstEntries
 pub mod Keeping
+pub mod Typing
 pub mod Counting
+pub mod Installing
+pub mod Planning
+pub mod Extended
 pub mod Freeing
 pub mod Proposing
 pub mod Forgetting

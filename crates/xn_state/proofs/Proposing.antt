@@ -8,6 +8,8 @@ use Rattle.xn_model.specs.Calls.{Edit, own_life, accepts, edited, life_bytes, pa
 use Rattle.xn_model.specs.Rules.{IsConsistent}
 use Rattle.xn_model.proofs.ForCallers.{given_ok, own_then, same_ok, never_ok, propose_keeps}
 use Rattle.xn_state.specs.Proposals.{proposed_at, proposed_of, entry_of}
+use Rattle.xn_state.specs.States.{Continues, own_types}
+use Rattle.xn_state.proofs.Keeping.{continues}
 
 -- The entry of an edit
 
@@ -37,10 +39,11 @@ refused_by T (Err refusal) state fs b e r h = cc
 pub edit_refused : (T : Types) (state : StoreState) (fs b : ℕ) (e : Edit) (r : Refusal) → proposed_of T state fs b e ≡ Err r → propose_of T state fs b e ≡ Err r
 edit_refused T state fs b e r h = refused_by T (own_life state fs b) state fs b e r h
 
-pub edit_consistent : (T : Types) (state : StoreState) (fs b : ℕ) (e : Edit) (bytes : List ℕ) → IsConsistent T state → proposed_of T state fs b e ≡ Ok bytes →
-    IsConsistent T (accepts state b (entry_of state fs bytes e.adds e.drops e.after)).1
-edit_consistent T state fs b e bytes h made =
-    (propose_keeps T state h fs b e state.next (accepts state b (entry_of state fs bytes e.adds e.drops e.after)).1 (edit_made T state fs b e bytes made)).consistent
+pub edit_continues : (state : StoreState) (fs b : ℕ) (e : Edit) (bytes : List ℕ) → IsConsistent (own_types state) state → proposed_of (own_types state) state fs b e ≡ Ok bytes →
+    Continues state (accepts state b (entry_of state fs bytes e.adds e.drops e.after)).1
+edit_continues state fs b e bytes h made =
+    let new = (accepts state b (entry_of state fs bytes e.adds e.drops e.after)).1 in
+    continues state new (propose_keeps (own_types state) state h fs b e state.next new (edit_made (own_types state) state fs b e bytes made))
 
 -- the bytes that it leaves
 pub bytes_made : (T : Types) (state : StoreState) (fs b : ℕ) (e : Edit) (bytes : List ℕ) → proposed_of T state fs b e ≡ Ok bytes → bytes ≡ patched (life_bytes (life_at state.lives b)) e.patches

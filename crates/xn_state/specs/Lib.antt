@@ -6,3 +6,4 @@ pub mod States
 pub mod Mounts
 pub mod Proposals
 pub mod Answers
+pub mod Installs

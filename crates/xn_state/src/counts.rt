@@ -5,10 +5,12 @@ ghost use Rattle.std.specs.Option.{option_copied};
 ghost use Rattle.xn_model.specs.Lives.{drops_of, is_for, life_at};
 ghost use Rattle.xn_model.specs.Calls.{first_pending, life_pending};
 ghost use Rattle.dependencies.specs.Pending.{claim_count};
-ghost use Rattle.xn_state.specs.Counts.{claim_drops, given};
+ghost use Rattle.block_cache.specs.Systems.{system_of};
+ghost use Rattle.xn_state.specs.Counts.{claim_drops, counted_for, given, noted_for};
 
 use block_cache::{Cache, Claim};
 use block_set::BlockSet;
+use dependencies::note_number;
 use edit_list::Fs;
 use free_map::FreeMap;
 
@@ -28,8 +30,23 @@ fn discount_one(pending: &mut [u32; 32], claim: Option<&Claim>)
     requires { (fs : ℕ) → fs < 32 → claim_count fs (option_copied claim) ≤ slice_index pending.old fs }
     ensures { (fs : ℕ) → fs < 32 → slice_index pending.new fs + claim_count fs (option_copied claim.entry) ≡ slice_index pending.old fs }
 {
-    if let Some(claim) = claim {
-        pending[claim.fs().index()] -= 1;
+    let Some(claim) = claim else {
+        return;
+    };
+    if let Some(fs) = claim.fs() {
+        pending[fs.index()] -= 1;
+    }
+}
+
+/// Counts a new entry of this number, where it is a file system's, and notes it.
+pub fn count_entry(pending: &mut [u32; 32], oldest: &mut [u64; 32], fs: Option<Fs>, number: u64)
+    requires { IfSome fs (λ f. slice_index pending.old f.number < 4096) }
+    ensures pending { pending.new ≡ counted_for (system_of fs) pending.old }
+    ensures oldest { oldest.new ≡ noted_for (system_of fs) number pending.old oldest.old }
+{
+    if let Some(fs) = fs {
+        note_number(oldest, fs, number, pending[fs.index()]);
+        pending[fs.index()] += 1;
     }
 }
 

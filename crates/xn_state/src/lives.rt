@@ -1,26 +1,28 @@
 // The lives of all blocks, with what is counted of them.
 
-ghost use Rattle.std.specs.Prelude.{◌≡◌, ℕ, ◌^◌, ◌<◌, ◌≤◌, ◌&&◌, ◌==◌, All, false, length, map, replicate, Option, Some, None, IfOk, IsTrue, OnOk, OnErr, is_some, is_none, count_by, option_map, position, slice_get, slice_set, sum_by};
+ghost use Rattle.std.specs.Prelude.{◌≡◌, ℕ, ◌^◌, ◌<◌, ◌≤◌, ◌&&◌, ◌==◌, All, false, length, map, replicate, Option, Some, None, IfOk, IfSome, IsTrue, OnOk, OnErr, is_some, is_none, count_by, option_map, position, slice_get, slice_set, sum_by};
 ghost use Rattle.std.specs.Option.{option_copied};
 ghost use Rattle.xn_model.specs.Lists.{distinct};
 ghost use Rattle.xn_model.specs.Lives.{accepted_at, alive_and, chain_end, current, dropped_after, entries_of, is_for, least_to, life_at, lowest_free, owned_after};
 ghost use Rattle.xn_model.specs.Results.{result_map};
 ghost use Rattle.xn_model.specs.Calls.{is_ready, is_tainted, life_bytes, life_pending, new_life, own_place, patched, pending_in};
 ghost use Rattle.xn_model.specs.Images.{blocks_in};
+ghost use Rattle.block_cache.specs.Systems.{system_of};
 ghost use Rattle.block_cache.specs.Claims.{state_of};
 ghost use Rattle.block_cache.specs.Views.{facts_of};
 ghost use Rattle.xn_model.specs.Mounts.{found_status};
 ghost use Rattle.owner_records.specs.Owners.{is_claimed, owned_count};
 ghost use Rattle.claims.specs.Owned.{MayClaim};
 ghost use Rattle.dependencies.specs.Pending.{pends};
+ghost use Rattle.dependencies.specs.Typed.{FindsTypes};
 ghost use Rattle.xn_state.specs.Mounts.{life_of, lives_in};
 
-use crate::counts::mark;
+use crate::counts::{count_entry, mark};
 use crate::found::Found;
 use block_cache::{Cache, Claim, Facts, FoundLife};
 use block_set::BlockSet;
 use claims::OwnedCounts;
-use dependencies::{Candidates, Homes, home_for, least_for, note_number};
+use dependencies::{Candidates, Homes, home_for, least_for};
 use edit_list::{EditId, Fs, Undo};
 use free_map::FreeMap;
 use std::alloc::{AllocError, Global};
@@ -29,6 +31,7 @@ use xn_model::{Refusal, Status};
 
 mod forget;
 mod idle;
+mod install;
 mod writes;
 
 /// The lives of all blocks, by block number. Which blocks are free, for which something is pending, of which a write may begin,
@@ -232,6 +235,7 @@ impl Lives {
 
     /// Whether some pending entry of a block may not be written yet.
     pub fn is_tainted(&self, block: u32) -> bool
+        requires { FindsTypes self.now }
         ensures { result ≡ is_tainted self.now (life_at self.now block) }
     {
         dependencies::is_tainted(&self.cache, &self.dirty, &self.homes, block)
@@ -239,25 +243,26 @@ impl Lives {
 
     /// The least block of which a write may begin.
     pub fn pick(&self) -> Option<u32>
+        requires { FindsTypes self.now }
         ensures { result ≡ position (is_ready self.now) self.now }
     {
         dependencies::pick(&self.cache, &self.dirty, &self.homes, &self.candidates)
     }
 
-    /// Starts a life on the least free block.
+    /// Starts a life on the least free block, a file system's or nobody's.
     pub fn start(
         &mut self,
         alloc: Global,
         block: u32,
         number: EditId,
-        fs: Fs,
+        fs: Option<Fs>,
         ty: u32,
         bytes: &[u8; 512],
     ) -> Result<(), AllocError>
         requires free { lowest_free self.old ≡ Some block }
-        requires room { sum_by (pending_in fs.number) self.old < 4096 }
+        requires room { IfSome fs (λ f. sum_by (pending_in f.number) self.old < 4096) }
         requires fresh { (b : ℕ) → pends number (life_at self.old b) ≡ false }
-        ensures ok { OnOk result (self.new ≡ slice_set self.old block (Some (new_life number fs.number ty bytes.now))) }
+        ensures ok { OnOk result (self.new ≡ slice_set self.old block (Some (new_life number (system_of fs) ty bytes.now))) }
         ensures err { OnErr result (self.new ≡ self.old) }
     {
         self.cache.start(alloc, block, number, fs, ty, bytes)?;
@@ -265,9 +270,7 @@ impl Lives {
         mark(&mut self.dirty, block, true);
         self.candidates.set(block, true);
         self.homes.put(number.number(), block);
-        let pending = self.pending[fs.index()];
-        note_number(&mut self.oldest, fs, number.number(), pending);
-        self.pending[fs.index()] += 1;
+        count_entry(&mut self.pending, &mut self.oldest, fs, number.number());
         Ok(())
     }
 
@@ -275,7 +278,7 @@ impl Lives {
     /// it drops.
     pub fn accept(
         &mut self,
-        fs: Fs,
+        fs: Option<Fs>,
         block: u32,
         claim: Claim,
         bytes: &[u8; 512],
@@ -285,14 +288,14 @@ impl Lives {
     ) -> Result<(), AllocError>
         requires alive { IsTrue (is_some (life_at self.old block)) }
         requires room { life_pending (life_at self.old block) < 64 }
-        requires few { sum_by (pending_in fs.number) self.old < 4096 }
+        requires few { IfSome fs (λ f. sum_by (pending_in f.number) self.old < 4096) }
         requires size { length self.old ≤ 32768 }
         requires claims { MayClaim self.old block adds.now drops.now }
         requires few_adds { length adds.now ≤ 128 }
         requires few_drops { length drops.now ≤ 128 }
         requires undoes { patched bytes.now undo ≡ life_bytes (life_at self.old block) }
         requires fresh { (b : ℕ) → pends claim.entry (life_at self.old b) ≡ false }
-        requires fs { claim.fs ≡ Some fs.number }
+        requires fs { claim.fs ≡ system_of fs }
         requires adds { claim.adds ≡ adds.now }
         requires drops { claim.drops ≡ drops.now }
         ensures ok { OnOk result (self.new ≡ accepted_at self.old block (state_of claim bytes.now)) }
@@ -308,9 +311,7 @@ impl Lives {
         mark(&mut self.dirty, block, true);
         self.candidates.note_entry(block, is_first);
         self.homes.put(number, block);
-        let pending = self.pending[fs.index()];
-        note_number(&mut self.oldest, fs, number, pending);
-        self.pending[fs.index()] += 1;
+        count_entry(&mut self.pending, &mut self.oldest, fs, number);
         Ok(())
     }
 }

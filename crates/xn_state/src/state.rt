@@ -9,8 +9,8 @@ ghost use Rattle.xn_model.specs.Calls.{init_of, init_refusal, owns_nothing, too_
 ghost use Rattle.xn_model.specs.Rules.{IsConsistent};
 ghost use Rattle.xn_model.specs.Worlds.{mounted_state};
 ghost use Rattle.templates.specs.Tables.{types_of};
-ghost use Rattle.xn_state.specs.Mounts.{lives_in, AreFound};
-ghost use Rattle.xn_state.specs.States.{StateValue, types_in};
+ghost use Rattle.xn_state.specs.Mounts.{image_types, lives_in, AreFound};
+ghost use Rattle.xn_state.specs.States.{own_types};
 
 use crate::found::Found;
 use crate::lives::Lives;
@@ -27,6 +27,7 @@ mod accept;
 mod answers;
 mod forget;
 mod idle;
+mod install;
 mod propose;
 mod ready;
 mod roots;
@@ -41,16 +42,14 @@ pub struct State {
 }
 
 impl Model for State {
-    ghost use Rattle.xn_model.specs.Rules.{IsConsistent};
-    ghost use Rattle.templates.specs.Tables.{types_of};
-    ghost use Rattle.claims.specs.Decided.{AreDecided};
-    ghost use Rattle.xn_state.specs.States.{StateValue};
+    ghost use Rattle.xn_model.specs.Lives.{StoreState};
+    ghost use Rattle.xn_state.specs.States.{IsStateOf};
 
-    ghost Value = { StateValue };
+    ghost Value = { StoreState };
 
-    ghost view = { λ a. record { table = a.table; store = record { lives = a.lives; next = a.next } } };
+    ghost view = { λ a. record { lives = a.lives; next = a.next } };
 
-    ghost invariant = { λ a. IsConsistent (types_of a.table) (record { lives = a.lives; next = a.next }) × AreDecided (types_of a.table) a.reads a.lives };
+    ghost invariant = { λ a. IsStateOf a.table a.reads (record { lives = a.lives; next = a.next }) };
 }
 
 /// Written by hand, so that a function that drops one calls this: a derived drop is proved anew in each such function.
@@ -67,18 +66,19 @@ impl Drop for State {
 }
 
 impl State {
-    /// The state of a store whose disk holds a sound image, of which these are the reached blocks, each once, with the types of the
-    /// image's table. Each of them has one state, the durable one, and entry numbers start at 1. `Err` comes only for want
-    /// of memory.
+    /// The state of a store whose disk holds a sound image, of which these are the reached blocks, each once, with the table that
+    /// the image's catalogue names. Each of them has one state, the durable one, and entry numbers start at 1. `Err` comes
+    /// only for want of memory.
     pub fn new(
         alloc: Global,
         table: Table,
         image: &[u8],
         found: &[Found],
     ) -> Result<State, AllocError>
-        requires { AreFound (types_of table) image.now found.now }
-        ensures value { IfOk result (λ state. state ≡ record { table = table; store = mounted_state (lives_in image.now found.now) }) }
-        ensures rules { IfOk result (λ state. IsConsistent (types_in state) state.store) }
+        requires own { types_of table ≡ image_types image.now }
+        requires found { AreFound image.now found.now }
+        ensures value { IfOk result (λ state. state ≡ mounted_state (lives_in image.now found.now)) }
+        ensures rules { IfOk result (λ state. IsConsistent (own_types state) state) }
     {
         table.rules();
         let lives = Lives::found(alloc, image, found)?;
@@ -92,18 +92,32 @@ impl State {
         })
     }
 
+    /// Its types.
+    fn types(&self) -> &Table
+        ensures { types_of result.now ≡ own_types self.now }
+    {
+        &self.table
+    }
+
+    /// Tells a caller what is known of every state: the rules over all lives hold. It does nothing.
+    pub fn keeps_rules(&self)
+        ensures { IsConsistent (own_types self.now) self.now }
+    {
+        let _next = self.next;
+    }
+
     /// Whether so many pending entries of one block, or those of the file system, are too many.
     fn is_too_many(&self, fs: Fs, in_block: usize) -> bool
-        ensures { result ≡ too_many self.now.store fs.number in_block }
+        ensures { result ≡ too_many self.now fs.number in_block }
     {
         in_block >= 64 || self.lives.pending_for(fs) >= 4096
     }
 
     /// The first refusal of `init` that applies.
     fn init_refusal(&self, fs: Fs, ty: u32, bytes: &[u8; 512]) -> Option<Refusal>
-        ensures { result ≡ init_refusal (types_in self.now) self.now.store fs.number ty bytes.now }
+        ensures { result ≡ init_refusal (own_types self.now) self.now fs.number ty bytes.now }
     {
-        if ty < 2 || !self.table.is_installed(ty) {
+        if ty < 2 || !self.types().is_installed(ty) {
             return Some(Refusal::BadType);
         }
         if self.is_too_many(fs, 0) {
@@ -112,10 +126,10 @@ impl State {
         if self.next == u64::MAX {
             return Some(Refusal::Exhausted);
         }
-        if !is_within_size(&self.table, ty, bytes) {
+        if !is_within_size(self.types(), ty, bytes) {
             return Some(Refusal::SizeWrong);
         }
-        if !owns_nothing(&self.table, ty, bytes) {
+        if !owns_nothing(self.types(), ty, bytes) {
             return Some(Refusal::ClaimWrong);
         }
         None
@@ -123,8 +137,7 @@ impl State {
 
     /// Starts a life with these bytes on the lowest free block.
     pub fn init(&mut self, fs: Fs, ty: u32, bytes: &[u8; 512]) -> Result<(u32, EditId), Refusal>
-        ensures state { Gives (init_of (types_in self.old) self.old.store fs.number ty bytes.now) self.old.store self.new.store result }
-        ensures table { self.new.table ≡ self.old.table }
+        ensures state { Gives (init_of (own_types self.old) self.old fs.number ty bytes.now) self.old self.new result }
     {
         if let Some(refusal) = self.init_refusal(fs, ty, bytes) {
             return Err(refusal);
@@ -133,7 +146,10 @@ impl State {
             return Err(Refusal::NoSpace);
         };
         let number = EditId(self.next);
-        let Ok(()) = self.lives.start(self.alloc, block, number, fs, ty, bytes) else {
+        let Ok(()) = self
+            .lives
+            .start(self.alloc, block, number, Some(fs), ty, bytes)
+        else {
             return Err(Refusal::NoMemory);
         };
         self.reads.set(block, None);
@@ -143,8 +159,7 @@ impl State {
 
     /// Begins a write of a block: the bytes that its safe entries leave, and how many those are.
     pub fn begun(&mut self, block: u32) -> Result<([u8; 512], u32), Refusal>
-        ensures state { GivesExactly (begun_of self.old.store block) self.old.store self.new.store result }
-        ensures table { self.new.table ≡ self.old.table }
+        ensures state { GivesExactly (begun_of self.old block) self.old self.new result }
     {
         let (bytes, count) = self.lives.begun(block)?;
         self.lives.begin(block, count);
@@ -154,8 +169,7 @@ impl State {
     /// Ends a write of a block by the bytes that are read back: how many entries are durable now,
     /// and how many blocks are free.
     pub fn settled(&mut self, block: u32, bytes: &[u8; 512]) -> Result<(u32, u32), Refusal>
-        ensures state { GivesExactly (settled_of self.old.store block bytes.now) self.old.store self.new.store result }
-        ensures table { self.new.table ≡ self.old.table }
+        ensures state { GivesExactly (settled_of self.old block bytes.now) self.old self.new result }
     {
         let count = self.lives.settled(block, bytes)?;
         let freed = self.lives.settle(block, count);
@@ -164,7 +178,7 @@ impl State {
 
     /// Whether a write of a block is under way.
     pub fn is_in_flight(&self, block: u32) -> bool
-        ensures { result ≡ alive_and (λ l. is_some l.begun) (life_at self.now.store.lives block) }
+        ensures { result ≡ alive_and (λ l. is_some l.begun) (life_at self.now.lives block) }
     {
         match self.lives.facts(block) {
             Some(facts) => facts.is_in_flight(),
@@ -174,7 +188,7 @@ impl State {
 
     /// The least pending entry of a file system, or the next number to be given.
     pub fn floor(&self, fs: Fs) -> u64
-        ensures { result ≡ floor_of self.now.store fs.number }
+        ensures { result ≡ floor_of self.now fs.number }
     {
         self.lives.least_for(fs, self.next)
     }

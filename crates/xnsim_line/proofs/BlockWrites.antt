@@ -7,10 +7,10 @@ use Rattle.xn_model.specs.declared.refusal.Refusal.{Refusal}
 use Rattle.xn_model.specs.declared.refusal.Refusal.TheVariants.{InFlight, NoMemory, NotSynced}
 use Rattle.xn_model.specs.Images.{block_of}
 use Rattle.xn_model.specs.Lives.{Life, StoreState, life_at, alive_and}
-use Rattle.xn_model.specs.Calls.{init_of, propose_of, make_root_of, drop_root_of, forget_of, read_of, kind_of, begun_of, settled_of, pick_of}
+use Rattle.xn_model.specs.Calls.{init_of, propose_of, make_root_of, drop_root_of, forget_of, install_of, read_of, kind_of, begun_of, settled_of, pick_of}
 use Rattle.xn_model.specs.Rules.{Holds}
 use Rattle.xn_model.specs.Worlds as model
-use Rattle.xn_model.specs.Worlds.{World, Step, act, act_up, begun_count, reply_and_world, reply_alone, with_ticket, asks_memory, is_crash, AfterCall, all_pending, drain_for, given_at, read_back, write_out}
+use Rattle.xn_model.specs.Worlds.{World, Step, act, act_up, begun_count, reply_and_world, reply_alone, with_ticket, asks_memory, is_crash, AfterCall, all_pending, drain_for, given_at, install, read_back, types_now, write_out}
 use Rattle.xn_model.proofs.ForCallers.{drain_ends, none_picked}
 use Rattle.xn_kernel.proofs.ForCallers.{idle_from}
 use Rattle.world.specs.Worlds.{is_any_in_flight}
@@ -31,11 +31,11 @@ of_answer reply (Ok x) none = none x
 of_answer reply (Err refusal) none = refl
 
 call_counts : (w : World) (fs : ℕ) (c : model.Call) → is_drain (model.Client fs c) ≡ false → writes_of (model.call w fs c).0 ≡ 0
-call_counts w fs (model.Init t m) other = of_result (λ made. model.Started made.0 made.1) w (init_of w.types w.state fs t m) (λ x. refl)
-call_counts w fs (model.Propose b e) other = of_result model.Edited w (propose_of w.types w.state fs b e) (λ x. refl)
+call_counts w fs (model.Init t m) other = of_result (λ made. model.Started made.0 made.1) w (init_of (types_now w) w.state fs t m) (λ x. refl)
+call_counts w fs (model.Propose b e) other = of_result model.Edited w (propose_of (types_now w) w.state fs b e) (λ x. refl)
 call_counts w fs (model.MakeRoot b) other = of_result model.Edited w (make_root_of w.state fs b) (λ x. refl)
-call_counts w fs model.DropRoot other = of_result model.Edited w (drop_root_of w.types w.state fs) (λ x. refl)
-call_counts w fs (model.Forget b) other = of_result (λ done. model.Forgotten) w (forget_of w.types w.state fs b) (λ x. refl)
+call_counts w fs model.DropRoot other = of_result model.Edited w (drop_root_of (types_now w) w.state fs) (λ x. refl)
+call_counts w fs (model.Forget b) other = of_result (λ done. model.Forgotten) w (forget_of (types_now w) w.state fs b) (λ x. refl)
 call_counts w fs (model.Read b) other = of_answer model.Bytes (read_of w.state fs b) (λ x. refl)
 call_counts w fs model.Root other = refl
 call_counts w fs (model.Kind b) other = of_answer model.KindIs (kind_of w.state fs b) (λ x. refl)
@@ -65,6 +65,8 @@ up_or_down w false p n counts = omega (arith, counts)
 
 event_counts : (w : World) (e : model.Event) → is_drain e ≡ false → writes_by e (act w e).0 ≤ one_if (is_write w e)
 event_counts w (model.Client fs c) other = up_or_down w (w.down && true) (model.call w fs c) 0 (call_counts w fs c other)
+event_counts w (model.Install m) other =
+    up_or_down w (w.down && true) (install w m) 0 (of_result (λ made. model.Installed made.0 made.1 made.2 (made.2 + 1)) w (install_of w.language w.state m) (λ y. refl))
 event_counts w (model.Begin b) other = up_or_down w (w.down && true) (model.begin w b) 0 (of_result (λ begun. model.Begun begun.1) w (begun_of w.state b) (λ y. refl))
 event_counts w (model.Land b) other = up_or_down w (w.down && true) (model.land w b) _ (write_counts w (life_at w.state.lives b) _ (λ k. refl))
 event_counts w (model.Fail b stays) other = up_or_down w (w.down && true) (model.fail w b stays) _ (write_counts w (life_at w.state.lives b) _ (λ k. refl))
@@ -86,6 +88,7 @@ after_counts w e r w' (inr memory) other = let none = ap (writes_by e) memory.1.
 -- an event that is no drain writes at most one block, and none where it is no write
 pub step_counts : (w : World) (e : model.Event) (r : model.Reply) (w' : World) → Step w e r w' → is_drain e ≡ false → writes_by e r ≤ one_if (is_write w e)
 step_counts w (model.Client fs c) r w' step other = after_counts w (model.Client fs c) r w' step other
+step_counts w (model.Install m) r w' step other = after_counts w (model.Install m) r w' step other
 step_counts w (model.Begin b) r w' step other = after_counts w (model.Begin b) r w' step other
 step_counts w (model.Land b) r w' step other = after_counts w (model.Land b) r w' step other
 step_counts w (model.Fail b stays) r w' step other = after_counts w (model.Fail b stays) r w' step other
@@ -100,6 +103,7 @@ step_counts w (model.Crash kept) r w' step other = elim step.2 [
 -- a write that may not come any more
 pub held_back : (w : World) (e : model.Event) → is_write w e ≡ true → IsHeldBack w e 0 w
 held_back w (model.Client fs c) is = absurd (false≢true is)
+held_back w (model.Install m) is = absurd (false≢true is)
 held_back w (model.Begin b) is = absurd (false≢true is)
 held_back w (model.Land b) is = (is, refl, refl)
 held_back w (model.Fail b stays) is = (is, refl, refl)

@@ -9,7 +9,7 @@ use Rattle.xn_model.specs.Images.{blocks_in, joined}
 use Rattle.xn_model.specs.Worlds as model
 use Rattle.xn_model.specs.Worlds.{World, Step, Run}
 use Rattle.image_model.specs.Report.{IsSoundImage}
-use Rattle.crash_check.specs.Answers.{types_in}
+use Rattle.templates.specs.Language.{types_of_image}
 use Rattle.events.specs.declared.reply.Reply.{Reply}
 use Rattle.events.specs.declared.event.Event.{Event}
 use Rattle.events.specs.Events.{event_of, reply_of}
@@ -144,13 +144,13 @@ lines_to_stop from lines place default stop old mid new before after left last e
 
 -- what was run on an image, to its end or to a stop, was run on a sound one
 pub asked_sound : (stop : Option Stop) (image : List ℕ) (events : List Event) (old new : Option (List ℕ)) (after : List ℕ) → IsAskedRun stop image events old new after →
-    IsSoundImage (types_in (blocks_in image)) image
+    IsSoundImage (types_of_image (blocks_in image)) image
 asked_sound None image events old new after run = run.sound
 asked_sound (Some stop) image events old new after run = run.sound
 
 -- what was run on the world of a sound image was run on that image
 pub asked_run : (stop : Option Stop) (image : List ℕ) (from : World) (lines : List (List ℕ)) (old new : Option (List ℕ)) (last after : List ℕ) →
-    IsSoundImage (types_in (blocks_in image)) image → from ≡ opened_world image → after ≡ last →
+    IsSoundImage (types_of_image (blocks_in image)) image → from ≡ opened_world image → after ≡ last →
     RunsLines lines (λ events. IsAskedOn stop from events old new last) → RunsLines lines (λ events. IsAskedRun stop image events old new after)
 asked_run None image from lines old new last after sound opened same run =
     (run.0, run.1, record { sound = sound; run = subst (λ w. IsPrintedRun w run.0 old new after) opened (subst (IsPrintedRun from run.0 old new) (sym same) run.2) })

@@ -7,7 +7,7 @@ use Rattle.image_model.specs.Walk.{block_at, count_of, verdict}
 use Rattle.image_model.specs.Report.{IsReport, IsSoundImage}
 use Rattle.image_model.specs.declared.fault.ImageFault.{ImageFault}
 use Rattle.image_model.specs.declared.fault.ImageFault.TheVariants.{NoMemory}
-use Rattle.crash_check.specs.Answers.{types_in}
+use Rattle.templates.specs.Language.{types_of_image}
 use Rattle.xnsim_words.specs.Files.{Held, IsHeld}
 
 -- the line of a sound image
@@ -20,11 +20,11 @@ pub record PrintsChecked (held held_after : Held) (name : List ℕ) (old new : O
   pub reached : List (ℕ × ℕ)
   pub free : List ℕ
   pub image_held : IsHeld held name image
-  pub sound : IsSoundImage (types_in (blocks_in image)) image
-  pub report : IsReport (types_in (blocks_in image)) (count_of image) (block_at image) reached free
+  pub sound : IsSoundImage (types_of_image (blocks_in image)) image
+  pub report : IsReport (types_of_image (blocks_in image)) (count_of image) (block_at image) reached free
   pub printed : Appends old new (report_line (length reached) (length free))
   pub kept : held_after ≡ held
 
 -- why an image isn't found sound: its first fault, or want of memory
 abbrev pub IsVerdict : List ℕ → ImageFault → Type 0
-IsVerdict image fault = (fault ≡ NoMemory) ⊎ (verdict (types_in (blocks_in image)) image ≡ Err fault)
+IsVerdict image fault = (fault ≡ NoMemory) ⊎ (verdict (types_of_image (blocks_in image)) image ≡ Err fault)

@@ -7,9 +7,8 @@ use Rattle.xn_model.specs.BareDisks.{mounted_disk}
 use Rattle.xn_model.specs.Images.{blocks_in, joined}
 use Rattle.image_model.specs.Report.{IsSoundImage}
 use Rattle.templates.specs.Templates.{TemplateValue}
-use Rattle.templates.specs.Tables.{types_of}
-use Rattle.templates.specs.Formats.{formatted, table_of}
-use Rattle.crash_check.specs.Answers.{types_in}
+use Rattle.templates.specs.Formats.{formatted}
+use Rattle.templates.specs.Language.{language, types_of_image}
 use Rattle.events.specs.declared.reply.Reply.{Reply}
 use Rattle.events.specs.declared.event.Event.{Event}
 use Rattle.events.specs.Events.{event_of, reply_of}
@@ -18,11 +17,11 @@ use Rattle.script.specs.Scripts.{AllSpell, LineSpells}
 
 -- the first mount of a fresh disk of so many blocks with these templates
 abbrev pub fresh_world : ℕ → List TemplateValue → World
-fresh_world blocks templates = mounted_disk (types_of (table_of templates)) (formatted blocks templates)
+fresh_world blocks templates = mounted_disk language (formatted blocks templates)
 
--- the first mount of an image's disk, under the types of its own catalogue
+-- the first mount of an image's disk
 abbrev pub opened_world : List ℕ → World
-opened_world image = mounted_disk (types_in (blocks_in image)) (blocks_in image)
+opened_world image = mounted_disk language (blocks_in image)
 
 -- from this world on the events have these replies in the model, and leave that world
 abbrev pub IsRun : World → List Event → List Reply → World → Type 0
@@ -38,7 +37,7 @@ pub record IsPrintedRun (from : World) (events : List Event) (old new : Option (
 
 -- such a run on the disk of an image, which is sound
 pub record IsMountedRun (image : List ℕ) (events : List Event) (old new : Option (List ℕ)) (after : List ℕ) : Type 0 where
-  pub sound : IsSoundImage (types_in (blocks_in image)) image
+  pub sound : IsSoundImage (types_of_image (blocks_in image)) image
   pub run : IsPrintedRun (opened_world image) events old new after
 
 -- a line spells an event, which was run on this world and its reply printed, and the world is then that

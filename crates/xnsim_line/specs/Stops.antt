@@ -8,7 +8,7 @@ use Rattle.xn_model.specs.Calls.{pick_of}
 use Rattle.xn_model.specs.Images.{blocks_in, joined}
 use Rattle.xn_kernel.specs.Kernels.{is_in_flight}
 use Rattle.image_model.specs.Report.{IsSoundImage}
-use Rattle.crash_check.specs.Answers.{types_in}
+use Rattle.templates.specs.Language.{types_of_image}
 use Rattle.events.specs.declared.reply.Reply.{Reply}
 use Rattle.events.specs.declared.event.Event.{Event}
 use Rattle.events.specs.Events.{event_of, reply_of}
@@ -112,7 +112,7 @@ IsAskedOn (Some stop) from events old new image = IsStoppedRun from events stop 
 
 -- such a run on the disk of an image, which is sound
 pub record IsMountedStop (image : List ℕ) (events : List Event) (stop : Stop) (old new : Option (List ℕ)) (after : List ℕ) : Type 0 where
-  pub sound : IsSoundImage (types_in (blocks_in image)) image
+  pub sound : IsSoundImage (types_of_image (blocks_in image)) image
   pub run : IsStoppedRun (opened_world image) events stop old new after
 
 -- a run on the disk of an image, to its end or to a stop

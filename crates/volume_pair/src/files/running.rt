@@ -3,6 +3,7 @@
 ghost use Rattle.volume_pair.specs.Kept.{IsDevice};
 
 use crate::files::Files;
+use crate::kernels::are_templates;
 use ffs_format::law::templates_are_the_librarys;
 use ffs_format::templates;
 use ffs_lib::Fs;
@@ -21,6 +22,7 @@ impl Files<Running> {
     ) -> Result<Files<Running>, AllocError> {
         let templates = templates(alloc)?;
         templates_are_the_librarys();
+        are_templates(&templates);
         match World::format(rt, alloc, blocks, &templates) {
             Ok(world) => match world.into_running() {
                 Ok(running) => {

@@ -22,6 +22,17 @@ impl MountedDisk {
         }
     }
 
+    /// A template is installed.
+    #[inline(never)]
+    pub(crate) fn install(&mut self, template: &[u8; 512], reply: &mut Reply)
+        ensures { model.Step (world_with self.old) (model.Install template.now) (reply_of reply.new) (world_with self.new) }
+    {
+        *reply = match self.kernel.install(template) {
+            Ok(installed) => Reply::Installed(installed),
+            Err(refusal) => Reply::Refused(refusal),
+        };
+    }
+
     /// Writes all that is pending.
     fn drain(&mut self, fs: Fs) -> Reply
         ensures { model.Step (world_with self.old) (model.Client fs.number model.Drain) (reply_of result) (world_with self.new) }

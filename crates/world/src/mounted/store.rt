@@ -3,7 +3,7 @@
 ghost use Rattle.std.specs.Prelude.{◌≡◌};
 ghost use Rattle.xn_model.specs.Results.{Gives, GivesExactly, Lends};
 ghost use Rattle.xn_model.specs.Calls.{init_of, propose_of, make_root_of, forget_of, read_of, root_of, kind_of, pending_of, floor_of, free_of, pick_of};
-ghost use Rattle.templates.specs.Tables.{types_of};
+ghost use Rattle.xn_state.specs.States.{own_types};
 ghost use Rattle.world.specs.Worlds.{WorldValue};
 
 use crate::mounted::MountedDisk;
@@ -18,7 +18,7 @@ impl MountedDisk {
         ty: u32,
         bytes: &[u8; 512],
     ) -> Result<(u32, EditId), Refusal>
-        ensures state { Gives (init_of (types_of self.old.table) self.old.state fs.number ty bytes.now) self.old.state self.new.state result }
+        ensures state { Gives (init_of (own_types self.old.state) self.old.state fs.number ty bytes.now) self.old.state self.new.state result }
         ensures rest { self.new ≡ record self.old { state = self.new.state } }
     {
         self.kernel.init(fs, ty, bytes)
@@ -26,7 +26,7 @@ impl MountedDisk {
 
     /// Edits a block of the file system.
     pub(crate) fn propose(&mut self, fs: Fs, block: u32, edit: &Edit) -> Result<EditId, Refusal>
-        ensures state { Gives (propose_of (types_of self.old.table) self.old.state fs.number block edit.now) self.old.state self.new.state result }
+        ensures state { Gives (propose_of (own_types self.old.state) self.old.state fs.number block edit.now) self.old.state self.new.state result }
         ensures rest { self.new ≡ record self.old { state = self.new.state } }
     {
         self.kernel.propose(fs, block, edit)
@@ -42,7 +42,7 @@ impl MountedDisk {
 
     /// Ends the life of a block that no owner has ever named.
     pub(crate) fn forget(&mut self, fs: Fs, block: u32) -> Result<(), Refusal>
-        ensures state { GivesExactly (forget_of (types_of self.old.table) self.old.state fs.number block) self.old.state self.new.state result }
+        ensures state { GivesExactly (forget_of (own_types self.old.state) self.old.state fs.number block) self.old.state self.new.state result }
         ensures rest { self.new ≡ record self.old { state = self.new.state } }
     {
         self.kernel.forget(fs, block)

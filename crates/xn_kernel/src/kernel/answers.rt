@@ -13,49 +13,49 @@ impl<L: Lane> Kernel<L> {
     /// ones. Refused are, in this order, a block past the end of the disk (`NoSuchBlock`), a free or dropped one (`NotInUse`), and
     /// one of another file system or of nobody (`NotYours`).
     pub fn read(&self, fs: Fs, block: u32) -> Result<&[u8; 512], Refusal>
-        ensures { Lends (read_of self.now.state.store fs.number block) result }
+        ensures { Lends (read_of self.now.state fs.number block) result }
     {
         self.state.read(fs, block)
     }
 
     /// The type of a block of the file system, with the refusals of `read`.
     pub fn kind(&self, fs: Fs, block: u32) -> Result<u32, Refusal>
-        ensures { result ≡ kind_of self.now.state.store fs.number block }
+        ensures { result ≡ kind_of self.now.state fs.number block }
     {
         self.state.kind(fs, block)
     }
 
     /// The block in the file system's root slot, as block 0's newest state has it; `None` where the slot is empty.
     pub fn root(&self, fs: Fs) -> Option<u32>
-        ensures { result ≡ root_of self.now.state.store fs.number }
+        ensures { result ≡ root_of self.now.state fs.number }
     {
         self.state.root(fs)
     }
 
     /// How many pending entries of all blocks count for the file system.
     pub fn pending(&self, fs: Fs) -> u32
-        ensures { result ≡ pending_of self.now.state.store fs.number }
+        ensures { result ≡ pending_of self.now.state fs.number }
     {
         self.state.pending(fs)
     }
 
     /// Whether a block has a pending entry that isn't safe; not so where it is free, or past the end of the disk.
     pub fn tainted(&self, block: u32) -> bool
-        ensures { result ≡ tainted_of self.now.state.store block }
+        ensures { result ≡ tainted_of self.now.state block }
     {
         self.state.tainted(block)
     }
 
     /// How many blocks are free.
     pub fn free(&self) -> u32
-        ensures { result ≡ free_of self.now.state.store }
+        ensures { result ≡ free_of self.now.state }
     {
         self.state.free()
     }
 
     /// The least block that may be written: no write of it is under way, and some entry of it is safe.
     pub fn pick(&self) -> Option<u32>
-        ensures { result ≡ pick_of self.now.state.store }
+        ensures { result ≡ pick_of self.now.state }
     {
         self.state.pick()
     }

@@ -4,7 +4,8 @@ ghost use Rattle.std.specs.Prelude.{◌≡◌, ◌≢◌};
 ghost use Rattle.xn_model.specs.Rules.{IsConsistent};
 ghost use Rattle.xn_state.specs.declared.call.Call.TheVariants.{Drain};
 ghost use Rattle.xn_state.specs.Answers.{Answers};
-ghost use Rattle.xn_state.specs.States.{StateValue, types_in};
+ghost use Rattle.xn_model.specs.Lives.{StoreState};
+ghost use Rattle.xn_state.specs.States.{own_types};
 ghost use Rattle.xn_kernel.specs.Kernels.{KernelValue};
 
 use crate::kernel::Kernel;
@@ -16,8 +17,8 @@ impl<L: Lane> Kernel<L> {
     #[inline(always)]
     pub fn call(&mut self, fs: Fs, call: &Call) -> Answer
         requires { call.now ≢ Drain }
-        ensures answer { Answers (types_in self.old.state) self.old.state.store fs.number call.now self.new.state.store result }
-        ensures rest { self.new ≡ record self.old { state = record self.old.state { store = self.new.state.store } } }
+        ensures answer { Answers (own_types self.old.state) self.old.state fs.number call.now self.new.state result }
+        ensures rest { self.new ≡ record self.old { state = self.new.state } }
     {
         match call {
             Call::Init { ty, bytes } => Answer::Init(self.init(fs, *ty, bytes)),
@@ -39,31 +40,35 @@ impl<L: Lane> Kernel<L> {
 }
 
 impl<L: Lane> Store for Kernel<L> {
-    ghost use Rattle.xn_state.specs.States.{types_in};
+    ghost use Rattle.xn_state.specs.States.{own_types};
 
-    ghost types_of = { λ kernel. types_in kernel.state };
+    ghost types_of = { λ kernel. own_types kernel.state };
 
-    ghost state_of = { λ kernel. kernel.state.store };
+    ghost state_of = { λ kernel. kernel.state };
 
     fn init(&mut self, fs: Fs, ty: u32, bytes: &[u8; 512]) -> Result<(u32, EditId), Refusal> {
+        self.rules();
         let made = Kernel::init(self, fs, ty, bytes);
         self.rules();
         made
     }
 
     fn propose(&mut self, fs: Fs, block: u32, edit: &Edit) -> Result<EditId, Refusal> {
+        self.rules();
         let made = Kernel::propose(self, fs, block, edit);
         self.rules();
         made
     }
 
     fn make_root(&mut self, fs: Fs, block: u32) -> Result<EditId, Refusal> {
+        self.rules();
         let made = Kernel::make_root(self, fs, block);
         self.rules();
         made
     }
 
     fn forget(&mut self, fs: Fs, block: u32) -> Result<(), Refusal> {
+        self.rules();
         let done = Kernel::forget(self, fs, block);
         self.rules();
         done

@@ -6,7 +6,7 @@ ghost use Rattle.xn_model.specs.Lives.{alive_and};
 ghost use Rattle.xn_model.specs.Calls.{pick_of};
 ghost use Rattle.xn_model.specs.Rules.{IsIdle};
 ghost use Rattle.xn_model.specs.Worlds.{all_pending};
-ghost use Rattle.xn_state.specs.States.{StateValue};
+ghost use Rattle.xn_model.specs.Lives.{StoreState};
 ghost use Rattle.xn_kernel.specs.Kernels.{KernelValue};
 ghost use Rattle.xn_kernel.specs.Drains.{Round, Rounds, Stops, Refuses};
 
@@ -25,14 +25,14 @@ pub struct DrainStop<L: Lane> {
 impl<L: Lane> Kernel<L> {
     /// Whether a write of some block is under way.
     fn is_busy(&self) -> bool
-        ensures { result ≡ list_any (alive_and (λ l. is_some l.begun)) self.now.state.store.lives }
+        ensures { result ≡ list_any (alive_and (λ l. is_some l.begun)) self.now.state.lives }
     {
         self.state.is_any_in_flight()
     }
 
     /// How many entries are pending, of all blocks and file systems.
     fn all_pending(&self) -> u32
-        ensures { result ≡ all_pending self.now.state.store.lives }
+        ensures { result ≡ all_pending self.now.state.lives }
     {
         self.state.all_pending()
     }
@@ -40,7 +40,7 @@ impl<L: Lane> Kernel<L> {
     /// Writes the block that is picked, syncs it and reads it back. `Err` has the ticket where it could not be synced or read
     /// back; with none the write failed, and the block holds the old bytes.
     fn round(&mut self, block: u32) -> Result<(), Option<Ticket<L>>>
-        requires picked { pick_of self.old.state.store ≡ Some block }
+        requires picked { pick_of self.old.state ≡ Some block }
         ensures ok { OnOk result (Round L.bytes_of L.faults_of L.write_gives L.sync_gives L.read_gives self.old self.new) }
         ensures err { IfErr result (λ ticket. Stops L.bytes_of L.faults_of L.write_gives L.sync_gives L.read_gives self.old ticket Refusal.Device self.new) }
     {
@@ -71,10 +71,10 @@ impl<L: Lane> Kernel<L> {
     /// write that fails and leaves the new bytes is a good one. What was finished before stands.
     pub fn drain(&mut self) -> Result<u32, DrainStop<L>>
         ensures rounds { IfOk result (λ writes. Rounds L.bytes_of L.faults_of L.write_gives L.sync_gives L.read_gives writes self.old self.new) }
-        ensures idle { OnOk result (IsIdle self.old.state.store.lives) }
-        ensures done { OnOk result (all_pending self.new.state.store.lives ≡ 0) }
-        ensures few { IfOk result (λ writes. writes ≤ all_pending self.old.state.store.lives) }
-        ensures stopped { IfErr result (λ stop. stop.refusal ≡ Refusal.Device → IsIdle self.old.state.store.lives) }
+        ensures idle { OnOk result (IsIdle self.old.state.lives) }
+        ensures done { OnOk result (all_pending self.new.state.lives ≡ 0) }
+        ensures few { IfOk result (λ writes. writes ≤ all_pending self.old.state.lives) }
+        ensures stopped { IfErr result (λ stop. stop.refusal ≡ Refusal.Device → IsIdle self.old.state.lives) }
         ensures err { IfErr result (λ stop. Refuses L.bytes_of L.faults_of L.write_gives L.sync_gives L.read_gives self.old stop.writes stop.ticket stop.refusal self.new) }
     {
         if self.is_busy() {

@@ -3,7 +3,8 @@
 ghost use Rattle.std.specs.Prelude.{◌≡◌};
 ghost use Rattle.xn_model.specs.Results.{Gives};
 ghost use Rattle.xn_model.specs.Calls.{drop_root_of, propose_of};
-ghost use Rattle.xn_state.specs.States.{StateValue, types_in};
+ghost use Rattle.xn_model.specs.Lives.{StoreState};
+ghost use Rattle.xn_state.specs.States.{own_types};
 ghost use Rattle.xn_kernel.specs.Kernels.{KernelValue};
 
 use crate::kernel::Kernel;
@@ -22,8 +23,8 @@ impl<L: Lane> Kernel<L> {
     /// that is not zero (`SizeWrong`); last `NoMemory`. A refusal changes nothing and uses no number. An added block may own
     /// others, and comes with them.
     pub fn propose(&mut self, fs: Fs, block: u32, edit: &Edit) -> Result<EditId, Refusal>
-        ensures state { Gives (propose_of (types_in self.old.state) self.old.state.store fs.number block edit.now) self.old.state.store self.new.state.store result }
-        ensures rest { self.new ≡ record self.old { state = record self.old.state { store = self.new.state.store } } }
+        ensures state { Gives (propose_of (own_types self.old.state) self.old.state fs.number block edit.now) self.old.state self.new.state result }
+        ensures rest { self.new ≡ record self.old { state = self.new.state } }
     {
         self.state.propose(fs, block, edit)
     }
@@ -32,8 +33,8 @@ impl<L: Lane> Kernel<L> {
     /// empty slot (`NotOwned`), a block that points to others (`NotEmpty`), too many pending entries (`TooManyPending`), no
     /// number left (`Exhausted`), last `NoMemory`. A refusal changes nothing.
     pub fn drop_root(&mut self, fs: Fs) -> Result<EditId, Refusal>
-        ensures state { Gives (drop_root_of (types_in self.old.state) self.old.state.store fs.number) self.old.state.store self.new.state.store result }
-        ensures rest { self.new ≡ record self.old { state = record self.old.state { store = self.new.state.store } } }
+        ensures state { Gives (drop_root_of (own_types self.old.state) self.old.state fs.number) self.old.state self.new.state result }
+        ensures rest { self.new ≡ record self.old { state = self.new.state } }
     {
         self.state.drop_root(fs)
     }

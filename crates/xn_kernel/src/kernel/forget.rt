@@ -3,7 +3,8 @@
 ghost use Rattle.std.specs.Prelude.{◌≡◌};
 ghost use Rattle.xn_model.specs.Results.{GivesExactly};
 ghost use Rattle.xn_model.specs.Calls.{forget_of};
-ghost use Rattle.xn_state.specs.States.{StateValue, types_in};
+ghost use Rattle.xn_model.specs.Lives.{StoreState};
+ghost use Rattle.xn_state.specs.States.{own_types};
 ghost use Rattle.xn_kernel.specs.Kernels.{KernelValue};
 
 use crate::kernel::Kernel;
@@ -17,8 +18,8 @@ impl<L: Lane> Kernel<L> {
     /// owner (`NotFresh`), one that points to another (`NotEmpty`), one with another entry pending than its init (`TooManyPending`),
     /// and one whose write is under way (`InFlight`).
     pub fn forget(&mut self, fs: Fs, block: u32) -> Result<(), Refusal>
-        ensures state { GivesExactly (forget_of (types_in self.old.state) self.old.state.store fs.number block) self.old.state.store self.new.state.store result }
-        ensures rest { self.new ≡ record self.old { state = record self.old.state { store = self.new.state.store } } }
+        ensures state { GivesExactly (forget_of (own_types self.old.state) self.old.state fs.number block) self.old.state self.new.state result }
+        ensures rest { self.new ≡ record self.old { state = self.new.state } }
     {
         self.state.forget(fs, block)
     }

@@ -4,6 +4,7 @@ ghost use Rattle.std.specs.Prelude.{◌≡◌, ◌<◌, ◌≤◌, IfOk, IfSome,
 ghost use Rattle.xn_model.specs.Lives.{alive_and, begun_at, drops_of, freed, life_at, settled_at};
 ghost use Rattle.xn_model.specs.Calls.{begun_place, first_pending, is_durable, life_pending, settled_place};
 ghost use Rattle.block_cache.specs.Views.{HasImage, image_at};
+ghost use Rattle.dependencies.specs.Typed.{FindsTypes};
 ghost use Rattle.xn_state.specs.Kept.{MayFree};
 
 use crate::counts::{discount, give_drops, mark, with_pending};
@@ -14,6 +15,7 @@ use xn_model::Refusal;
 impl Lives {
     /// The bytes that a write of a block is to carry, and how many entries are in them.
     pub fn begun(&self, block: u32) -> Result<([u8; 512], u32), Refusal>
+        requires { FindsTypes self.now }
         ensures plan { result ≡ begun_place self.now (slice_get self.now block) }
         ensures within { IfOk result (λ plan. (1 ≤ plan.1) × (plan.1 ≤ life_pending (life_at self.now block))) }
     {

@@ -4,11 +4,10 @@ ghost use Rattle.std.specs.Prelude.{◌≡◌, ◌<◌, ◌≤◌, ◌^◌, ◌-
 ghost use Rattle.xn_model.specs.Lives.{life_at};
 ghost use Rattle.xn_model.specs.Results.{Gives};
 ghost use Rattle.xn_model.specs.Calls.{accepts, life_bytes, life_pending, patched, pending_of};
-ghost use Rattle.xn_model.specs.Rules.{IsConsistent};
 ghost use Rattle.claims.specs.Owned.{MayClaim};
 ghost use Rattle.claims.specs.Decided.{Decides};
 ghost use Rattle.xn_state.specs.Proposals.{entry_of};
-ghost use Rattle.xn_state.specs.States.{types_in};
+ghost use Rattle.xn_state.specs.States.{Continues, own_types};
 
 use crate::state::State;
 use block_cache::Claim;
@@ -35,27 +34,26 @@ impl State {
         undo: Undo,
         claims: Claims<'_>,
     ) -> Result<EditId, Refusal>
-        requires alive { IsTrue (is_some (life_at self.old.store.lives block)) }
-        requires room { life_pending (life_at self.old.store.lives block) < 64 }
-        requires few { pending_of self.old.store fs.number < 4096 }
-        requires numbers { self.old.store.next < 2 ^ 64 - 1 }
-        requires claims { MayClaim self.old.store.lives block claims.adds.now claims.drops.now }
+        requires alive { IsTrue (is_some (life_at self.old.lives block)) }
+        requires room { life_pending (life_at self.old.lives block) < 64 }
+        requires few { pending_of self.old fs.number < 4096 }
+        requires numbers { self.old.next < 2 ^ 64 - 1 }
+        requires claims { MayClaim self.old.lives block claims.adds.now claims.drops.now }
         requires few_adds { length claims.adds.now ≤ 128 }
         requires small { length claims.drops.now ≤ 128 }
-        requires reads { Decides (types_in self.old) self.old.store.lives block bytes.now reads }
-        requires undoes { patched bytes.now undo ≡ life_bytes (life_at self.old.store.lives block) }
-        requires rules { IsConsistent (types_in self.old) (accepts self.old.store block (entry_of self.old.store fs.number bytes.now claims.adds.now claims.drops.now claims.after)).1 }
-        ensures state { Gives (Ok (accepts self.old.store block (entry_of self.old.store fs.number bytes.now claims.entry.adds.now claims.entry.drops.now claims.entry.after))) self.old.store self.new.store result }
-        ensures table { self.new.table ≡ self.old.table }
+        requires reads { Decides (own_types self.old) self.old.lives block bytes.now reads }
+        requires undoes { patched bytes.now undo ≡ life_bytes (life_at self.old.lives block) }
+        requires continues { Continues self.old (accepts self.old block (entry_of self.old fs.number bytes.now claims.adds.now claims.drops.now claims.after)).1 }
+        ensures state { Gives (Ok (accepts self.old block (entry_of self.old fs.number bytes.now claims.entry.adds.now claims.entry.drops.now claims.entry.after))) self.old self.new result }
     {
         let Claims { adds, drops, after } = claims;
         let number = EditId(self.next);
-        let Ok(claim) = Claim::copied(self.alloc, number, adds, drops, after, fs) else {
+        let Ok(claim) = Claim::copied(self.alloc, number, adds, drops, after, Some(fs)) else {
             return Err(Refusal::NoMemory);
         };
         let Ok(()) = self
             .lives
-            .accept(fs, block, claim, bytes, undo, adds, drops)
+            .accept(Some(fs), block, claim, bytes, undo, adds, drops)
         else {
             return Err(Refusal::NoMemory);
         };

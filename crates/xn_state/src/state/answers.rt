@@ -14,7 +14,7 @@ impl State {
     /// ones. Refused are, in this order, a block past the end of the disk (`NoSuchBlock`), a free or dropped one (`NotInUse`), and
     /// one of another file system or of nobody (`NotYours`).
     pub fn read(&self, fs: Fs, block: u32) -> Result<&[u8; 512], Refusal>
-        ensures { Lends (read_of self.now.store fs.number block) result }
+        ensures { Lends (read_of self.now fs.number block) result }
     {
         self.lives.own(fs, block)?;
         match self.lives.current(block) {
@@ -25,14 +25,14 @@ impl State {
 
     /// The type of a block of the file system, with the refusals of `read`.
     pub fn kind(&self, fs: Fs, block: u32) -> Result<u32, Refusal>
-        ensures { result ≡ kind_of self.now.store fs.number block }
+        ensures { result ≡ kind_of self.now fs.number block }
     {
         Ok(self.lives.own(fs, block)?.ty)
     }
 
     /// The block in the file system's root slot, as block 0's newest state has it; `None` where the slot is empty.
     pub fn root(&self, fs: Fs) -> Option<u32>
-        ensures { result ≡ root_of self.now.store fs.number }
+        ensures { result ≡ root_of self.now fs.number }
     {
         let Some(root) = self.lives.current(0) else {
             unreachable!()
@@ -47,7 +47,7 @@ impl State {
 
     /// How many pending entries of all blocks count for the file system.
     pub fn pending(&self, fs: Fs) -> u32
-        ensures { result ≡ pending_of self.now.store fs.number }
+        ensures { result ≡ pending_of self.now fs.number }
     {
         self.lives.pending_for(fs)
     }

@@ -5,7 +5,7 @@ ghost use Rattle.xn_model.specs.Lives.{StoreState};
 ghost use Rattle.xn_model.specs.Results.{GivesExactly};
 ghost use Rattle.xn_model.specs.Calls.{forget_of};
 ghost use Rattle.xn_state.specs.Forgets.{forget_plan, is_untouched};
-ghost use Rattle.xn_state.specs.States.{StateValue, types_in};
+ghost use Rattle.xn_state.specs.States.{own_types};
 
 use crate::state::State;
 use block_cache::Facts;
@@ -15,7 +15,7 @@ use xn_model::Refusal;
 impl State {
     /// Whether a block of the file system may be forgotten, or the first refusal of `forget` that applies.
     fn forgettable(&self, fs: Fs, block: u32) -> Result<(), Refusal>
-        ensures { result ≡ forget_plan (types_in self.now) self.now.store fs.number block }
+        ensures { result ≡ forget_plan (own_types self.now) self.now fs.number block }
     {
         let facts = self.lives.own(fs, block)?;
         if !facts.is_fresh() {
@@ -39,8 +39,7 @@ impl State {
     /// owner (`NotFresh`), one that points to another (`NotEmpty`), one with another entry pending than its init (`TooManyPending`),
     /// and one whose write is under way (`InFlight`).
     pub fn forget(&mut self, fs: Fs, block: u32) -> Result<(), Refusal>
-        ensures state { GivesExactly (forget_of (types_in self.old) self.old.store fs.number block) self.old.store self.new.store result }
-        ensures table { self.new.table ≡ self.old.table }
+        ensures state { GivesExactly (forget_of (own_types self.old) self.old fs.number block) self.old self.new result }
     {
         self.forgettable(fs, block)?;
         self.lives.forget(block);

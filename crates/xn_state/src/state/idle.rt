@@ -10,14 +10,14 @@ use crate::state::State;
 impl State {
     /// Whether a write of some block is under way.
     pub fn is_any_in_flight(&self) -> bool
-        ensures { result ≡ list_any (alive_and (λ l. is_some l.begun)) self.now.store.lives }
+        ensures { result ≡ list_any (alive_and (λ l. is_some l.begun)) self.now.lives }
     {
         self.lives.is_any_in_flight()
     }
 
     /// How many entries are pending, of all blocks and file systems.
     pub fn all_pending(&self) -> u32
-        ensures { result ≡ all_pending self.now.store.lives }
+        ensures { result ≡ all_pending self.now.lives }
     {
         self.lives.count_pending()
     }

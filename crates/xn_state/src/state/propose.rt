@@ -12,7 +12,7 @@ ghost use Rattle.owner_records.specs.Owners.{is_claimed, owned_count};
 ghost use Rattle.templates.specs.Decided.{DecidesOwned};
 ghost use Rattle.claims.specs.Decided.{Decides, Leaves, newest_at};
 ghost use Rattle.xn_state.specs.Proposals.{edited_with, proposed_of};
-ghost use Rattle.xn_state.specs.States.{types_in};
+ghost use Rattle.xn_state.specs.States.{own_types};
 
 use crate::state::accept::Claims;
 use crate::state::{State, is_within_size};
@@ -25,7 +25,7 @@ use xn_model::Refusal;
 impl State {
     /// Whether an entry of this number was given, where one is named.
     fn was_given(&self, after: Option<EditId>) -> bool
-        ensures { result ≡ was_given self.now.store after }
+        ensures { result ≡ was_given self.now after }
     {
         match after {
             Some(entry) => 0 < entry.0 && entry.0 < self.next,
@@ -35,7 +35,7 @@ impl State {
 
     /// Whether a block is fresh, and of this type and file system.
     fn may_add(&self, fs: Fs, add: (u32, u32)) -> bool
-        ensures { result ≡ may_add self.now.store fs.number add }
+        ensures { result ≡ may_add self.now fs.number add }
     {
         match self.lives.facts(add.0) {
             Some(facts) => { facts.is_fresh() && facts.ty == add.1 && self.lives.is_for(add.0, fs) }
@@ -45,7 +45,7 @@ impl State {
 
     /// Whether a block is owned by another.
     fn may_drop(&self, owner: u32, block: u32) -> bool
-        ensures { result ≡ may_drop self.now.store owner block }
+        ensures { result ≡ may_drop self.now owner block }
     {
         match self.lives.facts(block) {
             Some(facts) => facts.is_owned_by(owner),
@@ -55,14 +55,14 @@ impl State {
 
     /// Whether a block is in use and points to no other.
     pub(crate) fn is_empty(&self, block: u32) -> bool
-        ensures { result ≡ is_empty (types_in self.now) self.now.store block }
+        ensures { result ≡ is_empty (own_types self.now) self.now block }
     {
         self.lives.owns_none(block)
     }
 
     /// Whether each of these blocks may be added.
     fn may_add_each(&self, fs: Fs, adds: &[(u32, u32)]) -> bool
-        ensures { result ≡ list_all (may_add self.now.store fs.number) adds.now }
+        ensures { result ≡ list_all (may_add self.now fs.number) adds.now }
     {
         adds.iter().all(|add| self.may_add(fs, *add))
     }
@@ -70,35 +70,35 @@ impl State {
     /// Whether each of these blocks may be added, and none stands twice.
     fn may_add_all(&self, fs: Fs, adds: &[(u32, u32)]) -> bool
         requires { length adds.now ≤ 128 }
-        ensures { result ≡ (list_all (may_add self.now.store fs.number) adds.now && distinct (blocks_of adds.now)) }
+        ensures { result ≡ (list_all (may_add self.now fs.number) adds.now && distinct (blocks_of adds.now)) }
     {
         self.may_add_each(fs, adds) && are_blocks_distinct(adds)
     }
 
     /// Whether one of these blocks is the one at which a block's chain of owners ends.
     fn closes_cycle(&self, block: u32, adds: &[(u32, u32)]) -> bool
-        ensures { result ≡ has_number (blocks_of adds.now) (chain_end self.now.store.lives block) }
+        ensures { result ≡ has_number (blocks_of adds.now) (chain_end self.now.lives block) }
     {
         !adds.is_empty() && names(adds, self.lives.chain_end(block))
     }
 
     /// Whether each of these blocks may be dropped.
     fn may_drop_each(&self, owner: u32, drops: &[u32]) -> bool
-        ensures { result ≡ list_all (may_drop self.now.store owner) drops.now }
+        ensures { result ≡ list_all (may_drop self.now owner) drops.now }
     {
         drops.iter().all(|block| self.may_drop(owner, *block))
     }
 
     /// Whether each of these blocks may be dropped, and none stands twice.
     fn may_drop_all(&self, owner: u32, drops: &[u32]) -> bool
-        ensures { result ≡ (list_all (may_drop self.now.store owner) drops.now && distinct drops.now) }
+        ensures { result ≡ (list_all (may_drop self.now owner) drops.now && distinct drops.now) }
     {
         self.may_drop_each(owner, drops) && are_distinct(drops)
     }
 
     /// Whether each of these blocks is in use and points to no other.
     fn are_empty(&self, blocks: &[u32]) -> bool
-        ensures { result ≡ list_all (is_empty (types_in self.now) self.now.store) blocks.now }
+        ensures { result ≡ list_all (is_empty (own_types self.now) self.now) blocks.now }
     {
         blocks.iter().all(|block| self.is_empty(*block))
     }
@@ -106,9 +106,9 @@ impl State {
     /// The chunks that decide what a block owns, where an edit writes into none of them, and adds and drops nothing.
     fn kept_reads(&self, block: u32, edit: &Edit) -> Option<ReadSet>
         requires limits { IsTrue (within_limits edit.now) }
-        ensures decides { (l : Life) → life_at self.now.store.lives block ≡ Some l → IfSome result (λ reads. DecidesOwned (types_in self.now) l.ty (current l) reads.chunks) }
+        ensures decides { (l : Life) → life_at self.now.lives block ≡ Some l → IfSome result (λ reads. DecidesOwned (own_types self.now) l.ty (current l) reads.chunks) }
         ensures leaves { IfSome result (λ reads. Leaves reads.chunks edit.now) }
-        ensures rules { IsConsistent (types_in self.now) self.now.store }
+        ensures rules { IsConsistent (own_types self.now) self.now }
     {
         let reads = self.reads.get(block)?;
         if leaves(reads, edit) {
@@ -121,18 +121,18 @@ impl State {
     /// The chunks that decide what a block of these bytes owns, where that has changed exactly as an edit claims, and each block
     /// is named once. It takes a run only where the edit claims something or writes into a chunk that decides it.
     fn claimed(&self, block: u32, ty: u32, new: &[u8; 512], edit: &Edit) -> Option<ReadSet>
-        requires alive { IsTrue (is_some (life_at self.now.store.lives block)) }
-        requires installed { IsTrue ((types_in self.now).installed ty) }
-        requires newest { (l : Life) → life_at self.now.store.lives block ≡ Some l → (l.ty ≡ ty) × (patched (current l) edit.now.patches ≡ new.now) × (length (current l) ≡ 512) }
+        requires alive { IsTrue (is_some (life_at self.now.lives block)) }
+        requires installed { IsTrue ((own_types self.now).installed ty) }
+        requires newest { (l : Life) → life_at self.now.lives block ≡ Some l → (l.ty ≡ ty) × (patched (current l) edit.now.patches ≡ new.now) × (length (current l) ≡ 512) }
         requires limits { IsTrue (within_limits edit.now) }
-        ensures claimed { is_some result ≡ (is_claimed self.now.store.lives block (owned_count self.now.store.lives block) ((types_in self.now).owned ty new.now) edit.now.adds edit.now.drops
-            && named_once (types_in self.now) ty new.now) }
-        ensures reads { IfSome result (λ reads. DecidesOwned (types_in self.now) ty new.now reads.chunks) }
+        ensures claimed { is_some result ≡ (is_claimed self.now.lives block (owned_count self.now.lives block) ((own_types self.now).owned ty new.now) edit.now.adds edit.now.drops
+            && named_once (own_types self.now) ty new.now) }
+        ensures reads { IfSome result (λ reads. DecidesOwned (own_types self.now) ty new.now reads.chunks) }
     {
         if let Some(reads) = self.kept_reads(block, edit) {
             return Some(reads);
         }
-        let (pairs, reads) = owned_pairs(&self.table, ty, new);
+        let (pairs, reads) = owned_pairs(self.types(), ty, new);
         let pairs = pairs.as_slice();
         let is_claimed = self
             .lives
@@ -155,14 +155,14 @@ impl State {
         edit: &Edit,
         bytes: &mut [u8; 512],
     ) -> Result<ReadSet, Refusal>
-        requires alive { IsTrue (is_some (life_at self.now.store.lives block)) }
-        requires installed { IsTrue ((types_in self.now).installed facts.ty) }
-        requires newest { newest_at self.now.store.lives block ≡ Some (facts.ty, old.now) }
-        ensures plan { result_map (λ reads. bytes.new) result ≡ edited_with (types_in self.now) self.now.store fs.number block edit.now facts old.now }
-        ensures reads { IfOk result (λ reads. DecidesOwned (types_in self.now) facts.ty bytes.new reads.chunks) }
+        requires alive { IsTrue (is_some (life_at self.now.lives block)) }
+        requires installed { IsTrue ((own_types self.now).installed facts.ty) }
+        requires newest { newest_at self.now.lives block ≡ Some (facts.ty, old.now) }
+        ensures plan { result_map (λ reads. bytes.new) result ≡ edited_with (own_types self.now) self.now fs.number block edit.now facts old.now }
+        ensures reads { IfOk result (λ reads. DecidesOwned (own_types self.now) facts.ty bytes.new reads.chunks) }
         ensures room { OnOk result (facts.pending < 64) }
-        ensures few { OnOk result (pending_of self.now.store fs.number < 4096) }
-        ensures numbers { OnOk result (self.now.store.next < 2 ^ 64 - 1) }
+        ensures few { OnOk result (pending_of self.now fs.number < 4096) }
+        ensures numbers { OnOk result (self.now.next < 2 ^ 64 - 1) }
         ensures limits { OnOk result (IsTrue (within_limits edit.now)) }
     {
         if self.is_too_many(fs, facts.pending) {
@@ -194,7 +194,7 @@ impl State {
         let Some(reads) = self.claimed(block, facts.ty, bytes, edit) else {
             return Err(Refusal::ClaimWrong);
         };
-        if !is_within_size(&self.table, facts.ty, bytes) {
+        if !is_within_size(self.types(), facts.ty, bytes) {
             return Err(Refusal::SizeWrong);
         }
         Ok(reads)
@@ -209,13 +209,13 @@ impl State {
         edit: &Edit,
         bytes: &mut [u8; 512],
     ) -> Result<ReadSet, Refusal>
-        ensures plan { result_map (λ reads. bytes.new) result ≡ proposed_of (types_in self.now) self.now.store fs.number block edit.now }
-        ensures reads { IfOk result (λ reads. Decides (types_in self.now) self.now.store.lives block bytes.new (Some reads)) }
-        ensures rules { IsConsistent (types_in self.now) self.now.store }
-        ensures alive { OnOk result (IsTrue (is_some (life_at self.now.store.lives block))) }
-        ensures room { OnOk result (life_pending (life_at self.now.store.lives block) < 64) }
-        ensures few { OnOk result (pending_of self.now.store fs.number < 4096) }
-        ensures numbers { OnOk result (self.now.store.next < 2 ^ 64 - 1) }
+        ensures plan { result_map (λ reads. bytes.new) result ≡ proposed_of (own_types self.now) self.now fs.number block edit.now }
+        ensures reads { IfOk result (λ reads. Decides (own_types self.now) self.now.lives block bytes.new (Some reads)) }
+        ensures rules { IsConsistent (own_types self.now) self.now }
+        ensures alive { OnOk result (IsTrue (is_some (life_at self.now.lives block))) }
+        ensures room { OnOk result (life_pending (life_at self.now.lives block) < 64) }
+        ensures few { OnOk result (pending_of self.now fs.number < 4096) }
+        ensures numbers { OnOk result (self.now.next < 2 ^ 64 - 1) }
         ensures limits { OnOk result (IsTrue (within_limits edit.now)) }
     {
         let facts = self.lives.own(fs, block)?;
@@ -227,9 +227,9 @@ impl State {
 
     /// What undoes an edit of a block in use.
     fn undo_of(&self, block: u32, edit: &Edit) -> Result<Undo, Refusal>
-        requires alive { IsTrue (is_some (life_at self.now.store.lives block)) }
+        requires alive { IsTrue (is_some (life_at self.now.lives block)) }
         requires limits { IsTrue (within_limits edit.now) }
-        ensures ok { IfOk result (λ undo. patched (patched (life_bytes (life_at self.now.store.lives block)) edit.now.patches) undo ≡ life_bytes (life_at self.now.store.lives block)) }
+        ensures ok { IfOk result (λ undo. patched (patched (life_bytes (life_at self.now.lives block)) edit.now.patches) undo ≡ life_bytes (life_at self.now.lives block)) }
         ensures err { IfErr result (λ refusal. refusal ≡ Refusal.NoMemory) }
     {
         let Some(old) = self.lives.current(block) else {
@@ -252,8 +252,7 @@ impl State {
     /// that is not zero (`SizeWrong`); last `NoMemory`. A refusal changes nothing and uses no number. An added block may own
     /// others, and comes with them.
     pub fn propose(&mut self, fs: Fs, block: u32, edit: &Edit) -> Result<EditId, Refusal>
-        ensures state { Gives (propose_of (types_in self.old) self.old.store fs.number block edit.now) self.old.store self.new.store result }
-        ensures table { self.new.table ≡ self.old.table }
+        ensures state { Gives (propose_of (own_types self.old) self.old fs.number block edit.now) self.old self.new result }
     {
         let mut bytes = [0u8; 512];
         let reads = self.proposed(fs, block, edit, &mut bytes)?;

@@ -8,7 +8,7 @@ ghost use Rattle.xn_model.specs.Calls.{drop_root_of, life_pending, make_root_of,
 ghost use Rattle.xn_model.specs.Rules.{IsConsistent};
 ghost use Rattle.xn_state.specs.Plans.{make_root_plan};
 ghost use Rattle.xn_state.specs.Proposals.{drop_root_plan};
-ghost use Rattle.xn_state.specs.States.{types_in};
+ghost use Rattle.xn_state.specs.States.{own_types};
 
 use crate::root::slot_undo;
 use crate::state::State;
@@ -21,12 +21,12 @@ use xn_model::Refusal;
 impl State {
     /// Block 0's bytes with the root slot set to a fresh block of the file system, and that block's type.
     fn make_root_plan(&self, fs: Fs, block: u32) -> Result<([u8; 512], u32), Refusal>
-        ensures plan { result ≡ make_root_plan self.now.store fs.number block }
-        ensures rules { IsConsistent (types_in self.now) self.now.store }
-        ensures alive { IfOk result (λ plan. IsTrue (is_some (life_at self.now.store.lives 0))) }
-        ensures room { IfOk result (λ plan. life_pending (life_at self.now.store.lives 0) < 64) }
-        ensures few { IfOk result (λ plan. pending_of self.now.store fs.number < 4096) }
-        ensures numbers { IfOk result (λ plan. self.now.store.next < 2 ^ 64 - 1) }
+        ensures plan { result ≡ make_root_plan self.now fs.number block }
+        ensures rules { IsConsistent (own_types self.now) self.now }
+        ensures alive { IfOk result (λ plan. IsTrue (is_some (life_at self.now.lives 0))) }
+        ensures room { IfOk result (λ plan. life_pending (life_at self.now.lives 0) < 64) }
+        ensures few { IfOk result (λ plan. pending_of self.now fs.number < 4096) }
+        ensures numbers { IfOk result (λ plan. self.now.next < 2 ^ 64 - 1) }
     {
         let facts = self.lives.own(fs, block)?;
         let Some(root) = self.lives.current(0) else {
@@ -53,8 +53,7 @@ impl State {
     /// of nobody (`NotYours`); a slot that is not empty (`RootTaken`), a block that has had an owner (`NotFresh`), too many
     /// pending entries (`TooManyPending`), no number left (`Exhausted`), last `NoMemory`. A refusal changes nothing.
     pub fn make_root(&mut self, fs: Fs, block: u32) -> Result<EditId, Refusal>
-        ensures state { Gives (make_root_of self.old.store fs.number block) self.old.store self.new.store result }
-        ensures table { self.new.table ≡ self.old.table }
+        ensures state { Gives (make_root_of self.old fs.number block) self.old self.new result }
     {
         let (bytes, ty) = self.make_root_plan(fs, block)?;
         let undo = self.slot_undo(fs)?;
@@ -68,12 +67,12 @@ impl State {
 
     /// Block 0's bytes with the file system's root slot empty, and the block that stands there.
     fn drop_root_plan(&self, fs: Fs) -> Result<([u8; 512], u32), Refusal>
-        ensures plan { result ≡ drop_root_plan (types_in self.now) self.now.store fs.number }
-        ensures rules { IsConsistent (types_in self.now) self.now.store }
-        ensures alive { IfOk result (λ plan. IsTrue (is_some (life_at self.now.store.lives 0))) }
-        ensures room { IfOk result (λ plan. life_pending (life_at self.now.store.lives 0) < 64) }
-        ensures few { IfOk result (λ plan. pending_of self.now.store fs.number < 4096) }
-        ensures numbers { IfOk result (λ plan. self.now.store.next < 2 ^ 64 - 1) }
+        ensures plan { result ≡ drop_root_plan (own_types self.now) self.now fs.number }
+        ensures rules { IsConsistent (own_types self.now) self.now }
+        ensures alive { IfOk result (λ plan. IsTrue (is_some (life_at self.now.lives 0))) }
+        ensures room { IfOk result (λ plan. life_pending (life_at self.now.lives 0) < 64) }
+        ensures few { IfOk result (λ plan. pending_of self.now fs.number < 4096) }
+        ensures numbers { IfOk result (λ plan. self.now.next < 2 ^ 64 - 1) }
     {
         let Some(root) = self.lives.current(0) else {
             unreachable!()
@@ -99,8 +98,7 @@ impl State {
     /// empty slot (`NotOwned`), a block that points to others (`NotEmpty`), too many pending entries (`TooManyPending`), no
     /// number left (`Exhausted`), last `NoMemory`. A refusal changes nothing.
     pub fn drop_root(&mut self, fs: Fs) -> Result<EditId, Refusal>
-        ensures state { Gives (drop_root_of (types_in self.old) self.old.store fs.number) self.old.store self.new.store result }
-        ensures table { self.new.table ≡ self.old.table }
+        ensures state { Gives (drop_root_of (own_types self.old) self.old fs.number) self.old self.new result }
     {
         let (bytes, block) = self.drop_root_plan(fs)?;
         let undo = self.slot_undo(fs)?;
@@ -114,7 +112,7 @@ impl State {
 
     /// What undoes a change of the file system's root slot, in block 0.
     fn slot_undo(&self, fs: Fs) -> Result<Undo, Refusal>
-        ensures ok { IfOk result (λ undo. (root : ℕ × ℕ) → patched (with_slot (root_now self.now.store) fs.number root) undo ≡ root_now self.now.store) }
+        ensures ok { IfOk result (λ undo. (root : ℕ × ℕ) → patched (with_slot (root_now self.now) fs.number root) undo ≡ root_now self.now) }
         ensures err { IfErr result (λ refusal. refusal ≡ Refusal.NoMemory) }
     {
         let Some(root) = self.lives.current(0) else {

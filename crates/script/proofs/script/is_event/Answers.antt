@@ -10,5 +10,10 @@ returns-in-Some c = λ words tells.
     let told = subst (λ t. Tells words t) c.in-Init.is tells in
     (event.Call c.in-Init.field-0 (Init c.in-Init.field-1 c.in-Some._block), told.0 c.in-Some._block (c.in-Some.ensures.readable.0 refl) c.in-Some.ensures.block)
 
+pub returns-in-Some-parse_template : goal.returns-in-Some-parse_template
+returns-in-Some-parse_template c = λ words tells.
+    let told = subst (λ t. Tells words t) c.in-Install.is tells in
+    (event.Install c.in-Some-parse_template._block, told.0 c.in-Some-parse_template._block (c.in-Some-parse_template.ensures.readable.0 refl) c.in-Some-parse_template.ensures.block)
+
 pub returns-in_default : goal.returns-in_default
-returns-in_default c = λ words tells. told_event words c.args.told.now c.in_default.not-Init tells
+returns-in_default c = λ words tells. told_event words c.args.told.now c.in_default.not-Init c.in_default.not-Install tells

@@ -6,6 +6,6 @@ use Rattle.shared.proofs.hub.raise_all.Given as goal
 abbrev pub invariant-loop-number : goal.invariant-loop-number
 invariant-loop-number g l = record {
   floor : l.publisher.floor ≡ l.initial.publisher.floor;
-  below : NoWordAbove l.publisher.seen l.kernel.state.store;
-  raised : (fs : ℕ) → fs < l.number → slice_index l.publisher.seen fs ≡ floor_of l.kernel.state.store fs;
+  below : NoWordAbove l.publisher.seen l.kernel.state;
+  raised : (fs : ℕ) → fs < l.number → slice_index l.publisher.seen fs ≡ floor_of l.kernel.state fs;
 }

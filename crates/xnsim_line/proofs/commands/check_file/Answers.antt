@@ -5,7 +5,7 @@ use Rattle.xn_model.specs.Images.{blocks_in}
 use Rattle.image_model.specs.Walk.{count_of}
 use Rattle.image_model.specs.Report.{IsSoundImage}
 use Rattle.templates.specs.Meaning.{pair_of}
-use Rattle.crash_check.specs.Answers.{types_in}
+use Rattle.templates.specs.Language.{types_of_image}
 use Rattle.xnsim_line.specs.Checking.{report_line}
 use Rattle.xnsim_words.specs.Files.{IsStartHeld}
 use Rattle.xnsim_words.proofs.ForCallers.{whole_held}
@@ -18,7 +18,7 @@ returns-clause-done g c =
     let image = c.as_slice.result.now in
     let start : IsStartHeld held c.args.image.now 16777217 bytes = search rules in
     let same : image ≡ bytes = c.as_slice.ensures.value in
-    let sound : IsSoundImage (types_in (blocks_in image)) image = c.in-Ok.ensures.sound in
+    let sound : IsSoundImage (types_of_image (blocks_in image)) image = c.in-Ok.ensures.sound in
     let long : length image ≡ 512 * count_of image = sound.whole in
     let most : count_of image ≤ 32768 = sound.blocks.size.1 in
     let few : length image < 16777217 = omega (arith, long, most) in

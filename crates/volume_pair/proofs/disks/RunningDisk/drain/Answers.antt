@@ -5,8 +5,5 @@ use Rattle.world.specs.Worlds.{world_with}
 use Rattle.volume_pair.proofs.Kept.{event_stays}
 use Rattle.volume_pair.proofs.disks.RunningDisk.drain.Goals as goal
 
-pub returns-clause-types : goal.returns-clause-types
-returns-clause-types c = (event_stays (world_with c.args.self.now) (world_with c.step.new.self) (Client c.args.fs.number Drain) (reply_of c.step.result) c.args.fs.few c.rules.ensures c.step.ensures.step (λ fs. inr refl)).0
-
-pub returns-clause-stays : goal.returns-clause-stays
-returns-clause-stays c = (event_stays (world_with c.args.self.now) (world_with c.step.new.self) (Client c.args.fs.number Drain) (reply_of c.step.result) c.args.fs.few c.rules.ensures c.step.ensures.step (λ fs. inr refl)).1
+pub returns : goal.returns
+returns c = (event_stays (world_with c.args.self.now) (world_with c.step.new.self) (Client c.args.fs.number Drain) (reply_of c.step.result) c.args.fs.few c.rules.ensures c.step.ensures.step (λ fs. inr refl))

@@ -1,20 +1,26 @@
-use Rattle.std.proofs.Common.{◌≡◌, None, subst}
+use Rattle.std.proofs.Common.{◌≡◌, None, subst, sym}
 use Rattle.std.specs.Prelude.{IsSomeAnd}
-use Rattle.templates.specs.Tables.{types_of}
+use Rattle.xn_state.specs.States.{own_types}
 use Rattle.world.specs.Worlds.{WorldValue}
-use Rattle.volume_pair.specs.Kept.{IsKept, Recovers}
+use Rattle.volume_pair.specs.Kept.{HasLibrary, IsKept, Recovers}
 use Rattle.volume_pair.proofs.Kept.{if_some, some_and}
 use Rattle.volume_pair.proofs.guarded.Guarded+Running.crash.Goals as goal
+
+pub crashed-requires-clause-library : goal.crashed-requires-clause-library
+crashed-requires-clause-library g c κs h = subst (λ (v : WorldValue). HasLibrary (own_types v.state) v.state) (sym c.into_parts-running.ensures.store) c.into_parts-running.ensures.has
 
 pub invariant_of-result : goal.invariant_of-result
 invariant_of-result g c =
     let self = c.args.self in
     let store = c.in_ok-store.store in
-    let recovers = subst (λ (v : WorldValue). Recovers (types_of v.table) v.state (types_of store.table) store.state) c.into_parts-running.ensures.store c.in_ok-store.ensures in
-    if_some (λ o. (o.volume ≡ None) × IsSomeAnd c.into_parts-running.result.1 (λ before. before.fs ≡ o.fs)) (λ o. IsKept (types_of store.table) store.state o.fs.number o.volume) c.closed-other.result
-    (λ o is x.
-    let b = some_and (λ before. before.fs ≡ o.fs) (λ before. IsKept (types_of self.table) self.state before.fs.number before.volume) c.into_parts-running.result.1 x.1 c.into_parts-running.ensures.other in
-    rw (x.0, ← b.1) (recovers b.0.fs.number b.0.volume b.2)) c.closed-other.ensures
+    let recovers = subst (λ (v : WorldValue). Recovers (own_types v.state) v.state (own_types store.state) store.state) c.into_parts-running.ensures.store c.in_ok-store.ensures in
+    (
+      recovers.has,
+      if_some (λ o. (o.volume ≡ None) × IsSomeAnd c.into_parts-running.result.1 (λ before. before.fs ≡ o.fs)) (λ o. IsKept (own_types store.state) store.state o.fs.number o.volume) c.closed-other.result
+      (λ o is x.
+      let b = some_and (λ before. before.fs ≡ o.fs) (λ before. IsKept (own_types self.state) self.state before.fs.number before.volume) c.into_parts-running.result.1 x.1 c.into_parts-running.ensures.other in
+      rw (x.0, ← b.1) (recovers.kept b.0.fs.number b.0.volume b.2)) c.closed-other.ensures,
+    )
 
 pub returns : goal.returns
-returns g c = subst (λ (v : WorldValue). Recovers (types_of v.table) v.state (types_of c.in_ok-store.store.table) c.in_ok-store.store.state) c.into_parts-running.ensures.store c.in_ok-store.ensures
+returns g c = subst (λ (v : WorldValue). Recovers (own_types v.state) v.state (own_types c.in_ok-store.store.state) c.in_ok-store.store.state) c.into_parts-running.ensures.store c.in_ok-store.ensures

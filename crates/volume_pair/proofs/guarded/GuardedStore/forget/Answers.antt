@@ -1,7 +1,7 @@
 use Rattle.std.proofs.Common.{subst}
 use Rattle.xn_model.specs.Rules.{IsConsistent}
 use Rattle.volume_pair.specs.Kept.{IsKept}
-use Rattle.volume_pair.proofs.Kept.{if_some, retyped, forget_keeps}
+use Rattle.volume_pair.proofs.Kept.{if_some, retyped, retyped_library, forget_has, forget_keeps}
 use Rattle.volume_pair.proofs.guarded.GuardedStore.forget.Goals as goal
 
 pub invariant_of-self : goal.invariant_of-self
@@ -14,5 +14,8 @@ invariant_of-self g c =
     let T' = types_of new in
     let ensures = c.forget.ensures in
     let h = subst (λ U. IsConsistent U (state_of new)) ensures.types ensures.rules in
-    if_some (λ o. IsKept T (state_of old) o.fs.number o.volume) (λ o. IsKept T' (state_of new) o.fs.number o.volume) c.self.inside.other
-    (λ o is k. retyped T T' (state_of new) o.fs.number o.volume ensures.types (forget_keeps T (state_of old) (state_of new) h o.fs.number o.volume k c.args.fs.number c.args.block c.forget.result ensures.state)) c.self.invariant
+    (
+      retyped_library T T' (state_of new) ensures.types (forget_has T (state_of old) (state_of new) c.self.invariant.0 c.args.fs.number c.args.block c.forget.result ensures.state),
+      if_some (λ o. IsKept T (state_of old) o.fs.number o.volume) (λ o. IsKept T' (state_of new) o.fs.number o.volume) c.self.inside.other
+      (λ o is k. retyped T T' (state_of new) o.fs.number o.volume ensures.types (forget_keeps T (state_of old) (state_of new) h o.fs.number o.volume k c.args.fs.number c.args.block c.forget.result ensures.state)) c.self.invariant.1,
+    )

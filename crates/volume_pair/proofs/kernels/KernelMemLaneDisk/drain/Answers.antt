@@ -2,12 +2,7 @@ use Rattle.disk.specs.Mem.{MemoryLane, memory_read, memory_sync, memory_write}
 use Rattle.volume_pair.proofs.Rounds.{drain_after}
 use Rattle.volume_pair.proofs.kernels.KernelMemLaneDisk.drain.Goals as goal
 
-pub returns-clause-types : goal.returns-clause-types
-returns-clause-types c =
+pub returns : goal.returns
+returns c =
     (drain_after (λ (lane : MemoryLane). lane.bytes) (λ (lane : MemoryLane). lane.faults) memory_write memory_sync memory_read c.args.self.now c.drain-drained.new.self c.drain-drained.result
-    (λ stop. stop.writes) (λ stop. stop.ticket) (λ stop. stop.refusal) c.drain-drained.ensures.rounds c.drain-drained.ensures.err).0
-
-pub returns-clause-stays : goal.returns-clause-stays
-returns-clause-stays c =
-    (drain_after (λ (lane : MemoryLane). lane.bytes) (λ (lane : MemoryLane). lane.faults) memory_write memory_sync memory_read c.args.self.now c.drain-drained.new.self c.drain-drained.result
-    (λ stop. stop.writes) (λ stop. stop.ticket) (λ stop. stop.refusal) c.drain-drained.ensures.rounds c.drain-drained.ensures.err).1
+    (λ stop. stop.writes) (λ stop. stop.ticket) (λ stop. stop.refusal) c.drain-drained.ensures.rounds c.drain-drained.ensures.err)

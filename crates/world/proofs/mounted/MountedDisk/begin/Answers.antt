@@ -9,15 +9,15 @@ use Rattle.world.proofs.mounted.MountedDisk.begin.Goals as goal
 
 pub returns-in-Ok : goal.returns-in-Ok
 returns-in-Ok c =
-    let begun = gives_exactly-ok (begun_of c.self.inside.kernel.state.store c.args.block) c.self.inside.kernel.state.store c.begin.new.self.state.store (c.in-Ok.ticket.bytes, c.in-Ok.ticket.count) c.in-Ok.ensures.state in
-    let step = begin_step c.self.inside.kernel c.self.inside.tickets c.self.invariant c.args.block (c.in-Ok.ticket.bytes, c.in-Ok.ticket.count) c.begin.new.self.state.store begun c.in-Ok.ticket (refl, refl)
+    let begun = gives_exactly-ok (begun_of c.self.inside.kernel.state c.args.block) c.self.inside.kernel.state c.begin.new.self.state (c.in-Ok.ticket.bytes, c.in-Ok.ticket.count) c.in-Ok.ensures.state in
+    let step = begin_step c.self.inside.kernel c.self.inside.tickets c.self.invariant c.args.block (c.in-Ok.ticket.bytes, c.in-Ok.ticket.count) c.begin.new.self.state begun c.in-Ok.ticket (refl, refl)
     (c.in-Ok.ensures.ticket.0, c.in-Ok.ensures.ticket.1) c.in-Ok.ensures.ticket.2 c.in-Ok.ensures.ticket.3 in
     seen (value_of c.self.inside.kernel c.self.inside.tickets) c.args.self.now c.self.view_is (model.Begin c.args.block) (model.Begun c.count-entries.result) _
     (rw (c.count-entries.ensures, c.put.ensures, c.new.ensures, c.in-Ok.ensures.lanes) step)
 
 pub invariant_of-self-in-Ok : goal.invariant_of-self-in-Ok
 invariant_of-self-in-Ok c =
-    let begun = gives_exactly-ok (begun_of c.self.inside.kernel.state.store c.args.block) c.self.inside.kernel.state.store c.begin.new.self.state.store (c.in-Ok.ticket.bytes, c.in-Ok.ticket.count) c.in-Ok.ensures.state in
-    let leaves = begin_world c.self.inside.kernel c.self.inside.tickets c.self.invariant c.args.block (c.in-Ok.ticket.bytes, c.in-Ok.ticket.count) c.begin.new.self.state.store begun c.in-Ok.ticket (refl, refl)
+    let begun = gives_exactly-ok (begun_of c.self.inside.kernel.state c.args.block) c.self.inside.kernel.state c.begin.new.self.state (c.in-Ok.ticket.bytes, c.in-Ok.ticket.count) c.in-Ok.ensures.state in
+    let leaves = begin_world c.self.inside.kernel c.self.inside.tickets c.self.invariant c.args.block (c.in-Ok.ticket.bytes, c.in-Ok.ticket.count) c.begin.new.self.state begun c.in-Ok.ticket (refl, refl)
     (c.in-Ok.ensures.ticket.0, c.in-Ok.ensures.ticket.1) c.in-Ok.ensures.ticket.2 c.in-Ok.ensures.ticket.3 in
     rw (c.put.ensures, c.new.ensures, c.in-Ok.ensures.lanes) leaves

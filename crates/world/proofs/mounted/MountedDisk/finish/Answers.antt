@@ -33,10 +33,10 @@ returns-in-Ok c =
     let ours = is_ours kernel tickets c.self.invariant c.args.block ticket has in
     let rests = false_from_ne_true ticket.unsynced (λ e. c.in-Ok.ensures.unsynced ours e) in
     let given = c.in-Ok.ensures.given in
-    let settled = settled_at_block kernel tickets c.self.invariant c.args.block ticket has c.finish.new.self.state.store (c.in-Ok.landed.durable, c.in-Ok.landed.freed)
+    let settled = settled_at_block kernel tickets c.self.invariant c.args.block ticket has c.finish.new.self.state (c.in-Ok.landed.durable, c.in-Ok.landed.freed)
     (⊎_elim (λ gives. gives) (λ none. absurd none) (c.in-Ok.ensures.mine ours rests)) in
     let block = block_is kernel tickets c.self.invariant c.args.block ticket has in
-    let step = finish_step kernel tickets c.self.invariant c.args.block ticket has rests given.0 given.3.1 (c.in-Ok.landed.durable, c.in-Ok.landed.freed) c.finish.new.self.state.store settled in
+    let step = finish_step kernel tickets c.self.invariant c.args.block ticket has rests given.0 given.3.1 (c.in-Ok.landed.durable, c.in-Ok.landed.freed) c.finish.new.self.state settled in
     seen (value_of kernel tickets) c.args.self.now c.self.view_is (model.Finish c.args.block) (model.Finished c.in-Ok.landed.durable c.in-Ok.landed.freed) _
     (rw (c.take.ensures.rest, given.4, block) step)
 
@@ -49,10 +49,10 @@ invariant_of-self-in-Ok c =
     let ours = is_ours kernel tickets c.self.invariant c.args.block ticket has in
     let rests = false_from_ne_true ticket.unsynced (λ e. c.in-Ok.ensures.unsynced ours e) in
     let given = c.in-Ok.ensures.given in
-    let settled = settled_at_block kernel tickets c.self.invariant c.args.block ticket has c.finish.new.self.state.store (c.in-Ok.landed.durable, c.in-Ok.landed.freed)
+    let settled = settled_at_block kernel tickets c.self.invariant c.args.block ticket has c.finish.new.self.state (c.in-Ok.landed.durable, c.in-Ok.landed.freed)
     (⊎_elim (λ gives. gives) (λ none. absurd none) (c.in-Ok.ensures.mine ours rests)) in
     let block = block_is kernel tickets c.self.invariant c.args.block ticket has in
-    let leaves = finish_world kernel tickets c.self.invariant c.args.block ticket has rests given.0 given.3.1 (c.in-Ok.landed.durable, c.in-Ok.landed.freed) c.finish.new.self.state.store settled in
+    let leaves = finish_world kernel tickets c.self.invariant c.args.block ticket has rests given.0 given.3.1 (c.in-Ok.landed.durable, c.in-Ok.landed.freed) c.finish.new.self.state settled in
     rw (c.take.ensures.rest, given.4, block) leaves
 
 -- or that goes on, as it isn't synced
@@ -72,7 +72,7 @@ invariant_of-self-in-Err c =
     let has = sym c.take.ensures.ticket ∙ (c.in-Some.is ∙ ap (λ t. Some t) (sym c.into_ticket.ensures)) in
     let ours = is_ours kernel tickets c.self.invariant c.args.block ticket has in
     let unsynced = true_from_ne_false ticket.unsynced (λ rests. ⊎_elim
-    (λ gives. never_refused kernel tickets c.self.invariant c.args.block ticket has c.finish.new.self.state.store c.in-Err.refusal gives)
+    (λ gives. never_refused kernel tickets c.self.invariant c.args.block ticket has c.finish.new.self.state c.in-Err.refusal gives)
     (λ device. false≢true (sym (calm_read kernel tickets c.self.invariant c.args.block ticket has) ∙ (c.in-Err.ensures.unread device.0).1.0))
     (c.in-Err.ensures.mine ours rests)) in
     let back = c.new.ensures ∙ (c.in-Err.ensures.unsynced ours unsynced).0 in
@@ -87,7 +87,7 @@ returns-in-Err c =
     let has = sym c.take.ensures.ticket ∙ (c.in-Some.is ∙ ap (λ t. Some t) (sym c.into_ticket.ensures)) in
     let ours = is_ours kernel tickets c.self.invariant c.args.block ticket has in
     let unsynced = true_from_ne_false ticket.unsynced (λ rests. ⊎_elim
-    (λ gives. never_refused kernel tickets c.self.invariant c.args.block ticket has c.finish.new.self.state.store c.in-Err.refusal gives)
+    (λ gives. never_refused kernel tickets c.self.invariant c.args.block ticket has c.finish.new.self.state c.in-Err.refusal gives)
     (λ device. false≢true (sym (calm_read kernel tickets c.self.invariant c.args.block ticket has) ∙ (c.in-Err.ensures.unread device.0).1.0))
     (c.in-Err.ensures.mine ours rests)) in
     let told = c.in-Err.ensures.unsynced ours unsynced in

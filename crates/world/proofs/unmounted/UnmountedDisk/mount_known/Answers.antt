@@ -4,18 +4,18 @@ use Rattle.world.proofs.unmounted.UnmountedDisk.mount_known.Goals as goal
 
 pub over-kernel-requires-clause-fit : goal.over-kernel-requires-clause-fit
 over-kernel-requires-clause-fit c =
-    known_fit c.self.inside.lanes c.self.inside.tickets c.self.invariant c.args.self c.self.view_is c.requires.built_ins c.requires.sound c.args.state c.requires.known
+    known_fit c.self.inside.lanes c.self.inside.tickets c.self.invariant c.args.self c.self.view_is c.requires.sound c.args.state c.requires.known
 
 pub over-kernel-requires-clause-synced : goal.over-kernel-requires-clause-synced
 over-kernel-requires-clause-synced c = lanes_synced c.self.inside.lanes c.self.invariant.home
 
 pub new-requires : goal.new-requires
 new-requires c =
-    known_world c.self.inside.lanes c.self.inside.tickets c.self.invariant c.args.self c.self.view_is c.requires.built_ins c.requires.sound c.args.state c.requires.known
+    known_world c.self.inside.lanes c.self.inside.tickets c.self.invariant c.args.self c.self.view_is c.requires.sound c.args.state c.requires.known
     c.args.id c.over-kernel.result c.over-kernel.ensures
 
 pub returns : goal.returns
 returns c =
     c.new.ensures
-    ∙ known_value c.self.inside.lanes c.self.inside.tickets c.self.invariant c.args.self c.self.view_is c.requires.built_ins c.requires.sound c.args.state c.requires.known
+    ∙ known_value c.self.inside.lanes c.self.inside.tickets c.self.invariant c.args.self c.self.view_is c.requires.sound c.args.state c.requires.known
     c.args.id c.over-kernel.result c.over-kernel.ensures

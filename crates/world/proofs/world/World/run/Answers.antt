@@ -49,7 +49,7 @@ pub returns-clause-told : goal.returns-clause-told
 returns-clause-told g c =
     let past : length c.args.events.now ≤ c.loop-at.at = omega (arith, c.loop-at-test.false) in
     let run = subst (λ es. Run (world_with c.args.self.now) (map event_of es) (map reply_of c.loop-at.replies.items) (world_with c.loop-at.self)) (take_all c.loop-at.at c.args.events.now past) c.loop-at.invariant.0 in
-    λ hs m. ran_told (world_with c.args.self.now) (world_with c.loop-at.self) hs m (map event_of c.args.events.now) (map reply_of c.loop-at.replies.items) (are_events c.args.events.now) run
+    λ hs m. ran_told (world_with c.args.self.now) (world_with c.loop-at.self) hs m (map event_of c.args.events.now) (map reply_of c.loop-at.replies.items) (are_events c.args.events.now c.are_events.ensures) run
 
 pub returns-clause-rules : goal.returns-clause-rules
 returns-clause-rules g c = c.loop-at.invariant.1

@@ -8,17 +8,17 @@ use Rattle.xn_kernel.proofs.kernel.Kernel.round.Goals as goal
 
 pub unreachable-requires : goal.unreachable-requires
 unreachable-requires g c =
-    let store = c.args.self.now.state.store in
+    let store = c.args.self.now.state in
     let picked = picked_begins store c.args.block c.requires.picked in
-    never_err (begun_of store c.args.block) _ store c.begin.new.self.state.store c.in_default.field-0 picked.3 c.in_default.ensures.state
+    never_err (begun_of store c.args.block) _ store c.begin.new.self.state c.in_default.field-0 picked.3 c.in_default.ensures.state
 
 pub returns-in_default-sync-clause-err : goal.returns-in_default-sync-clause-err
 returns-in_default-sync-clause-err g c =
     let old = c.args.self.now in
     let first = c.in-Ok.ticket in
-    let begun = c.begin.new.self.state.store in
+    let begun = c.begin.new.self.state in
     let at = c.in-Ok.ensures.ticket.1 in
-    let begins = ap (begun_of old.state.store) at ∙ gives_exactly-ok (begun_of old.state.store c.args.block) old.state.store begun (first.bytes, first.count) c.in-Ok.ensures.state in
+    let begins = ap (begun_of old.state) at ∙ gives_exactly-ok (begun_of old.state c.args.block) old.state begun (first.bytes, first.count) c.in-Ok.ensures.state in
     let rest = c.in_default-sync.ensures.err ∙ ap (λ (x : TicketValue g.row.L.Denot). record x { lane = c.sync.new.self.lane }) c.land-landed.ensures.ticket in
     let away = ends_unsynced g.L.Lane.bytes_of g.L.Lane.crash_leaves g.L.Lane.faults_of g.L.Lane.write_gives g.L.Lane.sync_gives g.L.Lane.read_gives old c.rules.ensures first begun (c.requires.picked ∙ ap (λ b. Some b) (sym at)) begins c.in-Ok.ensures.ticket.0
     (ap (slice_get old.lanes) at ∙ c.in-Ok.ensures.ticket.2) c.land-landed.result c.land-landed.new.self.lane c.land-landed.ensures.gives c.land-landed.ensures.faults_err
@@ -30,9 +30,9 @@ pub returns-in-Err-clause-err : goal.returns-in-Err-clause-err
 returns-in-Err-clause-err g c =
     let old = c.args.self.now in
     let first = c.in-Ok.ticket in
-    let begun = c.begin.new.self.state.store in
+    let begun = c.begin.new.self.state in
     let at = c.in-Ok.ensures.ticket.1 in
-    let begins = ap (begun_of old.state.store) at ∙ gives_exactly-ok (begun_of old.state.store c.args.block) old.state.store begun (first.bytes, first.count) c.in-Ok.ensures.state in
+    let begins = ap (begun_of old.state) at ∙ gives_exactly-ok (begun_of old.state c.args.block) old.state begun (first.bytes, first.count) c.in-Ok.ensures.state in
     let ticket = c.in-Ok-sync.ensures.ok ∙ ap (λ (x : TicketValue g.row.L.Denot). record x { lane = c.sync.new.self.lane; unsynced = false }) c.land-landed.ensures.ticket in
     let unread = finish_refused g.L.Lane.bytes_of g.L.Lane.crash_leaves g.L.Lane.faults_of g.L.Lane.write_gives g.L.Lane.sync_gives g.L.Lane.read_gives old c.rules.ensures first begun (c.requires.picked ∙ ap (λ b. Some b) (sym at)) begins c.in-Ok.ensures.ticket.0
     (ap (slice_get old.lanes) at ∙ c.in-Ok.ensures.ticket.2) c.land-landed.result c.land-landed.new.self.lane c.land-landed.ensures.gives c.land-landed.ensures.faults_err
@@ -45,9 +45,9 @@ pub returns-then-landed-gt0-clause-ok : goal.returns-then-landed-gt0-clause-ok
 returns-then-landed-gt0-clause-ok g c =
     let old = c.args.self.now in
     let first = c.in-Ok.ticket in
-    let begun = c.begin.new.self.state.store in
+    let begun = c.begin.new.self.state in
     let at = c.in-Ok.ensures.ticket.1 in
-    let begins = ap (begun_of old.state.store) at ∙ gives_exactly-ok (begun_of old.state.store c.args.block) old.state.store begun (first.bytes, first.count) c.in-Ok.ensures.state in
+    let begins = ap (begun_of old.state) at ∙ gives_exactly-ok (begun_of old.state c.args.block) old.state begun (first.bytes, first.count) c.in-Ok.ensures.state in
     let ticket = c.in-Ok-sync.ensures.ok ∙ ap (λ (x : TicketValue g.row.L.Denot). record x { lane = c.sync.new.self.lane; unsynced = false }) c.land-landed.ensures.ticket in
     let given = c.in-Ok-finish.ensures.given in
     let done = finish_done g.L.Lane.bytes_of g.L.Lane.crash_leaves g.L.Lane.faults_of g.L.Lane.write_gives g.L.Lane.sync_gives g.L.Lane.read_gives old c.rules.ensures first begun (c.requires.picked ∙ ap (λ b. Some b) (sym at)) begins c.in-Ok.ensures.ticket.0
@@ -61,9 +61,9 @@ pub returns-else-landed-gt0-clause-err : goal.returns-else-landed-gt0-clause-err
 returns-else-landed-gt0-clause-err g c =
     let old = c.args.self.now in
     let first = c.in-Ok.ticket in
-    let begun = c.begin.new.self.state.store in
+    let begun = c.begin.new.self.state in
     let at = c.in-Ok.ensures.ticket.1 in
-    let begins = ap (begun_of old.state.store) at ∙ gives_exactly-ok (begun_of old.state.store c.args.block) old.state.store begun (first.bytes, first.count) c.in-Ok.ensures.state in
+    let begins = ap (begun_of old.state) at ∙ gives_exactly-ok (begun_of old.state c.args.block) old.state begun (first.bytes, first.count) c.in-Ok.ensures.state in
     let ticket = c.in-Ok-sync.ensures.ok ∙ ap (λ (x : TicketValue g.row.L.Denot). record x { lane = c.sync.new.self.lane; unsynced = false }) c.land-landed.ensures.ticket in
     let given = c.in-Ok-finish.ensures.given in
     let done = finish_done g.L.Lane.bytes_of g.L.Lane.crash_leaves g.L.Lane.faults_of g.L.Lane.write_gives g.L.Lane.sync_gives g.L.Lane.read_gives old c.rules.ensures first begun (c.requires.picked ∙ ap (λ b. Some b) (sym at)) begins c.in-Ok.ensures.ticket.0

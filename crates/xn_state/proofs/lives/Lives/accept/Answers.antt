@@ -7,9 +7,10 @@ use Rattle.claims.proofs.ForCallers.{accepted_counts, alive_place, few_owned, ma
 use Rattle.dependencies.specs.Candidates.{with_candidate}
 use Rattle.dependencies.specs.Homes.{with_home}
 use Rattle.dependencies.specs.Pending.{pends}
-use Rattle.dependencies.proofs.ForCallers.{accepted_accounts, accepted_homes, accepted_oldest}
-use Rattle.dependencies.specs.Oldest.{with_entry}
-use Rattle.xn_state.proofs.Counting.{accepted_counted}
+use Rattle.block_cache.specs.Systems.{system_of}
+use Rattle.dependencies.proofs.ForCallers.{accepted_accounts, accepted_homes}
+use Rattle.xn_state.specs.Counts.{noted_for}
+use Rattle.xn_state.proofs.Counting.{FewFor, accepted_counted, accepted_noted, few_counted, system_few, system_within}
 use Rattle.xn_state.proofs.Dirty.{accepted_dirty}
 use Rattle.xn_state.proofs.lives.Lives.accept.Goals as goal
 
@@ -31,6 +32,10 @@ change-requires-clause-few c =
     let owned = c.self.invariant.1.each c.args.block (alive_place c.self.inside.cache c.args.block alive) in
     omega (arith, long, owned, few_owned c.self.inside.cache c.args.block, c.requires.few_adds)
 
+pub count_entry-requires : goal.count_entry-requires
+count_entry-requires c = few_counted c.self.inside.cache c.self.inside.pending c.args.fs c.self.invariant.0.counts
+    (subst (λ (xs : Lives). FewFor xs c.args.fs) (sym c.self.view_is) c.requires.few)
+
 pub invariant_of-self-2 : goal.invariant_of-self-2
 invariant_of-self-2 c =
     let block = c.args.block in
@@ -51,12 +56,13 @@ invariant_of-self-2 c =
     let home = c.put.ensures.home ∙ ap (λ n. with_home homes n block) number in
     let room = subst (λ n. n % length homes < length homes) number c.put.ensures.room in
     let fresh = λ (x : ℕ). ap (λ (xs : Lives). pends c.args.claim.entry (life_at xs x)) c.self.view_is ∙ c.requires.fresh x in
-    let noted = c.note_number.ensures ∙ (λ i. with_entry c.self.inside.oldest c.args.fs.number (number i) (slice_index c.self.inside.pending (c.index.ensures.value i))) in
-    rw (lives, c.index-2.ensures.value, counts, c.mark.ensures, note, home, noted) (
-      accepted_counted cache c.self.inside.free c.self.inside.pending block c.args.fs.number state c.self.invariant.0 (omega arith) alive c.requires.fs,
+    let f = system_of c.args.fs in
+    let noted = c.count_entry.ensures.oldest ∙ ap (λ n. noted_for f n c.self.inside.pending c.self.inside.oldest) number in
+    rw (lives, counts, c.mark.ensures, note, home, c.count_entry.ensures.pending, noted) (
+      accepted_counted cache c.self.inside.free c.self.inside.pending block f state c.self.invariant.0 (system_within c.args.fs c.self.inside.pending (omega arith)) alive c.requires.fs,
       accepted_counts owned cache block state c.self.invariant.1 (alive_place cache block alive) claimed,
       accepted_dirty c.self.inside.dirty cache block state c.self.invariant.2 alive,
       accepted_accounts cache c.self.inside.candidates block state c.self.invariant.3 alive,
       accepted_homes cache homes block state room c.self.invariant.4 fresh,
-      accepted_oldest cache c.self.inside.oldest block c.args.fs.number state (slice_index c.self.inside.pending c.args.fs.number) (omega arith) (c.self.invariant.0.counts c.args.fs.number (omega arith)) c.requires.fs c.self.invariant.5,
+      accepted_noted cache c.self.inside.oldest c.self.inside.pending block f state (system_within c.args.fs c.self.inside.oldest (omega arith)) (system_few c.args.fs) c.self.invariant.0.counts c.requires.fs c.self.invariant.5,
     )

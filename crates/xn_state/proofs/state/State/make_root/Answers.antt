@@ -3,34 +3,34 @@ use Rattle.std.proofs.lemmas.Result.{err_from_is_err_and}
 use Rattle.xn_model.specs.declared.refusal.Refusal.TheVariants.{NoMemory}
 use Rattle.xn_model.specs.Results.{Gives}
 use Rattle.xn_model.specs.Calls.{patched}
-use Rattle.xn_state.specs.States.{types_in}
-use Rattle.xn_state.proofs.Keeping.{root_bytes, root_refused, root_made, rooted_consistent}
+use Rattle.xn_state.specs.States.{own_types}
+use Rattle.xn_state.proofs.Keeping.{root_bytes, root_refused, root_made, rooted_continues}
 use Rattle.xn_state.proofs.state.State.make_root.Goals as goal
 
-pub returns-in_err-bytes-clause-state : goal.returns-in_err-bytes-clause-state
-returns-in_err-bytes-clause-state c =
-    let store = c.args.self.now.store in
-    let refused = root_refused c.args.self.now.store c.args.fs.number c.args.block c.in_err-bytes.field-0.0 (sym c.in_err-bytes.ensures.plan) in
+pub returns-in_err-bytes : goal.returns-in_err-bytes
+returns-in_err-bytes c =
+    let store = c.args.self.now in
+    let refused = root_refused c.args.self.now c.args.fs.number c.args.block c.in_err-bytes.field-0.0 (sym c.in_err-bytes.ensures.plan) in
     let p = err_from_is_err_and c.from_residual.result c.from_residual.ensures.1 in
-    rw (p.1, p.2) (subst (λ r. Gives r store store (Err c.in_err-bytes.field-0.0)) (sym refused) (refl, refl))
+    record { state = rw (p.1, p.2) (subst (λ r. Gives r store store (Err c.in_err-bytes.field-0.0)) (sym refused) (refl, refl)) }
 
-pub accept-requires-clause-rules : goal.accept-requires-clause-rules
-accept-requires-clause-rules c = rooted_consistent (types_in c.args.self.now) c.args.self.now.store c.args.fs.number c.args.block (c.in_ok-bytes.bytes, c.in_ok-bytes.ty) c.make_root_plan.ensures.rules c.args.fs.few (sym c.in_ok-bytes.ensures.plan)
+pub accept-requires-clause-continues : goal.accept-requires-clause-continues
+accept-requires-clause-continues c = rooted_continues c.args.self.now c.args.fs.number c.args.block (c.in_ok-bytes.bytes, c.in_ok-bytes.ty) c.make_root_plan.ensures.rules c.args.fs.few (sym c.in_ok-bytes.ensures.plan)
 
-pub returns-clause-state : goal.returns-clause-state
-returns-clause-state c =
-    let store = c.args.self.now.store in
-    let made = root_made c.args.self.now.store c.args.fs.number c.args.block (c.in_ok-bytes.bytes, c.in_ok-bytes.ty) (sym c.in_ok-bytes.ensures.plan) in
-    subst (λ r. Gives r store c.accept.new.self.store c.accept.result) (sym made) c.accept.ensures.state
+pub returns : goal.returns
+returns c =
+    let store = c.args.self.now in
+    let made = root_made c.args.self.now c.args.fs.number c.args.block (c.in_ok-bytes.bytes, c.in_ok-bytes.ty) (sym c.in_ok-bytes.ensures.plan) in
+    record { state = subst (λ r. Gives r store c.accept.new.self c.accept.result) (sym made) c.accept.ensures.state }
 
-pub returns-in_err-undo-clause-state : goal.returns-in_err-undo-clause-state
-returns-in_err-undo-clause-state c =
-    let store = c.args.self.now.store in
+pub returns-in_err-undo : goal.returns-in_err-undo
+returns-in_err-undo c =
+    let store = c.args.self.now in
     let made = root_made store c.args.fs.number c.args.block (c.in_ok-bytes.bytes, c.in_ok-bytes.ty) (sym c.in_ok-bytes.ensures.plan) in
     let p = err_from_is_err_and c.from_residual-in_err-undo.result c.from_residual-in_err-undo.ensures.1 in
-    rw (p.1, p.2, c.in_err-undo.ensures.err) (subst (λ r. Gives r store store (Err NoMemory)) (sym made) (inr (refl, refl)))
+    record { state = rw (p.1, p.2, c.in_err-undo.ensures.err) (subst (λ r. Gives r store store (Err NoMemory)) (sym made) (inr (refl, refl))) }
 
 pub accept-requires-clause-undoes : goal.accept-requires-clause-undoes
 accept-requires-clause-undoes c =
-    let is = root_bytes c.args.self.now.store c.args.fs.number c.args.block (c.in_ok-bytes.bytes, c.in_ok-bytes.ty) (sym c.in_ok-bytes.ensures.plan) in
+    let is = root_bytes c.args.self.now c.args.fs.number c.args.block (c.in_ok-bytes.bytes, c.in_ok-bytes.ty) (sym c.in_ok-bytes.ensures.plan) in
     ap (λ (m : List ℕ). patched m c.in_ok-undo.undo) is ∙ c.in_ok-undo.ensures.ok (c.args.block, c.in_ok-bytes.ty)

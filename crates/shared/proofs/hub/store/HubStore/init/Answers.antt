@@ -1,0 +1,5 @@
+use Rattle.xn_state.proofs.ForCallers.{init_types}
+use Rattle.shared.proofs.hub.store.HubStore.init.Goals as goal
+
+pub returns-clause-types : goal.returns-clause-types
+returns-clause-types g c = init_types c.args.self.now.kernel.state c.init-made.new.self.kernel.state c.keeps_rules.ensures.rules c.args.fs.number c.args.ty c.args.bytes.now c.init-made.result c.init-made.ensures.state
