@@ -21,7 +21,7 @@ pub use Rattle.ffs_model.proofs.Before.{cuts_same}
 pub use Rattle.ffs_model.proofs.Calls.{forget_cuts, init_cuts, make_root_cuts, propose_cuts}
 pub use Rattle.ffs_model.proofs.Events.{event_cuts}
 pub use Rattle.ffs_model.proofs.Later.{accepted_below, begin_next, begun_next, drop_root_next, edit_given, forgot_next, given_later, is_given, later_then, next_some, none_later, one_later, proposed_next, rooted_next, settle_next}
-pub use Rattle.ffs_model.proofs.Mounted.{crash_keeps, mounted_bare, mounted_keeps, no_root_keeps}
+pub use Rattle.ffs_model.proofs.Mounted.{crash_keeps, mounted_bare, mounted_keeps, no_root_keeps, rootless_from, rootless_keeps, rootless_rest}
 pub use Rattle.ffs_model.proofs.Writes.{begin_cuts, settle_cuts}
 -- what is refused for want of something alone
 pub use Rattle.ffs_model.proofs.Pairs.{Replaces, all_of, changes_add, changes_drop, changes_none, claims_from, flat_kept, flat_replaced, pointed_kept, pointed_none, pointed_set, replaces_in, within_parts}

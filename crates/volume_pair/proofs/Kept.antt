@@ -1,24 +1,25 @@
 -- What is known of a file system stays over the calls of others, over what the device does, and over a crash.
-use Rattle.std.proofs.Common.{◌∙◌, lit≤, ◌≡◌, ◌≢◌, ℕ, ◌<◌, ◌≤◌, List, Option, Some, None, Result, refl, sym, ap, inl, inr, subst}
+use Rattle.std.proofs.Common.{◌∙◌, lit≤, false, ◌≡◌, ◌≢◌, ℕ, ◌<◌, ◌≤◌, List, Option, Some, None, Result, refl, sym, ap, inl, inr, subst}
 use Rattle.std.specs.Prelude.{IfSome, IsSomeAnd, IsTrue}
 use Rattle.xn_model.specs.declared.refusal.Refusal.{Refusal}
 use Rattle.xn_model.specs.Types.{Types}
 use Rattle.xn_model.specs.Lives.{StoreState}
 use Rattle.xn_model.specs.Results.{Gives, GivesExactly}
 use Rattle.xn_model.specs.Calls.{Edit, init_of, propose_of, make_root_of, forget_of}
-use Rattle.xn_model.specs.Worlds.{World, Event, Reply, Crash, Step, IsEvent, is_crash, types_now}
-use Rattle.xn_model.specs.Rules.{IsConsistent, IsKeptType, Holds, Keeps}
-use Rattle.xn_model.proofs.ForCallers.{gives_keeps, gives_exactly_keeps, step_keeps, types_grow, types_stay}
+use Rattle.xn_model.specs.Languages.{Extends}
+use Rattle.xn_model.specs.Worlds.{World, Event, Client, Install, Begin, Land, Fail, Sync, FailSync, Finish, Crash, Reply, Step, IsEvent, is_crash, types_now}
+use Rattle.xn_model.specs.Rules.{IsConsistent, Holds, Keeps}
+use Rattle.xn_model.proofs.ForCallers.{gives_keeps, gives_exactly_keeps, step_keeps, types_grow}
 use Rattle.xn_model.proofs.ForCallers as model
 use Rattle.ffs_model.specs.Cuts.{CutsFrom}
 use Rattle.ffs_model.specs.Events.{IsForeign}
 use Rattle.ffs_model.specs.Library.{library_layout, IsLibrary}
-use Rattle.ffs_model.proofs.ForCallers.{begun_next, crash_keeps, cuts_same, event_cuts, forget_cuts, forgot_next, init_cuts, library_reads, make_root_cuts, none_later, one_later, propose_cuts, proposed_next, rooted_next, volume_from}
+use Rattle.ffs_model.proofs.ForCallers.{begun_next, cuts_same, event_cuts, forget_cuts, forgot_next, init_cuts, library_reads, make_root_cuts, none_later, one_later, propose_cuts, proposed_next, rooted_next, volume_from}
 use Rattle.ffs_lib.specs.declared.volume.Volume.{Volume}
 use Rattle.events.specs.declared.event.Event as world_event
 use Rattle.events.specs.declared.event.Event.TheVariants as event
 use Rattle.events.specs.Events.{event_of}
-use Rattle.volume_pair.specs.Kept.{HasLibrary, IsDevice, IsKept, Lasts, Recovers, Stays, array_of}
+use Rattle.volume_pair.specs.Kept.{HasLibrary, IsDevice, IsKept, Lasts, Stays, array_of}
 
 pub if_some : {A : Type 0} (P Q : A → Type 0) (o : Option A) → ((x : A) → o ≡ Some x → P x → Q x) → IfSome o P → IfSome o Q
 if_some P Q None f h = tt
@@ -73,7 +74,7 @@ pub retyped_library : (T T' : Types) (state : StoreState) → T' ≡ T → HasLi
 retyped_library T T' state e has = subst (λ U. HasLibrary U state) (sym e) has
 
 pub has_still : (T : Types) (old new : StoreState) → HasLibrary T old → Keeps T old new → HasLibrary T new
-has_still T old new has k = record { rules = k.consistent; library = has.library; there = λ t low high. k.there t (has.there t low high) }
+has_still T old new has k = record { rules = k.consistent; library = has.library }
 
 module _ (T : Types) (old new : StoreState) (has : HasLibrary T old) where
   pub init_has : (fs ty : ℕ) (bytes : List ℕ) (r : Result (ℕ × ℕ) Refusal) → Gives (init_of T old fs ty bytes) old new r → HasLibrary T new
@@ -104,15 +105,20 @@ library_same T T' same l =
       indirect_size = λ m. ap (λ (f : List ℕ → ℕ). f m) five.2 ∙ l.indirect_size m;
     }
 
--- the library is there after each step, and after a crash too
-pub step_has : (w w' : World) (e : Event) (r : Reply) → IsEvent e → Holds w → Step w e r w' → HasLibrary (types_now w) w.state → HasLibrary (types_now w') w'.state
-step_has w w' e r ok h s has =
-    let kept : (t : ℕ) → 3 ≤ t → t ≤ 5 → IsKeptType w w' t = λ t low high. types_stay w e r w' ok h s t (has.there t low high) (has.library.installed t low high) in
-    record {
-      rules = (step_keeps w e r w' ok h s).state;
-      library = library_same (types_now w) (types_now w') (λ t low high. let k = kept t low high in (k.installed, k.owned, k.size)) has.library;
-      there = λ t low high. (kept t low high).there;
-    }
+-- with more types the library is there still
+pub library_more : (T more : Types) → Extends T more → IsLibrary T → IsLibrary more
+library_more T more x l = library_same T more (λ t low high. let there = l.installed t low high in (x.installed t there, x.owned t there, x.size t there)) l
+
+foreign_no_crash : (e : Event) → IsForeign 0 e → is_crash e ≡ false
+foreign_no_crash (Client fs c) q = refl
+foreign_no_crash (Install m) q = refl
+foreign_no_crash (Begin b) q = refl
+foreign_no_crash (Land b) q = refl
+foreign_no_crash (Fail b stays) q = refl
+foreign_no_crash (Sync b) q = refl
+foreign_no_crash (FailSync b) q = refl
+foreign_no_crash (Finish b) q = refl
+foreign_no_crash (Crash kept) q = absurd q
 
 -- what stays for every file system
 pub stays_kept : (T : Types) (old : StoreState) (T' : Types) (new : StoreState) (fs : ℕ) (volume : Option Volume) → Lasts T old T' new → IsKept T old fs volume → IsKept T' new fs volume
@@ -120,26 +126,13 @@ stays_kept T old T' new fs volume lasts k = record { library = lasts.has.library
 
 pub event_stays : (w w' : World) (e : Event) (r : Reply) → IsEvent e → Holds w → Step w e r w' → ((fs : ℕ) → IsForeign fs e) → Stays (types_now w) w.state (types_now w') w'.state
 event_stays w w' e r ok h s quiet has =
-    let has' = step_has w w' e r ok h s has in
+    let more = types_grow w e r w' ok (foreign_no_crash e (quiet 0)) h s in
+    let has' : HasLibrary (types_now w') w'.state = record { rules = (step_keeps w e r w' ok h s).state; library = library_more (types_now w) (types_now w') more has.library } in
     record {
       has = has';
       keeps = λ fs array few v.
           let x = event_cuts fs w e r w' ok h s (quiet fs) in
           volume_from (types_now w) (types_now w') library_layout (library_reads (types_now w') has'.library) fs few array w.state w'.state has'.rules x.1 x.0 v;
-    }
-
--- after a crash no volume is open
-pub crash_recovers : (w w' : World) (kept : List ℕ) (r : Reply) → Holds w → Step w (Crash kept) r w' → HasLibrary (types_now w) w.state → Recovers (types_now w) w.state (types_now w') w'.state
-crash_recovers w w' kept r h s has =
-    let has' = step_has w w' (Crash kept) r tt h s has in
-    record {
-      has = has';
-      kept = λ fs volume k. record {
-        library = has'.library;
-        few = k.few;
-        keeps = crash_keeps w kept r w' library_layout (library_reads (types_now w) k.library) (library_reads (types_now w') has'.library) fs k.few (array_of volume) h k.keeps s;
-        mine = tt;
-      };
     }
 
 -- what the device does is no edit

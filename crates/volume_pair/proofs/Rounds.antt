@@ -29,7 +29,7 @@ settled_stays old new b bytes done e has =
     let T = own_types old in
     let k = settled_keeps T old has.rules b bytes done new e in
     subst (λ U. Lasts T old U new) (sym (k.2 language)) (record {
-      has = record { rules = k.0; library = has.library; there = λ t low high. k.3 t (has.there t low high) };
+      has = record { rules = k.0; library = has.library };
       keeps = λ fs array few v.
           volume_from T T library_layout (library_reads T has.library) fs few array old new k.0 (none_later new.next old.next (settle_next old new b bytes done e)) (settle_cuts T old v.consistent fs b bytes done new k.0 e) v;
     })

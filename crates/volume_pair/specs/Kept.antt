@@ -1,17 +1,16 @@
 -- What is known of the file systems of a store, whether their volumes are open or not.
 --     array_of volume             the numbers that an open volume keeps
---     HasLibrary T state          the store keeps its rules, the library's types are installed, and block 0 has them on the disk
+--     HasLibrary T state          the store keeps its rules, and the library's types are installed
 --     IsKept T state fs volume    a volume's rules hold for a file system
 --     Lasts T old T' new          both hold on, the rules for every file system
 --     Stays T old T' new          they do, where a store has the library
 --     Recovers T old T' new       they hold after a crash
 --     IsDevice event              no crash, and no call of a file system
-use Rattle.std.specs.Prelude.{◌≡◌, ◌<◌, ◌≤◌, ℕ, length, Option, Some, None, IfSome, IsTrue, ⊤}
+use Rattle.std.specs.Prelude.{◌≡◌, ◌<◌, ℕ, length, Option, Some, None, IfSome, ⊤}
 use Rattle.events.specs.declared.event.Event.{Event}
 use Rattle.events.specs.declared.event.Event.TheVariants as event
 use Rattle.xn_model.specs.Types.{Types}
-use Rattle.xn_model.specs.Root.{has_type}
-use Rattle.xn_model.specs.Lives.{StoreState, root_on_disk}
+use Rattle.xn_model.specs.Lives.{StoreState}
 use Rattle.xn_model.specs.Rules.{IsConsistent}
 use Rattle.ffs_model.specs.Volumes.{VolumeKeeps, no_edits}
 use Rattle.ffs_model.specs.Library.{library_layout, IsLibrary}
@@ -22,11 +21,9 @@ abbrev pub array_of : Option Volume → ℕ → Option ℕ
 array_of None = no_edits
 array_of (Some volume) = edits_of volume.added
 
--- so they are there after a crash
 pub record HasLibrary (T : Types) (state : StoreState) : Type 0 where
   pub rules : IsConsistent T state
   pub library : IsLibrary T
-  pub there : (t : ℕ) → 3 ≤ t → t ≤ 5 → IsTrue (has_type (root_on_disk state.lives) t)
 
 pub record IsKept (T : Types) (state : StoreState) (fs : ℕ) (volume : Option Volume) : Type 0 where
   pub library : IsLibrary T

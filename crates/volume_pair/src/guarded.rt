@@ -1,11 +1,17 @@
 // A store on which one file system makes calls beside another one.
 
-ghost use Rattle.std.specs.Prelude.{◌≡◌, ◌≢◌, Some, None, IfSome, IsSomeAnd};
+ghost use Rattle.std.specs.Prelude.{◌≡◌, ◌≢◌, ◌<◌, ℕ, Option, Some, None, IfSome, IsSomeAnd};
 ghost use Rattle.xn_state.specs.States.{own_types};
 ghost use Rattle.volume_pair.specs.Kept.{HasLibrary, IsDevice, IsKept, Lasts, Recovers};
+ghost use Rattle.volume_pair.specs.LibraryTypes.{IsRemounted};
+ghost use Rattle.ffs_model.specs.Library.{library_layout};
+ghost use Rattle.ffs_model.specs.Volumes.{VolumeKeeps, no_edits};
 
 use crate::disks::Disk;
+use crate::library::with_library;
+use ffs_format::law::templates_are_the_librarys;
 use ffs_lib::{EditId, Fs, Volume};
+use std::alloc::Global;
 use std::marker::Model;
 use std::thread::Threads;
 use world::{Event, Reply, Running};
@@ -19,7 +25,7 @@ pub struct Other {
     pub volume: Option<Volume>,
 }
 
-/// A store on whose disk the library's types are, and what is known of a file system beside the one that makes calls.
+/// A store with the library's types, and what is known of a file system beside the one that makes calls.
 pub struct Guarded<S: Disk> {
     store: S,
     other: Option<Other>,
@@ -62,7 +68,7 @@ impl<S: Disk> Guarded<S> {
         (store, other)
     }
 
-    /// The library's types are on its disk.
+    /// It has the library's types.
     pub fn has_library(&self)
         ensures { HasLibrary (S.types_of self.now) (S.state_of self.now) }
     {
@@ -100,15 +106,18 @@ fn closed(other: Option<Other>) -> Option<Other>
     })
 }
 
-/// A world after a crash that keeps these blocks, with the counts of its mount.
+/// A world after a crash that keeps these blocks, with the counts of its mount. It has those of the library's types that are on the disk.
 fn crashed(
     rt: &(impl Threads + Sync),
     running: Running,
     kept: Vec<u32>,
 ) -> Option<(Running, u32, u32)>
     requires library { HasLibrary (own_types running.state) running.state }
-    ensures { IfSome result (λ r. Recovers (own_types running.state) running.state (own_types r.0.state) r.0.state) }
+    ensures remounted { IfSome result (λ r. IsRemounted r.0) }
+    ensures keeps { IfSome result (λ r. (fs : ℕ) (array : ℕ → Option ℕ) → fs < 32 → VolumeKeeps (own_types running.state) library_layout fs array running.state →
+        VolumeKeeps (own_types r.0.state) library_layout fs no_edits r.0.state) }
 {
+    templates_are_the_librarys();
     let mut world = running.into_world();
     world.rules();
     let reply = world.step(rt, &Event::Crash(kept));
@@ -187,16 +196,20 @@ impl Guarded<Running> {
 
     /// All that isn't on the disk is lost, and the disk is mounted anew; no volume is open then. Each of these blocks has the last
     /// bytes that were given to a write since its last good sync, where there are such, and every other one its settled bytes.
-    /// Answers beside the store how many blocks the mount reached, and how many are free; `None` where it found no memory.
+    /// The library's types that block 0 hasn't on the disk then are installed anew.
+    /// Answers beside the store how many blocks the mount reached, and how many are free; `None` where it found no memory, or
+    /// where a type could not be installed.
     pub fn crash(
         self,
         rt: &(impl Threads + Sync),
+        alloc: Global,
         kept: Vec<u32>,
     ) -> Option<(Guarded<Running>, u32, u32)>
         ensures { IfSome result (λ r. Recovers (own_types self.state) self.state (own_types r.0.state) r.0.state) }
     {
         let (running, other) = self.into_parts();
-        let (store, reached, free) = crashed(rt, running, kept)?;
+        let (running, reached, free) = crashed(rt, running, kept)?;
+        let store = with_library(alloc, running)?;
         let other = closed(other);
         Some((Guarded { store, other }, reached, free))
     }

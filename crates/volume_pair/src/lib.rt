@@ -6,6 +6,7 @@ mod disks;
 mod files;
 mod guarded;
 mod kernels;
+mod library;
 mod shared_files;
 
 pub use disks::Disk;

@@ -173,6 +173,14 @@ impl MountedDisk {
         self.tickets.len()
     }
 
+    /// The bytes of block 0 on the disk.
+    pub fn root_bytes(&self) -> &[u8; 512]
+        ensures { result.now ≡ block_of self.now.image 0 }
+    {
+        self.rules();
+        self.block_bytes(0)
+    }
+
     /// The bytes of one block, whose lane is at home or with a ticket.
     fn block_bytes(&self, block: usize) -> &[u8; 512]
         requires { block < length self.now.image }

@@ -1,7 +1,7 @@
 // A world that is up, as a store.
 
 ghost use Rattle.std.specs.Prelude.{◌≡◌, ◌≢◌, IfOk};
-ghost use Rattle.xn_model.specs.Images.{joined};
+ghost use Rattle.xn_model.specs.Images.{block_of, joined};
 ghost use Rattle.xn_model.specs.Calls.{pending_of, floor_of, free_of, pick_of};
 ghost use Rattle.xn_model.specs.Worlds as model;
 ghost use Rattle.xn_model.specs.Rules.{Holds};
@@ -113,6 +113,13 @@ impl Running {
         ensures { result ≡ pick_of self.now.state }
     {
         self.disk.pick()
+    }
+
+    /// The bytes of block 0 on the disk: its catalogue tells which templates a mount would find there.
+    pub fn root_bytes(&self) -> &[u8; 512]
+        ensures { result.now ≡ block_of self.now.image 0 }
+    {
+        self.disk.root_bytes()
     }
 
     /// The bytes that the disk holds now, block after block.

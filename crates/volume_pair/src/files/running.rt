@@ -4,6 +4,7 @@ ghost use Rattle.volume_pair.specs.Kept.{IsDevice};
 
 use crate::files::Files;
 use crate::kernels::are_templates;
+use crate::library::with_library;
 use ffs_format::law::templates_are_the_librarys;
 use ffs_format::templates;
 use ffs_lib::Fs;
@@ -33,6 +34,33 @@ impl Files<Running> {
             },
             Err(_) => Err(AllocError),
         }
+    }
+
+    /// Two file systems on a fresh disk of so many blocks without templates. The library's types are installed while it runs, and are
+    /// not on the disk yet.
+    pub fn bare(
+        rt: &(impl Threads + Sync),
+        alloc: Global,
+        blocks: u32,
+        first: Fs,
+        second: Fs,
+    ) -> Result<Files<Running>, AllocError> {
+        let Ok(world) = World::format(rt, alloc, blocks, &[]) else {
+            return Err(AllocError);
+        };
+        let Ok(running) = world.into_running() else {
+            return Err(AllocError);
+        };
+        running.rules();
+        match with_library(alloc, running) {
+            Some(running) => Ok(Files::new(running, first, second)),
+            None => Err(AllocError),
+        }
+    }
+
+    /// Installs a template; whether that was done.
+    pub fn install(&mut self, template: &[u8; 512]) -> bool {
+        matches!(self.step(&Event::Install(*template)), Reply::Installed(_))
     }
 
     /// The write of a block begins.
@@ -75,7 +103,7 @@ impl Files<Running> {
         self.store()?.pick()
     }
 
-    /// One event of the device.
+    /// One event of the device, or an installation.
     fn step(&mut self, event: &Event) -> Reply
         requires { IsDevice event.now }
     {
@@ -87,9 +115,16 @@ impl Files<Running> {
 
     /// All that isn't on the disk is lost, and the disk is mounted anew; no volume is open then. Each of these blocks has the last
     /// bytes that were given to a write since its last good sync, where there are such, and every other one its settled bytes.
-    /// Answers how many blocks the mount reached, and how many are free; `None` where it found no memory.
-    pub fn crash(&mut self, rt: &(impl Threads + Sync), kept: Vec<u32>) -> Option<(u32, u32)> {
-        let (store, reached, free) = self.store.take()?.crash(rt, kept)?;
+    /// The library's types that block 0 hasn't on the disk then are installed anew.
+    /// Answers how many blocks the mount reached, and how many are free; `None` where it found no memory, or where a type could not
+    /// be installed.
+    pub fn crash(
+        &mut self,
+        rt: &(impl Threads + Sync),
+        alloc: Global,
+        kept: Vec<u32>,
+    ) -> Option<(u32, u32)> {
+        let (store, reached, free) = self.store.take()?.crash(rt, alloc, kept)?;
         self.volume = None;
         self.store = Some(store);
         Some((reached, free))

@@ -1,7 +1,7 @@
 use Rattle.xn_state.specs.States.{own_types}
 use Rattle.events.specs.Events.{event_of, reply_of}
-use Rattle.world.specs.Worlds.{WorldValue, world_with}
-use Rattle.volume_pair.specs.Kept.{IsKept, Lasts}
+use Rattle.world.specs.Worlds.{world_with}
+use Rattle.volume_pair.specs.Kept.{IsKept}
 use Rattle.volume_pair.proofs.Kept.{device_event, event_stays, if_some, stays_kept}
 use Rattle.volume_pair.proofs.guarded.Guarded+Running.step.Goals as goal
 

@@ -1,14 +1,13 @@
 use Rattle.std.proofs.Common.{◌≡◌, ap, ◌∙◌, [], length, None, subst}
 use Rattle.std.specs.Prelude.{All}
 use Rattle.xn_model.specs.BareDisks.{mounted_disk}
-use Rattle.xn_model.specs.Lives.{StoreState}
 use Rattle.templates.specs.Formats.{format_fault, formatted}
 use Rattle.templates.specs.Language.{language}
 use Rattle.templates.specs.Templates.{IsTemplate}
 use Rattle.ffs_format.specs.Library.{file_system_templates}
 use Rattle.world.specs.Worlds.{world_with}
 use Rattle.world.proofs.ForCallers.{no_fault}
-use Rattle.volume_pair.proofs.Fresh.{Fresh, fresh_kept}
+use Rattle.volume_pair.proofs.Fresh.{fresh_kept}
 use Rattle.volume_pair.proofs.files.running.Files+Running.format.Goals as goal
 
 pub new-requires-clause-has : goal.new-requires-clause-has
