@@ -15,7 +15,7 @@ use Rattle.ffs_model.proofs.ForCallers.{crash_keeps, library_reads}
 use Rattle.xn_state.specs.States.{own_types}
 use Rattle.world.specs.Worlds.{WorldValue, world_with}
 use Rattle.volume_pair.specs.Kept.{HasLibrary, Recovers, array_of}
-use Rattle.volume_pair.specs.LibraryTypes.{library_types, IsLibraryType, IsRemounted}
+use Rattle.volume_pair.specs.LibraryTypes.{library_types, IsRemounted}
 use Rattle.volume_pair.proofs.LibraryTypes.{kept_type, library_type}
 
 module _ (old new : WorldValue) (kept : List ℕ) (r : Reply) (h : Holds (world_with old)) (s : Step (world_with old) (Crash kept) r (world_with new)) (l : IsLibrary library_types) (has : HasLibrary (own_types old.state) old.state) where

@@ -1,11 +1,11 @@
 -- What an installation leaves of the types.
-use Rattle.std.proofs.Common.{◌∙◌, ◌≡◌, ℕ, ◌+◌, ◌<◌, Bool, true, false, not, cond, ◌&&◌, List, length, Some, Result, Ok, Err, refl, sym, ap, subst, inl, inr}
+use Rattle.std.proofs.Common.{◌∙◌, ◌≡◌, ℕ, ◌+◌, ◌<◌, Bool, true, false, cond, ◌&&◌, List, length, Some, Result, Ok, Err, refl, sym, ap, subst, inl, inr}
 use Rattle.std.specs.Prelude.{is_some}
 use Rattle.xn_model.specs.declared.refusal.Refusal.{Refusal}
 use Rattle.xn_model.specs.Languages.{Extends, template_of, types_in, owned_under, size_under}
 use Rattle.xn_model.specs.Lives.{StoreState}
 use Rattle.xn_model.specs.Calls.{install_of, latest}
-use Rattle.xn_model.specs.Worlds.{World, Event, Install, Reply, Installed, Down, Refused, Step, reply_and_world, types_now}
+use Rattle.xn_model.specs.Worlds.{World, Install, Reply, Installed, Down, Step, reply_and_world}
 use Rattle.xn_model.specs.Rules.{Holds}
 use Rattle.xn_model.proofs.ForCallers.{installed_own, types_grow}
 use Rattle.ffs_model.specs.Volumes.{HasNoRoot}

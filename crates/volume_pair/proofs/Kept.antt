@@ -1,5 +1,5 @@
 -- What is known of a file system stays over the calls of others, over what the device does, and over a crash.
-use Rattle.std.proofs.Common.{◌∙◌, lit≤, false, ◌≡◌, ◌≢◌, ℕ, ◌<◌, ◌≤◌, List, Option, Some, None, Result, refl, sym, ap, inl, inr, subst}
+use Rattle.std.proofs.Common.{◌∙◌, lit≤, false, ◌≡◌, ◌≢◌, ℕ, ◌<◌, ◌≤◌, List, Option, Some, None, Result, refl, sym, ap, subst}
 use Rattle.std.specs.Prelude.{IfSome, IsSomeAnd, IsTrue}
 use Rattle.xn_model.specs.declared.refusal.Refusal.{Refusal}
 use Rattle.xn_model.specs.Types.{Types}

@@ -1,13 +1,11 @@
 -- The library's types, one by one.
-use Rattle.std.proofs.Common.{◌∙◌, lit≤, ◌≡◌, ℕ, ◌≤◌, ◌<◌, ◌+◌, zero, suc, List, sym, ap, subst, arith, get_or}
-use Rattle.std.specs.Prelude.{IsTrue}
+use Rattle.std.proofs.Common.{◌∙◌, ◌≡◌, ℕ, ◌≤◌, ◌<◌, ◌+◌, zero, suc, sym, ap, arith, get_or}
 use Rattle.xn_model.specs.Types.{Types}
 use Rattle.xn_model.specs.Languages.{Extends}
 use Rattle.xn_model.specs.Rules.{IsKeptType}
 use Rattle.xn_model.specs.Worlds.{World, types_now}
 use Rattle.ffs_model.specs.Library.{IsLibrary}
 use Rattle.templates.specs.Tables.{types_of, template_of}
-use Rattle.templates.specs.Formats.{table_of}
 use Rattle.templates.specs.Meaning.{owned_by, answer_of}
 use Rattle.templates.specs.Templates.{TemplateValue}
 use Rattle.ffs_format.specs.Library.{file_system_templates}

@@ -1378,7 +1378,7 @@ mounted 3 29
     )
 }
 
-/// A block that owns one of an installed type is written only once block 0 names the template on the disk.
+/// An entry that adds a block of an installed type waits until block 0 names the template on the disk.
 #[test]
 fn a_block_waits_for_the_type_that_it_owns(rt: HostRuntime) -> Result<(), PlayFault> {
     plays(

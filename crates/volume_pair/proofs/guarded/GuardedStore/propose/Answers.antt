@@ -15,12 +15,11 @@ invariant_of-self g c =
     let T' = types_of new in
     let ensures = c.propose.ensures in
     let h = subst (λ U. IsConsistent U (state_of new)) ensures.types ensures.rules in
-    let before = c.take.result in
-    (
+    let before = c.take.result in (
       retyped_library T T' (state_of new) ensures.types (propose_has T (state_of old) (state_of new) c.self.invariant.0 c.args.fs.number c.args.block c.args.edit.now c.propose.result ensures.state),
       if_some (λ o. (before ≡ Some o) × (o.fs.number ≢ c.args.fs.number)) (λ o. IsKept T' (state_of new) o.fs.number o.volume) c.beside-self-inside.result
-      (λ o is b.
-      let k : IsKept T (state_of old) o.fs.number o.volume = subst (λ x. IfSome x (λ y. IsKept T (state_of old) y.fs.number y.volume)) (sym c.take.ensures.value ∙ b.0) c.self.invariant.1 in
-      let apart : c.args.fs.number ≢ o.fs.number = λ e. b.1 (sym e) in
-      retyped T T' (state_of new) o.fs.number o.volume ensures.types (propose_keeps T (state_of old) (state_of new) h o.fs.number o.volume k c.args.fs.number c.args.block c.args.edit.now c.propose.result apart ensures.state)) c.beside-self-inside.ensures,
+          (λ o is b.
+          let k : IsKept T (state_of old) o.fs.number o.volume = subst (λ x. IfSome x (λ y. IsKept T (state_of old) y.fs.number y.volume)) (sym c.take.ensures.value ∙ b.0) c.self.invariant.1 in
+          let apart : c.args.fs.number ≢ o.fs.number = λ e. b.1 (sym e) in
+          retyped T T' (state_of new) o.fs.number o.volume ensures.types (propose_keeps T (state_of old) (state_of new) h o.fs.number o.volume k c.args.fs.number c.args.block c.args.edit.now c.propose.result apart ensures.state)) c.beside-self-inside.ensures,
     )

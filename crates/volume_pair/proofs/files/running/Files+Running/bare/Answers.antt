@@ -1,7 +1,4 @@
-use Rattle.std.proofs.Common.{◌≡◌, ◌∙◌, ap, None}
-use Rattle.xn_model.specs.BareDisks.{mounted_disk}
-use Rattle.templates.specs.Formats.{formatted}
-use Rattle.templates.specs.Language.{language}
+use Rattle.std.proofs.Common.{◌∙◌, ap}
 use Rattle.world.specs.Worlds.{world_with}
 use Rattle.world.proofs.ForCallers.{no_fault}
 use Rattle.volume_pair.proofs.Fresh.{bare_keeps, bare_remounted}
