@@ -18,8 +18,25 @@ PROGRAM = os.path.join(TOP, "crates/xnsim/out/xnsim")
 ROWS = os.path.join(TOP, "crates/worked_rows/src/tests.rt")
 DATA = os.path.join(TOP, "crates/transcripts/data")
 BLOCKS = 32
-# A type whose blocks own at most one block of that type, which their first four bytes name.
-CHAIN = reference.Files(owns=b"LD4 1 0\nIFLT 0 1\nSET 2 3\nEMIT 1 2\nEND\n", size=b"SET 0 4\n").template_of(["owns", "size"])[0]
+
+
+def template_of(owns, size):
+    """The block of a template with these programs."""
+    return reference.Files(owns=owns.encode(), size=size.encode()).template_of(["owns", "size"])[0]
+
+
+def pointing_to(ty, size=4):
+    """A template whose blocks own at most one block of this type, which their first four bytes name."""
+    return template_of(f"LD4 1 0\nIFLT 0 1\nSET 2 {ty}\nEMIT 1 2\nEND\n", f"SET 0 {size}\n")
+
+
+# A type whose blocks own at most one block of that type.
+CHAIN = pointing_to(3)
+# Templates by the type of what their blocks own: data, and the first ones that are installed.
+POINTING = {pointing_to(ty, size): ty for ty in range(2, 7) for size in (4, 8)}
+# Their blocks own nothing.
+LEAVES = [template_of("SET 1 1\n", f"SET 0 {size}\n") for size in (16, 512)]
+NO_TEMPLATES = [bytes(512), CHAIN[:2], bytes([CHAIN[0] ^ 1]) + CHAIN[1:], CHAIN[:-1] + b"\1"]
 
 
 def program_runs(words, folder, program=PROGRAM, **how):
@@ -95,7 +112,7 @@ class Nothing(Exception):
 
 
 class Author:
-    """Writes a random script of one file system of data and chains, and carries it out as it goes."""
+    """Writes a random script of one file system of data, chains and installed types, and carries it out as it goes."""
 
     def __init__(self, seed, templates):
         self.random = random.Random(seed)
@@ -126,10 +143,21 @@ class Author:
         after = f"@{self.random.randrange(1, self.store.next + 1)} " if self.random.random() < 0.3 else ""
         return f"edit 0 {block} {after}{self.random.randrange(500)}={self.some_bytes()}"
 
+    def named_by(self, ty):
+        """The type that blocks of a type name at their start, if they name any."""
+        block = reference.entry_of(self.store.lives[0].newest(), ty) if ty > 2 else 0
+        return POINTING.get(self.store.lives[block].newest()) if block else None
+
     def attach(self):
-        owner = self.one(self.blocks(lambda life: life.ty == 3))
-        target = self.one(self.blocks(lambda life: life.ty == 3 and life.status == reference.FRESH))
-        return f"edit 0 {owner} 0={target.to_bytes(4, 'little').hex()} +{target}:3"
+        owner = self.one(self.blocks(lambda life: self.named_by(life.ty)))
+        life = self.store.lives[owner] if owner < BLOCKS else None
+        ty = self.named_by(life.ty) if life else 3
+        target = self.one(self.blocks(lambda life: life.ty == ty and life.status == reference.FRESH))
+        return f"edit 0 {owner} 0={target.to_bytes(4, 'little').hex()} +{target}:{ty}"
+
+    def install(self):
+        template = self.random.choice([*POINTING, *LEAVES, *NO_TEMPLATES])
+        return f"install {template.rstrip(bytes(1)).hex() or '00'}"
 
     def detach(self):
         owned = self.blocks(lambda life: life.status[0] == "owned" and life.status[1])
@@ -155,8 +183,8 @@ class Author:
         fail = lambda: self.of_begun("fail") + self.random.choice([" old", " new"])
         tell = lambda: self.random.choice(["pick", "floor 0", "pending 0", f"read 0 {self.random.randrange(BLOCKS)}", "unroot 0", "drain"])
         makers = [self.init, self.change, self.attach, self.detach, begin, end, fail, tell, self.crash]
-        makers += [lambda: self.of_fresh("root"), lambda: self.of_fresh("forget")]
-        return self.random.choices(makers, [4, 8, 5, 3, 9, 24, 3, 3, 1, 2, 1])[0]()
+        makers += [lambda: self.of_fresh("root"), lambda: self.of_fresh("forget"), self.install]
+        return self.random.choices(makers, [4, 8, 5, 3, 9, 24, 3, 3, 1, 2, 1, 1])[0]()
 
     def script(self, length):
         while len(self.lines) < length:
@@ -170,6 +198,6 @@ class Author:
 
 
 def random_runs(count, length=60):
-    """Random runs, the same each time; every other on a disk with a type of chains."""
+    """Random runs, the same each time; every other on a disk with a type of chains. Further types are installed meanwhile."""
     authors = [Author(seed, [CHAIN] if seed % 2 else []) for seed in range(count)]
     return [(author.image, author.script(length)) for author in authors]

@@ -114,7 +114,7 @@ fn leaves(
     kept: bool,
     writes: u32,
 ) -> Result<bool, AllocError> {
-    if files.crash(rt, blocks(alloc, kept)?).is_none() {
+    if files.crash(rt, alloc, blocks(alloc, kept)?).is_none() {
         return Ok(false);
     }
     let opened = files.open(fs);

@@ -134,7 +134,7 @@ fn name_twice(
             _ => break,
         }
     }
-    let crashed = files.crash(rt, Vec::new(alloc)).is_some();
+    let crashed = files.crash(rt, alloc, Vec::new(alloc)).is_some();
     renamed && crashed && files.open(fs).is_ok()
 }
 

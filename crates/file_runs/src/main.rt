@@ -1,6 +1,6 @@
 // Runs the library file system on disks in memory: its calls with the writes that they take, over a world, a kernel, and a kernel that
 // threads share; two threads at once; its sizes, its faults, crashes after each write of a rename and of four files' lives, and random
-// calls of two file systems beside each other.
+// calls of two file systems beside each other, also on disks where their types were just installed.
 #![tactic(auto)]
 
 mod callers;
@@ -21,7 +21,7 @@ use ffs_lib::Fs;
 use forty::print_forty;
 use limits::{print_directory, print_file};
 use locked::print_shared;
-use random::print_random;
+use random::{print_random, print_starts};
 use renames::{End, print_rename};
 use rows::print_rows;
 use std::alloc::Global;
@@ -107,5 +107,6 @@ fn main(rt: HostRuntime) -> io::Result<()> {
     }
     print_forty(&rt, alloc, [first, second])?;
     run(&rt, alloc, Part::Directory, first, second)?;
-    run(&rt, alloc, Part::Random, first, second)
+    run(&rt, alloc, Part::Random, first, second)?;
+    print_starts(&rt, alloc, [first, second])
 }

@@ -1,13 +1,15 @@
 // Pseudo-random calls of two file systems beside each other, with writes, device faults and crashes between, compared with a
-// plain model. A crash keeps some of the writes that are not synced. The same in each run.
+// plain model. Templates are installed meanwhile, and a crash keeps some of the writes that are not synced. The same in each run.
 
 use crate::plain::{BAD_NAMES, BYTES, LAST_WRITTEN, NAMES, Plain};
 use crate::scan::scan;
+use ffs_format::templates;
 use ffs_lib::{FfsFault, Fs};
 use pseudo_random::Numbers;
 use std::alloc::{AllocError, Global};
 use std::io;
 use std::thread::Threads;
+use templates::{Template, write_block};
 use volume_pair::{Action, Files};
 use world::Running;
 
@@ -17,6 +19,14 @@ const MOST: usize = 700;
 /// How many blocks the disk has.
 const BLOCKS: usize = 48;
 
+/// How many disks without templates are begun with, how many calls are made on each, and of how many one is followed by a crash.
+const STARTS: u32 = 100;
+const CALLS_OF_A_START: u32 = 24;
+const CRASHES_OF_A_START: u16 = 6;
+
+/// Of how many calls one is followed by a crash, elsewhere.
+const CRASHES: u16 = 32;
+
 /// What happened how often.
 #[derive(Clone, Copy)]
 struct Tally {
@@ -24,6 +34,8 @@ struct Tally {
     faults: u32,
     refused: u32,
     crashes: u32,
+    /// Templates that were installed beside the library's.
+    installed: u32,
     device_faults: u32,
     failed_syncs: u32,
     /// Writes that were not synced at a crash, and how many of them it kept.
@@ -40,6 +52,9 @@ struct Tally {
 #[derive(Drop)]
 struct Run {
     numbers: Numbers,
+    templates: Vec<Template>,
+    /// Of how many calls one is followed by a crash.
+    crashes: u16,
     systems: [Fs; 2],
     first: Plain,
     second: Plain,
@@ -295,6 +310,17 @@ impl Run {
         from as u32
     }
 
+    /// Installs one of the library's templates once more, or tries it with a block that is none.
+    fn install(&mut self, files: &mut Files<Running>) {
+        let block = match self.templates.get(usize::from(self.numbers.below(4))) {
+            Some(template) => write_block(template),
+            None => [0; 512],
+        };
+        let installed = files.install(&block);
+        count(&mut self.tally.installed, installed);
+        count(&mut self.tally.wrong, installed && block[0] == 0);
+    }
+
     /// Opens a volume, or makes it where it isn't there, and the model takes what it holds.
     fn open(&mut self, alloc: Global, files: &mut Files<Running>, second: bool) {
         let fs = self.fs(second);
@@ -332,7 +358,7 @@ impl Run {
     ) -> Result<(), AllocError> {
         count(&mut self.tally.crashes, true);
         let kept = self.kept(alloc)?;
-        let mounted = files.crash(rt, kept).is_some();
+        let mounted = files.crash(rt, alloc, kept).is_some();
         self.is_open = [false; BLOCKS];
         count(&mut self.tally.unsound, !mounted);
         self.open(alloc, files, false);
@@ -351,11 +377,60 @@ impl Run {
         self.call(alloc, files, second);
         self.events(files);
         match self.numbers.below(32) {
-            0 => self.crash(rt, alloc, files)?,
+            0 => self.install(files),
             1 => self.compare(files, second),
             2..6 => self.read(files, second),
             6..10 => self.list(alloc, files, second),
             _ => {}
+        }
+        if self.numbers.below(self.crashes.max(1)) == 0 {
+            self.crash(rt, alloc, files)?;
+        }
+        Ok(())
+    }
+}
+
+impl Run {
+    /// Before the first call, which are not the same for each `first`.
+    fn new(alloc: Global, systems: [Fs; 2], first: u64, crashes: u16) -> Result<Run, AllocError> {
+        Ok(Run {
+            numbers: Numbers { state: first },
+            templates: templates(alloc)?,
+            crashes,
+            systems,
+            first: Plain::new(alloc)?,
+            second: Plain::new(alloc)?,
+            seen: Plain::new(alloc)?,
+            is_open: [false; BLOCKS],
+            tally: Tally {
+                done: 0,
+                faults: 0,
+                refused: 0,
+                crashes: 0,
+                installed: 0,
+                device_faults: 0,
+                failed_syncs: 0,
+                open_writes: 0,
+                kept_writes: 0,
+                wrong: 0,
+                unsound: 0,
+            },
+        })
+    }
+
+    /// Makes so many calls on a disk of which nothing is known.
+    fn make_calls(
+        &mut self,
+        rt: &(impl Threads + Sync),
+        alloc: Global,
+        files: &mut Files<Running>,
+        calls: u32,
+    ) -> Result<(), AllocError> {
+        self.is_open = [false; BLOCKS];
+        self.open(alloc, files, false);
+        self.open(alloc, files, true);
+        for _ in 0..calls {
+            self.turn(rt, alloc, files)?;
         }
         Ok(())
     }
@@ -369,41 +444,39 @@ pub fn print_random(
     systems: [Fs; 2],
     calls: u32,
 ) -> io::Result<()> {
-    let mut run = Run {
-        numbers: Numbers { state: 1 },
-        systems,
-        first: Plain::new(alloc)?,
-        second: Plain::new(alloc)?,
-        seen: Plain::new(alloc)?,
-        is_open: [false; BLOCKS],
-        tally: Tally {
-            done: 0,
-            faults: 0,
-            refused: 0,
-            crashes: 0,
-            device_faults: 0,
-            failed_syncs: 0,
-            open_writes: 0,
-            kept_writes: 0,
-            wrong: 0,
-            unsound: 0,
-        },
-    };
-    run.open(alloc, files, false);
-    run.open(alloc, files, true);
-    for _ in 0..calls {
-        run.turn(rt, alloc, files)?;
+    let mut run = Run::new(alloc, systems, 1, CRASHES)?;
+    run.make_calls(rt, alloc, files, calls)?;
+    println!(rt; "{calls} calls of two file systems:")?;
+    print_tally(rt, run.tally)
+}
+
+/// Makes some calls on each of many disks without templates, on which the library's types are installed first, and prints what happened.
+/// Most crashes come before these types are on the disk.
+pub fn print_starts(
+    rt: &(impl Threads + Print + Sync),
+    alloc: Global,
+    systems: [Fs; 2],
+) -> io::Result<()> {
+    let [first, second] = systems;
+    let mut run = Run::new(alloc, systems, 2, CRASHES_OF_A_START)?;
+    for _ in 0..STARTS {
+        let mut files = Files::bare(rt, alloc, BLOCKS as u32, first, second)?;
+        run.make_calls(rt, alloc, &mut files, CALLS_OF_A_START)?;
     }
-    print_tally(rt, calls, run.tally)
+    println!(rt;
+        "{CALLS_OF_A_START} calls on each of {STARTS} disks where the library's types were just installed:"
+    )?;
+    print_tally(rt, run.tally)
 }
 
 /// Prints what happened.
-fn print_tally(rt: &impl Print, calls: u32, tally: Tally) -> io::Result<()> {
+fn print_tally(rt: &impl Print, tally: Tally) -> io::Result<()> {
     let Tally {
         done,
         faults,
         refused,
         crashes,
+        installed,
         device_faults,
         failed_syncs,
         open_writes,
@@ -411,9 +484,7 @@ fn print_tally(rt: &impl Print, calls: u32, tally: Tally) -> io::Result<()> {
         wrong,
         unsound,
     } = tally;
-    println!(rt;
-        "{calls} calls of two file systems: {done} done, {faults} faults, {refused} refused"
-    )?;
+    println!(rt; "{done} done, {faults} faults, {refused} refused, {installed} templates installed")?;
     println!(rt;
         "{crashes} crashes, {device_faults} failed writes, {failed_syncs} failed syncs, {kept_writes} of {open_writes} open writes kept"
     )?;

@@ -54,7 +54,7 @@ pub fn print_rename(
     if let (End::Kept, Some(block)) = (end, last) {
         kept.push(block)?;
     }
-    let mounted = files.crash(rt, kept).is_some() && files.open(fs).is_ok();
+    let mounted = files.crash(rt, alloc, kept).is_some() && files.open(fs).is_ok();
     let top = names_in(alloc, files, fs, 1)?;
     let other = names_in(alloc, files, fs, 3)?;
     let how = match end {

@@ -110,7 +110,7 @@ pub fn left_by(
     let [first, second] = systems;
     let mut files = Files::format(rt, alloc, BLOCKS, first, second).ok()?;
     let is_met = play(alloc, &mut files, first, writes);
-    if files.crash(rt, blocks(alloc, kept).ok()?).is_none() {
+    if files.crash(rt, alloc, blocks(alloc, kept).ok()?).is_none() {
         // No second request is refused, so this disk is not sound.
         return if is_met { Some(Left::Wrong) } else { None };
     }
