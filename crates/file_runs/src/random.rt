@@ -21,7 +21,9 @@ const BLOCKS: usize = 48;
 
 /// How many disks without templates are begun with, how many calls are made on each, and of how many one is followed by a crash.
 const STARTS: u32 = 100;
+
 const CALLS_OF_A_START: u32 = 24;
+
 const CRASHES_OF_A_START: u16 = 6;
 
 /// Of how many calls one is followed by a crash, elsewhere.
@@ -34,6 +36,8 @@ struct Tally {
     faults: u32,
     refused: u32,
     crashes: u32,
+    /// Mounts that reached fewer blocks than block 0 and the library's three templates.
+    untyped: u32,
     /// Templates that were installed beside the library's.
     installed: u32,
     device_faults: u32,
@@ -358,9 +362,12 @@ impl Run {
     ) -> Result<(), AllocError> {
         count(&mut self.tally.crashes, true);
         let kept = self.kept(alloc)?;
-        let mounted = files.crash(rt, alloc, kept).is_some();
+        let mounted = files.crash(rt, alloc, kept);
         self.is_open = [false; BLOCKS];
-        count(&mut self.tally.unsound, !mounted);
+        match mounted {
+            Some((reached, _)) => count(&mut self.tally.untyped, reached < 4),
+            None => count(&mut self.tally.unsound, true),
+        }
         self.open(alloc, files, false);
         self.open(alloc, files, true);
         Ok(())
@@ -407,6 +414,7 @@ impl Run {
                 faults: 0,
                 refused: 0,
                 crashes: 0,
+                untyped: 0,
                 installed: 0,
                 device_faults: 0,
                 failed_syncs: 0,
@@ -451,7 +459,6 @@ pub fn print_random(
 }
 
 /// Makes some calls on each of many disks without templates, on which the library's types are installed first, and prints what happened.
-/// Most crashes come before these types are on the disk.
 pub fn print_starts(
     rt: &(impl Threads + Print + Sync),
     alloc: Global,
@@ -476,6 +483,7 @@ fn print_tally(rt: &impl Print, tally: Tally) -> io::Result<()> {
         faults,
         refused,
         crashes,
+        untyped,
         installed,
         device_faults,
         failed_syncs,
@@ -484,9 +492,11 @@ fn print_tally(rt: &impl Print, tally: Tally) -> io::Result<()> {
         wrong,
         unsound,
     } = tally;
-    println!(rt; "{done} done, {faults} faults, {refused} refused, {installed} templates installed")?;
     println!(rt;
-        "{crashes} crashes, {device_faults} failed writes, {failed_syncs} failed syncs, {kept_writes} of {open_writes} open writes kept"
+        "{done} done, {faults} faults, {refused} refused, {installed} templates installed"
+    )?;
+    println!(rt;
+        "{crashes} crashes, {untyped} before the library's types were on the disk, {device_faults} failed writes, {failed_syncs} failed syncs, {kept_writes} of {open_writes} open writes kept"
     )?;
     println!(rt; "{wrong} wrong, {unsound} unsound")
 }
