@@ -251,6 +251,16 @@ fn read_line(alloc: Global, line: &str) -> Result<Option<LineEvent>, AllocError>
     }
 }
 
+/// The event of the word `install` and the text behind it. It is not inlined, so that no other line clears the room of a template for it.
+#[inline(never)]
+fn install_event(text: &str) -> Option<Event>
+    ensures readable { IsSome result ↔ IsHex text.now }
+    ensures event { IfSome result (λ event. (block : List ℕ) × (event ≡ Event.Install block) × SpellsBlock text.now block) }
+{
+    let bytes = parse_template(text)?;
+    Some(Event::Install(bytes))
+}
+
 /// The event of a line, or `None` where it is none.
 pub fn parse_line(alloc: Global, line: &str) -> Result<Option<Event>, AllocError>
     ensures some { IfOk result (λ read. IfSome read (LineSpells line.now)) }
@@ -276,10 +286,7 @@ pub fn parse_line(alloc: Global, line: &str) -> Result<Option<Event>, AllocError
         LineEvent::Floor(fs) => Ok(Some(Event::Call(fs, Call::Floor))),
         LineEvent::Pick(fs) => Ok(Some(Event::Call(fs, Call::Pick))),
         LineEvent::Drain(fs) => Ok(Some(Event::Call(fs, Call::Drain))),
-        LineEvent::Install(text) => match parse_template(text) {
-            Some(bytes) => Ok(Some(Event::Install(bytes))),
-            None => Ok(None),
-        },
+        LineEvent::Install(text) => Ok(install_event(text)),
         LineEvent::Begin(block) => Ok(Some(Event::Begin(block))),
         LineEvent::Land(block) => Ok(Some(Event::Land(block))),
         LineEvent::Fail(block, new_bytes_stay) => Ok(Some(Event::Fail(block, new_bytes_stay))),
