@@ -7,6 +7,7 @@ use xn_kernel::Refusal;
 #[derive(Clone, Copy)]
 pub struct Asked {
     pub entry: Entry,
+    pub fs: u8,
     /// The type with which it adds.
     pub added_type: u32,
     /// Whether it claims what it changes.
@@ -103,8 +104,8 @@ impl Record {
 
     /// Why a block may not be added by an edit of another.
     fn add_refusal(&self, asked: &Asked, added: u32) -> Option<Refusal> {
-        let Entry { block, fs, .. } = asked.entry;
-        if !self.may_add(fs, added, asked.added_type) {
+        let block = asked.entry.block;
+        if !self.may_add(asked.fs, added, asked.added_type) {
             return Some(Refusal::NotFresh);
         }
         let (end, _) = self.chain_end(block);
@@ -131,9 +132,9 @@ impl Record {
 
     /// The entry of an edit.
     pub fn next_propose(&self, asked: &Asked) -> Result<(u32, u64), Refusal> {
-        let Entry { block, fs, .. } = asked.entry;
-        self.own(fs, block)?;
-        let number = self.next_entry(fs, block)?;
+        let block = asked.entry.block;
+        self.own(asked.fs, block)?;
+        let number = self.next_entry(asked.fs, block)?;
         if let Some(after) = asked.entry.after
             && (after == 0 || after >= self.next)
         {

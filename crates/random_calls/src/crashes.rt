@@ -105,15 +105,15 @@ impl Run {
         }
     }
 
-    /// Compares a block after a mount: a reached one is its file system's, with the type and the bytes that the rules say.
+    /// Compares a block after a mount: a reached one is its file system's, with the type and the bytes that the rules say, or nobody's.
     fn look_at_mounted(&mut self, kernel: &Kernel<MemLane>, block: u32) {
         self.look_at(kernel, block);
         let (number, wanted) = match self.record.life(block) {
-            Some(life) => (life.fs, Ok(life.ty)),
-            None => (Some(0), Err(Refusal::NotInUse)),
-        };
-        let Some(number) = number else {
-            return;
+            Some(life) => match life.fs {
+                Some(number) => (number, Ok(life.ty)),
+                None => (0, Err(Refusal::NotYours)),
+            },
+            None => (0, Err(Refusal::NotInUse)),
         };
         let Some(fs) = Fs::new(number) else {
             return self.tally.check(false);
@@ -123,7 +123,9 @@ impl Run {
             Ok(bytes) => self.tally.check(*bytes == self.record.held(block).newest),
             Err(refusal) => self.tally.check(wanted == Err(refusal)),
         }
-        self.tally.reached(wanted.is_ok());
+        if wanted != Err(Refusal::NotYours) {
+            self.tally.reached(wanted.is_ok());
+        }
     }
 
     /// The kernel is dropped, the device crashes, and is mounted again. `None` where that fails, which counts as wrong.
@@ -133,11 +135,14 @@ impl Run {
         alloc: Global,
         kernel: Kernel<MemLane>,
     ) -> Result<Option<Kernel<MemLane>>, AllocError> {
+        let (installed, pending) = self.record.count_types();
         let mut lanes = kernel.into_lanes();
         self.give_up(&mut lanes);
         self.crash_lanes(&mut lanes);
         let is_sound = self.record.mount(alloc)?;
         self.tally.check(is_sound);
+        let (left, _) = self.record.count_types();
+        self.tally.types(pending, installed.saturating_sub(left));
         let Some(kernel) = self.mount_lanes(rt, alloc, lanes) else {
             self.tally.check(false);
             return Ok(None);

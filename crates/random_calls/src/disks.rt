@@ -12,7 +12,7 @@ use xn_kernel::Kernel;
 const GREATEST: usize = 16_777_216;
 
 /// The start of the block that spells the template of type 6, whose blocks point to two more of their kind, in bytes 0 to 3 and 8 to 11.
-/// The other bytes of the block are zero.
+/// The other bytes of the block are zero. That of type 7, whose blocks point to two of type 8, is the same but for that type.
 const TREE: [u8; 48] = [
     0x58, 0x54, 0x0a, 0x01, // 10 words, 1 word
     0x01, 0x01, 0x08, 0x00, // SET 1 8
@@ -28,24 +28,29 @@ const TREE: [u8; 48] = [
     0x01, 0x00, 0x0c, 0x00, // SET 0 12
 ];
 
-/// The template of type 6.
-fn tree_template(alloc: Global) -> Result<Template, AllocError> {
+/// Where the type to which such a block points stands in it.
+const POINTED: usize = 18;
+
+/// The template of type 6 or 7, whose blocks point to blocks of this type.
+fn tree_template(alloc: Global, ty: u8) -> Result<Template, AllocError> {
     let mut block = [0u8; 512];
     block[..TREE.len()].copy_from_slice(&TREE);
+    block[POINTED] = ty;
     match read_block(alloc, &block) {
         Ok(template) => Ok(template),
         Err(_) => Err(AllocError),
     }
 }
 
-/// A kernel over a fresh disk of so many blocks, with the templates of the library file system and that of type 6.
+/// A kernel over a fresh disk of so many blocks, with the templates of the library file system and those of the types 6 and 7.
 pub fn fresh_kernel(
     rt: &(impl Threads + Sync),
     alloc: Global,
     blocks: u32,
 ) -> Result<Kernel<MemLane>, AllocError> {
     let mut templates = templates(alloc)?;
-    templates.push(tree_template(alloc)?)?;
+    templates.push(tree_template(alloc, 6)?)?;
+    templates.push(tree_template(alloc, 8)?)?;
     let Ok(image) = format_image(alloc, blocks, &templates) else {
         return Err(AllocError);
     };

@@ -6,57 +6,20 @@ use pseudo_random::Numbers;
 use std::alloc::{AllocError, Global};
 use xn_kernel::{Edit, EditId, Patch};
 
-/// A pointer of a block: its offset, and the type to which it points. Of each type some pointers are taken alone.
+/// A pointer of a block: its offset, and the type to which it points. Of some types a few pointers are taken alone.
 #[derive(Clone, Copy)]
 pub struct Pointer {
     pub offset: u16,
     pub ty: u32,
 }
 
-/// How many pointers of a block of this type are taken.
-pub fn pointers(ty: u32) -> u16 {
-    match ty {
-        3 | 5 => 3,
-        4 => 6,
-        6 => 2,
-        _ => 0,
-    }
-}
-
-/// One of the pointers of a block of this type.
-pub fn pointer_at(ty: u32, at: u16) -> Option<Pointer> {
-    let offset = match (ty, at) {
-        (3 | 5 | 6, 0) => 0,
-        (3 | 5, 1) => 4,
-        (3 | 5, 2) | (4 | 6, 1) => 8,
-        (4, 2) => 12,
-        (4, 0) => 56,
-        (4, 4) => 72,
-        (4, 5) => 76,
-        (4, 3) => 120,
-        _ => return None,
-    };
-    let ty = match ty {
-        3 => 4,
-        4 if at % 3 == 0 => 5,
-        6 => 6,
-        _ => 2,
-    };
-    Some(Pointer { offset, ty })
-}
-
 /// A pointer of a block of this type, which has none where it is a type of data.
-pub fn some_pointer(numbers: &mut Numbers, ty: u32) -> Option<Pointer> {
-    let count = pointers(ty);
+pub fn some_pointer(numbers: &mut Numbers, record: &Record, ty: u32) -> Option<Pointer> {
+    let count = record.pointers(ty);
     if count == 0 {
         return None;
     }
-    pointer_at(ty, numbers.below(count))
-}
-
-/// Whether blocks of this type have bytes 4 to 7 free for a number of each state, so that no two states are the same.
-pub fn has_stamp(ty: u32) -> bool {
-    ty == 2 || ty == 4 || ty == 6
+    record.pointer_at(ty, numbers.below(count))
 }
 
 /// The number of the next state, which is no block's.
@@ -73,7 +36,7 @@ fn word_patch(alloc: Global, offset: u16, word: u32) -> Result<Patch, AllocError
 /// The words that an edit of a block of this type writes: a pointer, where it sets one, and the number of the state, or a zero that is
 /// there already.
 pub fn words_of(record: &Record, ty: u32, pointer: Option<(u16, u32)>) -> [(u16, u32); 2] {
-    let last = if has_stamp(ty) {
+    let last = if record.has_stamp(ty) {
         (4, stamp(record))
     } else {
         (60, 0)
@@ -144,7 +107,7 @@ pub fn plain(numbers: &mut Numbers, record: &Record, fs: u8, block: u32) -> Aske
     let entry = Entry {
         block,
         number: record.next,
-        fs,
+        fs: Some(fs),
         adds: None,
         drops: None,
         after: some_after(numbers, record),
@@ -152,6 +115,7 @@ pub fn plain(numbers: &mut Numbers, record: &Record, fs: u8, block: u32) -> Aske
     };
     Asked {
         entry,
+        fs,
         added_type: 0,
         is_claimed: true,
     }
@@ -162,7 +126,7 @@ pub fn plain(numbers: &mut Numbers, record: &Record, fs: u8, block: u32) -> Aske
 pub fn some_target(
     numbers: &mut Numbers,
     record: &Record,
-    entry: &Entry,
+    asked: &Asked,
     ty: u32,
     old: u32,
 ) -> u32 {
@@ -170,10 +134,10 @@ pub fn some_target(
         return 0;
     }
     let start = u32::from(numbers.below(64));
-    let (end, _) = record.chain_end(entry.block);
-    let mut found = search(record, start, entry.fs, Some(ty));
+    let (end, _) = record.chain_end(asked.entry.block);
+    let mut found = search(record, start, asked.fs, Some(ty));
     if found == end && numbers.below(4) > 0 {
-        found = search(record, found.wrapping_add(1), entry.fs, Some(ty));
+        found = search(record, found.wrapping_add(1), asked.fs, Some(ty));
     }
     let is_taken = found != end && record.is_fresh(found);
     if is_taken || numbers.below(4) == 0 {

@@ -6,7 +6,7 @@ use crate::run::Run;
 use crate::tally::Kind;
 use crate::writes::{Write, drain};
 use disk::MemLane;
-use std::alloc::AllocError;
+use std::alloc::{AllocError, Global};
 use xn_kernel::{Kernel, Refusal};
 
 /// A device's answer as a number.
@@ -15,10 +15,22 @@ fn code(is_well: bool) -> u64 {
 }
 
 impl Run {
-    /// Begins a write: of this block, or of the one that is picked.
+    /// A block other than block 0 whose write may begin, from one on; where there is none, that one.
+    fn ready_from(&self, start: u32) -> u32 {
+        for step in 0..BLOCKS {
+            let block = start.wrapping_add(step) % BLOCKS;
+            if block != 0 && self.record.next_begin(block).is_ok() {
+                return block;
+            }
+        }
+        start
+    }
+
+    /// Begins a write: of this block, or of one that is ready. Block 0 is mostly passed over, so that types stay pending.
     pub fn begin(&mut self, kernel: &mut Kernel<MemLane>, block: u32) -> Result<(), AllocError> {
-        let block = match self.record.pick() {
-            Some(picked) if self.numbers.below(2) == 0 => picked,
+        let block = match self.numbers.below(16) {
+            0..=1 => self.record.pick().unwrap_or(block),
+            2..=8 => self.ready_from(block),
             _ => block,
         };
         let wanted = match self.record.next_begin(block) {
@@ -166,12 +178,17 @@ impl Run {
         }
     }
 
-    /// Begins with what the lanes of a kernel hold.
-    pub fn start(&mut self, kernel: &Kernel<MemLane>) {
+    /// Begins with what the lanes of a kernel over a fresh disk hold.
+    pub fn start(&mut self, alloc: Global, kernel: &Kernel<MemLane>) -> Result<(), AllocError> {
         for block in 0..BLOCKS {
             if let Some(lane) = kernel.lane(block) {
                 self.record.hold(block, Held::rest(*lane.bytes()));
+                self.record.start_with(block, lane.bytes());
             }
         }
+        self.tally.disks = self.tally.disks.saturating_add(1);
+        let is_sound = self.record.mount(alloc)?;
+        self.tally.check(is_sound);
+        Ok(())
     }
 }

@@ -88,11 +88,20 @@ impl Record {
         }
     }
 
-    /// The bytes of a block after so many of its pending entries. Those of a life that has no state on the disk begin with zeros.
+    /// With what the first entry of a block that has no state on the disk begins: a template's bytes, or zeros.
+    pub fn start_of(&self, block: u32, ty: u32) -> Bytes {
+        match self.starts.get(block as usize) {
+            Some(bytes) if ty == 1 => *bytes,
+            _ => [0; 512],
+        }
+    }
+
+    /// The bytes of a block after so many of its pending entries.
     pub fn bytes_after(&self, block: u32, count: u32) -> Bytes {
         let mut bytes = match self.life(block) {
             Some(life) if life.is_durable => self.held(block).settled,
-            _ => [0; 512],
+            Some(life) => self.start_of(block, life.ty),
+            None => [0; 512],
         };
         let mut left = count;
         for entry in &self.entries {

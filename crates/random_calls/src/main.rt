@@ -1,7 +1,8 @@
 // Makes pseudo-random calls of a kernel for eight file systems on a disk of 64 blocks, and compares each answer with what scans of a plain
-// record say. The device holds writes until they are synced, and some writes and syncs fail; it crashes again and again, keeps some of
-// what it held, and is mounted, and each block is then what the record says. Prints how many calls of each kind were made and accepted,
-// and how many answers were compared. The same calls are made in each run.
+// record say. Types are installed while it runs. The device holds writes until they are synced, and some writes and syncs fail; it
+// crashes again and again, keeps some of what it held, and is mounted, and each block is then what the record says: a type that block 0
+// doesn't name on the disk is gone. Prints how many calls of each kind were made and accepted, and how many answers were compared. The
+// same calls are made in each run.
 #![tactic(auto)]
 
 mod answers;
@@ -14,9 +15,12 @@ mod reached;
 mod record;
 mod run;
 mod scans;
+mod shapes;
 mod tally;
+mod types;
 mod writes;
 
+use disk::MemLane;
 use disks::fresh_kernel;
 use record::BLOCKS;
 use run::Run;
@@ -24,9 +28,10 @@ use std::alloc::{AllocError, Global};
 use std::io;
 use std::thread::Threads;
 use tally::Tally;
+use xn_kernel::Kernel;
 
 /// How many calls are made, beside the finishes before drains.
-const CALLS: u32 = 200_000;
+const CALLS: u32 = 500_000;
 
 /// How many of the calls are made before the first crash may come.
 const BEFORE_CRASHES: u32 = 100_000;
@@ -34,17 +39,46 @@ const BEFORE_CRASHES: u32 = 100_000;
 /// Of how many calls one is followed by a crash, from then on.
 const CRASHES: u16 = 256;
 
-/// Makes the calls.
+/// The same while a write of block 0 is open.
+const ROOT_CRASHES: u16 = 64;
+
+/// A kernel over a fresh disk.
+fn fresh_disk(
+    rt: &(impl Threads + Sync),
+    alloc: Global,
+    run: &mut Run,
+) -> Result<Kernel<MemLane>, AllocError> {
+    let kernel = fresh_kernel(rt, alloc, BLOCKS)?;
+    run.start(alloc, &kernel)?;
+    Ok(kernel)
+}
+
+/// Whether the device crashes after this call.
+fn may_crash(run: &mut Run, call: u32) -> bool {
+    if call < BEFORE_CRASHES {
+        return false;
+    }
+    let of = if run.record.held(0).given.is_some() {
+        ROOT_CRASHES
+    } else {
+        CRASHES
+    };
+    run.numbers.below(of) == 0
+}
+
+/// Makes the calls. A disk on which no further type has a place is formatted anew after a crash.
 fn make_calls(rt: &(impl Threads + Sync), alloc: Global, run: &mut Run) -> Result<(), AllocError> {
-    let mut kernel = fresh_kernel(rt, alloc, BLOCKS)?;
-    run.start(&kernel);
+    let mut kernel = fresh_disk(rt, alloc, run)?;
     for call in 0..CALLS {
         run.step(alloc, &mut kernel)?;
-        if call >= BEFORE_CRASHES && run.numbers.below(CRASHES) == 0 {
+        if may_crash(run, call) {
             kernel = match run.crash(rt, alloc, kernel)? {
                 Some(kernel) => kernel,
                 None => return Ok(()),
             };
+            if run.record.next_type().is_none() {
+                kernel = fresh_disk(rt, alloc, run)?;
+            }
         }
     }
     Ok(())
@@ -60,6 +94,23 @@ fn print_device(rt: &impl Print, tally: &Tally) -> io::Result<()> {
     println!(rt; "open writes: {kept} kept, {unread} of them never read, {lost} lost")?;
     let (reached, left) = (tally.reached, tally.left);
     println!(rt; "the mounts reached {reached} blocks, and left {left} free")
+}
+
+/// Prints what was met of types.
+fn print_types(rt: &impl Print, tally: &Tally) -> io::Result<()> {
+    let (no_slot, too_many) = (tally.no_slot, tally.too_many);
+    let (no_space, bad) = (tally.no_space, tally.bad);
+    println!(rt;
+        "install refused: NoSlot {no_slot} TooManyPending {too_many} NoSpace {no_space} BadTemplate {bad}"
+    )?;
+    let (untyped, awaiting) = (tally.untyped, tally.awaiting);
+    println!(rt;
+        "{untyped} calls refused with BadType, {awaiting} times a block with an entry that waits for a type"
+    )?;
+    let (disks, taken, kept) = (tally.disks, tally.types_taken, tally.types_kept);
+    println!(rt;
+        "{disks} disks formatted; the crashes took {taken} types, and kept {kept} that were pending"
+    )
 }
 
 /// Prints the counts.
@@ -81,6 +132,7 @@ fn print_tally(rt: &impl Print, tally: &Tally) -> io::Result<()> {
     )?;
     let (durable, freed) = (tally.durable, tally.freed);
     println!(rt; "writes made {durable} entries durable, and {freed} blocks free")?;
+    print_types(rt, tally)?;
     print_device(rt, tally)?;
     let (compared, wrong, hash) = (tally.compared, tally.wrong, tally.hash);
     println!(rt; "compared {compared} answers, {wrong} wrong, hash {hash:#x}")

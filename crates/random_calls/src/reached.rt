@@ -1,8 +1,8 @@
 // What a mount finds on a disk: the blocks that its root block reaches, by the bytes alone.
 
-use crate::edits::{pointer_at, pointers};
 use crate::held::word_at;
-use crate::record::{BLOCKS, Life, Record, Status};
+use crate::record::{BLOCKS, Life, Record};
+use crate::types::{FIRST_NAMED, PAST_NAMED};
 use std::alloc::{AllocError, Global};
 
 /// How many file systems have a root slot.
@@ -23,12 +23,26 @@ struct Walk {
 impl Record {
     /// Takes a block that a pointer names.
     fn reach(&mut self, walk: &mut Walk, block: u32, life: Life) -> Result<(), AllocError> {
-        if block >= BLOCKS || self.life(block).is_some() {
+        if block >= BLOCKS || self.life(block).is_some() || !self.is_installed(life.ty) {
             walk.is_sound = false;
             return Ok(());
         }
         self.set(block, Some(life));
         walk.found.push(block)?;
+        Ok(())
+    }
+
+    /// Takes the blocks of the types that block 0 names; each has the bytes with which its life began.
+    fn reach_templates(&mut self, walk: &mut Walk) -> Result<(), AllocError> {
+        for ty in FIRST_NAMED..PAST_NAMED {
+            let block = self.named(ty);
+            if block != 0 {
+                self.reach(walk, block, Life::found(None, 1, 0))?;
+                if self.held(block).newest != self.start_of(block, 1) {
+                    walk.is_sound = false;
+                }
+            }
+        }
         Ok(())
     }
 
@@ -51,8 +65,8 @@ impl Record {
             return Ok(());
         };
         let bytes = self.held(block).newest;
-        for at in 0..pointers(life.ty) {
-            if let Some(place) = pointer_at(life.ty, at) {
+        for at in 0..self.pointers(life.ty) {
+            if let Some(place) = self.pointer_at(life.ty, at) {
                 let named = word_at(&bytes, place.offset);
                 if named != 0 {
                     self.reach(walk, named, Life::found(life.fs, place.ty, block))?;
@@ -62,13 +76,15 @@ impl Record {
         Ok(())
     }
 
-    /// Begins anew with what the disk holds; whether each block is named at most once, and each that is named is on the disk.
+    /// Begins anew with what the disk holds; whether each block is named at most once, with a type that block 0 names, and each that is
+    /// named is on the disk.
     pub fn mount(&mut self, alloc: Global) -> Result<bool, AllocError> {
         self.restart();
         let mut walk = Walk {
             found: Vec::new(alloc),
             is_sound: true,
         };
+        self.reach_templates(&mut walk)?;
         self.reach_roots(&mut walk)?;
         for at in 0..BLOCKS as usize {
             if let Some(block) = walk.found.get(at) {

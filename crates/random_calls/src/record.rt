@@ -1,7 +1,7 @@
 // What each block has been since it was last free, and what the device holds, in plain lists: each change as the rules of lives say it,
 // and no index beside them.
 
-use crate::held::Held;
+use crate::held::{Bytes, Held};
 use std::alloc::{AllocError, Global};
 
 /// How many blocks the disk has.
@@ -45,7 +45,8 @@ impl Life {
 pub struct Entry {
     pub block: u32,
     pub number: u64,
-    pub fs: u8,
+    /// For whom it counts.
+    pub fs: Option<u8>,
     pub adds: Option<u32>,
     pub drops: Option<u32>,
     pub after: Option<u64>,
@@ -62,28 +63,31 @@ pub struct Record {
     pub next: u64,
     /// What the device holds in each block.
     pub held: Vec<Held>,
+    /// The bytes of the template that was the last to begin in each block.
+    pub starts: Vec<Bytes>,
+    /// The shape of each type that was installed in a place of block 0, by that place.
+    pub shapes: [u16; 16],
 }
 
 impl Record {
-    /// A fresh disk with four templates in blocks 1 to 4, all of zeros.
+    /// A disk of zeros, with no template.
     pub fn new(alloc: Global) -> Result<Record, AllocError> {
         let mut record = Record {
             lives: vec![in alloc; None; BLOCKS as usize]?,
             entries: Vec::new(alloc),
             next: 1,
             held: vec![in alloc; Held::rest([0; 512]); BLOCKS as usize]?,
+            starts: vec![in alloc; [0; 512]; BLOCKS as usize]?,
+            shapes: [0; 16],
         };
         record.restart();
         Ok(record)
     }
 
-    /// Forgets all lives but those of block 0 and of the templates, and all entries.
+    /// Forgets all lives but that of block 0, and all entries.
     pub fn restart(&mut self) {
         for block in 0..BLOCKS {
             self.set(block, None);
-        }
-        for block in 1..5 {
-            self.set(block, Some(Life::found(None, 1, 0)));
         }
         let root = Life::found(None, 0, 0);
         let status = Status::Fresh;
@@ -123,6 +127,13 @@ impl Record {
         }
     }
 
+    /// A template of these bytes begins in a block.
+    pub fn start_with(&mut self, block: u32, bytes: &Bytes) {
+        if let Some(place) = self.starts.get_mut(block as usize) {
+            *place = *bytes;
+        }
+    }
+
     fn set_status(&mut self, block: u32, status: Status) {
         if let Some(life) = self.life(block) {
             self.set(block, Some(Life { status, ..life }));
@@ -151,7 +162,7 @@ impl Record {
         self.accept(Entry {
             block,
             number,
-            fs,
+            fs: Some(fs),
             adds: None,
             drops: None,
             after: None,

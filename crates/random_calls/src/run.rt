@@ -3,8 +3,10 @@
 use crate::edits::{claiming, edit_of, plain, search, some_pointer, some_target, words_of};
 use crate::held::{Bytes, put_word, word_at};
 use crate::reached::slot;
-use crate::record::{Entry, Record};
+use crate::record::{BLOCKS, Entry, Record};
+use crate::shapes::{SHAPES, SPOILS, block_of, shape_of_number, spoiled};
 use crate::tally::{Kind, Tally};
+use crate::types::{ADDED, FIRST_ADDED};
 use crate::writes::Write;
 use disk::MemLane;
 use pseudo_random::Numbers;
@@ -66,6 +68,50 @@ impl Run {
         search(&self.record, start, fs, Some(ty))
     }
 
+    /// A type that the disk is not formatted with and that is there, from one on; some are asked for that are not on the disk yet.
+    fn added_from(&self, start: u32, is_waiting: bool) -> u32 {
+        for step in 0..ADDED {
+            let ty = FIRST_ADDED + start.wrapping_add(step) % ADDED;
+            if self.record.is_installed(ty) && !(is_waiting && self.record.is_on_disk(ty)) {
+                return ty;
+            }
+        }
+        FIRST_ADDED + start % ADDED
+    }
+
+    /// A type that the disk is not formatted with, mostly one that is there; now and then any number.
+    fn some_added(&mut self) -> u32 {
+        let start = u32::from(self.numbers.below(11));
+        match self.numbers.below(16) {
+            0 => u32::from(self.numbers.below(21)),
+            1..=8 => self.added_from(start, true),
+            _ => self.added_from(start, false),
+        }
+    }
+
+    /// One of these types, or where it is 0 one that the disk is not formatted with.
+    fn some_type(&mut self, choices: &[u32; 16]) -> u32 {
+        match self.numbers.pick(choices) {
+            0 => self.some_added(),
+            ty => ty,
+        }
+    }
+
+    /// A block of the file system that may point to blocks of a type, if there is one.
+    fn some_owner(&mut self, fs: u8, ty: u32) -> u32 {
+        let start = u32::from(self.numbers.below(64));
+        for step in 0..BLOCKS {
+            let block = start.wrapping_add(step) % BLOCKS;
+            if let Some(life) = self.record.life(block)
+                && life.fs == Some(fs)
+                && self.record.points_to(life.ty, ty)
+            {
+                return block;
+            }
+        }
+        start
+    }
+
     /// Takes an accepted entry, and notes what it attaches.
     fn accept(&mut self, entry: Entry) -> Result<(), AllocError> {
         if let Some(added) = entry.adds
@@ -76,14 +122,14 @@ impl Run {
         self.record.accept(entry)
     }
 
-    fn init(&mut self, kernel: &mut Kernel<MemLane>, fs: Fs) -> Result<(), AllocError> {
-        let ty = self.numbers.pick(&[2u32, 2, 2, 3, 4, 4, 5, 6, 6, 6]);
+    fn init(&mut self, kernel: &mut Kernel<MemLane>, fs: Fs, ty: u32) -> Result<(), AllocError> {
         let words = words_of(&self.record, ty, None);
         let answer = match kernel.init(fs, ty, &first_bytes(words)) {
             Ok((block, entry)) => Ok((block, entry.number())),
             Err(refusal) => Err(refusal),
         };
-        self.tally.take(Kind::Init, answer, self.record.next_init());
+        self.tally
+            .take(Kind::Init, answer, self.record.next_init(ty));
         if let Ok((block, number)) = answer {
             self.record.init(fs.number(), ty, block, number, words)?;
         }
@@ -92,7 +138,7 @@ impl Run {
 
     fn make_root(&mut self, kernel: &mut Kernel<MemLane>, fs: Fs) -> Result<(), AllocError> {
         let system = fs.number();
-        let ty = self.numbers.pick(&[3u32, 6]);
+        let ty = self.some_type(&[3, 3, 3, 3, 3, 6, 6, 6, 6, 6, 7, 7, 0, 0, 0, 0]);
         let block = self.some_fresh(system, ty);
         let answer = entry_of(0, kernel.make_root(fs, block));
         let wanted = self.record.next_make_root(system, block);
@@ -136,11 +182,11 @@ impl Run {
         let ty = self.record.kind(block);
         let mut asked = plain(&mut self.numbers, &self.record, system, block);
         let mut pointer = None;
-        if let Some(place) = some_pointer(&mut self.numbers, ty)
+        if let Some(place) = some_pointer(&mut self.numbers, &self.record, ty)
             && self.numbers.below(8) > 0
         {
             let old = pointed(kernel, fs, block, place.offset);
-            let new = some_target(&mut self.numbers, &self.record, &asked.entry, place.ty, old);
+            let new = some_target(&mut self.numbers, &self.record, &asked, place.ty, old);
             asked = claiming(&mut self.numbers, asked, place.ty, old, new);
             pointer = Some((place.offset, new));
         }
@@ -157,10 +203,10 @@ impl Run {
 
     /// Forgets this block, or a fresh one.
     fn forget(&mut self, kernel: &mut Kernel<MemLane>, fs: Fs, block: u32) {
-        let ty = self.numbers.pick(&[0u32, 2, 3, 4, 5, 6]);
-        let block = if ty == 0 {
+        let block = if self.numbers.below(6) == 0 {
             block
         } else {
+            let ty = self.some_type(&[2, 2, 2, 3, 3, 4, 4, 5, 5, 6, 6, 7, 7, 0, 0, 0]);
             self.some_fresh(fs.number(), ty)
         };
         let answer = match kernel.forget(fs, block) {
@@ -172,6 +218,60 @@ impl Run {
         if answer.is_ok() {
             self.record.free(block);
         }
+    }
+
+    /// Begins blocks of a type, and sets pointers to such blocks.
+    fn use_type(
+        &mut self,
+        alloc: Global,
+        kernel: &mut Kernel<MemLane>,
+        fs: Fs,
+        ty: u32,
+    ) -> Result<(), AllocError> {
+        for _ in 0..self.numbers.below(4) {
+            self.init(kernel, fs, ty)?;
+        }
+        for _ in 0..self.numbers.below(4) {
+            let block = self.some_owner(fs.number(), ty);
+            self.propose(alloc, kernel, fs, block)?;
+        }
+        Ok(())
+    }
+
+    /// Installs a template of one of the shapes, and uses its type; each third block is spoiled.
+    fn install(
+        &mut self,
+        alloc: Global,
+        kernel: &mut Kernel<MemLane>,
+        fs: Fs,
+    ) -> Result<(), AllocError> {
+        let number = self.numbers.below(SHAPES);
+        let is_template = self.numbers.below(3) > 0;
+        let mut bytes = block_of(&shape_of_number(number));
+        if !is_template {
+            bytes = spoiled(&bytes, self.numbers.below(SPOILS));
+        }
+        let ty = self.record.next_type().unwrap_or(0);
+        let wanted = self.record.next_install(is_template);
+        let answer = match kernel.install(&bytes) {
+            Ok(made) => {
+                let (first, second) = made.edits;
+                self.tally.ask(u64::from(made.ty), u64::from(ty));
+                self.tally
+                    .ask(second.number(), first.number().saturating_add(1));
+                Ok((made.block, first.number()))
+            }
+            Err(refusal) => {
+                self.tally.uninstalled(refusal);
+                Err(refusal)
+            }
+        };
+        self.tally.take(Kind::Install, answer, wanted);
+        if let Ok((block, first)) = answer {
+            self.record.install(ty, number, block, first, &bytes)?;
+            self.use_type(alloc, kernel, fs, ty)?;
+        }
+        Ok(())
     }
 
     /// Asks what changes nothing.
@@ -187,6 +287,7 @@ impl Run {
         tally.ask(u64::from(kernel.free()), u64::from(record.free_count()));
         let is_tainted = record.tainted(block);
         tally.ask(u64::from(kernel.tainted(block)), u64::from(is_tainted));
+        tally.awaits(record.awaits_type(block));
         let (_, owners) = record.chain_end(block);
         tally.met(record.entries.len(), is_tainted, owners);
         tally.ask(code(kernel.root(fs)), code(record.root(system)));
@@ -203,11 +304,15 @@ impl Run {
         };
         let block = self.some_block(fs.number());
         match self.numbers.below(512) {
-            0..=31 => self.init(kernel, fs)?,
+            0..=31 => {
+                let ty = self.some_type(&[2, 2, 2, 3, 4, 4, 5, 6, 6, 6, 7, 7, 0, 0, 0, 0]);
+                self.init(kernel, fs, ty)?;
+            }
             32..=43 => self.make_root(kernel, fs)?,
             44..=51 => self.drop_root(kernel, fs)?,
             52..=299 => self.propose(alloc, kernel, fs, block)?,
-            300..=359 => self.forget(kernel, fs, block),
+            300..=307 => self.install(alloc, kernel, fs)?,
+            308..=359 => self.forget(kernel, fs, block),
             360..=439 if self.writes.len() < WRITES => self.begin(kernel, block)?,
             360..=510 if self.writes.len() > 0 => self.go_on(kernel)?,
             360..=510 => self.begin(kernel, block)?,

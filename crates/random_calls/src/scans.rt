@@ -39,10 +39,34 @@ impl Record {
         true
     }
 
-    /// Whether what an entry adds has a state on the disk, what it drops has one and nothing pending, and what it comes after is met.
+    /// Whether block 0 has the type of the block that an entry adds: on the disk or, for its own entries, in an earlier state, which
+    /// is always so, as it is from then on that there are blocks of that type.
+    fn is_type_met(&self, entry: &Entry) -> bool {
+        match entry.adds {
+            Some(added) => entry.block == 0 || self.is_on_disk(self.kind(added)),
+            None => true,
+        }
+    }
+
+    /// Whether an entry of a block adds one that has a state on the disk, and waits for its type.
+    pub fn awaits_type(&self, block: u32) -> bool {
+        for entry in &self.entries {
+            if entry.block == block
+                && let Some(added) = entry.adds
+                && self.is_durable(added)
+                && !self.is_type_met(entry)
+            {
+                return true;
+            }
+        }
+        false
+    }
+
+    /// Whether what an entry adds has a state on the disk and a type that is met, what it drops has one and nothing pending, and what
+    /// it comes after is met.
     fn is_safe(&self, entry: &Entry) -> bool {
         if let Some(added) = entry.adds
-            && !self.is_durable(added)
+            && (!self.is_durable(added) || !self.is_type_met(entry))
         {
             return false;
         }
@@ -90,7 +114,7 @@ impl Record {
     pub fn floor(&self, fs: u8) -> u64 {
         let mut floor = self.next;
         for entry in &self.entries {
-            if entry.fs == fs && entry.number < floor {
+            if entry.fs == Some(fs) && entry.number < floor {
                 floor = entry.number;
             }
         }
@@ -101,7 +125,7 @@ impl Record {
     pub fn pending(&self, fs: u8) -> u32 {
         let mut count = 0u32;
         for entry in &self.entries {
-            if entry.fs == fs {
+            if entry.fs == Some(fs) {
                 count = count.saturating_add(1);
             }
         }
@@ -119,14 +143,15 @@ impl Record {
         count
     }
 
-    /// The block and the entry of the next life.
-    pub fn next_init(&self) -> Result<(u32, u64), Refusal> {
-        for block in 0..BLOCKS {
-            if self.life(block).is_none() {
-                return Ok((block, self.next));
-            }
+    /// The block and the entry of the next life of a type.
+    pub fn next_init(&self, ty: u32) -> Result<(u32, u64), Refusal> {
+        if ty < 2 || !self.is_installed(ty) {
+            return Err(Refusal::BadType);
         }
-        Err(Refusal::NoSpace)
+        match self.lowest_free() {
+            Some(block) => Ok((block, self.next)),
+            None => Err(Refusal::NoSpace),
+        }
     }
 
     /// The block that block 0 owns for a file system.

@@ -13,6 +13,7 @@ pub enum Kind {
     Begin,
     Finish,
     Drain,
+    Install,
 }
 
 /// Of a kind: how many calls were made, and how many of them were accepted.
@@ -27,7 +28,22 @@ pub struct Count {
 /// all answers.
 #[derive(Drop)]
 pub struct Tally {
-    pub counts: [Count; 8],
+    pub counts: [Count; 9],
+    /// How many installations were refused since 16 templates were there, since 64 entries of block 0 were pending, since no block was
+    /// free, and since the bytes were no template's.
+    pub no_slot: u32,
+    pub too_many: u32,
+    pub no_space: u32,
+    pub bad: u32,
+    /// How many calls were refused with BadType.
+    pub untyped: u32,
+    /// How often a block that was asked for had an entry that waits for a type, and not for the block that it adds.
+    pub awaiting: u32,
+    /// How many disks were formatted.
+    pub disks: u32,
+    /// How many types crashes took, and how many they kept that were pending.
+    pub types_taken: u32,
+    pub types_kept: u32,
     /// How many entries were pending at once, at most.
     pub most: usize,
     /// How often a block that was asked for had an entry that isn't safe.
@@ -83,7 +99,17 @@ impl Tally {
                 none("begin"),
                 none("finish"),
                 none("drain"),
+                none("install"),
             ],
+            no_slot: 0,
+            too_many: 0,
+            no_space: 0,
+            bad: 0,
+            untyped: 0,
+            awaiting: 0,
+            disks: 0,
+            types_taken: 0,
+            types_kept: 0,
             most: 0,
             tainted: 0,
             cycles: 0,
@@ -112,6 +138,23 @@ impl Tally {
         self.hash = (self.hash ^ answer).wrapping_mul(0x100000001b3);
     }
 
+    /// Takes why an installation was refused.
+    pub fn uninstalled(&mut self, refusal: Refusal) {
+        match refusal {
+            Refusal::NoSlot => self.no_slot = self.no_slot.saturating_add(1),
+            Refusal::TooManyPending => self.too_many = self.too_many.saturating_add(1),
+            Refusal::NoSpace => self.no_space = self.no_space.saturating_add(1),
+            _ => self.bad = self.bad.saturating_add(1),
+        }
+    }
+
+    /// Takes how many types were pending when the device crashed, and how many types were gone by that.
+    pub fn types(&mut self, pending: u32, taken: u32) {
+        self.types_taken = self.types_taken.saturating_add(taken);
+        let kept = pending.saturating_sub(taken);
+        self.types_kept = self.types_kept.saturating_add(kept);
+    }
+
     /// Takes what a call answered, as two numbers or as a refusal, and what a scan says.
     pub fn take(
         &mut self,
@@ -122,6 +165,9 @@ impl Tally {
         self.check(answer == wanted);
         if answer == Err(Refusal::Cycle) {
             self.cycles = self.cycles.saturating_add(1);
+        }
+        if answer == Err(Refusal::BadType) {
+            self.untyped = self.untyped.saturating_add(1);
         }
         if answer == Err(Refusal::NotSynced) {
             self.refused = self.refused.saturating_add(1);
@@ -195,6 +241,13 @@ impl Tally {
             self.rooted = self.rooted.saturating_add(1);
         } else {
             self.trees = self.trees.saturating_add(1);
+        }
+    }
+
+    /// Takes whether the block that is asked for has an entry that waits for a type.
+    pub fn awaits(&mut self, is_waiting: bool) {
+        if is_waiting {
+            self.awaiting = self.awaiting.saturating_add(1);
         }
     }
 
