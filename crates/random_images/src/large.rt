@@ -3,7 +3,6 @@
 
 use crash_check::Report;
 use std::alloc::{AllocError, Global};
-use udf_run::Pair;
 
 /// How many blocks each disk has.
 const COUNT: usize = 32_768;
@@ -132,16 +131,11 @@ impl Shape {
 /// Whether a report has the blocks that are reached one after another, each with its type, and all others as free.
 pub fn is_plain(report: &Report, shape: Shape) -> bool {
     let reached = shape.reached();
-    let pairs = &report.reached;
-    if pairs.len() != reached || report.free.len() != COUNT.saturating_sub(reached) {
+    if report.reached.len() != reached || report.free.len() != COUNT.saturating_sub(reached) {
         return false;
     }
-    for (block, pair) in pairs.iter().enumerate() {
-        let wanted = Pair {
-            block: (block & 0xffff) as u32,
-            ty: shape.type_of(block),
-        };
-        if *pair != wanted {
+    for (place, (block, ty)) in report.reached.iter().enumerate() {
+        if *block as usize != place || *ty != shape.type_of(place) {
             return false;
         }
     }

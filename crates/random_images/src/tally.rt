@@ -32,9 +32,9 @@ impl Tally {
     fn note_report(&mut self, report: &Report) {
         self.sound = self.sound.wrapping_add(1);
         self.reached = self.reached.wrapping_add(report.reached.len());
-        for pair in &report.reached {
-            self.note(&pair.block.to_le_bytes());
-            self.note(&pair.ty.to_le_bytes());
+        for (block, ty) in &report.reached {
+            self.note(&block.to_le_bytes());
+            self.note(&ty.to_le_bytes());
         }
         for block in &report.free {
             self.note(&block.to_le_bytes());

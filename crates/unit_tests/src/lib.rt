@@ -2,7 +2,11 @@
 #![tactic(auto)]
 
 #[cfg(test)]
+mod counting;
+#[cfg(test)]
 mod disks;
+#[cfg(test)]
+mod free_blocks;
 #[cfg(test)]
 mod kernel;
 #[cfg(test)]

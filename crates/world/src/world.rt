@@ -1,6 +1,6 @@
 // A world.
 
-ghost use Rattle.std.specs.Prelude.{◌≡◌, ◌≢◌, ◌⊎◌, ℕ, ◌<◌, List, All, length, map, Err, IfOk, IfErr, MatchResult, IsTrue, true, false};
+ghost use Rattle.std.specs.Prelude.{◌≡◌, ◌≢◌, ◌⊎◌, ℕ, ◌<◌, List, All, length, map, Err, None, IfOk, IfErr, MatchResult, IsTrue, true, false};
 ghost use Rattle.xn_model.specs.Images.{block_of, blocks_in, joined, IsSound};
 ghost use Rattle.xn_model.specs.BareDisks.{mounted_disk};
 ghost use Rattle.xn_model.specs.Worlds as model;
@@ -8,8 +8,9 @@ ghost use Rattle.xn_model.specs.Rules.{Holds, Agrees};
 ghost use Rattle.xn_history.specs.Histories.{Histories};
 ghost use Rattle.xn_history.specs.Moments.{RunWhere, Anything, IsMoment};
 ghost use Rattle.xn_history.specs.Promises.{ImageHolds};
-ghost use Rattle.image_model.specs.Walk.{verdict};
+ghost use Rattle.image_model.specs.Walk.{head_fault, verdict};
 ghost use Rattle.image_model.specs.Report.{IsSoundImage};
+ghost use Rattle.crash_check.specs.Mounts.{state_of};
 ghost use Rattle.ffs_model.specs.Cuts.{Choice, IsCut, IsCutImage, SameUnder, seen};
 ghost use Rattle.ffs_model.specs.Events.{IsForeign};
 ghost use Rattle.templates.specs.Templates.{IsTemplate};
@@ -30,7 +31,7 @@ use std::marker::Model;
 use std::thread::Threads;
 use templates::{FormatFault, Template, format_image};
 use xn_model::Refusal;
-use xn_state::{Answer, EditId, Landed, Stopped};
+use xn_state::{Answer, EditId, Landed, State, Stopped};
 
 /// A disk in memory, its kernel, and the tickets of the writes that are under way. After a crash whose mount found no memory it
 /// is down, and has no kernel.
@@ -88,7 +89,7 @@ impl World {
     }
 
     /// The disk of an image, and its first mount, under the types of the image's own catalogue. `Err` has the image's first
-    /// fault, as a check tells it, or comes for want of memory.
+    /// fault, as a check tells it, or comes for want of memory: only where the image's length, mark and count are right.
     pub fn open(
         rt: &(impl Threads + Sync),
         alloc: Global,
@@ -97,9 +98,11 @@ impl World {
         ensures ok { IfOk result (λ world. IsSoundImage (types_of_image (blocks_in image.now)) image.now
             × (world_with world ≡ mounted_disk language (blocks_in image.now))) }
         ensures err { IfErr result (λ fault. (fault ≡ ImageFault.NoMemory) ⊎ (verdict (types_of_image (blocks_in image.now)) image.now ≡ Err fault)) }
+        ensures head_first { IfErr result (λ fault. fault ≡ ImageFault.NoMemory → head_fault image.now ≡ None) }
     {
+        let state = state_of(rt, alloc, image)?;
         match Vec::from_slice(alloc, image) {
-            Ok(image) => World::open_image(rt, alloc, image),
+            Ok(image) => World::known(alloc, image, state),
             Err(_) => Err(ImageFault::NoMemory),
         }
     }
@@ -113,8 +116,19 @@ impl World {
         ensures ok { IfOk result (λ world. IsSoundImage (types_of_image (blocks_in image.items)) image.items
             × (world_with world ≡ mounted_disk language (blocks_in image.items))) }
         ensures err { IfErr result (λ fault. (fault ≡ ImageFault.NoMemory) ⊎ (verdict (types_of_image (blocks_in image.items)) image.items ≡ Err fault)) }
+        ensures head_first { IfErr result (λ fault. fault ≡ ImageFault.NoMemory → head_fault image.items ≡ None) }
     {
         let state = state_of(rt, alloc, &image)?;
+        World::known(alloc, image, state)
+    }
+
+    /// The disk of a sound image, mounted with what is known of its blocks.
+    fn known(alloc: Global, image: Vec<u8>, state: State) -> Result<World, ImageFault>
+        requires sound { IsSoundImage (types_of_image (blocks_in image.items)) image.items }
+        requires state { state ≡ state_of (blocks_in image.items) }
+        ensures ok { IfOk result (λ world. world_with world ≡ mounted_disk language (blocks_in image.items)) }
+        ensures err { IfErr result (λ fault. fault ≡ ImageFault.NoMemory) }
+    {
         match UnmountedDisk::of_image(alloc, image) {
             Ok(disk) => Ok(World::mounted(alloc, 1, disk.mount_known(1, state))),
             Err(_) => Err(ImageFault::NoMemory),

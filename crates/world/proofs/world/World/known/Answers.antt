@@ -1,7 +1,7 @@
 use Rattle.std.proofs.Common.{length, sym, subst}
 use Rattle.xn_model.specs.Images.{block_of, blocks_in, IsSound}
 use Rattle.templates.specs.Language.{types_of_image}
-use Rattle.world.proofs.world.World.open_image.Goals as goal
+use Rattle.world.proofs.world.World.known.Goals as goal
 
 pub mount_known-requires-clause-sound : goal.mount_known-requires-clause-sound
 mount_known-requires-clause-sound g c =
