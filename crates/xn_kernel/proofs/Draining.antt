@@ -67,10 +67,10 @@ began state begun b bytes count e =
 
 -- What is read back, and how many entries that makes durable
 
-abbrev choice : Bool → Bool → ℕ → Result ℕ Refusal
+abbrev pub choice : Bool → Bool → ℕ → Result ℕ Refusal
 choice same durable k = if same then Ok k else if durable then Ok 0 else Err NotMine
 
-chosen : (same durable : Bool) (k n : ℕ) → choice same durable k ≡ Ok n → ((same ≡ true) × (k ≡ n)) ⊎ ((same ≡ false) × (0 ≡ n))
+pub chosen : (same durable : Bool) (k n : ℕ) → choice same durable k ≡ Ok n → ((same ≡ true) × (k ≡ n)) ⊎ ((same ≡ false) × (0 ≡ n))
 chosen true durable k n e = inl (refl, same_ok k n e)
 chosen false true k n e = inr (refl, same_ok 0 n e)
 chosen false false k n e = absurd (never_ok NotMine n e)
@@ -124,7 +124,7 @@ pub never_err : {A : Type 0} (r : Result (A × StoreState) Refusal) (x : A × St
 never_err (Ok (answer, after)) x old new refusal e h = cc
 never_err (Err first) x old new refusal e h = cc
 
-fits_at : {L : Type 0} (bytes : L → List ℕ) (lanes : List (Option L)) (lives : Lives) (b : ℕ) (lane : L) (l : Life) → FitLives bytes lanes lives → slice_get lanes b ≡ Some (Some lane) → life_at lives b ≡ Some l →
+pub fits_at : {L : Type 0} (bytes : L → List ℕ) (lanes : List (Option L)) (lives : Lives) (b : ℕ) (lane : L) (l : Life) → FitLives bytes lanes lives → slice_get lanes b ≡ Some (Some lane) → life_at lives b ≡ Some l →
     IfSome l.durable (λ s. bytes lane ≡ s.bytes)
 fits_at bytes [] lives b lane l z at e = absurd (none-some _ at)
 fits_at bytes (a ∷ lanes) [] b lane l z at e = absurd z

@@ -1,4 +1,5 @@
 pub mod Homes
 pub mod Keeping
 pub mod Draining
+pub mod Flushing
 pub mod ForCallers

@@ -25,11 +25,13 @@ mod answers;
 mod call;
 mod drain;
 mod edits;
+mod flush;
 mod forget;
 mod install;
 mod kept;
 
 pub use drain::DrainStop;
+pub use flush::FlushStop;
 
 /// A store over the lanes of a disk.
 pub struct Kernel<L: Lane> {

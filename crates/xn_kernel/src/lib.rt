@@ -4,7 +4,7 @@
 mod kernel;
 mod ticket;
 
-pub use kernel::{DrainStop, Kernel};
+pub use kernel::{DrainStop, FlushStop, Kernel};
 pub use ticket::Ticket;
 pub use xn_state::{
     Answer, Call, Edit, EditId, Found, Fs, Installed, Landed, Patch, Refusal, Stopped, Store,

@@ -24,13 +24,13 @@ use Rattle.xn_model.proofs.Least.{progress}
 
 -- Sums
 
-sum_le : (xs ys : Lives) → length ys ≡ length xs → ((c : ℕ) → life_pending (life_at ys c) ≤ life_pending (life_at xs c)) → all_pending ys ≤ all_pending xs
+pub sum_le : (xs ys : Lives) → length ys ≡ length xs → ((c : ℕ) → life_pending (life_at ys c) ≤ life_pending (life_at xs c)) → all_pending ys ≤ all_pending xs
 sum_le [] [] e h = omega arith
 sum_le [] (y ∷ ys) e h = absurd (omega arith)
 sum_le (x ∷ xs) [] e h = absurd (omega arith)
 sum_le (x ∷ xs) (y ∷ ys) e h = let here = h 0 in let rest = sum_le xs ys (omega arith) (λ c. h (suc c)) in omega arith
 
-sum_lt : (xs ys : Lives) (b : ℕ) → length ys ≡ length xs → b < length xs → ((c : ℕ) → life_pending (life_at ys c) ≤ life_pending (life_at xs c)) → life_pending (life_at ys b) < life_pending (life_at xs b) → all_pending ys < all_pending xs
+pub sum_lt : (xs ys : Lives) (b : ℕ) → length ys ≡ length xs → b < length xs → ((c : ℕ) → life_pending (life_at ys c) ≤ life_pending (life_at xs c)) → life_pending (life_at ys b) < life_pending (life_at xs b) → all_pending ys < all_pending xs
 sum_lt [] ys b e lt h s = absurd (omega arith)
 sum_lt (x ∷ xs) [] b e lt h s = absurd (omega arith)
 sum_lt (x ∷ xs) (y ∷ ys) zero e lt h s = let rest = sum_le xs ys (omega arith) (λ c. h (suc c)) in omega arith
@@ -47,7 +47,7 @@ sum_some (Some l ∷ xs) h = elim (cases_lt 0 (length l.pending)) [
 
 -- What pick answers is ready
 
-ready_life : (lives : Lives) (o : Option Life) → is_ready lives o ≡ true → (l : Life) × (o ≡ Some l) × (l.begun ≡ None) × (1 ≤ prefix_of lives (Some l))
+pub ready_life : (lives : Lives) (o : Option Life) → is_ready lives o ≡ true → (l : Life) × (o ≡ Some l) × (l.begun ≡ None) × (1 ≤ prefix_of lives (Some l))
 ready_life lives None e = absurd (false≢true e)
 ready_life lives (Some l) e =
     let parts = and_parts (is_none l.begun) (nat_lt 0 (prefix_of lives (Some l))) e in

@@ -148,10 +148,10 @@ drops_at (x ∷ xs) c m = elim (Contains-append_cases x.drops (drops_of xs) c m)
   | inr later ↦ let r = drops_at xs c later in (r.0, Contains-tail x xs r.0 r.1, r.2)
 ]
 
-by_dropped : (a b : ℕ) (s : Status) → s ≡ Dropped b → IsBy a s → a ≡ b
+pub by_dropped : (a b : ℕ) (s : Status) → s ≡ Dropped b → IsBy a s → a ≡ b
 by_dropped a b s e by = let p : IsBy a (Dropped b) = subst (IsBy a) e by in sym p
 
-dropped_once : (a b : ℕ) (s : Status) → s ≡ Dropped b → s ≡ Dropped a → a ≡ b
+pub dropped_once : (a b : ℕ) (s : Status) → s ≡ Dropped b → s ≡ Dropped a → a ≡ b
 dropped_once a b s e f = let p : Dropped a ≡ Dropped b = sym f ∙ e in cc
 
 module _ (T : Types) (state : StoreState) (h : IsConsistent T state) (b : ℕ) (l : Life) (alive : life_at state.lives b ≡ Some l) (k : ℕ) where

@@ -33,6 +33,14 @@ pub use Rattle.xn_model.proofs.LaneCalls.{forgets, lanes_begun, lanes_drop_root,
 pub use Rattle.xn_model.proofs.Lands.{begin_keeps, idle_rests, land_keeps, left_may, left_placed, none_given_at, none_open, sync_keeps, told_keeps}
 pub use Rattle.xn_model.proofs.Drains.{drain_ends, picked_life}
 pub use Rattle.xn_model.proofs.Rounds.{none_pending, none_picked, picked_begins, round_leaves, wrote_out}
+-- waves
+pub use Rattle.xn_model.proofs.Prefixes.{step_more}
+pub use Rattle.xn_model.proofs.Picks.{picks_first, picks_none}
+pub use Rattle.xn_model.proofs.WaveCalls.{begun_life_apart, begun_not_ready, begun_pending, begun_prefix_apart, begun_ready_apart, begun_settles, ready_begins, settled_life_apart, settled_pending}
+pub use Rattle.xn_model.proofs.Waves.{wave_does, wave_flies, wave_runs}
+pub use Rattle.xn_model.proofs.Flush.{calm_does, calm_runs, flush_answered, flush_ends, flush_runs, ready_found, ready_in, ready_wave, wave_flights, wave_idle, wave_less}
+pub use Rattle.xn_model.proofs.Mixes.{mixes_rest, writes_mix}
+pub use Rattle.xn_model.proofs.Ranks.{entries_rank, waves_chain, waves_ranked}
 -- images and mounts
 pub use Rattle.xn_model.proofs.Reached.{agreement, among_states, carried_pending, durable_in, in_range, now_reached, positive, reached_installed, reached_now, reached_owned, soundness}
 pub use Rattle.xn_model.proofs.Walk.{recovered_is}

@@ -71,11 +71,11 @@ least_in [] n h = absurd (Contains-none n h)
 least_in (x ∷ xs) n h = least_of x xs
 
 -- tests that pass
-all_from : {A : Type 0} (p : A → Bool) (xs : List A) → ((x : A) → Contains xs x → p x ≡ true) → list_all p xs ≡ true
+pub all_from : {A : Type 0} (p : A → Bool) (xs : List A) → ((x : A) → Contains xs x → p x ≡ true) → list_all p xs ≡ true
 all_from p [] h = refl
 all_from p (x ∷ xs) h = and_from (p x) (list_all p xs) (h x (Contains-head x xs)) (all_from p xs (λ y i. h y (Contains-tail x xs y i)))
 
-list_life : (lives : Lives) (test : Life → Bool) → list_any (alive_and test) lives ≡ true → (b : ℕ) × (l : Life) × (life_at lives b ≡ Some l) × (test l ≡ true)
+pub list_life : (lives : Lives) (test : Life → Bool) → list_any (alive_and test) lives ≡ true → (b : ℕ) × (l : Life) × (life_at lives b ≡ Some l) × (test l ≡ true)
 list_life [] test e = absurd (false≢true e)
 list_life (None ∷ os) test e = let r = list_life os test e in (suc r.0, r.1, r.2, r.3)
 list_life (Some l ∷ os) test e = elim (cases_Bool (test l)) [
@@ -84,7 +84,7 @@ list_life (Some l ∷ os) test e = elim (cases_Bool (test l)) [
 ]
 
 -- the first pending state is the least of its block
-rises_first : (x : BlockState) (xs : List BlockState) (s : BlockState) → Rises (x ∷ xs) → Contains (x ∷ xs) s → x.entry ≤ s.entry
+pub rises_first : (x : BlockState) (xs : List BlockState) (s : BlockState) → Rises (x ∷ xs) → Contains (x ∷ xs) s → x.entry ≤ s.entry
 rises_first x [] s r h = elim (Contains-cons x [] s h) [ inl e ↦ let same : x.entry ≡ s.entry = ap (λ (y : BlockState). y.entry) e in omega arith | inr none ↦ absurd (Contains-none s none) ]
 rises_first x (y ∷ ys) s r h = elim (Contains-cons x (y ∷ ys) s h) [ inl e ↦ let same : x.entry ≡ s.entry = ap (λ (z : BlockState). z.entry) e in omega arith | inr i ↦ let le = rises_first y ys s r.1 i in let lt = r.0 in omega arith ]
 
@@ -168,7 +168,7 @@ module _ (T : Types) (state : StoreState) (h : IsConsistent T state) (n : ℕ) (
           subst (λ k. 1 ≤ k) (sym (cond-true (safe state.lives l.ty [] x) (suc (safe_count state.lives l.ty ([] ++ x ∷ []) xs)) 0 (least_safe b l x [] alive here is))) (omega arith)
 
 -- a ready block is found
-picked : (lives os : Lives) (b : ℕ) (l : Life) → life_at os b ≡ Some l → is_ready lives (Some l) ≡ true → is_some (position (is_ready lives) os) ≡ true
+pub picked : (lives os : Lives) (b : ℕ) (l : Life) → life_at os b ≡ Some l → is_ready lives (Some l) ≡ true → is_some (position (is_ready lives) os) ≡ true
 picked lives os b l e r = go (position (is_ready lives) os) refl
   where
     go : (o : Option ℕ) → position (is_ready lives) os ≡ o → is_some o ≡ true

@@ -37,6 +37,19 @@ pub mod LaneCalls
 pub mod Lands
 pub mod Drains
 pub mod Rounds
+-- waves
+pub mod WaveSteps
+pub mod WavePhases
+pub mod Prefixes
+pub mod WaveWrites
+pub mod WaveEnds
+pub mod WaveParts
+pub mod Waves
+pub mod Flush
+pub mod Ranks
+pub mod Mixes
+pub mod WaveCalls
+pub mod Picks
 -- images and mounts
 pub mod Reached
 pub mod Bare
@@ -49,5 +62,6 @@ pub mod Acts
 pub mod Runs
 pub mod Growth
 pub mod Examples
+pub mod WaveExamples
 -- what crates above cite
 pub mod ForCallers

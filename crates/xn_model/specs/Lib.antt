@@ -11,6 +11,8 @@ pub mod Worlds
 pub mod Rules
 pub mod Lanes
 pub mod Flights
+pub mod Waves
 pub mod BareDisks
 pub mod Rows
+pub mod WaveRows
 pub mod Refusals

@@ -1,18 +1,21 @@
 //! The abstract model of a block store with soft updates, and its laws.
 #![tactic(auto)]
 
-ghost use Rattle.std.specs.Prelude.{◌≡◌, ◌≢◌, ◌≤◌, ◌<◌, ◌⊎◌, ℕ, List, Option, length, slice_get, slice_set, Some, None, Ok, All, Contains, IsSome, IsTrue, ◌*◌, false};
+ghost use Rattle.std.specs.Prelude.{◌≡◌, ◌≢◌, ◌≤◌, ◌<◌, ◌⊎◌, ◌+◌, ◌*◌, ℕ, List, [], ◌∷◌, Option, length, take, slice_get, slice_set, Some, None, Ok, All, Contains, IsSome, IsTrue, true, false};
 ghost use Rattle.std.specs.List.{AllByRecursion};
+ghost use Rattle.xn_model.specs.Lists.{has_number};
 ghost use Rattle.xn_model.specs.Types.{Types};
 ghost use Rattle.xn_model.specs.Languages.{Language, Extends, types_in, template_of};
 ghost use Rattle.xn_model.specs.Root.{HasBuiltIns, has_type};
 ghost use Rattle.xn_model.specs.Images.{IsSound, IsDiskSize, Reach, block_of, blocks_in, joined};
-ghost use Rattle.xn_model.specs.Lives.{Lives, Life, StoreState, BlockState, life_at, floor, entries_of, root_on_disk};
-ghost use Rattle.xn_model.specs.Calls.{Edit, init_of, propose_of, make_root_of, drop_root_of, install_of, latest, types_of, forget_of, begun_of, settled_of, pick_of, pending_of};
+ghost use Rattle.xn_model.specs.Lives.{Lives, Life, StoreState, BlockState, life_at, prefix, begun_at, settled_at, freed, drops_of, floor, entries_of, root_on_disk};
+ghost use Rattle.xn_model.specs.Calls.{Edit, init_of, propose_of, make_root_of, drop_root_of, install_of, latest, types_of, forget_of, begun_of, settled_of, pick_of, pending_of, bytes_at};
 ghost use Rattle.xn_model.specs.Mounts.{recovered, IsRecovered};
-ghost use Rattle.xn_model.specs.Worlds.{World, types_now, types_on, types_there, Event, Reply, Drained, Crash, replies, world_after, mounted, none_given, drain, all_pending, is_crash, IsEvent, Step, Run, MayLeave, given_at, left};
+ghost use Rattle.xn_model.specs.Worlds.{World, types_now, types_on, types_there, Event, Reply, Drained, Crash, act, replies, world_after, mounted, none_given, drain, all_pending, is_crash, IsEvent, Step, Run, MayLeave, given_at, left};
 ghost use Rattle.xn_model.specs.Lanes.{FitLives, HoldImage};
 ghost use Rattle.xn_model.specs.Flights.{flight_of, HaveSameFlights, HaveSameFlightsBut};
+ghost use Rattle.xn_model.specs.Waves.{can_begin, ready_blocks, IsWave, wave, wave_bytes, wave_replies, is_success, IsStepOf, in_turns, steps_after, HaveTurns, AreStepsDone, IsChain, IsRanking, waves, flush, Outcome, all_done, is_done, wave_with, replies_with, IsAfterWave};
+ghost use Rattle.xn_model.specs.WaveRows.{pending_world, typed_world, flush_replies, failed_events, failed_replies, old_events, old_replies};
 ghost use Rattle.xn_model.specs.BareDisks.{no_templates, bare_disk, mounted_disk};
 ghost use Rattle.xn_model.specs.Rules.{IsConsistent, IsKeptType, KeepsType, Keeps, Installs, Holds, IsIdle, IsPlaced, ArePlaced, Agrees};
 ghost use Rattle.xn_model.specs.Rows.{sent, answered, library, library_disk, first_row, dropped_row, landed_row, lost_row, open_lost_row, open_kept_row, synced_row, failed_sync_row, failed_kept_row, failed_new_row, failed_old_row, many_row, refused_row, after_row, drained_row, rolled_back_row, claimed_row, attached_row, chains, chain_disk, cycle_row, installed_row, used_row, gone_row, full_row, subtree_kept_row, subtree_lost_row};
@@ -251,6 +254,127 @@ pub fn drain_ends()
         (writes ≤ all_pending w.state.lives) × (all_pending (drain w).1.state.lives ≡ 0) }
 {}
 
+/// With nothing in flight and something pending, some block is ready for a wave; and the first ready
+/// blocks, so many as one likes, are a wave.
+pub fn ready_found()
+    ensures found { (T : Types) (state : StoreState) → IsConsistent T state → IsIdle state.lives → (b : ℕ) (l : Life) (s : BlockState) →
+        life_at state.lives b ≡ Some l → Contains l.pending s → (c : ℕ) × Contains (ready_blocks state.lives) c }
+    ensures wave { (lives : Lives) (n : ℕ) → IsWave lives (take n (ready_blocks lives)) }
+{}
+
+/// A write step of one block takes nothing from another block's safe prefix.
+pub fn prefixes_grow()
+    ensures { (w : World) (e : Event) (b c : ℕ) → Holds w → IsStepOf c e → b ≢ c → prefix w.state.lives b ≤ prefix (act w e).1.state.lives b }
+{}
+
+/// Where several blocks that are ready are begun, written, synced and finished, each in this order, and these steps are mixed
+/// in any way, each step is answered well, and each begin and finish has at least as many entries as were safe of the
+/// block before all of it. A block that had all four steps is not in flight.
+pub fn writes_mix()
+    ensures done { (w : World) (turns : List ℕ) → Holds w → w.down ≡ false → ((b : ℕ) → Contains turns b → can_begin w.state.lives b ≡ true) →
+        HaveTurns (λ b. 0) turns → AreStepsDone w.state.lives (in_turns turns) (replies w (in_turns turns)) }
+    ensures rest { (w : World) (turns : List ℕ) (b : ℕ) (l : Life) → Holds w → w.down ≡ false →
+        ((b : ℕ) → Contains turns b → can_begin w.state.lives b ≡ true) → HaveTurns (λ b. 0) turns → Contains turns b →
+        steps_after (λ b. 0) turns b ≡ 4 → life_at (world_after w (in_turns turns)).state.lives b ≡ Some l → l.begun ≡ None }
+{}
+
+/// On a calm device each event of a wave is answered well, in whatever order its blocks stand: as many
+/// entries of a block are begun and made durable as are safe of it before the wave. Nothing but the
+/// blocks of the wave and those that their entries drop is changed. The wave is a run.
+pub fn wave_is_answered()
+    ensures replies { (w : World) (blocks : List ℕ) → Holds w → w.down ≡ false → IsWave w.state.lives blocks →
+        replies w (wave blocks) ≡ wave_replies w.state.lives blocks }
+    ensures leaves { (w : World) (blocks : List ℕ) → Holds w → w.down ≡ false → IsWave w.state.lives blocks →
+        IsAfterWave w all_done blocks (world_after w (wave blocks)) }
+    ensures runs { (w : World) (blocks : List ℕ) → Holds w → w.down ≡ false → IsWave w.state.lives blocks →
+        Run w (wave blocks) (wave_replies w.state.lives blocks) (world_after w (wave blocks)) }
+{}
+
+/// After a wave on a calm device the writes under way are those that were before it, and less is pending.
+pub fn wave_ends()
+    ensures flights { (w : World) (blocks : List ℕ) → Holds w → w.down ≡ false → IsWave w.state.lives blocks →
+        HaveSameFlights w.state.lives (world_after w (wave blocks)).state.lives }
+    ensures idle { (w : World) (blocks : List ℕ) → Holds w → w.down ≡ false → IsWave w.state.lives blocks → IsIdle w.state.lives →
+        IsIdle (world_after w (wave blocks)).state.lives }
+    ensures less { (w : World) (blocks : List ℕ) (b : ℕ) → Holds w → w.down ≡ false → IsWave w.state.lives blocks → Contains blocks b →
+        all_pending (world_after w (wave blocks)).state.lives < all_pending w.state.lives }
+{}
+
+/// A flush with nothing in flight ends with nothing in flight and nothing pending, after at most as many
+/// waves as entries were pending, and each of its events is answered well. It is a run.
+pub fn flush_ends()
+    ensures few { (w : World) (limit : ℕ) → Holds w → w.down ≡ false → IsIdle w.state.lives → 1 ≤ limit → length (waves limit w) ≤ all_pending w.state.lives }
+    ensures nothing { (w : World) (limit : ℕ) → Holds w → w.down ≡ false → IsIdle w.state.lives → 1 ≤ limit →
+        all_pending (world_after w (flush limit w)).state.lives ≡ 0 }
+    ensures idle { (w : World) (limit : ℕ) → Holds w → w.down ≡ false → IsIdle w.state.lives → 1 ≤ limit → IsIdle (world_after w (flush limit w)).state.lives }
+    ensures answered { (w : World) (limit : ℕ) → Holds w → w.down ≡ false → IsIdle w.state.lives → 1 ≤ limit →
+        All (λ r. is_success r ≡ true) (replies w (flush limit w)) }
+    ensures runs { (w : World) (limit : ℕ) → Holds w → Run w (flush limit w) (replies w (flush limit w)) (world_after w (flush limit w)) }
+{}
+
+/// A flush whose waves take all ready blocks has as many waves as there are entries in some chain in which each
+/// waits for the one before it. So it has no more than there are ranks, however the pending entries are ranked so that
+/// each is above those that it waits for; the entry numbers are such ranks.
+pub fn waves_are_few()
+    ensures chain { (w : World) (limit : ℕ) → Holds w → w.down ≡ false → IsIdle w.state.lives → length w.state.lives ≤ limit → waves limit w ≢ [] →
+        (b : ℕ) × (s : BlockState) × IsChain w.state.lives (length (waves limit w)) b s }
+    ensures few { (w : World) (limit : ℕ) (rank : ℕ → ℕ) (top : ℕ) → Holds w → w.down ≡ false → IsIdle w.state.lives → length w.state.lives ≤ limit →
+        IsRanking w.state.lives rank →
+        ((b : ℕ) (l : Life) (s : BlockState) → life_at w.state.lives b ≡ Some l → Contains l.pending s → rank s.entry < top) → length (waves limit w) ≤ top }
+    ensures ranks { (T : Types) (state : StoreState) → IsConsistent T state → IsRanking state.lives (λ n. n) }
+{}
+
+/// By what its calls answer: the write of a block that is ready begins, with what is safe of the block. It is not ready then;
+/// every other block is as it was, with its prefix, and is ready if it was; and as much is pending.
+pub fn wave_begins()
+    ensures begins { (state : StoreState) (b : ℕ) → can_begin state.lives b ≡ true →
+        begun_of state b ≡ Ok ((wave_bytes state.lives b, prefix state.lives b), record state { lives = begun_at state.lives b (prefix state.lives b) }) }
+    ensures here { (state new : StoreState) (b : ℕ) (begun : List ℕ × ℕ) → begun_of state b ≡ Ok (begun, new) → can_begin new.lives b ≡ false }
+    ensures others { (state new : StoreState) (b c : ℕ) (begun : List ℕ × ℕ) → begun_of state b ≡ Ok (begun, new) → c ≢ b →
+        (life_at new.lives c ≡ life_at state.lives c) × (prefix new.lives c ≡ prefix state.lives c) × (can_begin new.lives c ≡ can_begin state.lives c) }
+    ensures pending { (state new : StoreState) (b : ℕ) (begun : List ℕ × ℕ) → begun_of state b ≡ Ok (begun, new) →
+        all_pending new.lives ≡ all_pending state.lives }
+{}
+
+/// So blocks that are picked and begun, one after another, are the first of those that were ready, in rising order.
+pub fn picks_are_ready()
+    ensures first { (state : StoreState) (b : ℕ) → pick_of state ≡ Some b → (rest : List ℕ) × (ready_blocks state.lives ≡ b ∷ rest) ×
+        ((new : StoreState) (begun : List ℕ × ℕ) → begun_of state b ≡ Ok (begun, new) → ready_blocks new.lives ≡ rest) }
+    ensures none { (state : StoreState) → pick_of state ≡ None → ready_blocks state.lives ≡ [] }
+{}
+
+/// A write settles whose begun bytes are read back. Every other block whose write is under way is as it was, and what
+/// is durable now is no longer pending.
+pub fn wave_settles()
+    ensures settles { (state : StoreState) (b k : ℕ) (l : Life) → life_at state.lives b ≡ Some l → l.begun ≡ Some k → settled_of state b (bytes_at k l)
+        ≡ Ok ((k, length (drops_of (take k l.pending))), record state { lives = freed (settled_at state.lives b k) (drops_of (take k l.pending)) }) }
+    ensures others { (T : Types) (state new : StoreState) (b : ℕ) (bytes : List ℕ) (done : ℕ × ℕ) (c : ℕ) (l : Life) (k : ℕ) → IsConsistent T state →
+        settled_of state b bytes ≡ Ok (done, new) → c ≢ b → life_at state.lives c ≡ Some l → l.begun ≡ Some k → life_at new.lives c ≡ Some l }
+    ensures pending { (T : Types) (state new : StoreState) (b : ℕ) (bytes : List ℕ) (done : ℕ × ℕ) → IsConsistent T state →
+        settled_of state b bytes ≡ Ok (done, new) → all_pending new.lives + done.0 ≤ all_pending state.lives }
+{}
+
+/// Where writes or syncs of some blocks of a wave fail, the others finish as they do on a calm device. What was not read
+/// back stays under way, with the entries and the bytes that its ticket carries; every other block of the wave isn't under way,
+/// and the writes of blocks outside the wave are as they were. A block whose write failed may be synced and read back all the same:
+/// its entries are durable where the new bytes stand there, and pending where the old ones do. The wave is a run.
+pub fn wave_with_faults()
+    ensures replies { (w : World) (outcome : ℕ → Outcome) (blocks : List ℕ) → Holds w → w.down ≡ false → IsWave w.state.lives blocks →
+        replies w (wave_with outcome blocks) ≡ replies_with w outcome blocks }
+    ensures leaves { (w : World) (outcome : ℕ → Outcome) (blocks : List ℕ) → Holds w → w.down ≡ false → IsWave w.state.lives blocks →
+        IsAfterWave w outcome blocks (world_after w (wave_with outcome blocks)) }
+    ensures flying { (w : World) (outcome : ℕ → Outcome) (blocks : List ℕ) (b : ℕ) → Holds w → w.down ≡ false → IsWave w.state.lives blocks →
+        Contains blocks b → is_done (outcome b) ≡ false →
+        flight_of (life_at (world_after w (wave_with outcome blocks)).state.lives b) ≡ Some (prefix w.state.lives b, wave_bytes w.state.lives b) }
+    ensures done { (w : World) (outcome : ℕ → Outcome) (blocks : List ℕ) (b : ℕ) → Holds w → w.down ≡ false → IsWave w.state.lives blocks → Contains blocks b →
+        is_done (outcome b) ≡ true → flight_of (life_at (world_after w (wave_with outcome blocks)).state.lives b) ≡ None }
+    ensures others { (w : World) (outcome : ℕ → Outcome) (blocks : List ℕ) (c : ℕ) → Holds w → w.down ≡ false → IsWave w.state.lives blocks →
+        has_number blocks c ≡ false →
+        flight_of (life_at (world_after w (wave_with outcome blocks)).state.lives c) ≡ flight_of (life_at w.state.lives c) }
+    ensures runs { (w : World) (outcome : ℕ → Outcome) (blocks : List ℕ) → Holds w → w.down ≡ false → IsWave w.state.lives blocks →
+        Run w (wave_with outcome blocks) (replies_with w outcome blocks) (world_after w (wave_with outcome blocks)) }
+{}
+
 /// No pending entry of a file system is below its floor, the floor is such an entry or the next
 /// number, and the entries that it is read from are as many as are pending.
 pub fn floor_is_least()
@@ -299,4 +423,17 @@ pub fn rows()
     ensures full { replies (mounted_disk chains (bare_disk 32)) (sent full_row) ≡ answered full_row }
     ensures subtree_kept { replies (mounted_disk chains (bare_disk 32)) (sent subtree_kept_row) ≡ answered subtree_kept_row }
     ensures subtree_lost { replies (mounted_disk chains (bare_disk 32)) (sent subtree_lost_row) ≡ answered subtree_lost_row }
+{}
+
+/// Waves on a disk with three new blocks, of which block 0 names two: with room for all, for two and for one
+/// block in a wave; the replies; a wave in which one block's sync fails, and one in which
+/// its write fails and leaves the old bytes. And waves where a block waits for a type that is installed.
+pub fn wave_rows()
+    ensures all { waves 32 pending_world ≡ (1 ∷ 2 ∷ 3 ∷ []) ∷ (0 ∷ []) ∷ [] }
+    ensures two { waves 2 pending_world ≡ (1 ∷ 2 ∷ []) ∷ (0 ∷ 3 ∷ []) ∷ [] }
+    ensures one { waves 1 pending_world ≡ (1 ∷ []) ∷ (0 ∷ []) ∷ (2 ∷ []) ∷ (0 ∷ []) ∷ (3 ∷ []) ∷ [] }
+    ensures typed { waves 32 typed_world ≡ (3 ∷ 4 ∷ []) ∷ (0 ∷ []) ∷ (2 ∷ []) ∷ [] }
+    ensures answered { replies pending_world (flush 32 pending_world) ≡ flush_replies }
+    ensures failed { replies pending_world failed_events ≡ failed_replies }
+    ensures kept_old { replies pending_world old_events ≡ old_replies }
 {}

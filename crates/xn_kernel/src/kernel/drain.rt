@@ -24,14 +24,14 @@ pub struct DrainStop<L: Lane> {
 
 impl<L: Lane> Kernel<L> {
     /// Whether a write of some block is under way.
-    fn is_busy(&self) -> bool
+    pub(super) fn is_busy(&self) -> bool
         ensures { result ≡ list_any (alive_and (λ l. is_some l.begun)) self.now.state.lives }
     {
         self.state.is_any_in_flight()
     }
 
     /// How many entries are pending, of all blocks and file systems.
-    fn all_pending(&self) -> u32
+    pub(super) fn all_pending(&self) -> u32
         ensures { result ≡ all_pending self.now.state.lives }
     {
         self.state.all_pending()

@@ -1,0 +1,52 @@
+-- A block of a file, as contracts see its lane, and what a read, a write and a sync of it may answer.
+use Rattle.std.specs.Prelude.{◌≡◌, ◌⊎◌, ℕ, List, [], ◌∷◌, Result, Ok, Err}
+use Rattle.disk.specs.Mem.{next_count}
+
+-- The writes of a block that may not be settled: all bytes that a crash may leave, and the number of the first sync that settles the
+-- newest write, or 0.
+pub record OpenWriteBytes : Type 0 where
+  pub may_leave : List (List ℕ)
+  pub settled_by : ℕ
+
+pub record FileBlock : Type 0 where
+  pub number : ℕ
+  -- what a read gives
+  pub bytes : List ℕ
+  -- all bytes that a crash may leave: those of the last good sync, and those given to a write since
+  pub may_leave : List (List ℕ)
+  pub faults : ℕ
+
+-- a block that is settled with these bytes and has never failed
+abbrev pub fresh_block : ℕ → List ℕ → FileBlock
+fresh_block number bytes = record { number = number; bytes = bytes; may_leave = bytes ∷ []; faults = 0 }
+
+-- these bytes stand in the list
+abbrev pub IsAmong : List (List ℕ) → List ℕ → Type 0
+IsAmong [] bytes = ⊥
+IsAmong (x ∷ xs) bytes = IsAmong xs bytes ⊎ (bytes ≡ x)
+
+-- what a crash may leave in a block
+abbrev pub file_leaves : FileBlock → List ℕ → Type 0
+file_leaves block bytes = IsAmong block.may_leave bytes
+
+-- the block after one fault more
+abbrev pub with_fault : FileBlock → FileBlock
+with_fault block = record block { faults = next_count block.faults }
+
+-- the block after these bytes were given to a write
+abbrev pub with_write : FileBlock → List ℕ → FileBlock
+with_write block bytes = record block { may_leave = bytes ∷ block.may_leave }
+
+-- What a read, a write and a sync of a block may answer, and the block after it. Nothing is said of when they fail.
+abbrev pub file_read : {E : Type 0} → FileBlock → Result (Unit {0}) E → FileBlock → Type 0
+file_read old (Ok done) new = new ≡ old
+file_read old (Err fault) new = new ≡ with_fault old
+
+abbrev pub file_write : {E : Type 0} → FileBlock → List ℕ → Result (Unit {0}) E → FileBlock → Type 0
+file_write old bytes (Ok done) new = new ≡ record (with_write old bytes) { bytes = bytes }
+file_write old bytes (Err fault) new =
+    (new ≡ with_fault (with_write old bytes)) ⊎ (new ≡ record (with_fault (with_write old bytes)) { bytes = bytes })
+
+abbrev pub file_sync : {E : Type 0} → FileBlock → Result (Unit {0}) E → FileBlock → Type 0
+file_sync old (Ok done) new = new ≡ record old { may_leave = old.bytes ∷ [] }
+file_sync old (Err fault) new = new ≡ with_fault old

@@ -1,0 +1,184 @@
+// A file as a disk: made or opened, and locked.
+ghost use Rattle.std.specs.Prelude.{◌≡◌, ◌≤◌, ◌*◌, ◌/◌, ◌%◌, length, replicate, IfOk};
+ghost use Rattle.disk.specs.Images.{HoldsBytes};
+ghost use Rattle.file_disk.specs.Opened.{AreOpened};
+
+use crate::fault::FileFault;
+use crate::lane::FileLane;
+use crate::lanes::{found_lanes, written_lanes};
+use disk::{BLOCK_LEN, Lanes};
+use std::alloc::Global;
+use std::fs::{File, Files, OpenOptions, TryLockError};
+use std::io;
+use std::marker::Model;
+use std::os::unix::fs::FileExt;
+use std::path::Path;
+
+/// The fewest blocks of a disk.
+pub const MIN_BLOCKS: u32 = 32;
+
+/// The most blocks of a disk.
+pub const MAX_BLOCKS: u32 = 32_768;
+
+/// An open file, of 32 to 32,768 blocks, with a lane for each, all at home. Nobody else can open it as a disk until the last
+/// lane is dropped.
+#[derive(Drop)]
+pub struct FileDisk {
+    lanes: Lanes<FileLane>,
+}
+
+impl Model for FileDisk {
+    ghost use Rattle.std.specs.Prelude.{List, Option};
+    ghost use Rattle.file_disk.specs.File.{FileBlock};
+
+    ghost Value = { List (Option FileBlock) };
+
+    ghost view = { λ a. a.lanes };
+}
+
+impl FileDisk {
+    /// Makes a file of so many blocks of zeros, as `create_with`.
+    pub fn create<R: Files<File = File>>(
+        rt: &R,
+        alloc: Global,
+        path: &str,
+        blocks: u32,
+    ) -> Result<FileDisk, FileFault>
+        requires least { 32 ≤ blocks }
+        requires most { blocks ≤ 32768 }
+        ensures opened { IfOk result (λ disk. AreOpened blocks disk) }
+        ensures zeros { IfOk result (λ disk. HoldsBytes (λ lane. lane.bytes) disk (replicate (512 * blocks) 0)) }
+    {
+        let zeros = vec![in alloc; 0; BLOCK_LEN * blocks as usize]?;
+        FileDisk::create_with(rt, alloc, path, &zeros)
+    }
+
+    /// Makes a file of these bytes, which are whole blocks, and locks it. After `Ok` the file and its name are settled.
+    /// `AlreadyThere` comes where something has the name, and nothing is done then. After another `Err`, and after a crash, a
+    /// file that was not there may be there, whole or short. Block 0 is written last, once all others are settled, so that it
+    /// never stands before an image that is not whole.
+    pub fn create_with<R: Files<File = File>>(
+        rt: &R,
+        alloc: Global,
+        path: &str,
+        image: &[u8],
+    ) -> Result<FileDisk, FileFault>
+        requires whole { length image.now % 512 ≡ 0 }
+        requires least { 512 * 32 ≤ length image.now }
+        requires most { length image.now ≤ 512 * 32768 }
+        ensures opened { IfOk result (λ disk. AreOpened (length image.now / 512) disk) }
+        ensures image { IfOk result (λ disk. HoldsBytes (λ lane. lane.bytes) disk image.now) }
+    {
+        let file = make(rt, path)?;
+        lock(&file)?;
+        settle_name(rt, path)?;
+        write_image(&file, image)?;
+        let lanes = written_lanes(alloc, file, image)?;
+        Ok(FileDisk { lanes })
+    }
+
+    /// Opens and locks a file, settles what the system still holds of it, and reads each block. `NotThere` comes where nothing
+    /// has the name, `InUse` at once where another handle has the lock, `NotAFile` and `BadLength` where it can be no disk.
+    pub fn open<R: Files<File = File>>(
+        rt: &R,
+        alloc: Global,
+        path: &str,
+    ) -> Result<FileDisk, FileFault>
+        ensures opened { IfOk result (λ disk. AreOpened (length disk) disk) }
+        ensures least { IfOk result (λ disk. 32 ≤ length disk) }
+        ensures most { IfOk result (λ disk. length disk ≤ 32768) }
+    {
+        let file = find(rt, path)?;
+        lock(&file)?;
+        let blocks = blocks_of(&file)?;
+        let lanes = found_lanes(alloc, file, blocks)?;
+        Ok(FileDisk { lanes })
+    }
+
+    /// How many blocks it has.
+    pub fn blocks(&self) -> usize
+        ensures { result ≡ length self.now }
+    {
+        self.lanes.blocks()
+    }
+
+    /// Its lanes, all at home. The file stays open and locked until the last of them is dropped.
+    pub fn into_lanes(self) -> Lanes<FileLane>
+        ensures { result ≡ self }
+    {
+        let FileDisk { lanes } = self;
+        lanes
+    }
+}
+
+/// Makes a file that is not there.
+fn make<R: Files<File = File>>(rt: &R, path: &str) -> Result<File, FileFault> {
+    let made = OpenOptions::new()
+        .read(true)
+        .write(true)
+        .create_new(true)
+        .open(rt, path);
+    match made {
+        Ok(file) => Ok(file),
+        Err(error) if error.kind() == io::ErrorKind::AlreadyExists => Err(FileFault::AlreadyThere),
+        Err(error) => Err(FileFault::System(error)),
+    }
+}
+
+/// Opens a file that is there.
+fn find<R: Files<File = File>>(rt: &R, path: &str) -> Result<File, FileFault> {
+    match OpenOptions::new().read(true).write(true).open(rt, path) {
+        Ok(file) => Ok(file),
+        Err(error) if error.kind() == io::ErrorKind::NotFound => Err(FileFault::NotThere),
+        Err(error) => Err(FileFault::System(error)),
+    }
+}
+
+/// Takes the file's lock, which all other openers ask for, or fails at once.
+fn lock(file: &File) -> Result<(), FileFault> {
+    match file.try_lock() {
+        Ok(()) => Ok(()),
+        Err(TryLockError::WouldBlock) => Err(FileFault::InUse),
+        Err(TryLockError::Error(error)) => Err(FileFault::System(error)),
+    }
+}
+
+/// How many blocks a file has, if it can be a disk.
+fn blocks_of(file: &File) -> Result<u32, FileFault>
+    ensures least { IfOk result (λ blocks. 32 ≤ blocks) }
+    ensures most { IfOk result (λ blocks. blocks ≤ 32768) }
+{
+    let found = file.metadata()?;
+    if !found.is_file() {
+        return Err(FileFault::NotAFile);
+    }
+    let length = found.len();
+    let blocks = length / BLOCK_LEN as u64;
+    if length % BLOCK_LEN as u64 != 0
+        || blocks < u64::from(MIN_BLOCKS)
+        || blocks > u64::from(MAX_BLOCKS)
+    {
+        return Err(FileFault::BadLength(length));
+    }
+    Ok(blocks as u32)
+}
+
+/// Writes block 0 last, once the others are settled.
+fn write_image(file: &File, image: &[u8]) -> io::Result<()>
+    requires { 512 ≤ length image.now }
+{
+    let (first, rest) = image.split_at(BLOCK_LEN);
+    file.write_all_at(rest, BLOCK_LEN as u64)?;
+    file.sync_all()?;
+    file.write_all_at(first, 0)
+}
+
+/// Settles the name of a file that was made, by a sync of its folder.
+fn settle_name<R: Files<File = File>>(rt: &R, path: &str) -> Result<(), FileFault> {
+    let folder = match Path::new(path).parent() {
+        Some(folder) if !folder.as_str().is_empty() => folder.as_str(),
+        _ => ".",
+    };
+    File::open(rt, folder)?.sync_all()?;
+    Ok(())
+}

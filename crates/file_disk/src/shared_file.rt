@@ -1,0 +1,169 @@
+// What all lanes of a file share: its handle, and which of its syncs were good.
+//
+// No clause can say what a file holds, nor what an atomic does. So two things about this module are to be read, and not
+// proved: a `GoodSync` of a number is made only where the sync of that number was good, or the one by which the file was
+// opened; and the number that a write answers is that of a sync that begins after the write.
+ghost use Rattle.std.specs.Prelude.{◌≡◌, ◌≤◌, ◌*◌, IfSome};
+
+use disk::BLOCK_LEN;
+use std::fs::File;
+use std::os::fd::AsRawFd;
+use std::os::unix::fs::FileExt;
+use std::sync::Mutex;
+use std::sync::atomic::{AtomicBool, AtomicU64, Ordering};
+use std::{io, thread};
+
+/// An open file, and the count of its syncs. Syncs are numbered from 1 on in the order in which they begin, and no two run at a
+/// time: the system tells of a write that it lost to one sync alone, so a sync that ran beside that one could be good and yet
+/// settle less than it says.
+pub(crate) struct SharedFile {
+    file: File,
+    /// The number of the newest sync that has begun.
+    begun: AtomicU64,
+    /// The number of the newest sync that was good; 0 where none was since the file was opened.
+    good: AtomicU64,
+    /// Set by the first sync that fails, and never taken back: the system may have dropped what it held then, and a later
+    /// sync would say nothing of it.
+    failed: AtomicBool,
+    /// Held while a sync runs.
+    turn: Mutex<()>,
+}
+
+/// Written by hand, so that a function that drops one calls this.
+impl Drop for SharedFile {
+    fn drop(self) {
+        let SharedFile {
+            file: _,
+            begun: _,
+            good: _,
+            failed: _,
+            turn: _,
+        } = self;
+    }
+}
+
+/// A sync that was good, by its number. What was written before it began is settled.
+#[derive(Drop)]
+pub(crate) struct GoodSync {
+    number: u64,
+}
+
+impl GoodSync {
+    pub(crate) fn number(&self) -> u64
+        ensures { result ≡ self.now.number }
+    {
+        self.number
+    }
+}
+
+impl SharedFile {
+    /// Settles what the system holds of a file, and lets it forget its copies, so that what is read next comes from the
+    /// drive: a failed sync of an earlier process may have left copies that the drive does not have.
+    pub(crate) fn new(file: File) -> io::Result<(SharedFile, GoodSync)> {
+        file.sync_all()?;
+        let advised = libc::posix_fadvise(file.as_raw_fd(), 0, 0, libc::POSIX_FADV_DONTNEED);
+        if advised != 0 {
+            return Err(io::Error::from_raw_os_error(advised));
+        }
+        Ok((SharedFile::never_synced(file), GoodSync { number: 0 }))
+    }
+
+    /// No sync of this file has begun.
+    pub(crate) fn never_synced(file: File) -> SharedFile {
+        SharedFile {
+            file,
+            begun: AtomicU64::new(0),
+            good: AtomicU64::new(0),
+            failed: AtomicBool::new(false),
+            turn: Mutex::new(()),
+        }
+    }
+
+    /// Reads a block. After `Ok` all of it came.
+    pub(crate) fn read_block(&self, block: u32, into: &mut [u8; BLOCK_LEN]) -> io::Result<()> {
+        self.file.read_exact_at(into, offset(block))
+    }
+
+    /// Writes a block, and answers the number of the first sync that settles it: one that has not begun. After `Ok` all of
+    /// the block went to the system.
+    pub(crate) fn write_block(&self, block: u32, from: &[u8; BLOCK_LEN]) -> (io::Result<()>, u64) {
+        let written = self.file.write_all_at(from, offset(block));
+        (written, self.begun.load(Ordering::SeqCst).saturating_add(1))
+    }
+
+    /// A good sync of this number or a later one. Where there is none yet it waits for the sync that runs, without sleep, as a
+    /// lane has no leave to sleep; where none runs it makes one. `None`: that one failed, or one failed before.
+    pub(crate) fn settle(&self, wanted: u64) -> Option<GoodSync>
+        ensures { IfSome result (λ good. wanted ≤ good.number) }
+    {
+        for _ in 0..u64::MAX {
+            if let Some(good) = self.good_sync(wanted) {
+                return Some(good);
+            }
+            if self.has_failed() {
+                return None;
+            }
+            if let Some(_turn) = self.turn.try_lock() {
+                return self.settle_in_turn(wanted);
+            }
+            thread::yield_now();
+        }
+        None
+    }
+
+    /// The same, by one who has the turn, so that no sync runs.
+    fn settle_in_turn(&self, wanted: u64) -> Option<GoodSync>
+        ensures { IfSome result (λ good. wanted ≤ good.number) }
+    {
+        if let Some(good) = self.good_sync(wanted) {
+            return Some(good);
+        }
+        if self.has_failed() {
+            return None;
+        }
+        let good = self.sync_in_turn()?;
+        if good.number < wanted {
+            return None;
+        }
+        Some(good)
+    }
+
+    /// The newest good sync, if this number is not beyond it.
+    fn good_sync(&self, wanted: u64) -> Option<GoodSync>
+        ensures { IfSome result (λ good. wanted ≤ good.number) }
+    {
+        let number = self.good.load(Ordering::SeqCst);
+        if number < wanted {
+            return None;
+        }
+        Some(GoodSync { number })
+    }
+
+    fn has_failed(&self) -> bool {
+        self.failed.load(Ordering::SeqCst)
+    }
+
+    /// Makes a sync. It has its number before it begins, and is told good or failed before the turn is given up. No sync has
+    /// the last number, so that a write which was answered that one is never taken for settled.
+    fn sync_in_turn(&self) -> Option<GoodSync> {
+        let begun = self.begun.load(Ordering::SeqCst);
+        if begun >= u64::MAX - 1 {
+            return None;
+        }
+        let number = begun + 1;
+        self.begun.store(number, Ordering::SeqCst);
+        if self.file.sync_data().is_err() {
+            self.failed.store(true, Ordering::SeqCst);
+            return None;
+        }
+        self.good.store(number, Ordering::SeqCst);
+        Some(GoodSync { number })
+    }
+}
+
+/// Where a block begins in the file.
+fn offset(block: u32) -> u64
+    ensures { result ≡ 512 * block }
+{
+    BLOCK_LEN as u64 * u64::from(block)
+}

@@ -1,0 +1,64 @@
+use Rattle.std.proofs.Common.{◌≡◌, ◌∙◌, ap, sym, refl, inl, inr, arith, ◌≤◌}
+use Rattle.xn_model.specs.Worlds.{all_pending}
+use Rattle.xn_model.proofs.ForCallers.{none_pending}
+use Rattle.xn_state.specs.States.{own_types}
+use Rattle.xn_kernel.specs.Kernels.{KernelValue}
+use Rattle.xn_kernel.proofs.Draining.{idle_from}
+use Rattle.xn_kernel.proofs.Flushing.{none_begun, none_given_out, same_flights, less_pending, is_whole, waves_more, still_idle}
+use Rattle.xn_kernel.proofs.kernel.Kernel.flush.Goals as goal
+
+pub returns-in_default-clause-err : goal.returns-in_default-clause-err
+returns-in_default-clause-err g c =
+    let idle = idle_from c.args.self.now.state.lives (sym c.is_busy.ensures ∙ c.if-is_busy.false) in
+    inr (idle, inl (refl, c.new-in_default.ensures.items, refl, refl))
+
+pub loop-waves-init : goal.loop-waves-init
+loop-waves-init g c =
+    let idle = idle_from c.args.self.now.state.lives (sym c.is_busy.ensures ∙ c.if-is_busy.false) in
+    record {
+      done = refl;
+      was_idle = idle;
+      idle = idle;
+      few = omega arith;
+      none_failed = c.in-Ok.ensures.items;
+      empty = c.in-Ok.ensures.len;
+      room = c.in-Ok.ensures.capacity;
+    }
+
+pub returns-then-end-eq0-clause-done : goal.returns-then-end-eq0-clause-done
+returns-then-end-eq0-clause-done g c =
+    let old = c.loop-waves.self in
+    let none = none_begun g.L.Lane.bytes_of g.L.Lane.faults_of g.L.Lane.write_gives g.L.Lane.sync_gives g.L.Lane.read_gives c.wave-end.result.blocks 32 c.wave-end.result.durable old c.loop-waves.failed.items c.wave-end.new.self c.wave-end.new.failed.items
+    c.if-end-eq0.true (omega arith) c.wave-end.ensures.wave in
+    ap (λ (k : KernelValue g.row.L.Denot). all_pending k.state.lives) none.0 ∙ none_pending (own_types old.state) old.state c.rules.ensures.rules c.loop-waves.invariant.idle none.1
+
+pub loop-waves-preserved : goal.loop-waves-preserved
+loop-waves-preserved g c =
+    let old = c.loop-waves.self in
+    let new = c.wave-end.new.self in
+    let before = c.loop-waves.invariant in
+    let blocks = c.wave-end.result.blocks in
+    let durable = c.wave-end.result.durable in
+    let within = c.wave-end.ensures.durable in
+    let all : durable ≡ blocks = omega (arith, within, c.if-end.false) in
+    let some : 1 ≤ blocks = omega (arith, c.if-end-eq0.false) in
+    let rules = c.rules.ensures.rules in
+    let wave = c.wave-end.ensures.wave in
+    let whole = is_whole g.L.Lane.bytes_of g.L.Lane.faults_of g.L.Lane.write_gives g.L.Lane.sync_gives g.L.Lane.read_gives blocks durable old c.loop-waves.failed.items new c.wave-end.new.failed.items rules wave all some before.none_failed in
+    let same = same_flights g.L.Lane.bytes_of g.L.Lane.faults_of g.L.Lane.write_gives g.L.Lane.sync_gives g.L.Lane.read_gives blocks durable old c.loop-waves.failed.items new c.wave-end.new.failed.items rules wave all some in
+    let given_out = none_given_out g.L.Lane.bytes_of g.L.Lane.faults_of g.L.Lane.write_gives g.L.Lane.sync_gives g.L.Lane.read_gives blocks durable old c.loop-waves.failed.items new c.wave-end.new.failed.items rules wave all some in
+    let less = less_pending g.L.Lane.bytes_of g.L.Lane.faults_of g.L.Lane.write_gives g.L.Lane.sync_gives g.L.Lane.read_gives blocks durable old c.loop-waves.failed.items new c.wave-end.new.failed.items rules wave all some in
+    let few = before.few in
+    let long = c.wave-end.ensures.length in
+    let empty = before.empty in
+    let capacity = c.wave-end.ensures.capacity in
+    let room = before.room in
+    record {
+      done = waves_more g.L.Lane.bytes_of g.L.Lane.faults_of g.L.Lane.write_gives g.L.Lane.sync_gives g.L.Lane.read_gives c.loop-waves.waves c.args.self.now old new before.done whole;
+      was_idle = before.was_idle;
+      idle = still_idle old.state.lives new.state.lives before.idle same;
+      few = omega (arith, few, less);
+      none_failed = given_out ∙ before.none_failed;
+      empty = omega (arith, long, empty, all);
+      room = omega (arith, room, capacity);
+    }
