@@ -1,21 +1,23 @@
 -- What each call leaves of the places and the slab.
-use Rattle.std.proofs.Common.{◌≡◌, ℕ, ◌<◌, ◌≤◌, Bool, List, [], ◌∷◌, length, take, Option, Some, None, refl, sym, ◌∙◌, ap, arith, subst}
+use Rattle.std.proofs.Common.{◌≡◌, ℕ, ◌<◌, ◌≤◌, Bool, List, [], ◌∷◌, length, take, drop, Option, Some, None, refl, sym, ◌∙◌, ap, arith, subst}
 use Rattle.std.specs.Prelude.{IsTrue, IfSome, is_some, option_map}
 use Rattle.slab.specs.Slab.{Slab, get, Updates}
 use Rattle.xn_model.specs.declared.status.Status.{Status}
 use Rattle.xn_model.specs.Lives as model
 use Rattle.xn_model.specs.Lives.{Life, Lives, life_at, change_at, with_state, settle, settled_at, begun_at, current, root_on_disk}
-use Rattle.xn_model.specs.Calls.{life_pending, life_bytes, patched}
+use Rattle.xn_model.specs.Calls.{Edit, life_pending, life_bytes, patched}
 use Rattle.block_cache.specs.declared.entry.Entry.{Entry}
 use Rattle.block_cache.specs.Claims.{state_of}
 use Rattle.block_cache.specs.Cached.{CachedLife}
+use Rattle.block_cache.specs.Made.{Makes}
 use Rattle.block_cache.specs.Named.{places_named}
-use Rattle.block_cache.specs.Undone.{life_of, lives_of}
+use Rattle.block_cache.specs.Undone.{before, entries_of, life_of, lives_of}
 use Rattle.block_cache.specs.Kept.{IsApart, IsAmong, AreOf, IsKept, AreKept, IsWhole, place_at, change_place, appended, settled, with_status, with_begun, first_keys}
+use Rattle.block_cache.specs.Views.{HasImage, image_at}
 use Rattle.block_cache.proofs.Keys.{AreSame, same_keys, take_keys}
 use Rattle.block_cache.proofs.Used.{used_append, used_kept, used_settle}
 use Rattle.block_cache.proofs.WrittenPlaces.{KeepsOthers, life-life_at}
-use Rattle.block_cache.proofs.Changes.{length-pending, current_of_life, inserted_keeps, removed_keeps, appended_life, appended_kept, settled_life, settled_kept, given_up_life, lives_of-change, kept-change, place_kept, same_slab_keeps}
+use Rattle.block_cache.proofs.Changes.{length-pending, current_of_life, image_of_life, inserted_keeps, removed_keeps, appended_life, appended_kept, settled_life, settled_kept, given_up_life, lives_of-change, kept-change, place_kept, same_slab_keeps}
 
 -- The life at a place
 
@@ -42,9 +44,29 @@ pub pending_there : (slab : Slab Entry) (places : List (Option CachedLife)) (liv
 pending_there slab places lives b l kept view at =
     ap life_pending (life_there slab places lives b l view at) ∙ length-pending slab b l (place_kept slab places b l kept (sym at))
 
+-- the bytes with only the first entries done
+pub image_there : (slab : Slab Entry) (places : List (Option CachedLife)) (lives : Lives) (b : ℕ) (l : CachedLife) (k : ℕ) → AreKept slab places → lives_of slab places ≡ lives →
+    Some l ≡ place_at places b → IfSome (life_at lives b) (HasImage k) →
+    (k ≤ length l.keys) × (before (entries_of slab (drop k l.keys)) l.current ≡ image_at k (life_of slab l))
+image_there slab places lives b l k kept view at has =
+    let here = place_kept slab places b l kept (sym at) in
+    let image = let P : Option Life → Type 0 = λ o. IfSome o (HasImage k) in subst P (life_there slab places lives b l view at) has in
+    let within : k ≤ length l.keys = omega (arith, image.within, length-pending slab b l here) in
+    (within, image_of_life slab b l k here image)
+
 if_some : (o : Option CachedLife) (P : CachedLife → Type 0) → ((l : CachedLife) → Some l ≡ o → P l) → IfSome o P
 if_some None P h = tt
 if_some (Some l) P h = h l refl
+
+-- an edit of the newest bytes, which are those that are kept
+pub made_there : (slab : Slab Entry) (places : List (Option CachedLife)) (lives : Lives) (b : ℕ) (edit : Option Edit) (bytes : List ℕ) → AreKept slab places → lives_of slab places ≡ lives →
+    IfSome edit (Makes (life_bytes (life_at lives b)) bytes) → IfSome (place_at places b) (λ l. IfSome edit (Makes l.current bytes))
+made_there slab places lives b edit bytes kept view made =
+    let P : CachedLife → Type 0 = λ l. IfSome edit (Makes l.current bytes) in
+    if_some (place_at places b) P
+    (λ l at.
+    let now = ap life_bytes (life_there slab places lives b l view at) ∙ current_of_life slab b l (place_kept slab places b l kept (sym at)) in
+    subst (λ m. IfSome edit (Makes m bytes)) now made)
 
 pub few_keys : (slab : Slab Entry) (places : List (Option CachedLife)) (lives : Lives) (b k : ℕ) → AreKept slab places → lives_of slab places ≡ lives →
     k ≤ life_pending (life_at lives b) → IfSome (place_at places b) (λ l. k ≤ length l.keys)

@@ -1,6 +1,6 @@
 // What each block has been since it was last free.
 
-ghost use Rattle.std.specs.Prelude.{◌≡◌, ℕ, ◌+◌, ◌*◌, ◌^◌, ◌<◌, ◌≤◌, [], ◌∷◌, length, map, Option, Some, None, IsTrue, IfOk, IfSome, OnOk, OnErr, is_some, option_map, slice_get, slice_set};
+ghost use Rattle.std.specs.Prelude.{◌≡◌, ℕ, ◌+◌, ◌*◌, ◌^◌, ◌<◌, ◌≤◌, [], ◌∷◌, length, map, Option, Some, None, IsTrue, IfOk, IfSome, OnOk, OnErr, bytes_eq, is_some, option_map, slice_get, slice_set};
 ghost use Rattle.std.specs.List.{list_any, range_with_len};
 ghost use Rattle.std.specs.Option.{option_copied, option_and_then};
 ghost use Rattle.slab.specs.Slab.{get};
@@ -13,6 +13,7 @@ ghost use Rattle.block_cache.specs.Systems.{system_of};
 ghost use Rattle.block_cache.specs.Named.{places_named};
 ghost use Rattle.block_cache.specs.Claims.{state_of, claim_of};
 ghost use Rattle.block_cache.specs.Kept.{IsAmong, IsApart, first_keys, keys_of};
+ghost use Rattle.block_cache.specs.Made.{Makes};
 ghost use Rattle.block_cache.specs.Views.{image_at, HasImage, facts_of, pending_at, rest_at};
 
 use crate::claim::Claim;
@@ -21,7 +22,7 @@ use crate::life::{Facts, FoundLife, Life};
 use crate::named_places::NamedPlaces;
 use crate::places::Places;
 use crate::rollback;
-use edit_list::{EditId, Fs, Undo};
+use edit_list::{Edit, EditId, Fs, Undo};
 use slab::Slab;
 use std::alloc::{AllocError, Global};
 use std::marker::Model;
@@ -216,23 +217,49 @@ impl Cache {
         Some(rollback::image_of(&self.entries, life, count as usize))
     }
 
-    /// One more edit of a block in use, which leaves these bytes, and the bytes that it overwrites.
+    /// Whether a block in use has these bytes with only its first pending entries done.
+    pub fn has_image(&self, block: u32, count: u32, bytes: &[u8; 512]) -> bool
+        requires { IfSome (life_at self.now block) (HasImage count) }
+        ensures { result ≡ alive_and (λ l. bytes_eq bytes.now (image_at count l)) (life_at self.now block) }
+    {
+        match self.places.life(block) {
+            Some(life) => rollback::is_image(&self.entries, life, count as usize, bytes),
+            None => false,
+        }
+    }
+
+    /// Undoes in the newest bytes of a block in use the pending entries behind the first ones.
+    pub fn roll_back(&self, block: u32, count: u32, bytes: &mut [u8; 512])
+        requires has { IfSome (life_at self.now block) (HasImage count) }
+        requires newest { IfSome (life_at self.now block) (λ l. bytes.old ≡ current l) }
+        ensures { IfSome (life_at self.now block) (λ l. bytes.new ≡ image_at count l) }
+    {
+        match self.places.life(block) {
+            Some(life) => rollback::roll_back(&self.entries, life.keys(), count as usize, bytes),
+            None => {}
+        }
+    }
+
+    /// One more entry of a block in use, which leaves these bytes, and the bytes that it overwrites. Where it is an edit, that is made in
+    /// place.
     pub fn append(
         &mut self,
         block: u32,
         claim: Claim,
         bytes: &[u8; 512],
+        edit: Option<&Edit>,
         undo: Undo,
     ) -> Result<(), AllocError>
         requires alive { IsTrue (is_some (life_at self.old block)) }
         requires room { life_pending (life_at self.old block) < 64 }
         requires undoes { patched bytes.now undo ≡ life_bytes (life_at self.old block) }
+        requires made { IfSome (option_copied edit) (Makes (life_bytes (life_at self.old block)) bytes.now) }
         ensures ok { OnOk result (self.new ≡ change_at self.old block (with_state (state_of claim bytes.now))) }
         ensures err { OnErr result (self.new ≡ self.old) }
     {
         self.entries.reserve(1)?;
         let key = self.entries.vacant_key();
-        self.places.append(block, key, bytes)?;
+        self.places.append(block, key, bytes, edit)?;
         self.entries.insert_reserved(Entry { block, claim, undo });
         Ok(())
     }

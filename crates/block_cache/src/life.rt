@@ -1,11 +1,12 @@
 // What a block in use holds.
 
-ghost use Rattle.std.specs.Prelude.{◌≡◌, ◌≤◌, ◌&&◌, ◌==◌, true, false, is_some, [], ◌∷◌, ◌++◌, length, drop, option_map, Some, None, IfOk, OnOk, OnErr};
+ghost use Rattle.std.specs.Prelude.{◌≡◌, ◌≤◌, ◌&&◌, ◌==◌, true, false, is_some, [], ◌∷◌, ◌++◌, length, drop, option_map, option_copied, Some, None, IfOk, IfSome, OnOk, OnErr};
 ghost use Rattle.xn_model.specs.Lives.{is_dropped, is_for, is_fresh, is_owned_by};
 ghost use Rattle.block_cache.specs.Systems.{system_of};
 ghost use Rattle.block_cache.specs.Kept.{started, resting};
+ghost use Rattle.block_cache.specs.Made.{Makes};
 
-use edit_list::Fs;
+use edit_list::{Edit, Fs};
 use std::alloc::{AllocError, Global};
 use std::marker::Model;
 use xn_model::Status;
@@ -196,13 +197,22 @@ impl Life {
         &self.current
     }
 
-    /// Puts one more entry behind the others, which left these bytes.
-    pub fn append(&mut self, key: usize, bytes: &[u8; 512]) -> Result<(), AllocError>
+    /// Puts one more entry behind the others, which left these bytes. Where it is an edit, that is made in place.
+    pub fn append(
+        &mut self,
+        key: usize,
+        bytes: &[u8; 512],
+        edit: Option<&Edit>,
+    ) -> Result<(), AllocError>
+        requires made { IfSome (option_copied edit) (Makes self.old.current bytes.now) }
         ensures ok { OnOk result (self.new ≡ record self.old { current = bytes.now; keys = self.old.keys ++ key ∷ [] }) }
         ensures err { OnErr result (self.new ≡ self.old) }
     {
         self.keys.push(key)?;
-        self.current = *bytes;
+        match edit {
+            Some(edit) => edit.apply(&mut self.current),
+            None => self.current = *bytes,
+        }
         Ok(())
     }
 

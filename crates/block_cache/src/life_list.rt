@@ -4,10 +4,12 @@ ghost use Rattle.std.specs.Prelude.{◌≡◌, ◌^◌, ◌<◌, ◌≤◌, leng
 ghost use Rattle.std.specs.List.{range_with_len};
 ghost use Rattle.std.specs.Option.{option_copied};
 ghost use Rattle.block_cache.specs.Kept.{place_at, change_place, appended, resting_at, settled, with_status, with_begun};
+ghost use Rattle.block_cache.specs.Made.{Makes};
 ghost use Rattle.block_cache.specs.Totals.{totals_at};
 
 use crate::life::{FoundLife, Life};
 use crate::totals::Totals;
+use edit_list::Edit;
 use std::alloc::{AllocError, Global};
 use std::marker::Model;
 use xn_model::Status;
@@ -91,14 +93,21 @@ impl LifeList {
         }
     }
 
-    /// Puts one more entry of a block behind the others.
-    pub fn append(&mut self, block: u32, key: usize, bytes: &[u8; 512]) -> Result<(), AllocError>
+    /// Puts one more entry of a block behind the others, which left these bytes. Where it is an edit, that is made in place.
+    pub fn append(
+        &mut self,
+        block: u32,
+        key: usize,
+        bytes: &[u8; 512],
+        edit: Option<&Edit>,
+    ) -> Result<(), AllocError>
         requires alive { IsTrue (is_some (place_at self.old block)) }
+        requires made { IfSome (place_at self.old block) (λ life. IfSome (option_copied edit) (Makes life.current bytes.now)) }
         ensures ok { OnOk result (self.new ≡ change_place self.old block (appended key bytes.now)) }
         ensures err { OnErr result (self.new ≡ self.old) }
     {
         match &mut self.lives[block as usize] {
-            Some(life) => life.append(key, bytes),
+            Some(life) => life.append(key, bytes, edit),
             None => unreachable!(),
         }
     }

@@ -1,3 +1,4 @@
+pub mod Blocks
 pub mod Images
 pub mod Lanes
 pub mod Mem

@@ -1,6 +1,7 @@
 // A disk of blocks of 512 bytes, each read and written through a lane of its own.
 #![tactic(auto)]
 
+mod blocks;
 mod lane;
 mod lanes;
 mod mem;

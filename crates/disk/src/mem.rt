@@ -3,6 +3,7 @@ ghost use Rattle.disk.specs.Lanes.{CountsOne};
 ghost use Rattle.disk.specs.Images.{HoldsBytes, block_at};
 ghost use Rattle.disk.specs.Mem.{MemoryLane, AreFreshLanes, fresh_lane, read_failed, write_failed, sync_failed, synced, crashed, memory_read, memory_write, memory_sync, memory_leaves, IsGivenAfterFault};
 
+use crate::blocks::Blocks;
 use crate::lane::{BLOCK_LEN, DeviceFault, Lane};
 use crate::lanes::Lanes;
 use std::alloc::{AllocError, Global};
@@ -19,18 +20,10 @@ enum OpenWrite {
     Unread,
 }
 
-/// The bytes of a block in memory.
-#[derive(Drop)]
-struct Blocks {
-    /// What a read gives.
-    bytes: [u8; BLOCK_LEN],
-    /// Of a block with an open write, the settled bytes or those that the write was given.
-    other: [u8; BLOCK_LEN],
-}
-
 /// A block in memory that holds writes until they are synced. A test may tell its next read, write or sync to fail.
 ///
-/// A lane goes from hand to hand with each write, so its bytes stand behind a pointer and stay where they are.
+/// A lane goes from hand to hand with each write, so its bytes stand behind a pointer and stay where they are. A write goes into the lot of
+/// bytes that is not settled, so that nothing is copied but what it was given.
 #[derive(Drop)]
 pub struct MemLane {
     number: u32,
@@ -64,13 +57,7 @@ impl MemLane {
     fn new(alloc: Global, number: u32, bytes: &[u8; BLOCK_LEN]) -> Result<MemLane, AllocError>
         ensures { IfOk result (λ lane. lane ≡ fresh_lane number bytes.now) }
     {
-        let blocks = Box::new(
-            alloc,
-            Blocks {
-                bytes: *bytes,
-                other: [0; BLOCK_LEN],
-            },
-        )?;
+        let blocks = Box::new(alloc, Blocks::new(bytes))?;
         Ok(MemLane {
             number,
             blocks,
@@ -86,7 +73,7 @@ impl MemLane {
     pub fn bytes(&self) -> &[u8; BLOCK_LEN]
         ensures { result.now ≡ self.now.bytes }
     {
-        &self.blocks.bytes
+        self.blocks.bytes()
     }
 
     /// Lets the next write fail, and that one alone. The block then holds the new bytes or keeps the old ones, as asked
@@ -120,7 +107,7 @@ impl MemLane {
             OpenWrite::Absent => {}
             OpenWrite::Newest if kept => {}
             OpenWrite::Unread if !kept => {}
-            OpenWrite::Newest | OpenWrite::Unread => self.blocks.bytes = self.blocks.other,
+            OpenWrite::Newest | OpenWrite::Unread => self.blocks.turn(),
         }
         self.open_write = OpenWrite::Absent;
     }
@@ -131,9 +118,9 @@ impl MemLane {
     {
         match self.open_write {
             OpenWrite::Newest => {}
-            OpenWrite::Absent | OpenWrite::Unread => self.blocks.other = self.blocks.bytes,
+            OpenWrite::Absent | OpenWrite::Unread => self.blocks.turn(),
         }
-        self.blocks.bytes = *from;
+        self.blocks.set_bytes(from);
         self.open_write = OpenWrite::Newest;
     }
 
@@ -146,10 +133,10 @@ impl MemLane {
         let is_newest = match self.open_write {
             OpenWrite::Absent => false,
             OpenWrite::Newest => true,
-            OpenWrite::Unread => self.blocks.other == self.blocks.bytes,
+            OpenWrite::Unread => self.blocks.other() == self.blocks.bytes(),
         };
         if !is_newest {
-            self.blocks.other = *from;
+            self.blocks.set_other(from);
             self.open_write = OpenWrite::Unread;
         }
     }
@@ -192,7 +179,7 @@ impl Lane for MemLane {
             self.faults = self.faults.wrapping_add(1);
             return Err(DeviceFault);
         }
-        *into = self.blocks.bytes;
+        *into = *self.blocks.bytes();
         Ok(())
     }
 

@@ -157,6 +157,7 @@ impl<L: Lane> Kernel<L> {
     }
 
     /// Begins a write of a block: the ticket has its lane, and the bytes that its safe entries leave.
+    #[inline(always)]
     pub fn begin(&mut self, block: u32) -> Result<Ticket<L>, Refusal>
         ensures state { GivesExactly (begun_of self.old.state block) self.old.state self.new.state
             (result_map (λ ticket. (ticket.bytes, ticket.count)) result) }
@@ -165,18 +166,20 @@ impl<L: Lane> Kernel<L> {
         ensures lanes { OnOk result (self.new ≡ record self.old { lanes = slice_set self.old.lanes block None; state = self.new.state }) }
         ensures err { OnErr result (self.new ≡ self.old) }
     {
-        let (bytes, count) = self.state.begun(block)?;
+        let count = self.state.begun_count(block)?;
         let Some(lane) = self.lanes.take(block) else {
             unreachable!()
         };
-        Ok(Ticket {
+        let mut ticket = Ticket {
             kernel: self.id,
             block,
             count,
-            bytes,
+            bytes: [0; 512],
             lane,
             unsynced: false,
-        })
+        };
+        self.state.begin_into(block, count, &mut ticket.bytes);
+        Ok(ticket)
     }
 
     /// Ends a write by what is read back: where the begun bytes stand there, the entries that it
@@ -185,6 +188,7 @@ impl<L: Lane> Kernel<L> {
     /// where it was written, well or not, since its last good sync, `Device` where the lane can't be
     /// read, and last `NotMine` where the block has a durable state and neither its bytes nor the begun
     /// ones stand there.
+    #[inline(always)]
     pub fn finish(&mut self, mut ticket: Ticket<L>) -> Result<Landed, (Ticket<L>, Refusal)>
         ensures foreign { is_mine self.old ticket ≡ false → IsErrAnd result (λ back. (back.0 ≡ ticket) × (back.1 ≡ Refusal.NotMine)) }
         ensures unsynced { IsTrue (is_mine self.old ticket) → IsTrue ticket.unsynced → IsErrAnd result (λ back. (back.0 ≡ ticket) × (back.1 ≡ Refusal.NotSynced)) }

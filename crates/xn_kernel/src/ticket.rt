@@ -79,6 +79,7 @@ impl<L: Lane> Ticket<L> {
     /// Writes the block once, with no lock. It may be called again. After `Ok` a read gives the
     /// ticket's bytes, after `Err` those or the ones before. A crash may leave what it might leave before, or
     /// the ticket's bytes.
+    #[inline(always)]
     pub fn land(&mut self) -> Result<(), DeviceFault>
         ensures ticket { self.new ≡ record self.old { lane = self.new.lane; unsynced = true } }
         ensures number { L.number_of self.new.lane ≡ L.number_of self.old.lane }
@@ -97,6 +98,7 @@ impl<L: Lane> Ticket<L> {
     }
 
     /// Settles the block, with no lock. It may be called again. After `Ok` a crash leaves in it what a read gives.
+    #[inline(always)]
     pub fn sync(&mut self) -> Result<(), DeviceFault>
         ensures ok { OnOk result (self.new ≡ record self.old { lane = self.new.lane; unsynced = false }) }
         ensures err { OnErr result (self.new ≡ record self.old { lane = self.new.lane }) }

@@ -1,35 +1,64 @@
 -- What the facts and the bytes of a block say of its writes.
-use Rattle.std.proofs.Common.{◌≡◌, ℕ, zero, suc, ◌≤◌, Bool, true, false, List, [], ◌∷◌, length, Option, Some, None, Ok, Err, refl, sym, ◌∙◌, ap, arith, subst}
-use Rattle.std.specs.Prelude.{bytes_eq, if◌then◌else◌, is_some, option_map, unwrap_or, ◌==◌}
+use Rattle.std.proofs.Common.{◌≡◌, ℕ, ◌≤◌, Bool, true, false, List, [], ◌∷◌, length, Option, Some, None, Result, Ok, Err, refl, slice_get, sym, ◌∙◌, ap, arith, subst}
+use Rattle.std.specs.Prelude.{bytes_eq, if◌then◌else◌, is_some, option_map, unwrap_or, IfSome, ◌==◌}
 use Rattle.std.proofs.lemmas.Bool.{false≢true, ne_eqb}
 use Rattle.std.proofs.lemmas.Option.{none-some, same_Some}
-use Rattle.xn_model.specs.Lives.{BlockState, Life, Lives, alive_and, bytes_of, prefix_of}
-use Rattle.xn_model.specs.declared.refusal.Refusal.TheVariants.{NothingSafe, InFlight, NotMine}
-use Rattle.xn_model.specs.Calls.{begun_place, bytes_at, is_durable, life_pending, settled_count, settled_place}
+use Rattle.xn_model.specs.Lives.{BlockState, Life, Lives, StoreState, alive_and, begun_at, bytes_of, prefix_of}
+use Rattle.xn_model.specs.declared.refusal.Refusal.{Refusal}
+use Rattle.xn_model.specs.Results.{first_refusal, result_map, unless}
+use Rattle.xn_model.specs.declared.refusal.Refusal.TheVariants.{NothingSafe, NoSuchBlock, NotInUse, InFlight, NotMine}
+use Rattle.xn_model.specs.Calls.{begun_of, begun_place, bytes_at, is_durable, life_pending, settled_count, settled_place}
 use Rattle.xn_model.specs.Rules.{IsCount}
-use Rattle.xn_model.proofs.ForCallers.{unless_passed}
+use Rattle.xn_model.proofs.ForCallers.{never_ok, same_ok, unless_passed}
 use Rattle.block_cache.specs.declared.life.Facts.{Facts}
 use Rattle.block_cache.specs.Views.{facts_of, image_at}
 use Rattle.xn_state.proofs.Lasts.{image_of_some}
 
-pub begun_is : (lives : Lives) (p : Option (Option Life)) (facts : Facts) (count : ℕ) (bytes : List ℕ) → Some (Some facts) ≡ option_map (option_map facts_of) p → is_some facts.begun ≡ false →
-    (count ≡ 0 → ⊥) → count ≡ prefix_of lives (unwrap_or p None) → count ≤ life_pending (unwrap_or p None) → Some bytes ≡ option_map (image_at count) (unwrap_or p None) →
-    Ok (bytes, count) ≡ begun_place lives p
-begun_is lives None facts count bytes e idle some is within image = absurd (none-some (Some facts) (sym e))
-begun_is lives (Some None) facts count bytes e idle some is within image = absurd (none-some facts (sym (same_Some (Some facts) None e)))
-begun_is lives (Some (Some l)) facts count bytes e idle some is within image =
+pub begun_is : (lives : Lives) (p : Option (Option Life)) (facts : Facts) (count : ℕ) → Some (Some facts) ≡ option_map (option_map facts_of) p → is_some facts.begun ≡ false →
+    (count ≡ 0 → ⊥) → count ≡ prefix_of lives (unwrap_or p None) → Ok count ≡ result_map (λ (begun : List ℕ × ℕ). begun.1) (begun_place lives p)
+begun_is lives None facts count e idle some is = absurd (none-some (Some facts) (sym e))
+begun_is lives (Some None) facts count e idle some is = absurd (none-some facts (sym (same_Some (Some facts) None e)))
+begun_is lives (Some (Some l)) facts count e idle some is =
     let same = same_Some facts (facts_of l) (same_Some (Some facts) (Some (facts_of l)) e) in
     let k = prefix_of lives (Some l) in
     let first : is_some l.begun ≡ false = sym (ap (λ (f : Facts). is_some f.begun) same) ∙ idle in
     let second : (k == 0) ≡ false = ne_eqb k 0 (λ none. some (is ∙ none)) in
-    let there = same_Some bytes (image_at count l) image ∙ image_of_some l count (some_count count some) within in
-    (λ i. Ok (there i, count))
-    ∙ (ap (λ n. Ok (bytes_at n l, n)) is
-    ∙ sym (unless_passed ((is_some l.begun, InFlight) ∷ (k == 0, NothingSafe) ∷ []) (Ok (bytes_at k l, k)) (first, (second, tt))))
+    let passed = unless_passed ((is_some l.begun, InFlight) ∷ (k == 0, NothingSafe) ∷ []) (Ok (bytes_at k l, k)) (first, (second, tt)) in
+    ap Ok is ∙ sym (ap (result_map (λ (begun : List ℕ × ℕ). begun.1)) passed)
+
+-- what a write carries that may begin
+given_count : (refusal : Option Refusal) (given : List ℕ × ℕ) (count : ℕ) → result_map (λ (begun : List ℕ × ℕ). begun.1) (unless refusal (Ok given)) ≡ Ok count →
+    (unless refusal (Ok given) ≡ Ok given) × (given.1 ≡ count)
+given_count None given count e = (refl, same_ok given.1 count e)
+given_count (Some refusal) given count e = absurd (never_ok refusal count e)
+
+pub begun_carries : (lives : Lives) (p : Option (Option Life)) (count : ℕ) (bytes : List ℕ) → result_map (λ (begun : List ℕ × ℕ). begun.1) (begun_place lives p) ≡ Ok count →
+    1 ≤ count → count ≤ life_pending (unwrap_or p None) → IfSome (unwrap_or p None) (λ l. bytes ≡ image_at count l) → begun_place lives p ≡ Ok (bytes, count)
+begun_carries lives None count bytes e some within image = absurd (never_ok NoSuchBlock count e)
+begun_carries lives (Some None) count bytes e some within image = absurd (never_ok NotInUse count e)
+begun_carries lives (Some (Some l)) count bytes e some within image =
+    let k = prefix_of lives (Some l) in
+    let given = given_count (first_refusal ((is_some l.begun, InFlight) ∷ (k == 0, NothingSafe) ∷ [])) (bytes_at k l, k) count e in
+    let there = image ∙ image_of_some l count some within in
+    given.0 ∙ ((λ i. Ok (bytes_at (given.1 i) l, given.1 i)) ∙ (λ i. Ok (sym there i, count)))
+
+-- of a block of a state
+pub begun_of_place : (state : StoreState) (b : ℕ) → result_map (λ (begun : (List ℕ × ℕ) × StoreState). begun.0.1) (begun_of state b) ≡ result_map (λ (begun : List ℕ × ℕ). begun.1) (begun_place state.lives (slice_get state.lives b))
+begun_of_place state b = by (begun_place state.lives (slice_get state.lives b))
   where
-    some_count : (n : ℕ) → (n ≡ 0 → ⊥) → 1 ≤ n
-    some_count zero h = absurd (h refl)
-    some_count (suc n) h = omega arith
+    by : (r : Result (List ℕ × ℕ) Refusal) →
+        result_map (λ (begun : (List ℕ × ℕ) × StoreState). begun.0.1) (result_map (λ (begun : List ℕ × ℕ). (begun, record state { lives = begun_at state.lives b begun.1 })) r)
+        ≡ result_map (λ (begun : List ℕ × ℕ). begun.1) r
+    by (Ok given) = refl
+    by (Err refusal) = refl
+
+-- and where it may not begin
+pub begun_refused : (state : StoreState) (b : ℕ) (refusal : Refusal) → result_map (λ (begun : (List ℕ × ℕ) × StoreState). begun.0.1) (begun_of state b) ≡ Err refusal → begun_of state b ≡ Err refusal
+begun_refused state b refusal e = by (begun_of state b) e
+  where
+    by : (r : Result ((List ℕ × ℕ) × StoreState) Refusal) → result_map (λ (begun : (List ℕ × ℕ) × StoreState). begun.0.1) r ≡ Err refusal → r ≡ Err refusal
+    by (Ok given) e = cc
+    by (Err other) e = cc
 
 -- how many entries are durable once bytes are read back
 pub settled_is : (bytes : List ℕ) (p : Option (Option Life)) (facts : Facts) (count : ℕ) (here durable : Bool) → Some facts ≡ option_map facts_of (unwrap_or p None) →

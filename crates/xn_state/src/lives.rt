@@ -9,6 +9,7 @@ ghost use Rattle.xn_model.specs.Calls.{is_ready, is_tainted, life_bytes, life_pe
 ghost use Rattle.xn_model.specs.Images.{blocks_in};
 ghost use Rattle.block_cache.specs.Systems.{system_of};
 ghost use Rattle.block_cache.specs.Claims.{state_of};
+ghost use Rattle.block_cache.specs.Made.{Makes};
 ghost use Rattle.block_cache.specs.Views.{facts_of};
 ghost use Rattle.xn_model.specs.Mounts.{found_status};
 ghost use Rattle.owner_records.specs.Owners.{is_claimed, owned_count};
@@ -23,7 +24,7 @@ use block_cache::{Cache, Claim, Facts, FoundLife};
 use block_set::BlockSet;
 use claims::OwnedCounts;
 use dependencies::{Candidates, Homes, home_for, least_for};
-use edit_list::{EditId, Fs, Undo};
+use edit_list::{Edit, EditId, Fs, Undo};
 use free_map::FreeMap;
 use std::alloc::{AllocError, Global};
 use std::marker::Model;
@@ -274,14 +275,15 @@ impl Lives {
         Ok(())
     }
 
-    /// Makes one more edit of a block in use, which leaves these bytes: the block owns what the edit adds and no longer what
-    /// it drops.
+    /// Makes one more entry of a block in use, which leaves these bytes: the block owns what it adds and no longer what it drops. Where it
+    /// is an edit, that is made in place.
     pub fn accept(
         &mut self,
         fs: Option<Fs>,
         block: u32,
         claim: Claim,
         bytes: &[u8; 512],
+        edit: Option<&Edit>,
         undo: Undo,
         adds: &[(u32, u32)],
         drops: &[u32],
@@ -294,6 +296,7 @@ impl Lives {
         requires few_adds { length adds.now ≤ 128 }
         requires few_drops { length drops.now ≤ 128 }
         requires undoes { patched bytes.now undo ≡ life_bytes (life_at self.old block) }
+        requires made { IfSome (option_copied edit) (Makes (life_bytes (life_at self.old block)) bytes.now) }
         requires fresh { (b : ℕ) → pends claim.entry (life_at self.old b) ≡ false }
         requires fs { claim.fs ≡ system_of fs }
         requires adds { claim.adds ≡ adds.now }
@@ -303,7 +306,7 @@ impl Lives {
     {
         let number = claim.entry().number();
         let is_first = self.cache.pending(block) == 0;
-        self.cache.append(block, claim, bytes, undo)?;
+        self.cache.append(block, claim, bytes, edit, undo)?;
         set_dropped(&mut self.cache, block, drops);
         set_owned(&mut self.cache, block, adds);
         self.owned

@@ -1,11 +1,11 @@
 // The state of a store, and the calls that need no disk.
 
-ghost use Rattle.std.specs.Prelude.{◌≡◌, ◌<◌, ◌≤◌, [], ◌∷◌, length, Option, Some, None, is_some, IfOk, IsTrue};
+ghost use Rattle.std.specs.Prelude.{◌≡◌, ◌<◌, ◌≤◌, [], ◌∷◌, length, Option, Some, None, is_some, Ok, IfOk, IsTrue};
 ghost use Rattle.xn_model.specs.Types.{within_size};
 ghost use Rattle.xn_model.specs.Lists.{blank};
 ghost use Rattle.xn_model.specs.Lives.{StoreState, life_at, alive_and};
-ghost use Rattle.xn_model.specs.Results.{Gives, GivesExactly};
-ghost use Rattle.xn_model.specs.Calls.{init_of, init_refusal, owns_nothing, too_many, begun_of, settled_of, floor_of};
+ghost use Rattle.xn_model.specs.Results.{Gives, GivesExactly, result_map};
+ghost use Rattle.xn_model.specs.Calls.{init_of, init_refusal, life_pending, owns_nothing, too_many, begun_of, settled_of, floor_of};
 ghost use Rattle.xn_model.specs.Rules.{IsConsistent};
 ghost use Rattle.xn_model.specs.Worlds.{mounted_state};
 ghost use Rattle.templates.specs.Tables.{types_of};
@@ -161,9 +161,30 @@ impl State {
     pub fn begun(&mut self, block: u32) -> Result<([u8; 512], u32), Refusal>
         ensures state { GivesExactly (begun_of self.old block) self.old self.new result }
     {
-        let (bytes, count) = self.lives.begun(block)?;
-        self.lives.begin(block, count);
+        let count = self.begun_count(block)?;
+        let mut bytes = [0u8; 512];
+        self.begin_into(block, count, &mut bytes);
         Ok((bytes, count))
+    }
+
+    /// How many entries a write of a block carries that begins now.
+    pub fn begun_count(&self, block: u32) -> Result<u32, Refusal>
+        ensures count { result ≡ result_map (λ begun. begun.0.1) (begun_of self.now block) }
+        ensures within { IfOk result (λ count. (1 ≤ count) × (count ≤ life_pending (life_at self.now.lives block))) }
+    {
+        self.lives.begun(block)
+    }
+
+    /// Begins a write of a block, where the first pending entries may be written, and writes what they leave into `bytes`.
+    #[inline(always)]
+    pub fn begin_into(&mut self, block: u32, count: u32, bytes: &mut [u8; 512])
+        requires count { result_map (λ begun. begun.0.1) (begun_of self.old block) ≡ Ok count }
+        requires some { 1 ≤ count }
+        requires within { count ≤ life_pending (life_at self.old.lives block) }
+        ensures { begun_of self.old block ≡ Ok ((bytes.new, count), self.new) }
+    {
+        self.lives.image_into(block, count, bytes);
+        self.lives.begin(block, count);
     }
 
     /// Ends a write of a block by the bytes that are read back: how many entries are durable now,

@@ -39,6 +39,7 @@ impl<L: Lane> Kernel<L> {
 
     /// Writes the block that is picked, syncs it and reads it back. `Err` has the ticket where it could not be synced or read
     /// back; with none the write failed, and the block holds the old bytes.
+    #[inline(always)]
     fn round(&mut self, block: u32) -> Result<(), Option<Ticket<L>>>
         requires picked { pick_of self.old.state ≡ Some block }
         ensures ok { OnOk result (Round L.bytes_of L.faults_of L.write_gives L.sync_gives L.read_gives self.old self.new) }

@@ -39,7 +39,7 @@ impl Lives {
         let second = EditId(number.0 + 1);
         let claim = Claim::copied(alloc, second, &adds, &[], None, None)?;
         self.start(alloc, block, number, None, TEMPLATE_TYPE, template)?;
-        match self.accept(None, 0, claim, root, undo, &adds, &[]) {
+        match self.accept(None, 0, claim, root, None, undo, &adds, &[]) {
             Ok(()) => Ok(()),
             Err(error) => {
                 self.forget(block);

@@ -2,6 +2,7 @@
 
 ghost use Rattle.std.specs.Prelude.{◌≡◌, ◌<◌, ◌≤◌, IfOk, IfSome, bytes_eq, length, slice_get};
 ghost use Rattle.xn_model.specs.Lives.{alive_and, begun_at, drops_of, freed, life_at, settled_at};
+ghost use Rattle.xn_model.specs.Results.{result_map};
 ghost use Rattle.xn_model.specs.Calls.{begun_place, first_pending, is_durable, life_pending, settled_place};
 ghost use Rattle.block_cache.specs.Views.{HasImage, image_at};
 ghost use Rattle.dependencies.specs.Typed.{FindsTypes};
@@ -13,11 +14,11 @@ use dependencies::{first_system, move_on, safe_prefix};
 use xn_model::Refusal;
 
 impl Lives {
-    /// The bytes that a write of a block is to carry, and how many entries are in them.
-    pub fn begun(&self, block: u32) -> Result<([u8; 512], u32), Refusal>
+    /// How many entries a write of a block carries that begins now.
+    pub fn begun(&self, block: u32) -> Result<u32, Refusal>
         requires { FindsTypes self.now }
-        ensures plan { result ≡ begun_place self.now (slice_get self.now block) }
-        ensures within { IfOk result (λ plan. (1 ≤ plan.1) × (plan.1 ≤ life_pending (life_at self.now block))) }
+        ensures plan { result ≡ result_map (λ begun. begun.1) (begun_place self.now (slice_get self.now block)) }
+        ensures within { IfOk result (λ count. (1 ≤ count) × (count ≤ life_pending (life_at self.now block))) }
     {
         let Some(place) = self.cache.place(block) else {
             return Err(Refusal::NoSuchBlock);
@@ -32,10 +33,21 @@ impl Lives {
         if count == 0 {
             return Err(Refusal::NothingSafe);
         }
-        let Some(bytes) = self.cache.image_of(block, count) else {
+        Ok(count)
+    }
+
+    /// Writes into `bytes` what the first pending entries of a block leave.
+    #[inline(always)]
+    pub fn image_into(&self, block: u32, count: u32, bytes: &mut [u8; 512])
+        requires some { 1 ≤ count }
+        requires within { count ≤ life_pending (life_at self.now block) }
+        ensures { IfSome (life_at self.now block) (λ l. bytes.new ≡ image_at count l) }
+    {
+        let Some(newest) = self.cache.current(block) else {
             unreachable!()
         };
-        Ok((bytes, count))
+        *bytes = *newest;
+        self.cache.roll_back(block, count, bytes);
     }
 
     /// Whether a block in use has these bytes once only its first pending entries are done.
@@ -43,10 +55,7 @@ impl Lives {
         requires { IfSome (life_at self.now block) (HasImage count) }
         ensures { result ≡ alive_and (λ l. bytes_eq bytes.now (image_at count l)) (life_at self.now block) }
     {
-        match self.cache.image_of(block, count) {
-            Some(image) => *bytes == image,
-            None => false,
-        }
+        self.cache.has_image(block, count, bytes)
     }
 
     /// Whether these bytes may be the durable ones of a block in use: where no state of it is known to be on the disk, any may.

@@ -146,6 +146,7 @@ impl State {
 
     /// Writes into `bytes` what an edit leaves of a block with these, and answers the chunks that decide what they own, or
     /// the first refusal that applies.
+    #[inline(always)]
     fn edited(
         &self,
         fs: Fs,
@@ -202,6 +203,7 @@ impl State {
 
     /// Writes into `bytes` what an edit leaves, and answers the chunks that decide what they own, or the first refusal that
     /// applies.
+    #[inline(always)]
     fn proposed(
         &self,
         fs: Fs,
@@ -262,6 +264,6 @@ impl State {
             drops: edit.drops(),
             after: edit.after(),
         };
-        self.accept(fs, block, &bytes, Some(reads), undo, claims)
+        self.accept(fs, block, &bytes, Some(edit), Some(reads), undo, claims)
     }
 }

@@ -62,7 +62,7 @@ impl State {
             drops: &[],
             after: None,
         };
-        self.accept(fs, 0, &bytes, None, undo, claims)
+        self.accept(fs, 0, &bytes, None, None, undo, claims)
     }
 
     /// Block 0's bytes with the file system's root slot empty, and the block that stands there.
@@ -107,7 +107,7 @@ impl State {
             drops: &[block],
             after: None,
         };
-        self.accept(fs, 0, &bytes, None, undo, claims)
+        self.accept(fs, 0, &bytes, None, None, undo, claims)
     }
 
     /// What undoes a change of the file system's root slot, in block 0.

@@ -48,3 +48,11 @@ pub accept-requires-clause-claims : goal.accept-requires-clause-claims
 accept-requires-clause-claims c =
     let state = c.args.self.now in
     rw (c.adds.ensures, c.drops.ensures) (edit_claims (own_types state) state c.args.fs.number c.args.block c.args.edit.now c.proposed.new.bytes (sym c.in_ok-reads.ensures.plan))
+
+pub accept-requires-clause-made : goal.accept-requires-clause-made
+accept-requires-clause-made c =
+    let state = c.args.self.now in
+    record {
+      limits = c.in_ok-reads.ensures.limits;
+      bytes = sym (bytes_made (own_types state) state c.args.fs.number c.args.block c.args.edit.now c.proposed.new.bytes (sym c.in_ok-reads.ensures.plan));
+    }

@@ -1,0 +1,11 @@
+-- The two lots of bytes of a block in memory.
+use Rattle.std.specs.Prelude.{ℕ, List, Bool, true, false}
+
+pub record TwoLots : Type 0 where
+  -- what a read gives
+  pub bytes : List ℕ
+  pub other : List ℕ
+
+abbrev pub lots_of : Bool → List ℕ → List ℕ → TwoLots
+lots_of false one two = record { bytes = one; other = two }
+lots_of true one two = record { bytes = two; other = one }
