@@ -2,7 +2,7 @@
 use Rattle.std.proofs.Common.{◌≡◌, ◌≢◌, ℕ, zero, suc, ◌+◌, ◌*◌, length, List, [], ◌∷◌, ◌++◌, Option, Some, None, refl, ◌∙◌, ap, arith}
 use Rattle.std.specs.Prelude.{filter_map, option_to_list}
 use Rattle.std.specs.List.{range_with_len, cons_option}
-use Rattle.std.proofs.lemmas.List.{map-append}
+use Rattle.std.proofs.lemmas.List.{append-nil, drop_all, map-append}
 use Rattle.xn_model.specs.Types.{Types}
 use Rattle.xn_model.specs.Lists.{blocks_of, put}
 use Rattle.xn_model.specs.Root.{word_at, unless_empty}
@@ -63,6 +63,11 @@ no_pairs [] e = refl
 no_pairs (p ∷ ps) e = absurd (omega (arith, e))
 
 -- a block of pointers that was cleared owns nothing
+-- bytes that are written over all of it
+pub put_whole : (m bs : List ℕ) → length m ≡ length bs → put m 0 bs ≡ bs
+put_whole [] bs e = ap (λ d. bs ++ d) (drop_all {X = ℕ} (0 + length bs) [] (omega (arith, e))) ∙ append-nil bs
+put_whole (x ∷ xs) bs e = ap (λ d. bs ++ d) (drop_all (0 + length bs) (x ∷ xs) (omega (arith, e))) ∙ append-nil bs
+
 pub cleared_owns : (T : Types) → IsLibrary T → (m : List ℕ) → length m ≡ 512 → T.owned 5 (put m 0 zeros) ≡ []
 cleared_owns T lib m long =
     lib.indirect (put m 0 zeros)
