@@ -1,6 +1,6 @@
 -- What an edit of an inode, or of a directory's entries, leaves in the newest bytes.
-use Rattle.std.proofs.Common.{◌≡◌, ◌≢◌, ℕ, zero, suc, ◌+◌, ◌-◌, ◌*◌, ◌/◌, ◌%◌, ◌<◌, ◌≤◌, Bool, true, List, [], ◌∷◌, length, take, drop, get_or, map, Option, Ok, Err, refl, sym, ◌∙◌, ap, arith}
-use Rattle.std.specs.Prelude.{Contains, Result, ◌==◌, filter_map, if◌then◌else◌, IsTrue}
+use Rattle.std.proofs.Common.{◌≡◌, ◌≢◌, ℕ, ◌+◌, ◌-◌, ◌*◌, ◌/◌, ◌%◌, ◌<◌, ◌≤◌, Bool, true, List, [], ◌∷◌, length, take, drop, Option, Some, Ok, Err, refl, sym, ◌∙◌, ap, arith, inl, inr}
+use Rattle.std.specs.Prelude.{Contains, Result, ◌==◌, filter_map, if◌then◌else◌, IsTrue, slice_set}
 use Rattle.std.specs.List.{list_any, range_with_len}
 use Rattle.std.proofs.Math.Seq.{take-length}
 use Rattle.std.proofs.lemmas.Bool.{eqb-true, lt-ltb}
@@ -20,17 +20,19 @@ use Rattle.ffs_lookup.specs.declared.fault.FfsFault.TheVariants.{NoEntry, NotDir
 use Rattle.ffs_lookup.specs.declared.places.Free.{Free}
 use Rattle.ffs_lookup.specs.declared.places.Slot.{Slot}
 use Rattle.ffs_lib.specs.Edits.{edit_at}
-use Rattle.ffs_lookup.specs.Newest.{and_then, directory_in, file_block, if_directory, inode_block_in, inode_in, is_at, listing, unless_unused}
+use Rattle.ffs_lookup.specs.Newest.{and_then, directory_in, file_block, if_directory, inode_block_in, inode_in, is_at, listing, room_in, unless_unused}
+use Rattle.ffs_lookup.specs.declared.places.Room.TheVariants.{Entry, Pointer}
 use Rattle.ffs_lib.specs.Outcomes.{IsGrown}
 use Rattle.ffs_lookup.specs.Places.{IsFree, IsPlace}
-use Rattle.ffs_lib.specs.Results.{HasMore, MadeEntry, SameInode, new_inode, place_in}
-use Rattle.ffs_lib.proofs.Fields.{blocks_are, set_words}
+use Rattle.ffs_lib.specs.Results.{HasMore, MadeEntry, SameContents, SameInode, new_inode, place_in}
+use Rattle.ffs_lib.proofs.Fields.{blocks_are, get_mapped, set_words}
 use Rattle.ffs_lib.proofs.Firsts.{first_more}
 use Rattle.ffs_lib.proofs.Alone.{none_listed}
 use Rattle.ffs_lib.proofs.Frames.{listed_at, listed_blocks, listed_in, listing_same}
 use Rattle.ffs_lib.proofs.Listed.{fits_newest}
 use Rattle.ffs_lib.proofs.More.{OneMore, block_more, blocks_more, lists_more, more_by, one_listed, words_more}
 use Rattle.ffs_lookup.proofs.ForCallers.{block_again, free_mode, good_number, in_inode_block, same_ok, unused_is, used_is}
+use Rattle.ffs_lib.proofs.Rooms.{place_by, placed_before}
 use Rattle.ffs_lib.proofs.Owners.{Stands, block_at, block_from, direct_block, only_first, passed, stands_from}
 use Rattle.ffs_lib.proofs.Same.{Touches, begun, block_same, data_touched, edited, inode_touched, inodes_same, none_touched, same_on}
 
@@ -119,10 +121,10 @@ module _ (T : Types) (lib : IsLibrary T) (state new : StoreState) (h : IsConsist
       ap (λ m. distinct (inode_blocks m)) own.bytes
       ∙ (ap distinct (sym (blocks_read (v own.block) p (omega arith))) ∙ (ap (λ (t : Bool). distinct (if t then blocks_of (pointed (direct_word (v own.block) p) 12 2) else [])) (lt-ltb p 8 (omega arith)) ∙ direct_distinct T lib (v own.block) p (fits_newest T lib state state h fs few own.block 4 (under_inodes T library_layout (library_reads T lib) v fs ((d - 1) / 8) own.block own.inodes)) (omega arith)))
 
-  pub gap_entered : (b p : ℕ) → Contains (inode_blocks inode) b → p < 16 → length (v b) ≡ 512 → half_at (v b) (32 * p) ≡ 0 → (n : ℕ) (name bytes : List ℕ) → bytes ≡ entry_of n name → length bytes ≡ 32 → IsTrue (is_name name) →
+  pub gap_entered : (b p : ℕ) → Some (Entry b p) ≡ room_in v inode → Contains (inode_blocks inode) b → p < 16 → length (v b) ≡ 512 → half_at (v b) (32 * p) ≡ 0 → (n : ℕ) (name bytes : List ℕ) → bytes ≡ entry_of n name → length bytes ≡ 32 → IsTrue (is_name name) →
       half_at bytes 0 ≡ n → n ≢ 0 → (after : Option ℕ) (entry : ℕ) → propose_of T state fs b (edit_at (32 * p) bytes [] [] after) ≡ Ok (entry, new) →
       HasMore v w fs d inode name n × ((e : ℕ) → e ≢ d → SameInode v w fs e)
-  gap_entered b p has low long empty n name bytes is whole named half some after entry done =
+  gap_entered b p first has low long empty n name bytes is whole named half some after entry done =
       let x = direct_where inode b has in
       let lt = x.1 in
       let block : file_block v inode x.0 ≡ b = direct_block v inode x.0 lt ∙ x.2 in
@@ -147,17 +149,13 @@ module _ (T : Types) (lib : IsLibrary T) (state new : StoreState) (h : IsConsist
           was = listed_blocks v (inode_blocks inode) ∙ all.was;
           is = listed_blocks w (inode_blocks inode) ∙ all.is;
           alone = none_listed v one inode (λ c i e. ap (λ x. half_at (v x) (32 * p)) e ∙ empty);
+          placed = inl (first, refl, refl);
           first = first_more v w inode inode name one all.front all.back (listed_blocks v (inode_blocks inode) ∙ all.was) (listed_blocks w (inode_blocks inode) ∙ all.is);
         },
         data_touched T lib state h fs few w b 2 t refl d inode own x.0 (omega (arith, lt)) block x.3,
       )
 
 -- A new block with one entry is attached
-
-pub get_mapped : (f : ℕ → ℕ) (n a k : ℕ) → k < n → get_or (map f (range_with_len a n)) k 0 ≡ f (a + k)
-get_mapped f zero a k lt = absurd (omega (arith, lt))
-get_mapped f (suc n) a zero lt = let z : a ≡ a + 0 = omega arith in ap f z
-get_mapped f (suc n) a (suc k) lt = let z : a + 1 + k ≡ a + suc k = omega arith in get_mapped f n (a + 1) k (omega (arith, lt)) ∙ ap f z
 
 module _ (T : Types) (lib : IsLibrary T) (zeroth first second : StoreState) (h : IsConsistent T zeroth) (h1 : IsConsistent T first) (fs : ℕ) (few : fs < 32) (b number : ℕ) (bytes : List ℕ)
     (done : init_of T zeroth fs 2 (put zeros 0 bytes) ≡ Ok ((b, number), first)) where
@@ -182,10 +180,10 @@ module _ (T : Types) (lib : IsLibrary T) (zeroth first second : StoreState) (h :
       let old = block_from v0 fs j b low (block_again v1 fs j b is ∙ block_same T lib v0 v1 fs b 9 new_block (λ z. omega (arith, z)) j) in
       new_block.apart b 4 (under_inodes T library_layout (library_reads T lib) v0 fs j b old) (λ z. omega (arith, z)) refl
 
-  pub block_entered : (d index n : ℕ) (name inode0 : List ℕ) → Ok inode0 ≡ directory_in v0 fs d → index < 12 → direct_in inode0 index ≡ 0 → b ≢ 0 → (inode : List ℕ) → Ok inode ≡ directory_in v1 fs d → IsGrown v1 v2 fs d inode index b →
+  pub block_entered : (d index n : ℕ) (name inode0 : List ℕ) → Ok inode0 ≡ directory_in v0 fs d → Some (Pointer index) ≡ room_in v0 inode0 → index < 12 → direct_in inode0 index ≡ 0 → b ≢ 0 → (inode : List ℕ) → Ok inode ≡ directory_in v1 fs d → IsGrown v1 v2 fs d inode index b →
       bytes ≡ entry_of n name → length bytes ≡ 32 → IsTrue (is_name name) → half_at bytes 0 ≡ n → n ≢ 0 →
       HasMore v0 v2 fs d inode0 name n
-  block_entered d index n name inode0 dir low gap there inode again g is whole named half some =
+  block_entered d index n name inode0 dir empty low gap there inode again g is whole named half some =
       let same = begun_same d in
       let one : inode ≡ inode0 = same_ok inode inode0 (again ∙ (directory_same v0 v1 fs d same.0 ∙ sym dir)) in
       let kept = same.1 inode0 (directory_from v0 fs d inode0 dir).0 in
@@ -223,6 +221,7 @@ module _ (T : Types) (lib : IsLibrary T) (zeroth first second : StoreState) (h :
         was = sym before ∙ (listed_blocks v2 (inode_blocks inode) ∙ all.was);
         is = listed_blocks v2 (inode_blocks g.after) ∙ all.is;
         alone = none_listed v0 entry inode0 (λ c i e. absurd (apart_before c i e));
+        placed = inr (index, empty, refl, g.direct ∙ ap (λ (i : List ℕ). slice_set (fields_of i).direct index b) one, g.size);
         first = first_more v0 v2 inode0 g.after name entry all.front all.back (sym before ∙ (listed_blocks v2 (inode_blocks inode) ∙ all.was)) (listed_blocks v2 (inode_blocks g.after) ∙ all.is);
       }
 
@@ -241,8 +240,8 @@ free_none state fs free is =
     ∙ in_inode_block content fs n (good_number n stands.some is.low) ((n - 1) / 8) free.place free.block (content free.block) refl stands.at (block_again content fs ((n - 1) / 8) free.block stands.inodes) refl)
 
 module _ (u v w : ℕ → List ℕ) (fs d : ℕ) (name : List ℕ) (mode n : ℕ) where
-  more_before : (inode : List ℕ) → listing v inode ≡ listing u inode → HasMore v w fs d inode name n → HasMore u w fs d inode name n
-  more_before inode same m = record { after = m.after; directory = m.directory; links = m.links; entry = m.entry; inode_named = m.inode_named; front = m.front; back = m.back; was = sym same ∙ m.was; is = m.is; alone = ap (list_any (λ (p : Slot × List ℕ). is_at m.entry p.0)) (sym same) ∙ m.alone; first = first_more u w inode m.after name m.entry m.front m.back (sym same ∙ m.was) m.is }
+  more_before : (inode : List ℕ) → SameContents u v inode → HasMore v w fs d inode name n → HasMore u w fs d inode name n
+  more_before inode same m = record { after = m.after; directory = m.directory; links = m.links; entry = m.entry; inode_named = m.inode_named; front = m.front; back = m.back; was = sym same.0 ∙ m.was; is = m.is; alone = ap (list_any (λ (p : Slot × List ℕ). is_at m.entry p.0)) (sym same.0) ∙ m.alone; placed = placed_before u v inode inode m.after m.entry (place_by u v inode inode refl same.1) refl refl m.placed; first = first_more u w inode m.after name m.entry m.front m.back (sym same.0 ∙ m.was) m.is }
 
   pub made_then : inode_in u fs n ≡ Err NoEntry → inode_in v fs n ≡ Ok (new_inode mode) → ((e : ℕ) → e ≢ n → SameInode u v fs e) →
       ((inode : List ℕ) → Ok inode ≡ directory_in v fs d → HasMore v w fs d inode name n) × ((e : ℕ) → e ≢ d → SameInode v w fs e) → (inode : List ℕ) → Ok inode ≡ directory_in u fs d → MadeEntry u w fs d name mode n
@@ -252,7 +251,7 @@ module _ (u v w : ℕ → List ℕ) (fs d : ℕ) (name : List ℕ) (mode n : ℕ
       record {
         free = free;
         made = (enters.1 n (λ e. apart (sym e))).0 ∙ made;
-        entry = λ other is. more_before other (same.1 other (directory_from u fs d other is).0).0 (enters.0 other (is ∙ sym (directory_same u v fs d same.0)));
+        entry = λ other is. more_before other (same.1 other (directory_from u fs d other is).0) (enters.0 other (is ∙ sym (directory_same u v fs d same.0)));
         others = λ e ne ne'. same_on u v w fs e (first e ne') (enters.1 e ne);
       }
     where
@@ -263,6 +262,6 @@ module _ (u v w : ℕ → List ℕ) (fs d : ℕ) (name : List ℕ) (mode n : ℕ
   stays_made stays m = record {
     free = sym (stays n).0 ∙ m.free;
     made = m.made;
-    entry = λ inode is. more_before inode ((stays d).1 inode (directory_from u fs d inode is).0).0 (m.entry inode (is ∙ sym (directory_same u v fs d (stays d).0)));
+    entry = λ inode is. more_before inode ((stays d).1 inode (directory_from u fs d inode is).0) (m.entry inode (is ∙ sym (directory_same u v fs d (stays d).0)));
     others = λ e ne ne'. same_on u v w fs e (stays e) (m.others e ne ne');
   }

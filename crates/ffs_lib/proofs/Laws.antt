@@ -345,7 +345,7 @@ module _ (u v : ℕ → List ℕ) (fs d : ℕ) (slot : Slot) (r : Removable u fs
         kept = λ lt.
             let y = k.kept lt in
             let x = same.1 inode i in
-            (record { after = y.0.after; found = y.0.found; mode = y.0.mode; size = y.0.size; entries = y.0.entries ∙ x.0; each = λ at low. y.0.each at low ∙ x.1 at low; room = y.0.room ∙ room_by u v inode inode refl x.1 }, y.1);
+            (record { after = y.0.after; found = y.0.found; mode = y.0.mode; size = y.0.size; entries = y.0.entries ∙ x.0; each = λ at low. y.0.each at low ∙ x.1 at low; direct = y.0.direct; room = y.0.room ∙ room_by u v inode inode refl x.1 }, y.1);
         freed = k.freed;
         zeroed = k.zeroed;
       }

@@ -24,29 +24,29 @@ use Rattle.ffs_lookup.specs.declared.places.Slot.{Slot}
 use Rattle.ffs_lib.specs.Edits.{edit_at}
 use Rattle.ffs_lookup.specs.Newest.{byte_in, byte_of, directory_in, file_block, entries_in, entry_at, entry_named, is_at, named_in, used_entry, entries_of, first_named, has_name, inode_in, listing, name_at, without_entry}
 use Rattle.ffs_lookup.specs.Places.{IsFound, IsSlot}
-use Rattle.ffs_lib.specs.Results.{AsBefore, HasLost, HasMore, HasRenamed, IsAs, IsLinked, MovedEntry, SameInode}
+use Rattle.ffs_lib.specs.Results.{AsBefore, HasLost, HasMore, HasRenamed, IsAs, IsPlaced, IsLinked, MovedEntry, SameInode}
 use Rattle.ffs_lib.proofs.Alone.{kept_between, none_found, turned_apart}
 use Rattle.ffs_lib.proofs.Entering.{directory_from, directory_same, inode_put}
-use Rattle.ffs_lib.proofs.Fields.{same_blocks}
+use Rattle.ffs_lib.proofs.Fields.{direct_get, same_blocks}
 use Rattle.ffs_lib.proofs.Firsts.{find_listed, find_skip, first_more, named_among, same_bytes}
 use Rattle.ffs_lib.proofs.Frames.{listing_same, listing_without}
 use Rattle.ffs_lookup.proofs.ForCallers.{directory_is, in_directory, same_ok}
 use Rattle.ffs_lib.proofs.Owners.{Stands, block_at, direct_block, passed, pointers_at, stands_from}
 use Rattle.ffs_lib.proofs.Renaming.{is_some_ok}
-use Rattle.ffs_lib.proofs.Rooms.{room_by}
+use Rattle.ffs_lib.proofs.Rooms.{place_by, placed_after, placed_before, room_by}
 use Rattle.ffs_lib.proofs.Same.{data_touched, edited, file_block_by, inodes_same, same_on}
-use Rattle.ffs_lib.proofs.Writing.{blocks_agree, byte_same, direct_get}
+use Rattle.ffs_lib.proofs.Writing.{blocks_agree, byte_same}
 
 -- As before, in every way
 
 pub same_as : (v w : ℕ → List ℕ) (fs d : ℕ) → SameInode v w fs d → AsBefore v w fs d
-same_as v w fs d s inode e = let x = s.1 inode e in record { after = inode; found = e ∙ sym s.0; mode = refl; size = refl; entries = x.0; each = x.1; room = room_by v w inode inode refl x.1 }
+same_as v w fs d s inode e = let x = s.1 inode e in record { after = inode; found = e ∙ sym s.0; mode = refl; size = refl; entries = x.0; each = x.1; direct = refl; room = room_by v w inode inode refl x.1 }
 
 pub as_on : (u v w : ℕ → List ℕ) (fs d : ℕ) → AsBefore u v fs d → AsBefore v w fs d → AsBefore u w fs d
 as_on u v w fs d a b inode e =
     let x = a inode e in
     let y = b x.after x.found in
-    record { after = y.after; found = y.found; mode = y.mode ∙ x.mode; size = y.size ∙ x.size; entries = y.entries ∙ x.entries; each = λ at low. y.each at low ∙ x.each at low; room = y.room ∙ x.room }
+    record { after = y.after; found = y.found; mode = y.mode ∙ x.mode; size = y.size ∙ x.size; entries = y.entries ∙ x.entries; each = λ at low. y.each at low ∙ x.each at low; direct = y.direct ∙ x.direct; room = y.room ∙ x.room }
 
 -- An inode's links are written
 pub relinked : (T : Types) (lib : IsLibrary T) (state new : StoreState) (h : IsConsistent T state) (fs : ℕ) (few : fs < 32) (n : ℕ) (found : Found) → IsFound state fs n found → Ok found.inode ≡ inode_in (latest state.lives) fs n →
@@ -100,6 +100,7 @@ relinked T lib state new h fs few n found is exact bytes whole mode direct last 
           let lt = x.1 in
           away b 2 (block_at T lib state h fs few n found.inode stands x.0 b (omega (arith, lt)) (direct_block v found.inode x.0 lt ∙ x.2) x.3) (λ z. omega (arith, z)));
       each = each;
+      direct = direct;
       room = room_by v w found.inode bytes direct each;
     }
       where
@@ -236,6 +237,8 @@ module _ (u0 u1 u2 u3 u4 : ℕ → List ℕ) (fs d : ℕ) (name : List ℕ) (oth
           after = y.after;
           directory = directory_to u4 fs d y.after y.found (y.mode ∙ (directory_from u2 fs d held.0 held.1).1);
           links = links_again (by_listing same_listing) d from x_from.after held.0 y.after (directory_from u0 fs d from is_from).0 x_from.found at3 y.found (ap inode_links (sym same_inode));
+          direct = y.direct ∙ (ap (λ (i : List ℕ). (fields_of i).direct) (sym same_inode) ∙ x_from.direct);
+          size = y.size ∙ (ap (λ (i : List ℕ). word_at i 4) (sym same_inode) ∙ x_from.size);
           is = y.entries ∙ (lost.1 held.0 ∙ (ap (λ s. without_entry s (listing u2 held.0)) (by_listing same_listing) ∙ ap (without_entry slot) same_listing));
         }
 
@@ -256,6 +259,7 @@ module _ (u0 u1 u2 u3 u4 : ℕ → List ℕ) (fs d : ℕ) (name : List ℕ) (oth
           was = sym x_to.entries ∙ more1.was;
           is = y.entries ∙ (kept.0 ∙ more1.is);
           alone = ap (list_any (λ (p : Slot × List ℕ). is_at more1.entry p.0)) (sym x_to.entries) ∙ more1.alone;
+          placed = placed_after u0 to more1.after y.after more1.entry y.direct y.size (placed_before u0 u1 to x_to.after more1.after more1.entry (place_by u0 u1 to x_to.after x_to.direct x_to.each) x_to.direct x_to.size more1.placed);
           first = first_more u0 u4 to y.after new_name more1.entry more1.front more1.back (sym x_to.entries ∙ more1.was) (y.entries ∙ (kept.0 ∙ more1.is));
         }
 
@@ -313,6 +317,9 @@ module _ (u0 u1 u2 u3 u4 : ℕ → List ℕ) (fs d : ℕ) (name : List ℕ) (oth
           was = old_listing;
           is = y.entries ∙ (lost.1 held.0 ∙ (ap (λ s. without_entry s (listing u2 held.0)) same_slot ∙ (ap (without_entry slot) (ap (listing u2) (sym after_same) ∙ more1.is)
               ∙ kept_between (λ (p : Slot × List ℕ). not (is_at slot p.0)) more1.front more1.back (more1.entry, new_name) (ap not stands))));
+          placed = placed_after u0 from more1.after y.after more1.entry (y.direct ∙ ap (λ (i : List ℕ). (fields_of i).direct) (sym after_same)) (y.size ∙ ap (λ (i : List ℕ). word_at i 4) (sym after_same))
+              (subst (λ (i : List ℕ). IsPlaced u0 i more1.after more1.entry) (sym one_directory)
+              (placed_before u0 u1 to x_to.after more1.after more1.entry (place_by u0 u1 to x_to.after x_to.direct x_to.each) x_to.direct x_to.size more1.placed));
         }
 
   one_slot : slot2 ≡ slot

@@ -1,6 +1,6 @@
 -- What the edits leave by which a name is made.
-use Rattle.std.proofs.Common.{◌≡◌, ◌≢◌, ℕ, ◌-◌, ◌*◌, ◌/◌, ◌%◌, ◌^◌, ◌<◌, List, [], ◌∷◌, length, replicate, Option, None, Some, Ok, Err, refl, sym, ◌∙◌, ap, arith, subst, inl, inr}
-use Rattle.std.specs.Prelude.{Contains, IsTrue, slice_set, ◌==◌}
+use Rattle.std.proofs.Common.{◌≡◌, ◌≢◌, ℕ, ◌+◌, ◌-◌, ◌*◌, ◌/◌, ◌%◌, ◌^◌, ◌<◌, List, [], ◌∷◌, length, replicate, Option, None, Some, Ok, Err, refl, sym, ◌∙◌, ap, arith, subst, inl, inr}
+use Rattle.std.specs.Prelude.{Contains, IsTrue, find, option_map, slice_set, ◌==◌}
 use Rattle.std.specs.Int.{w32, to_le_bytes}
 use Rattle.std.specs.List.{list_any, range_with_len}
 use Rattle.xn_model.specs.Types.{Types}
@@ -18,12 +18,13 @@ use Rattle.ffs_lookup.specs.declared.places.Found.{Found}
 use Rattle.ffs_lookup.specs.declared.fault.FfsFault.{FfsFault}
 use Rattle.ffs_lookup.specs.declared.fault.FfsFault.TheVariants.{NoEntry}
 use Rattle.ffs_lookup.specs.declared.places.Free.{Free}
-use Rattle.ffs_lookup.specs.Newest.{directory_in, has_room, inode_in}
+use Rattle.ffs_lookup.specs.Newest.{IsLowest, directory_in, has_free_at, has_room, inode_in, number_from, room_in, root_in}
+use Rattle.ffs_lookup.specs.declared.places.Room.TheVariants.{Entry, Pointer}
 use Rattle.ffs_lookup.specs.Places.{IsDirectory, IsEmptyPointer, IsFree, IsGap}
-use Rattle.ffs_lookup.proofs.ForCallers.{directory_is, free_mode, in_directory, root_again, same_ok}
+use Rattle.ffs_lookup.proofs.ForCallers.{directory_is, find_none, free_mode, in_directory, root_again, same_ok}
 use Rattle.ffs_lib.specs.Edits.{edit_at}
 use Rattle.ffs_lib.specs.Outcomes.{HasFreePointer, IsAdded, IsGrown, IsMade}
-use Rattle.ffs_lib.specs.Results.{HasMore, SameInode, new_inode}
+use Rattle.ffs_lib.specs.Results.{HasMore, IsLowestNumber, SameInode, new_inode}
 use Rattle.ffs_lib.specs.Steps.{Entered, IsEntry, IsHome, MayName, ShortEdit, Stage, StopsEntering, StopsGrowing, Tells, Wants, left_by}
 use Rattle.ffs_lib.proofs.Edited.{attached, entered, grown, made, same_root}
 use Rattle.ffs_lib.proofs.Entering.{begun_same, block_entered, directory_from, directory_same, gap_entered, inode_put}
@@ -39,7 +40,7 @@ use Rattle.ffs_lib.proofs.Short.{attached_short, begun_addable, entry_short, kep
 -- An entry is written into a gap
 
 module _ (T : Types) (fs : ℕ) (array : ℕ → Option ℕ) (old : StoreState) (s : Stage T fs array old) (d : ℕ) (found : Found) (dir : IsDirectory old fs d found) (exact : Ok found.inode ≡ directory_in (latest old.lives) fs d) (n e : ℕ) (m : MayName old fs n e)
-    (bytes name : List ℕ) (b : IsEntry bytes n name) (block place : ℕ) (gap : IsGap old found block place) where
+    (bytes name : List ℕ) (b : IsEntry bytes n name) (block place : ℕ) (gap : IsGap old found block place) (first : Some (Entry block place) ≡ room_in (latest old.lives) found.inode) where
   pub enters_short : ShortEdit T old fs block (edit_at (32 * place) bytes [] [] (Some e))
   enters_short =
       let stands = dir.is.stands in
@@ -51,7 +52,7 @@ module _ (T : Types) (fs : ℕ) (array : ℕ → Option ℕ) (old : StoreState) 
   enters new entry done =
       let h = s.keeps.consistent in
       let has = subst (λ (i : List ℕ). Contains (inode_blocks i) block) (sym dir.is.bytes) (subst (λ xs. Contains xs block) (blocks_read (latest old.lives found.block) found.place dir.is.stands.few) gap.has) in
-      let r = gap_entered T s.library old new h fs s.few d found.inode exact block place has gap.few gap.long gap.empty n name bytes b.spelled b.whole b.named b.half m.some (Some e) entry done in (
+      let r = gap_entered T s.library old new h fs s.few d found.inode exact block place first has gap.few gap.long gap.empty n name bytes b.spelled b.whole b.named b.half m.some (Some e) entry done in (
         record { library = s.library; few = s.few; keeps = entered T s.library fs s.few array old new s.keeps d place block found dir gap bytes b.whole n e entry b.half m.some m.can done },
         (
           record { more = λ other is. subst (λ (i : List ℕ). HasMore (latest old.lives) (latest new.lives) fs d i name n) (same_ok found.inode other (exact ∙ sym is)) r.0; others = r.1 },
@@ -84,7 +85,7 @@ not_begun T fs old new d inode dir same bytes home at fault told = record {
 -- A new block with one entry
 
 module _ (T : Types) (fs : ℕ) (array : ℕ → Option ℕ) (zeroth first : StoreState) (s : Stage T fs array zeroth) (d : ℕ) (inode : List ℕ) (dir : Ok inode ≡ directory_in (latest zeroth.lives) fs d) (n e : ℕ) (m : MayName zeroth fs n e)
-    (bytes name : List ℕ) (b : IsEntry bytes n name) (index : ℕ) (low : index < 12) (gap : direct_in inode index ≡ 0) (block number : ℕ) (done : init_of T zeroth fs 2 (put zeros 0 bytes) ≡ Ok ((block, number), first)) where
+    (bytes name : List ℕ) (b : IsEntry bytes n name) (index : ℕ) (low : index < 12) (empty : Some (Pointer index) ≡ room_in (latest zeroth.lives) inode) (gap : direct_in inode index ≡ 0) (block number : ℕ) (done : init_of T zeroth fs 2 (put zeros 0 bytes) ≡ Ok ((block, number), first)) where
   pub grow_stage : Stage T fs array first
   grow_stage = record { library = s.library; few = s.few; keeps = started_keeps T library_layout (library_reads T s.library) fs s.few array zeroth first s.keeps fs 2 (put zeros 0 bytes) (block, number) done }
 
@@ -126,9 +127,9 @@ module _ (T : Types) (fs : ℕ) (array : ℕ → Option ℕ) (zeroth first : Sto
             home_of first fs d found.block found.place at.is.stands
             ∙ block_same T s.library (latest zeroth.lives) (latest first.lives) fs block 6 (begun T zeroth first s.keeps.consistent fs s.few 2 6 (put zeros 0 bytes) (block, number) done) (λ z. omega (arith, z)) ((d - 1) / 8)
 
-    pub grows : (second : StoreState) (entry : ℕ) → propose_of T first fs found.block (edit_at (64 * found.place) after ((block, 2) ∷ []) [] (Some e)) ≡ Ok (entry, second) →
+    pub grows : (second : StoreState) (entry : ℕ) → size ≡ 512 * length (inode_blocks after) → propose_of T first fs found.block (edit_at (64 * found.place) after ((block, 2) ∷ []) [] (Some e)) ≡ Ok (entry, second) →
         Stage T fs array second × (Entered (latest zeroth.lives) (latest second.lives) fs d name n × IsTrue (was_given second (Some entry)))
-    grows second entry put_done =
+    grows second entry sized put_done =
         let h = s.keeps.consistent in
         let s1 = grow_stage in
         let h1 = s1.keeps.consistent in
@@ -153,10 +154,11 @@ module _ (T : Types) (fs : ℕ) (array : ℕ → Option ℕ) (zeroth first : Sto
           directory = directory_is after mode ∙ in_directory (latest second.lives) fs d (Ok after) (sym p.0);
           links = links;
           direct = direct;
+          size = ap (λ (f : Fields). f.size) set ∙ sized;
           bytes = λ c none. proposed_others T first second h1 fs found.block edit entry put_done c (λ z. none (subst (λ x. IsInodes library_layout v1 fs ((d - 1) / 8) x) (sym z) stands.inodes));
           others = p.1;
         } in
-        let more = block_entered T s.library zeroth first second h h1 fs s.few block number bytes done d index n name inode dir low gap there found.inode exact g b.spelled b.whole b.named b.half m.some in (
+        let more = block_entered T s.library zeroth first second h h1 fs s.few block number bytes done d index n name inode dir empty low gap there found.inode exact g b.spelled b.whole b.named b.half m.some in (
           record { library = s.library; few = s.few; keeps = k },
           (
             record {
@@ -233,6 +235,17 @@ module _ (T : Types) (fs : ℕ) (array : ℕ → Option ℕ) (zeroth first : Sto
         is_root = free.is_root ∙ sym (root_same T s.library v w fs block 6 touched);
         empty = ap (λ (m : List ℕ). list_any (λ index. pointer_word m index == 0) (range_with_len 0 16)) (root_bytes T s.library v w fs block 6 touched (λ z. omega (arith, z)) free.root free.is_root) ∙ free.empty;
       }
+
+  -- the number of its first inode
+  pub point_lowest : IsLowest (latest zeroth.lives) fs None → (index : ℕ) → ((root : ℕ) → Ok root ≡ root_in (latest first.lives) fs → Some index ≡ find (λ i. pointer_word (latest first.lives root) i == 0) (range_with_len 0 16)) →
+      IsLowestNumber (latest zeroth.lives) fs (8 * index + 1)
+  point_lowest full index at = λ root e.
+      let v = latest zeroth.lives in
+      let w = latest first.lives in
+      let same = root_same T s.library v w fs block 6 touched in
+      let bytes = root_bytes T s.library v w fs block 6 touched (λ z. omega (arith, z)) root e in
+      let none = find_none (λ (i : ℕ). has_free_at v (pointer_word (v root) i)) (range_with_len 0 16) (full root e) in
+      ap (option_map (λ i. 8 * i + 1)) (at root (e ∙ sym same) ∙ ap (λ (m : List ℕ). find (λ i. pointer_word m i == 0) (range_with_len 0 16)) bytes) ∙ ap (number_from v root) (sym none)
 
   module _ (root : ℕ) (is_root : IsRoot (latest first.lives) fs root) (index : ℕ) (e : IsEmptyPointer first fs index) (small : block < 2 ^ 32) where
     pub point_short : ShortEdit T first fs root (edit_at (4 * index) (to_le_bytes w32 block) ((block, 4) ∷ []) [] None)

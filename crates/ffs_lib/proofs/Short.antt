@@ -25,8 +25,9 @@ use Rattle.ffs_lookup.specs.Places.{IsEmptyPointer, IsPlace, IsSlot}
 use Rattle.ffs_lookup.proofs.ForCallers.{gives_ok}
 use Rattle.ffs_lib.specs.Edits.{edit_at, data_of_inode}
 use Rattle.ffs_lib.specs.Outcomes.{CanEdit, OnlyShort, HasNoData}
+use Rattle.ffs_lib.proofs.Fields.{direct_get}
 use Rattle.ffs_lib.proofs.Edited.{same_root}
-use Rattle.ffs_lib.proofs.Writing.{direct_get, get_apart, get_here}
+use Rattle.ffs_lib.proofs.Writing.{get_apart, get_here}
 
 -- Results
 

@@ -1,7 +1,7 @@
 -- What the edits of a volume leave, each for every array of numbers for which a volume's rules held before.
 --     Keeps T fs old new      a volume's rules hold on
 --     IsMade, ..              and what may come next
-use Rattle.std.specs.Prelude.{◌≡◌, ◌≢◌, ℕ, ◌-◌, ◌/◌, ◌<◌, List, [], Option, None, Ok, Contains, length, max, ◌+◌, slice_set, Some, Bool, true, IfErr, IsTrue, Result}
+use Rattle.std.specs.Prelude.{◌≡◌, ◌≢◌, ℕ, ◌-◌, ◌*◌, ◌/◌, ◌<◌, List, [], Option, None, Ok, Contains, length, max, ◌+◌, slice_set, Some, Bool, true, IfErr, IsTrue, Result}
 use Rattle.xn_model.specs.Types.{Types}
 use Rattle.xn_model.specs.Lists.{put}
 use Rattle.xn_model.specs.Root.{slot, word_at}
@@ -11,7 +11,7 @@ use Rattle.ffs_model.specs.Cuts.{Under, latest}
 use Rattle.ffs_model.specs.Names.{IsInodes}
 use Rattle.ffs_model.specs.Edits.{HoldsOnly}
 use Rattle.ffs_model.specs.Volumes.{VolumeKeeps, CanName, with_edit, without_edit}
-use Rattle.ffs_model.specs.Library.{inode_links, library_layout, IsLibrary, zeros}
+use Rattle.ffs_model.specs.Library.{inode_blocks, inode_links, library_layout, IsLibrary, zeros}
 use Rattle.xn_model.specs.Rules.{IsConsistent}
 use Rattle.ffs_lookup.specs.declared.fault.FfsFault.{FfsFault}
 use Rattle.ffs_format.specs.Fields.{fields_of}
@@ -61,6 +61,7 @@ pub record IsGrown (old new : ℕ → List ℕ) (fs d : ℕ) (inode : List ℕ) 
   pub directory : Ok after ≡ directory_in new fs d
   pub links : inode_links after ≡ inode_links inode
   pub direct : (fields_of after).direct ≡ slice_set (fields_of inode).direct index block
+  pub size : word_at after 4 ≡ 512 * length (inode_blocks after)
   pub bytes : (c : ℕ) → (IsInodes library_layout old fs ((d - 1) / 8) c → ⊥) → new c ≡ old c
   pub others : (e : ℕ) → e ≢ d → SameInode old new fs e
 

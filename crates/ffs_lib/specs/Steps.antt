@@ -32,7 +32,7 @@ use Rattle.ffs_lib.specs.Edits.{data_of_pointers, edit_at}
 use Rattle.ffs_format.specs.Entries.{entry_of, is_name}
 use Rattle.ffs_lib.specs.Volumes.{IsVolume}
 use Rattle.ffs_lib.specs.declared.volume.Volume.{Volume}
-use Rattle.ffs_lib.specs.Results.{AsBefore, HasMore, MadeEntry, MovedEntry, OnlyChanges, OthersSame, SameInode, TookLink, new_inode}
+use Rattle.ffs_lib.specs.Results.{AsBefore, HasMore, IsLowestNumber, MadeEntry, MovedEntry, OnlyChanges, OthersSame, SameInode, TookLink, new_inode}
 
 abbrev pub newest : StoreState → ℕ → List ℕ
 newest state = latest state.lives
@@ -159,9 +159,10 @@ pub record Entered (old new : ℕ → List ℕ) (fs d : ℕ) (name : List ℕ) (
 abbrev pub Enters : StoreState → StoreState → ℕ → ℕ → List ℕ → ℕ → ℕ → Type 0
 Enters old new fs d name n entry = Entered (newest old) (newest new) fs d name n × IsTrue (was_given new (Some entry))
 
--- a free inode, and all inodes are as before
+-- the lowest free inode, and all inodes are as before
 pub record TakesFree (old new : StoreState) (fs : ℕ) (free : Free) : Type 0 where
   pub is : IsFree new fs free
+  pub lowest : IsLowestNumber (newest old) fs free.number
   pub stays : (d : ℕ) → SameInode (newest old) (newest new) fs d
 
 -- an inode has a link more; then a directory names it
@@ -275,13 +276,14 @@ StopsNew T fs old new d mode n fault =
 -- before that a block of inodes, where no inode was free
 abbrev pub StopsMaking : Types → ℕ → StoreState → StoreState → ℕ → ℕ → FfsFault → Type 0
 StopsMaking T fs old new d mode fault =
-    StopsGrowing T fs old new fault ⊎ ((middle : StoreState) × (n : ℕ) × AllSame old middle fs × StopsNew T fs middle new d mode n fault)
+    StopsGrowing T fs old new fault ⊎ ((middle : StoreState) × (n : ℕ) × AllSame old middle fs × IsLowestNumber (newest old) fs n × StopsNew T fs middle new d mode n fault)
 
 -- The calls
 
 abbrev pub Creates : Types → ℕ → ℕ → List ℕ → ℕ → StoreState → StoreState → Result ℕ FfsFault → Type 0
 Creates T fs d name mode old new result =
-    Answers (create_in (newest old) fs d name) (λ _ n. MadeEntry (newest old) (newest new) fs d name mode n) (λ _ fault. StopsMaking T fs old new d mode fault) old new result
+    Answers (create_in (newest old) fs d name) (λ _ n. MadeEntry (newest old) (newest new) fs d name mode n × IsLowestNumber (newest old) fs n)
+    (λ _ fault. StopsMaking T fs old new d mode fault) old new result
 
 abbrev pub Unlinks : Types → ℕ → ℕ → List ℕ → StoreState → StoreState → Result (Unit {0}) FfsFault → Type 0
 Unlinks T fs d name old new result =

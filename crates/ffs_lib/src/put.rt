@@ -4,7 +4,7 @@ ghost use Rattle.std.specs.Prelude.{◌≡◌, ◌≢◌, ◌<◌, ◌*◌, IfOk
 ghost use Rattle.ffs_lib.specs.Results.{new_inode};
 ghost use Rattle.ffs_format.specs.Entries.{is_name};
 ghost use Rattle.ffs_format.specs.Fields.{direct_in, fields_of};
-ghost use Rattle.ffs_lookup.specs.Newest.{directory_in, has_room, inode_in};
+ghost use Rattle.ffs_lookup.specs.Newest.{directory_in, has_room, inode_in, room_in};
 ghost use Rattle.ffs_model.specs.Library.{inode_links};
 ghost use Rattle.xn_model.specs.Types.{Types};
 ghost use Rattle.ffs_model.specs.Cuts.{Under};
@@ -213,7 +213,7 @@ fn grow<S: Store>(
     ensures types { S.types_of store.new ≡ S.types_of store.old }
     ensures ends { (T : Types) (array : ℕ → Option ℕ) (directory name : List ℕ) (n : ℕ) → S.types_of store.old ≡ T → Stage T fs.number array (S.state_of store.old) →
         MayName (S.state_of store.old) fs.number n after → Ok directory ≡ directory_in (newest (S.state_of store.old)) fs.number number →
-        direct_in directory index ≡ 0 → IsEntry entry.now n name → Ends T fs.number array (S.state_of store.new) result
+        Some (Room.Pointer index) ≡ room_in (newest (S.state_of store.old)) directory → direct_in directory index ≡ 0 → IsEntry entry.now n name → Ends T fs.number array (S.state_of store.new) result
         (Enters (S.state_of store.old) (S.state_of store.new) fs.number number name n)
         (StopsEntering T fs.number (S.state_of store.old) (S.state_of store.new) number) }
 {

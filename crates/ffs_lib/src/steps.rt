@@ -3,7 +3,7 @@
 ghost use Rattle.std.specs.Prelude.{◌≡◌, ◌≤◌, ◌+◌, IfOk, OnOk, OnErr, length};
 ghost use Rattle.xn_model.specs.Calls.{forget_of};
 ghost use Rattle.xn_model.specs.Lists.{put};
-ghost use Rattle.ffs_model.specs.Library.{zeros};
+ghost use Rattle.ffs_model.specs.Library.{inode_blocks, zeros};
 ghost use Rattle.ffs_lib.specs.Edits.{data_of_inode, data_of_pointers};
 ghost use Rattle.ffs_lib.specs.Outcomes.{Keeps};
 ghost use Rattle.ffs_lib.specs.Steps.{left_by};
@@ -48,7 +48,8 @@ pub fn forgotten<S: Store, A>(
 
 /// How many of its own pointers an inode has set.
 pub fn count_blocks(inode: &Inode) -> u32
-    ensures { result ≤ 12 }
+    ensures few { result ≤ 12 }
+    ensures exact { result ≡ length (inode_blocks inode.now) }
 {
     let mut count = 0;
     for i in 0..DIRECT_POINTERS {

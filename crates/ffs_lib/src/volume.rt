@@ -6,7 +6,7 @@ ghost use Rattle.ffs_format.specs.Entries.{is_name};
 ghost use Rattle.ffs_model.specs.Cuts.{latest};
 ghost use Rattle.ffs_model.specs.Names.{IsInodes};
 ghost use Rattle.ffs_model.specs.Library.{library_layout, inode_mode, IsLibrary, inode_blocks, inode_links};
-ghost use Rattle.ffs_lookup.specs.Newest.{RefusesAs, TakesEntry, create_in, directory_in, first_named, has_empty_pointer, has_inode, has_room, inode_block_in, make_in, root_in, file_in, is_own, listing, named_in, names_at, names_in, read_count, read_into, rename_in, rmdir_in, unlink_in, without_entry, write_in, inode_in};
+ghost use Rattle.ffs_lookup.specs.Newest.{IsLowest, RefusesAs, TakesEntry, create_in, directory_in, first_named, has_empty_pointer, has_inode, has_room, inode_block_in, make_in, root_in, file_in, is_own, listing, named_in, names_at, names_in, read_count, read_into, rename_in, rmdir_in, unlink_in, without_entry, write_in, inode_in};
 ghost use Rattle.ffs_lookup.specs.declared.places.Found.{Found};
 ghost use Rattle.ffs_lookup.specs.declared.places.Slot.{Slot};
 ghost use Rattle.ffs_model.specs.Volumes.{VolumeKeeps, no_edits};
@@ -82,6 +82,7 @@ fn add_names(
 /// A free inode, if there is one; else there is room for another block of inodes.
 fn look_up_free<S: Store>(store: &S, fs: Fs) -> Result<Option<Free>, FfsFault>
     ensures free { IfOk result (λ found. IfSome found (λ free. IsFree (S.state_of store.now) fs.number free)) }
+    ensures lowest { IfOk result (IsLowest (latest (S.state_of store.now).lives) fs.number) }
     ensures pointer { IfOk result (λ found. found ≡ None → (root : ℕ) → Ok root ≡ root_in (latest (S.state_of store.now).lives) fs.number → has_empty_pointer (latest (S.state_of store.now).lives) root ≡ true) }
     ensures exact { IsLibrary (S.types_of store.now) → (root : ℕ) → Ok root ≡ root_in (latest (S.state_of store.now).lives) fs.number → MatchResult result
         (λ _. has_inode (latest (S.state_of store.now).lives) root ≡ true)
@@ -102,6 +103,7 @@ fn look_up_new<S: Store>(
     name: &[u8],
 ) -> Result<Option<Free>, FfsFault>
     ensures free { IfOk result (λ found. IfSome found (λ free. IsFree (S.state_of store.now) fs.number free)) }
+    ensures lowest { IfOk result (IsLowest (latest (S.state_of store.now).lives) fs.number) }
     ensures pointer { IfOk result (λ found. found ≡ None → (root : ℕ) → Ok root ≡ root_in (latest (S.state_of store.now).lives) fs.number → has_empty_pointer (latest (S.state_of store.now).lives) root ≡ true) }
     ensures room { OnOk result (IsLibrary (S.types_of store.now) → (inode : List ℕ) × (Ok inode ≡ directory_in (latest (S.state_of store.now).lives) fs.number directory) × (has_room (latest (S.state_of store.now).lives) inode ≡ true)) }
     ensures name { OnOk result (IsTrue (is_name name.now)) }
@@ -268,6 +270,7 @@ impl Volume {
         requires volume { IsVolume (S.types_of store.old) (S.state_of store.old) self.old }
         requires free { IfSome found (λ free. IsFree (S.state_of store.old) self.old.fs.number free) }
         requires room { found ≡ None → HasFreePointer (newest (S.state_of store.old)) self.old.fs.number }
+        requires lowest { IsLowest (newest (S.state_of store.old)) self.old.fs.number found }
         ensures types { S.types_of store.new ≡ S.types_of store.old }
         ensures fs { self.new.fs ≡ self.old.fs }
         ensures leaves { Leaves (S.types_of store.old) self.new (S.state_of store.new) result (TakesFree (S.state_of store.old) (S.state_of store.new) self.old.fs.number)
@@ -297,7 +300,7 @@ impl Volume {
         ensures fs { self.new.fs ≡ self.old.fs }
         ensures leaves { (inode : List ℕ) → Ok inode ≡ directory_in (newest (S.state_of store.old)) self.old.fs.number directory →
             has_room (newest (S.state_of store.old)) inode ≡ true → Leaves (S.types_of store.old) self.new (S.state_of store.new) result
-            (λ n. MadeEntry (newest (S.state_of store.old)) (newest (S.state_of store.new)) self.old.fs.number directory name.now mode n)
+            (λ n. MadeEntry (newest (S.state_of store.old)) (newest (S.state_of store.new)) self.old.fs.number directory name.now mode n × (n ≡ free.number))
             (StopsNew (S.types_of store.old) self.old.fs.number (S.state_of store.old) (S.state_of store.new) directory mode free.number) }
     {
         has_places(&self.added);
@@ -324,6 +327,7 @@ impl Volume {
     fn add_inodes<S: Store>(&mut self, alloc: Global, store: &mut S) -> Result<Free, FfsFault>
         requires volume { IsVolume (S.types_of store.old) (S.state_of store.old) self.old }
         requires room { HasFreePointer (newest (S.state_of store.old)) self.old.fs.number }
+        requires full { IsLowest (newest (S.state_of store.old)) self.old.fs.number None }
         ensures types { S.types_of store.new ≡ S.types_of store.old }
         ensures fs { self.new.fs ≡ self.old.fs }
         ensures leaves { Leaves (S.types_of store.old) self.new (S.state_of store.new) result (TakesFree (S.state_of store.old) (S.state_of store.new) self.old.fs.number)

@@ -8,7 +8,7 @@ use Rattle.ffs_lib.specs.Edits.{edit_at}
 use Rattle.ffs_lib.specs.Steps.{ShortEdit, Stage, StopsGrowing}
 use Rattle.ffs_lib.specs.Volumes.{edits_of}
 use Rattle.ffs_lib.proofs.Laws.{forgot_stage, same_stage, short_told, stops_err, told_by, true_false}
-use Rattle.ffs_lib.proofs.NameLaws.{not_added, point_free, point_short, point_stage, point_undone, points}
+use Rattle.ffs_lib.proofs.NameLaws.{not_added, point_lowest, point_free, point_short, point_stage, point_undone, points}
 use Rattle.ffs_lib.proofs.Numbers.{first_free, with_one}
 use Rattle.ffs_lib.proofs.Tops.{never}
 use Rattle.ffs_lib.proofs.volume.Volume.add_inodes.Goals as goal
@@ -114,5 +114,5 @@ returns-clause-leaves g c =
     let few = c.in_ok-index.ensures.empty.few in
     let low : index < length volume.added = omega (arith, long, few) in (
       record { library = v.library; keeps = subst (λ (a : ℕ → Option ℕ). VolumeKeeps T library_layout fs a new) (with_one volume.added index low entry) x.0.keeps },
-      record { is = first_free T new fs array index block entry few x.0; stays = x.1 },
+      record { is = first_free T new fs array index block entry few x.0; lowest = point_lowest T fs array zeroth first s c.requires.room block number done c.requires.full index c.in_ok-index.ensures.first; stays = x.1 },
     )

@@ -1,7 +1,7 @@
-use Rattle.std.proofs.Common.{◌∙◌, ap, inl, inr, sym}
+use Rattle.std.proofs.Common.{◌≡◌, ◌∙◌, ap, inl, inr, subst, sym}
 use Rattle.ffs_model.specs.Cuts.{latest}
 use Rattle.ffs_lookup.specs.Newest.{create_in}
-use Rattle.ffs_lib.specs.Results.{MadeEntry}
+use Rattle.ffs_lib.specs.Results.{IsLowestNumber, MadeEntry}
 use Rattle.ffs_lib.specs.Steps.{StopsMaking, StopsNew}
 use Rattle.ffs_lib.specs.Volumes.{edits_of}
 use Rattle.ffs_lib.proofs.Entering.{directory_from, directory_same, stays_made}
@@ -29,7 +29,7 @@ returns-in_err-free-clause-answers g c =
     let looked = create_in (latest old.lives) fs d c.args.name.now in
     let x = is_ok_one looked (c.in_ok-found.ensures.exact c.requires.volume.library) in
     let stop = c.in_err-free.ensures.leaves.1 in
-    answers_ok looked (λ _ n. MadeEntry (latest old.lives) (latest new.lives) fs d c.args.name.now mode n) (λ _ fault. StopsMaking T fs old new d mode fault) c.from_residual-in_err-free.result x.0 old new x.1
+    answers_ok looked (λ _ n. MadeEntry (latest old.lives) (latest new.lives) fs d c.args.name.now mode n × IsLowestNumber (latest old.lives) fs n) (λ _ fault. StopsMaking T fs old new d mode fault) c.from_residual-in_err-free.result x.0 old new x.1
     (stops_err _ (StopsMaking T fs old new d mode) c.from_residual-in_err-free.result _ c.from_residual-in_err-free.ensures.1 (stop.0, inl stop.1))
 
 pub returns-clause-answers : goal.returns-clause-answers
@@ -50,10 +50,11 @@ returns-clause-answers g c =
     let x = is_ok_one (create_in u fs d name) (c.in_ok-found.ensures.exact lib) in
     let dir = c.in_ok-found.ensures.room lib in
     let stays = c.in_ok-free.ensures.leaves.1.stays in
+    let lowest = c.in_ok-free.ensures.leaves.1.lowest in
     let y = named_by (g.S.Store.types_of c.take_free.new.store) T c.take_free.new.self.fs.number fs middle new d name mode number c.name_inode.new.self c.name_inode.result (ap (λ f. f.number) c.take_free.ensures.fs) c.take_free.ensures.types c.name_inode.ensures.leaves (dir.0) (dir.1 ∙ sym (directory_same u v fs d (stays d).0)) (same_room u v fs d dir.0 (stays d) (directory_from u fs d dir.0 dir.1).0 ∙ dir.2) in
-    answers_ok (create_in u fs d name) (λ _ n. MadeEntry u w fs d name mode n) (λ _ fault. StopsMaking T fs old new d mode fault) c.name_inode.result x.0 old new x.1
-    (match_then (λ n. MadeEntry v w fs d name mode n) (λ n. MadeEntry u w fs d name mode n) (StopsNew T fs middle new d mode number) (StopsMaking T fs old new d mode) c.name_inode.result
-    (λ n made. stays_made u v w fs d name mode n stays made) (λ fault r. inr (middle, number, stays, r)) y.1)
+    answers_ok (create_in u fs d name) (λ _ n. MadeEntry u w fs d name mode n × IsLowestNumber u fs n) (λ _ fault. StopsMaking T fs old new d mode fault) c.name_inode.result x.0 old new x.1
+    (match_then (λ n. MadeEntry v w fs d name mode n × (n ≡ number)) (λ n. MadeEntry u w fs d name mode n × IsLowestNumber u fs n) (StopsNew T fs middle new d mode number) (StopsMaking T fs old new d mode) c.name_inode.result
+    (λ n made. (stays_made u v w fs d name mode n stays made.0, subst (IsLowestNumber u fs) (sym made.1) lowest)) (λ fault r. inr (middle, number, stays, lowest, r)) y.1)
 
 pub returns-clause-keeps : goal.returns-clause-keeps
 returns-clause-keeps g c =

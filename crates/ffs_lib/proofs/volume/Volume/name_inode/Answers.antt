@@ -102,5 +102,5 @@ returns-clause-leaves g c = λ inode dir room.
     let s1 : Stage T fs (without_edit array ((n - 1) / 8)) first = record { library = v.library; few = volume.fs.few; keeps = k.is.forgets } in
     let x = c.in_ok-enter.ensures.ends T (without_edit array ((n - 1) / 8)) inode c.put_inode.ensures.types s1 may named.0 (named.1 ∙ room) in (
       record { library = v.library; keeps = subst (λ (a : ℕ → Option ℕ). VolumeKeeps T library_layout fs a second) (ap (without_edit array) (sym home) ∙ without_one volume.added index low) x.0.keeps },
-      made_then (latest zeroth.lives) (latest first.lives) (latest second.lives) fs c.args.directory c.args.name.now c.args.mode n (free_none zeroth fs free c.requires.free) k.here k.others (x.1.0.more, x.1.0.others) inode dir,
+      (made_then (latest zeroth.lives) (latest first.lives) (latest second.lives) fs c.args.directory c.args.name.now c.args.mode n (free_none zeroth fs free c.requires.free) k.here k.others (x.1.0.more, x.1.0.others) inode dir, refl),
     )
