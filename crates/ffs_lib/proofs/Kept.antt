@@ -50,3 +50,8 @@ on_ok (Err e) p = tt
 pub handed_on : {A E : Type 0} (P : Type 0) (answer result : Result A E) → IfOk result (λ value. answer ≡ Ok value) → OnOk answer P → OnOk result P
 handed_on P answer (Err e) is h = tt
 handed_on {A} {E} P answer (Ok x) is h = subst (λ (r : Result A E). OnOk r P) is h
+
+-- what holds of a state that is handed on where it is Ok
+pub kept_ok : {A E : Type 0} (P : StoreState → Type 0) (second third : StoreState) (made result : Result A E) → result ≡ made → OnOk result (third ≡ second) → OnOk made (P second) → OnOk result (P third)
+kept_ok P second third made (Err e) same ok p = tt
+kept_ok {A} {E} P second third made (Ok x) same ok p = subst P (sym ok) (subst (λ (r : Result A E). OnOk r (P second)) (sym same) p)

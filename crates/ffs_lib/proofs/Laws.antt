@@ -26,7 +26,7 @@ use Rattle.ffs_lookup.proofs.ForCallers.{block_again, gives_err, gives_ok, same_
 use Rattle.ffs_lib.specs.Edits.{data_of_inode, data_of_pointers, edit_at}
 use Rattle.ffs_lib.specs.Outcomes.{CanEdit, HasNoData}
 use Rattle.ffs_lib.specs.Results.{AsBefore, IsAs, SameInode, TookLink, place_in}
-use Rattle.ffs_lib.specs.Steps.{AddsLink, Answers, Attached, ClearedPointers, Clearing, Dropped, Ends, IsHome, MayLose, MayName, Proposed, Removable, Removed, ShortEdit, Stage, Stops, StopsAtHome, StopsRemoving, StopsTaking, StopsUnnaming, TakesLink, Tells, Unlisted, Wants, clearing, left_by}
+use Rattle.ffs_lib.specs.Steps.{AddsLink, Answers, Attached, ClearedPointers, Clearing, Dropped, Ends, IsHome, LastForgets, MayLose, MayName, Proposed, Removable, Removed, ShortEdit, Stage, Stops, StopsAtHome, StopsRemoving, StopsTaking, StopsUnnaming, TakesLink, Tells, Undoes, Unlisted, Wants, clearing, left_by}
 use Rattle.ffs_lib.specs.Volumes.{IsVolume, edits_of}
 use Rattle.ffs_lib.specs.declared.volume.Volume.{Volume}
 use Rattle.ffs_lib.proofs.Dropping.{cleared_owns, no_pairs, put_whole}
@@ -372,6 +372,11 @@ stops_removing T fs old new d slot own is has fault x = elim x [
   | inl p ↦ inl p
   | inr q ↦ inr (q.0, unlisted (latest old.lives) (latest q.0.lives) fs d slot own is has q.1, q.2)
 ]
+
+-- a block was begun, and forgotten last
+pub undoes : (T : Types) (fs : ℕ) (old first new : StoreState) (block number : ℕ) (given bytes : List ℕ) → given ≡ bytes → Gives (init_of T old fs 4 given) old first (Ok (block, number)) → LastForgets T fs block new → Undoes T fs old new 4 bytes
+undoes T fs old first new block number given bytes same gives last =
+    inr (block, number, first, ap (λ (m : List ℕ). init_of T old fs 4 m) (sym same) ∙ gives_ok (init_of T old fs 4 given) old first (block, number) gives, last)
 
 -- What is left where a link could not be taken
 

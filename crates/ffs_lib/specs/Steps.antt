@@ -212,6 +212,15 @@ pub record Undone (T : Types) (fs : ℕ) (old new : StoreState) (ty : ℕ) (byte
   pub forgotten : new ≡ left_by (forget_of T first fs block) first
   pub wants : Wants T first fs home fault
 
+-- a block was forgotten last, if the store takes that
+abbrev pub LastForgets : Types → ℕ → ℕ → StoreState → Type 0
+LastForgets T fs block new = (last : StoreState) × (new ≡ left_by (forget_of T last fs block) last)
+
+-- nothing changed, or a block was begun, and forgotten last
+abbrev pub Undoes : Types → ℕ → StoreState → StoreState → ℕ → List ℕ → Type 0
+Undoes T fs old new ty bytes =
+    (new ≡ old) ⊎ ((block : ℕ) × (number : ℕ) × (first : StoreState) × (init_of T old fs ty bytes ≡ Ok ((block, number), first)) × LastForgets T fs block new)
+
 -- so it is, or the new block was not begun
 abbrev pub StopsAttaching : Types → ℕ → StoreState → StoreState → ℕ → List ℕ → ℕ → FfsFault → Type 0
 StopsAttaching T fs old new ty bytes home fault = ((new ≡ old) × Tells (init_of T old fs ty bytes) fault) ⊎ Undone T fs old new ty bytes home fault

@@ -211,9 +211,11 @@ fn grow<S: Store>(
 ) -> Result<EditId, FfsFault>
     requires { index < 12 }
     ensures types { S.types_of store.new ≡ S.types_of store.old }
-    ensures ends { (T : Types) (array : ℕ → Option ℕ) (directory name : List ℕ) (n : ℕ) → S.types_of store.old ≡ T → Stage T fs.number array (S.state_of store.old) →
+    ensures ends { (T : Types) (array : ℕ → Option ℕ) (directory name : List ℕ) (n : ℕ) → S.types_of store.old ≡ T →
+        Stage T fs.number array (S.state_of store.old) →
         MayName (S.state_of store.old) fs.number n after → Ok directory ≡ directory_in (newest (S.state_of store.old)) fs.number number →
-        Some (Room.Pointer index) ≡ room_in (newest (S.state_of store.old)) directory → direct_in directory index ≡ 0 → IsEntry entry.now n name → Ends T fs.number array (S.state_of store.new) result
+        Some (Room.Pointer index) ≡ room_in (newest (S.state_of store.old)) directory → direct_in directory index ≡ 0 → IsEntry entry.now n name →
+        Ends T fs.number array (S.state_of store.new) result
         (Enters (S.state_of store.old) (S.state_of store.new) fs.number number name n)
         (StopsEntering T fs.number (S.state_of store.old) (S.state_of store.new) number) }
 {
@@ -297,7 +299,8 @@ pub fn add_link<S: Store>(
 ) -> Result<EditId, FfsFault>
     ensures types { S.types_of store.new ≡ S.types_of store.old }
     ensures ends { (T : Types) (array : ℕ → Option ℕ) (inode : List ℕ) → S.types_of store.old ≡ T → Stage T fs.number array (S.state_of store.old) →
-        Ok inode ≡ inode_in (newest (S.state_of store.old)) fs.number number → inode_links inode ≢ 65535 → Ends T fs.number array (S.state_of store.new) result
+        Ok inode ≡ inode_in (newest (S.state_of store.old)) fs.number number → inode_links inode ≢ 65535 →
+        Ends T fs.number array (S.state_of store.new) result
         (λ e. MayName (S.state_of store.new) fs.number number e × AddsLink (newest (S.state_of store.old)) (newest (S.state_of store.new)) fs.number number)
         (StopsAtHome T fs.number (S.state_of store.old) (S.state_of store.new) number) }
 {

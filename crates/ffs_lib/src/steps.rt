@@ -38,7 +38,8 @@ pub fn forgotten<S: Store, A>(
     ensures same { result ≡ attached }
     ensures ok { OnOk result (S.state_of store.new ≡ S.state_of store.old) }
     ensures keeps { Keeps (S.types_of store.old) fs.number (S.state_of store.old) (S.state_of store.new) }
-    ensures forgotten { OnErr result (S.state_of store.new ≡ left_by (forget_of (S.types_of store.old) (S.state_of store.old) fs.number block) (S.state_of store.old)) }
+    ensures forgotten { OnErr result (S.state_of store.new ≡ left_by (forget_of (S.types_of store.old) (S.state_of store.old) fs.number block)
+        (S.state_of store.old)) }
 {
     if attached.is_err() {
         let _ = store.forget(fs, block);

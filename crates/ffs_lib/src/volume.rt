@@ -5,17 +5,18 @@ ghost use Rattle.std.specs.List.{range_with_len};
 ghost use Rattle.ffs_format.specs.Entries.{is_name};
 ghost use Rattle.ffs_model.specs.Cuts.{latest};
 ghost use Rattle.ffs_model.specs.Names.{IsInodes};
-ghost use Rattle.ffs_model.specs.Library.{library_layout, inode_mode, IsLibrary, inode_blocks, inode_links};
+ghost use Rattle.ffs_model.specs.Library.{library_layout, inode_mode, IsLibrary, inode_blocks, inode_links, zeros};
+ghost use Rattle.xn_model.specs.Lists.{put};
 ghost use Rattle.ffs_lookup.specs.Newest.{IsLowest, RefusesAs, TakesEntry, create_in, directory_in, first_named, has_empty_pointer, has_inode, has_room, inode_block_in, make_in, root_in, file_in, is_own, listing, named_in, names_at, names_in, read_count, read_into, rename_in, rmdir_in, unlink_in, without_entry, write_in, inode_in};
 ghost use Rattle.ffs_lookup.specs.declared.places.Found.{Found};
 ghost use Rattle.ffs_lookup.specs.declared.places.Slot.{Slot};
 ghost use Rattle.ffs_model.specs.Volumes.{VolumeKeeps, no_edits};
 ghost use Rattle.ffs_lookup.specs.Places.{IsDirectory, IsFree, IsSlot};
 ghost use Rattle.ffs_lib.specs.Outcomes.{HasFreePointer, OnlyShort};
-ghost use Rattle.ffs_lib.specs.Steps.{Creates, Ends, Leaves, NamesAgain, Renames, Stage, StopsGrowing, StopsNaming, StopsNew, StopsUnnaming, TakesFree, Unlinks, Unmakes, Unnamed, newest};
+ghost use Rattle.ffs_lib.specs.Steps.{Creates, Ends, Leaves, NamesAgain, Renames, Stage, StopsGrowing, StopsNaming, StopsNew, StopsUnnaming, TakesFree, Undoes, Unlinks, Unmakes, Unnamed, newest};
 ghost use Rattle.xn_model.specs.Types.{Types};
 ghost use Rattle.xn_model.specs.Calls.{was_given};
-ghost use Rattle.ffs_lib.specs.Results.{IsWritten, MadeEntry, MadeVolume, MovedEntry, OnlyChanges, OthersSame, TookLink};
+ghost use Rattle.ffs_lib.specs.Results.{new_inode, IsWritten, MadeEntry, MadeVolume, MovedEntry, OnlyChanges, OthersSame, TookLink};
 
 use crate::data::{BLOCK_LEN, FILE_BLOCKS, raise_size, read_part, write_block};
 use crate::put::{add_link, attach, empty_inode, enter, put, put_inode, take_link};
@@ -66,7 +67,8 @@ fn add_names(
     block: &[u8; 512],
     names: &mut Vec<(Vec<u8>, u16)>,
 ) -> Result<(), AllocError>
-    ensures { OnOk result (map (λ name. (name.0.items, name.1)) names.new.items ≡ map (λ name. (name.0.items, name.1)) names.old.items ++ names_at block.now (range_with_len 0 16)) }
+    ensures { OnOk result (map (λ name. (name.0.items, name.1)) names.new.items
+        ≡ map (λ name. (name.0.items, name.1)) names.old.items ++ names_at block.now (range_with_len 0 16)) }
 {
     for place in 0..ENTRIES {
         let inode = entry_inode(block, place);
@@ -83,7 +85,8 @@ fn add_names(
 fn look_up_free<S: Store>(store: &S, fs: Fs) -> Result<Option<Free>, FfsFault>
     ensures free { IfOk result (λ found. IfSome found (λ free. IsFree (S.state_of store.now) fs.number free)) }
     ensures lowest { IfOk result (IsLowest (latest (S.state_of store.now).lives) fs.number) }
-    ensures pointer { IfOk result (λ found. found ≡ None → (root : ℕ) → Ok root ≡ root_in (latest (S.state_of store.now).lives) fs.number → has_empty_pointer (latest (S.state_of store.now).lives) root ≡ true) }
+    ensures pointer { IfOk result (λ found. found ≡ None → (root : ℕ) → Ok root ≡ root_in (latest (S.state_of store.now).lives) fs.number →
+        has_empty_pointer (latest (S.state_of store.now).lives) root ≡ true) }
     ensures exact { IsLibrary (S.types_of store.now) → (root : ℕ) → Ok root ≡ root_in (latest (S.state_of store.now).lives) fs.number → MatchResult result
         (λ _. has_inode (latest (S.state_of store.now).lives) root ≡ true)
         (λ fault. (fault ≡ FfsFault.NoInode) × (has_inode (latest (S.state_of store.now).lives) root ≡ false)) }
@@ -104,8 +107,11 @@ fn look_up_new<S: Store>(
 ) -> Result<Option<Free>, FfsFault>
     ensures free { IfOk result (λ found. IfSome found (λ free. IsFree (S.state_of store.now) fs.number free)) }
     ensures lowest { IfOk result (IsLowest (latest (S.state_of store.now).lives) fs.number) }
-    ensures pointer { IfOk result (λ found. found ≡ None → (root : ℕ) → Ok root ≡ root_in (latest (S.state_of store.now).lives) fs.number → has_empty_pointer (latest (S.state_of store.now).lives) root ≡ true) }
-    ensures room { OnOk result (IsLibrary (S.types_of store.now) → (inode : List ℕ) × (Ok inode ≡ directory_in (latest (S.state_of store.now).lives) fs.number directory) × (has_room (latest (S.state_of store.now).lives) inode ≡ true)) }
+    ensures pointer { IfOk result (λ found. found ≡ None → (root : ℕ) → Ok root ≡ root_in (latest (S.state_of store.now).lives) fs.number →
+        has_empty_pointer (latest (S.state_of store.now).lives) root ≡ true) }
+    ensures room { OnOk result (IsLibrary (S.types_of store.now) → (inode : List ℕ)
+        × (Ok inode ≡ directory_in (latest (S.state_of store.now).lives) fs.number directory)
+        × (has_room (latest (S.state_of store.now).lives) inode ≡ true)) }
     ensures name { OnOk result (IsTrue (is_name name.now)) }
     ensures exact { IsLibrary (S.types_of store.now) → MatchResult result
         (λ _. IsOk (create_in (latest (S.state_of store.now).lives) fs.number directory name.now))
@@ -175,10 +181,12 @@ impl Volume {
         ensures short { (begun : Bool) → Ok begun ≡ make_in (latest (S.state_of store.old).lives) fs.number → OnlyShort result }
         ensures made { OnOk result (MadeVolume (latest (S.state_of store.old).lives) (latest (S.state_of store.new).lives) fs.number) }
         ensures err { OnErr result (VolumeKeeps (S.types_of store.old) library_layout fs.number no_edits (S.state_of store.new)) }
+        ensures forgotten { OnErr result (Undoes (S.types_of store.old) fs.number (S.state_of store.old)
+            (S.state_of store.new) INODE_BLOCK (put zeros 0 (new_inode 2))) }
     {
         let begun = is_begun(store, fs)?;
         let (block, _) = store.init(fs, INODE_BLOCK, &first_inodes())?;
-        prepare_root(store, fs, begun)?;
+        prepare_root(store, fs, begun, block)?;
         let attached = attach_first(alloc, store, fs, block);
         forgotten(store, fs, block, attached)?;
         Ok(Volume {
@@ -233,7 +241,8 @@ impl Volume {
         requires { IsVolume (S.types_of store.old) (S.state_of store.old) self.old }
         ensures types { S.types_of store.new ≡ S.types_of store.old }
         ensures fs { self.new.fs ≡ self.old.fs }
-        ensures answers { Creates (S.types_of store.old) self.old.fs.number directory name.now DIRECTORY (S.state_of store.old) (S.state_of store.new) result }
+        ensures answers { Creates (S.types_of store.old) self.old.fs.number directory name.now DIRECTORY (S.state_of store.old)
+            (S.state_of store.new) result }
         ensures keeps { IsVolume (S.types_of store.old) (S.state_of store.new) self.new }
     {
         self.make_entry(alloc, store, directory, name, DIRECTORY)
@@ -273,7 +282,8 @@ impl Volume {
         requires lowest { IsLowest (newest (S.state_of store.old)) self.old.fs.number found }
         ensures types { S.types_of store.new ≡ S.types_of store.old }
         ensures fs { self.new.fs ≡ self.old.fs }
-        ensures leaves { Leaves (S.types_of store.old) self.new (S.state_of store.new) result (TakesFree (S.state_of store.old) (S.state_of store.new) self.old.fs.number)
+        ensures leaves { Leaves (S.types_of store.old) self.new (S.state_of store.new) result
+            (TakesFree (S.state_of store.old) (S.state_of store.new) self.old.fs.number)
             (StopsGrowing (S.types_of store.old) self.old.fs.number (S.state_of store.old) (S.state_of store.new)) }
     {
         match found {
@@ -330,7 +340,8 @@ impl Volume {
         requires full { IsLowest (newest (S.state_of store.old)) self.old.fs.number None }
         ensures types { S.types_of store.new ≡ S.types_of store.old }
         ensures fs { self.new.fs ≡ self.old.fs }
-        ensures leaves { Leaves (S.types_of store.old) self.new (S.state_of store.new) result (TakesFree (S.state_of store.old) (S.state_of store.new) self.old.fs.number)
+        ensures leaves { Leaves (S.types_of store.old) self.new (S.state_of store.new) result
+            (TakesFree (S.state_of store.old) (S.state_of store.new) self.old.fs.number)
             (StopsGrowing (S.types_of store.old) self.old.fs.number (S.state_of store.old) (S.state_of store.new)) }
     {
         has_places(&self.added);
@@ -370,8 +381,10 @@ impl Volume {
     ) -> Result<(), FfsFault>
         requires volume { IsVolume (S.types_of store.old) (S.state_of store.old) self.now }
         ensures types { S.types_of store.new ≡ S.types_of store.old }
-        ensures faults { RefusesAs (write_in (latest (S.state_of store.old).lives) self.now.fs.number inode (offset + length bytes.now)) (S.state_of store.old) (S.state_of store.new) result }
-        ensures short { (file : List ℕ) → Ok file ≡ write_in (latest (S.state_of store.old).lives) self.now.fs.number inode (offset + length bytes.now) → OnlyShort result }
+        ensures faults { RefusesAs (write_in (latest (S.state_of store.old).lives) self.now.fs.number inode (offset + length bytes.now))
+            (S.state_of store.old) (S.state_of store.new) result }
+        ensures short { (file : List ℕ) → Ok file ≡ write_in (latest (S.state_of store.old).lives) self.now.fs.number inode (offset + length bytes.now) →
+            OnlyShort result }
         ensures written { OnOk result ((file : List ℕ) → Ok file ≡ file_in (latest (S.state_of store.old).lives) self.now.fs.number inode →
             IsWritten (latest (S.state_of store.old).lives) (latest (S.state_of store.new).lives) self.now.fs.number inode file offset bytes.now) }
         ensures others { OnOk result (OnlyChanges (latest (S.state_of store.old).lives) (latest (S.state_of store.new).lives) self.now.fs.number inode) }
@@ -429,9 +442,11 @@ impl Volume {
         offset: u32,
         bytes: &mut [u8],
     ) -> Result<usize, FfsFault>
-        ensures exact { IsLibrary (S.types_of store.now) → result ≡ read_count (length bytes.old) offset (file_in (latest (S.state_of store.now).lives) self.now.fs.number inode) }
+        ensures exact { IsLibrary (S.types_of store.now) →
+            result ≡ read_count (length bytes.old) offset (file_in (latest (S.state_of store.now).lives) self.now.fs.number inode) }
         ensures bytes { IsLibrary (S.types_of store.now) →
-            bytes.new ≡ read_into (latest (S.state_of store.now).lives) bytes.old offset (file_in (latest (S.state_of store.now).lives) self.now.fs.number inode) }
+            bytes.new ≡ read_into (latest (S.state_of store.now).lives) bytes.old offset
+            (file_in (latest (S.state_of store.now).lives) self.now.fs.number inode) }
     {
         let file = find_file(store, self.fs, inode)?;
         let end = (file.inode.size() as usize).min(MOST_BYTES);
@@ -548,8 +563,10 @@ impl Volume {
     ) -> Result<(), FfsFault>
         requires { IsSlot (S.state_of store.old) self.now.fs.number slot }
         ensures types { S.types_of store.new ≡ S.types_of store.old }
-        ensures ends { (T : Types) (array : ℕ → Option ℕ) → S.types_of store.old ≡ T → Stage T self.now.fs.number array (S.state_of store.old) → IsTrue (was_given (S.state_of store.old) after) →
-            Ends T self.now.fs.number array (S.state_of store.new) result (λ _. Unnamed (newest (S.state_of store.old)) (newest (S.state_of store.new)) self.now.fs.number slot)
+        ensures ends { (T : Types) (array : ℕ → Option ℕ) → S.types_of store.old ≡ T → Stage T self.now.fs.number array (S.state_of store.old) →
+            IsTrue (was_given (S.state_of store.old) after) →
+            Ends T self.now.fs.number array (S.state_of store.new) result
+            (λ _. Unnamed (newest (S.state_of store.old)) (newest (S.state_of store.new)) self.now.fs.number slot)
             (StopsUnnaming T self.now.fs.number (S.state_of store.old) (S.state_of store.new) slot) }
     {
         let at = ENTRY_LEN * slot.place;
@@ -579,7 +596,8 @@ impl Volume {
     ) -> Result<Slot, FfsFault>
         ensures slot { IfOk result (λ slot. IsSlot (S.state_of store.now) self.now.fs.number slot) }
         ensures name { OnOk result (IsTrue (is_name new_name.now)) }
-        ensures exact { IsLibrary (S.types_of store.now) → result ≡ rename_in (latest (S.state_of store.now).lives) self.now.fs.number directory name.now other new_name.now }
+        ensures exact { IsLibrary (S.types_of store.now) →
+            result ≡ rename_in (latest (S.state_of store.now).lives) self.now.fs.number directory name.now other new_name.now }
     {
         let from = find_inode(store, self.fs, directory)?;
         let to = find_inode(store, self.fs, other)?;
@@ -619,7 +637,8 @@ impl Volume {
     ) -> Result<(), FfsFault>
         requires { IsVolume (S.types_of store.old) (S.state_of store.old) self.now }
         ensures types { S.types_of store.new ≡ S.types_of store.old }
-        ensures answers { Renames (S.types_of store.old) self.now.fs.number directory name.now other new_name.now (S.state_of store.old) (S.state_of store.new) result }
+        ensures answers { Renames (S.types_of store.old) self.now.fs.number directory name.now other new_name.now (S.state_of store.old)
+            (S.state_of store.new) result }
         ensures keeps { IsVolume (S.types_of store.old) (S.state_of store.new) self.now }
     {
         let slot = self.look_up_move(store, directory, name, other, new_name)?;
@@ -639,10 +658,12 @@ impl Volume {
     ) -> Result<EditId, FfsFault>
         requires { IsTrue (is_name name.now) }
         ensures types { S.types_of store.new ≡ S.types_of store.old }
-        ensures ends { (T : Types) (array : ℕ → Option ℕ) (own to : List ℕ) → S.types_of store.old ≡ T → Stage T self.now.fs.number array (S.state_of store.old) →
+        ensures ends { (T : Types) (array : ℕ → Option ℕ) (own to : List ℕ) → S.types_of store.old ≡ T →
+            Stage T self.now.fs.number array (S.state_of store.old) →
             Ok own ≡ inode_in (newest (S.state_of store.old)) self.now.fs.number inode → inode_links own ≢ 65535 →
             Ok to ≡ directory_in (newest (S.state_of store.old)) self.now.fs.number directory → has_room (newest (S.state_of store.old)) to ≡ true →
-            Ends T self.now.fs.number array (S.state_of store.new) result (NamesAgain (S.state_of store.old) (S.state_of store.new) self.now.fs.number directory name.now inode)
+            Ends T self.now.fs.number array (S.state_of store.new) result
+            (NamesAgain (S.state_of store.old) (S.state_of store.new) self.now.fs.number directory name.now inode)
             (StopsNaming T self.now.fs.number (S.state_of store.old) (S.state_of store.new) directory inode) }
     {
         let added = add_link(alloc, store, self.fs, inode)?;
@@ -656,8 +677,10 @@ impl Volume {
         store: &S,
         directory: u16,
     ) -> Result<Vec<(Vec<u8>, u16)>, FfsFault>
-        ensures names { IsLibrary (S.types_of store.now) → IfOk result (λ names. Ok (map (λ name. (name.0.items, name.1)) names.items) ≡ names_in (latest (S.state_of store.now).lives) self.now.fs.number directory) }
-        ensures faults { IsLibrary (S.types_of store.now) → IfErr result (λ fault. (fault ≡ FfsFault.Kernel Refusal.NoMemory) ⊎ (Err fault ≡ names_in (latest (S.state_of store.now).lives) self.now.fs.number directory)) }
+        ensures names { IsLibrary (S.types_of store.now) → IfOk result (λ names.
+            Ok (map (λ name. (name.0.items, name.1)) names.items) ≡ names_in (latest (S.state_of store.now).lives) self.now.fs.number directory) }
+        ensures faults { IsLibrary (S.types_of store.now) → IfErr result (λ fault. (fault ≡ FfsFault.Kernel Refusal.NoMemory)
+            ⊎ (Err fault ≡ names_in (latest (S.state_of store.now).lives) self.now.fs.number directory)) }
     {
         let found = find_directory(store, self.fs, directory)?;
         let mut names = Vec::new(alloc);
