@@ -70,14 +70,3 @@ passes (Err fault) result old new ok h = absurd (no ok)
   where
     no : false ≡ true → ⊥
     no f = cc
-
-pub in_a_directory : (content : ℕ → List ℕ) (fs d : ℕ) (name : List ℕ) → IsOk (create_in content fs d name) → (inode : List ℕ) × (Ok inode ≡ directory_in content fs d)
-unfolding create_in
-in_a_directory content fs d name ok = go (directory_in content fs d) refl ok
-  where
-    go : (r : Result (List ℕ) FfsFault) → r ≡ directory_in content fs d → IsOk (and_then r (if_new content fs name)) → (inode : List ℕ) × (Ok inode ≡ directory_in content fs d)
-    go (Ok inode) e ok = (inode, e)
-    go (Err fault) e ok = absurd (no ok)
-      where
-        no : false ≡ true → ⊥
-        no f = cc

@@ -25,10 +25,11 @@ use Rattle.ffs_lookup.proofs.ForCallers.{gives_ok}
 use Rattle.ffs_lib.specs.Edits.{edit_at}
 use Rattle.ffs_lib.specs.Outcomes.{CanEdit, HasPointers, OnlyShort}
 use Rattle.ffs_lib.proofs.Edited.{done_by}
+use Rattle.ffs_lib.proofs.Fields.{direct_get}
 use Rattle.ffs_lib.proofs.Owners.{block_at, direct_block, stands_from}
 use Rattle.ffs_lib.proofs.Same.{begun, none_touched}
 use Rattle.ffs_lib.proofs.Short.{ShortEdit, attached_short, begun_addable, handed, handed_on, kept_short, pairs_kept, pairs_set, refusal_short, short_fault}
-use Rattle.ffs_lib.proofs.Writing.{direct_get, file_from, file_same}
+use Rattle.ffs_lib.proofs.Writing.{file_from, file_same}
 
 -- What the store answers
 

@@ -2,7 +2,7 @@
 use Rattle.std.proofs.Common.{◌≡◌, ◌≢◌, ℕ, zero, suc, ◌+◌, ◌*◌, length, List, [], ◌∷◌, ◌++◌, Option, Some, None, refl, ◌∙◌, ap, arith}
 use Rattle.std.specs.Prelude.{filter_map, option_to_list}
 use Rattle.std.specs.List.{range_with_len, cons_option}
-use Rattle.std.proofs.lemmas.List.{map-append}
+use Rattle.std.proofs.lemmas.List.{append-nil, drop_all, length-append, map-append}
 use Rattle.xn_model.specs.Types.{Types}
 use Rattle.xn_model.specs.Lists.{blocks_of, put}
 use Rattle.xn_model.specs.Root.{word_at, unless_empty}
@@ -44,6 +44,9 @@ module _ (word : ℕ → ℕ) (ty : ℕ) where
   pub words_more : (k next : ℕ) → next ≡ k + 1 → word k ≢ 0 → blocks_of (pointed word next ty) ≡ blocks_of (pointed word k ty) ++ word k ∷ []
   words_more k next e some = blocks_more k next e ∙ ap (λ o. blocks_of (pointed word k ty) ++ blocks_of (option_to_list o)) (is_not_empty (word k, ty) some)
 
+  pub counted_more : (k next : ℕ) → next ≡ k + 1 → word k ≢ 0 → length (blocks_of (pointed word next ty)) ≡ length (blocks_of (pointed word k ty)) + 1
+  counted_more k next e some = ap (λ (bs : List ℕ). length bs) (words_more k next e some) ∙ length-append (blocks_of (pointed word k ty)) (word k ∷ [])
+
 -- and the block of pointers
 inode_more : (inode : List ℕ) → data_of_inode inode ≡ blocks_of (pointed (direct_in inode) 12 2) ++ blocks_of (option_to_list (unless_empty (word_at inode 56, 5)))
 inode_more inode = map-append (λ (p : ℕ × ℕ). p.0) (pointed (direct_in inode) 12 2) (option_to_list (unless_empty (word_at inode 56, 5)))
@@ -61,6 +64,11 @@ inode_with inode some = inode_more inode ∙ ap (λ o. blocks_of (pointed (direc
 pub no_pairs : (ps : List (ℕ × ℕ)) → length (blocks_of ps) ≡ 0 → ps ≡ []
 no_pairs [] e = refl
 no_pairs (p ∷ ps) e = absurd (omega (arith, e))
+
+-- bytes that are written over all of it
+pub put_whole : (m bs : List ℕ) → length m ≡ length bs → put m 0 bs ≡ bs
+put_whole [] bs e = ap (λ d. bs ++ d) (drop_all {X = ℕ} (0 + length bs) [] (omega (arith, e))) ∙ append-nil bs
+put_whole (x ∷ xs) bs e = ap (λ d. bs ++ d) (drop_all (0 + length bs) (x ∷ xs) (omega (arith, e))) ∙ append-nil bs
 
 -- a block of pointers that was cleared owns nothing
 pub cleared_owns : (T : Types) → IsLibrary T → (m : List ℕ) → length m ≡ 512 → T.owned 5 (put m 0 zeros) ≡ []

@@ -1,14 +1,13 @@
 -- What an edit of an inode, or of a directory's entries, leaves in the newest bytes.
-use Rattle.std.proofs.Common.{◌≡◌, ◌≢◌, ℕ, zero, suc, ◌+◌, ◌-◌, ◌*◌, ◌/◌, ◌%◌, ◌<◌, ◌≤◌, Bool, true, List, [], ◌∷◌, length, take, drop, get_or, map, Option, Ok, Err, refl, sym, ◌∙◌, ap, arith, subst}
-use Rattle.std.specs.Prelude.{Contains, OnOk, Result, ◌==◌, filter_map, if◌then◌else◌, IsTrue}
-use Rattle.std.specs.List.{range_with_len}
+use Rattle.std.proofs.Common.{◌≡◌, ◌≢◌, ℕ, ◌+◌, ◌-◌, ◌*◌, ◌/◌, ◌%◌, ◌<◌, ◌≤◌, Bool, true, List, [], ◌∷◌, length, take, drop, Option, Some, Ok, Err, refl, sym, ◌∙◌, ap, arith, inl, inr}
+use Rattle.std.specs.Prelude.{Contains, Result, ◌==◌, filter_map, if◌then◌else◌, IsTrue, slice_set}
+use Rattle.std.specs.List.{list_any, range_with_len}
 use Rattle.std.proofs.Math.Seq.{take-length}
 use Rattle.std.proofs.lemmas.Bool.{eqb-true, lt-ltb}
 use Rattle.xn_model.specs.Types.{Types}
 use Rattle.xn_model.specs.Lists.{blocks_of, distinct, put}
 use Rattle.xn_model.specs.Lives.{StoreState}
 use Rattle.xn_model.specs.Calls.{init_of, propose_of}
-use Rattle.xn_model.specs.Results.{Gives}
 use Rattle.xn_model.specs.Rules.{IsConsistent}
 use Rattle.ffs_model.specs.Cuts.{latest}
 use Rattle.ffs_model.specs.Names.{IsInodes}
@@ -21,18 +20,21 @@ use Rattle.ffs_lookup.specs.declared.fault.FfsFault.TheVariants.{NoEntry, NotDir
 use Rattle.ffs_lookup.specs.declared.places.Free.{Free}
 use Rattle.ffs_lookup.specs.declared.places.Slot.{Slot}
 use Rattle.ffs_lib.specs.Edits.{edit_at}
-use Rattle.ffs_lookup.specs.Newest.{and_then, directory_in, file_block, if_directory, inode_block_in, inode_in, listing, unless_unused}
-use Rattle.ffs_lib.specs.Outcomes.{Enters, GrowsDirectory, IsGrown, Stays}
+use Rattle.ffs_lookup.specs.Newest.{and_then, directory_in, file_block, if_directory, inode_block_in, inode_in, is_at, listing, room_in, unless_unused}
+use Rattle.ffs_lookup.specs.declared.places.Room.TheVariants.{Entry, Pointer}
+use Rattle.ffs_lib.specs.Outcomes.{IsGrown}
 use Rattle.ffs_lookup.specs.Places.{IsFree, IsPlace}
-use Rattle.ffs_lib.specs.Results.{HasMore, MadeEntry, SameInode, new_inode}
-use Rattle.ffs_lib.proofs.Fields.{blocks_are, set_words}
+use Rattle.ffs_lib.specs.Results.{HasMore, MadeEntry, SameContents, SameInode, new_inode, place_in}
+use Rattle.ffs_lib.proofs.Fields.{blocks_are, get_mapped, set_words}
 use Rattle.ffs_lib.proofs.Firsts.{first_more}
+use Rattle.ffs_lib.proofs.Alone.{none_listed}
 use Rattle.ffs_lib.proofs.Frames.{listed_at, listed_blocks, listed_in, listing_same}
 use Rattle.ffs_lib.proofs.Listed.{fits_newest}
 use Rattle.ffs_lib.proofs.More.{OneMore, block_more, blocks_more, lists_more, more_by, one_listed, words_more}
-use Rattle.ffs_lookup.proofs.ForCallers.{block_again, free_mode, gives_ok, good_number, in_inode_block, same_ok, unused_is, used_is}
+use Rattle.ffs_lookup.proofs.ForCallers.{block_again, free_mode, good_number, in_inode_block, same_ok, unused_is, used_is}
+use Rattle.ffs_lib.proofs.Rooms.{place_by, placed_before}
 use Rattle.ffs_lib.proofs.Owners.{Stands, block_at, block_from, direct_block, only_first, passed, stands_from}
-use Rattle.ffs_lib.proofs.Same.{Touches, begun, begun_some, block_same, data_touched, edited, inode_touched, inodes_same, none_touched, same_on}
+use Rattle.ffs_lib.proofs.Same.{Touches, begun, block_same, data_touched, edited, inode_touched, inodes_same, none_touched, same_on}
 
 -- A directory is an inode in use
 
@@ -81,6 +83,14 @@ module _ (T : Types) (lib : IsLibrary T) (state new : StoreState) (h : IsConsist
   inode_used : n ≤ 128 → inode_mode bytes ≢ 0 → inode_in (latest new.lives) fs n ≡ Ok bytes
   inode_used low used = sym (used_is bytes used ∙ read_again low)
 
+  pub place_put : place_in (latest new.lives) fs n ≡ Ok bytes
+  place_put =
+      let w = latest new.lives in
+      let j : ℕ = (n - 1) / 8 in
+      let found : Ok block ≡ inode_block_in w fs j = block_again (latest state.lives) fs j block stands.inodes ∙ sym (block_same T lib (latest state.lives) w fs block 4 home_touched (λ z. omega (arith, z)) j) in
+      ap (λ (r : Result ℕ FfsFault). and_then r (λ b. Ok (inode_at (w b) ((n - 1) % 8)))) (sym found)
+      ∙ (ap (λ p. Ok (inode_at (w block) p)) (sym stands.at) ∙ ap (λ (m : List ℕ). Ok m) written)
+
   pub inode_gone : n ≤ 128 → inode_mode bytes ≡ 0 → inode_in (latest new.lives) fs n ≡ Err NoEntry
   inode_gone low unused = sym (unused_is bytes unused ∙ read_again low)
 
@@ -111,10 +121,10 @@ module _ (T : Types) (lib : IsLibrary T) (state new : StoreState) (h : IsConsist
       ap (λ m. distinct (inode_blocks m)) own.bytes
       ∙ (ap distinct (sym (blocks_read (v own.block) p (omega arith))) ∙ (ap (λ (t : Bool). distinct (if t then blocks_of (pointed (direct_word (v own.block) p) 12 2) else [])) (lt-ltb p 8 (omega arith)) ∙ direct_distinct T lib (v own.block) p (fits_newest T lib state state h fs few own.block 4 (under_inodes T library_layout (library_reads T lib) v fs ((d - 1) / 8) own.block own.inodes)) (omega arith)))
 
-  pub gap_entered : (b p : ℕ) → Contains (inode_blocks inode) b → p < 16 → length (v b) ≡ 512 → half_at (v b) (32 * p) ≡ 0 → (n : ℕ) (name bytes : List ℕ) → bytes ≡ entry_of n name → length bytes ≡ 32 → IsTrue (is_name name) →
+  pub gap_entered : (b p : ℕ) → Some (Entry b p) ≡ room_in v inode → Contains (inode_blocks inode) b → p < 16 → length (v b) ≡ 512 → half_at (v b) (32 * p) ≡ 0 → (n : ℕ) (name bytes : List ℕ) → bytes ≡ entry_of n name → length bytes ≡ 32 → IsTrue (is_name name) →
       half_at bytes 0 ≡ n → n ≢ 0 → (after : Option ℕ) (entry : ℕ) → propose_of T state fs b (edit_at (32 * p) bytes [] [] after) ≡ Ok (entry, new) →
       HasMore v w fs d inode name n × ((e : ℕ) → e ≢ d → SameInode v w fs e)
-  gap_entered b p has low long empty n name bytes is whole named half some after entry done =
+  gap_entered b p first has low long empty n name bytes is whole named half some after entry done =
       let x = direct_where inode b has in
       let lt = x.1 in
       let block : file_block v inode x.0 ≡ b = direct_block v inode x.0 lt ∙ x.2 in
@@ -138,17 +148,14 @@ module _ (T : Types) (lib : IsLibrary T) (state new : StoreState) (h : IsConsist
           back = all.back;
           was = listed_blocks v (inode_blocks inode) ∙ all.was;
           is = listed_blocks w (inode_blocks inode) ∙ all.is;
+          alone = none_listed v one inode (λ c i e. ap (λ x. half_at (v x) (32 * p)) e ∙ empty);
+          placed = inl (first, refl, refl);
           first = first_more v w inode inode name one all.front all.back (listed_blocks v (inode_blocks inode) ∙ all.was) (listed_blocks w (inode_blocks inode) ∙ all.is);
         },
         data_touched T lib state h fs few w b 2 t refl d inode own x.0 (omega (arith, lt)) block x.3,
       )
 
 -- A new block with one entry is attached
-
-pub get_mapped : (f : ℕ → ℕ) (n a k : ℕ) → k < n → get_or (map f (range_with_len a n)) k 0 ≡ f (a + k)
-get_mapped f zero a k lt = absurd (omega (arith, lt))
-get_mapped f (suc n) a zero lt = let z : a ≡ a + 0 = omega arith in ap f z
-get_mapped f (suc n) a (suc k) lt = let z : a + 1 + k ≡ a + suc k = omega arith in get_mapped f n (a + 1) k (omega (arith, lt)) ∙ ap f z
 
 module _ (T : Types) (lib : IsLibrary T) (zeroth first second : StoreState) (h : IsConsistent T zeroth) (h1 : IsConsistent T first) (fs : ℕ) (few : fs < 32) (b number : ℕ) (bytes : List ℕ)
     (done : init_of T zeroth fs 2 (put zeros 0 bytes) ≡ Ok ((b, number), first)) where
@@ -173,10 +180,10 @@ module _ (T : Types) (lib : IsLibrary T) (zeroth first second : StoreState) (h :
       let old = block_from v0 fs j b low (block_again v1 fs j b is ∙ block_same T lib v0 v1 fs b 9 new_block (λ z. omega (arith, z)) j) in
       new_block.apart b 4 (under_inodes T library_layout (library_reads T lib) v0 fs j b old) (λ z. omega (arith, z)) refl
 
-  pub block_entered : (d index n : ℕ) (name inode0 : List ℕ) → Ok inode0 ≡ directory_in v0 fs d → index < 12 → direct_in inode0 index ≡ 0 → b ≢ 0 → (inode : List ℕ) → Ok inode ≡ directory_in v1 fs d → IsGrown v1 v2 fs d inode index b →
+  pub block_entered : (d index n : ℕ) (name inode0 : List ℕ) → Ok inode0 ≡ directory_in v0 fs d → Some (Pointer index) ≡ room_in v0 inode0 → index < 12 → direct_in inode0 index ≡ 0 → b ≢ 0 → (inode : List ℕ) → Ok inode ≡ directory_in v1 fs d → IsGrown v1 v2 fs d inode index b →
       bytes ≡ entry_of n name → length bytes ≡ 32 → IsTrue (is_name name) → half_at bytes 0 ≡ n → n ≢ 0 →
       HasMore v0 v2 fs d inode0 name n
-  block_entered d index n name inode0 dir low gap there inode again g is whole named half some =
+  block_entered d index n name inode0 dir empty low gap there inode again g is whole named half some =
       let same = begun_same d in
       let one : inode ≡ inode0 = same_ok inode inode0 (again ∙ (directory_same v0 v1 fs d same.0 ∙ sym dir)) in
       let kept = same.1 inode0 (directory_from v0 fs d inode0 dir).0 in
@@ -197,6 +204,11 @@ module _ (T : Types) (lib : IsLibrary T) (zeroth first second : StoreState) (h :
       let blocks = more_by _ _ (inode_blocks inode) (inode_blocks g.after) b (blocks_are inode) (blocks_are g.after ∙ ap set_words g.direct) words in
       let single : listed_in v2 b ≡ (entry, name) ∷ [] = ap (λ m. filter_map (listed_at b m) (range_with_len 0 16)) new_bytes ∙ one_listed n name bytes is whole named half some b in
       let all = lists_more (listed_in v2) (inode_blocks inode) (inode_blocks g.after) b (entry, name) blocks single in
+      let first_own = stands_from v0 fs d inode0 (directory_from v0 fs d inode0 dir).0 in
+      let apart_before : (c : ℕ) → Contains (inode_blocks inode0) c → c ≢ b = λ c i.
+      let y = direct_where inode0 c i in
+      let lt = y.1 in
+      new_block.apart c 2 (block_at T lib zeroth h fs few d inode0 first_own y.0 c (omega (arith, lt)) (direct_block v0 inode0 y.0 lt ∙ y.2) y.3) (λ z. omega (arith, z)) in
       let before : listing v2 inode ≡ listing v0 inode0 = listing_same v2 v1 inode own_bytes ∙ (ap (listing v1) one ∙ kept.0) in
       record {
         after = g.after;
@@ -208,36 +220,14 @@ module _ (T : Types) (lib : IsLibrary T) (zeroth first second : StoreState) (h :
         back = all.back;
         was = sym before ∙ (listed_blocks v2 (inode_blocks inode) ∙ all.was);
         is = listed_blocks v2 (inode_blocks g.after) ∙ all.is;
+        alone = none_listed v0 entry inode0 (λ c i e. absurd (apart_before c i e));
+        placed = inr (index, empty, refl, g.direct ∙ ap (λ (i : List ℕ). slice_set (fields_of i).direct index b) one, g.size);
         first = first_more v0 v2 inode0 g.after name entry all.front all.back (sym before ∙ (listed_blocks v2 (inode_blocks inode) ∙ all.was)) (listed_blocks v2 (inode_blocks g.after) ∙ all.is);
       }
 
 -- A block of inodes: begun and attached
-pub stays_then : {A : Type 0} (T : Types) (fs : ℕ) → fs < 32 → (block number : ℕ) (zeroth first second third : StoreState) → IsConsistent T first → Gives (init_of T zeroth fs 4 zeros) zeroth first (Ok (block, number)) →
-    (attached : Result A FfsFault) (x : A) → attached ≡ Ok x → OnOk attached (latest first.lives block ≡ zeros → block ≢ 0 → Stays T fs first second) → third ≡ second → Stays T fs zeroth third
-stays_then {A} T fs few block number zeroth first second third h1 given attached x is ok same lib h d =
-    let done = gives_ok (init_of T zeroth fs 4 zeros) zeroth first (block, number) given in
-    let t = begun T zeroth first h fs few 4 9 zeros (block, number) done in
-    let stays = subst (λ (r : Result A FfsFault). OnOk r (latest first.lives block ≡ zeros → block ≢ 0 → Stays T fs first second)) is ok in
-    let before = none_touched T lib zeroth h fs few (latest first.lives) block 9 t (λ z. omega (arith, z)) (λ z. omega (arith, z)) (λ z. omega (arith, z)) (λ z. omega (arith, z)) d in
-    let after = stays (started_here T zeroth first fs 4 zeros (block, number) done) (begun_some T zeroth first h fs 4 zeros (block, number) done) lib h1 d in
-    subst (λ (s : StoreState). SameInode (latest zeroth.lives) (latest s.lives) fs d) (sym same) (same_on (latest zeroth.lives) (latest first.lives) (latest second.lives) fs d before after)
 
 -- A directory's block: begun with an entry, and attached
-pub entered_then : {A : Type 0} (T : Types) (fs : ℕ) → fs < 32 → (block number : ℕ) (zeroth first second third : StoreState) → IsConsistent T first → (d index n : ℕ) (name bytes all inode : List ℕ) → all ≡ put zeros 0 bytes →
-    Gives (init_of T zeroth fs 2 all) zeroth first (Ok (block, number)) → (attached result : Result A FfsFault) → result ≡ attached → OnOk attached (GrowsDirectory T fs d index block first second) → OnOk result (third ≡ second) →
-    (IsLibrary T → Ok inode ≡ directory_in (latest zeroth.lives) fs d) → index < 12 → direct_in inode index ≡ 0 → bytes ≡ entry_of n name → length bytes ≡ 32 → IsTrue (is_name name) → half_at bytes 0 ≡ n →
-    OnOk result (Enters T fs d name n zeroth third)
-entered_then T fs few block number zeroth first second third h1 d index n name bytes all inode e given attached (Err fault) is grows same dir low gap spelled whole named half = tt
-entered_then {A} T fs few block number zeroth first second third h1 d index n name bytes all inode e given attached (Ok x) is grows same dir low gap spelled whole named half = λ lib h some.
-    let done = subst (λ m. init_of T zeroth fs 2 m ≡ Ok ((block, number), first)) e (gives_ok (init_of T zeroth fs 2 all) zeroth first (block, number) given) in
-    let grown = subst (λ (r : Result A FfsFault). OnOk r (GrowsDirectory T fs d index block first second)) (sym is) grows lib h1 in
-    let more = block_entered T lib zeroth first second h h1 fs few block number bytes done d index n name inode (dir lib) low gap (begun_some T zeroth first h fs 2 (put zeros 0 bytes) (block, number) done) grown.0 grown.1 grown.2 spelled whole named half some in
-    let begun = begun_same T lib zeroth first second h h1 fs few block number bytes done in (
-      λ other is_other. subst (λ (s : StoreState). HasMore (latest zeroth.lives) (latest s.lives) fs d other name n) (sym same)
-          (subst (λ i. HasMore (latest zeroth.lives) (latest second.lives) fs d i name n) (same_ok inode other (dir lib ∙ sym is_other)) more),
-      λ o ne. subst (λ (s : StoreState). SameInode (latest zeroth.lives) (latest s.lives) fs o) (sym same)
-          (same_on (latest zeroth.lives) (latest first.lives) (latest second.lives) fs o (begun o) (grown.2.others o ne)),
-    )
 
 -- An inode is made, and named
 
@@ -250,8 +240,8 @@ free_none state fs free is =
     ∙ in_inode_block content fs n (good_number n stands.some is.low) ((n - 1) / 8) free.place free.block (content free.block) refl stands.at (block_again content fs ((n - 1) / 8) free.block stands.inodes) refl)
 
 module _ (u v w : ℕ → List ℕ) (fs d : ℕ) (name : List ℕ) (mode n : ℕ) where
-  more_before : (inode : List ℕ) → listing v inode ≡ listing u inode → HasMore v w fs d inode name n → HasMore u w fs d inode name n
-  more_before inode same m = record { after = m.after; directory = m.directory; links = m.links; entry = m.entry; inode_named = m.inode_named; front = m.front; back = m.back; was = sym same ∙ m.was; is = m.is; first = first_more u w inode m.after name m.entry m.front m.back (sym same ∙ m.was) m.is }
+  more_before : (inode : List ℕ) → SameContents u v inode → HasMore v w fs d inode name n → HasMore u w fs d inode name n
+  more_before inode same m = record { after = m.after; directory = m.directory; links = m.links; entry = m.entry; inode_named = m.inode_named; front = m.front; back = m.back; was = sym same.0 ∙ m.was; is = m.is; alone = ap (list_any (λ (p : Slot × List ℕ). is_at m.entry p.0)) (sym same.0) ∙ m.alone; placed = placed_before u v inode inode m.after m.entry (place_by u v inode inode refl same.1) refl refl m.placed; first = first_more u w inode m.after name m.entry m.front m.back (sym same.0 ∙ m.was) m.is }
 
   pub made_then : inode_in u fs n ≡ Err NoEntry → inode_in v fs n ≡ Ok (new_inode mode) → ((e : ℕ) → e ≢ n → SameInode u v fs e) →
       ((inode : List ℕ) → Ok inode ≡ directory_in v fs d → HasMore v w fs d inode name n) × ((e : ℕ) → e ≢ d → SameInode v w fs e) → (inode : List ℕ) → Ok inode ≡ directory_in u fs d → MadeEntry u w fs d name mode n
@@ -261,7 +251,7 @@ module _ (u v w : ℕ → List ℕ) (fs d : ℕ) (name : List ℕ) (mode n : ℕ
       record {
         free = free;
         made = (enters.1 n (λ e. apart (sym e))).0 ∙ made;
-        entry = λ other is. more_before other (same.1 other (directory_from u fs d other is).0).0 (enters.0 other (is ∙ sym (directory_same u v fs d same.0)));
+        entry = λ other is. more_before other (same.1 other (directory_from u fs d other is).0) (enters.0 other (is ∙ sym (directory_same u v fs d same.0)));
         others = λ e ne ne'. same_on u v w fs e (first e ne') (enters.1 e ne);
       }
     where
@@ -272,6 +262,6 @@ module _ (u v w : ℕ → List ℕ) (fs d : ℕ) (name : List ℕ) (mode n : ℕ
   stays_made stays m = record {
     free = sym (stays n).0 ∙ m.free;
     made = m.made;
-    entry = λ inode is. more_before inode ((stays d).1 inode (directory_from u fs d inode is).0).0 (m.entry inode (is ∙ sym (directory_same u v fs d (stays d).0)));
+    entry = λ inode is. more_before inode ((stays d).1 inode (directory_from u fs d inode is).0) (m.entry inode (is ∙ sym (directory_same u v fs d (stays d).0)));
     others = λ e ne ne'. same_on u v w fs e (stays e) (m.others e ne ne');
   }

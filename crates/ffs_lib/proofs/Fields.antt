@@ -1,5 +1,5 @@
 -- The blocks of an inode whose fields were set.
-use Rattle.std.proofs.Common.{◌≡◌, ℕ, zero, suc, ◌<◌, ◌^◌, ◌⊎◌, Bool, true, false, cond, List, [], ◌∷◌, Some, None, refl, sym, ◌∙◌, ap, inl, inr, subst, replicate}
+use Rattle.std.proofs.Common.{◌≡◌, ℕ, zero, suc, ◌+◌, ◌<◌, ◌^◌, ◌⊎◌, Bool, true, false, cond, List, [], ◌∷◌, Some, None, refl, sym, ◌∙◌, ap, inl, inr, subst, replicate, arith, get_or}
 use Rattle.std.specs.Prelude.{Contains, filter_map, map, slice_set, ◌==◌}
 use Rattle.std.specs.List.{range_with_len, cons_option}
 use Rattle.xn_model.specs.Lists.{blocks_of}
@@ -69,3 +69,12 @@ free_mode = refl
 pub entry_names : (inode : ℕ) (name : List ℕ) → inode < 2 ^ 16 → half_at (entry_of inode name) 0 ≡ inode
 unfolding half_at
 entry_names inode name few = from_le_bytes-to_le_bytes_2 inode few
+
+-- a pointer is read
+pub get_mapped : (f : ℕ → ℕ) (n a k : ℕ) → k < n → get_or (map f (range_with_len a n)) k 0 ≡ f (a + k)
+get_mapped f zero a k lt = absurd (omega (arith, lt))
+get_mapped f (suc n) a zero lt = let z : a ≡ a + 0 = omega arith in ap f z
+get_mapped f (suc n) a (suc k) lt = let z : a + 1 + k ≡ a + suc k = omega arith in get_mapped f n (a + 1) k (omega (arith, lt)) ∙ ap f z
+
+pub direct_get : (bytes : List ℕ) (i : ℕ) → i < 12 → direct_in bytes i ≡ get_or (fields_of bytes).direct i 0
+direct_get bytes i lt = let z : 0 + i ≡ i = omega arith in ap (λ k. direct_in bytes k) (sym z) ∙ sym (get_mapped (direct_in bytes) 12 0 i lt)

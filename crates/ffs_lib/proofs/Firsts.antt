@@ -29,7 +29,7 @@ same_bytes a b e = (bytes_eq-Decides a b).0 e
 
 -- one that was added is the first with its name
 
-none_mapped : (o : Option (Slot × List ℕ)) → None ≡ option_map (λ (p : Slot × List ℕ). p.0) o → o ≡ None
+pub none_mapped : (o : Option (Slot × List ℕ)) → None ≡ option_map (λ (p : Slot × List ℕ). p.0) o → o ≡ None
 none_mapped None e = refl
 none_mapped (Some x) e = absurd (cc e)
 

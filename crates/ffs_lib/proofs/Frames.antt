@@ -1,27 +1,22 @@
 -- What an edit leaves of the directories that it does not touch, and what it takes from the one that it does.
-use Rattle.std.proofs.Common.{◌≡◌, ℕ, ◌+◌, ◌*◌, ◌<◌, ◌≤◌, ◌≢◌, ◌⊎◌, Bool, true, false, cond, List, [], ◌∷◌, ◌++◌, map, length, take, drop, replicate, get_or, Option, Some, None, Ok, refl, sym, ◌∙◌, ap, inl, inr, arith, subst, eq-eqb, get_or-take, get_or-drop}
+use Rattle.std.proofs.Common.{◌≡◌, ℕ, ◌+◌, ◌*◌, ◌<◌, ◌≤◌, ◌≢◌, ◌⊎◌, Bool, true, false, cond, List, [], ◌∷◌, ◌++◌, map, length, take, drop, replicate, get_or, Option, Some, None, Ok, refl, sym, ◌∙◌, ap, inl, inr, arith, eq-eqb, get_or-take, get_or-drop}
 use Rattle.std.specs.Prelude.{Contains, ◌==◌, ◌&&◌, not, min, filter, filter_map, flat_map, if◌then◌else◌}
 use Rattle.std.specs.List.{range_with_len, cons_option}
 use Rattle.std.proofs.lemmas.Bool.{cases_eq, cases_lt, ne_eqb}
 use Rattle.std.proofs.lemmas.List.{map-append}
 use Rattle.std.proofs.lemmas.List.Elements.{filter-append}
-use Rattle.std.proofs.lemmas.Option.{none-some, same_Some}
 use Rattle.xn_model.specs.Types.{Types}
 use Rattle.xn_model.specs.Lists.{put}
-use Rattle.xn_model.specs.Root.{slot}
-use Rattle.xn_model.specs.Lives.{Life, StoreState, life_at}
+use Rattle.xn_model.specs.Lives.{StoreState}
 use Rattle.xn_model.specs.Calls.{Edit, propose_of}
 use Rattle.xn_model.specs.Rules.{IsConsistent}
 use Rattle.xn_model.proofs.ForCallers.{Contains-head, Contains-tail}
-use Rattle.ffs_model.specs.Cuts.{Under, root, latest}
-use Rattle.ffs_model.specs.Names.{IsInodes, IsRoot}
-use Rattle.ffs_model.specs.Library.{IsLibrary, half_at, inode_at, inode_blocks, library_layout}
-use Rattle.ffs_model.proofs.ForCallers.{bytes_apart, bytes_within, half_apart, half_within, latest_reached, one_type, proposed_others}
+use Rattle.ffs_model.specs.Cuts.{Under, latest}
+use Rattle.ffs_model.specs.Library.{IsLibrary, half_at, inode_blocks}
+use Rattle.ffs_model.proofs.ForCallers.{bytes_apart, bytes_within, half_apart, half_within, proposed_others}
 use Rattle.ffs_format.specs.Entries.{name_in}
-use Rattle.ffs_lookup.specs.declared.places.Found.{Found}
 use Rattle.ffs_lookup.specs.declared.places.Slot.{Slot}
 use Rattle.ffs_lookup.specs.Newest.{entries_in, entry_at, is_at, listing, name_at, used_entry, without_entry}
-use Rattle.ffs_lookup.specs.Places.{IsDirectory}
 
 -- Bytes written at a place, and those apart from it
 
@@ -170,40 +165,5 @@ module _ (entry : Slot) where
 -- After an edit of a block of a file system
 module _ (T : Types) (lib : IsLibrary T) (state new : StoreState) (h : IsConsistent T state) (fs : ℕ) (few : fs < 32) (block ty : ℕ) (edit : Edit) (entry : ℕ) (done : propose_of T state fs block edit ≡ Ok (entry, new))
     (at : Under T (latest state.lives) fs block ty) where
-  not_top : 0 ≢ block
-  not_top e =
-      let x = latest_reached T state h fs few block ty at in
-      let top = h.lives_sound.root in
-      let same : top.life ≡ x.life = same_Some top.life x.life (sym top.alive ∙ (ap (life_at state.lives) e ∙ x.alive)) in
-      none-some fs (sym top.nobody ∙ (ap (λ (l : Life). l.fs) same ∙ x.system))
-
   kept : (c : ℕ) → c ≢ block → latest new.lives c ≡ latest state.lives c
   kept = proposed_others T state new h fs block edit entry done
-
-  pub other_type : (c u : ℕ) → Under T (latest state.lives) fs c u → u ≢ ty → c ≢ block
-  other_type c u r ne e = ne (one_type T state h fs c u ty few r (subst (λ b. Under T (latest state.lives) fs b ty) (sym e) at))
-
-  root_kept : (r : ℕ) → IsRoot (latest state.lives) fs r → IsRoot (latest new.lives) fs r
-  root_kept r x = record { at = ap (λ m. slot m fs) (kept 0 not_top) ∙ x.at; there = x.there }
-
-  pub inodes_kept : ty ≢ 3 → (j b : ℕ) → IsInodes library_layout (latest state.lives) fs j b → IsInodes library_layout (latest new.lives) fs j b
-  inodes_kept ne j b x = record {
-    root = x.root;
-    is_root = root_kept x.root x.is_root;
-    points = ap (λ m. library_layout.pointer m j) (kept x.root (other_type x.root 3 (root x.is_root.at x.is_root.there) (λ z. ne (sym z)))) ∙ x.points;
-    there = x.there;
-  }
-
-  -- a directory whose inode stays
-  pub directory_kept : ty ≢ 3 → (d : ℕ) (found : Found) → IsDirectory state fs d found → inode_at (latest new.lives found.block) found.place ≡ inode_at (latest state.lives found.block) found.place →
-      length (latest new.lives found.block) ≡ length (latest state.lives found.block) → IsDirectory new fs d found
-  directory_kept ne d found dir same long =
-      let stands = dir.is.stands in
-      record {
-        is = record {
-          stands = record { some = stands.some; inodes = inodes_kept ne (library_layout.home d).0 found.block stands.inodes; at = stands.at; few = stands.few; long = long ∙ stands.long };
-          bytes = dir.is.bytes ∙ sym same;
-          used = dir.is.used;
-        };
-        directory = dir.directory;
-      }

@@ -13,6 +13,7 @@ pub mod Creating
 pub mod Owners
 pub mod Same
 pub mod More
+pub mod Alone
 pub mod Firsts
 pub mod Entering
 pub mod Writing
@@ -23,3 +24,10 @@ pub mod StillNamed
 pub mod Moving
 pub mod Short
 pub mod Dropping
+pub mod Undoing
+pub mod Laws
+pub mod Removal
+pub mod NameLaws
+pub mod MoveLaws
+pub mod MakeLaws
+pub mod Singles

@@ -1,7 +1,7 @@
 -- What is left of names and files where a name is moved.
-use Rattle.std.proofs.Common.{◌≡◌, ◌≢◌, ℕ, ◌+◌, ◌*◌, ◌/◌, ◌%◌, ◌<◌, ◌≤◌, Bool, true, false, cond, List, [], ◌∷◌, ◌++◌, length, map, get_or, replicate, Option, Some, None, Ok, refl, sym, ◌∙◌, ap, inl, inr, arith, subst}
-use Rattle.std.specs.Prelude.{Contains, Result, Err, ◌==◌, filter_map, find, bytes_eq, option_map, flat_map, if◌then◌else◌}
-use Rattle.std.specs.List.{cons_option, range_with_len}
+use Rattle.std.proofs.Common.{◌≡◌, ◌≢◌, ℕ, ◌+◌, ◌*◌, ◌/◌, ◌%◌, ◌<◌, Bool, true, false, cond, List, [], ◌∷◌, ◌++◌, length, map, get_or, replicate, Option, Some, None, Ok, refl, sym, ◌∙◌, ap, inl, inr, arith, subst}
+use Rattle.std.specs.Prelude.{Contains, Result, Err, ◌==◌, filter_map, find, bytes_eq, option_map, flat_map, if◌then◌else◌, not}
+use Rattle.std.specs.List.{cons_option, list_any, range_with_len}
 use Rattle.std.specs.Option.{ok_or, option_or}
 use Rattle.std.proofs.lemmas.Bool.{cases_eq}
 use Rattle.std.proofs.lemmas.List.Folds.{find-append}
@@ -22,30 +22,31 @@ use Rattle.ffs_lookup.specs.declared.fault.FfsFault.TheVariants.{BadName, NoEntr
 use Rattle.ffs_lookup.specs.declared.places.Found.{Found}
 use Rattle.ffs_lookup.specs.declared.places.Slot.{Slot}
 use Rattle.ffs_lib.specs.Edits.{edit_at}
-use Rattle.ffs_lookup.specs.Newest.{byte_in, byte_of, directory_in, file_block, entries_in, entry_at, entry_named, named_in, used_entry, entries_of, first_named, has_name, inode_in, listing, name_at, without_entry}
+use Rattle.ffs_lookup.specs.Newest.{byte_in, byte_of, directory_in, file_block, entries_in, entry_at, entry_named, is_at, named_in, used_entry, entries_of, first_named, has_name, inode_in, listing, name_at, without_entry}
 use Rattle.ffs_lookup.specs.Places.{IsFound, IsSlot}
-use Rattle.ffs_lib.specs.Results.{AsBefore, HasLost, HasMore, HasRenamed, IsAs, IsLinked, MovedEntry, OthersSame, SameInode, TookLink}
+use Rattle.ffs_lib.specs.Results.{AsBefore, HasLost, HasMore, HasRenamed, IsAs, IsPlaced, IsLinked, MovedEntry, SameInode}
+use Rattle.ffs_lib.proofs.Alone.{kept_between, none_found, turned_apart}
 use Rattle.ffs_lib.proofs.Entering.{directory_from, directory_same, inode_put}
-use Rattle.ffs_lib.proofs.Fields.{same_blocks}
+use Rattle.ffs_lib.proofs.Fields.{direct_get, same_blocks}
 use Rattle.ffs_lib.proofs.Firsts.{find_listed, find_skip, first_more, named_among, same_bytes}
 use Rattle.ffs_lib.proofs.Frames.{listing_same, listing_without}
 use Rattle.ffs_lookup.proofs.ForCallers.{directory_is, in_directory, same_ok}
 use Rattle.ffs_lib.proofs.Owners.{Stands, block_at, direct_block, passed, pointers_at, stands_from}
 use Rattle.ffs_lib.proofs.Renaming.{is_some_ok}
-use Rattle.ffs_lib.proofs.Rooms.{room_by}
+use Rattle.ffs_lib.proofs.Rooms.{place_by, placed_after, placed_before, room_by}
 use Rattle.ffs_lib.proofs.Same.{data_touched, edited, file_block_by, inodes_same, same_on}
-use Rattle.ffs_lib.proofs.Writing.{blocks_agree, byte_same, direct_get}
+use Rattle.ffs_lib.proofs.Writing.{blocks_agree, byte_same}
 
 -- As before, in every way
 
 pub same_as : (v w : ℕ → List ℕ) (fs d : ℕ) → SameInode v w fs d → AsBefore v w fs d
-same_as v w fs d s inode e = let x = s.1 inode e in record { after = inode; found = e ∙ sym s.0; mode = refl; size = refl; entries = x.0; each = x.1; room = room_by v w inode inode refl x.1 }
+same_as v w fs d s inode e = let x = s.1 inode e in record { after = inode; found = e ∙ sym s.0; mode = refl; size = refl; entries = x.0; each = x.1; direct = refl; room = room_by v w inode inode refl x.1 }
 
 pub as_on : (u v w : ℕ → List ℕ) (fs d : ℕ) → AsBefore u v fs d → AsBefore v w fs d → AsBefore u w fs d
 as_on u v w fs d a b inode e =
     let x = a inode e in
     let y = b x.after x.found in
-    record { after = y.after; found = y.found; mode = y.mode ∙ x.mode; size = y.size ∙ x.size; entries = y.entries ∙ x.entries; each = λ at low. y.each at low ∙ x.each at low; room = y.room ∙ x.room }
+    record { after = y.after; found = y.found; mode = y.mode ∙ x.mode; size = y.size ∙ x.size; entries = y.entries ∙ x.entries; each = λ at low. y.each at low ∙ x.each at low; direct = y.direct ∙ x.direct; room = y.room ∙ x.room }
 
 -- An inode's links are written
 pub relinked : (T : Types) (lib : IsLibrary T) (state new : StoreState) (h : IsConsistent T state) (fs : ℕ) (few : fs < 32) (n : ℕ) (found : Found) → IsFound state fs n found → Ok found.inode ≡ inode_in (latest state.lives) fs n →
@@ -99,6 +100,7 @@ relinked T lib state new h fs few n found is exact bytes whole mode direct last 
           let lt = x.1 in
           away b 2 (block_at T lib state h fs few n found.inode stands x.0 b (omega (arith, lt)) (direct_block v found.inode x.0 lt ∙ x.2) x.3) (λ z. omega (arith, z)));
       each = each;
+      direct = direct;
       room = room_by v w found.inode bytes direct each;
     }
       where
@@ -150,7 +152,7 @@ block_stands content p s (b ∷ bs) e = go (find p (entries_in content b)) refl 
     go None f later g = Contains-tail b bs s.block (later g)
     go (Some y) f later g = subst (λ z. Contains (b ∷ bs) z) (sym (entry_stands content p b s (range_with_len 0 16) (g ∙ f))) (Contains-head b bs)
 
-named_from : (content : ℕ → List ℕ) (fs d : ℕ) (name : List ℕ) (entry : Slot) → Ok entry ≡ named_in content fs d name → (inode : List ℕ) × (Ok inode ≡ directory_in content fs d) × (Some entry ≡ first_named content inode name)
+pub named_from : (content : ℕ → List ℕ) (fs d : ℕ) (name : List ℕ) (entry : Slot) → Ok entry ≡ named_in content fs d name → (inode : List ℕ) × (Ok inode ≡ directory_in content fs d) × (Some entry ≡ first_named content inode name)
 unfolding named_in
 named_from content fs d name entry e =
     let r = passed (directory_in content fs d) (entry_named content name) entry e in
@@ -169,31 +171,6 @@ named_block content fs d name entry e =
 
 pub directory_to : (content : ℕ → List ℕ) (fs d : ℕ) (inode : List ℕ) → Ok inode ≡ inode_in content fs d → inode_mode inode ≡ 2 → Ok inode ≡ directory_in content fs d
 directory_to content fs d inode e mode = directory_is inode mode ∙ in_directory content fs d (Ok inode) e
-
--- A name and its link are taken
-
-module _ (u0 u1 u2 : ℕ → List ℕ) (fs d n : ℕ) (own : List ℕ) (slot : Slot) (is : Ok own ≡ inode_in u0 fs d) (has : Contains (inode_blocks own) slot.block)
-    (lost : ((x : ℕ) → inode_in u1 fs x ≡ inode_in u0 fs x) × ((inode : List ℕ) → listing u1 inode ≡ without_entry slot (listing u0 inode))
-    × ((m : ℕ) (mine : List ℕ) → Ok mine ≡ inode_in u0 fs m → Contains (inode_blocks mine) slot.block → (x : ℕ) → x ≢ m → SameInode u0 u1 fs x)) where
-  pub others_lost : ((x : ℕ) → x ≢ n → SameInode u1 u2 fs x) → OthersSame u0 u2 fs d n
-  others_lost rest x ne ne' = same_on u0 u1 u2 fs x (lost.2 d own is has x ne) (rest x ne')
-
-  module _ (apart : d ≢ n) (inode : List ℕ) (at : Ok inode ≡ inode_in u0 fs n) (found : List ℕ) (again : Ok found ≡ inode_in u1 fs n) where
-    cleared : SameInode u0 u1 fs n
-    cleared = lost.2 d own is has n (λ e. apart (sym e))
-
-    same_links : inode_links found ≡ inode_links inode
-    same_links = ap inode_links (same_ok found inode (again ∙ (cleared.0 ∙ sym at)))
-
-    pub link_taken : AsBefore u1 u2 fs n → ((x after : List ℕ) → Ok x ≡ inode_in u1 fs n → Ok after ≡ inode_in u2 fs n → inode_links after + 1 ≡ inode_links x) → 1 < inode_links found → TookLink u0 u2 fs n inode
-    link_taken kept less more =
-        let y = as_on u0 u1 u2 fs n (same_as u0 u1 fs n cleared) kept inode at in
-        let one = less inode y.after (at ∙ sym cleared.0) y.found in
-        let same = same_links in
-        record { kept = λ lt. (y, omega (arith, one)); freed = λ le. absurd (omega (arith, le, more, same)) }
-
-    pub inode_freed : inode_in u2 fs n ≡ Err NoEntry → inode_links found ≤ 1 → TookLink u0 u2 fs n inode
-    inode_freed free few = let same = same_links in record { kept = λ lt. absurd (omega (arith, lt, few, same)); freed = λ le. free }
 
 -- All of it
 
@@ -260,6 +237,8 @@ module _ (u0 u1 u2 u3 u4 : ℕ → List ℕ) (fs d : ℕ) (name : List ℕ) (oth
           after = y.after;
           directory = directory_to u4 fs d y.after y.found (y.mode ∙ (directory_from u2 fs d held.0 held.1).1);
           links = links_again (by_listing same_listing) d from x_from.after held.0 y.after (directory_from u0 fs d from is_from).0 x_from.found at3 y.found (ap inode_links (sym same_inode));
+          direct = y.direct ∙ (ap (λ (i : List ℕ). (fields_of i).direct) (sym same_inode) ∙ x_from.direct);
+          size = y.size ∙ (ap (λ (i : List ℕ). word_at i 4) (sym same_inode) ∙ x_from.size);
           is = y.entries ∙ (lost.1 held.0 ∙ (ap (λ s. without_entry s (listing u2 held.0)) (by_listing same_listing) ∙ ap (without_entry slot) same_listing));
         }
 
@@ -279,6 +258,8 @@ module _ (u0 u1 u2 u3 u4 : ℕ → List ℕ) (fs d : ℕ) (name : List ℕ) (oth
           back = more1.back;
           was = sym x_to.entries ∙ more1.was;
           is = y.entries ∙ (kept.0 ∙ more1.is);
+          alone = ap (list_any (λ (p : Slot × List ℕ). is_at more1.entry p.0)) (sym x_to.entries) ∙ more1.alone;
+          placed = placed_after u0 to more1.after y.after more1.entry y.direct y.size (placed_before u0 u1 to x_to.after more1.after more1.entry (place_by u0 u1 to x_to.after x_to.direct x_to.each) x_to.direct x_to.size more1.placed);
           first = first_more u0 u4 to y.after new_name more1.entry more1.front more1.back (sym x_to.entries ∙ more1.was) (y.entries ∙ (kept.0 ∙ more1.is));
         }
 
@@ -306,6 +287,20 @@ module _ (u0 u1 u2 u3 u4 : ℕ → List ℕ) (fs d : ℕ) (name : List ℕ) (oth
         ∙ (ap (option_map (λ (p : Slot × List ℕ). p.0)) (find_skip (λ (p : Slot × List ℕ). bytes_eq p.1 name) more1.front more1.back (more1.entry, new_name) other_name)
         ∙ (ap (named_among name) (sym old_listing) ∙ (sym (find_listed u0 name (entries_of u0 from)) ∙ sym first))))))
 
+    -- the new entry is another one
+    stands : is_at slot more1.entry ≡ false
+    stands =
+        let among : Some slot ≡ named_among name (listing u0 from) = first ∙ find_listed u0 name (entries_of u0 from) in
+        let alone : list_any (λ (p : Slot × List ℕ). is_at more1.entry p.0) (listing u0 from) ≡ false = ap (list_any (λ (p : Slot × List ℕ). is_at more1.entry p.0)) (ap (listing u0) one_directory ∙ sym x_to.entries) ∙ more1.alone in
+        turned_apart more1.entry slot (found_apart (find (λ (p : Slot × List ℕ). bytes_eq p.1 name) (listing u0 from)) refl among alone)
+      where
+        found_apart : (o : Option (Slot × List ℕ)) → o ≡ find (λ (p : Slot × List ℕ). bytes_eq p.1 name) (listing u0 from) → Some slot ≡ option_map (λ (p : Slot × List ℕ). p.0) o →
+            list_any (λ (p : Slot × List ℕ). is_at more1.entry p.0) (listing u0 from) ≡ false → is_at more1.entry slot ≡ false
+        found_apart None e f g = absurd (none-some slot (sym f))
+        found_apart (Some x) e f g =
+            ap (is_at more1.entry) (same_Some slot x.0 f)
+            ∙ none_found (λ (p : Slot × List ℕ). is_at more1.entry p.0) (λ (p : Slot × List ℕ). bytes_eq p.1 name) (listing u0 from) x g e
+
     pub turned : HasRenamed u0 u4 fs d from slot new_name
     turned =
         let at2 = directory_from u2 fs d held.0 held.1 in
@@ -320,7 +315,11 @@ module _ (u0 u1 u2 u3 u4 : ℕ → List ℕ) (fs d : ℕ) (name : List ℕ) (oth
           front = more1.front;
           back = more1.back;
           was = old_listing;
-          is = y.entries ∙ (lost.1 held.0 ∙ (ap (λ s. without_entry s (listing u2 held.0)) same_slot ∙ ap (without_entry slot) (ap (listing u2) (sym after_same) ∙ more1.is)));
+          is = y.entries ∙ (lost.1 held.0 ∙ (ap (λ s. without_entry s (listing u2 held.0)) same_slot ∙ (ap (without_entry slot) (ap (listing u2) (sym after_same) ∙ more1.is)
+              ∙ kept_between (λ (p : Slot × List ℕ). not (is_at slot p.0)) more1.front more1.back (more1.entry, new_name) (ap not stands))));
+          placed = placed_after u0 from more1.after y.after more1.entry (y.direct ∙ ap (λ (i : List ℕ). (fields_of i).direct) (sym after_same)) (y.size ∙ ap (λ (i : List ℕ). word_at i 4) (sym after_same))
+              (subst (λ (i : List ℕ). IsPlaced u0 i more1.after more1.entry) (sym one_directory)
+              (placed_before u0 u1 to x_to.after more1.after more1.entry (place_by u0 u1 to x_to.after x_to.direct x_to.each) x_to.direct x_to.size more1.placed));
         }
 
   one_slot : slot2 ≡ slot

@@ -1,5 +1,5 @@
 -- The numbers of edits that a volume keeps.
-use Rattle.std.proofs.Common.{◌≡◌, ◌≢◌, ℕ, zero, suc, refl, [], ◌∷◌, ◌+◌, ◌-◌, ◌*◌, ◌/◌, ◌<◌, List, length, get_or, Option, Some, None, sym, ◌∙◌, ap, inl, inr, arith, subst, eq-eqb}
+use Rattle.std.proofs.Common.{◌≡◌, ℕ, zero, suc, refl, [], ◌∷◌, ◌+◌, ◌-◌, ◌*◌, ◌/◌, ◌<◌, List, length, get_or, Option, Some, None, sym, ◌∙◌, ap, inl, inr, arith, subst, eq-eqb}
 use Rattle.std.specs.Prelude.{if◌then◌else◌}
 use Rattle.std.proofs.Math.ListN.{set}
 use Rattle.std.proofs.lemmas.Bool.{cases_eq, ne_eqb}
@@ -9,9 +9,9 @@ use Rattle.xn_model.specs.Types.{Types}
 use Rattle.xn_model.specs.Lives.{StoreState}
 use Rattle.ffs_model.specs.Cuts.{latest}
 use Rattle.ffs_model.specs.Names.{IsInodes}
-use Rattle.ffs_model.specs.Volumes.{VolumeKeeps, with_edit, without_edit}
-use Rattle.ffs_model.specs.Library.{library_layout, inode_at, IsLibrary}
-use Rattle.ffs_lib.specs.Outcomes.{IsAdded, Makes, Names}
+use Rattle.ffs_model.specs.Volumes.{with_edit, without_edit}
+use Rattle.ffs_model.specs.Library.{library_layout, inode_at}
+use Rattle.ffs_lib.specs.Outcomes.{IsAdded}
 use Rattle.ffs_lookup.specs.Places.{IsFree}
 use Rattle.ffs_lib.specs.Volumes.{edits_of}
 
@@ -56,12 +56,3 @@ first_free T state fs array index block entry low added =
       bare = ap (λ m. inode_at m 0) added.empty;
       low = omega arith;
     }
-
--- an inode is made, named, and its block's number forgotten
-pub named_then : (T : Types) (lib : IsLibrary T) (fs n entry index : ℕ) (d : Option ℕ) (added : List (Option ℕ)) (first second third : StoreState) → n ≢ 0 → index ≡ (n - 1) / 8 → index < length added →
-    VolumeKeeps T library_layout fs (edits_of added) first → Makes T fs first second n (get_or added index d) entry → Names T fs second third n entry →
-    VolumeKeeps T library_layout fs (edits_of (set added index None)) third
-named_then T lib fs n entry index d added first second third some home low v makes names =
-    let made = makes lib (edits_of added) v (same_read added index d None low ∙ ap (edits_of added) home) in
-    let kept = names lib (without_edit (edits_of added) ((n - 1) / 8)) made.forgets some made.can in
-    subst (λ (array : ℕ → Option ℕ). VolumeKeeps T library_layout fs array third) (ap (without_edit (edits_of added)) (sym home) ∙ without_one added index low) kept

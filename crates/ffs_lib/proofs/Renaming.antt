@@ -116,11 +116,11 @@ pub record CanMove (content : ℕ → List ℕ) (fs d : ℕ) (name : List ℕ) (
   pub few : inode_links own ≢ 65535
   pub room : has_room content to ≡ true
 
-then_first : {A : Type 0} (t : Bool) (r : Result A FfsFault) (fault : FfsFault) (y : A) → Ok y ≡ (if t then r else Err fault) → (t ≡ true) × (Ok y ≡ r)
+pub then_first : {A : Type 0} (t : Bool) (r : Result A FfsFault) (fault : FfsFault) (y : A) → Ok y ≡ (if t then r else Err fault) → (t ≡ true) × (Ok y ≡ r)
 then_first true r fault y e = (refl, e)
 then_first false r fault y e = absurd (cc e)
 
-none_from : {A : Type 0} (o : Option A) → is_some o ≡ false → None ≡ o
+pub none_from : {A : Type 0} (o : Option A) → is_some o ≡ false → None ≡ o
 none_from None e = refl
 none_from (Some x) e = absurd (cc e)
 

@@ -1,6 +1,6 @@
 -- Whether a directory has room, by what is read of its blocks.
-use Rattle.std.proofs.Common.{◌≡◌, ◌≢◌, ℕ, zero, suc, ◌+◌, ◌*◌, ◌/◌, ◌%◌, ◌<◌, Bool, List, [], ◌∷◌, take, drop, get_or, refl, sym, ◌∙◌, ap, arith, get_or-take, get_or-drop}
-use Rattle.std.specs.Prelude.{Contains, ◌==◌, ◌||◌, if◌then◌else◌}
+use Rattle.std.proofs.Common.{◌≡◌, ◌≢◌, ℕ, zero, suc, ◌+◌, ◌*◌, ◌/◌, ◌%◌, ◌<◌, Bool, true, false, cond, List, [], ◌∷◌, Some, length, inl, inr, take, drop, get_or, refl, sym, ◌∙◌, ap, arith, get_or-take, get_or-drop}
+use Rattle.std.specs.Prelude.{Contains, ◌==◌, ◌||◌, find, if◌then◌else◌, option_map, slice_set}
 use Rattle.std.specs.Int.{w16, from_le_bytes}
 use Rattle.std.specs.List.{list_any, range_with_len}
 use Rattle.std.proofs.lemmas.Bool.{ne_eqb}
@@ -8,10 +8,13 @@ use Rattle.xn_model.proofs.ForCallers.{Contains-head, Contains-tail}
 use Rattle.ffs_model.specs.Library.{half_at, inode_blocks}
 use Rattle.ffs_model.proofs.ForCallers.{direct_where}
 use Rattle.ffs_format.specs.Fields.{direct_in, fields_of}
-use Rattle.ffs_lookup.specs.Newest.{byte_in, byte_of, file_block, has_gap, has_room}
-use Rattle.ffs_lib.proofs.Fields.{same_blocks}
+use Rattle.ffs_lookup.specs.Newest.{byte_in, byte_of, file_block, has_gap, has_room, room_from, room_in}
+use Rattle.ffs_lookup.specs.declared.places.Room.TheVariants.{Entry, Pointer}
+use Rattle.ffs_lookup.specs.declared.places.Slot.{Slot}
+use Rattle.xn_model.specs.Root.{word_at}
+use Rattle.ffs_lib.specs.Results.{IsPlaced}
+use Rattle.ffs_lib.proofs.Fields.{direct_get, same_blocks}
 use Rattle.ffs_lib.proofs.Owners.{direct_block}
-use Rattle.ffs_lib.proofs.Writing.{direct_get}
 
 -- a number of two bytes
 
@@ -45,28 +48,68 @@ pub gap_by : (m k : List ℕ) → ((i : ℕ) → i < 512 → get_or k i 0 ≡ ge
 gap_by m k same = any_below (λ place. half_at m (32 * place) == 0) (λ place. half_at k (32 * place) == 0) 16 0 (λ place low.
     ap (λ h. h == 0) (half_by m k (32 * place) (λ i few. same (32 * place + i) (omega (arith, low, few)))))
 
--- a directory whose pointers and bytes are as before has room as before
-pub room_by : (v w : ℕ → List ℕ) (inode after : List ℕ) → (fields_of after).direct ≡ (fields_of inode).direct → ((at : ℕ) → at < 71680 → byte_of w after at ≡ byte_of v inode at) → has_room w after ≡ has_room v inode
-room_by v w inode after direct each =
-    ap (λ t. t || list_any (λ index. direct_in after index == 0) (range_with_len 0 12)) gaps
-    ∙ ap (λ t. list_any (λ block. has_gap (v block)) (inode_blocks inode) || t) (any_below (λ i. direct_in inode i == 0) (λ i. direct_in after i == 0) 12 0 (λ i low. ap (λ b. b == 0) (pointer i low)))
+-- the first of all elements
+
+find_below : (p q : ℕ → Bool) (n a : ℕ) → ((i : ℕ) → i < a + n → q i ≡ p i) → find q (range_with_len a n) ≡ find p (range_with_len a n)
+find_below p q zero a same = refl
+find_below p q (suc n) a same = ap (λ t. cond t (Some a) (find q (range_with_len (a + 1) n))) (same a (omega arith)) ∙ ap (cond (p a) (Some a)) (find_below p q n (a + 1) (λ i low. same i (omega (arith, low))))
+
+gap_at : (m k : List ℕ) → ((i : ℕ) → i < 512 → get_or k i 0 ≡ get_or m i 0) → find (λ place. half_at k (32 * place) == 0) (range_with_len 0 16) ≡ find (λ place. half_at m (32 * place) == 0) (range_with_len 0 16)
+gap_at m k same = find_below (λ place. half_at m (32 * place) == 0) (λ place. half_at k (32 * place) == 0) 16 0 (λ place low.
+    ap (λ h. h == 0) (half_by m k (32 * place) (λ i few. same (32 * place + i) (omega (arith, low, few)))))
+
+room_among : (v w : ℕ → List ℕ) (inode after : List ℕ) → ((i : ℕ) → i < 12 → direct_in after i ≡ direct_in inode i) → (bs : List ℕ) → ((b : ℕ) → Contains bs b → (k : ℕ) → k < 512 → get_or (w b) k 0 ≡ get_or (v b) k 0) →
+    room_from w after (find (λ block. has_gap (w block)) bs) ≡ room_from v inode (find (λ block. has_gap (v block)) bs)
+room_among v w inode after pointer [] same = ap (option_map Pointer) (find_below (λ i. direct_in inode i == 0) (λ i. direct_in after i == 0) 12 0 (λ i low. ap (λ b. b == 0) (pointer i low)))
+room_among v w inode after pointer (b ∷ bs) same =
+    ap (λ t. room_from w after (cond t (Some b) (find (λ block. has_gap (w block)) bs))) (gap_by (v b) (w b) (same b (Contains-head b bs)))
+    ∙ go (has_gap (v b)) (room_among v w inode after pointer bs (λ c i. same c (Contains-tail b bs c i)))
   where
-    pointer : (i : ℕ) → i < 12 → direct_in after i ≡ direct_in inode i
-    pointer i low = direct_get after i low ∙ (ap (λ ws. get_or ws i 0) direct ∙ sym (direct_get inode i low))
+    go : (t : Bool) → room_from w after (find (λ block. has_gap (w block)) bs) ≡ room_from v inode (find (λ block. has_gap (v block)) bs) →
+        room_from w after (cond t (Some b) (find (λ block. has_gap (w block)) bs)) ≡ room_from v inode (cond t (Some b) (find (λ block. has_gap (v block)) bs))
+    go true rest = ap (option_map (Entry b)) (gap_at (v b) (w b) (same b (Contains-head b bs)))
+    go false rest = rest
 
-    read : (content : ℕ → List ℕ) (x : List ℕ) (i b k : ℕ) → i < 12 → direct_in x i ≡ b → b ≢ 0 → k < 512 → byte_of content x (512 * i + k) ≡ get_or (content b) k 0
-    read content x i b k low is ne few =
-        let at : (512 * i + k) / 512 ≡ i = omega (arith, few) in
-        let rest : (512 * i + k) % 512 ≡ k = omega (arith, few) in
-        ap (λ j. byte_in content (file_block content x j) ((512 * i + k) % 512)) at
-        ∙ (ap (λ j. byte_in content (file_block content x i) j) rest
-        ∙ (ap (λ c. byte_in content c k) (direct_block content x i low ∙ is) ∙ ap (λ (t : Bool). if t then 0 else get_or (content b) k 0) (ne_eqb b 0 ne)))
+-- a directory whose pointers and bytes are as before has room as before
+module _ (v w : ℕ → List ℕ) (inode after : List ℕ) (direct : (fields_of after).direct ≡ (fields_of inode).direct) (each : (at : ℕ) → at < 71680 → byte_of w after at ≡ byte_of v inode at) where
+  pointer : (i : ℕ) → i < 12 → direct_in after i ≡ direct_in inode i
+  pointer i low = direct_get after i low ∙ (ap (λ ws. get_or ws i 0) direct ∙ sym (direct_get inode i low))
 
-    gaps : list_any (λ block. has_gap (w block)) (inode_blocks after) ≡ list_any (λ block. has_gap (v block)) (inode_blocks inode)
-    gaps =
-        ap (list_any (λ block. has_gap (w block))) (same_blocks inode after direct)
-        ∙ any_by (λ block. has_gap (v block)) (λ block. has_gap (w block)) (inode_blocks inode) (λ b has.
-        let x = direct_where inode b has in
-        let lt = x.1 in
-        gap_by (v b) (w b) (λ k few.
-        sym (read w after x.0 b k lt (pointer x.0 lt ∙ x.2) x.3 few) ∙ (each (512 * x.0 + k) (omega (arith, lt, few)) ∙ read v inode x.0 b k lt x.2 x.3 few)))
+  read : (content : ℕ → List ℕ) (x : List ℕ) (i b k : ℕ) → i < 12 → direct_in x i ≡ b → b ≢ 0 → k < 512 → byte_of content x (512 * i + k) ≡ get_or (content b) k 0
+  read content x i b k low is ne few =
+      let at : (512 * i + k) / 512 ≡ i = omega (arith, few) in
+      let rest : (512 * i + k) % 512 ≡ k = omega (arith, few) in
+      ap (λ j. byte_in content (file_block content x j) ((512 * i + k) % 512)) at
+      ∙ (ap (λ j. byte_in content (file_block content x i) j) rest
+      ∙ (ap (λ c. byte_in content c k) (direct_block content x i low ∙ is) ∙ ap (λ (t : Bool). if t then 0 else get_or (content b) k 0) (ne_eqb b 0 ne)))
+
+  bytes_by : (b : ℕ) → Contains (inode_blocks inode) b → (k : ℕ) → k < 512 → get_or (w b) k 0 ≡ get_or (v b) k 0
+  bytes_by b has k few =
+      let x = direct_where inode b has in
+      let lt = x.1 in
+      sym (read w after x.0 b k lt (pointer x.0 lt ∙ x.2) x.3 few) ∙ (each (512 * x.0 + k) (omega (arith, lt, few)) ∙ read v inode x.0 b k lt x.2 x.3 few)
+
+  pub place_by : room_in w after ≡ room_in v inode
+  place_by = ap (λ bs. room_from w after (find (λ block. has_gap (w block)) bs)) (same_blocks inode after direct) ∙ room_among v w inode after pointer (inode_blocks inode) bytes_by
+
+  pub room_by : has_room w after ≡ has_room v inode
+  room_by =
+      let gaps : list_any (λ block. has_gap (w block)) (inode_blocks after) ≡ list_any (λ block. has_gap (v block)) (inode_blocks inode) =
+      ap (list_any (λ block. has_gap (w block))) (same_blocks inode after direct)
+      ∙ any_by (λ block. has_gap (v block)) (λ block. has_gap (w block)) (inode_blocks inode) (λ b has. gap_by (v b) (w b) (bytes_by b has)) in
+      ap (λ t. t || list_any (λ index. direct_in after index == 0) (range_with_len 0 12)) gaps
+      ∙ ap (λ t. list_any (λ block. has_gap (v block)) (inode_blocks inode) || t) (any_below (λ i. direct_in inode i == 0) (λ i. direct_in after i == 0) 12 0 (λ i low. ap (λ b. b == 0) (pointer i low)))
+
+-- Where an entry is placed
+
+pub placed_before : (u v : ℕ → List ℕ) (first inode after : List ℕ) (entry : Slot) → room_in v inode ≡ room_in u first → (fields_of inode).direct ≡ (fields_of first).direct → word_at inode 4 ≡ word_at first 4 → IsPlaced v inode after entry → IsPlaced u first after entry
+placed_before u v first inode after entry room direct size p = elim p [
+  | inl x ↦ inl (x.0 ∙ room, x.1 ∙ direct, x.2 ∙ size)
+  | inr x ↦ inr (x.0, x.1 ∙ room, x.2, x.3 ∙ ap (λ ws. slice_set ws x.0 entry.block) direct, x.4)
+]
+
+pub placed_after : (u : ℕ → List ℕ) (inode after last : List ℕ) (entry : Slot) → (fields_of last).direct ≡ (fields_of after).direct → word_at last 4 ≡ word_at after 4 → IsPlaced u inode after entry → IsPlaced u inode last entry
+placed_after u inode after last entry direct size p = elim p [
+  | inl x ↦ inl (x.0, direct ∙ x.1, size ∙ x.2)
+  | inr x ↦ inr (x.0, x.1, x.2, direct ∙ x.3, size ∙ (x.4 ∙ ap (λ (bs : List ℕ). 512 * length bs) (sym (same_blocks after last direct))))
+]

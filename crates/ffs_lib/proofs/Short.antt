@@ -1,6 +1,6 @@
 -- Edits of a step that are refused for want of something alone.
-use Rattle.std.proofs.Common.{◌≡◌, ◌≢◌, ℕ, ◌*◌, ◌^◌, ◌<◌, ◌≤◌, true, ◌&&◌, List, [], ◌∷◌, length, get_or, Option, Some, Result, Ok, Err, refl, sym, ◌∙◌, ap, arith, subst, eq-eqb}
-use Rattle.std.specs.Prelude.{IsTrue, IfOk, OnOk, IsErrAnd, slice_set, replicate, ◌==◌}
+use Rattle.std.proofs.Common.{◌≡◌, ◌≢◌, ℕ, ◌*◌, ◌^◌, ◌<◌, true, ◌&&◌, List, [], ◌∷◌, length, get_or, Option, Some, Result, Ok, Err, refl, sym, ◌∙◌, ap, arith, subst, eq-eqb}
+use Rattle.std.specs.Prelude.{IsErrAnd, slice_set, replicate, ◌==◌}
 use Rattle.std.specs.Int.{w32, to_le_bytes}
 use Rattle.std.proofs.lemmas.Bool.{and_from}
 use Rattle.std.proofs.lemmas.Result.{err_from_is_err_and}
@@ -9,14 +9,13 @@ use Rattle.xn_model.specs.Types.{Types}
 use Rattle.xn_model.specs.Root.{word_at}
 use Rattle.xn_model.specs.Lives.{StoreState, alive_and, is_fresh, is_for, life_at}
 use Rattle.xn_model.specs.Results.{Gives}
-use Rattle.xn_model.specs.Calls.{Edit, init_of, may_add, new_life, propose_of, was_given}
-use Rattle.xn_model.specs.Rules.{IsConsistent}
+use Rattle.xn_model.specs.Calls.{Edit, init_of, may_add, new_life, propose_of}
 use Rattle.xn_model.proofs.ForCallers.{set_same}
 use Rattle.ffs_model.specs.Cuts.{Under, latest, root}
 use Rattle.ffs_model.specs.Names.{IsRoot}
 use Rattle.ffs_model.specs.Library.{inode_at, inode_pairs, library_layout, pointer_word}
 use Rattle.ffs_model.specs.Shortages.{is_shortage}
-use Rattle.ffs_model.proofs.ForCallers.{Replaces, data_short, direct_set, gives_short, inode_add_short, inode_freed_short, inode_short, inode_words, library_reads, propose_later, proposed_given, root_set_short, started, under_direct, under_inodes}
+use Rattle.ffs_model.proofs.ForCallers.{Replaces, data_short, direct_set, gives_short, inode_add_short, inode_freed_short, inode_short, inode_words, library_reads, root_set_short, started, under_direct, under_inodes}
 use Rattle.ffs_format.specs.Fields.{direct_in, fields_of}
 use Rattle.ffs_lookup.specs.declared.fault.FfsFault.{FfsFault}
 use Rattle.ffs_lookup.specs.declared.fault.FfsFault.TheVariants.{Kernel}
@@ -26,8 +25,9 @@ use Rattle.ffs_lookup.specs.Places.{IsEmptyPointer, IsPlace, IsSlot}
 use Rattle.ffs_lookup.proofs.ForCallers.{gives_ok}
 use Rattle.ffs_lib.specs.Edits.{edit_at, data_of_inode}
 use Rattle.ffs_lib.specs.Outcomes.{CanEdit, OnlyShort, HasNoData}
+use Rattle.ffs_lib.proofs.Fields.{direct_get}
 use Rattle.ffs_lib.proofs.Edited.{same_root}
-use Rattle.ffs_lib.proofs.Writing.{direct_get, get_apart, get_here}
+use Rattle.ffs_lib.proofs.Writing.{get_apart, get_here}
 
 -- Results
 
@@ -42,9 +42,6 @@ handed_on {A} result fault h s = let p = err_from_is_err_and result h in subst (
 pub short_fault : {A : Type 0} (r : Result A FfsFault) (fault : FfsFault) → r ≡ Err fault → OnlyShort r → is_short fault ≡ true
 short_fault {A} r fault e h = subst (λ (x : Result A FfsFault). OnlyShort x) e h
 
-pub not_ok_err : {A : Type 0} (r : Result A FfsFault) (x : A) (fault : FfsFault) → Ok x ≡ r → Err fault ≡ r → ⊥
-not_ok_err r x fault e f = cc
-
 -- Edits
 
 abbrev pub ShortEdit : Types → StoreState → ℕ → ℕ → Edit → Type 0
@@ -52,12 +49,6 @@ ShortEdit T state fs block edit = (r : Refusal) → propose_of T state fs block 
 
 pub refusal_short : (T : Types) (old new : StoreState) (fs block : ℕ) (edit same : Edit) (refusal : Refusal) → edit ≡ same → Gives (propose_of T old fs block edit) old new (Err refusal) → ShortEdit T old fs block same → is_shortage refusal ≡ true
 refusal_short T old new fs block edit same refusal e h short = gives_short (propose_of T old fs block edit) old new refusal h (λ s k. short s (ap (propose_of T old fs block) (sym e) ∙ k))
-
-pub number_given : (T : Types) (old new : StoreState) → IsConsistent T old → (fs block : ℕ) (edit same : Edit) (entry : ℕ) → edit ≡ same → Gives (propose_of T old fs block edit) old new (Ok entry) → IsTrue (was_given new (Some entry))
-number_given T old new h fs block edit same entry e done = proposed_given T old new h fs block edit entry (gives_ok (propose_of T old fs block edit) old new entry done)
-
-pub number_later : (T : Types) (old new : StoreState) (fs block : ℕ) (edit same : Edit) (entry : ℕ) → edit ≡ same → Gives (propose_of T old fs block edit) old new (Ok entry) → old.next ≤ new.next
-number_later T old new fs block edit same entry e done = propose_later T old new fs block edit (Ok entry) done
 
 -- a block that begins its life may be added
 pub begun_addable : (T : Types) (old new : StoreState) (fs ty block number : ℕ) (bytes : List ℕ) → Gives (init_of T old fs ty bytes) old new (Ok (block, number)) → may_add new fs (block, ty) ≡ true
@@ -114,10 +105,3 @@ module _ (T : Types) (state : StoreState) (after : Option ℕ) (can : CanEdit T 
   pointer_short block index c is empty small may =
       let same = same_root v fs empty.root block empty.is_root is in
       root_set_short T can.library state can.consistent fs few block (ap (λ r. length (v r)) (sym same) ∙ empty.long) after can.given (root is.at is.there) index c empty.few small (ap (λ r. pointer_word (v r) index) (sym same) ∙ empty.empty) may
-
--- the number of an edit that is handed on
-pub given_on : (attached result : Result ℕ FfsFault) (second third : StoreState) → result ≡ attached → OnOk result (third ≡ second) → IfOk attached (λ entry. IsTrue (was_given second (Some entry))) → IfOk result (λ entry. IsTrue (was_given third (Some entry)))
-given_on (Err fault) result second third is same given = subst (λ (r : Result ℕ FfsFault). IfOk r (λ entry. IsTrue (was_given third (Some entry)))) (sym is) tt
-given_on (Ok x) result second third is same given =
-    subst (λ (r : Result ℕ FfsFault). IfOk r (λ entry. IsTrue (was_given third (Some entry)))) (sym is)
-    (subst (λ (s : StoreState). IsTrue (was_given s (Some x))) (sym (subst (λ (r : Result ℕ FfsFault). OnOk r (third ≡ second)) is same)) given)

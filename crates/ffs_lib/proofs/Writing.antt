@@ -29,7 +29,8 @@ use Rattle.ffs_lib.specs.Results.{IsWritten, SameInode, byte_written}
 use Rattle.ffs_lib.proofs.Frames.{byte_apart, byte_within}
 use Rattle.ffs_lib.proofs.Owners.{Stands, block_at, direct_block, not_first, passed, pointers_apart, pointers_at, stands_from, two_blocks}
 use Rattle.ffs_lookup.proofs.ForCallers.{file_is, gives_ok, in_file, same_ok}
-use Rattle.ffs_lib.proofs.Entering.{get_mapped, inode_put}
+use Rattle.ffs_lib.proofs.Entering.{inode_put}
+use Rattle.ffs_lib.proofs.Fields.{direct_get}
 use Rattle.ffs_lib.proofs.Same.{Touches, avoids, begun, begun_some, data_touched, edited, file_block_by, file_block_same, none_touched, pointers_touched, reached_before, inodes_same, same_on, word_read}
 
 -- A file is an inode in use
@@ -241,9 +242,6 @@ get_apart (w ∷ ws) zero b zero ne = absurd (ne refl)
 get_apart (w ∷ ws) zero b (suc j) ne = refl
 get_apart (w ∷ ws) (suc k) b zero ne = refl
 get_apart (w ∷ ws) (suc k) b (suc j) ne = get_apart ws k b j (λ e. ne (ap suc e))
-
-pub direct_get : (bytes : List ℕ) (i : ℕ) → i < 12 → direct_in bytes i ≡ get_or (fields_of bytes).direct i 0
-direct_get bytes i lt = let z : 0 + i ≡ i = omega arith in ap (λ k. direct_in bytes k) (sym z) ∙ sym (get_mapped (direct_in bytes) 12 0 i lt)
 
 -- the blocks of a file by its own pointers and that to its block of pointers
 pub blocks_agree : (content : ℕ → List ℕ) (a b : List ℕ) (i : ℕ) → (i < 12 → direct_in a i ≡ direct_in b i) → word_at a 56 ≡ word_at b 56 → file_block content a i ≡ file_block content b i

@@ -2,3 +2,5 @@ pub mod Edits
 pub mod Results
 pub mod Outcomes
 pub mod Volumes
+pub mod Steps
+pub mod Once

@@ -1,7 +1,7 @@
 -- What the edits of a volume leave, each for every array of numbers for which a volume's rules held before.
 --     Keeps T fs old new      a volume's rules hold on
 --     IsMade, ..              and what may come next
-use Rattle.std.specs.Prelude.{◌≡◌, ◌≢◌, ℕ, ◌-◌, ◌/◌, ◌<◌, List, [], Option, None, Ok, Contains, length, max, ◌+◌, slice_set, Some, Bool, true, IfErr, IsTrue, Result, Err}
+use Rattle.std.specs.Prelude.{◌≡◌, ◌≢◌, ℕ, ◌-◌, ◌*◌, ◌/◌, ◌<◌, List, [], Option, None, Ok, Contains, length, max, ◌+◌, slice_set, Some, Bool, true, IfErr, IsTrue, Result}
 use Rattle.xn_model.specs.Types.{Types}
 use Rattle.xn_model.specs.Lists.{put}
 use Rattle.xn_model.specs.Root.{slot, word_at}
@@ -9,18 +9,14 @@ use Rattle.xn_model.specs.Lives.{Life, StoreState, life_at}
 use Rattle.xn_model.specs.Calls.{may_add, was_given}
 use Rattle.ffs_model.specs.Cuts.{Under, latest}
 use Rattle.ffs_model.specs.Names.{IsInodes}
-use Rattle.ffs_model.specs.Edits.{HoldsOnly, OneEntry}
-use Rattle.ffs_model.specs.Volumes.{VolumeKeeps, CanName, CanUnlink, with_edit, without_edit}
+use Rattle.ffs_model.specs.Edits.{HoldsOnly}
+use Rattle.ffs_model.specs.Volumes.{VolumeKeeps, CanName, with_edit, without_edit}
 use Rattle.ffs_model.specs.Library.{inode_blocks, inode_links, library_layout, IsLibrary, zeros}
 use Rattle.xn_model.specs.Rules.{IsConsistent}
 use Rattle.ffs_lookup.specs.declared.fault.FfsFault.{FfsFault}
-use Rattle.ffs_lookup.specs.declared.fault.FfsFault.TheVariants.{NoEntry}
-use Rattle.ffs_lookup.specs.declared.places.Found.{Found}
-use Rattle.ffs_lookup.specs.declared.places.Slot.{Slot}
 use Rattle.ffs_format.specs.Fields.{fields_of}
-use Rattle.ffs_lookup.specs.Newest.{byte_of, directory_in, file_block, file_in, inode_in, is_short, listing, make_in, without_entry, has_empty_pointer, inode_block_in, root_in}
-use Rattle.ffs_lib.specs.Results.{AsBefore, HasMore, MadeVolume, SameInode, byte_written, new_inode}
-use Rattle.ffs_lookup.specs.Places.{IsDirectory}
+use Rattle.ffs_lookup.specs.Newest.{byte_of, directory_in, file_block, file_in, is_short, make_in, has_empty_pointer, inode_block_in, root_in}
+use Rattle.ffs_lib.specs.Results.{MadeVolume, SameInode, byte_written, new_inode}
 
 abbrev pub Keeps : Types → ℕ → StoreState → StoreState → Type 0
 Keeps T fs old new = IsLibrary T → (array : ℕ → Option ℕ) → VolumeKeeps T library_layout fs array old → VolumeKeeps T library_layout fs array new
@@ -31,44 +27,11 @@ pub record IsMade (T : Types) (fs : ℕ) (array : ℕ → Option ℕ) (n entry :
   pub forgets : VolumeKeeps T library_layout fs (without_edit array (library_layout.home n).0) new
   pub can : CanName library_layout new.lives fs n entry
 
-abbrev pub Makes : Types → ℕ → StoreState → StoreState → ℕ → Option ℕ → ℕ → Type 0
-Makes T fs old new n after entry = IsLibrary T → (array : ℕ → Option ℕ) → VolumeKeeps T library_layout fs array old → after ≡ array (library_layout.home n).0 → IsMade T fs array n entry new
-
 -- a block of inodes was attached by an edit, whose number is recorded
 pub record IsAdded (T : Types) (fs : ℕ) (array : ℕ → Option ℕ) (index block entry : ℕ) (new : StoreState) : Type 0 where
   pub keeps : VolumeKeeps T library_layout fs (with_edit array index entry) new
   pub inodes : IsInodes library_layout (latest new.lives) fs index block
   pub empty : latest new.lives block ≡ zeros
-
-abbrev pub Attaches : Types → ℕ → StoreState → StoreState → ℕ → ℕ → ℕ → Type 0
-Attaches T fs old new index block entry = IsLibrary T → (array : ℕ → Option ℕ) → VolumeKeeps T library_layout fs array old → HoldsOnly old.lives block zeros → latest old.lives block ≡ zeros → block ≢ 0 → IsAdded T fs array index block entry new
-
-abbrev pub Adds : Types → ℕ → StoreState → StoreState → ℕ → ℕ → ℕ → Type 0
-Adds T fs old new index block entry = IsLibrary T → (array : ℕ → Option ℕ) → VolumeKeeps T library_layout fs array old → IsAdded T fs array index block entry new
-
--- an inode that may be named was
-abbrev pub Names : Types → ℕ → StoreState → StoreState → ℕ → ℕ → Type 0
-Names T fs old new n after = IsLibrary T → (array : ℕ → Option ℕ) → VolumeKeeps T library_layout fs array old → n ≢ 0 → CanName library_layout old.lives fs n after → VolumeKeeps T library_layout fs array new
-
--- a directory has a new block, whose one entry names an inode
-abbrev pub Grows : Types → ℕ → StoreState → StoreState → ℕ → ℕ → Type 0
-Grows T fs old new block after = IsLibrary T → (array : ℕ → Option ℕ) (n : ℕ) (bytes : List ℕ) → VolumeKeeps T library_layout fs array old → n ≢ 0 → HoldsOnly old.lives block bytes → OneEntry library_layout bytes n →
-    CanName library_layout old.lives fs n after → VolumeKeeps T library_layout fs array new
-
--- after an edit an inode may be named, or a link taken from it
-abbrev pub Lets : Types → ℕ → StoreState → StoreState → ℕ → ℕ → Type 0
-Lets T fs old new n entry = IsLibrary T → (array : ℕ → Option ℕ) → VolumeKeeps T library_layout fs array old → VolumeKeeps T library_layout fs array new × CanName library_layout new.lives fs n entry
-
-abbrev pub Clears : Types → ℕ → StoreState → StoreState → ℕ → ℕ → Type 0
-Clears T fs old new n entry = IsLibrary T → (array : ℕ → Option ℕ) → VolumeKeeps T library_layout fs array old → VolumeKeeps T library_layout fs array new × CanUnlink library_layout new.lives fs n entry
-
--- a link that may be taken was; blocks were dropped before that
-abbrev pub Unlinks : Types → ℕ → StoreState → StoreState → ℕ → ℕ → Type 0
-Unlinks T fs old new n after = IsLibrary T → (array : ℕ → Option ℕ) → VolumeKeeps T library_layout fs array old → n ≢ 0 → CanUnlink library_layout old.lives fs n after → VolumeKeeps T library_layout fs array new
-
-abbrev pub Drops : Types → ℕ → StoreState → StoreState → ℕ → ℕ → ℕ → Type 0
-Drops T fs old new n after entry = IsLibrary T → (array : ℕ → Option ℕ) → VolumeKeeps T library_layout fs array old → n ≢ 0 → CanUnlink library_layout old.lives fs n after →
-    VolumeKeeps T library_layout fs array new × CanUnlink library_layout new.lives fs n entry
 
 -- what holds only some bytes still does
 abbrev pub Leaves : Types → ℕ → StoreState → StoreState → Type 0
@@ -87,27 +50,10 @@ Starts T fs old new block = IsLibrary T → (array : ℕ → Option ℕ) (bytes 
 -- What is found in directories
 --     StaysListed, LosesEntry    all directories but one inode's stay as they are; an entry is gone from each that had it
 
-abbrev pub StaysListed : Types → ℕ → ℕ → StoreState → StoreState → Type 0
-StaysListed T fs n old new = IsLibrary T → IsConsistent T old → (d : ℕ) (found : Found) → d ≢ n → IsDirectory old fs d found →
-    IsDirectory new fs d found × (listing (latest new.lives) found.inode ≡ listing (latest old.lives) found.inode)
-
-abbrev pub LosesEntry : Types → ℕ → Slot → StoreState → StoreState → Type 0
-LosesEntry T fs entry old new = IsLibrary T → IsConsistent T old → (d : ℕ) (found : Found) → IsDirectory old fs d found →
-    IsDirectory new fs d found × (listing (latest new.lives) found.inode ≡ without_entry entry (listing (latest old.lives) found.inode))
-
 -- What stands in the newest bytes
 --     Stays, StaysBut    all inodes are as before; all but one are
 --     PutsInode          one is these bytes
 --     Enters             a directory has one entry more
-
-abbrev pub Stays : Types → ℕ → StoreState → StoreState → Type 0
-Stays T fs old new = IsLibrary T → IsConsistent T old → (d : ℕ) → SameInode (latest old.lives) (latest new.lives) fs d
-
-abbrev pub StaysBut : Types → ℕ → ℕ → StoreState → StoreState → Type 0
-StaysBut T fs n old new = IsLibrary T → IsConsistent T old → (d : ℕ) → d ≢ n → SameInode (latest old.lives) (latest new.lives) fs d
-
-abbrev pub PutsInode : Types → ℕ → ℕ → List ℕ → StoreState → StoreState → Type 0
-PutsInode T fs n bytes old new = IsLibrary T → IsConsistent T old → (inode_in (latest new.lives) fs n ≡ Ok bytes) × ((d : ℕ) → d ≢ n → SameInode (latest old.lives) (latest new.lives) fs d)
 
 -- the directory's inode points to a block more, and no block changes but its own
 pub record IsGrown (old new : ℕ → List ℕ) (fs d : ℕ) (inode : List ℕ) (index block : ℕ) : Type 0 where
@@ -115,17 +61,9 @@ pub record IsGrown (old new : ℕ → List ℕ) (fs d : ℕ) (inode : List ℕ) 
   pub directory : Ok after ≡ directory_in new fs d
   pub links : inode_links after ≡ inode_links inode
   pub direct : (fields_of after).direct ≡ slice_set (fields_of inode).direct index block
+  pub size : word_at after 4 ≡ 512 * length (inode_blocks after)
   pub bytes : (c : ℕ) → (IsInodes library_layout old fs ((d - 1) / 8) c → ⊥) → new c ≡ old c
   pub others : (e : ℕ) → e ≢ d → SameInode old new fs e
-
-abbrev pub GrowsDirectory : Types → ℕ → ℕ → ℕ → ℕ → StoreState → StoreState → Type 0
-GrowsDirectory T fs d index block old new = IsLibrary T → IsConsistent T old →
-    (inode : List ℕ) × (Ok inode ≡ directory_in (latest old.lives) fs d) × IsGrown (latest old.lives) (latest new.lives) fs d inode index block
-
-abbrev pub Enters : Types → ℕ → ℕ → List ℕ → ℕ → StoreState → StoreState → Type 0
-Enters T fs d name n old new = IsLibrary T → IsConsistent T old → n ≢ 0 →
-    ((inode : List ℕ) → Ok inode ≡ directory_in (latest old.lives) fs d → HasMore (latest old.lives) (latest new.lives) fs d inode name n)
-    × ((e : ℕ) → e ≢ d → SameInode (latest old.lives) (latest new.lives) fs e)
 
 -- What stands in the bytes of a file
 --     WritesBytes      bytes are written into it, and its size stays
@@ -197,23 +135,6 @@ RaisesSize T fs n size old new = IsLibrary T → (array : ℕ → Option ℕ) �
 --     Frees                    it is free
 --     LosesName                an entry is cleared, in the directory that has its block
 
-abbrev pub Relinks : Types → ℕ → StoreState → StoreState → Type 0
-Relinks T fs old new = IsLibrary T → IsConsistent T old → (d : ℕ) → AsBefore (latest old.lives) (latest new.lives) fs d
-
-abbrev pub MoreLinks : Types → ℕ → ℕ → StoreState → StoreState → Type 0
-MoreLinks T fs n old new = IsLibrary T → IsConsistent T old → (inode after : List ℕ) → Ok inode ≡ inode_in (latest old.lives) fs n → Ok after ≡ inode_in (latest new.lives) fs n → inode_links after ≡ inode_links inode + 1
-
-abbrev pub LessLinks : Types → ℕ → ℕ → StoreState → StoreState → Type 0
-LessLinks T fs n old new = IsLibrary T → IsConsistent T old → (inode after : List ℕ) → Ok inode ≡ inode_in (latest old.lives) fs n → Ok after ≡ inode_in (latest new.lives) fs n → inode_links after + 1 ≡ inode_links inode
-
-abbrev pub Frees : Types → ℕ → ℕ → StoreState → StoreState → Type 0
-Frees T fs n old new = IsLibrary T → IsConsistent T old → inode_in (latest new.lives) fs n ≡ Err NoEntry
-
-abbrev pub LosesName : Types → ℕ → Slot → StoreState → StoreState → Type 0
-LosesName T fs entry old new = IsLibrary T → IsConsistent T old →
-    ((d : ℕ) → inode_in (latest new.lives) fs d ≡ inode_in (latest old.lives) fs d) × ((inode : List ℕ) → listing (latest new.lives) inode ≡ without_entry entry (listing (latest old.lives) inode))
-    × ((n : ℕ) (own : List ℕ) → Ok own ≡ inode_in (latest old.lives) fs n → Contains (inode_blocks own) entry.block → (d : ℕ) → d ≢ n → SameInode (latest old.lives) (latest new.lives) fs d)
-
 -- What stands after the edits that make a volume
 --     SetsRoot          the root slot names a block, and no other changes
 --     IsReady           a root block without a first block of inodes is there, and all inodes are as before
@@ -261,7 +182,3 @@ pub record HasFreePointer (content : ℕ → List ℕ) (fs : ℕ) : Type 0 where
 
 abbrev pub HasNoData : Types → (ℕ → List ℕ) → List ℕ → Type 0
 HasNoData T content inode = word_at inode 56 ≢ 0 → T.owned 5 (content (word_at inode 56)) ≡ []
-
-abbrev pub DropsData : Types → ℕ → ℕ → StoreState → StoreState → Type 0
-DropsData T fs n old new = IsLibrary T → IsConsistent T old → (inode : List ℕ) → Ok inode ≡ inode_in (latest old.lives) fs n →
-    (Ok inode ≡ inode_in (latest new.lives) fs n) × HasNoData T (latest new.lives) inode

@@ -2,19 +2,25 @@
 --     SameContents, SameInode    the entries and the bytes of an inode are as before; the inode with a number is, with all it has
 --     OthersSame, OnlyChanges    so are all inodes but those with two numbers; but that with one
 --     new_inode                  an inode with one link, size 0 and no block
+--     place_in                   the 64 bytes at the place of an inode, in use or not
+--     IsPlaced, IsLowestNumber   an entry stands where it should; an inode is the lowest free one
 --     HasMore, MadeEntry         a directory has one entry more; it names a new inode
 --     MadeVolume                 a file system has a top directory
 --     byte_written, IsWritten    the bytes of a file after a write
 --     IsAs, AsBefore             an inode is as before but for its links
 --     IsLinked, TookLink         it is, with so many links; it lost one, or is free
 --     MovedEntry                 an entry went to another directory, or got another name
-use Rattle.std.specs.Prelude.{◌≡◌, ◌≢◌, ℕ, ◌+◌, ◌-◌, ◌<◌, ◌≤◌, ◌&&◌, List, ◌∷◌, ◌++◌, length, max, nat_le, nat_lt, get_or, replicate, Ok, Err, if◌then◌else◌, ◌==◌, Some, None}
+use Rattle.std.specs.Prelude.{◌≡◌, ◌≢◌, ℕ, ◌+◌, ◌-◌, ◌*◌, ◌/◌, ◌%◌, ◌<◌, ◌≤◌, ◌⊎◌, ◌&&◌, List, ◌∷◌, ◌++◌, length, max, nat_le, nat_lt, get_or, replicate, slice_set, Result, Ok, Err, false, if◌then◌else◌, ◌==◌, Some, None}
+use Rattle.std.specs.List.{list_any}
 use Rattle.std.specs.Int.{w16, to_le_bytes}
 use Rattle.xn_model.specs.Root.{word_at}
-use Rattle.ffs_model.specs.Library.{inode_links, inode_mode}
+use Rattle.ffs_model.specs.Library.{inode_at, inode_blocks, inode_links, inode_mode}
+use Rattle.ffs_lookup.specs.declared.fault.FfsFault.{FfsFault}
 use Rattle.ffs_lookup.specs.declared.fault.FfsFault.TheVariants.{NoEntry}
 use Rattle.ffs_lookup.specs.declared.places.Slot.{Slot}
-use Rattle.ffs_lookup.specs.Newest.{byte_of, directory_in, file_end, file_in, first_named, has_room, inode_in, listing, without_entry}
+use Rattle.ffs_lookup.specs.declared.places.Room.TheVariants.{Entry, Pointer}
+use Rattle.ffs_format.specs.Fields.{fields_of}
+use Rattle.ffs_lookup.specs.Newest.{and_then, byte_of, directory_in, file_end, file_in, first_named, has_room, inode_block_in, inode_in, is_at, listing, number_in, room_in, root_in, without_entry}
 
 -- Inodes that stay
 
@@ -36,8 +42,19 @@ OnlyChanges old new fs n = (d : ℕ) → d ≢ n → SameInode old new fs d
 abbrev pub new_inode : ℕ → List ℕ
 new_inode mode = to_le_bytes w16 mode ++ to_le_bytes w16 1 ++ replicate 60 0
 
--- The directory with a number, whose inode was this one, has its old entries in their order and one more, which is the first with its
--- name where none had it before. It has as many links.
+abbrev pub place_in : (ℕ → List ℕ) → ℕ → ℕ → Result (List ℕ) FfsFault
+place_in content fs n = and_then (inode_block_in content fs ((n - 1) / 8)) (λ block. Ok (inode_at (content block) ((n - 1) % 8)))
+
+-- An entry stands at the first place without one in the first block that has one, and the inode has its blocks and its size; or else it stands
+-- in a new block at the first empty pointer, and the size is 512 times the blocks.
+abbrev pub IsPlaced : (ℕ → List ℕ) → List ℕ → List ℕ → Slot → Type 0
+IsPlaced old inode after entry =
+    ((Some (Entry entry.block entry.place) ≡ room_in old inode) × ((fields_of after).direct ≡ (fields_of inode).direct) × (word_at after 4 ≡ word_at inode 4))
+    ⊎ ((index : ℕ) × (Some (Pointer index) ≡ room_in old inode) × (entry.place ≡ 0)
+    × ((fields_of after).direct ≡ slice_set (fields_of inode).direct index entry.block) × (word_at after 4 ≡ 512 * length (inode_blocks after)))
+
+-- The directory with a number, whose inode was this one, has its old entries in their order and one more, at a place where none stood, which
+-- is the first with its name where none had it before. It has as many links.
 pub record HasMore (old new : ℕ → List ℕ) (fs d : ℕ) (inode name : List ℕ) (n : ℕ) : Type 0 where
   pub after : List ℕ
   pub directory : Ok after ≡ directory_in new fs d
@@ -48,7 +65,13 @@ pub record HasMore (old new : ℕ → List ℕ) (fs d : ℕ) (inode name : List 
   pub back : List (Slot × List ℕ)
   pub was : listing old inode ≡ front ++ back
   pub is : listing new after ≡ front ++ (entry, name) ∷ back
+  pub alone : list_any (λ p. is_at entry p.0) (listing old inode) ≡ false
+  pub placed : IsPlaced old inode after entry
   pub first : None ≡ first_named old inode name → Some entry ≡ first_named new after name
+
+-- the number of the lowest free inode
+abbrev pub IsLowestNumber : (ℕ → List ℕ) → ℕ → ℕ → Type 0
+IsLowestNumber content fs n = (root : ℕ) → Ok root ≡ root_in content fs → Some n ≡ number_in content root
 
 -- A free inode came into use, and the directory with number d names it.
 pub record MadeEntry (old new : ℕ → List ℕ) (fs d : ℕ) (name : List ℕ) (mode n : ℕ) : Type 0 where
@@ -87,6 +110,7 @@ pub record IsAs (old new : ℕ → List ℕ) (fs d : ℕ) (inode : List ℕ) : T
   pub size : word_at after 4 ≡ word_at inode 4
   pub entries : listing new after ≡ listing old inode
   pub each : (at : ℕ) → at < 71680 → byte_of new after at ≡ byte_of old inode at
+  pub direct : (fields_of after).direct ≡ (fields_of inode).direct
   pub room : has_room new after ≡ has_room old inode
 
 abbrev pub AsBefore : (ℕ → List ℕ) → (ℕ → List ℕ) → ℕ → ℕ → Type 0
@@ -96,21 +120,24 @@ AsBefore old new fs d = (inode : List ℕ) → Ok inode ≡ inode_in old fs d �
 abbrev pub IsLinked : (ℕ → List ℕ) → (ℕ → List ℕ) → ℕ → ℕ → List ℕ → ℕ → Type 0
 IsLinked old new fs d inode links = (is : IsAs old new fs d inode) × (inode_links is.after ≡ links)
 
--- The inode with number n lost a link: where it had more it is as before but for that, and else it is free.
+-- The inode with number n lost a link: where it had more it is as before but for that, and else it is free, which is 64 zeros.
 pub record TookLink (old new : ℕ → List ℕ) (fs n : ℕ) (inode : List ℕ) : Type 0 where
   pub kept : 1 < inode_links inode → IsLinked old new fs n inode (inode_links inode - 1)
   pub freed : inode_links inode ≤ 1 → inode_in new fs n ≡ Err NoEntry
+  pub zeroed : inode_links inode ≤ 1 → place_in new fs n ≡ Ok (replicate 64 0)
 
 -- An entry that is moved
 
--- the directory with a number has lost an entry, and has as many links
+-- the directory with a number has lost an entry, and has its links, its blocks and its size
 pub record HasLost (old new : ℕ → List ℕ) (fs d : ℕ) (inode : List ℕ) (entry : Slot) : Type 0 where
   pub after : List ℕ
   pub directory : Ok after ≡ directory_in new fs d
   pub links : inode_links after ≡ inode_links inode
+  pub direct : (fields_of after).direct ≡ (fields_of inode).direct
+  pub size : word_at after 4 ≡ word_at inode 4
   pub is : listing new after ≡ without_entry entry (listing old inode)
 
--- it has lost one and got another, with a new name for the same inode, and has as many links
+-- it has lost one and got another, with a new name for the same inode, which stands there; it has as many links
 pub record HasRenamed (old new : ℕ → List ℕ) (fs d : ℕ) (inode : List ℕ) (entry : Slot) (name : List ℕ) : Type 0 where
   pub after : List ℕ
   pub directory : Ok after ≡ directory_in new fs d
@@ -120,7 +147,8 @@ pub record HasRenamed (old new : ℕ → List ℕ) (fs d : ℕ) (inode : List �
   pub front : List (Slot × List ℕ)
   pub back : List (Slot × List ℕ)
   pub was : listing old inode ≡ front ++ back
-  pub is : listing new after ≡ without_entry entry (front ++ (place, name) ∷ back)
+  pub is : listing new after ≡ without_entry entry front ++ (place, name) ∷ without_entry entry back
+  pub placed : IsPlaced old inode after place
 
 -- An entry went from the directory with a number to that with another, which may be the same. All inodes but those two and the one that
 -- it names are as before; that one is too, with as many links, where it is neither of the two. The first keeps its inode where it is

@@ -39,7 +39,8 @@ fn attach_direct<S: Store>(
     ensures types { S.types_of store.new ≡ S.types_of store.old }
     ensures attached { OnOk result (AttachesBlock (S.types_of store.old) fs.number number index block (S.state_of store.old) (S.state_of store.new)) }
     ensures keeps { Keeps (S.types_of store.old) fs.number (S.state_of store.old) (S.state_of store.new) }
-    ensures short { CanEdit (S.types_of store.old) (S.state_of store.old) None → (inode : List ℕ) → Ok inode ≡ file_in (latest (S.state_of store.old).lives) fs.number number → direct_in inode index ≡ 0 →
+    ensures short { CanEdit (S.types_of store.old) (S.state_of store.old) None → (inode : List ℕ) →
+        Ok inode ≡ file_in (latest (S.state_of store.old).lives) fs.number number → direct_in inode index ≡ 0 →
         IsTrue (may_add (S.state_of store.old) fs.number (block, 2)) → OnlyShort result }
     ensures given { IfOk result (λ entry. IsTrue (was_given (S.state_of store.new) (Some entry))) }
 {
@@ -67,9 +68,11 @@ fn write_direct<S: Store>(
     requires within { at + length bytes.now ≤ 512 }
     requires some { 0 < length bytes.now }
     ensures types { S.types_of store.new ≡ S.types_of store.old }
-    ensures written { OnOk result (WritesBytes (S.types_of store.old) fs.number number (512 * index + at) bytes.now (S.state_of store.old) (S.state_of store.new)) }
+    ensures written { OnOk result (WritesBytes (S.types_of store.old) fs.number number (512 * index + at) bytes.now (S.state_of store.old)
+        (S.state_of store.new)) }
     ensures keeps { Keeps (S.types_of store.old) fs.number (S.state_of store.old) (S.state_of store.new) }
-    ensures short { CanEdit (S.types_of store.old) (S.state_of store.old) None → (inode : List ℕ) → Ok inode ≡ file_in (latest (S.state_of store.old).lives) fs.number number → OnlyShort result }
+    ensures short { CanEdit (S.types_of store.old) (S.state_of store.old) None → (inode : List ℕ) →
+        Ok inode ≡ file_in (latest (S.state_of store.old).lives) fs.number number → OnlyShort result }
     ensures given { IfOk result (λ entry. IsTrue (was_given (S.state_of store.new) (Some entry))) }
 {
     let block = find_file(store, fs, number)?.inode.direct(index);
@@ -94,9 +97,11 @@ fn attach_pointers<S: Store>(
     ensures types { S.types_of store.new ≡ S.types_of store.old }
     ensures attached { OnOk result (AttachesPointers (S.types_of store.old) fs.number number block (S.state_of store.old) (S.state_of store.new)) }
     ensures keeps { Keeps (S.types_of store.old) fs.number (S.state_of store.old) (S.state_of store.new) }
-    ensures short { CanEdit (S.types_of store.old) (S.state_of store.old) None → (inode : List ℕ) → Ok inode ≡ file_in (latest (S.state_of store.old).lives) fs.number number → word_at inode 56 ≡ 0 →
+    ensures short { CanEdit (S.types_of store.old) (S.state_of store.old) None → (inode : List ℕ) →
+        Ok inode ≡ file_in (latest (S.state_of store.old).lives) fs.number number → word_at inode 56 ≡ 0 →
         IsTrue (may_add (S.state_of store.old) fs.number (block, 5)) → OnlyShort result }
-    ensures pointed { OnOk result (CanEdit (S.types_of store.old) (S.state_of store.old) None → block ≢ 0 → HasPointers (S.types_of store.old) (S.state_of store.new) fs.number number) }
+    ensures pointed { OnOk result (CanEdit (S.types_of store.old) (S.state_of store.old) None → block ≢ 0 →
+        HasPointers (S.types_of store.old) (S.state_of store.new) fs.number number) }
     ensures given { IfOk result (λ entry. IsTrue (was_given (S.state_of store.new) (Some entry))) }
 {
     let Found {
@@ -120,8 +125,11 @@ fn add_pointers<S: Store>(alloc: Global, store: &mut S, fs: Fs, number: u16) -> 
     ensures types { S.types_of store.new ≡ S.types_of store.old }
     ensures same { OnOk result (WritesBytes (S.types_of store.old) fs.number number 0 [] (S.state_of store.old) (S.state_of store.new)) }
     ensures keeps { Keeps (S.types_of store.old) fs.number (S.state_of store.old) (S.state_of store.new) }
-    ensures short { CanEdit (S.types_of store.old) (S.state_of store.old) None → (inode : List ℕ) → Ok inode ≡ file_in (latest (S.state_of store.old).lives) fs.number number → OnlyShort result }
-    ensures pointed { OnOk result (CanEdit (S.types_of store.old) (S.state_of store.old) None → (inode : List ℕ) → Ok inode ≡ file_in (latest (S.state_of store.old).lives) fs.number number → HasPointers (S.types_of store.old) (S.state_of store.new) fs.number number) }
+    ensures short { CanEdit (S.types_of store.old) (S.state_of store.old) None → (inode : List ℕ) →
+        Ok inode ≡ file_in (latest (S.state_of store.old).lives) fs.number number → OnlyShort result }
+    ensures pointed { OnOk result (CanEdit (S.types_of store.old) (S.state_of store.old) None → (inode : List ℕ) →
+        Ok inode ≡ file_in (latest (S.state_of store.old).lives) fs.number number →
+        HasPointers (S.types_of store.old) (S.state_of store.new) fs.number number) }
 {
     if find_file(store, fs, number)?.inode.indirect() == 0 {
         let (block, _) = store.init(fs, POINTER_BLOCK, &[0; 512])?;
@@ -144,8 +152,10 @@ fn attach_data<S: Store>(
     ensures types { S.types_of store.new ≡ S.types_of store.old }
     ensures attached { OnOk result (AttachesData (S.types_of store.old) fs.number number place block (S.state_of store.old) (S.state_of store.new)) }
     ensures keeps { Keeps (S.types_of store.old) fs.number (S.state_of store.old) (S.state_of store.new) }
-    ensures short { CanEdit (S.types_of store.old) (S.state_of store.old) None → (inode : List ℕ) → Ok inode ≡ file_in (latest (S.state_of store.old).lives) fs.number number → word_at inode 56 ≢ 0 →
-        pointer_word (latest (S.state_of store.old).lives (word_at inode 56)) place ≡ 0 → length (latest (S.state_of store.old).lives (word_at inode 56)) ≡ 512 →
+    ensures short { CanEdit (S.types_of store.old) (S.state_of store.old) None → (inode : List ℕ) →
+        Ok inode ≡ file_in (latest (S.state_of store.old).lives) fs.number number → word_at inode 56 ≢ 0 →
+        pointer_word (latest (S.state_of store.old).lives (word_at inode 56)) place ≡ 0 →
+        length (latest (S.state_of store.old).lives (word_at inode 56)) ≡ 512 →
         IsTrue (may_add (S.state_of store.old) fs.number (block, 2)) → OnlyShort result }
     ensures given { IfOk result (λ entry. IsTrue (was_given (S.state_of store.new) (Some entry))) }
 {
@@ -171,9 +181,11 @@ fn write_indirect<S: Store>(
     requires within { at + length bytes.now ≤ 512 }
     requires some { 0 < length bytes.now }
     ensures types { S.types_of store.new ≡ S.types_of store.old }
-    ensures written { OnOk result (WritesBytes (S.types_of store.old) fs.number number (512 * (12 + place) + at) bytes.now (S.state_of store.old) (S.state_of store.new)) }
+    ensures written { OnOk result (WritesBytes (S.types_of store.old) fs.number number (512 * (12 + place) + at) bytes.now (S.state_of store.old)
+        (S.state_of store.new)) }
     ensures keeps { Keeps (S.types_of store.old) fs.number (S.state_of store.old) (S.state_of store.new) }
-    ensures short { CanEdit (S.types_of store.old) (S.state_of store.old) None → (inode : List ℕ) → Ok inode ≡ file_in (latest (S.state_of store.old).lives) fs.number number → OnlyShort result }
+    ensures short { CanEdit (S.types_of store.old) (S.state_of store.old) None → (inode : List ℕ) →
+        Ok inode ≡ file_in (latest (S.state_of store.old).lives) fs.number number → OnlyShort result }
     ensures given { IfOk result (λ entry. IsTrue (was_given (S.state_of store.new) (Some entry))) }
 {
     add_pointers(alloc, store, fs, number)?;
@@ -206,9 +218,11 @@ pub fn write_block<S: Store>(
     requires within { at + length bytes.now ≤ 512 }
     requires some { 0 < length bytes.now }
     ensures types { S.types_of store.new ≡ S.types_of store.old }
-    ensures written { OnOk result (WritesBytes (S.types_of store.old) fs.number number (512 * index + at) bytes.now (S.state_of store.old) (S.state_of store.new)) }
+    ensures written { OnOk result (WritesBytes (S.types_of store.old) fs.number number (512 * index + at) bytes.now (S.state_of store.old)
+        (S.state_of store.new)) }
     ensures keeps { Keeps (S.types_of store.old) fs.number (S.state_of store.old) (S.state_of store.new) }
-    ensures short { CanEdit (S.types_of store.old) (S.state_of store.old) None → (inode : List ℕ) → Ok inode ≡ file_in (latest (S.state_of store.old).lives) fs.number number → OnlyShort result }
+    ensures short { CanEdit (S.types_of store.old) (S.state_of store.old) None → (inode : List ℕ) →
+        Ok inode ≡ file_in (latest (S.state_of store.old).lives) fs.number number → OnlyShort result }
     ensures given { IfOk result (λ entry. IsTrue (was_given (S.state_of store.new) (Some entry))) }
 {
     if index < DIRECT_POINTERS {
@@ -230,7 +244,8 @@ pub fn raise_size<S: Store>(
     ensures types { S.types_of store.new ≡ S.types_of store.old }
     ensures raised { OnOk result (RaisesSize (S.types_of store.old) fs.number number size (S.state_of store.old) (S.state_of store.new)) }
     ensures keeps { Keeps (S.types_of store.old) fs.number (S.state_of store.old) (S.state_of store.new) }
-    ensures short { CanEdit (S.types_of store.old) (S.state_of store.old) (Some after) → (inode : List ℕ) → Ok inode ≡ file_in (latest (S.state_of store.old).lives) fs.number number → OnlyShort result }
+    ensures short { CanEdit (S.types_of store.old) (S.state_of store.old) (Some after) → (inode : List ℕ) →
+        Ok inode ≡ file_in (latest (S.state_of store.old).lives) fs.number number → OnlyShort result }
 {
     let Found {
         block,
@@ -257,7 +272,8 @@ fn file_block<S: Store>(
     requires few { index < 140 }
     ensures exact { IsLibrary (S.types_of store.now) → result ≡ Ok (file_block (latest (S.state_of store.now).lives) file.now.inode index) }
     ensures block { IfOk result (λ block. block ≡ file_block (latest (S.state_of store.now).lives) file.now.inode index) }
-    ensures reached { IfOk result (λ block. IsLibrary (S.types_of store.now) → block ≢ 0 → Under (S.types_of store.now) (latest (S.state_of store.now).lives) fs.number block 2) }
+    ensures reached { IfOk result (λ block. IsLibrary (S.types_of store.now) → block ≢ 0 →
+        Under (S.types_of store.now) (latest (S.state_of store.now).lives) fs.number block 2) }
 {
     if index < DIRECT_POINTERS {
         return Ok(file.inode.direct(index));

@@ -43,19 +43,3 @@ pub fn addition(
     edit.adds = Vec::from_array(alloc, [added])?;
     Ok(edit)
 }
-
-/// The same, of an edit by which the block gives up blocks.
-pub fn removal(
-    alloc: Global,
-    offset: usize,
-    bytes: &[u8],
-    dropped: Vec<u32>,
-    after: EditId,
-) -> Result<Edit, AllocError>
-    requires { offset < 512 }
-    ensures { IfOk result (λ edit. edit ≡ edit_at offset bytes.now [] dropped.items (Some after)) }
-{
-    let mut edit = change(alloc, offset, bytes, Some(after))?;
-    edit.drops = dropped;
-    Ok(edit)
-}

@@ -4,6 +4,8 @@
 
 mod data;
 mod edits;
+pub mod law;
+mod put;
 mod setup;
 mod steps;
 mod volume;

@@ -10,6 +10,7 @@ ghost use Rattle.ffs_model.specs.Library.{library_layout, zeros, IsLibrary};
 ghost use Rattle.ffs_lookup.specs.Newest.{make_in};
 ghost use Rattle.ffs_lib.specs.Outcomes.{GetsRoot, Keeps, Leaves, MakesTop, OnlyShort, Roots, SetsRoot, Starts};
 ghost use Rattle.ffs_lib.specs.Results.{new_inode};
+ghost use Rattle.ffs_lib.specs.Steps.{LastForgets};
 
 use crate::edits;
 use crate::steps::{INODE_BLOCK, block_with, forgotten};
@@ -51,7 +52,8 @@ pub fn first_inodes() -> [u8; 512]
 fn set_root<S: Store>(store: &mut S, fs: Fs, block: u32) -> Result<(), FfsFault>
     ensures types { S.types_of store.new ≡ S.types_of store.old }
     ensures ok { OnOk result (Roots (S.types_of store.old) fs.number (S.state_of store.old) (S.state_of store.new) block) }
-    ensures short { (l : Life) → own_life (S.state_of store.old) fs.number block ≡ Ok l → is_fresh l.status ≡ true → (slot_now (S.state_of store.old) fs.number).0 ≡ 0 → OnlyShort result }
+    ensures short { (l : Life) → own_life (S.state_of store.old) fs.number block ≡ Ok l → is_fresh l.status ≡ true →
+        (slot_now (S.state_of store.old) fs.number).0 ≡ 0 → OnlyShort result }
     ensures set { OnOk result (SetsRoot (S.types_of store.old) fs.number block (S.state_of store.old) (S.state_of store.new)) }
     ensures err { OnErr result (S.state_of store.new ≡ S.state_of store.old) }
 {
@@ -65,22 +67,34 @@ fn make_root<S: Store>(store: &mut S, fs: Fs) -> Result<(), FfsFault>
     ensures keeps { Keeps (S.types_of store.old) fs.number (S.state_of store.old) (S.state_of store.new) }
     ensures ok { OnOk result (Leaves (S.types_of store.old) fs.number (S.state_of store.old) (S.state_of store.new)) }
     ensures ready { OnOk result (GetsRoot (S.types_of store.old) fs.number false (S.state_of store.old) (S.state_of store.new)) }
-    ensures short { IsLibrary (S.types_of store.old) → IsConsistent (S.types_of store.old) (S.state_of store.old) → Ok false ≡ make_in (latest (S.state_of store.old).lives) fs.number → OnlyShort result }
+    ensures short { IsLibrary (S.types_of store.old) → IsConsistent (S.types_of store.old) (S.state_of store.old) →
+        Ok false ≡ make_in (latest (S.state_of store.old).lives) fs.number → OnlyShort result }
 {
     let (block, _) = store.init(fs, ROOT, &[0; 512])?;
     let made = set_root(store, fs, block);
     forgotten(store, fs, block, made)
 }
 
-/// Sees to it that there is a root block.
-pub fn prepare_root<S: Store>(store: &mut S, fs: Fs, begun: bool) -> Result<(), FfsFault>
+/// Sees to it that there is a root block, or forgets a new block.
+pub fn prepare_root<S: Store>(
+    store: &mut S,
+    fs: Fs,
+    begun: bool,
+    block: u32,
+) -> Result<(), FfsFault>
     ensures types { S.types_of store.new ≡ S.types_of store.old }
     ensures keeps { Keeps (S.types_of store.old) fs.number (S.state_of store.old) (S.state_of store.new) }
     ensures ok { OnOk result (Leaves (S.types_of store.old) fs.number (S.state_of store.old) (S.state_of store.new)) }
     ensures ready { OnOk result (GetsRoot (S.types_of store.old) fs.number begun (S.state_of store.old) (S.state_of store.new)) }
-    ensures short { IsLibrary (S.types_of store.old) → IsConsistent (S.types_of store.old) (S.state_of store.old) → Ok begun ≡ make_in (latest (S.state_of store.old).lives) fs.number → OnlyShort result }
+    ensures short { IsLibrary (S.types_of store.old) → IsConsistent (S.types_of store.old) (S.state_of store.old) →
+        Ok begun ≡ make_in (latest (S.state_of store.old).lives) fs.number → OnlyShort result }
+    ensures forgotten { OnErr result (LastForgets (S.types_of store.old) fs.number block (S.state_of store.new)) }
 {
-    if begun { Ok(()) } else { make_root(store, fs) }
+    if begun {
+        return Ok(());
+    }
+    let made = make_root(store, fs);
+    forgotten(store, fs, block, made)
 }
 
 /// Sets the first pointer of the root block, which is empty.
@@ -93,7 +107,8 @@ pub fn attach_first<S: Store>(
     ensures types { S.types_of store.new ≡ S.types_of store.old }
     ensures ok { OnOk result (Starts (S.types_of store.old) fs.number (S.state_of store.old) (S.state_of store.new) block) }
     ensures top { OnOk result (MakesTop (S.types_of store.old) fs.number block (S.state_of store.old) (S.state_of store.new)) }
-    ensures short { IsLibrary (S.types_of store.old) → IsConsistent (S.types_of store.old) (S.state_of store.old) → Ok true ≡ make_in (latest (S.state_of store.old).lives) fs.number →
+    ensures short { IsLibrary (S.types_of store.old) → IsConsistent (S.types_of store.old) (S.state_of store.old) →
+        Ok true ≡ make_in (latest (S.state_of store.old).lives) fs.number →
         may_add (S.state_of store.old) fs.number (block, 4) ≡ true → OnlyShort result }
     ensures err { OnErr result (S.state_of store.new ≡ S.state_of store.old) }
 {

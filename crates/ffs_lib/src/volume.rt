@@ -1,31 +1,34 @@
 // A volume: the files and directories of a file system.
 
-ghost use Rattle.std.specs.Prelude.{◌≡◌, ◌≢◌, ◌<◌, ◌≤◌, ◌+◌, ◌++◌, ◌==◌, ◌&&◌, not, true, false, ◌⊎◌, Bool, ℕ, List, length, map, Contains, None, Some, Ok, Err, IfOk, IfErr, OnOk, OnErr, IfSome, IsOk, IsTrue, MatchResult};
+ghost use Rattle.std.specs.Prelude.{◌≡◌, ◌≢◌, ◌<◌, ◌≤◌, ◌^◌, ◌+◌, ◌++◌, ◌==◌, ◌&&◌, not, true, false, ◌⊎◌, Bool, ℕ, List, Option, length, map, Contains, None, Some, Ok, Err, IfOk, IfErr, OnOk, OnErr, IfSome, IsOk, IsTrue, MatchResult};
 ghost use Rattle.std.specs.List.{range_with_len};
 ghost use Rattle.ffs_format.specs.Entries.{is_name};
 ghost use Rattle.ffs_model.specs.Cuts.{latest};
 ghost use Rattle.ffs_model.specs.Names.{IsInodes};
-ghost use Rattle.ffs_model.specs.Library.{library_layout, inode_mode, IsLibrary, inode_blocks, inode_links};
-ghost use Rattle.ffs_lookup.specs.Newest.{RefusesAs, TakesEntry, create_in, directory_in, first_named, has_empty_pointer, has_inode, has_room, inode_block_in, make_in, root_in, file_in, is_own, listing, named_in, names_at, names_in, read_count, read_into, rename_in, rmdir_in, unlink_in, without_entry, write_in, inode_in};
+ghost use Rattle.ffs_model.specs.Library.{library_layout, inode_mode, IsLibrary, inode_blocks, inode_links, zeros};
+ghost use Rattle.xn_model.specs.Lists.{put};
+ghost use Rattle.ffs_lookup.specs.Newest.{IsLowest, RefusesAs, TakesEntry, create_in, directory_in, first_named, has_empty_pointer, has_inode, has_room, inode_block_in, make_in, root_in, file_in, is_own, listing, named_in, names_at, names_in, read_count, read_into, rename_in, rmdir_in, unlink_in, without_entry, write_in, inode_in};
 ghost use Rattle.ffs_lookup.specs.declared.places.Found.{Found};
 ghost use Rattle.ffs_lookup.specs.declared.places.Slot.{Slot};
 ghost use Rattle.ffs_model.specs.Volumes.{VolumeKeeps, no_edits};
 ghost use Rattle.ffs_lookup.specs.Places.{IsDirectory, IsFree, IsSlot};
-ghost use Rattle.ffs_lib.specs.Outcomes.{OnlyShort, Stays};
-ghost use Rattle.ffs_lib.specs.Results.{IsWritten, MadeEntry, MadeVolume, MovedEntry, OnlyChanges, OthersSame, TookLink};
+ghost use Rattle.ffs_lib.specs.Outcomes.{HasFreePointer, OnlyShort};
+ghost use Rattle.ffs_lib.specs.Steps.{Creates, Ends, Leaves, NamesAgain, Renames, Stage, StopsGrowing, StopsNaming, StopsNew, StopsUnnaming, TakesFree, Undoes, Unlinks, Unmakes, Unnamed, newest};
+ghost use Rattle.xn_model.specs.Types.{Types};
+ghost use Rattle.xn_model.specs.Calls.{was_given};
+ghost use Rattle.ffs_lib.specs.Results.{new_inode, IsWritten, MadeEntry, MadeVolume, MovedEntry, OnlyChanges, OthersSame, TookLink};
 
 use crate::data::{BLOCK_LEN, FILE_BLOCKS, raise_size, read_part, write_block};
+use crate::put::{add_link, attach, empty_inode, enter, put, put_inode, take_link};
 use crate::setup::{attach_first, first_inodes, is_begun, prepare_root};
-use crate::steps::{
-    INODE_BLOCK, add_inodes, add_link, clear_entry, drop_data, enter, forgotten, free_inode,
-    make_inode, take_link,
-};
+use crate::steps::{INODE_BLOCK, forgotten};
 use edit_list::{EditId, Fs};
+use ffs_format::entries::ENTRY_LEN;
 use ffs_format::inodes::{DIRECT_POINTERS, INODES};
-use ffs_format::{ENTRIES, Inode, entry_inode, entry_name, is_name};
+use ffs_format::{ENTRIES, Inode, entry_inode, entry_name, is_name, pointer_bytes};
 use ffs_lookup::{
     DIRECTORY, FfsFault, Free, INODE_BLOCKS, Slot, find_directory, find_entry, find_file,
-    find_free, find_inode, find_pointer, find_room, inode_block, is_empty, read_block,
+    find_free, find_inode, find_pointer, find_room, inode_block, is_empty, read_block, root_block,
 };
 use std::alloc::{AllocError, Global};
 use xn_model::Refusal;
@@ -51,13 +54,21 @@ fn has_places(added: &[Option<EditId>; 16])
     let _ = added;
 }
 
+/// A block's number is a word.
+fn is_word(block: u32)
+    ensures { block < 2 ^ 32 }
+{
+    let _ = block;
+}
+
 /// Adds the names of a directory's block and their inodes, by place.
 fn add_names(
     alloc: Global,
     block: &[u8; 512],
     names: &mut Vec<(Vec<u8>, u16)>,
 ) -> Result<(), AllocError>
-    ensures { OnOk result (map (λ name. (name.0.items, name.1)) names.new.items ≡ map (λ name. (name.0.items, name.1)) names.old.items ++ names_at block.now (range_with_len 0 16)) }
+    ensures { OnOk result (map (λ name. (name.0.items, name.1)) names.new.items
+        ≡ map (λ name. (name.0.items, name.1)) names.old.items ++ names_at block.now (range_with_len 0 16)) }
 {
     for place in 0..ENTRIES {
         let inode = entry_inode(block, place);
@@ -73,7 +84,9 @@ fn add_names(
 /// A free inode, if there is one; else there is room for another block of inodes.
 fn look_up_free<S: Store>(store: &S, fs: Fs) -> Result<Option<Free>, FfsFault>
     ensures free { IfOk result (λ found. IfSome found (λ free. IsFree (S.state_of store.now) fs.number free)) }
-    ensures pointer { IfOk result (λ found. found ≡ None → (root : ℕ) → Ok root ≡ root_in (latest (S.state_of store.now).lives) fs.number → has_empty_pointer (latest (S.state_of store.now).lives) root ≡ true) }
+    ensures lowest { IfOk result (IsLowest (latest (S.state_of store.now).lives) fs.number) }
+    ensures pointer { IfOk result (λ found. found ≡ None → (root : ℕ) → Ok root ≡ root_in (latest (S.state_of store.now).lives) fs.number →
+        has_empty_pointer (latest (S.state_of store.now).lives) root ≡ true) }
     ensures exact { IsLibrary (S.types_of store.now) → (root : ℕ) → Ok root ≡ root_in (latest (S.state_of store.now).lives) fs.number → MatchResult result
         (λ _. has_inode (latest (S.state_of store.now).lives) root ≡ true)
         (λ fault. (fault ≡ FfsFault.NoInode) × (has_inode (latest (S.state_of store.now).lives) root ≡ false)) }
@@ -93,8 +106,12 @@ fn look_up_new<S: Store>(
     name: &[u8],
 ) -> Result<Option<Free>, FfsFault>
     ensures free { IfOk result (λ found. IfSome found (λ free. IsFree (S.state_of store.now) fs.number free)) }
-    ensures pointer { IfOk result (λ found. found ≡ None → (root : ℕ) → Ok root ≡ root_in (latest (S.state_of store.now).lives) fs.number → has_empty_pointer (latest (S.state_of store.now).lives) root ≡ true) }
-    ensures room { OnOk result (IsLibrary (S.types_of store.now) → (inode : List ℕ) × (Ok inode ≡ directory_in (latest (S.state_of store.now).lives) fs.number directory) × (has_room (latest (S.state_of store.now).lives) inode ≡ true)) }
+    ensures lowest { IfOk result (IsLowest (latest (S.state_of store.now).lives) fs.number) }
+    ensures pointer { IfOk result (λ found. found ≡ None → (root : ℕ) → Ok root ≡ root_in (latest (S.state_of store.now).lives) fs.number →
+        has_empty_pointer (latest (S.state_of store.now).lives) root ≡ true) }
+    ensures room { OnOk result (IsLibrary (S.types_of store.now) → (inode : List ℕ)
+        × (Ok inode ≡ directory_in (latest (S.state_of store.now).lives) fs.number directory)
+        × (has_room (latest (S.state_of store.now).lives) inode ≡ true)) }
     ensures name { OnOk result (IsTrue (is_name name.now)) }
     ensures exact { IsLibrary (S.types_of store.now) → MatchResult result
         (λ _. IsOk (create_in (latest (S.state_of store.now).lives) fs.number directory name.now))
@@ -149,7 +166,7 @@ fn once_edited<A>(answer: Result<A, FfsFault>) -> Result<A, FfsFault>
 }
 
 impl Volume {
-    ghost use Rattle.ffs_lib.specs.Volumes.{IsVolume, MayOpen};
+    ghost use Rattle.ffs_lib.specs.Volumes.{IsVolume, MayOpen, edits_of};
 
     /// Makes the volume of a file system that has none, or has one half made: a root block, and a first block of inodes with
     /// inode 1, the top directory. Before any edit it answers `Exists` where there is a volume, and `Kernel(RootTaken)` where the
@@ -164,10 +181,12 @@ impl Volume {
         ensures short { (begun : Bool) → Ok begun ≡ make_in (latest (S.state_of store.old).lives) fs.number → OnlyShort result }
         ensures made { OnOk result (MadeVolume (latest (S.state_of store.old).lives) (latest (S.state_of store.new).lives) fs.number) }
         ensures err { OnErr result (VolumeKeeps (S.types_of store.old) library_layout fs.number no_edits (S.state_of store.new)) }
+        ensures forgotten { OnErr result (Undoes (S.types_of store.old) fs.number (S.state_of store.old)
+            (S.state_of store.new) INODE_BLOCK (put zeros 0 (new_inode 2))) }
     {
         let begun = is_begun(store, fs)?;
         let (block, _) = store.init(fs, INODE_BLOCK, &first_inodes())?;
-        prepare_root(store, fs, begun)?;
+        prepare_root(store, fs, begun, block)?;
         let attached = attach_first(alloc, store, fs, block);
         forgotten(store, fs, block, attached)?;
         Ok(Volume {
@@ -202,12 +221,10 @@ impl Volume {
         directory: u16,
         name: &[u8],
     ) -> Result<u16, FfsFault>
-        requires volume { IsVolume (S.types_of store.old) (S.state_of store.old) self.old }
+        requires { IsVolume (S.types_of store.old) (S.state_of store.old) self.old }
         ensures types { S.types_of store.new ≡ S.types_of store.old }
         ensures fs { self.new.fs ≡ self.old.fs }
-        ensures faults { RefusesAs (create_in (latest (S.state_of store.old).lives) self.old.fs.number directory name.now) (S.state_of store.old) (S.state_of store.new) result }
-        ensures short { (inode : List ℕ) → Ok inode ≡ create_in (latest (S.state_of store.old).lives) self.old.fs.number directory name.now → OnlyShort result }
-        ensures made { IfOk result (λ n. MadeEntry (latest (S.state_of store.old).lives) (latest (S.state_of store.new).lives) self.old.fs.number directory name.now FILE n) }
+        ensures answers { Creates (S.types_of store.old) self.old.fs.number directory name.now FILE (S.state_of store.old) (S.state_of store.new) result }
         ensures keeps { IsVolume (S.types_of store.old) (S.state_of store.new) self.new }
     {
         self.make_entry(alloc, store, directory, name, FILE)
@@ -221,12 +238,11 @@ impl Volume {
         directory: u16,
         name: &[u8],
     ) -> Result<u16, FfsFault>
-        requires volume { IsVolume (S.types_of store.old) (S.state_of store.old) self.old }
+        requires { IsVolume (S.types_of store.old) (S.state_of store.old) self.old }
         ensures types { S.types_of store.new ≡ S.types_of store.old }
         ensures fs { self.new.fs ≡ self.old.fs }
-        ensures faults { RefusesAs (create_in (latest (S.state_of store.old).lives) self.old.fs.number directory name.now) (S.state_of store.old) (S.state_of store.new) result }
-        ensures short { (inode : List ℕ) → Ok inode ≡ create_in (latest (S.state_of store.old).lives) self.old.fs.number directory name.now → OnlyShort result }
-        ensures made { IfOk result (λ n. MadeEntry (latest (S.state_of store.old).lives) (latest (S.state_of store.new).lives) self.old.fs.number directory name.now DIRECTORY n) }
+        ensures answers { Creates (S.types_of store.old) self.old.fs.number directory name.now DIRECTORY (S.state_of store.old)
+            (S.state_of store.new) result }
         ensures keeps { IsVolume (S.types_of store.old) (S.state_of store.new) self.new }
     {
         self.make_entry(alloc, store, directory, name, DIRECTORY)
@@ -245,39 +261,12 @@ impl Volume {
         requires used { mode ≢ 0 }
         ensures types { S.types_of store.new ≡ S.types_of store.old }
         ensures fs { self.new.fs ≡ self.old.fs }
-        ensures faults { RefusesAs (create_in (latest (S.state_of store.old).lives) self.old.fs.number directory name.now) (S.state_of store.old) (S.state_of store.new) result }
-        ensures short { (inode : List ℕ) → Ok inode ≡ create_in (latest (S.state_of store.old).lives) self.old.fs.number directory name.now → OnlyShort result }
-        ensures made { IfOk result (λ n. MadeEntry (latest (S.state_of store.old).lives) (latest (S.state_of store.new).lives) self.old.fs.number directory name.now mode n) }
+        ensures answers { Creates (S.types_of store.old) self.old.fs.number directory name.now mode (S.state_of store.old) (S.state_of store.new) result }
         ensures keeps { IsVolume (S.types_of store.old) (S.state_of store.new) self.new }
     {
-        let free = look_up_new(store, self.fs, directory, name)?;
-        once_edited(self.make_named(alloc, store, directory, name, mode, free))
-    }
-
-    /// Takes the free inode that was found into use, or one of a new inode block, and names it.
-    fn make_named<S: Store>(
-        &mut self,
-        alloc: Global,
-        store: &mut S,
-        directory: u16,
-        name: &[u8],
-        mode: u16,
-        found: Option<Free>,
-    ) -> Result<u16, FfsFault>
-        requires volume { IsVolume (S.types_of store.old) (S.state_of store.old) self.old }
-        requires free { IfSome found (λ free. IsFree (S.state_of store.old) self.old.fs.number free) }
-        requires name { IsTrue (is_name name.now) }
-        requires used { mode ≢ 0 }
-        ensures types { S.types_of store.new ≡ S.types_of store.old }
-        ensures fs { self.new.fs ≡ self.old.fs }
-        ensures short { (inode : List ℕ) → Ok inode ≡ directory_in (latest (S.state_of store.old).lives) self.old.fs.number directory → has_room (latest (S.state_of store.old).lives) inode ≡ true → (found ≡ None → (root : ℕ) → Ok root ≡ root_in (latest (S.state_of store.old).lives) self.old.fs.number → has_empty_pointer (latest (S.state_of store.old).lives) root ≡ true) → OnlyShort result }
-        ensures made { IfOk result (λ n. (inode : List ℕ) → Ok inode ≡ directory_in (latest (S.state_of store.old).lives) self.old.fs.number directory →
-            MadeEntry (latest (S.state_of store.old).lives) (latest (S.state_of store.new).lives) self.old.fs.number directory name.now mode n) }
-        ensures keeps { IsVolume (S.types_of store.old) (S.state_of store.new) self.new }
-    {
+        let found = look_up_new(store, self.fs, directory, name)?;
         let free = self.take_free(alloc, store, found)?;
-        self.name_inode(alloc, store, directory, name, mode, free)?;
-        Ok(free.number)
+        self.name_inode(alloc, store, directory, name, mode, free)
     }
 
     /// The free inode that was found, or the first one of a new inode block.
@@ -289,12 +278,13 @@ impl Volume {
     ) -> Result<Free, FfsFault>
         requires volume { IsVolume (S.types_of store.old) (S.state_of store.old) self.old }
         requires free { IfSome found (λ free. IsFree (S.state_of store.old) self.old.fs.number free) }
+        requires room { found ≡ None → HasFreePointer (newest (S.state_of store.old)) self.old.fs.number }
+        requires lowest { IsLowest (newest (S.state_of store.old)) self.old.fs.number found }
         ensures types { S.types_of store.new ≡ S.types_of store.old }
         ensures fs { self.new.fs ≡ self.old.fs }
-        ensures short { (n : ℕ) (inode : List ℕ) → Ok inode ≡ inode_in (latest (S.state_of store.old).lives) self.old.fs.number n → (found ≡ None → (root : ℕ) → Ok root ≡ root_in (latest (S.state_of store.old).lives) self.old.fs.number → has_empty_pointer (latest (S.state_of store.old).lives) root ≡ true) → OnlyShort result }
-        ensures keeps { IsVolume (S.types_of store.old) (S.state_of store.new) self.new }
-        ensures stays { OnOk result (Stays (S.types_of store.old) self.old.fs.number (S.state_of store.old) (S.state_of store.new)) }
-        ensures free { IfOk result (λ free. IsFree (S.state_of store.new) self.old.fs.number free) }
+        ensures leaves { Leaves (S.types_of store.old) self.new (S.state_of store.new) result
+            (TakesFree (S.state_of store.old) (S.state_of store.new) self.old.fs.number)
+            (StopsGrowing (S.types_of store.old) self.old.fs.number (S.state_of store.old) (S.state_of store.new)) }
     {
         match found {
             Some(free) => Ok(free),
@@ -311,38 +301,65 @@ impl Volume {
         name: &[u8],
         mode: u16,
         free: Free,
-    ) -> Result<(), FfsFault>
+    ) -> Result<u16, FfsFault>
         requires volume { IsVolume (S.types_of store.old) (S.state_of store.old) self.old }
         requires free { IsFree (S.state_of store.old) self.old.fs.number free }
         requires name { IsTrue (is_name name.now) }
         requires used { mode ≢ 0 }
         ensures types { S.types_of store.new ≡ S.types_of store.old }
         ensures fs { self.new.fs ≡ self.old.fs }
-        ensures short { (inode : List ℕ) → Ok inode ≡ directory_in (latest (S.state_of store.old).lives) self.old.fs.number directory → has_room (latest (S.state_of store.old).lives) inode ≡ true → OnlyShort result }
-        ensures made { OnOk result ((inode : List ℕ) → Ok inode ≡ directory_in (latest (S.state_of store.old).lives) self.old.fs.number directory →
-            MadeEntry (latest (S.state_of store.old).lives) (latest (S.state_of store.new).lives) self.old.fs.number directory name.now mode free.number) }
-        ensures keeps { IsVolume (S.types_of store.old) (S.state_of store.new) self.new }
+        ensures leaves { (inode : List ℕ) → Ok inode ≡ directory_in (newest (S.state_of store.old)) self.old.fs.number directory →
+            has_room (newest (S.state_of store.old)) inode ≡ true → Leaves (S.types_of store.old) self.new (S.state_of store.new) result
+            (λ n. MadeEntry (newest (S.state_of store.old)) (newest (S.state_of store.new)) self.old.fs.number directory name.now mode n × (n ≡ free.number))
+            (StopsNew (S.types_of store.old) self.old.fs.number (S.state_of store.old) (S.state_of store.new) directory mode free.number) }
     {
         has_places(&self.added);
         let index = usize::from(free.number - 1) / INODES;
-        let made = make_inode(alloc, store, self.fs, free, mode, self.added[index])?;
+        let inode = empty_inode(mode);
+        let after = self.added[index];
+        let made = put_inode(
+            alloc,
+            store,
+            self.fs,
+            free.block,
+            free.place,
+            &inode,
+            &[],
+            &[],
+            after,
+        )?;
         let _ = enter(alloc, store, self.fs, directory, free.number, name, made)?;
         self.added[index] = None;
-        Ok(())
+        Ok(free.number)
     }
 
     /// Makes an inode block, and answers its first inode.
     fn add_inodes<S: Store>(&mut self, alloc: Global, store: &mut S) -> Result<Free, FfsFault>
-        requires { IsVolume (S.types_of store.old) (S.state_of store.old) self.old }
+        requires volume { IsVolume (S.types_of store.old) (S.state_of store.old) self.old }
+        requires room { HasFreePointer (newest (S.state_of store.old)) self.old.fs.number }
+        requires full { IsLowest (newest (S.state_of store.old)) self.old.fs.number None }
         ensures types { S.types_of store.new ≡ S.types_of store.old }
         ensures fs { self.new.fs ≡ self.old.fs }
-        ensures short { (n : ℕ) (inode : List ℕ) → Ok inode ≡ inode_in (latest (S.state_of store.old).lives) self.old.fs.number n → ((root : ℕ) → Ok root ≡ root_in (latest (S.state_of store.old).lives) self.old.fs.number → has_empty_pointer (latest (S.state_of store.old).lives) root ≡ true) → OnlyShort result }
-        ensures keeps { IsVolume (S.types_of store.old) (S.state_of store.new) self.new }
-        ensures stays { OnOk result (Stays (S.types_of store.old) self.old.fs.number (S.state_of store.old) (S.state_of store.new)) }
-        ensures free { IfOk result (λ free. IsFree (S.state_of store.new) self.old.fs.number free) }
+        ensures leaves { Leaves (S.types_of store.old) self.new (S.state_of store.new) result
+            (TakesFree (S.state_of store.old) (S.state_of store.new) self.old.fs.number)
+            (StopsGrowing (S.types_of store.old) self.old.fs.number (S.state_of store.old) (S.state_of store.new)) }
     {
         has_places(&self.added);
-        let (index, block, entry) = add_inodes(alloc, store, self.fs)?;
+        let (block, _) = store.init(self.fs, INODE_BLOCK, &[0; 512])?;
+        let index = find_pointer(store, self.fs)?;
+        let root = root_block(store, self.fs)?;
+        is_word(block);
+        let pointer = pointer_bytes(block);
+        let entry = attach(
+            alloc,
+            store,
+            self.fs,
+            root,
+            4 * index,
+            &pointer,
+            (block, INODE_BLOCK),
+            None,
+        )?;
         self.added[index] = Some(entry);
         Ok(Free {
             number: (INODES * index + 1) as u16,
@@ -364,8 +381,10 @@ impl Volume {
     ) -> Result<(), FfsFault>
         requires volume { IsVolume (S.types_of store.old) (S.state_of store.old) self.now }
         ensures types { S.types_of store.new ≡ S.types_of store.old }
-        ensures faults { RefusesAs (write_in (latest (S.state_of store.old).lives) self.now.fs.number inode (offset + length bytes.now)) (S.state_of store.old) (S.state_of store.new) result }
-        ensures short { (file : List ℕ) → Ok file ≡ write_in (latest (S.state_of store.old).lives) self.now.fs.number inode (offset + length bytes.now) → OnlyShort result }
+        ensures faults { RefusesAs (write_in (latest (S.state_of store.old).lives) self.now.fs.number inode (offset + length bytes.now))
+            (S.state_of store.old) (S.state_of store.new) result }
+        ensures short { (file : List ℕ) → Ok file ≡ write_in (latest (S.state_of store.old).lives) self.now.fs.number inode (offset + length bytes.now) →
+            OnlyShort result }
         ensures written { OnOk result ((file : List ℕ) → Ok file ≡ file_in (latest (S.state_of store.old).lives) self.now.fs.number inode →
             IsWritten (latest (S.state_of store.old).lives) (latest (S.state_of store.new).lives) self.now.fs.number inode file offset bytes.now) }
         ensures others { OnOk result (OnlyChanges (latest (S.state_of store.old).lives) (latest (S.state_of store.new).lives) self.now.fs.number inode) }
@@ -423,9 +442,11 @@ impl Volume {
         offset: u32,
         bytes: &mut [u8],
     ) -> Result<usize, FfsFault>
-        ensures exact { IsLibrary (S.types_of store.now) → result ≡ read_count (length bytes.old) offset (file_in (latest (S.state_of store.now).lives) self.now.fs.number inode) }
+        ensures exact { IsLibrary (S.types_of store.now) →
+            result ≡ read_count (length bytes.old) offset (file_in (latest (S.state_of store.now).lives) self.now.fs.number inode) }
         ensures bytes { IsLibrary (S.types_of store.now) →
-            bytes.new ≡ read_into (latest (S.state_of store.now).lives) bytes.old offset (file_in (latest (S.state_of store.now).lives) self.now.fs.number inode) }
+            bytes.new ≡ read_into (latest (S.state_of store.now).lives) bytes.old offset
+            (file_in (latest (S.state_of store.now).lives) self.now.fs.number inode) }
     {
         let file = find_file(store, self.fs, inode)?;
         let end = (file.inode.size() as usize).min(MOST_BYTES);
@@ -462,6 +483,39 @@ impl Volume {
         find_entry(store, self.fs, &found, directory, name)?.ok_or(FfsFault::NoEntry)
     }
 
+    /// Looks up the entry of a file.
+    fn look_up_file<S: Store>(
+        &self,
+        store: &S,
+        directory: u16,
+        name: &[u8],
+    ) -> Result<Slot, FfsFault>
+        ensures slot { IfOk result (λ slot. IsSlot (S.state_of store.now) self.now.fs.number slot) }
+        ensures exact { IsLibrary (S.types_of store.now) → result ≡ unlink_in (newest (S.state_of store.now)) self.now.fs.number directory name.now }
+    {
+        let slot = self.named(store, directory, name)?;
+        let _ = find_file(store, self.fs, slot.inode)?;
+        Ok(slot)
+    }
+
+    /// Looks up the entry of an empty directory.
+    fn look_up_empty<S: Store>(
+        &self,
+        store: &S,
+        directory: u16,
+        name: &[u8],
+    ) -> Result<Slot, FfsFault>
+        ensures slot { IfOk result (λ slot. IsSlot (S.state_of store.now) self.now.fs.number slot) }
+        ensures exact { IsLibrary (S.types_of store.now) → result ≡ rmdir_in (newest (S.state_of store.now)) self.now.fs.number directory name.now }
+    {
+        let slot = self.named(store, directory, name)?;
+        let found = find_directory(store, self.fs, slot.inode)?;
+        if !is_empty(store, self.fs, &found)? {
+            return Err(FfsFault::DirNotEmpty);
+        }
+        Ok(slot)
+    }
+
     /// Takes a file's name from a directory, and gives the file up with its last name. Before any edit it answers, in this order,
     /// `NoEntry` or `NotDir` of the directory, `BadName`, `NoEntry` of the name, `IsDir`. Any refusal of the store is `Kernel`; what was
     /// done before it stands, so a file may be left without a name.
@@ -472,21 +526,13 @@ impl Volume {
         directory: u16,
         name: &[u8],
     ) -> Result<(), FfsFault>
-        requires volume { IsVolume (S.types_of store.old) (S.state_of store.old) self.now }
+        requires { IsVolume (S.types_of store.old) (S.state_of store.old) self.now }
         ensures types { S.types_of store.new ≡ S.types_of store.old }
-        ensures faults { RefusesAs (unlink_in (latest (S.state_of store.old).lives) self.now.fs.number directory name.now) (S.state_of store.old) (S.state_of store.new) result }
-        ensures short { (entry : Slot) → Ok entry ≡ unlink_in (latest (S.state_of store.old).lives) self.now.fs.number directory name.now → OnlyShort result }
+        ensures answers { Unlinks (S.types_of store.old) self.now.fs.number directory name.now (S.state_of store.old) (S.state_of store.new) result }
         ensures keeps { IsVolume (S.types_of store.old) (S.state_of store.new) self.now }
-        ensures gone { OnOk result ((entry : Slot) → Ok entry ≡ unlink_in (latest (S.state_of store.old).lives) self.now.fs.number directory name.now →
-            TakesEntry (latest (S.state_of store.old).lives) (latest (S.state_of store.new).lives) self.now.fs.number directory entry) }
-        ensures others { OnOk result ((entry : Slot) → Ok entry ≡ unlink_in (latest (S.state_of store.old).lives) self.now.fs.number directory name.now →
-            OthersSame (latest (S.state_of store.old).lives) (latest (S.state_of store.new).lives) self.now.fs.number directory entry.inode) }
-        ensures unlinked { OnOk result ((entry : Slot) (inode : List ℕ) → Ok entry ≡ unlink_in (latest (S.state_of store.old).lives) self.now.fs.number directory name.now → Ok inode ≡ inode_in (latest (S.state_of store.old).lives) self.now.fs.number entry.inode →
-            TookLink (latest (S.state_of store.old).lives) (latest (S.state_of store.new).lives) self.now.fs.number entry.inode inode) }
     {
-        let slot = self.named(store, directory, name)?;
-        let _ = find_file(store, self.fs, slot.inode)?;
-        once_edited(self.remove(alloc, store, slot))
+        let slot = self.look_up_file(store, directory, name)?;
+        self.remove(alloc, store, slot, None)
     }
 
     /// Takes an empty directory's name from a directory, and gives it up, with the faults of `unlink`, but `NotDir` where the name is a
@@ -498,48 +544,44 @@ impl Volume {
         directory: u16,
         name: &[u8],
     ) -> Result<(), FfsFault>
-        requires volume { IsVolume (S.types_of store.old) (S.state_of store.old) self.now }
+        requires { IsVolume (S.types_of store.old) (S.state_of store.old) self.now }
         ensures types { S.types_of store.new ≡ S.types_of store.old }
-        ensures faults { RefusesAs (rmdir_in (latest (S.state_of store.old).lives) self.now.fs.number directory name.now) (S.state_of store.old) (S.state_of store.new) result }
-        ensures short { (entry : Slot) → Ok entry ≡ rmdir_in (latest (S.state_of store.old).lives) self.now.fs.number directory name.now → OnlyShort result }
+        ensures answers { Unmakes (S.types_of store.old) self.now.fs.number directory name.now (S.state_of store.old) (S.state_of store.new) result }
         ensures keeps { IsVolume (S.types_of store.old) (S.state_of store.new) self.now }
-        ensures gone { OnOk result ((entry : Slot) → Ok entry ≡ rmdir_in (latest (S.state_of store.old).lives) self.now.fs.number directory name.now →
-            TakesEntry (latest (S.state_of store.old).lives) (latest (S.state_of store.new).lives) self.now.fs.number directory entry) }
-        ensures others { OnOk result ((entry : Slot) → Ok entry ≡ rmdir_in (latest (S.state_of store.old).lives) self.now.fs.number directory name.now →
-            OthersSame (latest (S.state_of store.old).lives) (latest (S.state_of store.new).lives) self.now.fs.number directory entry.inode) }
-        ensures unlinked { OnOk result ((entry : Slot) (inode : List ℕ) → Ok entry ≡ rmdir_in (latest (S.state_of store.old).lives) self.now.fs.number directory name.now → Ok inode ≡ inode_in (latest (S.state_of store.old).lives) self.now.fs.number entry.inode →
-            TookLink (latest (S.state_of store.old).lives) (latest (S.state_of store.new).lives) self.now.fs.number entry.inode inode) }
     {
-        let slot = self.named(store, directory, name)?;
-        let found = find_directory(store, self.fs, slot.inode)?;
-        if !is_empty(store, self.fs, &found)? {
-            return Err(FfsFault::DirNotEmpty);
-        }
-        once_edited(self.remove(alloc, store, slot))
+        let slot = self.look_up_empty(store, directory, name)?;
+        self.remove(alloc, store, slot, None)
     }
 
-    /// Clears an entry, and takes a link from its inode, or gives that up with its last link.
-    fn remove<S: Store>(&self, alloc: Global, store: &mut S, slot: Slot) -> Result<(), FfsFault>
-        requires volume { IsVolume (S.types_of store.old) (S.state_of store.old) self.now }
-        requires entry { IsSlot (S.state_of store.old) self.now.fs.number slot }
+    /// Clears an entry, and takes a link from the inode that it names.
+    fn remove<S: Store>(
+        &self,
+        alloc: Global,
+        store: &mut S,
+        slot: Slot,
+        after: Option<EditId>,
+    ) -> Result<(), FfsFault>
+        requires { IsSlot (S.state_of store.old) self.now.fs.number slot }
         ensures types { S.types_of store.new ≡ S.types_of store.old }
-        ensures short { OnlyShort result }
-        ensures keeps { IsVolume (S.types_of store.old) (S.state_of store.new) self.now }
-        ensures gone { OnOk result ((n : ℕ) (found : Found) → n ≢ slot.inode → IsDirectory (S.state_of store.old) self.now.fs.number n found → IsDirectory (S.state_of store.new) self.now.fs.number n found
-            × (listing (latest (S.state_of store.new).lives) found.inode ≡ without_entry slot (listing (latest (S.state_of store.old).lives) found.inode))) }
-        ensures others { OnOk result ((d : ℕ) (own : List ℕ) → Ok own ≡ inode_in (latest (S.state_of store.old).lives) self.now.fs.number d → Contains (inode_blocks own) slot.block →
-            OthersSame (latest (S.state_of store.old).lives) (latest (S.state_of store.new).lives) self.now.fs.number d slot.inode) }
-        ensures unlinked { OnOk result ((d : ℕ) (own inode : List ℕ) → Ok own ≡ inode_in (latest (S.state_of store.old).lives) self.now.fs.number d → Contains (inode_blocks own) slot.block → d ≢ slot.inode →
-            Ok inode ≡ inode_in (latest (S.state_of store.old).lives) self.now.fs.number slot.inode → TookLink (latest (S.state_of store.old).lives) (latest (S.state_of store.new).lives) self.now.fs.number slot.inode inode) }
+        ensures ends { (T : Types) (array : ℕ → Option ℕ) → S.types_of store.old ≡ T → Stage T self.now.fs.number array (S.state_of store.old) →
+            IsTrue (was_given (S.state_of store.old) after) →
+            Ends T self.now.fs.number array (S.state_of store.new) result
+            (λ _. Unnamed (newest (S.state_of store.old)) (newest (S.state_of store.new)) self.now.fs.number slot)
+            (StopsUnnaming T self.now.fs.number (S.state_of store.old) (S.state_of store.new) slot) }
     {
-        let cleared = clear_entry(alloc, store, self.fs, slot, None)?;
-        let links = find_inode(store, self.fs, slot.inode)?.inode.links();
-        if links > 1 {
-            let _ = take_link(alloc, store, self.fs, slot.inode, cleared)?;
-            return Ok(());
-        }
-        let dropped = drop_data(alloc, store, self.fs, slot.inode, cleared)?;
-        let _ = free_inode(alloc, store, self.fs, slot.inode, dropped)?;
+        let at = ENTRY_LEN * slot.place;
+        let cleared = put(
+            alloc,
+            store,
+            self.fs,
+            slot.block,
+            at,
+            &[0; ENTRY_LEN],
+            &[],
+            &[],
+            after,
+        )?;
+        let _ = take_link(alloc, store, self.fs, slot.inode, cleared)?;
         Ok(())
     }
 
@@ -554,7 +596,8 @@ impl Volume {
     ) -> Result<Slot, FfsFault>
         ensures slot { IfOk result (λ slot. IsSlot (S.state_of store.now) self.now.fs.number slot) }
         ensures name { OnOk result (IsTrue (is_name new_name.now)) }
-        ensures exact { IsLibrary (S.types_of store.now) → result ≡ rename_in (latest (S.state_of store.now).lives) self.now.fs.number directory name.now other new_name.now }
+        ensures exact { IsLibrary (S.types_of store.now) →
+            result ≡ rename_in (latest (S.state_of store.now).lives) self.now.fs.number directory name.now other new_name.now }
     {
         let from = find_inode(store, self.fs, directory)?;
         let to = find_inode(store, self.fs, other)?;
@@ -592,47 +635,39 @@ impl Volume {
         other: u16,
         new_name: &[u8],
     ) -> Result<(), FfsFault>
-        requires volume { IsVolume (S.types_of store.old) (S.state_of store.old) self.now }
+        requires { IsVolume (S.types_of store.old) (S.state_of store.old) self.now }
         ensures types { S.types_of store.new ≡ S.types_of store.old }
-        ensures faults { RefusesAs (rename_in (latest (S.state_of store.old).lives) self.now.fs.number directory name.now other new_name.now) (S.state_of store.old) (S.state_of store.new) result }
-        ensures short { (entry : Slot) → Ok entry ≡ rename_in (latest (S.state_of store.old).lives) self.now.fs.number directory name.now other new_name.now → OnlyShort result }
-        ensures moved { OnOk result ((entry : Slot) → Ok entry ≡ rename_in (latest (S.state_of store.old).lives) self.now.fs.number directory name.now other new_name.now →
-            MovedEntry (latest (S.state_of store.old).lives) (latest (S.state_of store.new).lives) self.now.fs.number directory entry other new_name.now) }
+        ensures answers { Renames (S.types_of store.old) self.now.fs.number directory name.now other new_name.now (S.state_of store.old)
+            (S.state_of store.new) result }
         ensures keeps { IsVolume (S.types_of store.old) (S.state_of store.new) self.now }
     {
         let slot = self.look_up_move(store, directory, name, other, new_name)?;
-        once_edited(self.move_entry(alloc, store, directory, name, slot.inode, other, new_name))
+        let entered = self.name_again(alloc, store, slot.inode, other, new_name)?;
+        let entry = self.named(store, directory, name)?;
+        self.remove(alloc, store, entry, Some(entered))
     }
 
-    /// Names an inode a second time, and takes the first name and its link.
-    fn move_entry<S: Store>(
+    /// Gives an inode a link more, and names it.
+    fn name_again<S: Store>(
         &self,
         alloc: Global,
         store: &mut S,
+        inode: u16,
         directory: u16,
         name: &[u8],
-        inode: u16,
-        other: u16,
-        new_name: &[u8],
-    ) -> Result<(), FfsFault>
-        requires volume { IsVolume (S.types_of store.old) (S.state_of store.old) self.now }
-        requires name { IsTrue (is_name new_name.now) }
-        requires some { inode ≢ 0 }
+    ) -> Result<EditId, FfsFault>
+        requires { IsTrue (is_name name.now) }
         ensures types { S.types_of store.new ≡ S.types_of store.old }
-        ensures short { (from to own : List ℕ) (slot : Slot) → Ok from ≡ directory_in (latest (S.state_of store.old).lives) self.now.fs.number directory → Ok to ≡ directory_in (latest (S.state_of store.old).lives) self.now.fs.number other →
-            Some slot ≡ first_named (latest (S.state_of store.old).lives) from name.now → None ≡ first_named (latest (S.state_of store.old).lives) to new_name.now → IsTrue (is_name name.now) → has_room (latest (S.state_of store.old).lives) to ≡ true →
-            Ok own ≡ inode_in (latest (S.state_of store.old).lives) self.now.fs.number inode → inode_links own ≢ 65535 → OnlyShort result }
-        ensures moved { OnOk result ((from to : List ℕ) (slot : Slot) → Ok from ≡ directory_in (latest (S.state_of store.old).lives) self.now.fs.number directory → Ok to ≡ directory_in (latest (S.state_of store.old).lives) self.now.fs.number other →
-            slot.inode ≡ inode → Some slot ≡ first_named (latest (S.state_of store.old).lives) from name.now → None ≡ first_named (latest (S.state_of store.old).lives) to new_name.now →
-            MovedEntry (latest (S.state_of store.old).lives) (latest (S.state_of store.new).lives) self.now.fs.number directory slot other new_name.now) }
-        ensures keeps { IsVolume (S.types_of store.old) (S.state_of store.new) self.now }
+        ensures ends { (T : Types) (array : ℕ → Option ℕ) (own to : List ℕ) → S.types_of store.old ≡ T →
+            Stage T self.now.fs.number array (S.state_of store.old) →
+            Ok own ≡ inode_in (newest (S.state_of store.old)) self.now.fs.number inode → inode_links own ≢ 65535 →
+            Ok to ≡ directory_in (newest (S.state_of store.old)) self.now.fs.number directory → has_room (newest (S.state_of store.old)) to ≡ true →
+            Ends T self.now.fs.number array (S.state_of store.new) result
+            (NamesAgain (S.state_of store.old) (S.state_of store.new) self.now.fs.number directory name.now inode)
+            (StopsNaming T self.now.fs.number (S.state_of store.old) (S.state_of store.new) directory inode) }
     {
         let added = add_link(alloc, store, self.fs, inode)?;
-        let entered = enter(alloc, store, self.fs, other, inode, new_name, added)?;
-        let slot = self.named(store, directory, name)?;
-        let cleared = clear_entry(alloc, store, self.fs, slot, Some(entered))?;
-        let _ = take_link(alloc, store, self.fs, slot.inode, cleared)?;
-        Ok(())
+        enter(alloc, store, self.fs, directory, inode, name, added)
     }
 
     /// The names in a directory and their inodes, by block and place. Faults are `NoEntry` and `NotDir`, and `Kernel(NoMemory)`.
@@ -642,8 +677,10 @@ impl Volume {
         store: &S,
         directory: u16,
     ) -> Result<Vec<(Vec<u8>, u16)>, FfsFault>
-        ensures names { IsLibrary (S.types_of store.now) → IfOk result (λ names. Ok (map (λ name. (name.0.items, name.1)) names.items) ≡ names_in (latest (S.state_of store.now).lives) self.now.fs.number directory) }
-        ensures faults { IsLibrary (S.types_of store.now) → IfErr result (λ fault. (fault ≡ FfsFault.Kernel Refusal.NoMemory) ⊎ (Err fault ≡ names_in (latest (S.state_of store.now).lives) self.now.fs.number directory)) }
+        ensures names { IsLibrary (S.types_of store.now) → IfOk result (λ names.
+            Ok (map (λ name. (name.0.items, name.1)) names.items) ≡ names_in (latest (S.state_of store.now).lives) self.now.fs.number directory) }
+        ensures faults { IsLibrary (S.types_of store.now) → IfErr result (λ fault. (fault ≡ FfsFault.Kernel Refusal.NoMemory)
+            ⊎ (Err fault ≡ names_in (latest (S.state_of store.now).lives) self.now.fs.number directory)) }
     {
         let found = find_directory(store, self.fs, directory)?;
         let mut names = Vec::new(alloc);

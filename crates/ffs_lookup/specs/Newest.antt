@@ -8,9 +8,10 @@
 --     names_of, names_in                          the names of a directory and the inodes that they name
 --     file_end, byte_of, bytes_from               where a file ends; its byte at an offset, 0 in a hole; its bytes from an offset on, up to its end
 --     read_count, read_into                       how many bytes a read answers, and what it leaves of those that it was given
+--     room_in, number_in, IsLowest                where a directory has room for an entry; the number of the lowest free inode; a look-up for it
 --     make_in, create_in, write_in, unlink_in, rmdir_in, rename_in    what a call looks up before it edits
 --     is_short, is_own, RefusesAs                 a fault for want of something; one of the library's own; what is answered where a look-up fails
-use Rattle.std.specs.Prelude.{ℕ, ◌*◌, ◌-◌, ◌/◌, ◌%◌, Bool, true, false, not, ◌&&◌, ◌||◌, ◌==◌, nat_lt, min, List, ◌++◌, length, drop, map, find, replicate, Option, Some, None, Result, Ok, Err, ◌≡◌, IfErr, get_or, is_some, bytes_eq, filter, filter_map, flat_map, if◌then◌else◌}
+use Rattle.std.specs.Prelude.{ℕ, ◌+◌, ◌*◌, ◌-◌, ◌/◌, ◌%◌, Bool, true, false, not, ◌&&◌, ◌||◌, ◌==◌, nat_lt, min, List, ◌++◌, length, drop, map, find, replicate, Option, Some, None, Result, Ok, Err, ◌≡◌, IfErr, get_or, is_some, bytes_eq, option_map, filter, filter_map, flat_map, if◌then◌else◌}
 use Rattle.std.specs.List.{list_any, range_with_len}
 use Rattle.std.specs.Option.{ok_or}
 use Rattle.xn_model.specs.declared.refusal.Refusal.TheVariants.{RootTaken}
@@ -23,6 +24,9 @@ use Rattle.ffs_format.specs.Fields.{direct_in}
 use Rattle.ffs_lookup.specs.declared.fault.FfsFault.{FfsFault}
 use Rattle.ffs_lookup.specs.declared.fault.FfsFault.TheVariants.{NoEntry, Exists, NotDir, IsDir, DirNotEmpty, BadName, TooLarge, NoInode, Kernel}
 use Rattle.ffs_lookup.specs.declared.places.Slot.{Slot}
+use Rattle.ffs_lookup.specs.declared.places.Free.{Free}
+use Rattle.ffs_lookup.specs.declared.places.Room.{Room}
+use Rattle.ffs_lookup.specs.declared.places.Room.TheVariants.{Entry, Pointer}
 
 -- Results
 
@@ -201,12 +205,34 @@ has_free_at content block = not (block == 0) && list_any (λ place. is_free_inod
 abbrev pub has_free_inode : (ℕ → List ℕ) → ℕ → Bool
 has_free_inode content root = list_any (λ index. has_free_at content (pointer_word (content root) index)) (range_with_len 0 16)
 
+-- The first place without an entry in the first block that has one, or else the first empty pointer.
+abbrev pub room_from : (ℕ → List ℕ) → List ℕ → Option ℕ → Option Room
+room_from content inode (Some block) = option_map (Entry block) (find (λ place. half_at (content block) (32 * place) == 0) (range_with_len 0 16))
+room_from content inode None = option_map Pointer (find (λ index. direct_in inode index == 0) (range_with_len 0 12))
+
+abbrev pub room_in : (ℕ → List ℕ) → List ℕ → Option Room
+room_in content inode = room_from content inode (find (λ block. has_gap (content block)) (inode_blocks inode))
+
 -- a pointer of the root block for a new block of inodes
 abbrev pub has_empty_pointer : (ℕ → List ℕ) → ℕ → Bool
 has_empty_pointer content root = list_any (λ index. pointer_word (content root) index == 0) (range_with_len 0 16)
 
 abbrev pub has_inode : (ℕ → List ℕ) → ℕ → Bool
 has_inode content root = has_free_inode content root || has_empty_pointer content root
+
+-- The first free inode in the first block that has one, or else the first one of a block for the first empty pointer.
+abbrev pub number_from : (ℕ → List ℕ) → ℕ → Option ℕ → Option ℕ
+number_from content root (Some index) =
+    option_map (λ place. 8 * index + place + 1) (find (λ place. is_free_inode (inode_at (content (pointer_word (content root) index)) place)) (range_with_len 0 8))
+number_from content root None = option_map (λ index. 8 * index + 1) (find (λ index. pointer_word (content root) index == 0) (range_with_len 0 16))
+
+abbrev pub number_in : (ℕ → List ℕ) → ℕ → Option ℕ
+number_in content root = number_from content root (find (λ index. has_free_at content (pointer_word (content root) index)) (range_with_len 0 16))
+
+-- it is the lowest one; there is none in the blocks that there are
+abbrev pub IsLowest : (ℕ → List ℕ) → ℕ → Option Free → Type 0
+IsLowest content fs (Some free) = (root : ℕ) → Ok root ≡ root_in content fs → Some free.number ≡ number_in content root
+IsLowest content fs None = (root : ℕ) → Ok root ≡ root_in content fs → has_free_inode content root ≡ false
 
 abbrev pub if_room : (ℕ → List ℕ) → List ℕ → ℕ → Result (List ℕ) FfsFault
 if_room content inode root = if has_inode content root then (if has_room content inode then Ok inode else Err TooLarge) else Err NoInode

@@ -1,13 +1,13 @@
 // Where inodes and entries stand.
 
-ghost use Rattle.std.specs.Prelude.{◌≡◌, ◌≢◌, ◌<◌, ◌≤◌, ◌*◌, ◌==◌, ◌&&◌, ℕ, length, find, not, bytes_eq, is_some, true, false, IfOk, IfSome, IsOk, MatchResult, Ok, Err};
+ghost use Rattle.std.specs.Prelude.{◌≡◌, ◌≢◌, ℕ, ◌<◌, ◌≤◌, ◌*◌, ◌==◌, ◌&&◌, length, find, not, bytes_eq, is_some, true, false, IfOk, IfSome, IsOk, MatchResult, Ok, Err, Some};
 ghost use Rattle.std.specs.List.{list_any, range_with_len};
 ghost use Rattle.ffs_format.specs.Entries.{name_in};
 ghost use Rattle.ffs_format.specs.Fields.{direct_in};
 ghost use Rattle.ffs_model.specs.Cuts.{Under, latest};
 ghost use Rattle.ffs_model.specs.Names.{IsRoot, IsInodes};
 ghost use Rattle.ffs_model.specs.Library.{library_layout, half_at, inode_at, inode_mode, pointer_word, IsLibrary};
-ghost use Rattle.ffs_lookup.specs.Newest.{mapped, root_in, inode_block_in, inode_in, directory_in, file_in, entries_of, first_named, has_room, has_free_inode, has_empty_pointer, is_free_inode};
+ghost use Rattle.ffs_lookup.specs.Newest.{mapped, root_in, inode_block_in, inode_in, directory_in, file_in, entries_of, first_named, has_room, has_free_inode, has_empty_pointer, is_free_inode, room_in, IsLowest};
 ghost use Rattle.ffs_lookup.specs.Places.{IsFound, IsDirectory, IsFile, IsFree, IsEmptyPointer, IsSlot, IsRoom};
 
 use crate::fault::FfsFault;
@@ -219,6 +219,7 @@ pub fn find_room<S: Store>(
 ) -> Result<Room, FfsFault>
     requires { IsDirectory (S.state_of store.now) fs.number number directory.now }
     ensures room { IfOk result (λ room. IsRoom (S.state_of store.now) directory.now room) }
+    ensures place { IfOk result (λ room. Some room ≡ room_in (latest (S.state_of store.now).lives) directory.now.inode) }
     ensures exact { IsLibrary (S.types_of store.now) → MatchResult result (λ _. has_room (latest (S.state_of store.now).lives) directory.now.inode ≡ true)
         (λ fault. (fault ≡ FfsFault.TooLarge) × (has_room (latest (S.state_of store.now).lives) directory.now.inode ≡ false)) }
 {
@@ -273,6 +274,7 @@ fn free_in(block: &[u8; 512]) -> Option<usize>
 /// The free inode of the lowest number in the inode blocks that there are.
 pub fn find_free<S: Store>(store: &S, fs: Fs) -> Result<Option<Free>, FfsFault>
     ensures free { IfOk result (λ found. IfSome found (λ free. IsFree (S.state_of store.now) fs.number free)) }
+    ensures lowest { IfOk result (λ found. IsLowest (latest (S.state_of store.now).lives) fs.number found) }
     ensures exact { IsLibrary (S.types_of store.now) → MatchResult result
         (λ found. (root : ℕ) → Ok root ≡ root_in (latest (S.state_of store.now).lives) fs.number → is_some found ≡ has_free_inode (latest (S.state_of store.now).lives) root)
         (λ fault. Err fault ≡ root_in (latest (S.state_of store.now).lives) fs.number) }
@@ -306,6 +308,8 @@ fn empty_in(block: &[u8; 512]) -> Option<usize>
 /// The first empty pointer of the root block.
 pub fn find_pointer<S: Store>(store: &S, fs: Fs) -> Result<usize, FfsFault>
     ensures empty { IfOk result (λ index. IsEmptyPointer (S.state_of store.now) fs.number index) }
+    ensures first { IfOk result (λ index. (root : ℕ) → Ok root ≡ root_in (latest (S.state_of store.now).lives) fs.number →
+        Some index ≡ find (λ i. pointer_word (latest (S.state_of store.now).lives root) i == 0) (range_with_len 0 16)) }
     ensures exact { (root : ℕ) → Ok root ≡ root_in (latest (S.state_of store.now).lives) fs.number → MatchResult result
         (λ _. has_empty_pointer (latest (S.state_of store.now).lives) root ≡ true)
         (λ fault. (fault ≡ FfsFault.NoInode) × (has_empty_pointer (latest (S.state_of store.now).lives) root ≡ false)) }

@@ -1,5 +1,8 @@
-use Rattle.std.proofs.Common.{◌≤◌}
+use Rattle.std.proofs.Common.{◌≡◌, ◌≤◌, length}
+use Rattle.xn_model.specs.Lists.{blocks_of}
+use Rattle.ffs_model.specs.Library.{pointed}
+use Rattle.ffs_format.specs.Fields.{direct_in}
 use Rattle.ffs_lib.proofs.steps.count_blocks.Given as goal
 
 abbrev pub invariant-loop-i : goal.invariant-loop-i
-invariant-loop-i l = l.count ≤ l.i
+invariant-loop-i l = (l.count ≤ l.i) × (l.count ≡ length (blocks_of (pointed (direct_in l.inode) l.i 2)))

@@ -4,7 +4,7 @@ use Rattle.ffs_model.specs.Library.{library_layout}
 use Rattle.ffs_model.proofs.ForCallers.{library_reads, under_direct}
 use Rattle.ffs_lookup.proofs.Finding.{found_has, gap_is}
 use Rattle.ffs_lookup.proofs.Newest.{not_ok}
-use Rattle.ffs_lookup.proofs.Rooms.{gap_found, gap_none, gap_past, no_room, pointer_left}
+use Rattle.ffs_lookup.proofs.Rooms.{gap_found, gap_none, gap_past, gap_place, no_room, pointer_left, pointer_place}
 use Rattle.ffs_lookup.proofs.places.find_room.Goals as goal
 
 pub returns-in-Some-clause-room : goal.returns-in-Some-clause-room
@@ -17,6 +17,11 @@ pub returns-in-Some-clause-exact : goal.returns-in-Some-clause-exact
 returns-in-Some-clause-exact g c = λ lib.
     gap_found (latest (g.S.Store.state_of c.args.store.now).lives) c.args.directory.now.inode c.loop-i.i (c.loop-i.i + 1) refl c.direct-block.result c.in_ok-read_block.field-0.now
     (sym c.direct-block.ensures) c.if-block-eq0.false c.in_ok-read_block.ensures.bytes (omega arith) c.in-Some.place c.in-Some.ensures.exact
+
+pub returns-in-Some-clause-place : goal.returns-in-Some-clause-place
+returns-in-Some-clause-place g c =
+    gap_place (latest (g.S.Store.state_of c.args.store.now).lives) c.args.directory.now.inode c.loop-i.i (c.loop-i.i + 1) refl c.direct-block.result c.in_ok-read_block.field-0.now
+    (sym c.direct-block.ensures) c.if-block-eq0.false c.in_ok-read_block.ensures.bytes (omega arith) c.loop-i.invariant c.in-Some.place c.in-Some.ensures.exact
 
 pub returns-in_err-read_block-clause-exact : goal.returns-in_err-read_block-clause-exact
 returns-in_err-read_block-clause-exact g c = λ lib.
@@ -41,6 +46,10 @@ loop-i-preserved g c =
 pub returns-in-Some-empty_direct-clause-exact : goal.returns-in-Some-empty_direct-clause-exact
 returns-in-Some-empty_direct-clause-exact g c = λ lib.
     pointer_left (latest (g.S.Store.state_of c.args.store.now).lives) c.args.directory.now.inode c.loop-i.i (omega arith) c.loop-i.invariant _ c.in-Some-empty_direct.ensures.exact
+
+pub returns-in-Some-empty_direct-clause-place : goal.returns-in-Some-empty_direct-clause-place
+returns-in-Some-empty_direct-clause-place g c =
+    pointer_place (latest (g.S.Store.state_of c.args.store.now).lives) c.args.directory.now.inode c.loop-i.i (omega arith) c.loop-i.invariant _ c.in-Some-empty_direct.ensures.exact
 
 pub returns-in-None-clause-exact : goal.returns-in-None-clause-exact
 returns-in-None-clause-exact g c = λ lib.

@@ -1,40 +1,118 @@
-use Rattle.std.proofs.Common.{ℕ, ◌<◌, length, None, Option, arith, refl, subst}
-use Rattle.std.proofs.lemmas.Result.{err_from_is_err_and}
-use Rattle.ffs_lib.specs.Outcomes.{CanEdit}
-use Rattle.ffs_lib.proofs.Linked.{free_pointer}
-use Rattle.ffs_model.specs.Library.{library_layout}
+use Rattle.std.proofs.Common.{◌≡◌, ◌*◌, ◌<◌, ◌∙◌, [], ◌∷◌, ℕ, List, None, Ok, Option, arith, length, subst, sym}
+use Rattle.xn_model.specs.Calls.{init_of, propose_of}
+use Rattle.ffs_model.specs.Library.{library_layout, zeros}
 use Rattle.ffs_model.specs.Volumes.{VolumeKeeps}
+use Rattle.ffs_model.proofs.ForCallers.{free_begun}
+use Rattle.ffs_lookup.proofs.ForCallers.{gives_err, gives_ok}
+use Rattle.ffs_lib.specs.Edits.{edit_at}
+use Rattle.ffs_lib.specs.Steps.{ShortEdit, Stage, StopsGrowing}
 use Rattle.ffs_lib.specs.Volumes.{edits_of}
+use Rattle.ffs_lib.proofs.Laws.{forgot_stage, same_stage, short_told, stops_err, told_by, true_false}
+use Rattle.ffs_lib.proofs.NameLaws.{not_added, point_lowest, point_free, point_short, point_stage, point_undone, points}
 use Rattle.ffs_lib.proofs.Numbers.{first_free, with_one}
+use Rattle.ffs_lib.proofs.Tops.{never}
 use Rattle.ffs_lib.proofs.volume.Volume.add_inodes.Goals as goal
 
-pub returns-clause-keeps : goal.returns-clause-keeps
-returns-clause-keeps g c =
-    let volume = c.args.self.now in
-    let added = c.in_ok-index in
-    let new = g.S.Store.state_of c.add_inodes.new.store in
-    let is = added.ensures.ok c.requires.library (edits_of volume.added) c.requires.keeps in
-    let long = c.has_places.ensures in
-    let few = added.ensures.few in
-    let low : added.index < length volume.added = omega (arith, long, few) in
-    record {
-      library = c.requires.library;
-      keeps = subst (λ (array : ℕ → Option ℕ). VolumeKeeps (g.S.Store.types_of c.args.store.now) library_layout volume.fs.number array new) (with_one volume.added added.index low added.entry) is.keeps;
-    }
-
-pub returns-clause-free : goal.returns-clause-free
-returns-clause-free g c =
-    let volume = c.args.self.now in
-    let added = c.in_ok-index in
-    first_free (g.S.Store.types_of c.args.store.now) (g.S.Store.state_of c.add_inodes.new.store) volume.fs.number (edits_of volume.added) added.index added.block added.entry added.ensures.few
-    (added.ensures.ok c.requires.library (edits_of volume.added) c.requires.keeps)
-
-pub returns-in_err-index-clause-short : goal.returns-in_err-index-clause-short
-returns-in_err-index-clause-short g c = λ n inode is empty.
+pub returns-in_err-block-clause-leaves : goal.returns-in_err-block-clause-leaves
+returns-in_err-block-clause-leaves g c =
     let T = g.S.Store.types_of c.args.store.now in
-    let state = g.S.Store.state_of c.args.store.now in
     let volume = c.args.self.now in
-    let v = c.requires.keeps in
-    let can : CanEdit T state None = record { library = c.requires.library; consistent = v.consistent; given = refl } in
-    let p = err_from_is_err_and c.from_residual.result c.from_residual.ensures.1 in
-    rw (p.1, p.2) (c.in_err-index.ensures.short can (free_pointer T volume.fs.number (edits_of volume.added) state v n inode is empty))
+    let zeroth = g.S.Store.state_of c.args.store.now in
+    let first = g.S.Store.state_of c.init.new.self in
+    let v = c.requires.volume in
+    let fs = volume.fs.number in
+    let s : Stage T fs (edits_of volume.added) zeroth = record { library = v.library; few = volume.fs.few; keeps = v.keeps } in
+    let r = init_of T zeroth fs 4 zeros in
+    let same = gives_err r zeroth first c.in_err-block.field-0.0 c.in_err-block.ensures.state in
+    let told = told_by r zeroth first c.in_err-block.field-0.0 c.in_err-block.ensures.state in (
+      record { library = v.library; keeps = (same_stage s same).keeps },
+      stops_err _ (StopsGrowing T fs zeroth first) c.from_residual.result _ c.from_residual.ensures.1
+          (short_told r (free_begun T v.library zeroth fs) _ told, not_added T fs zeroth first c.requires.room same _ told),
+    )
+
+pub returns-in_err-index-clause-leaves : goal.returns-in_err-index-clause-leaves
+returns-in_err-index-clause-leaves g c =
+    let T = g.S.Store.types_of c.args.store.now in
+    let volume = c.args.self.now in
+    let fs = volume.fs.number in
+    let array = edits_of volume.added in
+    let zeroth = g.S.Store.state_of c.args.store.now in
+    let first = g.S.Store.state_of c.init.new.self in
+    let v = c.requires.volume in
+    let s : Stage T fs array zeroth = record { library = v.library; few = volume.fs.few; keeps = v.keeps } in
+    let block = c.in_ok-block.block in
+    let number = c.in_ok-block.field-0-1 in
+    let done = gives_ok (init_of T zeroth fs 4 zeros) zeroth first (block, number) c.in_ok-block.ensures.state in
+    let free = point_free T fs array zeroth first s c.requires.room block number done in
+    absurd (true_false _ free.empty (c.in_err-index.ensures.exact free.root free.is_root).1)
+
+pub returns-in_err-root-clause-leaves : goal.returns-in_err-root-clause-leaves
+returns-in_err-root-clause-leaves g c =
+    let T = g.S.Store.types_of c.args.store.now in
+    let volume = c.args.self.now in
+    let fs = volume.fs.number in
+    let array = edits_of volume.added in
+    let zeroth = g.S.Store.state_of c.args.store.now in
+    let first = g.S.Store.state_of c.init.new.self in
+    let v = c.requires.volume in
+    let s : Stage T fs array zeroth = record { library = v.library; few = volume.fs.few; keeps = v.keeps } in
+    let block = c.in_ok-block.block in
+    let number = c.in_ok-block.field-0-1 in
+    let done = gives_ok (init_of T zeroth fs 4 zeros) zeroth first (block, number) c.in_ok-block.ensures.state in
+    let free = point_free T fs array zeroth first s c.requires.room block number done in
+    absurd (never free.root _ (free.is_root ∙ sym c.in_err-root.ensures.exact))
+
+pub returns-in_err-entry-clause-leaves : goal.returns-in_err-entry-clause-leaves
+returns-in_err-entry-clause-leaves g c =
+    let T = g.S.Store.types_of c.args.store.now in
+    let volume = c.args.self.now in
+    let fs = volume.fs.number in
+    let array = edits_of volume.added in
+    let zeroth = g.S.Store.state_of c.args.store.now in
+    let first = g.S.Store.state_of c.init.new.self in
+    let v = c.requires.volume in
+    let s : Stage T fs array zeroth = record { library = v.library; few = volume.fs.few; keeps = v.keeps } in
+    let block = c.in_ok-block.block in
+    let number = c.in_ok-block.field-0-1 in
+    let done = gives_ok (init_of T zeroth fs 4 zeros) zeroth first (block, number) c.in_ok-block.ensures.state in
+    let index = c.in_ok-index.index in
+    let root = c.in_ok-root.root in
+    let at = point_stage T fs array zeroth first s c.requires.room block number done in
+    let p = c.in_err-entry.ensures.put T c.init.ensures.types in
+    let new = g.S.Store.state_of c.attach.new.store in
+    let spelled = c.pointer_bytes-pointer.ensures.bytes in
+    let edit = edit_at (4 * index) c.pointer_bytes-pointer.result ((block, 4) ∷ []) [] None in (
+      record { library = v.library; keeps = (forgot_stage T fs block array first new at p.0).keeps },
+      stops_err _ (StopsGrowing T fs zeroth new) c.from_residual-in_err-entry.result _ c.from_residual-in_err-entry.ensures.1 (
+        short_told (propose_of T first fs root edit) (subst (λ (b : List ℕ). ShortEdit T first fs root (edit_at (4 * index) b ((block, 4) ∷ []) [] None)) (sym spelled)
+            (point_short T fs array zeroth first s c.requires.room block number done root c.in_ok-root.ensures.root index c.in_ok-index.ensures.empty c.is_word.ensures)) _ p.1,
+        point_undone T fs array zeroth first s c.requires.room block number done root c.in_ok-root.ensures.root index c.in_ok-index.ensures.empty c.is_word.ensures new p.0 _ (edit, p.1),
+      ),
+    )
+
+pub returns-clause-leaves : goal.returns-clause-leaves
+returns-clause-leaves g c =
+    let T = g.S.Store.types_of c.args.store.now in
+    let volume = c.args.self.now in
+    let fs = volume.fs.number in
+    let array = edits_of volume.added in
+    let zeroth = g.S.Store.state_of c.args.store.now in
+    let first = g.S.Store.state_of c.init.new.self in
+    let v = c.requires.volume in
+    let s : Stage T fs array zeroth = record { library = v.library; few = volume.fs.few; keeps = v.keeps } in
+    let block = c.in_ok-block.block in
+    let number = c.in_ok-block.field-0-1 in
+    let done = gives_ok (init_of T zeroth fs 4 zeros) zeroth first (block, number) c.in_ok-block.ensures.state in
+    let new = g.S.Store.state_of c.attach.new.store in
+    let index = c.in_ok-index.index in
+    let root = c.in_ok-root.root in
+    let entry = c.in_ok-entry.entry in
+    let spelled = c.pointer_bytes-pointer.ensures.bytes in
+    let put = subst (λ (b : List ℕ). propose_of T first fs root (edit_at (4 * index) b ((block, 4) ∷ []) [] None) ≡ Ok (entry, new)) spelled (c.in_ok-entry.ensures.put T c.init.ensures.types) in
+    let x = points T fs array zeroth first s c.requires.room block number done root c.in_ok-root.ensures.root index c.in_ok-index.ensures.empty c.is_word.ensures new entry put in
+    let long = c.has_places.ensures in
+    let few = c.in_ok-index.ensures.empty.few in
+    let low : index < length volume.added = omega (arith, long, few) in (
+      record { library = v.library; keeps = subst (λ (a : ℕ → Option ℕ). VolumeKeeps T library_layout fs a new) (with_one volume.added index low entry) x.0.keeps },
+      record { is = first_free T new fs array index block entry few x.0; lowest = point_lowest T fs array zeroth first s c.requires.room block number done c.requires.full index c.in_ok-index.ensures.first; stays = x.1 },
+    )

@@ -1,10 +1,15 @@
-use Rattle.std.proofs.Common.{◌≡◌, ℕ, Option, Ok, true, length, ap, ◌∙◌, subst, sym}
+use Rattle.std.proofs.Common.{◌≡◌, ℕ, Option, Ok, true, length, ap, ◌∙◌, inl, refl, subst, sym}
 use Rattle.std.specs.Prelude.{OnOk}
-use Rattle.xn_model.specs.Calls.{may_add}
-use Rattle.ffs_model.specs.Library.{IsLibrary, library_layout}
+use Rattle.xn_model.specs.Calls.{init_of, may_add}
+use Rattle.ffs_model.specs.Library.{IsLibrary, library_layout, zeros}
 use Rattle.ffs_model.specs.Volumes.{VolumeKeeps, no_edits}
 use Rattle.ffs_lib.specs.Outcomes.{GetsRoot, Keeps, Leaves, MakesTop, OnlyShort, Starts}
+use Rattle.xn_model.specs.Lists.{put}
+use Rattle.ffs_lookup.proofs.ForCallers.{gives_err}
+use Rattle.ffs_lib.specs.Results.{new_inode}
+use Rattle.ffs_lib.specs.Steps.{LastForgets}
 use Rattle.ffs_lib.proofs.Kept.{on_err, refused}
+use Rattle.ffs_lib.proofs.Laws.{undoes}
 use Rattle.ffs_lib.proofs.Tops.{attached_short, found_still, made_volume, never, not_own, short_fault, top_bare}
 use Rattle.std.proofs.lemmas.Result.{err_from_is_err_and}
 use Rattle.ffs_model.specs.Cuts.{latest}
@@ -36,6 +41,40 @@ returns-in_err-prepare_root-clause-err g c =
     on_err c.from_residual-in_err-prepare_root.result
     (prepared_keeps T fs c.args.fs.few c.requires.library begun.block begun.field-0-1 c.first_inodes.result c.first_inodes.ensures.bare zeroth first second (opened T zeroth fs c.requires) begun.ensures.state
     (subst (λ t. Keeps t fs first second) c.init.ensures.types c.in_err-prepare_root.ensures.keeps))
+
+pub returns-in_err-begun-clause-forgotten : goal.returns-in_err-begun-clause-forgotten
+returns-in_err-begun-clause-forgotten g c = on_err c.from_residual.result (inl refl)
+
+pub returns-in_err-block-clause-forgotten : goal.returns-in_err-block-clause-forgotten
+returns-in_err-block-clause-forgotten g c =
+    on_err c.from_residual-in_err-block.result
+    (inl (gives_err (init_of (g.S.Store.types_of c.args.store.now) (g.S.Store.state_of c.args.store.now) c.args.fs.number 4 c.first_inodes.result) (g.S.Store.state_of c.args.store.now) (g.S.Store.state_of c.init.new.self) c.in_err-block.field-0.0 c.in_err-block.ensures.state))
+
+pub returns-in_err-prepare_root-clause-forgotten : goal.returns-in_err-prepare_root-clause-forgotten
+returns-in_err-prepare_root-clause-forgotten g c =
+    let fs = c.args.fs.number in
+    let T = g.S.Store.types_of c.args.store.now in
+    let zeroth = g.S.Store.state_of c.args.store.now in
+    let first = g.S.Store.state_of c.init.new.self in
+    let new = g.S.Store.state_of c.prepare_root.new.store in
+    let begun = c.in_ok-block in
+    on_err c.from_residual-in_err-prepare_root.result
+    (undoes T fs zeroth first new begun.block begun.field-0-1 c.first_inodes.result (put zeros 0 (new_inode 2)) c.first_inodes.ensures.exact begun.ensures.state
+    (subst (λ t. LastForgets t fs begun.block new) c.init.ensures.types c.in_err-prepare_root.ensures.forgotten))
+
+pub returns-in_err-forgotten-clause-forgotten : goal.returns-in_err-forgotten-clause-forgotten
+returns-in_err-forgotten-clause-forgotten g c =
+    let fs = c.args.fs.number in
+    let T = g.S.Store.types_of c.args.store.now in
+    let zeroth = g.S.Store.state_of c.args.store.now in
+    let first = g.S.Store.state_of c.init.new.self in
+    let third = g.S.Store.state_of c.attach_first-attached.new.store in
+    let new = g.S.Store.state_of c.forgotten.new.store in
+    let begun = c.in_ok-block in
+    let before = c.attach_first-attached.ensures.types ∙ (c.in_ok-prepare_root.ensures.types ∙ c.init.ensures.types) in
+    on_err c.from_residual-in_err-forgotten.result
+    (undoes T fs zeroth first new begun.block begun.field-0-1 c.first_inodes.result (put zeros 0 (new_inode 2)) c.first_inodes.ensures.exact begun.ensures.state
+    (subst (λ t. LastForgets t fs begun.block new) before (third, c.in_err-forgotten.ensures.forgotten)))
 
 pub returns-in_err-forgotten-clause-err : goal.returns-in_err-forgotten-clause-err
 returns-in_err-forgotten-clause-err g c =

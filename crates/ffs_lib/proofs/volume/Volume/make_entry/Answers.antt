@@ -1,32 +1,71 @@
-use Rattle.std.proofs.Common.{◌≡◌, ℕ, List, Ok, refl}
-use Rattle.std.proofs.lemmas.Result.{IfOk-weaker, err_from_is_err_and}
+use Rattle.std.proofs.Common.{◌≡◌, ◌∙◌, ap, inl, inr, subst, sym}
 use Rattle.ffs_model.specs.Cuts.{latest}
-use Rattle.ffs_lookup.specs.Newest.{create_in, directory_in}
-use Rattle.ffs_lib.specs.Results.{MadeEntry}
-use Rattle.ffs_lib.proofs.Creating.{in_a_directory, passes}
-use Rattle.ffs_lib.proofs.Kept.{handed_with}
-use Rattle.ffs_lib.proofs.Refusals.{refuses}
+use Rattle.ffs_lookup.specs.Newest.{create_in}
+use Rattle.ffs_lib.specs.Results.{IsLowestNumber, MadeEntry}
+use Rattle.ffs_lib.specs.Steps.{StopsMaking, StopsNew}
+use Rattle.ffs_lib.specs.Volumes.{edits_of}
+use Rattle.ffs_lib.proofs.Entering.{directory_from, directory_same, stays_made}
+use Rattle.ffs_lib.proofs.Laws.{answers_ok, is_ok_one, match_then, stops_err}
+use Rattle.ffs_lib.proofs.Linked.{free_pointer, same_room}
+use Rattle.ffs_lib.proofs.MakeLaws.{named_by}
 use Rattle.ffs_lib.proofs.volume.Volume.make_entry.Goals as goal
 
-pub returns-in_err-free-clause-faults : goal.returns-in_err-free-clause-faults
-returns-in_err-free-clause-faults g c =
-    let content = latest (g.S.Store.state_of c.args.store.now).lives in
-    let looked = create_in content c.args.self.now.fs.number c.args.directory c.args.name.now in
-    let p = err_from_is_err_and c.from_residual.result c.from_residual.ensures.1 in
-    rw (p.1, p.2) (refuses looked _ c.in_err-free.field-0.0 (g.S.Store.state_of c.args.store.now) (c.in_err-free.ensures.exact c.requires.volume.library) refl)
-
-pub returns-clause-faults : goal.returns-clause-faults
-returns-clause-faults g c =
-    let content = latest (g.S.Store.state_of c.args.store.now).lives in
-    let looked = create_in content c.args.self.now.fs.number c.args.directory c.args.name.now in
-    passes looked c.once_edited.result (g.S.Store.state_of c.args.store.now) (g.S.Store.state_of c.make_named.new.store) (c.in_ok-free.ensures.exact c.requires.volume.library) c.once_edited.ensures.err
-
-pub returns-clause-made : goal.returns-clause-made
-returns-clause-made g c =
-    let old = latest (g.S.Store.state_of c.args.store.now).lives in
-    let new = latest (g.S.Store.state_of c.make_named.new.store).lives in
+pub take_free-requires-clause-room : goal.take_free-requires-clause-room
+take_free-requires-clause-room g c = λ none.
+    let v = c.requires.volume in
+    let old = g.S.Store.state_of c.args.store.now in
     let fs = c.args.self.now.fs.number in
-    let found = in_a_directory old fs c.args.directory c.args.name.now (c.in_ok-free.ensures.exact c.requires.volume.library) in
-    handed_with (λ n. MadeEntry old new fs c.args.directory c.args.name.now c.args.mode n) c.make_named.result c.once_edited.result c.once_edited.ensures.ok
-    (IfOk-weaker c.make_named.result (λ n. (inode : List ℕ) → Ok inode ≡ directory_in old fs c.args.directory → MadeEntry old new fs c.args.directory c.args.name.now c.args.mode n)
-    (λ n. MadeEntry old new fs c.args.directory c.args.name.now c.args.mode n) (λ n made. made found.0 found.1) c.make_named.ensures.made)
+    let x = c.in_ok-found.ensures.room v.library in
+    free_pointer (g.S.Store.types_of c.args.store.now) fs (edits_of c.args.self.now.added) old v.keeps c.args.directory x.0 (directory_from (latest old.lives) fs c.args.directory x.0 x.1).0 (c.in_ok-found.ensures.pointer none)
+
+pub returns-in_err-free-clause-answers : goal.returns-in_err-free-clause-answers
+returns-in_err-free-clause-answers g c =
+    let T = g.S.Store.types_of c.args.store.now in
+    let old = g.S.Store.state_of c.args.store.now in
+    let new = g.S.Store.state_of c.take_free.new.store in
+    let fs = c.args.self.now.fs.number in
+    let d = c.args.directory in
+    let mode = c.args.mode in
+    let looked = create_in (latest old.lives) fs d c.args.name.now in
+    let x = is_ok_one looked (c.in_ok-found.ensures.exact c.requires.volume.library) in
+    let stop = c.in_err-free.ensures.leaves.1 in
+    answers_ok looked (λ _ n. MadeEntry (latest old.lives) (latest new.lives) fs d c.args.name.now mode n × IsLowestNumber (latest old.lives) fs n) (λ _ fault. StopsMaking T fs old new d mode fault) c.from_residual-in_err-free.result x.0 old new x.1
+    (stops_err _ (StopsMaking T fs old new d mode) c.from_residual-in_err-free.result _ c.from_residual-in_err-free.ensures.1 (stop.0, inl stop.1))
+
+pub returns-clause-answers : goal.returns-clause-answers
+returns-clause-answers g c =
+    let T = g.S.Store.types_of c.args.store.now in
+    let old = g.S.Store.state_of c.args.store.now in
+    let middle = g.S.Store.state_of c.take_free.new.store in
+    let new = g.S.Store.state_of c.name_inode.new.store in
+    let u = latest old.lives in
+    let v = latest middle.lives in
+    let w = latest new.lives in
+    let fs = c.args.self.now.fs.number in
+    let d = c.args.directory in
+    let name = c.args.name.now in
+    let mode = c.args.mode in
+    let number = c.in_ok-free.free.number in
+    let lib = c.requires.volume.library in
+    let x = is_ok_one (create_in u fs d name) (c.in_ok-found.ensures.exact lib) in
+    let dir = c.in_ok-found.ensures.room lib in
+    let stays = c.in_ok-free.ensures.leaves.1.stays in
+    let lowest = c.in_ok-free.ensures.leaves.1.lowest in
+    let y = named_by (g.S.Store.types_of c.take_free.new.store) T c.take_free.new.self.fs.number fs middle new d name mode number c.name_inode.new.self c.name_inode.result (ap (λ f. f.number) c.take_free.ensures.fs) c.take_free.ensures.types c.name_inode.ensures.leaves (dir.0) (dir.1 ∙ sym (directory_same u v fs d (stays d).0)) (same_room u v fs d dir.0 (stays d) (directory_from u fs d dir.0 dir.1).0 ∙ dir.2) in
+    answers_ok (create_in u fs d name) (λ _ n. MadeEntry u w fs d name mode n × IsLowestNumber u fs n) (λ _ fault. StopsMaking T fs old new d mode fault) c.name_inode.result x.0 old new x.1
+    (match_then (λ n. MadeEntry v w fs d name mode n × (n ≡ number)) (λ n. MadeEntry u w fs d name mode n × IsLowestNumber u fs n) (StopsNew T fs middle new d mode number) (StopsMaking T fs old new d mode) c.name_inode.result
+    (λ n made. (stays_made u v w fs d name mode n stays made.0, subst (IsLowestNumber u fs) (sym made.1) lowest)) (λ fault r. inr (middle, number, stays, lowest, r)) y.1)
+
+pub returns-clause-keeps : goal.returns-clause-keeps
+returns-clause-keeps g c =
+    let u = latest (g.S.Store.state_of c.args.store.now).lives in
+    let v = latest (g.S.Store.state_of c.take_free.new.store).lives in
+    let fs = c.args.self.now.fs.number in
+    let d = c.args.directory in
+    let dir = c.in_ok-found.ensures.room c.requires.volume.library in
+    let stays = c.in_ok-free.ensures.leaves.1.stays in
+    let middle = g.S.Store.state_of c.take_free.new.store in
+    let new = g.S.Store.state_of c.name_inode.new.store in
+    let T = g.S.Store.types_of c.args.store.now in
+    let y = named_by (g.S.Store.types_of c.take_free.new.store) T c.take_free.new.self.fs.number fs middle new d c.args.name.now c.args.mode c.in_ok-free.free.number c.name_inode.new.self c.name_inode.result (ap (λ f. f.number) c.take_free.ensures.fs) c.take_free.ensures.types c.name_inode.ensures.leaves (dir.0) (dir.1 ∙ sym (directory_same u v fs d (stays d).0)) (same_room u v fs d dir.0 (stays d) (directory_from u fs d dir.0 dir.1).0 ∙ dir.2) in
+    y.0

@@ -1,101 +1,106 @@
-use Rattle.std.proofs.Common.{◌∙◌, ◌≡◌, ◌≢◌, ◌<◌, ◌-◌, ◌/◌, Some, length, ap, arith, subst, sym}
-use Rattle.std.proofs.lemmas.Result.{err_from_is_err_and}
-use Rattle.xn_model.specs.Rules.{IsConsistent}
-use Rattle.ffs_model.specs.Library.{IsLibrary}
-use Rattle.ffs_lookup.specs.Newest.{inode_in}
-use Rattle.ffs_lib.proofs.Linked.{recorded_given, same_room}
-use Rattle.ffs_lib.proofs.Tops.{never}
+use Rattle.std.proofs.Common.{◌≡◌, ◌∙◌, ◌<◌, ◌-◌, ◌/◌, ◌*◌, ℕ, [], None, Option, ap, arith, get_or, inl, inr, length, refl, subst, sym}
+use Rattle.xn_model.specs.Calls.{propose_of}
 use Rattle.ffs_model.specs.Cuts.{latest}
-use Rattle.ffs_lib.specs.Outcomes.{CanEdit, Enters, Names}
+use Rattle.ffs_model.specs.Library.{library_layout}
+use Rattle.ffs_model.specs.Volumes.{VolumeKeeps, without_edit}
+use Rattle.ffs_lib.specs.Steps.{MadeInode, MayName, Stage, StopsNew}
+use Rattle.ffs_lib.specs.Edits.{edit_at}
 use Rattle.ffs_lib.specs.Volumes.{edits_of}
-use Rattle.ffs_lib.proofs.Entering.{directory_from, directory_same, free_none, made_then}
-use Rattle.ffs_lib.proofs.Numbers.{named_then, same_read}
+use Rattle.ffs_lib.proofs.Entering.{free_none, made_then}
+use Rattle.ffs_lib.proofs.Laws.{at_home, same_stage, short_told, stops_err}
+use Rattle.ffs_lib.proofs.Linked.{recorded_given}
+use Rattle.ffs_lib.proofs.NameLaws.{makes, makes_short, named_once}
+use Rattle.ffs_lib.proofs.Numbers.{same_read, without_one}
 use Rattle.ffs_lib.proofs.volume.Volume.name_inode.Goals as goal
 
-pub returns-clause-keeps : goal.returns-clause-keeps
-returns-clause-keeps g c =
+pub returns-in_err-made-clause-leaves : goal.returns-in_err-made-clause-leaves
+returns-in_err-made-clause-leaves g c = λ inode dir room.
     let T = g.S.Store.types_of c.args.store.now in
-    let volume = c.args.self.now in
-    let number = c.args.free.number in
-    let first = g.S.Store.state_of c.args.store.now in
-    let second = g.S.Store.state_of c.make_inode.new.store in
-    let third = g.S.Store.state_of c.enter.new.store in
-    let made = c.in_ok-made in
-    let index = c.from-index.result / 8 in
-    let less : c.from-index.result ≡ number - 1 = c.from-index.ensures in
-    let long = c.has_places.ensures in
-    let most = c.requires.free.low in
-    let low : index < length volume.added = omega (arith, less, long, most) in
-    record {
-      library = c.requires.volume.library;
-      keeps = named_then T c.requires.volume.library volume.fs.number number made.made index c.index-self-index.result volume.added first second third c.requires.free.stands.some
-          (ap (λ x. x / 8) less) low c.requires.volume.keeps made.ensures.ok
-          (subst (λ t. Names t volume.fs.number second third number made.made) c.make_inode.ensures.types c.enter.ensures.keeps);
-    }
-
-pub returns-clause-made : goal.returns-clause-made
-returns-clause-made g c = λ inode dir.
-    let T = g.S.Store.types_of c.args.store.now in
-    let lib = c.requires.volume.library in
     let volume = c.args.self.now in
     let fs = volume.fs.number in
-    let d = c.args.directory in
-    let name = c.args.name.now in
+    let array = edits_of volume.added in
     let free = c.args.free in
-    let first = g.S.Store.state_of c.args.store.now in
-    let second = g.S.Store.state_of c.make_inode.new.store in
-    let third = g.S.Store.state_of c.enter.new.store in
-    let made = c.in_ok-made in
+    let n = free.number in
+    let zeroth = g.S.Store.state_of c.args.store.now in
+    let first = g.S.Store.state_of c.put_inode.new.store in
+    let v = c.requires.volume in
+    let s : Stage T fs array zeroth = record { library = v.library; few = volume.fs.few; keeps = v.keeps } in
     let index = c.from-index.result / 8 in
-    let less : c.from-index.result ≡ free.number - 1 = c.from-index.ensures in
+    let less : c.from-index.result ≡ n - 1 = c.from-index.ensures in
     let long = c.has_places.ensures in
     let most = c.requires.free.low in
     let low : index < length volume.added = omega (arith, less, long, most) in
-    let v = c.requires.volume.keeps in
-    let is = made.ensures.ok lib (edits_of volume.added) v (same_read volume.added index _ _ low ∙ ap (λ x. edits_of volume.added (x / 8)) less) in
-    let puts = made.ensures.made lib v.consistent in
-    let enters = subst (λ t. Enters t fs d name free.number second third) c.make_inode.ensures.types c.in_ok-enter.ensures.entered lib is.keeps.consistent c.requires.free.stands.some in
-    made_then (latest first.lives) (latest second.lives) (latest third.lives) fs d name c.args.mode free.number (free_none first fs free c.requires.free) puts.0 puts.1 enters inode dir
+    let recorded = get_or volume.added index c.index-self-index.result in
+    let comes : recorded ≡ array index = same_read volume.added index c.index-self-index.result None low in
+    let bytes = c.empty_inode-inode.result in
+    let edit = edit_at (64 * free.place) bytes [] [] recorded in
+    let p = c.in_err-made.ensures.put T refl in (
+      record { library = v.library; keeps = (same_stage s p.0).keeps },
+      stops_err _ (StopsNew T fs zeroth first c.args.directory c.args.mode n) c.from_residual.result _ c.from_residual.ensures.1 (
+        short_told (propose_of T zeroth fs free.block edit)
+            (makes_short T fs array zeroth s free c.requires.free c.args.mode bytes c.put_inode.ensures.whole c.empty_inode-inode.ensures.fields recorded (recorded_given zeroth array v.keeps.given recorded index comes)) _ p.1,
+        inl (at_home T fs zeroth first n free.block free.place c.requires.free.stands p.0 _ (edit, p.1)),
+      ),
+    )
 
-pub returns-in_err-made-clause-short : goal.returns-in_err-made-clause-short
-returns-in_err-made-clause-short g c = λ inode dir room.
+pub returns-in_err-enter-clause-leaves : goal.returns-in_err-enter-clause-leaves
+returns-in_err-enter-clause-leaves g c = λ inode dir room.
     let T = g.S.Store.types_of c.args.store.now in
     let volume = c.args.self.now in
-    let free = c.args.free in
-    let first = g.S.Store.state_of c.args.store.now in
-    let v = c.requires.volume.keeps in
-    let lib = c.requires.volume.library in
-    let index = c.from-index.result / 8 in
-    let less : c.from-index.result ≡ free.number - 1 = c.from-index.ensures in
-    let long = c.has_places.ensures in
-    let most = c.requires.free.low in
-    let low : index < length volume.added = omega (arith, less, long, most) in
-    let p = err_from_is_err_and c.from_residual.result c.from_residual.ensures.1 in
-    rw (p.1, p.2) (c.in_err-made.ensures.short (record { library = lib; consistent = v.consistent; given = recorded_given first (edits_of volume.added) v.given _ index (same_read volume.added index _ _ low) }))
-
-pub returns-in_err-enter-clause-short : goal.returns-in_err-enter-clause-short
-returns-in_err-enter-clause-short g c = λ inode dir room.
-    let T = g.S.Store.types_of c.args.store.now in
-    let volume = c.args.self.now in
-    let free = c.args.free in
-    let first = g.S.Store.state_of c.args.store.now in
-    let v = c.requires.volume.keeps in
-    let lib = c.requires.volume.library in
-    let index = c.from-index.result / 8 in
-    let less : c.from-index.result ≡ free.number - 1 = c.from-index.ensures in
-    let long = c.has_places.ensures in
-    let most = c.requires.free.low in
-    let low : index < length volume.added = omega (arith, less, long, most) in
     let fs = volume.fs.number in
-    let d = c.args.directory in
-    let second = g.S.Store.state_of c.make_inode.new.store in
-    let made = c.in_ok-made in
-    let types = c.make_inode.ensures.types in
-    let is = made.ensures.ok lib (edits_of volume.added) v (same_read volume.added index _ _ low ∙ ap (λ x. edits_of volume.added (x / 8)) less) in
-    let puts = made.ensures.made lib v.consistent in
-    let own = (directory_from (latest first.lives) fs d inode dir).0 in
-    let apart : d ≢ free.number = λ e. never inode _ (own ∙ (ap (inode_in (latest first.lives) fs) e ∙ free_none first fs free c.requires.free)) in
-    let same = puts.1 d apart in
-    let can1 : CanEdit (g.S.Store.types_of c.make_inode.new.store) second (Some made.made) = record { library = subst IsLibrary (sym types) lib; consistent = subst (λ t. IsConsistent t second) (sym types) is.keeps.consistent; given = made.ensures.given (record { library = lib; consistent = v.consistent; given = recorded_given first (edits_of volume.added) v.given _ index (same_read volume.added index _ _ low) }) } in
-    let p = err_from_is_err_and c.from_residual-in_err-enter.result c.from_residual-in_err-enter.ensures.1 in
-    rw (p.1, p.2) (c.in_err-enter.ensures.short inode can1 (dir ∙ sym (directory_same (latest first.lives) (latest second.lives) fs d same.0)) (same_room (latest first.lives) (latest second.lives) fs d inode same own ∙ room))
+    let array = edits_of volume.added in
+    let free = c.args.free in
+    let n = free.number in
+    let zeroth = g.S.Store.state_of c.args.store.now in
+    let first = g.S.Store.state_of c.put_inode.new.store in
+    let v = c.requires.volume in
+    let s : Stage T fs array zeroth = record { library = v.library; few = volume.fs.few; keeps = v.keeps } in
+    let index = c.from-index.result / 8 in
+    let less : c.from-index.result ≡ n - 1 = c.from-index.ensures in
+    let long = c.has_places.ensures in
+    let most = c.requires.free.low in
+    let low : index < length volume.added = omega (arith, less, long, most) in
+    let recorded = get_or volume.added index c.index-self-index.result in
+    let comes : recorded ≡ array index = same_read volume.added index c.index-self-index.result None low in
+    let made = c.in_ok-made.made in
+    let k = makes T fs array zeroth s free c.requires.free c.args.mode c.empty_inode-inode.result c.put_inode.ensures.whole c.empty_inode-inode.ensures.fields recorded first made c.requires.used c.empty_inode-inode.ensures.bytes (comes ∙ ap (λ x. array (x / 8)) less) (c.in_ok-made.ensures.put T refl) in
+    let named = named_once (latest zeroth.lives) (latest first.lives) fs c.args.directory n inode dir (free_none zeroth fs free c.requires.free) k.others in
+    let may : MayName first fs n made = record { some = c.requires.free.stands.some; can = k.is.can; given = k.given } in
+    let s1 : Stage T fs array first = record { library = v.library; few = volume.fs.few; keeps = k.is.keeps } in
+    let x = c.in_err-enter.ensures.ends T array inode c.put_inode.ensures.types s1 may named.0 (named.1 ∙ room) in
+    let new = g.S.Store.state_of c.enter.new.store in
+    let inode_made : MadeInode (latest zeroth.lives) (latest first.lives) fs c.args.mode n = record { free = free_none zeroth fs free c.requires.free; made = k.here; others = k.others } in (
+      record { library = v.library; keeps = x.0.keeps },
+      stops_err _ (StopsNew T fs zeroth new c.args.directory c.args.mode n) c.from_residual-in_err-enter.result _ c.from_residual-in_err-enter.ensures.1 (x.1.0, inr (first, inode_made, x.1.1)),
+    )
+
+pub returns-clause-leaves : goal.returns-clause-leaves
+returns-clause-leaves g c = λ inode dir room.
+    let T = g.S.Store.types_of c.args.store.now in
+    let volume = c.args.self.now in
+    let fs = volume.fs.number in
+    let array = edits_of volume.added in
+    let free = c.args.free in
+    let n = free.number in
+    let zeroth = g.S.Store.state_of c.args.store.now in
+    let first = g.S.Store.state_of c.put_inode.new.store in
+    let v = c.requires.volume in
+    let s : Stage T fs array zeroth = record { library = v.library; few = volume.fs.few; keeps = v.keeps } in
+    let index = c.from-index.result / 8 in
+    let less : c.from-index.result ≡ n - 1 = c.from-index.ensures in
+    let long = c.has_places.ensures in
+    let most = c.requires.free.low in
+    let low : index < length volume.added = omega (arith, less, long, most) in
+    let recorded = get_or volume.added index c.index-self-index.result in
+    let comes : recorded ≡ array index = same_read volume.added index c.index-self-index.result None low in
+    let made = c.in_ok-made.made in
+    let k = makes T fs array zeroth s free c.requires.free c.args.mode c.empty_inode-inode.result c.put_inode.ensures.whole c.empty_inode-inode.ensures.fields recorded first made c.requires.used c.empty_inode-inode.ensures.bytes (comes ∙ ap (λ x. array (x / 8)) less) (c.in_ok-made.ensures.put T refl) in
+    let named = named_once (latest zeroth.lives) (latest first.lives) fs c.args.directory n inode dir (free_none zeroth fs free c.requires.free) k.others in
+    let may : MayName first fs n made = record { some = c.requires.free.stands.some; can = k.is.can; given = k.given } in
+    let second = g.S.Store.state_of c.enter.new.store in
+    let home : index ≡ (n - 1) / 8 = ap (λ x. x / 8) less in
+    let s1 : Stage T fs (without_edit array ((n - 1) / 8)) first = record { library = v.library; few = volume.fs.few; keeps = k.is.forgets } in
+    let x = c.in_ok-enter.ensures.ends T (without_edit array ((n - 1) / 8)) inode c.put_inode.ensures.types s1 may named.0 (named.1 ∙ room) in (
+      record { library = v.library; keeps = subst (λ (a : ℕ → Option ℕ). VolumeKeeps T library_layout fs a second) (ap (without_edit array) (sym home) ∙ without_one volume.added index low) x.0.keeps },
+      (made_then (latest zeroth.lives) (latest first.lives) (latest second.lives) fs c.args.directory c.args.name.now c.args.mode n (free_none zeroth fs free c.requires.free) k.here k.others (x.1.0.more, x.1.0.others) inode dir, refl),
+    )

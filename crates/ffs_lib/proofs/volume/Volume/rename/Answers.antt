@@ -1,43 +1,155 @@
-use Rattle.std.proofs.Common.{◌∙◌, refl, subst, sym}
-use Rattle.std.proofs.lemmas.Result.{err_from_is_err_and, on_ok_weaker}
+use Rattle.std.proofs.Common.{◌∙◌, ◌≡◌, ap, arith, inl, inr, refl, subst, sym, ◌≤◌}
 use Rattle.ffs_model.specs.Cuts.{latest}
-use Rattle.ffs_lookup.specs.Newest.{rename_in}
-use Rattle.ffs_lib.proofs.Refusals.{goes_on, refuses}
+use Rattle.ffs_model.specs.Library.{IsLibrary, inode_links}
 use Rattle.ffs_lookup.specs.declared.places.Slot.{Slot}
-use Rattle.ffs_lib.specs.Results.{MovedEntry}
-use Rattle.ffs_lib.proofs.Kept.{handed_on}
-use Rattle.ffs_lib.proofs.Renaming.{can_move}
+use Rattle.ffs_lookup.specs.Newest.{rename_in}
 use Rattle.ffs_lookup.proofs.ForCallers.{same_ok}
+use Rattle.ffs_lib.specs.Results.{MovedEntry}
+use Rattle.ffs_lib.specs.Steps.{StopsMoving, StopsRemoving, StopsUnnaming, Unnamed}
+use Rattle.ffs_lib.specs.Volumes.{edits_of}
+use Rattle.ffs_lib.proofs.Laws.{answers_ok, match_then, staged, stops_err, stops_removing}
+use Rattle.ffs_lib.proofs.Linked.{linked_inode}
+use Rattle.ffs_lib.proofs.MoveLaws.{moves, still_one, still_there}
+use Rattle.ffs_lib.proofs.Moving.{named_block}
+use Rattle.ffs_lib.proofs.Renaming.{can_move}
 use Rattle.ffs_lib.proofs.Tops.{never}
 use Rattle.ffs_lib.proofs.volume.Volume.rename.Goals as goal
 
-pub returns-in_err-slot-clause-faults : goal.returns-in_err-slot-clause-faults
-returns-in_err-slot-clause-faults g c =
-    let looked = rename_in (latest (g.S.Store.state_of c.args.store.now).lives) c.args.self.now.fs.number c.args.directory c.args.name.now c.args.other c.args.new_name.now in
-    let p = err_from_is_err_and c.from_residual.result c.from_residual.ensures.1 in
-    rw (p.1, p.2) (refuses looked _ c.in_err-slot.field-0.0 (g.S.Store.state_of c.args.store.now) (c.in_err-slot.ensures.exact c.requires.volume.library) refl)
-
-pub returns-clause-faults : goal.returns-clause-faults
-returns-clause-faults g c =
-    let looked = rename_in (latest (g.S.Store.state_of c.args.store.now).lives) c.args.self.now.fs.number c.args.directory c.args.name.now c.args.other c.args.new_name.now in
-    goes_on looked c.once_edited.result c.in_ok-slot.slot (g.S.Store.state_of c.args.store.now) (g.S.Store.state_of c.move_entry.new.store) (c.in_ok-slot.ensures.exact c.requires.volume.library) c.once_edited.ensures.err
-
-pub returns-clause-moved : goal.returns-clause-moved
-returns-clause-moved g c = handed_on _ c.move_entry.result c.once_edited.result c.once_edited.ensures.ok (on_ok_weaker c.move_entry.result (λ moved entry e.
-    let content = latest (g.S.Store.state_of c.args.store.now).lives in
-    let fs = c.args.self.now.fs.number in
+pub returns-in_err-entered-clause-answers : goal.returns-in_err-entered-clause-answers
+returns-in_err-entered-clause-answers g c =
+    let T = g.S.Store.types_of c.args.store.now in
+    let fs = c.args.self.now.fs in
+    let array = edits_of c.args.self.now.added in
+    let old = g.S.Store.state_of c.args.store.now in
+    let u = latest old.lives in
+    let d = c.args.directory in
+    let name = c.args.name.now in
+    let other = c.args.other in
+    let new_name = c.args.new_name.now in
     let slot = c.in_ok-slot.slot in
-    let exact = c.in_ok-slot.ensures.exact c.requires.volume.library in
-    let x = can_move content fs c.args.directory c.args.name.now c.args.other c.args.new_name.now slot exact in
-    subst (λ (s : Slot). MovedEntry content (latest (g.S.Store.state_of c.move_entry.new.store).lives) fs c.args.directory s c.args.other c.args.new_name.now) (same_ok slot entry (exact ∙ sym e))
-    (moved x.from x.to slot x.is_from x.is_to refl x.first x.free)) c.move_entry.ensures.moved)
+    let lib = c.requires.library in
+    let exact = c.in_ok-slot.ensures.exact lib in
+    let x = can_move u fs.number d name other new_name slot exact in
+    let s = staged c.requires fs.few in
+    let new = g.S.Store.state_of c.name_again.new.store in
+    let a = c.in_err-entered.ensures.ends T array x.own x.to refl s x.is_own x.few x.is_to x.room in
+    answers_ok (rename_in u fs.number d name other new_name) (λ entry _. MovedEntry u (latest new.lives) fs.number d entry other new_name) (λ entry fault. StopsMoving T fs.number old new d entry other new_name fault) c.from_residual-in_err-entered.result slot old new exact
+    (stops_err _ (StopsMoving T fs.number old new d slot other new_name) c.from_residual-in_err-entered.result _ c.from_residual-in_err-entered.ensures.1 (a.1.0, inl a.1.1))
 
-pub returns-in_err-slot-clause-short : goal.returns-in_err-slot-clause-short
-returns-in_err-slot-clause-short g c = λ entry is. absurd (never entry _ (is ∙ sym (c.in_err-slot.ensures.exact c.requires.volume.library)))
-
-pub returns-clause-short : goal.returns-clause-short
-returns-clause-short g c = λ entry is.
-    let content = latest (g.S.Store.state_of c.args.store.now).lives in
+pub returns-in_err-entered-clause-keeps : goal.returns-in_err-entered-clause-keeps
+returns-in_err-entered-clause-keeps g c =
+    let T = g.S.Store.types_of c.args.store.now in
+    let fs = c.args.self.now.fs in
+    let array = edits_of c.args.self.now.added in
+    let old = g.S.Store.state_of c.args.store.now in
+    let u = latest old.lives in
+    let d = c.args.directory in
+    let name = c.args.name.now in
+    let other = c.args.other in
+    let new_name = c.args.new_name.now in
     let slot = c.in_ok-slot.slot in
-    let x = can_move content c.args.self.now.fs.number c.args.directory c.args.name.now c.args.other c.args.new_name.now slot (c.in_ok-slot.ensures.exact c.requires.volume.library) in
-    c.once_edited.ensures.short (c.move_entry.ensures.short x.from x.to x.own slot x.is_from x.is_to x.first x.free x.good x.room x.is_own x.few)
+    let lib = c.requires.library in
+    let exact = c.in_ok-slot.ensures.exact lib in
+    let x = can_move u fs.number d name other new_name slot exact in
+    let s = staged c.requires fs.few in
+    let a = c.in_err-entered.ensures.ends T array x.own x.to refl s x.is_own x.few x.is_to x.room in
+    record { library = lib; keeps = a.0.keeps }
+
+pub returns-in_err-entry-clause-answers : goal.returns-in_err-entry-clause-answers
+returns-in_err-entry-clause-answers g c =
+    let T = g.S.Store.types_of c.args.store.now in
+    let fs = c.args.self.now.fs in
+    let array = edits_of c.args.self.now.added in
+    let old = g.S.Store.state_of c.args.store.now in
+    let u = latest old.lives in
+    let d = c.args.directory in
+    let name = c.args.name.now in
+    let other = c.args.other in
+    let new_name = c.args.new_name.now in
+    let slot = c.in_ok-slot.slot in
+    let lib = c.requires.library in
+    let exact = c.in_ok-slot.ensures.exact lib in
+    let x = can_move u fs.number d name other new_name slot exact in
+    let s = staged c.requires fs.few in
+    let a = c.in_ok-entered.ensures.ends T array x.own x.to refl s x.is_own x.few x.is_to x.room in
+    let w = latest (g.S.Store.state_of c.name_again.new.store).lives in
+    let lib2 = subst IsLibrary (sym c.name_again.ensures.types) lib in
+    absurd (never slot _ (still_there u w fs.number d name other new_name slot x a.1.0 ∙ sym (c.in_err-entry.ensures.exact lib2)))
+
+pub returns-in_err-entry-clause-keeps : goal.returns-in_err-entry-clause-keeps
+returns-in_err-entry-clause-keeps g c =
+    let T = g.S.Store.types_of c.args.store.now in
+    let fs = c.args.self.now.fs in
+    let array = edits_of c.args.self.now.added in
+    let old = g.S.Store.state_of c.args.store.now in
+    let u = latest old.lives in
+    let d = c.args.directory in
+    let name = c.args.name.now in
+    let other = c.args.other in
+    let new_name = c.args.new_name.now in
+    let slot = c.in_ok-slot.slot in
+    let lib = c.requires.library in
+    let exact = c.in_ok-slot.ensures.exact lib in
+    let x = can_move u fs.number d name other new_name slot exact in
+    let s = staged c.requires fs.few in
+    let a = c.in_ok-entered.ensures.ends T array x.own x.to refl s x.is_own x.few x.is_to x.room in
+    let w = latest (g.S.Store.state_of c.name_again.new.store).lives in
+    let lib2 = subst IsLibrary (sym c.name_again.ensures.types) lib in
+    record { library = lib; keeps = a.0.keeps }
+
+pub returns-clause-answers : goal.returns-clause-answers
+returns-clause-answers g c =
+    let T = g.S.Store.types_of c.args.store.now in
+    let fs = c.args.self.now.fs in
+    let array = edits_of c.args.self.now.added in
+    let old = g.S.Store.state_of c.args.store.now in
+    let u = latest old.lives in
+    let d = c.args.directory in
+    let name = c.args.name.now in
+    let other = c.args.other in
+    let new_name = c.args.new_name.now in
+    let slot = c.in_ok-slot.slot in
+    let lib = c.requires.library in
+    let exact = c.in_ok-slot.ensures.exact lib in
+    let x = can_move u fs.number d name other new_name slot exact in
+    let s = staged c.requires fs.few in
+    let a = c.in_ok-entered.ensures.ends T array x.own x.to refl s x.is_own x.few x.is_to x.room in
+    let w = latest (g.S.Store.state_of c.name_again.new.store).lives in
+    let lib2 = subst IsLibrary (sym c.name_again.ensures.types) lib in
+    let new = g.S.Store.state_of c.remove.new.store in
+    let entry = c.in_ok-entry.entry in
+    let b = c.remove.ensures.ends T array c.name_again.ensures.types a.0 a.1.1 in
+    let named = linked_inode T fs.number array old c.requires.keeps slot c.in_ok-slot.ensures.slot in
+    let same : inode_links x.own ≡ inode_links named.own = ap inode_links (same_ok x.own named.own (x.is_own ∙ sym named.found)) in
+    let low = named.linked in
+    let linked : 1 ≤ inode_links x.own = omega (arith, same, low) in
+    let middle = g.S.Store.state_of c.name_again.new.store in
+    let again = c.in_ok-entry.ensures.exact lib2 in
+    let one = still_one u w fs.number d name other new_name slot x a.1.0 entry again in
+    let at = named_block w fs.number d name entry again in
+    answers_ok (rename_in u fs.number d name other new_name) (λ e _. MovedEntry u (latest new.lives) fs.number d e other new_name) (λ e fault. StopsMoving T fs.number old new d e other new_name fault) c.remove.result slot old new exact
+    (match_then (λ _. Unnamed w (latest new.lives) fs.number entry) (λ _. MovedEntry u (latest new.lives) fs.number d slot other new_name) (StopsUnnaming T fs.number middle new entry) (StopsMoving T fs.number old new d slot other new_name) c.remove.result
+    (λ _. moves u w fs.number d name other new_name slot x a.1.0 linked (latest new.lives) entry again)
+    (λ fault r. inr (middle, a.1.0, subst (λ (e : Slot). StopsRemoving T fs.number middle new d e fault) one (stops_removing T fs.number middle new d entry at.0 at.1 at.2 fault r))) b.1)
+
+pub returns-clause-keeps : goal.returns-clause-keeps
+returns-clause-keeps g c =
+    let T = g.S.Store.types_of c.args.store.now in
+    let fs = c.args.self.now.fs in
+    let array = edits_of c.args.self.now.added in
+    let old = g.S.Store.state_of c.args.store.now in
+    let u = latest old.lives in
+    let d = c.args.directory in
+    let name = c.args.name.now in
+    let other = c.args.other in
+    let new_name = c.args.new_name.now in
+    let slot = c.in_ok-slot.slot in
+    let lib = c.requires.library in
+    let exact = c.in_ok-slot.ensures.exact lib in
+    let x = can_move u fs.number d name other new_name slot exact in
+    let s = staged c.requires fs.few in
+    let a = c.in_ok-entered.ensures.ends T array x.own x.to refl s x.is_own x.few x.is_to x.room in
+    let w = latest (g.S.Store.state_of c.name_again.new.store).lives in
+    let lib2 = subst IsLibrary (sym c.name_again.ensures.types) lib in
+    let b = c.remove.ensures.ends T array c.name_again.ensures.types a.0 a.1.1 in
+    record { library = lib; keeps = b.0.keeps }

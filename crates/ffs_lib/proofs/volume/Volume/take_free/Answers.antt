@@ -1,4 +1,22 @@
+use Rattle.std.proofs.Common.{Option, refl, subst}
+use Rattle.std.specs.Prelude.{IfSome}
+use Rattle.ffs_model.specs.Cuts.{latest}
+use Rattle.ffs_lookup.specs.declared.places.Free.{Free}
+use Rattle.ffs_lookup.specs.Newest.{IsLowest}
+use Rattle.ffs_lookup.specs.Places.{IsFree}
 use Rattle.ffs_lib.proofs.volume.Volume.take_free.Goals as goal
 
-pub returns-in-None-clause-short : goal.returns-in-None-clause-short
-returns-in-None-clause-short g c = λ n inode is empty. c.add_inodes.ensures.short n inode is (empty c.in-None.is)
+pub add_inodes-requires-clause-full : goal.add_inodes-requires-clause-full
+add_inodes-requires-clause-full g c = subst (IsLowest (latest (g.S.Store.state_of c.args.store.now).lives) c.args.self.now.fs.number) c.in-None.is c.requires.lowest
+
+pub returns-in-Some-clause-leaves : goal.returns-in-Some-clause-leaves
+returns-in-Some-clause-leaves g c =
+    let old = g.S.Store.state_of c.args.store.now in
+    let fs = c.args.self.now.fs.number in (
+      c.requires.volume,
+      record {
+        is = subst (λ (o : Option Free). IfSome o (λ free. IsFree old fs free)) c.in-Some.is c.requires.free;
+        lowest = subst (IsLowest (latest old.lives) fs) c.in-Some.is c.requires.lowest;
+        stays = λ d. (refl, λ inode i. (refl, λ at low. refl));
+      },
+    )

@@ -1,0 +1,88 @@
+-- An entry that stands where none stood.
+use Rattle.std.proofs.Common.{◌≡◌, ℕ, ◌*◌, Bool, true, false, cond, ◌&&◌, List, [], ◌∷◌, ◌++◌, Some, None, refl, sym, ◌∙◌, ap, inl, inr, eq-eqb}
+use Rattle.std.specs.Prelude.{Contains, ◌==◌, ◌||◌, filter, filter_map, find, flat_map, if◌then◌else◌}
+use Rattle.std.specs.List.{cons_option, list_any, range_with_len}
+use Rattle.std.proofs.lemmas.Bool.{cases_eq, ne_eqb}
+use Rattle.std.proofs.lemmas.List.Elements.{filter-append}
+use Rattle.std.proofs.lemmas.Option.{none-some, same_Some}
+use Rattle.xn_model.proofs.ForCallers.{Contains-head, Contains-tail}
+use Rattle.ffs_format.specs.Entries.{name_in}
+use Rattle.ffs_model.specs.Library.{half_at, inode_blocks}
+use Rattle.ffs_lookup.specs.declared.places.Slot.{Slot}
+use Rattle.ffs_lookup.specs.Newest.{is_at, listing}
+use Rattle.ffs_lib.proofs.Frames.{listed_at, listed_blocks, listed_in}
+
+any_both : {A : Type 0} (p : A → Bool) (xs ys : List A) → list_any p xs ≡ false → list_any p ys ≡ false → list_any p (xs ++ ys) ≡ false
+any_both p [] ys e f = f
+any_both p (x ∷ xs) ys e f = go (p x) e (any_both p xs ys)
+  where
+    go : (t : Bool) → t || list_any p xs ≡ false → (list_any p xs ≡ false → list_any p ys ≡ false → list_any p (xs ++ ys) ≡ false) → t || list_any p (xs ++ ys) ≡ false
+    go true g rest = absurd (cc g)
+    go false g rest = rest g f
+
+false_second : (t : Bool) → t && false ≡ false
+false_second true = refl
+false_second false = refl
+
+-- two places
+pub are_apart : (entry other : Slot) → (other.block ≡ entry.block → other.place ≡ entry.place → ⊥) → is_at entry other ≡ false
+are_apart entry other ne = elim (cases_eq other.block entry.block) [
+  | inr apart ↦ ap (λ t. t && (other.place == entry.place)) (ne_eqb other.block entry.block apart)
+  | inl e ↦ elim (cases_eq other.place entry.place) [
+    | inl f ↦ absurd (ne e f)
+    | inr apart ↦ ap (λ t. (other.block == entry.block) && t) (ne_eqb other.place entry.place apart) ∙ false_second (other.block == entry.block)
+  ]
+]
+
+pub turned_apart : (entry other : Slot) → is_at entry other ≡ false → is_at other entry ≡ false
+turned_apart entry other e = are_apart other entry (λ f g. true_false ((eq-eqb other.block entry.block (sym f), eq-eqb other.place entry.place (sym g))))
+  where
+    both : (s t : Bool) → s ≡ true → t ≡ true → s && t ≡ false → ⊥
+    both true true f g h = cc h
+    both true false f g h = cc g
+    both false t f g h = cc f
+
+    true_false : (other.block == entry.block ≡ true) × (other.place == entry.place ≡ true) → ⊥
+    true_false p = both (other.block == entry.block) (other.place == entry.place) p.0 p.1 e
+
+module _ (entry : Slot) where
+  abbrev at : Slot × List ℕ → Bool
+  at p = is_at entry p.0
+
+  none_at : (b : ℕ) (m : List ℕ) → (b ≡ entry.block → half_at m (32 * entry.place) ≡ 0) → (xs : List ℕ) → list_any at (filter_map (listed_at b m) xs) ≡ false
+  none_at b m empty [] = refl
+  none_at b m empty (x ∷ xs) = go (half_at m (32 * x) == 0) refl (none_at b m empty xs)
+    where
+      apart : half_at m (32 * x) == 0 ≡ false → (b == entry.block) && (x == entry.place) ≡ false
+      apart e = are_apart entry (record { block = b; place = x; inode = 0 }) (λ f g. no_gap (ap (λ k. half_at m (32 * k)) g ∙ empty f))
+        where
+          no_gap : half_at m (32 * x) ≡ 0 → ⊥
+          no_gap z = cc (sym (eq-eqb (half_at m (32 * x)) 0 z) ∙ e)
+
+      go : (t : Bool) → half_at m (32 * x) == 0 ≡ t → list_any at (filter_map (listed_at b m) xs) ≡ false →
+          list_any at (cons_option (if t then None else Some (record { block = b; place = x; inode = half_at m (32 * x) }, name_in m (32 * x))) (filter_map (listed_at b m) xs)) ≡ false
+      go true e rest = rest
+      go false e rest = ap (λ t. t || list_any at (filter_map (listed_at b m) xs)) (apart e) ∙ rest
+
+  none_in : (v : ℕ → List ℕ) (bs : List ℕ) → ((b : ℕ) → Contains bs b → b ≡ entry.block → half_at (v b) (32 * entry.place) ≡ 0) → list_any at (flat_map (listed_in v) bs) ≡ false
+  none_in v [] empty = refl
+  none_in v (b ∷ bs) empty =
+      any_both at (listed_in v b) (flat_map (listed_in v) bs) (none_at b (v b) (empty b (Contains-head b bs)) (range_with_len 0 16))
+      (none_in v bs (λ c i. empty c (Contains-tail b bs c i)))
+
+pub none_listed : (v : ℕ → List ℕ) (entry : Slot) (inode : List ℕ) → ((b : ℕ) → Contains (inode_blocks inode) b → b ≡ entry.block → half_at (v b) (32 * entry.place) ≡ 0) → list_any (λ (p : Slot × List ℕ). is_at entry p.0) (listing v inode) ≡ false
+none_listed v entry inode empty = ap (list_any (λ (p : Slot × List ℕ). is_at entry p.0)) (listed_blocks v (inode_blocks inode)) ∙ none_in entry v (inode_blocks inode) empty
+
+-- one of a list in which none is
+pub none_found : {A : Type 0} (q p : A → Bool) (xs : List A) (x : A) → list_any q xs ≡ false → Some x ≡ find p xs → q x ≡ false
+none_found q p [] x e f = absurd (none-some x (sym f))
+none_found {A} q p (y ∷ ys) x e f = go (q y) refl (p y) e f (none_found q p ys x)
+  where
+    go : (t : Bool) → q y ≡ t → (s : Bool) → t || list_any q ys ≡ false → Some x ≡ cond s (Some y) (find p ys) → (list_any q ys ≡ false → Some x ≡ find p ys → q x ≡ false) → q x ≡ false
+    go true a s g h rest = absurd (cc g)
+    go false a true g h rest = ap q (same_Some x y h) ∙ a
+    go false a false g h rest = rest g h
+
+-- what stays where another one is taken out
+pub kept_between : {A : Type 0} (keep : A → Bool) (front back : List A) (y : A) → keep y ≡ true → filter keep (front ++ y ∷ back) ≡ filter keep front ++ y ∷ filter keep back
+kept_between keep front back y e = filter-append keep front (y ∷ back) ∙ ap (λ t. filter keep front ++ cond t (y ∷ filter keep back) (filter keep back)) e

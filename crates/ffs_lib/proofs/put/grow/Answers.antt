@@ -1,0 +1,69 @@
+use Rattle.std.proofs.Common.{◌≡◌, ◌∙◌, ◌*◌, ℕ, List, [], ◌∷◌, Some, ap, arith, length, subst, sym}
+use Rattle.xn_model.specs.Calls.{init_of}
+use Rattle.ffs_model.specs.Cuts.{latest}
+use Rattle.ffs_model.specs.Library.{IsLibrary, inode_blocks, zeros}
+use Rattle.ffs_model.proofs.ForCallers.{data_begun}
+use Rattle.ffs_lookup.proofs.ForCallers.{block_again, gives_err}
+use Rattle.ffs_lib.proofs.Entering.{directory_from}
+use Rattle.ffs_lib.proofs.Fields.{same_blocks}
+use Rattle.ffs_lib.proofs.Owners.{stands_from}
+use Rattle.ffs_lib.proofs.DataShort.{block_long}
+use Rattle.xn_model.specs.Lists.{put}
+use Rattle.ffs_format.specs.Fields.{Fields, fields_of}
+use Rattle.ffs_lib.specs.Edits.{edit_at}
+use Rattle.ffs_lib.proofs.Laws.{attaches, begins_by, begins_err, fails, same_stage, short_told, told_by}
+use Rattle.ffs_lib.proofs.NameLaws.{grow_again, grow_short, grow_stage, grow_undone, grows, not_begun}
+use Rattle.ffs_lib.proofs.Tops.{never}
+use Rattle.ffs_lib.proofs.put.grow.Goals as goal
+
+pub returns-in_err-block-clause-ends : goal.returns-in_err-block-clause-ends
+returns-in_err-block-clause-ends g c = λ T array directory name n e s m dir empty gap b.
+    let old = g.S.Store.state_of c.args.store.now in
+    let new = g.S.Store.state_of c.init.new.self in
+    let fs = c.args.fs.number in
+    let bytes = put zeros 0 c.args.entry.now in
+    let given = begins_err (g.S.Store.types_of c.args.store.now) T fs 2 _ bytes old new c.in_err-block.field-0.0 e c.block_with.ensures c.in_err-block.ensures.state in
+    let same = gives_err (init_of T old fs 2 bytes) old new _ given in
+    let told = told_by (init_of T old fs 2 bytes) old new _ given in
+    let own = stands_from (latest old.lives) fs c.args.number directory (directory_from (latest old.lives) fs c.args.number directory dir).0 in
+    fails _ _ (same_stage s same) c.from_residual.result _ c.from_residual.ensures.1
+    (short_told (init_of T old fs 2 bytes) (data_begun T old s.keeps.consistent fs bytes (block_long 0 c.args.entry.now (let whole = b.whole in omega (arith, whole)))) _ told, not_begun T fs old new c.args.number directory dir same bytes own.block (block_again (latest old.lives) fs _ own.block own.inodes) _ told)
+
+pub returns-in_err-home-clause-ends : goal.returns-in_err-home-clause-ends
+returns-in_err-home-clause-ends g c = λ T array directory name n e s m dir empty gap b.
+    let zeroth = g.S.Store.state_of c.args.store.now in
+    let first = g.S.Store.state_of c.init.new.self in
+    let fs = c.args.fs.number in
+    let block = c.in_ok-block.block in
+    let number = c.in_ok-block.field-0-1 in
+    let bytes = c.args.entry.now in
+    let done = begins_by (g.S.Store.types_of c.args.store.now) T fs 2 _ (put zeros 0 bytes) zeroth first (block, number) e c.block_with.ensures c.in_ok-block.ensures.state in
+    let again = grow_again T fs array zeroth first s c.args.number directory dir n c.args.after m bytes name b c.args.index c.requires empty gap block number done in
+    absurd (never directory _ (again ∙ sym (c.in_err-home.ensures.exact (subst IsLibrary (sym (c.init.ensures.types ∙ e)) s.library))))
+
+pub returns-clause-ends : goal.returns-clause-ends
+returns-clause-ends g c = λ T array directory name n e s m dir empty gap b.
+    let zeroth = g.S.Store.state_of c.args.store.now in
+    let first = g.S.Store.state_of c.init.new.self in
+    let new = g.S.Store.state_of c.attach.new.store in
+    let fs = c.args.fs.number in
+    let block = c.in_ok-block.block in
+    let number = c.in_ok-block.field-0-1 in
+    let bytes = c.args.entry.now in
+    let done = begins_by (g.S.Store.types_of c.args.store.now) T fs 2 _ (put zeros 0 bytes) zeroth first (block, number) e c.block_with.ensures c.in_ok-block.ensures.state in
+    let types = c.init.ensures.types ∙ e in
+    let found = c.in_ok-home.field-0 in
+    let exact = c.in_ok-home.ensures.exact (subst IsLibrary (sym types) s.library) in
+    let after = c.bytes.result.now in
+    let whole = ap length c.bytes.ensures.bytes ∙ c.bytes.ensures.whole in
+    let size = 512 * c.count_blocks-size.result in
+    let set = ap fields_of c.bytes.ensures.bytes ∙ (c.set_size.ensures.fields ∙ ap (λ (f : Fields). record f { size = size }) c.set_direct.ensures.fields) in
+    let direct = ap (λ (f : Fields). f.direct) (ap fields_of c.bytes.ensures.bytes ∙ c.set_size.ensures.fields) in
+    let sized : size ≡ 512 * length (inode_blocks after) =
+    ap (λ k. 512 * k) (c.count_blocks-size.ensures.exact ∙ ap (λ (bs : List ℕ). length bs) (sym (same_blocks c.set_direct.new.self after direct))) in
+    let edit = edit_at (64 * found.place) after ((block, 2) ∷ []) [] (Some c.args.after) in
+    attaches T fs block found.block edit array first new _ _
+    (grow_stage T fs array zeroth first s c.args.number directory dir n c.args.after m bytes name b c.args.index c.requires empty gap block number done) c.attach.result (c.attach.ensures.put T types)
+    (grow_short T fs array zeroth first s c.args.number directory dir n c.args.after m bytes name b c.args.index c.requires empty gap block number done found c.in_ok-home.ensures.found exact after whole size set)
+    (λ entry put. grows T fs array zeroth first s c.args.number directory dir n c.args.after m bytes name b c.args.index c.requires empty gap block number done found c.in_ok-home.ensures.found exact after whole size set new entry sized put)
+    (λ fault left told. grow_undone T fs array zeroth first s c.args.number directory dir n c.args.after m bytes name b c.args.index c.requires empty gap block number done found c.in_ok-home.ensures.found exact after whole size set new left fault (edit, told))

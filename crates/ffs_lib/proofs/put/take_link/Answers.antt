@@ -1,0 +1,109 @@
+use Rattle.std.proofs.Common.{◌≡◌, ◌∙◌, ◌*◌, ℕ, List, [], Some, ap, arith, refl, subst, sym, inl, inr}
+use Rattle.xn_model.specs.Calls.{propose_of}
+use Rattle.ffs_model.specs.Cuts.{latest}
+use Rattle.ffs_model.specs.Library.{IsLibrary, inode_links}
+use Rattle.ffs_lookup.proofs.ForCallers.{same_ok}
+use Rattle.ffs_lib.specs.Edits.{edit_at}
+use Rattle.ffs_lib.specs.Outcomes.{HasNoData}
+use Rattle.ffs_lib.specs.Steps.{ShortEdit, clearing}
+use Rattle.ffs_lib.proofs.Laws.{at_pointers, data_taken, drops, drops_short, fails, finishes, free_short, frees, given_up, home_of, link_less, link_short, no_memory, nothing_taken, same_stage, short_told}
+use Rattle.ffs_lib.proofs.Tops.{never}
+use Rattle.ffs_lib.proofs.put.take_link.Goals as goal
+
+pub returns-then-links-gt1-clause-ends : goal.returns-then-links-gt1-clause-ends
+returns-then-links-gt1-clause-ends g c = λ T array e s m.
+    let fs = c.args.fs.number in
+    let n = c.args.number in
+    let old = g.S.Store.state_of c.args.store.now in
+    let new = g.S.Store.state_of c.put_inode.new.store in
+    let found = c.in_ok-block.field-0 in
+    let is = c.in_ok-block.ensures.found in
+    let exact = c.in_ok-block.ensures.exact (subst IsLibrary (sym e) s.library) in
+    let bytes = c.set_links.new.self in
+    let links = c.links-links.ensures in
+    let more = c.if-links-gt1.true in
+    finishes T fs found.block (edit_at (64 * found.place) bytes [] [] (Some c.args.after)) array old new _ _ s c.put_inode.result (c.put_inode.ensures.put T e)
+    (link_short T fs array old s n c.args.after found is exact m.can m.given bytes c.put_inode.ensures.whole _ c.set_links.ensures.fields)
+    (link_less T fs array old s n c.args.after found is exact m.can m.given bytes c.put_inode.ensures.whole _ c.set_links.ensures.fields new (omega (arith, links, more)) (omega (arith, links, more)))
+    (λ fault same told. nothing_taken T fs old new n found.inode exact same found.block (inl (home_of old fs n found.block found.place is.stands)) fault (edit_at (64 * found.place) bytes [] [] (Some c.args.after), told))
+
+pub returns-in_err-dropped-clause-ends : goal.returns-in_err-dropped-clause-ends
+returns-in_err-dropped-clause-ends g c = λ T array e s m.
+    let fs = c.args.fs.number in
+    let n = c.args.number in
+    let old = g.S.Store.state_of c.args.store.now in
+    let found = c.in_ok-block.field-0 in
+    let is = c.in_ok-block.ensures.found in
+    let exact = c.in_ok-block.ensures.exact (subst IsLibrary (sym e) s.library) in
+    let points = sym c.indirect.ensures in
+    let block = c.indirect.result in
+    let p = c.in_err-dropped.ensures.put T e (at_pointers T fs array old s n c.args.after m.some found is exact block points m.can m.given) in
+    let new = g.S.Store.state_of c.drop_data.new.store in
+    let edit = clearing old block c.args.after in
+    fails _ _ (same_stage s p.0) c.from_residual-in_err-dropped.result _ c.from_residual-in_err-dropped.ensures.1
+    (short_told (propose_of T old fs block edit) (drops_short T fs array old s n c.args.after m.some found is exact block points m.can m.given p.1 p.2) _ p.3, nothing_taken T fs old new n found.inode exact p.0 block (inr (sym points)) _ (edit, p.3))
+
+pub returns-in_err-found-clause-ends : goal.returns-in_err-found-clause-ends
+returns-in_err-found-clause-ends g c = λ T array e s m.
+    let old = g.S.Store.state_of c.args.store.now in
+    let found = c.in_ok-block.field-0 in
+    let is = c.in_ok-block.ensures.found in
+    let exact = c.in_ok-block.ensures.exact (subst IsLibrary (sym e) s.library) in
+    let points = sym c.indirect.ensures in
+    let block = c.indirect.result in
+    let put = c.in_ok-dropped.ensures.put T e (at_pointers T c.args.fs.number array old s c.args.number c.args.after m.some found is exact block points m.can m.given) in
+    let k = drops T c.args.fs.number array old s c.args.number c.args.after m.some found is exact block points m.can m.given (g.S.Store.state_of c.drop_data.new.store) c.in_ok-dropped.dropped put in
+    absurd (never found.inode _ (k.same ∙ sym (c.in_err-found.ensures.exact (subst IsLibrary (sym (c.drop_data.ensures.types ∙ e)) s.library))))
+
+pub returns-in_err-drops-clause-ends : goal.returns-in_err-drops-clause-ends
+returns-in_err-drops-clause-ends g c = λ T array e s m.
+    let old = g.S.Store.state_of c.args.store.now in
+    let found = c.in_ok-block.field-0 in
+    let is = c.in_ok-block.ensures.found in
+    let exact = c.in_ok-block.ensures.exact (subst IsLibrary (sym e) s.library) in
+    let points = sym c.indirect.ensures in
+    let block = c.indirect.result in
+    let put = c.in_ok-dropped.ensures.put T e (at_pointers T c.args.fs.number array old s c.args.number c.args.after m.some found is exact block points m.can m.given) in
+    let k = drops T c.args.fs.number array old s c.args.number c.args.after m.some found is exact block points m.can m.given (g.S.Store.state_of c.drop_data.new.store) c.in_ok-dropped.dropped put in
+    let first = g.S.Store.state_of c.drop_data.new.store in
+    let again = c.in_ok-found.found in
+    let links = c.links-links.ensures in
+    let few = c.if-links-gt1.false in
+    let edit = clearing first again.block c.args.after in
+    fails _ _ k.stage c.from_residual-in_err-drops.result _ c.from_residual-in_err-drops.ensures.1
+    (refl, data_taken T c.args.fs.number array old first first c.args.number found.inode c.in_ok-dropped.dropped exact (omega (arith, links, few)) k refl again.block again.place c.in_ok-found.ensures.found.stands _ (edit, no_memory (propose_of T first c.args.fs.number again.block edit)))
+
+pub returns-clause-ends : goal.returns-clause-ends
+returns-clause-ends g c = λ T array e s m.
+    let fs = c.args.fs.number in
+    let n = c.args.number in
+    let old = g.S.Store.state_of c.args.store.now in
+    let first = g.S.Store.state_of c.drop_data.new.store in
+    let new = g.S.Store.state_of c.put_inode-2.new.store in
+    let found = c.in_ok-block.field-0 in
+    let is = c.in_ok-block.ensures.found in
+    let exact = c.in_ok-block.ensures.exact (subst IsLibrary (sym e) s.library) in
+    let points = sym c.indirect.ensures in
+    let block = c.indirect.result in
+    let put = c.in_ok-dropped.ensures.put T e (at_pointers T fs array old s n c.args.after m.some found is exact block points m.can m.given) in
+    let dropped = c.in_ok-dropped.dropped in
+    let k = drops T fs array old s n c.args.after m.some found is exact block points m.can m.given first dropped put in
+    let types = c.drop_data.ensures.types ∙ e in
+    let again = c.in_ok-found.found in
+    let exact2 = c.in_ok-found.ensures.exact (subst IsLibrary (sym types) s.library) in
+    let same : again.inode ≡ found.inode = same_ok again.inode found.inode (exact2 ∙ sym k.same) in
+    let links = c.links-links.ensures in
+    let few = c.if-links-gt1.false in
+    let own : inode_links m.inode ≡ inode_links found.inode = ap inode_links (same_ok m.inode found.inode (m.found ∙ sym exact)) in
+    let low = m.linked in
+    let one : inode_links found.inode ≡ 1 = omega (arith, links, few, own, low) in
+    let none : HasNoData T (latest first.lives) again.inode = subst (λ (i : List ℕ). HasNoData T (latest first.lives) i) (sym same) k.none in
+    let bytes = c.free.result in
+    let items = c.deref.result.now in
+    let edit = edit_at (64 * again.place) bytes [] items (Some dropped) in
+    finishes T fs again.block edit array first new _ _ k.stage c.put_inode-2.result (c.put_inode-2.ensures.put T types)
+    (subst (λ (ds : List ℕ). ShortEdit T first fs again.block (edit_at (64 * again.place) bytes [] ds (Some dropped))) (sym (c.deref.ensures.value ∙ c.in_ok-drops.ensures)) (free_short T fs array first k.stage n dropped again c.in_ok-found.ensures.found exact2 k.can k.given none bytes c.free.ensures))
+    (λ entry done.
+    let x = frees T fs array first k.stage n dropped again c.in_ok-found.ensures.found exact2 k.can k.given none bytes c.free.ensures new (ap inode_links same ∙ one) items entry done in
+    (x.0, given_up (latest old.lives) (latest first.lives) (latest new.lives) fs n found.inode exact (omega (arith, one)) k.others x.1 x.2 x.3))
+    (λ fault left told. data_taken T fs array old first new n found.inode dropped exact (omega (arith, links, few)) k left again.block again.place c.in_ok-found.ensures.found.stands fault (edit, told))

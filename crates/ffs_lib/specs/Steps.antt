@@ -1,0 +1,308 @@
+-- What a step of a call leaves, and what a part of a call does.
+--     newest state        the newest bytes of each block
+--     Tells, Wants        a fault that tells why the store refuses something; an edit of a block
+--     left_by             what a call of the store leaves, or what was there where that is refused
+--     ShortEdit           the store refuses an edit for want of something alone
+--     Proposed, Dropped, Attached   what one proposal leaves; where a block of pointers is cleared, if it points to anything; where a new
+--                                   block is attached, which is forgotten where that is refused
+--     Stage               a volume's rules hold, in the middle of a call
+--     Ends, Leaves        they do at its end, and it did what it promises, or was refused and left one of its stages
+--     Answers             what a call answers where its look-ups fail, and where they pass
+--     TakesLink, Removed  an inode lost a link; a directory lost an entry, and the inode that it named a link
+--     StopsAt, ..         what is left where a part of a call is refused, and of what the fault tells
+--     Creates, Unlinks, Unmakes, Renames    the calls
+use Rattle.std.specs.Prelude.{◌≡◌, ◌≢◌, ℕ, ◌+◌, ◌-◌, ◌/◌, ◌<◌, ◌≤◌, ◌⊎◌, List, [], length, Contains, Option, Some, Result, Ok, Err, true, MatchResult, IsTrue}
+use Rattle.xn_model.specs.declared.refusal.Refusal.{Refusal}
+use Rattle.xn_model.specs.declared.refusal.Refusal.TheVariants.{NoMemory}
+use Rattle.xn_model.specs.Root.{word_at}
+use Rattle.xn_model.specs.Types.{Types}
+use Rattle.xn_model.specs.Lives.{StoreState}
+use Rattle.xn_model.specs.Calls.{Edit, forget_of, init_of, propose_of, was_given}
+use Rattle.ffs_model.specs.Cuts.{latest}
+use Rattle.ffs_model.specs.Library.{IsLibrary, half_at, inode_blocks, inode_links, library_layout, zeros}
+use Rattle.ffs_model.specs.Shortages.{is_shortage}
+use Rattle.ffs_model.specs.Volumes.{CanName, CanUnlink, VolumeKeeps}
+use Rattle.ffs_lookup.specs.declared.fault.FfsFault.{FfsFault}
+use Rattle.ffs_lookup.specs.declared.fault.FfsFault.TheVariants.{Kernel, NoEntry}
+use Rattle.ffs_lookup.specs.declared.places.Slot.{Slot}
+use Rattle.ffs_lookup.specs.declared.places.Free.{Free}
+use Rattle.ffs_lookup.specs.Places.{IsFree}
+use Rattle.ffs_lookup.specs.Newest.{TakesEntry, create_in, directory_in, inode_block_in, inode_in, is_short, listing, rename_in, rmdir_in, root_in, unlink_in, without_entry}
+use Rattle.ffs_lib.specs.Edits.{data_of_pointers, edit_at}
+use Rattle.ffs_format.specs.Entries.{entry_of, is_name}
+use Rattle.ffs_lib.specs.Volumes.{IsVolume}
+use Rattle.ffs_lib.specs.declared.volume.Volume.{Volume}
+use Rattle.ffs_lib.specs.Results.{AsBefore, HasMore, IsLowestNumber, MadeEntry, MovedEntry, OnlyChanges, OthersSame, SameInode, TookLink, new_inode}
+
+abbrev pub newest : StoreState → ℕ → List ℕ
+newest state = latest state.lives
+
+-- Refusals
+
+-- the store refuses this, or had no memory for it
+abbrev pub Tells : {A : Type 0} → Result A Refusal → FfsFault → Type 0
+Tells (Ok x) fault = fault ≡ Kernel NoMemory
+Tells (Err refusal) fault = (fault ≡ Kernel refusal) ⊎ (fault ≡ Kernel NoMemory)
+
+abbrev pub Wants : Types → StoreState → ℕ → ℕ → FfsFault → Type 0
+Wants T state fs block fault = (edit : Edit) × Tells (propose_of T state fs block edit) fault
+
+abbrev pub left_by : {A : Type 0} → Result (A × StoreState) Refusal → StoreState → StoreState
+left_by (Ok (x, after)) old = after
+left_by (Err refusal) old = old
+
+-- Proposals
+
+abbrev pub ShortEdit : Types → StoreState → ℕ → ℕ → Edit → Type 0
+ShortEdit T state fs block edit = (r : Refusal) → propose_of T state fs block edit ≡ Err r → is_shortage r ≡ true
+
+abbrev pub Proposed : Types → ℕ → ℕ → Edit → StoreState → StoreState → Result ℕ FfsFault → Type 0
+Proposed T fs block edit old new (Ok entry) = propose_of T old fs block edit ≡ Ok (entry, new)
+Proposed T fs block edit old new (Err fault) = (new ≡ old) × Tells (propose_of T old fs block edit) fault
+
+abbrev pub clearing : StoreState → ℕ → ℕ → Edit
+clearing old block after = edit_at 0 zeros [] (data_of_pointers (newest old block)) (Some after)
+
+abbrev pub Dropped : Types → ℕ → ℕ → ℕ → StoreState → StoreState → Result ℕ FfsFault → Type 0
+Dropped T fs block after old new (Ok entry) =
+    ((new ≡ old) × (entry ≡ after) × ((block ≡ 0) ⊎ (data_of_pointers (newest old block) ≡ [])))
+    ⊎ ((block ≢ 0) × (length (newest old block) ≡ 512) × (propose_of T old fs block (clearing old block after) ≡ Ok (entry, new)))
+Dropped T fs block after old new (Err fault) =
+    (new ≡ old) × (block ≢ 0) × (length (newest old block) ≡ 512) × Tells (propose_of T old fs block (clearing old block after)) fault
+
+-- the same of an edit that attaches a new block, which is forgotten where that is refused, if the store takes that
+abbrev pub Attached : Types → ℕ → ℕ → ℕ → Edit → StoreState → StoreState → Result ℕ FfsFault → Type 0
+Attached T fs added block edit old new (Ok entry) = propose_of T old fs block edit ≡ Ok (entry, new)
+Attached T fs added block edit old new (Err fault) = (new ≡ left_by (forget_of T old fs added) old) × Tells (propose_of T old fs block edit) fault
+
+-- Parts of calls
+
+pub record Stage (T : Types) (fs : ℕ) (array : ℕ → Option ℕ) (state : StoreState) : Type 0 where
+  pub library : IsLibrary T
+  pub few : fs < 32
+  pub keeps : VolumeKeeps T library_layout fs array state
+
+-- it is refused for want of something, and left a stage
+abbrev pub Stops : (FfsFault → Type 0) → FfsFault → Type 0
+Stops R fault = (is_short fault ≡ true) × R fault
+
+abbrev pub Ends : {A : Type 0} → Types → ℕ → (ℕ → Option ℕ) → StoreState → Result A FfsFault → (A → Type 0) → (FfsFault → Type 0) → Type 0
+Ends T fs array new result P R = Stage T fs array new × MatchResult result P (Stops R)
+
+-- the same, of a part that may change what the volume records
+abbrev pub Leaves : {A : Type 0} → Types → Volume → StoreState → Result A FfsFault → (A → Type 0) → (FfsFault → Type 0) → Type 0
+Leaves T volume new result P R = IsVolume T new volume × MatchResult result P (Stops R)
+
+-- Where a look-up fails that fault is answered, and nothing changes. Else a call does what it promises of what was found, or is refused
+-- for want of something, and leaves a stage.
+abbrev pub Answers : {A B : Type 0} → Result A FfsFault → (A → B → Type 0) → (A → FfsFault → Type 0) → StoreState → StoreState → Result B FfsFault → Type 0
+Answers (Err fault) Q R old new result = (result ≡ Err fault) × (new ≡ old)
+Answers (Ok found) Q R old new result = MatchResult result (Q found) (Stops (R found))
+
+-- Names and links
+
+-- an inode in use lets a link be taken, by what comes after an edit
+pub record MayLose (state : StoreState) (fs n after : ℕ) : Type 0 where
+  pub some : n ≢ 0
+  pub can : CanUnlink library_layout state.lives fs n after
+  pub given : IsTrue (was_given state (Some after))
+  pub inode : List ℕ
+  pub found : Ok inode ≡ inode_in (newest state) fs n
+  pub linked : 1 ≤ inode_links inode
+
+pub record TakesLink (old new : ℕ → List ℕ) (fs n : ℕ) : Type 0 where
+  pub others : (d : ℕ) → d ≢ n → SameInode old new fs d
+  pub took : (inode : List ℕ) → Ok inode ≡ inode_in old fs n → TookLink old new fs n inode
+
+-- an entry stands in a block of a directory, which is another inode
+pub record Removable (content : ℕ → List ℕ) (fs d : ℕ) (entry : Slot) : Type 0 where
+  pub own : List ℕ
+  pub is : Ok own ≡ inode_in content fs d
+  pub has : Contains (inode_blocks own) entry.block
+  pub apart : d ≢ entry.inode
+
+pub record Removed (old new : ℕ → List ℕ) (fs d : ℕ) (entry : Slot) : Type 0 where
+  pub gone : TakesEntry old new fs d entry
+  pub others : OthersSame old new fs d entry.inode
+  pub unlinked : (inode : List ℕ) → Ok inode ≡ inode_in old fs entry.inode → TookLink old new fs entry.inode inode
+
+-- An entry is cleared: inodes are as before, lists lose it, and so do all inodes but the one that has its block; then its inode loses a link.
+pub record Clearing (old new : ℕ → List ℕ) (fs : ℕ) (slot : Slot) : Type 0 where
+  pub inodes : (d : ℕ) → inode_in new fs d ≡ inode_in old fs d
+  pub entries : (inode : List ℕ) → listing new inode ≡ without_entry slot (listing old inode)
+  pub others : (n : ℕ) (own : List ℕ) → Ok own ≡ inode_in old fs n → Contains (inode_blocks own) slot.block → (d : ℕ) → d ≢ n → SameInode old new fs d
+
+pub record Unnamed (old new : ℕ → List ℕ) (fs : ℕ) (slot : Slot) : Type 0 where
+  pub middle : ℕ → List ℕ
+  pub cleared : Clearing old middle fs slot
+  pub took : TakesLink middle new fs slot.inode
+
+-- an inode in use may be named once more, by what comes after an edit
+pub record MayName (state : StoreState) (fs n after : ℕ) : Type 0 where
+  pub some : n ≢ 0
+  pub can : CanName library_layout state.lives fs n after
+  pub given : IsTrue (was_given state (Some after))
+
+-- the 32 bytes of an entry
+pub record IsEntry (bytes : List ℕ) (n : ℕ) (name : List ℕ) : Type 0 where
+  pub spelled : bytes ≡ entry_of n name
+  pub whole : length bytes ≡ 32
+  pub named : IsTrue (is_name name)
+  pub half : half_at bytes 0 ≡ n
+
+-- a directory has one entry more
+pub record Entered (old new : ℕ → List ℕ) (fs d : ℕ) (name : List ℕ) (n : ℕ) : Type 0 where
+  pub more : (inode : List ℕ) → Ok inode ≡ directory_in old fs d → HasMore old new fs d inode name n
+  pub others : (x : ℕ) → x ≢ d → SameInode old new fs x
+
+-- and an edit may come after that
+abbrev pub Enters : StoreState → StoreState → ℕ → ℕ → List ℕ → ℕ → ℕ → Type 0
+Enters old new fs d name n entry = Entered (newest old) (newest new) fs d name n × IsTrue (was_given new (Some entry))
+
+-- the lowest free inode, and all inodes are as before
+pub record TakesFree (old new : StoreState) (fs : ℕ) (free : Free) : Type 0 where
+  pub is : IsFree new fs free
+  pub lowest : IsLowestNumber (newest old) fs free.number
+  pub stays : (d : ℕ) → SameInode (newest old) (newest new) fs d
+
+-- an inode has a link more; then a directory names it
+pub record AddsLink (old new : ℕ → List ℕ) (fs n : ℕ) : Type 0 where
+  pub before : (d : ℕ) → AsBefore old new fs d
+  pub others : (d : ℕ) → d ≢ n → SameInode old new fs d
+  pub links : (inode after : List ℕ) → Ok inode ≡ inode_in old fs n → Ok after ≡ inode_in new fs n → inode_links after ≡ inode_links inode + 1
+
+pub record NamedAgain (old new : ℕ → List ℕ) (fs d : ℕ) (name : List ℕ) (n : ℕ) : Type 0 where
+  pub middle : ℕ → List ℕ
+  pub linked : AddsLink old middle fs n
+  pub entered : Entered middle new fs d name n
+
+abbrev pub NamesAgain : StoreState → StoreState → ℕ → ℕ → List ℕ → ℕ → ℕ → Type 0
+NamesAgain old new fs d name n entry = NamedAgain (newest old) (newest new) fs d name n × IsTrue (was_given new (Some entry))
+
+-- a free inode came into use
+pub record MadeInode (old new : ℕ → List ℕ) (fs mode n : ℕ) : Type 0 where
+  pub free : inode_in old fs n ≡ Err NoEntry
+  pub made : inode_in new fs n ≡ Ok (new_inode mode)
+  pub others : OnlyChanges old new fs n
+
+-- a directory lost an entry, and no other inode changed
+pub record Unlisted (old new : ℕ → List ℕ) (fs d : ℕ) (entry : Slot) : Type 0 where
+  pub gone : TakesEntry old new fs d entry
+  pub others : OnlyChanges old new fs d
+
+-- What is left where a part of a call is refused, and of what the fault tells
+
+abbrev pub AllSame : StoreState → StoreState → ℕ → Type 0
+AllSame old new fs = (d : ℕ) → SameInode (newest old) (newest new) fs d
+
+-- the block of an inode
+abbrev pub IsHome : (ℕ → List ℕ) → ℕ → ℕ → ℕ → Type 0
+IsHome content fs n block = Ok block ≡ inode_block_in content fs ((n - 1) / 8)
+
+-- nothing, for an edit of an inode's block
+abbrev pub StopsAtHome : Types → ℕ → StoreState → StoreState → ℕ → FfsFault → Type 0
+StopsAtHome T fs old new n fault = (new ≡ old) × (block : ℕ) × IsHome (newest old) fs n block × Wants T old fs block fault
+
+-- nothing but what forgetting leaves of a new block, for an edit of a block that was to own it
+pub record Undone (T : Types) (fs : ℕ) (old new : StoreState) (ty : ℕ) (bytes : List ℕ) (home : ℕ) (fault : FfsFault) : Type 0 where
+  pub block : ℕ
+  pub number : ℕ
+  pub first : StoreState
+  pub begun : init_of T old fs ty bytes ≡ Ok ((block, number), first)
+  pub forgotten : new ≡ left_by (forget_of T first fs block) first
+  pub wants : Wants T first fs home fault
+
+-- a block was forgotten last, if the store takes that
+abbrev pub LastForgets : Types → ℕ → ℕ → StoreState → Type 0
+LastForgets T fs block new = (last : StoreState) × (new ≡ left_by (forget_of T last fs block) last)
+
+-- nothing changed, or a block was begun, and forgotten last
+abbrev pub Undoes : Types → ℕ → StoreState → StoreState → ℕ → List ℕ → Type 0
+Undoes T fs old new ty bytes =
+    (new ≡ old) ⊎ ((block : ℕ) × (number : ℕ) × (first : StoreState) × (init_of T old fs ty bytes ≡ Ok ((block, number), first)) × LastForgets T fs block new)
+
+-- so it is, or the new block was not begun
+abbrev pub StopsAttaching : Types → ℕ → StoreState → StoreState → ℕ → List ℕ → ℕ → FfsFault → Type 0
+StopsAttaching T fs old new ty bytes home fault = ((new ≡ old) × Tells (init_of T old fs ty bytes) fault) ⊎ Undone T fs old new ty bytes home fault
+
+-- a block of inodes was to be added
+pub record StopsGrowing (T : Types) (fs : ℕ) (old new : StoreState) (fault : FfsFault) : Type 0 where
+  pub same : AllSame old new fs
+  pub root : ℕ
+  pub is_root : Ok root ≡ root_in (newest old) fs
+  pub told : StopsAttaching T fs old new 4 zeros root fault
+
+-- an entry was to be written into a block of a directory, or into a new one
+pub record StopsEntering (T : Types) (fs : ℕ) (old new : StoreState) (d : ℕ) (fault : FfsFault) : Type 0 where
+  pub same : AllSame old new fs
+  pub inode : List ℕ
+  pub directory : Ok inode ≡ directory_in (newest old) fs d
+  pub told : ((new ≡ old) × (block : ℕ) × Contains (inode_blocks inode) block × Wants T old fs block fault)
+      ⊎ ((bytes : List ℕ) × (home : ℕ) × IsHome (newest old) fs d home × StopsAttaching T fs old new 2 bytes home fault)
+
+-- only the block of pointers of an inode changed, which owns nothing now
+pub record ClearedPointers (old new : ℕ → List ℕ) (inode : List ℕ) : Type 0 where
+  pub last : inode_links inode ≤ 1
+  pub cleared : new (word_at inode 56) ≡ zeros
+  pub others : (c : ℕ) → c ≢ word_at inode 56 → new c ≡ old c
+
+-- a link was to be taken from an inode: its 64 bytes are as before, and so are all others
+pub record StopsTaking (T : Types) (fs : ℕ) (old new : StoreState) (n : ℕ) (fault : FfsFault) : Type 0 where
+  pub others : OnlyChanges (newest old) (newest new) fs n
+  pub inode : List ℕ
+  pub was : Ok inode ≡ inode_in (newest old) fs n
+  pub is : Ok inode ≡ inode_in (newest new) fs n
+  pub stage : (new ≡ old) ⊎ ClearedPointers (newest old) (newest new) inode
+  pub block : ℕ
+  pub of_inode : IsHome (newest new) fs n block ⊎ (block ≡ word_at inode 56)
+  pub wants : Wants T new fs block fault
+
+-- an entry was to be cleared, and then a link taken
+abbrev pub StopsUnnaming : Types → ℕ → StoreState → StoreState → Slot → FfsFault → Type 0
+StopsUnnaming T fs old new slot fault =
+    ((new ≡ old) × Wants T old fs slot.block fault) ⊎ ((middle : StoreState) × Clearing (newest old) (newest middle) fs slot × StopsTaking T fs middle new slot.inode fault)
+
+abbrev pub StopsRemoving : Types → ℕ → StoreState → StoreState → ℕ → Slot → FfsFault → Type 0
+StopsRemoving T fs old new d entry fault =
+    ((new ≡ old) × Wants T old fs entry.block fault) ⊎ ((middle : StoreState) × Unlisted (newest old) (newest middle) fs d entry × StopsTaking T fs middle new entry.inode fault)
+
+-- a link was to be added, and then an entry written
+abbrev pub StopsNaming : Types → ℕ → StoreState → StoreState → ℕ → ℕ → FfsFault → Type 0
+StopsNaming T fs old new d n fault =
+    StopsAtHome T fs old new n fault ⊎ ((middle : StoreState) × AddsLink (newest old) (newest middle) fs n × StopsEntering T fs middle new d fault)
+
+-- then the old entry was to be cleared, and a link taken
+abbrev pub StopsMoving : Types → ℕ → StoreState → StoreState → ℕ → Slot → ℕ → List ℕ → FfsFault → Type 0
+StopsMoving T fs old new d entry other name fault =
+    StopsNaming T fs old new other entry.inode fault
+    ⊎ ((middle : StoreState) × NamedAgain (newest old) (newest middle) fs other name entry.inode × StopsRemoving T fs middle new d entry fault)
+
+-- an inode was to be taken into use, and then an entry written
+abbrev pub StopsNew : Types → ℕ → StoreState → StoreState → ℕ → ℕ → ℕ → FfsFault → Type 0
+StopsNew T fs old new d mode n fault =
+    StopsAtHome T fs old new n fault ⊎ ((middle : StoreState) × MadeInode (newest old) (newest middle) fs mode n × StopsEntering T fs middle new d fault)
+
+-- before that a block of inodes, where no inode was free
+abbrev pub StopsMaking : Types → ℕ → StoreState → StoreState → ℕ → ℕ → FfsFault → Type 0
+StopsMaking T fs old new d mode fault =
+    StopsGrowing T fs old new fault ⊎ ((middle : StoreState) × (n : ℕ) × AllSame old middle fs × IsLowestNumber (newest old) fs n × StopsNew T fs middle new d mode n fault)
+
+-- The calls
+
+abbrev pub Creates : Types → ℕ → ℕ → List ℕ → ℕ → StoreState → StoreState → Result ℕ FfsFault → Type 0
+Creates T fs d name mode old new result =
+    Answers (create_in (newest old) fs d name) (λ _ n. MadeEntry (newest old) (newest new) fs d name mode n × IsLowestNumber (newest old) fs n)
+    (λ _ fault. StopsMaking T fs old new d mode fault) old new result
+
+abbrev pub Unlinks : Types → ℕ → ℕ → List ℕ → StoreState → StoreState → Result (Unit {0}) FfsFault → Type 0
+Unlinks T fs d name old new result =
+    Answers (unlink_in (newest old) fs d name) (λ entry _. Removed (newest old) (newest new) fs d entry) (λ entry fault. StopsRemoving T fs old new d entry fault) old new result
+
+abbrev pub Unmakes : Types → ℕ → ℕ → List ℕ → StoreState → StoreState → Result (Unit {0}) FfsFault → Type 0
+Unmakes T fs d name old new result =
+    Answers (rmdir_in (newest old) fs d name) (λ entry _. Removed (newest old) (newest new) fs d entry) (λ entry fault. StopsRemoving T fs old new d entry fault) old new result
+
+abbrev pub Renames : Types → ℕ → ℕ → List ℕ → ℕ → List ℕ → StoreState → StoreState → Result (Unit {0}) FfsFault → Type 0
+Renames T fs d name other new_name old new result =
+    Answers (rename_in (newest old) fs d name other new_name) (λ entry _. MovedEntry (newest old) (newest new) fs d entry other new_name)
+    (λ entry fault. StopsMoving T fs old new d entry other new_name fault) old new result

@@ -1,0 +1,19 @@
+// A name stands once in a directory.
+
+ghost use Rattle.std.specs.Prelude.{◌≡◌, ℕ, List, Ok};
+ghost use Rattle.ffs_lookup.specs.declared.places.Slot.{Slot};
+ghost use Rattle.ffs_lookup.specs.Newest.{create_in, directory_in, inode_in, rename_in};
+ghost use Rattle.ffs_lib.specs.Once.{NamesOnce};
+ghost use Rattle.ffs_lib.specs.Results.{MadeEntry, MovedEntry};
+ghost use Rattle.ffs_lib.specs.Steps.{Removed};
+
+/// What `create`, `mkdir`, `unlink`, `rmdir` and `rename` leave keeps names single in the newest bytes. A crash may end that: of two edits in
+/// two blocks of a directory the later may be the one that is on the disk.
+pub fn names_stand_once()
+    ensures made { (old new : ℕ → List ℕ) (fs d : ℕ) (name inode : List ℕ) (mode n : ℕ) → Ok inode ≡ create_in old fs d name →
+        MadeEntry old new fs d name mode n → NamesOnce old fs → NamesOnce new fs }
+    ensures removed { (old new : ℕ → List ℕ) (fs d : ℕ) (own named : List ℕ) (entry : Slot) → Ok own ≡ directory_in old fs d →
+        Ok named ≡ inode_in old fs entry.inode → Removed old new fs d entry → NamesOnce old fs → NamesOnce new fs }
+    ensures moved { (old new : ℕ → List ℕ) (fs d : ℕ) (name : List ℕ) (other : ℕ) (new_name : List ℕ) (entry : Slot) →
+        Ok entry ≡ rename_in old fs d name other new_name → MovedEntry old new fs d entry other new_name → NamesOnce old fs → NamesOnce new fs }
+{}
