@@ -1,10 +1,8 @@
-use Rattle.std.proofs.Common.{rules, ◌≡◌, ◌<◌, ◌≤◌, ◌*◌, ◌∙◌, length, map, sym, subst, arith, vec_len}
+use Rattle.std.proofs.Common.{rules, ◌≡◌, ◌<◌, ◌≤◌, ◌*◌, ◌∙◌, length, sym, subst, arith, vec_len}
 use Rattle.std.specs.Io.KnownBytes.{Appends}
-use Rattle.std.proofs.lemmas.List.{length-map}
 use Rattle.xn_model.specs.Images.{blocks_in}
 use Rattle.image_model.specs.Walk.{count_of}
 use Rattle.image_model.specs.Report.{IsSoundImage}
-use Rattle.templates.specs.Meaning.{pair_of}
 use Rattle.templates.specs.Language.{types_of_image}
 use Rattle.xnsim_line.specs.Checking.{report_line}
 use Rattle.xnsim_words.specs.Files.{IsStartHeld}
@@ -22,17 +20,15 @@ returns-clause-done g c =
     let long : length image ≡ 512 * count_of image = sound.whole in
     let most : count_of image ≤ 32768 = sound.blocks.size.1 in
     let few : length image < 16777217 = omega (arith, long, most) in
-    let reached : vec_len c.in-Ok.report.reached ≡ length c.in-Ok.report.reached.items = search rules in
     let free : vec_len c.in-Ok.report.free ≡ length c.in-Ok.report.free.items = search rules in
-    let pairs = length-map c.in-Ok.report.reached.items pair_of in
     record {
       image = image;
-      reached = map pair_of c.in-Ok.report.reached.items;
+      reached = c.in-Ok.report.reached.entries;
       free = c.in-Ok.report.free.items;
       image_held = whole_held held c.args.image.now image 16777217 (subst (IsStartHeld held c.args.image.now 16777217) (sym same) start) few;
       sound = sound;
       report = c.in-Ok.ensures.report;
       printed = subst (Appends (g.W.Write.contents c.args.out.now) (g.W.Write.contents c.print_report.new.out))
-          (λ i. report_line ((c.len.ensures ∙ (reached ∙ sym pairs)) i) ((c.len-2.ensures ∙ free) i)) c.in_ok-print_report.ensures;
+          (λ i. report_line (c.len.ensures.len i) ((c.len-2.ensures ∙ free) i)) c.in_ok-print_report.ensures;
       kept = search rules;
     }
