@@ -1,6 +1,6 @@
 -- The edits of a file's bytes are refused for want of something alone, and their numbers were given.
 use Rattle.std.proofs.Common.{◌≡◌, ◌≢◌, ℕ, ◌+◌, ◌*◌, ◌<◌, ◌≤◌, true, List, [], ◌∷◌, length, get_or, Option, Some, None, Result, Ok, Err, refl, sym, ◌∙◌, ap, inl, inr, arith, subst}
-use Rattle.std.specs.Prelude.{IsErrAnd, IsTrue, OnOk, slice_set}
+use Rattle.std.specs.Prelude.{IsErrAnd, IsTrue, OnErr, OnOk, slice_set}
 use Rattle.std.proofs.lemmas.List.{length-replicate}
 use Rattle.xn_model.specs.declared.refusal.Refusal.{Refusal}
 use Rattle.xn_model.specs.Types.{Types}
@@ -8,7 +8,7 @@ use Rattle.xn_model.specs.Lists.{put}
 use Rattle.xn_model.specs.Root.{word_at}
 use Rattle.xn_model.specs.Lives.{StoreState}
 use Rattle.xn_model.specs.Results.{Gives}
-use Rattle.xn_model.specs.Calls.{Edit, init_of, may_add, propose_of, was_given}
+use Rattle.xn_model.specs.Calls.{Edit, forget_of, init_of, may_add, propose_of, was_given}
 use Rattle.xn_model.specs.Rules.{IsConsistent}
 use Rattle.xn_model.proofs.ForCallers.{addable, length_put}
 use Rattle.ffs_model.specs.Cuts.{Under, step, latest}
@@ -23,13 +23,16 @@ use Rattle.ffs_lookup.specs.Newest.{file_in}
 use Rattle.ffs_lookup.specs.Places.{IsFile}
 use Rattle.ffs_lookup.proofs.ForCallers.{gives_ok}
 use Rattle.ffs_lib.specs.Edits.{edit_at}
-use Rattle.ffs_lib.specs.Outcomes.{CanEdit, HasPointers, OnlyShort}
+use Rattle.ffs_lib.specs.Outcomes.{CanEdit, HasPointers, OnlyShort, WritesBytes}
+use Rattle.ffs_lib.specs.Results.{SameInode}
+use Rattle.ffs_lib.specs.Steps.{left_by}
 use Rattle.ffs_lib.proofs.Edited.{done_by}
 use Rattle.ffs_lib.proofs.Fields.{direct_get}
 use Rattle.ffs_lib.proofs.Owners.{block_at, direct_block, stands_from}
 use Rattle.ffs_lib.proofs.Same.{begun, none_touched}
 use Rattle.ffs_lib.proofs.Short.{ShortEdit, attached_short, begun_addable, handed, handed_on, kept_short, pairs_kept, pairs_set, refusal_short, short_fault}
-use Rattle.ffs_lib.proofs.Writing.{file_from, file_same}
+use Rattle.ffs_lib.proofs.Undoing.{undone_same}
+use Rattle.ffs_lib.proofs.Writing.{file_from, file_same, unwritten}
 
 -- What the store answers
 
@@ -133,3 +136,13 @@ direct_reached T lib state h fs few n inode is index block low points there =
 pub pointed_reached : (T : Types) → IsLibrary T → (state : StoreState) → (fs : ℕ) (indirect place block : ℕ) → Under T (latest state.lives) fs indirect 5 → place < 128 →
     pointer_word (latest state.lives indirect) place ≡ block → block ≢ 0 → Under T (latest state.lives) fs block 2
 pointed_reached T lib state fs indirect place block at low points there = step at (data_owned T lib (latest state.lives indirect) place block low points there)
+
+-- A new block whose edit was refused is forgotten, and no byte changes.
+pub undone_bytes : {A : Type 0} (T other : Types) (fs : ℕ) → fs < 32 → (n ty block number : ℕ) (bytes : List ℕ) (zeroth first second third : StoreState) (attached result : Result A FfsFault) → other ≡ T → Gives (init_of T zeroth fs ty bytes) zeroth first (Ok (block, number)) →
+    result ≡ attached → OnErr attached (second ≡ first) → OnErr result (third ≡ left_by (forget_of other second fs block) second) → OnErr result (WritesBytes T fs n 0 [] zeroth third)
+undone_bytes T other fs few n ty block number bytes zeroth first second third attached (Ok x) types given is err left = tt
+undone_bytes {A} T other fs few n ty block number bytes zeroth first second third attached (Err fault) types given is err left =
+    let done = gives_ok (init_of T zeroth fs ty bytes) zeroth first (block, number) given in
+    let same : second ≡ first = subst (λ (r : Result A FfsFault). OnErr r (second ≡ first)) (sym is) err in
+    let e : third ≡ left_by (forget_of T first fs block) first = left ∙ (ap (λ (t : Types). left_by (forget_of t second fs block) second) types ∙ ap (λ (s : StoreState). left_by (forget_of T s fs block) s) same) in
+    unwritten T fs n zeroth third (λ lib h d. subst (λ (s : StoreState). SameInode (latest zeroth.lives) (latest s.lives) fs d) (sym e) (undone_same T lib zeroth first h fs few ty bytes block number done d))

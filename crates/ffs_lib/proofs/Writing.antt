@@ -24,7 +24,8 @@ use Rattle.ffs_lookup.specs.declared.fault.FfsFault.{FfsFault}
 use Rattle.ffs_lookup.specs.declared.fault.FfsFault.TheVariants.{IsDir}
 use Rattle.ffs_lib.specs.Edits.{edit_at}
 use Rattle.ffs_lookup.specs.Newest.{and_then, byte_in, byte_of, file_block, file_end, file_in, if_file, inode_in}
-use Rattle.ffs_lib.specs.Outcomes.{AttachesBlock, AttachesData, AttachesPointers, HasBlock, Keeps, IsRaised, WritesBytes, WroteBytes}
+use Rattle.ffs_lib.specs.Outcomes.{AttachesBlock, AttachesData, AttachesPointers, HasBlock, Keeps, IsRaised, WritesBytes}
+use Rattle.ffs_lib.specs.Results.{WroteBytes}
 use Rattle.ffs_lib.specs.Results.{IsWritten, SameInode, byte_written}
 use Rattle.ffs_lib.proofs.Frames.{byte_apart, byte_within}
 use Rattle.ffs_lib.proofs.Owners.{Stands, block_at, direct_block, not_first, passed, pointers_apart, pointers_at, stands_from, two_blocks}
@@ -438,6 +439,31 @@ pub writes_none : (T : Types) (state : StoreState) (fs n start : ℕ) → Writes
 writes_none T state fs n start lib array v = (λ inode is. wrote_none (latest state.lives) fs n start inode is, λ d ne. (refl, λ inode is. (refl, λ at low. refl)))
 
 -- one write after another
+-- a file whose bytes stay after some were written
+pub wrote_still : (T : Types) (fs n start : ℕ) (old first second : StoreState) (inode bytes : List ℕ) → WroteBytes (latest old.lives) (latest first.lives) fs n inode start bytes →
+    ((after : List ℕ) → Ok after ≡ file_in (latest first.lives) fs n → WroteBytes (latest first.lives) (latest second.lives) fs n after 0 []) → WroteBytes (latest old.lives) (latest second.lives) fs n inode start bytes
+wrote_still T fs n start old first second inode bytes a next =
+    let b = next a.after a.file in
+    record { after = b.after; file = b.file; size = b.size ∙ a.size; each = λ at low. b.each at low ∙ (sym (written_none (byte_of (latest first.lives) a.after) 0 at) ∙ a.each at low) }
+
+-- all inodes are as before
+pub unwritten : (T : Types) (fs n : ℕ) (old new : StoreState) → (IsLibrary T → IsConsistent T old → (d : ℕ) → SameInode (latest old.lives) (latest new.lives) fs d) → WritesBytes T fs n 0 [] old new
+unwritten T fs n old new same lib array v =
+    let s = same lib v.consistent in
+    let u = latest old.lives in
+    let w = latest new.lives in (
+      λ inode is. record {
+        after = inode;
+        file = is ∙ sym (file_same u w fs n (s n).0);
+        size = refl;
+        each = λ at low. ((s n).1 inode (file_from u fs n inode is)).1 at low ∙ written_none (byte_of u inode) 0 at;
+      },
+      λ d ne. s d,
+    )
+
+pub unwritten_here : (T : Types) (fs n : ℕ) (old new : StoreState) → new ≡ old → WritesBytes T fs n 0 [] old new
+unwritten_here T fs n old new e = subst (WritesBytes T fs n 0 [] old) (sym e) (writes_none T old fs n 0)
+
 pub wrote_on : (u v w : ℕ → List ℕ) (fs n start : ℕ) (inode bs cs : List ℕ) → WroteBytes u v fs n inode start bs → ((after : List ℕ) → Ok after ≡ file_in v fs n → WroteBytes v w fs n after (start + length bs) cs) → WroteBytes u w fs n inode start (bs ++ cs)
 wrote_on u v w fs n start inode bs cs a next =
     let b = next a.after a.file in

@@ -16,7 +16,7 @@ use Rattle.xn_model.specs.Rules.{IsConsistent}
 use Rattle.ffs_lookup.specs.declared.fault.FfsFault.{FfsFault}
 use Rattle.ffs_format.specs.Fields.{fields_of}
 use Rattle.ffs_lookup.specs.Newest.{byte_of, directory_in, file_block, file_in, is_short, make_in, has_empty_pointer, inode_block_in, root_in}
-use Rattle.ffs_lib.specs.Results.{MadeVolume, SameInode, byte_written, new_inode}
+use Rattle.ffs_lib.specs.Results.{MadeVolume, SameInode, WroteBytes, new_inode}
 
 abbrev pub Keeps : Types → ℕ → StoreState → StoreState → Type 0
 Keeps T fs old new = IsLibrary T → (array : ℕ → Option ℕ) → VolumeKeeps T library_layout fs array old → VolumeKeeps T library_layout fs array new
@@ -70,12 +70,6 @@ pub record IsGrown (old new : ℕ → List ℕ) (fs d : ℕ) (inode : List ℕ) 
 --     AttachesBlock    it has a new block, where it had none
 --     HasPointers      it has a block of pointers
 --     RaisesSize       its size is raised
-
-pub record WroteBytes (old new : ℕ → List ℕ) (fs n : ℕ) (inode : List ℕ) (start : ℕ) (bytes : List ℕ) : Type 0 where
-  pub after : List ℕ
-  pub file : Ok after ≡ file_in new fs n
-  pub size : word_at after 4 ≡ word_at inode 4
-  pub each : (at : ℕ) → at < 71680 → byte_of new after at ≡ byte_written (byte_of old inode) start bytes at
 
 abbrev pub WritesBytes : Types → ℕ → ℕ → ℕ → List ℕ → StoreState → StoreState → Type 0
 WritesBytes T fs n start bytes old new = IsLibrary T → (array : ℕ → Option ℕ) → VolumeKeeps T library_layout fs array old →

@@ -7,6 +7,7 @@
 --     HasMore, MadeEntry         a directory has one entry more; it names a new inode
 --     MadeVolume                 a file system has a top directory
 --     byte_written, IsWritten    the bytes of a file after a write
+--     WroteBytes, WrotePart      some bytes are written, or the first of them, and its size is as before
 --     IsAs, AsBefore             an inode is as before but for its links
 --     IsLinked, TookLink         it is, with so many links; it lost one, or is free
 --     MovedEntry                 an entry went to another directory, or got another name
@@ -100,6 +101,17 @@ pub record IsWritten (old new : ℕ → List ℕ) (fs n : ℕ) (inode : List ℕ
   pub file : Ok after ≡ file_in new fs n
   pub ends : file_end after ≡ end_after inode offset (length bytes)
   pub each : (at : ℕ) → at < 71680 → byte_of new after at ≡ byte_written (byte_of old inode) offset bytes at
+
+-- bytes are written into a file, and its size is as before
+pub record WroteBytes (old new : ℕ → List ℕ) (fs n : ℕ) (inode : List ℕ) (start : ℕ) (bytes : List ℕ) : Type 0 where
+  pub after : List ℕ
+  pub file : Ok after ≡ file_in new fs n
+  pub size : word_at after 4 ≡ word_at inode 4
+  pub each : (at : ℕ) → at < 71680 → byte_of new after at ≡ byte_written (byte_of old inode) start bytes at
+
+-- the first of some bytes are written, and the size is as before
+abbrev pub WrotePart : (ℕ → List ℕ) → (ℕ → List ℕ) → ℕ → ℕ → List ℕ → ℕ → List ℕ → Type 0
+WrotePart old new fs n inode offset bytes = (front : List ℕ) × (back : List ℕ) × (front ++ back ≡ bytes) × WroteBytes old new fs n inode offset front
 
 -- Inodes that are as before but for their links
 

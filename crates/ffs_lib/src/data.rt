@@ -1,6 +1,6 @@
 // The bytes of files.
 
-ghost use Rattle.std.specs.Prelude.{◌≡◌, ◌≢◌, ℕ, ◌<◌, ◌≤◌, ◌+◌, ◌*◌, ◌/◌, ◌%◌, List, [], length, map, None, Some, Ok, IfOk, IsOk, IsTrue, OnOk};
+ghost use Rattle.std.specs.Prelude.{◌≡◌, ◌≢◌, ℕ, ◌<◌, ◌≤◌, ◌+◌, ◌*◌, ◌/◌, ◌%◌, List, [], length, map, None, Some, Ok, IfOk, IsOk, IsTrue, OnErr, OnOk};
 ghost use Rattle.std.specs.List.{range_with_len};
 ghost use Rattle.xn_model.specs.Root.{word_at};
 ghost use Rattle.xn_model.specs.Calls.{may_add, was_given};
@@ -37,6 +37,7 @@ fn attach_direct<S: Store>(
 ) -> Result<EditId, FfsFault>
     requires { index < 12 }
     ensures types { S.types_of store.new ≡ S.types_of store.old }
+    ensures err { OnErr result (S.state_of store.new ≡ S.state_of store.old) }
     ensures attached { OnOk result (AttachesBlock (S.types_of store.old) fs.number number index block (S.state_of store.old) (S.state_of store.new)) }
     ensures keeps { Keeps (S.types_of store.old) fs.number (S.state_of store.old) (S.state_of store.new) }
     ensures short { CanEdit (S.types_of store.old) (S.state_of store.old) None → (inode : List ℕ) →
@@ -68,6 +69,7 @@ fn write_direct<S: Store>(
     requires within { at + length bytes.now ≤ 512 }
     requires some { 0 < length bytes.now }
     ensures types { S.types_of store.new ≡ S.types_of store.old }
+    ensures stays { OnErr result (WritesBytes (S.types_of store.old) fs.number number 0 [] (S.state_of store.old) (S.state_of store.new)) }
     ensures written { OnOk result (WritesBytes (S.types_of store.old) fs.number number (512 * index + at) bytes.now (S.state_of store.old)
         (S.state_of store.new)) }
     ensures keeps { Keeps (S.types_of store.old) fs.number (S.state_of store.old) (S.state_of store.new) }
@@ -95,6 +97,7 @@ fn attach_pointers<S: Store>(
     block: u32,
 ) -> Result<EditId, FfsFault>
     ensures types { S.types_of store.new ≡ S.types_of store.old }
+    ensures err { OnErr result (S.state_of store.new ≡ S.state_of store.old) }
     ensures attached { OnOk result (AttachesPointers (S.types_of store.old) fs.number number block (S.state_of store.old) (S.state_of store.new)) }
     ensures keeps { Keeps (S.types_of store.old) fs.number (S.state_of store.old) (S.state_of store.new) }
     ensures short { CanEdit (S.types_of store.old) (S.state_of store.old) None → (inode : List ℕ) →
@@ -123,7 +126,7 @@ fn attach_pointers<S: Store>(
 /// Sees to it that a file has a block of pointers.
 fn add_pointers<S: Store>(alloc: Global, store: &mut S, fs: Fs, number: u16) -> Result<(), FfsFault>
     ensures types { S.types_of store.new ≡ S.types_of store.old }
-    ensures same { OnOk result (WritesBytes (S.types_of store.old) fs.number number 0 [] (S.state_of store.old) (S.state_of store.new)) }
+    ensures same { WritesBytes (S.types_of store.old) fs.number number 0 [] (S.state_of store.old) (S.state_of store.new) }
     ensures keeps { Keeps (S.types_of store.old) fs.number (S.state_of store.old) (S.state_of store.new) }
     ensures short { CanEdit (S.types_of store.old) (S.state_of store.old) None → (inode : List ℕ) →
         Ok inode ≡ file_in (latest (S.state_of store.old).lives) fs.number number → OnlyShort result }
@@ -150,6 +153,7 @@ fn attach_data<S: Store>(
 ) -> Result<EditId, FfsFault>
     requires { place < 128 }
     ensures types { S.types_of store.new ≡ S.types_of store.old }
+    ensures err { OnErr result (S.state_of store.new ≡ S.state_of store.old) }
     ensures attached { OnOk result (AttachesData (S.types_of store.old) fs.number number place block (S.state_of store.old) (S.state_of store.new)) }
     ensures keeps { Keeps (S.types_of store.old) fs.number (S.state_of store.old) (S.state_of store.new) }
     ensures short { CanEdit (S.types_of store.old) (S.state_of store.old) None → (inode : List ℕ) →
@@ -181,6 +185,7 @@ fn write_indirect<S: Store>(
     requires within { at + length bytes.now ≤ 512 }
     requires some { 0 < length bytes.now }
     ensures types { S.types_of store.new ≡ S.types_of store.old }
+    ensures stays { OnErr result (WritesBytes (S.types_of store.old) fs.number number 0 [] (S.state_of store.old) (S.state_of store.new)) }
     ensures written { OnOk result (WritesBytes (S.types_of store.old) fs.number number (512 * (12 + place) + at) bytes.now (S.state_of store.old)
         (S.state_of store.new)) }
     ensures keeps { Keeps (S.types_of store.old) fs.number (S.state_of store.old) (S.state_of store.new) }
@@ -218,6 +223,7 @@ pub fn write_block<S: Store>(
     requires within { at + length bytes.now ≤ 512 }
     requires some { 0 < length bytes.now }
     ensures types { S.types_of store.new ≡ S.types_of store.old }
+    ensures stays { OnErr result (WritesBytes (S.types_of store.old) fs.number number 0 [] (S.state_of store.old) (S.state_of store.new)) }
     ensures written { OnOk result (WritesBytes (S.types_of store.old) fs.number number (512 * index + at) bytes.now (S.state_of store.old)
         (S.state_of store.new)) }
     ensures keeps { Keeps (S.types_of store.old) fs.number (S.state_of store.old) (S.state_of store.new) }
@@ -242,6 +248,7 @@ pub fn raise_size<S: Store>(
     after: EditId,
 ) -> Result<(), FfsFault>
     ensures types { S.types_of store.new ≡ S.types_of store.old }
+    ensures err { OnErr result (S.state_of store.new ≡ S.state_of store.old) }
     ensures raised { OnOk result (RaisesSize (S.types_of store.old) fs.number number size (S.state_of store.old) (S.state_of store.new)) }
     ensures keeps { Keeps (S.types_of store.old) fs.number (S.state_of store.old) (S.state_of store.new) }
     ensures short { CanEdit (S.types_of store.old) (S.state_of store.old) (Some after) → (inode : List ℕ) →

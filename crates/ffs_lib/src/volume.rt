@@ -16,7 +16,7 @@ ghost use Rattle.ffs_lib.specs.Outcomes.{HasFreePointer, OnlyShort};
 ghost use Rattle.ffs_lib.specs.Steps.{Creates, Ends, Leaves, NamesAgain, Renames, Stage, StopsGrowing, StopsNaming, StopsNew, StopsUnnaming, TakesFree, Undoes, Unlinks, Unmakes, Unnamed, newest};
 ghost use Rattle.xn_model.specs.Types.{Types};
 ghost use Rattle.xn_model.specs.Calls.{was_given};
-ghost use Rattle.ffs_lib.specs.Results.{new_inode, IsWritten, MadeEntry, MadeVolume, MovedEntry, OnlyChanges, OthersSame, TookLink};
+ghost use Rattle.ffs_lib.specs.Results.{new_inode, IsWritten, WrotePart, MadeEntry, MadeVolume, MovedEntry, OnlyChanges, OthersSame, TookLink};
 
 use crate::data::{BLOCK_LEN, FILE_BLOCKS, raise_size, read_part, write_block};
 use crate::put::{add_link, attach, empty_inode, enter, put, put_inode, take_link};
@@ -154,6 +154,7 @@ fn moves_directory(inode: &Inode, from: u16, to: u16) -> bool
 /// library's own always comes before any edit.
 fn once_edited<A>(answer: Result<A, FfsFault>) -> Result<A, FfsFault>
     ensures ok { IfOk result (λ value. answer ≡ Ok value) }
+    ensures done { IfOk answer (λ value. result ≡ Ok value) }
     ensures err { IfErr result (λ fault. is_own fault ≡ false) }
     ensures same { IfErr answer (λ fault. is_own fault ≡ false → result ≡ Err fault) }
     ensures short { OnlyShort answer → OnlyShort result }
@@ -387,7 +388,10 @@ impl Volume {
             OnlyShort result }
         ensures written { OnOk result ((file : List ℕ) → Ok file ≡ file_in (latest (S.state_of store.old).lives) self.now.fs.number inode →
             IsWritten (latest (S.state_of store.old).lives) (latest (S.state_of store.new).lives) self.now.fs.number inode file offset bytes.now) }
-        ensures others { OnOk result (OnlyChanges (latest (S.state_of store.old).lives) (latest (S.state_of store.new).lives) self.now.fs.number inode) }
+        ensures others { OnlyChanges (latest (S.state_of store.old).lives) (latest (S.state_of store.new).lives) self.now.fs.number inode }
+        ensures stage { (file : List ℕ) → Ok file ≡ file_in (latest (S.state_of store.old).lives) self.now.fs.number inode →
+            OnErr result
+                (WrotePart (latest (S.state_of store.old).lives) (latest (S.state_of store.new).lives) self.now.fs.number inode file offset bytes.now) }
         ensures keeps { IsVolume (S.types_of store.old) (S.state_of store.new) self.now }
     {
         let _ = find_file(store, self.fs, inode)?;
@@ -413,7 +417,9 @@ impl Volume {
         ensures short { (file : List ℕ) → Ok file ≡ file_in (latest (S.state_of store.old).lives) self.now.fs.number inode → OnlyShort result }
         ensures written { OnOk result ((file : List ℕ) → Ok file ≡ file_in (latest (S.state_of store.old).lives) self.now.fs.number inode →
             IsWritten (latest (S.state_of store.old).lives) (latest (S.state_of store.new).lives) self.now.fs.number inode file start bytes.now) }
-        ensures others { OnOk result (OnlyChanges (latest (S.state_of store.old).lives) (latest (S.state_of store.new).lives) self.now.fs.number inode) }
+        ensures others { OnlyChanges (latest (S.state_of store.old).lives) (latest (S.state_of store.new).lives) self.now.fs.number inode }
+        ensures stage { (file : List ℕ) → Ok file ≡ file_in (latest (S.state_of store.old).lives) self.now.fs.number inode →
+            OnErr result (WrotePart (latest (S.state_of store.old).lives) (latest (S.state_of store.new).lives) self.now.fs.number inode file start bytes.now) }
         ensures keeps { IsVolume (S.types_of store.old) (S.state_of store.new) self.now }
     {
         let mut at = start;

@@ -3,14 +3,14 @@ use Rattle.xn_model.specs.Root.{word_at}
 use Rattle.xn_model.specs.Calls.{init_of}
 use Rattle.ffs_model.specs.Library.{zeros}
 use Rattle.ffs_model.proofs.ForCallers.{pointers_begun}
-use Rattle.ffs_lookup.proofs.ForCallers.{gives_ok, same_ok}
-use Rattle.ffs_lib.proofs.DataShort.{begin_refused, begun_short, can_next, handed_ok, passed_short}
+use Rattle.ffs_lookup.proofs.ForCallers.{gives_err, gives_ok, same_ok}
+use Rattle.ffs_lib.proofs.DataShort.{begin_refused, begun_short, can_next, handed_ok, passed_short, undone_bytes}
 use Rattle.ffs_lib.proofs.Same.{begun_some}
 use Rattle.ffs_lib.specs.Outcomes.{AttachesPointers, HasPointers, Keeps}
 use Rattle.ffs_lib.proofs.Kept.{data_then, refused}
 use Rattle.xn_model.specs.Rules.{IsConsistent}
 use Rattle.std.specs.Prelude.{OnOk}
-use Rattle.ffs_lib.proofs.Writing.{pointers_grown}
+use Rattle.ffs_lib.proofs.Writing.{pointers_grown, unwritten_here}
 use Rattle.ffs_lib.proofs.data.add_pointers.Goals as goal
 
 pub returns-in_err-block-clause-keeps : goal.returns-in_err-block-clause-keeps
@@ -82,3 +82,20 @@ returns-in_ok-forgotten-clause-pointed g c = λ can inode is.
     let next = can_next T _ zeroth first c.init.ensures.types c.init.ensures.rules can in
     subst (λ s. HasPointers T s fs n) (sym c.in_ok-forgotten.ensures.ok)
     (subst (λ t. HasPointers t second fs n) c.init.ensures.types (handed_ok attached.result _ (sym c.in_ok-forgotten.ensures.same) attached.ensures.pointed next there))
+
+pub returns-in_err-block-clause-same : goal.returns-in_err-block-clause-same
+returns-in_err-block-clause-same g c =
+    let old = g.S.Store.state_of c.args.store.now in
+    let new = g.S.Store.state_of c.init.new.self in
+    unwritten_here (g.S.Store.types_of c.args.store.now) c.args.fs.number c.args.number old new (gives_err _ old new _ c.in_err-block.ensures.state)
+
+pub returns-in_err-forgotten-clause-same : goal.returns-in_err-forgotten-clause-same
+returns-in_err-forgotten-clause-same g c =
+    let T = g.S.Store.types_of c.args.store.now in
+    let zeroth = g.S.Store.state_of c.args.store.now in
+    let first = g.S.Store.state_of c.init.new.self in
+    let second = g.S.Store.state_of c.attach_pointers-attached.new.store in
+    let third = g.S.Store.state_of c.forgotten.new.store in
+    let attached = c.attach_pointers-attached in
+    undone_bytes T (g.S.Store.types_of c.attach_pointers-attached.new.store) c.args.fs.number c.args.fs.few c.args.number 5 c.in_ok-block.block c.in_ok-block.field-0-1 zeros zeroth first second third attached.result _ (attached.ensures.types ∙ c.init.ensures.types) c.in_ok-block.ensures.state
+    c.in_err-forgotten.ensures.same attached.ensures.err c.in_err-forgotten.ensures.forgotten

@@ -9,7 +9,7 @@ use Rattle.ffs_lib.proofs.Kept.{refused}
 use Rattle.ffs_model.specs.Cuts.{latest}
 use Rattle.ffs_model.proofs.ForCallers.{library_reads, under_inodes}
 use Rattle.ffs_lib.specs.Edits.{edit_at}
-use Rattle.ffs_lib.specs.Outcomes.{WroteBytes}
+use Rattle.ffs_lib.specs.Results.{WroteBytes}
 use Rattle.ffs_lookup.proofs.ForCallers.{same_ok}
 use Rattle.xn_model.specs.Rules.{IsConsistent}
 use Rattle.ffs_lib.proofs.DataShort.{adding_given, edit_refused, pointers_refused}

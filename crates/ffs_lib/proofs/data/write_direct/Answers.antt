@@ -3,17 +3,18 @@ use Rattle.std.specs.Prelude.{OnOk}
 use Rattle.ffs_lib.specs.Edits.{edit_at}
 use Rattle.ffs_lib.specs.Outcomes.{Keeps}
 use Rattle.ffs_lib.proofs.Edited.{done_by, file_data}
-use Rattle.ffs_lookup.proofs.ForCallers.{found_has, same_ok}
-use Rattle.ffs_lib.proofs.Kept.{data_then, refused}
+use Rattle.ffs_lookup.proofs.ForCallers.{found_has, gives_err, same_ok}
+use Rattle.ffs_lib.proofs.Kept.{data_then, on_err, refused}
 use Rattle.xn_model.specs.Rules.{IsConsistent}
 use Rattle.ffs_model.specs.Cuts.{latest}
-use Rattle.ffs_lib.specs.Outcomes.{AttachesBlock, OnlyShort, WroteBytes}
+use Rattle.ffs_lib.specs.Outcomes.{AttachesBlock, OnlyShort}
+use Rattle.ffs_lib.specs.Results.{WroteBytes}
 use Rattle.std.proofs.lemmas.Bool.{false≢true}
 use Rattle.ffs_format.specs.Fields.{direct_in}
 use Rattle.ffs_model.proofs.ForCallers.{data_begun, data_short}
-use Rattle.ffs_lib.proofs.DataShort.{begin_refused, begun_short, block_long, direct_reached, edit_refused, writing_given}
+use Rattle.ffs_lib.proofs.DataShort.{begin_refused, begun_short, block_long, direct_reached, edit_refused, undone_bytes, writing_given}
 use Rattle.ffs_lib.proofs.Owners.{direct_block}
-use Rattle.ffs_lib.proofs.Writing.{data_written, file_grown}
+use Rattle.ffs_lib.proofs.Writing.{data_written, file_grown, unwritten_here}
 use Rattle.ffs_lib.proofs.data.write_direct.Goals as goal
 
 pub returns-then-block-eq0-clause-keeps : goal.returns-then-block-eq0-clause-keeps
@@ -119,3 +120,26 @@ pub returns-clause-given : goal.returns-clause-given
 returns-clause-given g c =
     writing_given (g.S.Store.types_of c.args.store.now) _ (g.S.Store.state_of c.args.store.now) (g.S.Store.state_of c.propose.new.self) c.args.fs.number c.direct-block.result _ _ c.in_ok-propose.field-0 c.propose.ensures.types c.propose.ensures.rules
     (ap length c.in_ok-read_block.ensures.bytes ∙ c.in_ok-read_block.ensures.whole) c.in_ok-edit.ensures c.in_ok-propose.ensures.state
+
+pub returns-in_err-block-clause-stays : goal.returns-in_err-block-clause-stays
+returns-in_err-block-clause-stays g c =
+    let old = g.S.Store.state_of c.args.store.now in
+    let new = g.S.Store.state_of c.init.new.self in
+    on_err c.from_residual-in_err-block.result (unwritten_here (g.S.Store.types_of c.args.store.now) c.args.fs.number c.args.number old new (gives_err _ old new _ c.in_err-block.ensures.state))
+
+pub returns-then-block-eq0-clause-stays : goal.returns-then-block-eq0-clause-stays
+returns-then-block-eq0-clause-stays g c =
+    let T = g.S.Store.types_of c.args.store.now in
+    let zeroth = g.S.Store.state_of c.args.store.now in
+    let first = g.S.Store.state_of c.init.new.self in
+    let second = g.S.Store.state_of c.attach_direct-attached.new.store in
+    let third = g.S.Store.state_of c.forgotten.new.store in
+    let attached = c.attach_direct-attached in
+    undone_bytes T (g.S.Store.types_of c.attach_direct-attached.new.store) c.args.fs.number c.args.fs.few c.args.number 2 c.in_ok-block.block c.in_ok-block.field-0-1 c.block_with.result zeroth first second third attached.result c.forgotten.result (attached.ensures.types ∙ c.init.ensures.types)
+    c.in_ok-block.ensures.state c.forgotten.ensures.same attached.ensures.err c.forgotten.ensures.forgotten
+
+pub returns-in_err-propose-clause-stays : goal.returns-in_err-propose-clause-stays
+returns-in_err-propose-clause-stays g c =
+    let old = g.S.Store.state_of c.args.store.now in
+    let new = g.S.Store.state_of c.propose.new.self in
+    on_err c.from_residual-in_err-propose.result (unwritten_here (g.S.Store.types_of c.args.store.now) c.args.fs.number c.args.number old new (gives_err _ old new _ c.in_err-propose.ensures.state))

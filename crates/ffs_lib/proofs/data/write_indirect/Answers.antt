@@ -3,19 +3,20 @@ use Rattle.ffs_model.specs.Library.{pointer_word}
 use Rattle.ffs_lib.specs.Edits.{edit_at}
 use Rattle.ffs_lib.specs.Outcomes.{Keeps}
 use Rattle.ffs_lib.proofs.Edited.{done_by, pointed_data, pointers_reached}
-use Rattle.ffs_lib.proofs.Kept.{data_then, refused}
+use Rattle.ffs_lib.proofs.Kept.{data_then, on_err, on_err_weaker, refused}
 use Rattle.std.specs.Prelude.{OnOk}
 use Rattle.std.proofs.lemmas.Result.{on_ok_weaker}
 use Rattle.xn_model.specs.Rules.{IsConsistent}
 use Rattle.ffs_model.specs.Cuts.{latest}
-use Rattle.ffs_lib.specs.Outcomes.{AttachesData, OnlyShort, WritesBytes, WroteBytes}
-use Rattle.ffs_lookup.proofs.ForCallers.{same_ok}
+use Rattle.ffs_lib.specs.Outcomes.{AttachesData, OnlyShort, WritesBytes}
+use Rattle.ffs_lib.specs.Results.{WroteBytes}
+use Rattle.ffs_lookup.proofs.ForCallers.{gives_err, same_ok}
 use Rattle.std.proofs.lemmas.Bool.{false≢true}
 use Rattle.xn_model.specs.Root.{word_at}
 use Rattle.ffs_model.specs.Library.{IsLibrary}
 use Rattle.ffs_model.proofs.ForCallers.{data_begun, data_short}
-use Rattle.ffs_lib.proofs.DataShort.{begin_refused, begun_short, begun_stays, block_long, can_then, edit_refused, pointed_reached, writing_given}
-use Rattle.ffs_lib.proofs.Writing.{attaches_data, data_written, file_grown, indirect_block, writes_after}
+use Rattle.ffs_lib.proofs.DataShort.{begin_refused, begun_short, begun_stays, block_long, can_then, edit_refused, pointed_reached, undone_bytes, writing_given}
+use Rattle.ffs_lib.proofs.Writing.{attaches_data, data_written, file_grown, indirect_block, unwritten_here, writes_after}
 use Rattle.ffs_lib.proofs.data.write_indirect.Goals as goal
 
 pub returns-in_err-block-clause-keeps : goal.returns-in_err-block-clause-keeps
@@ -188,3 +189,42 @@ pub returns-clause-given : goal.returns-clause-given
 returns-clause-given g c =
     writing_given (g.S.Store.types_of c.add_pointers.new.store) _ (g.S.Store.state_of c.add_pointers.new.store) (g.S.Store.state_of c.propose.new.self) c.args.fs.number c.pointer-block.result _ _ c.in_ok-propose.field-0 c.propose.ensures.types c.propose.ensures.rules
     (ap length c.in_ok-read_block-2.ensures.bytes ∙ c.in_ok-read_block-2.ensures.whole) c.in_ok-edit.ensures c.in_ok-propose.ensures.state
+
+pub returns-in_err-block-clause-stays : goal.returns-in_err-block-clause-stays
+returns-in_err-block-clause-stays g c =
+    let T = g.S.Store.types_of c.args.store.now in
+    let fs = c.args.fs.number in
+    let n = c.args.number in
+    let more = c.in_ok-add_pointers.ensures in
+    let old = g.S.Store.state_of c.args.store.now in
+    let zeroth = g.S.Store.state_of c.add_pointers.new.store in
+    let new = g.S.Store.state_of c.init.new.self in
+    on_err c.from_residual-in_err-block.result (writes_after T fs n 0 [] old zeroth new more.keeps more.same (unwritten_here T fs n zeroth new (gives_err _ zeroth new _ c.in_err-block.ensures.state)))
+
+pub returns-then-block-eq0-clause-stays : goal.returns-then-block-eq0-clause-stays
+returns-then-block-eq0-clause-stays g c =
+    let T = g.S.Store.types_of c.args.store.now in
+    let T1 = g.S.Store.types_of c.add_pointers.new.store in
+    let fs = c.args.fs.number in
+    let n = c.args.number in
+    let more = c.in_ok-add_pointers.ensures in
+    let old = g.S.Store.state_of c.args.store.now in
+    let zeroth = g.S.Store.state_of c.add_pointers.new.store in
+    let first = g.S.Store.state_of c.init.new.self in
+    let second = g.S.Store.state_of c.attach_data-attached.new.store in
+    let third = g.S.Store.state_of c.forgotten.new.store in
+    let attached = c.attach_data-attached in
+    let undone = undone_bytes T1 (g.S.Store.types_of c.attach_data-attached.new.store) fs c.args.fs.few n 2 c.in_ok-block.block c.in_ok-block.field-0-1 c.block_with.result zeroth first second third attached.result c.forgotten.result (attached.ensures.types ∙ c.init.ensures.types)
+    c.in_ok-block.ensures.state c.forgotten.ensures.same attached.ensures.err c.forgotten.ensures.forgotten in
+    on_err_weaker c.forgotten.result (λ (w : WritesBytes T1 fs n 0 [] zeroth third). writes_after T fs n 0 [] old zeroth third more.keeps more.same (subst (λ t. WritesBytes t fs n 0 [] zeroth third) more.types w)) undone
+
+pub returns-in_err-propose-clause-stays : goal.returns-in_err-propose-clause-stays
+returns-in_err-propose-clause-stays g c =
+    let T = g.S.Store.types_of c.args.store.now in
+    let fs = c.args.fs.number in
+    let n = c.args.number in
+    let more = c.in_ok-add_pointers.ensures in
+    let old = g.S.Store.state_of c.args.store.now in
+    let zeroth = g.S.Store.state_of c.add_pointers.new.store in
+    let new = g.S.Store.state_of c.propose.new.self in
+    on_err c.from_residual-in_err-propose.result (writes_after T fs n 0 [] old zeroth new more.keeps more.same (unwritten_here T fs n zeroth new (gives_err _ zeroth new _ c.in_err-propose.ensures.state)))

@@ -1,9 +1,10 @@
-use Rattle.std.proofs.Common.{◌+◌, ◌<◌, ◌∙◌, arith, length, refl, sym}
+use Rattle.std.proofs.Common.{[], ◌+◌, ◌<◌, ◌∙◌, arith, length, refl, sym}
 use Rattle.std.proofs.lemmas.Result.{err_from_is_err_and}
 use Rattle.ffs_model.specs.Cuts.{latest}
 use Rattle.ffs_lookup.specs.Newest.{write_in}
-use Rattle.ffs_lib.proofs.Kept.{handed_on}
+use Rattle.ffs_lib.proofs.Kept.{handed_err, handed_on, on_err}
 use Rattle.ffs_lib.proofs.Tops.{never}
+use Rattle.ffs_lib.proofs.Writing.{wrote_none}
 use Rattle.ffs_lib.proofs.Refusals.{fits_file, goes_on, refuses, too_large, write_nothing}
 use Rattle.ffs_lib.proofs.volume.Volume.write.Goals as goal
 use Rattle.ffs_lib.proofs.volume.Volume.write.Goals.{then-start-gt-MOST_BYTES-via-then-start-gt-MOST_BYTES, then-start-gt-MOST_BYTES-via-else-start-gt-MOST_BYTES+then-bytes-start}
@@ -41,8 +42,18 @@ returns-clause-faults g c =
 pub returns-clause-written : goal.returns-clause-written
 returns-clause-written g c = handed_on _ c.write_all.result c.once_edited.result c.once_edited.ensures.ok c.write_all.ensures.written
 
-pub returns-clause-others : goal.returns-clause-others
-returns-clause-others g c = handed_on _ c.write_all.result c.once_edited.result c.once_edited.ensures.ok c.write_all.ensures.others
+pub returns-clause-stage : goal.returns-clause-stage
+returns-clause-stage g c = λ file is. handed_err _ c.write_all.result c.once_edited.result c.once_edited.ensures.done (c.write_all.ensures.stage file is)
+
+pub returns-in_err-find_file-clause-stage : goal.returns-in_err-find_file-clause-stage
+returns-in_err-find_file-clause-stage g c = λ file is.
+    let v = latest (g.S.Store.state_of c.args.store.now).lives in
+    on_err c.from_residual.result ([], c.args.bytes.now, refl, wrote_none v c.args.self.now.fs.number c.args.inode c.args.offset file is)
+
+pub returns-then-start-gt-MOST_BYTES-clause-stage : goal.returns-then-start-gt-MOST_BYTES-clause-stage
+returns-then-start-gt-MOST_BYTES-clause-stage g c = λ file is.
+    let v = latest (g.S.Store.state_of c.args.store.now).lives in
+    ([], c.args.bytes.now, refl, wrote_none v c.args.self.now.fs.number c.args.inode c.args.offset file is)
 
 pub returns-in_err-find_file-clause-short : goal.returns-in_err-find_file-clause-short
 returns-in_err-find_file-clause-short g c = λ file is.

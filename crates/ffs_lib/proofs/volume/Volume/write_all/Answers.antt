@@ -1,4 +1,4 @@
-use Rattle.std.proofs.Common.{◌≡◌, ◌≢◌, ◌<◌, ◌+◌, rules, ◌*◌, ◌/◌, ◌%◌, ◌++◌, ℕ, List, length, take, Option, None, Some, refl, ap, sym, ◌∙◌, arith, subst, append_assoc, length-append}
+use Rattle.std.proofs.Common.{◌≡◌, ◌≢◌, ◌<◌, ◌+◌, rules, ◌*◌, ◌/◌, ◌%◌, ◌++◌, ℕ, List, [], length, take, Option, None, Some, refl, ap, sym, ◌∙◌, arith, subst, append_assoc, length-append}
 use Rattle.std.specs.Prelude.{IsTrue, MatchOption, ⊤}
 use Rattle.xn_model.specs.Calls.{was_given}
 use Rattle.xn_model.specs.Rules.{IsConsistent}
@@ -6,10 +6,14 @@ use Rattle.ffs_model.specs.Library.{IsLibrary}
 use Rattle.std.proofs.lemmas.List.{take-append-drop}
 use Rattle.std.proofs.lemmas.Result.{err_from_is_err_and, on_ok_weaker}
 use Rattle.ffs_model.specs.Cuts.{latest}
-use Rattle.ffs_lib.specs.Outcomes.{CanEdit, IsRaised, Keeps, RaisesSize, WritesBytes, WroteBytes}
+use Rattle.ffs_lib.specs.Outcomes.{CanEdit, IsRaised, Keeps, RaisesSize, WritesBytes}
+use Rattle.ffs_lib.specs.Results.{WroteBytes}
 use Rattle.ffs_lib.specs.Volumes.{edits_of}
+use Rattle.xn_model.specs.Lives.{StoreState}
+use Rattle.ffs_lib.specs.Results.{SameInode, WrotePart}
+use Rattle.ffs_lib.proofs.Kept.{either_way, on_err, on_err_weaker}
 use Rattle.ffs_lib.proofs.Same.{same_on}
-use Rattle.ffs_lib.proofs.Writing.{all_of, none_then, raised_then, wrote_more}
+use Rattle.ffs_lib.proofs.Writing.{all_of, none_then, raised_then, wrote_more, wrote_still}
 use Rattle.ffs_lib.proofs.volume.Volume.write_all.Goals as goal
 
 pub loop-last-preserved : goal.loop-last-preserved
@@ -90,16 +94,48 @@ returns-in-Some-clause-written g c =
     (subst (λ x. IsRaised (latest first.lives) (latest second.lives) fs n wrote.after x) here (raised.0 wrote.after wrote.file))) c.raise_size.ensures.raised
 
 pub returns-in-Some-clause-others : goal.returns-in-Some-clause-others
-returns-in-Some-clause-others g c =
+returns-in-Some-clause-others g c = λ d ne.
     let inv = c.loop-last.invariant in
     let old = g.S.Store.state_of c.args.store.now in
     let first = g.S.Store.state_of c.loop-last.store in
     let second = g.S.Store.state_of c.raise_size.new.store in
     let fs = c.args.self.now.fs.number in
     let n = c.args.inode in
-    on_ok_weaker c.raise_size.result (λ (r : RaisesSize (g.S.Store.types_of c.loop-last.store) fs n c.loop-last.at first second) (d : ℕ) ne.
+    either_way c.raise_size.result (λ (r : RaisesSize (g.S.Store.types_of c.loop-last.store) fs n c.loop-last.at first second).
     let raised = subst (λ t. RaisesSize t fs n c.loop-last.at first second) inv.types r inv.keeps.library (edits_of c.args.self.now.added) inv.keeps.keeps in
-    same_on (latest old.lives) (latest first.lives) (latest second.lives) fs d (inv.others d ne) (raised.1 d ne)) c.raise_size.ensures.raised
+    same_on (latest old.lives) (latest first.lives) (latest second.lives) fs d (inv.others d ne) (raised.1 d ne))
+    (λ (e : second ≡ first). subst (λ (s : StoreState). SameInode (latest old.lives) (latest s.lives) fs d) (sym e) (inv.others d ne)) c.raise_size.ensures.raised c.raise_size.ensures.err
+
+pub returns-in-Some-clause-stage : goal.returns-in-Some-clause-stage
+returns-in-Some-clause-stage g c = λ file is.
+    let inv = c.loop-last.invariant in
+    let old = g.S.Store.state_of c.args.store.now in
+    let first = g.S.Store.state_of c.loop-last.store in
+    let second = g.S.Store.state_of c.raise_size.new.store in
+    on_err_weaker c.raise_size.result (λ (e : second ≡ first). subst (λ (s : StoreState). WrotePart (latest old.lives) (latest s.lives) c.args.self.now.fs.number c.args.inode file c.args.start c.args.bytes.now) (sym e)
+    (inv.written.0, c.loop-last.rest.now, inv.written.1, inv.written.4 file is)) c.raise_size.ensures.err
+
+pub returns-in_err-write_block-clause-others : goal.returns-in_err-write_block-clause-others
+returns-in_err-write_block-clause-others g c = λ d ne.
+    let inv = c.loop-last.invariant in
+    let old = g.S.Store.state_of c.args.store.now in
+    let first = g.S.Store.state_of c.loop-last.store in
+    let second = g.S.Store.state_of c.write_block.new.store in
+    let fs = c.args.self.now.fs.number in
+    let stays = subst (λ t. WritesBytes t fs c.args.inode 0 [] first second) inv.types c.in_err-write_block.ensures.stays inv.keeps.library (edits_of c.args.self.now.added) inv.keeps.keeps in
+    same_on (latest old.lives) (latest first.lives) (latest second.lives) fs d (inv.others d ne) (stays.1 d ne)
+
+pub returns-in_err-write_block-clause-stage : goal.returns-in_err-write_block-clause-stage
+returns-in_err-write_block-clause-stage g c = λ file is.
+    let inv = c.loop-last.invariant in
+    let old = g.S.Store.state_of c.args.store.now in
+    let first = g.S.Store.state_of c.loop-last.store in
+    let second = g.S.Store.state_of c.write_block.new.store in
+    let fs = c.args.self.now.fs.number in
+    let n = c.args.inode in
+    let stays = subst (λ t. WritesBytes t fs n 0 [] first second) inv.types c.in_err-write_block.ensures.stays inv.keeps.library (edits_of c.args.self.now.added) inv.keeps.keeps in
+    on_err c.from_residual.result
+    (inv.written.0, c.loop-last.rest.now, inv.written.1, wrote_still (g.S.Store.types_of c.args.store.now) fs n c.args.start old first second file inv.written.0 (inv.written.4 file is) stays.0)
 
 pub returns-in-None-clause-written : goal.returns-in-None-clause-written
 returns-in-None-clause-written g c = λ file is.

@@ -3,7 +3,7 @@ use Rattle.std.specs.Prelude.{IsTrue, MatchOption, Ok, Some, ⊤}
 use Rattle.xn_model.specs.Calls.{was_given}
 use Rattle.ffs_model.specs.Cuts.{latest}
 use Rattle.ffs_lookup.specs.Newest.{file_in}
-use Rattle.ffs_lib.specs.Outcomes.{WroteBytes}
+use Rattle.ffs_lib.specs.Results.{WroteBytes}
 use Rattle.ffs_lib.specs.Results.{OnlyChanges}
 use Rattle.ffs_lib.specs.Volumes.{IsVolume}
 use Rattle.ffs_lib.proofs.volume.Volume.write_all.Given as goal
