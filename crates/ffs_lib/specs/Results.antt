@@ -178,5 +178,6 @@ pub record MovedEntry (old new : ℕ → List ℕ) (fs d : ℕ) (entry : Slot) (
   pub renamed : d ≡ other → (inode : List ℕ) → Ok inode ≡ directory_in old fs d → HasRenamed old new fs d inode entry name
   pub others : (x : ℕ) → x ≢ d → x ≢ other → AsBefore old new fs x
   pub same : (x : ℕ) → x ≢ d → x ≢ other → x ≢ entry.inode → SameInode old new fs x
-  pub linked : entry.inode ≢ d → entry.inode ≢ other → (inode : List ℕ) → Ok inode ≡ inode_in old fs entry.inode → IsLinked old new fs entry.inode inode (inode_links inode)
+  pub linked : entry.inode ≢ d → entry.inode ≢ other → (inode : List ℕ) → Ok inode ≡ inode_in old fs entry.inode →
+      IsLinked old new fs entry.inode inode (inode_links inode)
   pub kept : d ≢ other → d ≢ entry.inode → inode_in new fs d ≡ inode_in old fs d
