@@ -15,7 +15,7 @@ use Rattle.xn_model.specs.Calls.{Edit, init_of, propose_of}
 use Rattle.xn_model.specs.Results.{Gives}
 use Rattle.xn_model.specs.Rules.{IsConsistent}
 use Rattle.ffs_model.specs.Cuts.{Under, latest}
-use Rattle.ffs_model.specs.Library.{IsLibrary, inode_mode, library_layout, pointer_word, zeros}
+use Rattle.ffs_model.specs.Library.{IsLibrary, inode_mode, library_layout, pointer_word, zeros, inode_links}
 use Rattle.ffs_model.proofs.ForCallers.{latest_reached, library_reads, one_type, started, proposed_here, proposed_others, started_here, under_inodes, word_apart, word_within, zero_word}
 use Rattle.ffs_format.specs.Fields.{direct_in, fields_of}
 use Rattle.ffs_lookup.specs.declared.places.Found.{Found}
@@ -173,6 +173,7 @@ module _ (T : Types) (lib : IsLibrary T) (state new : StoreState) (h : IsConsist
           after = inode;
           file = is ∙ sym (file_same v w fs n (inodes_same T lib v w fs block 2 t (λ z. omega (arith, z)) (λ z. omega (arith, z)) n));
           size = refl;
+          marks = (refl, refl);
           each = written_by (λ i k. byte_in v (file_block v inode i) k) (λ i k. byte_in w (file_block w inode i) k) index at bytes fit others put_here;
         },
         data_touched T lib state h fs few w block 2 t refl n inode own index low points there,
@@ -226,6 +227,7 @@ module _ (T : Types) (lib : IsLibrary T) (zeroth first second : StoreState) (h :
         after = g.after;
         file = g.file;
         size = g.size ∙ ap (λ m. word_at m 4) one;
+        marks = (g.marks.0 ∙ ap inode_mode one, g.marks.1 ∙ ap inode_links one);
         each = λ x less. written_by (λ i k. byte_in v1 (file_block v1 inode i) k) (λ i k. byte_in v2 (file_block v2 g.after i) k) index at bytes fit others put_here x less
             ∙ written_same (byte_of v1 inode) (byte_of v0 inode0) (512 * index + at) bytes x (ap (λ m. byte_of v1 m x) one ∙ kept.1 x less);
       }
@@ -302,11 +304,12 @@ module _ (T : Types) (lib : IsLibrary T) (state new : StoreState) (h : IsConsist
       others_at (file_block v3 found.inode i) (at_type (file_block v3 found.inode i) 2 (block_at T lib state h fs few n found.inode standing i (file_block v3 found.inode i) low refl some) (λ z. omega (arith, z))))
 
   -- a block more that its inode points to
-  pub direct_attached : (index block : ℕ) → index < 12 → (fields_of bytes).direct ≡ slice_set (fields_of found.inode).direct index block → word_at bytes 56 ≡ word_at found.inode 56 → word_at bytes 4 ≡ word_at found.inode 4 → HasBlock T v3 v4 fs n found.inode index block
-  direct_attached index block low set last size = record {
+  pub direct_attached : inode_links bytes ≡ inode_links found.inode → (index block : ℕ) → index < 12 → (fields_of bytes).direct ≡ slice_set (fields_of found.inode).direct index block → word_at bytes 56 ≡ word_at found.inode 56 → word_at bytes 4 ≡ word_at found.inode 4 → HasBlock T v3 v4 fs n found.inode index block
+  direct_attached links index block low set last size = record {
     after = bytes;
     file = file_now;
     size = size;
+    marks = (mode, links);
     here = direct_block v4 bytes index low ∙ (direct_get bytes index low ∙ (ap (λ ws. get_or ws index 0) set ∙ get_here (fields_of found.inode).direct index block low));
     elsewhere = λ i less ne. blocks_agree v4 bytes found.inode i (λ lt. direct_get bytes i lt ∙ (ap (λ ws. get_or ws i 0) set ∙ (get_apart (fields_of found.inode).direct index block i ne ∙ sym (direct_get found.inode i lt)))) last
         ∙ file_block_by v3 v4 found.inode pointers_stay i;
@@ -319,12 +322,13 @@ module _ (T : Types) (lib : IsLibrary T) (state new : StoreState) (h : IsConsist
   }
 
   -- a block of pointers that are all 0
-  pub pointers_attached : (block : ℕ) → (fields_of bytes).direct ≡ (fields_of found.inode).direct → word_at bytes 56 ≡ block → word_at bytes 4 ≡ word_at found.inode 4 → v3 block ≡ zeros → found.block ≢ block → word_at found.inode 56 ≡ 0 →
+  pub pointers_attached : inode_links bytes ≡ inode_links found.inode → (block : ℕ) → (fields_of bytes).direct ≡ (fields_of found.inode).direct → word_at bytes 56 ≡ block → word_at bytes 4 ≡ word_at found.inode 4 → v3 block ≡ zeros → found.block ≢ block → word_at found.inode 56 ≡ 0 →
       WroteBytes v3 v4 fs n found.inode 0 []
-  pointers_attached block direct last size bare apart none = record {
+  pointers_attached links block direct last size bare apart none = record {
     after = bytes;
     file = file_now;
     size = size;
+    marks = (mode, links);
     each = λ x low.
         ap (λ b. byte_in v4 b (x % 512)) (same_block (x / 512)) ∙ (byte_stays (x / 512) (x % 512) (omega (arith, low)) ∙ written_none (byte_of v3 found.inode) 0 x);
   }
@@ -344,11 +348,12 @@ module _ (T : Types) (lib : IsLibrary T) (state new : StoreState) (h : IsConsist
       ]
 
   -- another size
-  pub size_raised : (size : ℕ) → (fields_of bytes).direct ≡ (fields_of found.inode).direct → word_at bytes 56 ≡ word_at found.inode 56 → word_at bytes 4 ≡ size → word_at found.inode 4 < size → IsRaised v3 v4 fs n found.inode size
-  size_raised size direct last sized less = record {
+  pub size_raised : inode_links bytes ≡ inode_links found.inode → (size : ℕ) → (fields_of bytes).direct ≡ (fields_of found.inode).direct → word_at bytes 56 ≡ word_at found.inode 56 → word_at bytes 4 ≡ size → word_at found.inode 4 < size → IsRaised v3 v4 fs n found.inode size
+  size_raised links size direct last sized less = record {
     after = bytes;
     file = file_now;
     sized = sized ∙ omega (arith, less);
+    marks = (mode, links);
     each = λ x low.
         let same = blocks_agree v4 bytes found.inode (x / 512) (λ lt. direct_get bytes (x / 512) lt ∙ (ap (λ ws. get_or ws (x / 512) 0) direct ∙ sym (direct_get found.inode (x / 512) lt))) last ∙ file_block_by v3 v4 found.inode pointers_stay (x / 512) in
         ap (λ b. byte_in v4 b (x % 512)) same ∙ byte_stays (x / 512) (x % 512) (omega (arith, low));
@@ -361,6 +366,7 @@ data_attached T lib state new h fs few n inode is last place block entry points 
   after = inode;
   file = is ∙ sym (file_same v w fs n (inodes_same T lib v w fs last 5 t (λ z. omega (arith, z)) (λ z. omega (arith, z)) n));
   size = refl;
+  marks = (refl, refl);
   here = read w (12 + place) (omega arith) ∙ (ap (λ j. pointer_word (w last) j) less ∙ word_here);
   elsewhere = λ i high ne. elim (cases_lt i 12) [
     | inl lt ↦ direct_block w inode i lt ∙ sym (direct_block v inode i lt)
@@ -433,7 +439,7 @@ file_grown {A} T fs few block number zeroth first second third h1 n index at byt
 
 -- nothing is written
 pub wrote_none : (v : ℕ → List ℕ) (fs n start : ℕ) (inode : List ℕ) → Ok inode ≡ file_in v fs n → WroteBytes v v fs n inode start []
-wrote_none v fs n start inode is = record { after = inode; file = is; size = refl; each = λ x low. written_none (byte_of v inode) start x }
+wrote_none v fs n start inode is = record { after = inode; file = is; size = refl; marks = (refl, refl); each = λ x low. written_none (byte_of v inode) start x }
 
 pub writes_none : (T : Types) (state : StoreState) (fs n start : ℕ) → WritesBytes T fs n start [] state state
 writes_none T state fs n start lib array v = (λ inode is. wrote_none (latest state.lives) fs n start inode is, λ d ne. (refl, λ inode is. (refl, λ at low. refl)))
@@ -444,7 +450,7 @@ pub wrote_still : (T : Types) (fs n start : ℕ) (old first second : StoreState)
     ((after : List ℕ) → Ok after ≡ file_in (latest first.lives) fs n → WroteBytes (latest first.lives) (latest second.lives) fs n after 0 []) → WroteBytes (latest old.lives) (latest second.lives) fs n inode start bytes
 wrote_still T fs n start old first second inode bytes a next =
     let b = next a.after a.file in
-    record { after = b.after; file = b.file; size = b.size ∙ a.size; each = λ at low. b.each at low ∙ (sym (written_none (byte_of (latest first.lives) a.after) 0 at) ∙ a.each at low) }
+    record { after = b.after; file = b.file; size = b.size ∙ a.size; marks = (b.marks.0 ∙ a.marks.0, b.marks.1 ∙ a.marks.1); each = λ at low. b.each at low ∙ (sym (written_none (byte_of (latest first.lives) a.after) 0 at) ∙ a.each at low) }
 
 -- all inodes are as before
 pub unwritten : (T : Types) (fs n : ℕ) (old new : StoreState) → (IsLibrary T → IsConsistent T old → (d : ℕ) → SameInode (latest old.lives) (latest new.lives) fs d) → WritesBytes T fs n 0 [] old new
@@ -456,6 +462,7 @@ unwritten T fs n old new same lib array v =
         after = inode;
         file = is ∙ sym (file_same u w fs n (s n).0);
         size = refl;
+        marks = (refl, refl);
         each = λ at low. ((s n).1 inode (file_from u fs n inode is)).1 at low ∙ written_none (byte_of u inode) 0 at;
       },
       λ d ne. s d,
@@ -467,7 +474,7 @@ unwritten_here T fs n old new e = subst (WritesBytes T fs n 0 [] old) (sym e) (w
 pub wrote_on : (u v w : ℕ → List ℕ) (fs n start : ℕ) (inode bs cs : List ℕ) → WroteBytes u v fs n inode start bs → ((after : List ℕ) → Ok after ≡ file_in v fs n → WroteBytes v w fs n after (start + length bs) cs) → WroteBytes u w fs n inode start (bs ++ cs)
 wrote_on u v w fs n start inode bs cs a next =
     let b = next a.after a.file in
-    record { after = b.after; file = b.file; size = b.size ∙ a.size; each = λ x low. written_on (byte_of u inode) (byte_of v a.after) (byte_of w b.after) start bs cs x (a.each x low) (b.each x low) }
+    record { after = b.after; file = b.file; size = b.size ∙ a.size; marks = (b.marks.0 ∙ a.marks.0, b.marks.1 ∙ a.marks.1); each = λ x low. written_on (byte_of u inode) (byte_of v a.after) (byte_of w b.after) start bs cs x (a.each x low) (b.each x low) }
 
 -- a write after a change that leaves the bytes
 pub writes_after : (T : Types) (fs n start : ℕ) (bytes : List ℕ) (zeroth first second : StoreState) → Keeps T fs zeroth first → WritesBytes T fs n 0 [] zeroth first → WritesBytes T fs n start bytes first second → WritesBytes T fs n start bytes zeroth second
@@ -481,6 +488,7 @@ writes_after T fs n start bytes zeroth first second keeps one two lib array v =
             after = y.after;
             file = y.file;
             size = y.size ∙ x.size;
+            marks = (y.marks.0 ∙ x.marks.0, y.marks.1 ∙ x.marks.1);
             each = λ at low. y.each at low ∙ written_same (byte_of (latest first.lives) x.after) (byte_of (latest zeroth.lives) inode) start bytes at (x.each at low ∙ sym (written_none (byte_of (latest zeroth.lives) inode) 0 at));
           },
       λ d ne. same_on (latest zeroth.lives) (latest first.lives) (latest second.lives) fs d (a.1 d ne) (b.1 d ne),
@@ -509,6 +517,7 @@ pointers_grown {A} T fs few block number zeroth first second third h1 n inode gi
       after = wrote.after;
       file = wrote.file;
       size = wrote.size;
+      marks = wrote.marks;
       each = λ at low. wrote.each at low ∙ written_same (byte_of m inode) (byte_of u inode) 0 [] at (kept.1 at low);
     } in (
       λ other is_other. subst (λ (s : StoreState). WroteBytes u (latest s.lives) fs n other 0 []) (sym same) (subst (λ i. WroteBytes u (latest second.lives) fs n i 0 []) (same_ok inode other (file lib ∙ sym is_other)) all),
@@ -567,6 +576,7 @@ raised_then u v w fs n start inode bytes low some a r = record {
   file = r.file;
   ends = ap (λ x. min x 71680) (r.sized ∙ ap (λ x. max x (start + length bytes)) a.size)
       ∙ (end_raised (word_at inode 4) (start + length bytes) low ∙ sym (ap (λ (t : Bool). if t then file_end inode else max (file_end inode) (start + length bytes)) (ne_eqb (length bytes) 0 some)));
+  marks = (r.marks.0 ∙ a.marks.0, r.marks.1 ∙ a.marks.1);
   each = λ x less. r.each x less ∙ a.each x less;
 }
 
@@ -575,6 +585,7 @@ none_then u v fs n start inode bytes none a = record {
   after = a.after;
   file = a.file;
   ends = ap (λ x. min x 71680) a.size ∙ sym (ap (λ (t : Bool). if t then file_end inode else max (file_end inode) (start + length bytes)) (eq-eqb (length bytes) 0 none));
+  marks = a.marks;
   each = a.each;
 }
 

@@ -16,7 +16,7 @@ use Rattle.xn_model.specs.Rules.{IsConsistent}
 use Rattle.ffs_lookup.specs.declared.fault.FfsFault.{FfsFault}
 use Rattle.ffs_format.specs.Fields.{fields_of}
 use Rattle.ffs_lookup.specs.Newest.{byte_of, directory_in, file_block, file_in, is_short, make_in, has_empty_pointer, inode_block_in, root_in}
-use Rattle.ffs_lib.specs.Results.{MadeVolume, SameInode, WroteBytes, new_inode}
+use Rattle.ffs_lib.specs.Results.{MadeVolume, SameInode, SameMarks, WroteBytes, new_inode}
 
 abbrev pub Keeps : Types → ℕ → StoreState → StoreState → Type 0
 Keeps T fs old new = IsLibrary T → (array : ℕ → Option ℕ) → VolumeKeeps T library_layout fs array old → VolumeKeeps T library_layout fs array new
@@ -81,6 +81,7 @@ pub record HasBlock (T : Types) (old new : ℕ → List ℕ) (fs n : ℕ) (inode
   pub after : List ℕ
   pub file : Ok after ≡ file_in new fs n
   pub size : word_at after 4 ≡ word_at inode 4
+  pub marks : SameMarks inode after
   pub here : file_block new after index ≡ block
   pub elsewhere : (i : ℕ) → i < 140 → i ≢ index → file_block new after i ≡ file_block old inode i
   pub home : ℕ
@@ -116,6 +117,7 @@ pub record IsRaised (old new : ℕ → List ℕ) (fs n : ℕ) (inode : List ℕ)
   pub after : List ℕ
   pub file : Ok after ≡ file_in new fs n
   pub sized : word_at after 4 ≡ max (word_at inode 4) size
+  pub marks : SameMarks inode after
   pub each : (at : ℕ) → at < 71680 → byte_of new after at ≡ byte_of old inode at
 
 abbrev pub RaisesSize : Types → ℕ → ℕ → ℕ → StoreState → StoreState → Type 0

@@ -7,6 +7,7 @@
 --     HasMore, MadeEntry         a directory has one entry more; it names a new inode
 --     MadeVolume                 a file system has a top directory
 --     byte_written, IsWritten    the bytes of a file after a write
+--     SameMarks                  an inode has its mode and its links
 --     WroteBytes, WrotePart      some bytes are written, or the first of them, and its size is as before
 --     IsAs, AsBefore             an inode is as before but for its links
 --     IsLinked, TookLink         it is, with so many links; it lost one, or is free
@@ -96,10 +97,15 @@ byte_written old offset bytes at = if nat_le offset at && nat_lt at (offset + le
 abbrev pub end_after : List ℕ → ℕ → ℕ → ℕ
 end_after inode offset count = if count == 0 then file_end inode else max (file_end inode) (offset + count)
 
+-- an inode has its mode and its links
+abbrev pub SameMarks : List ℕ → List ℕ → Type 0
+SameMarks inode after = (inode_mode after ≡ inode_mode inode) × (inode_links after ≡ inode_links inode)
+
 pub record IsWritten (old new : ℕ → List ℕ) (fs n : ℕ) (inode : List ℕ) (offset : ℕ) (bytes : List ℕ) : Type 0 where
   pub after : List ℕ
   pub file : Ok after ≡ file_in new fs n
   pub ends : file_end after ≡ end_after inode offset (length bytes)
+  pub marks : SameMarks inode after
   pub each : (at : ℕ) → at < 71680 → byte_of new after at ≡ byte_written (byte_of old inode) offset bytes at
 
 -- bytes are written into a file, and its size is as before
@@ -107,6 +113,7 @@ pub record WroteBytes (old new : ℕ → List ℕ) (fs n : ℕ) (inode : List �
   pub after : List ℕ
   pub file : Ok after ≡ file_in new fs n
   pub size : word_at after 4 ≡ word_at inode 4
+  pub marks : SameMarks inode after
   pub each : (at : ℕ) → at < 71680 → byte_of new after at ≡ byte_written (byte_of old inode) start bytes at
 
 -- the first of some bytes are written, and the size is as before
@@ -171,5 +178,6 @@ pub record MovedEntry (old new : ℕ → List ℕ) (fs d : ℕ) (entry : Slot) (
   pub renamed : d ≡ other → (inode : List ℕ) → Ok inode ≡ directory_in old fs d → HasRenamed old new fs d inode entry name
   pub others : (x : ℕ) → x ≢ d → x ≢ other → AsBefore old new fs x
   pub same : (x : ℕ) → x ≢ d → x ≢ other → x ≢ entry.inode → SameInode old new fs x
-  pub linked : entry.inode ≢ d → entry.inode ≢ other → (inode : List ℕ) → Ok inode ≡ inode_in old fs entry.inode → IsLinked old new fs entry.inode inode (inode_links inode)
+  pub linked : entry.inode ≢ d → entry.inode ≢ other → (inode : List ℕ) → Ok inode ≡ inode_in old fs entry.inode →
+      IsLinked old new fs entry.inode inode (inode_links inode)
   pub kept : d ≢ other → d ≢ entry.inode → inode_in new fs d ≡ inode_in old fs d

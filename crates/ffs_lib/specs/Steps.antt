@@ -260,11 +260,13 @@ pub record StopsTaking (T : Types) (fs : ℕ) (old new : StoreState) (n : ℕ) (
 -- an entry was to be cleared, and then a link taken
 abbrev pub StopsUnnaming : Types → ℕ → StoreState → StoreState → Slot → FfsFault → Type 0
 StopsUnnaming T fs old new slot fault =
-    ((new ≡ old) × Wants T old fs slot.block fault) ⊎ ((middle : StoreState) × Clearing (newest old) (newest middle) fs slot × StopsTaking T fs middle new slot.inode fault)
+    ((new ≡ old) × Wants T old fs slot.block fault)
+    ⊎ ((middle : StoreState) × Clearing (newest old) (newest middle) fs slot × StopsTaking T fs middle new slot.inode fault)
 
 abbrev pub StopsRemoving : Types → ℕ → StoreState → StoreState → ℕ → Slot → FfsFault → Type 0
 StopsRemoving T fs old new d entry fault =
-    ((new ≡ old) × Wants T old fs entry.block fault) ⊎ ((middle : StoreState) × Unlisted (newest old) (newest middle) fs d entry × StopsTaking T fs middle new entry.inode fault)
+    ((new ≡ old) × Wants T old fs entry.block fault)
+    ⊎ ((middle : StoreState) × Unlisted (newest old) (newest middle) fs d entry × StopsTaking T fs middle new entry.inode fault)
 
 -- a link was to be added, and then an entry written
 abbrev pub StopsNaming : Types → ℕ → StoreState → StoreState → ℕ → ℕ → FfsFault → Type 0
@@ -285,7 +287,8 @@ StopsNew T fs old new d mode n fault =
 -- before that a block of inodes, where no inode was free
 abbrev pub StopsMaking : Types → ℕ → StoreState → StoreState → ℕ → ℕ → FfsFault → Type 0
 StopsMaking T fs old new d mode fault =
-    StopsGrowing T fs old new fault ⊎ ((middle : StoreState) × (n : ℕ) × AllSame old middle fs × IsLowestNumber (newest old) fs n × StopsNew T fs middle new d mode n fault)
+    StopsGrowing T fs old new fault
+    ⊎ ((middle : StoreState) × (n : ℕ) × AllSame old middle fs × IsLowestNumber (newest old) fs n × StopsNew T fs middle new d mode n fault)
 
 -- The calls
 
@@ -296,11 +299,13 @@ Creates T fs d name mode old new result =
 
 abbrev pub Unlinks : Types → ℕ → ℕ → List ℕ → StoreState → StoreState → Result (Unit {0}) FfsFault → Type 0
 Unlinks T fs d name old new result =
-    Answers (unlink_in (newest old) fs d name) (λ entry _. Removed (newest old) (newest new) fs d entry) (λ entry fault. StopsRemoving T fs old new d entry fault) old new result
+    Answers (unlink_in (newest old) fs d name) (λ entry _. Removed (newest old) (newest new) fs d entry)
+    (λ entry fault. StopsRemoving T fs old new d entry fault) old new result
 
 abbrev pub Unmakes : Types → ℕ → ℕ → List ℕ → StoreState → StoreState → Result (Unit {0}) FfsFault → Type 0
 Unmakes T fs d name old new result =
-    Answers (rmdir_in (newest old) fs d name) (λ entry _. Removed (newest old) (newest new) fs d entry) (λ entry fault. StopsRemoving T fs old new d entry fault) old new result
+    Answers (rmdir_in (newest old) fs d name) (λ entry _. Removed (newest old) (newest new) fs d entry)
+    (λ entry fault. StopsRemoving T fs old new d entry fault) old new result
 
 abbrev pub Renames : Types → ℕ → ℕ → List ℕ → ℕ → List ℕ → StoreState → StoreState → Result (Unit {0}) FfsFault → Type 0
 Renames T fs d name other new_name old new result =

@@ -391,7 +391,7 @@ impl Volume {
         ensures others { OnlyChanges (latest (S.state_of store.old).lives) (latest (S.state_of store.new).lives) self.now.fs.number inode }
         ensures stage { (file : List ℕ) → Ok file ≡ file_in (latest (S.state_of store.old).lives) self.now.fs.number inode →
             OnErr result
-                (WrotePart (latest (S.state_of store.old).lives) (latest (S.state_of store.new).lives) self.now.fs.number inode file offset bytes.now) }
+            (WrotePart (latest (S.state_of store.old).lives) (latest (S.state_of store.new).lives) self.now.fs.number inode file offset bytes.now) }
         ensures keeps { IsVolume (S.types_of store.old) (S.state_of store.new) self.now }
     {
         let _ = find_file(store, self.fs, inode)?;

@@ -52,7 +52,7 @@ returns-clause-attached g c = λ lib h.
       exact,
       direct_attached T lib state new h c.args.fs.number c.args.fs.few c.args.number found c.in_ok-home.ensures.found exact bytes (ap length is ∙ c.bytes.ensures.whole) (ap inode_mode is ∙ ap (λ (x : Fields). x.mode) f) ((block, 2) ∷ []) None c.in_ok-propose.field-0
           (done_by T state new c.args.fs.number found.block _ (edit_at (64 * found.place) bytes ((block, 2) ∷ []) [] None) c.in_ok-propose.field-0 c.in_ok-edit.ensures c.in_ok-propose.ensures.state)
-          c.args.index block c.requires (ap (λ (b : List ℕ). (fields_of b).direct) is ∙ ap (λ (x : Fields). x.direct) f) (ap (λ (b : List ℕ). (fields_of b).indirect) is ∙ ap (λ (x : Fields). x.indirect) f)
+          (ap inode_links is ∙ ap (λ (x : Fields). x.links) f) c.args.index block c.requires (ap (λ (b : List ℕ). (fields_of b).direct) is ∙ ap (λ (x : Fields). x.direct) f) (ap (λ (b : List ℕ). (fields_of b).indirect) is ∙ ap (λ (x : Fields). x.indirect) f)
           (ap (λ (b : List ℕ). (fields_of b).size) is ∙ ap (λ (x : Fields). x.size) f),
     )
 

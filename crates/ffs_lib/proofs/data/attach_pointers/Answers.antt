@@ -56,7 +56,7 @@ returns-clause-attached g c = λ lib h bare apart.
       λ inode i none.
           let same = same_ok found.inode inode (exact ∙ sym i) in
           subst (λ (x : List ℕ). WroteBytes (latest state.lives) (latest new.lives) fs c.args.number x 0 []) same
-          (pointers_attached T lib state new h fs c.args.fs.few c.args.number found file exact bytes whole mode ((block, 5) ∷ []) None c.in_ok-propose.field-0 done block
+          (pointers_attached T lib state new h fs c.args.fs.few c.args.number found file exact bytes whole mode ((block, 5) ∷ []) None c.in_ok-propose.field-0 done (ap inode_links is ∙ ap (λ (x : Fields). x.links) f) block
           (ap (λ (b : List ℕ). (fields_of b).direct) is ∙ ap (λ (x : Fields). x.direct) f) (ap (λ (b : List ℕ). (fields_of b).indirect) is ∙ ap (λ (x : Fields). x.indirect) f)
           (ap (λ (b : List ℕ). (fields_of b).size) is ∙ ap (λ (x : Fields). x.size) f) bare home (ap (λ (x : List ℕ). word_at x 56) same ∙ none)),
       file_others T lib state new h fs c.args.fs.few c.args.number found file exact bytes whole mode ((block, 5) ∷ []) None c.in_ok-propose.field-0 done,

@@ -49,7 +49,7 @@ returns-in_ok-propose-clause-raised g c = λ lib array v.
     let mode = ap inode_mode is ∙ ap (λ (x : Fields). x.mode) f in
     let done = done_by T state new fs found.block _ (edit_at (64 * found.place) bytes [] [] (Some c.args.after)) c.in_ok-propose.field-0 c.in_ok-edit.ensures c.in_ok-propose.ensures.state in (
       λ inode i. subst (λ (x : List ℕ). IsRaised (latest state.lives) (latest new.lives) fs c.args.number x c.args.size) (same_ok found.inode inode (exact ∙ sym i))
-          (size_raised T lib state new v.consistent fs c.args.fs.few c.args.number found file exact bytes whole mode [] (Some c.args.after) c.in_ok-propose.field-0 done c.args.size
+          (size_raised T lib state new v.consistent fs c.args.fs.few c.args.number found file exact bytes whole mode [] (Some c.args.after) c.in_ok-propose.field-0 done (ap inode_links is ∙ ap (λ (x : Fields). x.links) f) c.args.size
           (ap (λ (b : List ℕ). (fields_of b).direct) is ∙ ap (λ (x : Fields). x.direct) f) (ap (λ (b : List ℕ). (fields_of b).indirect) is ∙ ap (λ (x : Fields). x.indirect) f)
           (ap (λ (b : List ℕ). (fields_of b).size) is ∙ ap (λ (x : Fields). x.size) f) (omega arith)),
       file_others T lib state new v.consistent fs c.args.fs.few c.args.number found file exact bytes whole mode [] (Some c.args.after) c.in_ok-propose.field-0 done,
