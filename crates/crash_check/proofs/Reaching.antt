@@ -15,7 +15,7 @@ inserted [] k v new = refl
 inserted (e ∷ es) k v new = by (nat_eq k e.0) refl (inserted es k v)
   where
     by : (b : Bool) → nat_eq k e.0 ≡ b → (list_any (nat_eq k) (keys_of es) ≡ false → insert_entry nat_eq es k v ≡ es ++ (k, v) ∷ [])
-      → insert_entry nat_eq (e ∷ es) k v ≡ (e ∷ es) ++ (k, v) ∷ []
+        → insert_entry nat_eq (e ∷ es) k v ≡ (e ∷ es) ++ (k, v) ∷ []
     by true same rest = absurd (true≢false (sym (ap (λ b. b || list_any (nat_eq k) (keys_of es)) same) ∙ new))
     by false other rest = rw (other) (ap (λ l. e ∷ l) (rest (sym (ap (λ b. b || list_any (nat_eq k) (keys_of es)) other) ∙ new)))
 

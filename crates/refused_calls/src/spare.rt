@@ -53,13 +53,20 @@ impl Programs {
     /// How many of 4 calls of the language do what they should.
     pub fn language(&self) -> u32 {
         let mut words = ArrayVec::<Word, 127>::new();
-        let is_read = decode_into(&self.bytes, &mut words).is_ok() && words.as_slice() == self.words.as_slice();
+        let is_read = decode_into(&self.bytes, &mut words).is_ok()
+            && words.as_slice() == self.words.as_slice();
         let is_judged = well_formed(&self.words).is_ok() && judge(&self.words, Role::Owns).is_ok();
         let mut pairs = ArrayVec::<Pair, 128>::new();
-        let is_owner = self.owns.role() == Role::Owns && {
-            owns(&self.owns, &[1; 512], &mut pairs);
-            pairs.as_slice() == [Pair { block: 0x0101_0101, ty: 3 }].as_slice()
-        };
+        let is_owner = self.owns.role() == Role::Owns
+            && {
+                owns(&self.owns, &[1; 512], &mut pairs);
+                pairs.as_slice()
+                    == [Pair {
+                        block: 0x0101_0101,
+                        ty: 3,
+                    }]
+                    .as_slice()
+            };
         let is_sized = self.size.role() == Role::Size && size(&self.size, &[1; 512]) == 4;
         count([is_read, is_judged, is_owner, is_sized])
     }
@@ -80,7 +87,12 @@ impl Programs {
 
     /// How many of 4 calls of templates do what they should.
     pub fn templates(self) -> u32 {
-        let Programs { owns, size, mut table, .. } = self;
+        let Programs {
+            owns,
+            size,
+            mut table,
+            ..
+        } = self;
         let Some(template) = Template::new(owns, size) else {
             return 0;
         };
@@ -151,10 +163,11 @@ impl Blocks {
         let is_written = is_written(&mut self.kernel, 3);
         let is_drained = is_drained(&mut self.kernel, 1);
         let mut lanes = self.kernel.into_lanes();
-        let is_home = lanes.blocks() == 32 && match lanes.take(3) {
-            Some(lane) => lane.bytes() == &[3; 512] && lanes.give(lane).is_ok(),
-            None => false,
-        };
+        let is_home = lanes.blocks() == 32
+            && match lanes.take(3) {
+                Some(lane) => lane.bytes() == &[3; 512] && lanes.give(lane).is_ok(),
+                None => false,
+            };
         count([is_forgotten, is_written, is_drained, is_home])
     }
 }
@@ -180,7 +193,11 @@ fn is_drained(kernel: &mut Kernel<MemLane>, right: u32) -> bool {
     match kernel.drain() {
         Ok(writes) => writes == right,
         Err(stop) => {
-            let DrainStop { writes: _, ticket, refusal: _ } = stop;
+            let DrainStop {
+                writes: _,
+                ticket,
+                refusal: _,
+            } = stop;
             if let Some(ticket) = ticket {
                 let _lane = ticket.into_lane();
             }

@@ -86,14 +86,13 @@ fn a_mount_syncs_and_reads_each_lane_by_rising_number(rt: HostRuntime) -> Result
     let Ok(kernel) = mount(&rt, rt.alloc(), lanes, 1) else {
         return Err("no mount".into());
     };
-    let mut turns = 0u64;
-    for block in 0..32 {
+    for block in 0..32u32 {
         let lane = kernel.lane(block).ok_or("no lane")?;
-        assert_eq!(rt; lane.synced_at, Some(turns));
-        assert_eq!(rt; lane.read_at, Some(turns + 1));
-        turns += 2;
+        let turn = 2 * u64::from(block);
+        assert_eq!(rt; lane.synced_at, Some(turn));
+        assert_eq!(rt; lane.read_at, Some(turn + 1));
     }
     let lane = kernel.lane(0).ok_or("no lane")?;
-    assert_eq!(rt; lane.count.load(Ordering::SeqCst), turns);
+    assert_eq!(rt; lane.count.load(Ordering::SeqCst), 64);
     Ok(())
 }
