@@ -1,18 +1,13 @@
 // Makes a volume and a file on fresh disks, each with a crash after another count of writes, and looks at what the crash leaves; then some
-// values. What finds no memory is made again. So this prints the same where any one request for memory is refused. Last come calls that take
-// no memory, and a line before them: they do what they should also where every request from there on is refused. `tools/refused_memory`
-// tries both.
+// values. What finds no memory is made again. So this prints the same where any one request for memory is refused; `tools/refused_memory` tries that.
 #![tactic(auto)]
 
-mod clients;
 mod images;
-mod spare;
 mod tally;
 mod values;
 
 use ffs_lib::Fs;
 use images::left_by;
-use spare::{Blocks, Programs, floor_with_reader, floors};
 use std::alloc::{AllocError, Global};
 use std::io;
 use std::thread::Threads;
@@ -43,29 +38,6 @@ fn tally_of(
     Ok(tally)
 }
 
-/// Tries the calls that take no memory. What they need is made before the line that tells of them, and again where there was no memory
-/// for it.
-fn print_spare<R: Threads + Print + Sync>(rt: &R, alloc: Global) -> io::Result<()> {
-    let programs = Programs::new(alloc).or(Programs::new(alloc));
-    let programs = programs.ok_or(AllocError)?;
-    let blocks = Blocks::new(rt, alloc).or(Blocks::new(rt, alloc));
-    let blocks = blocks.ok_or(AllocError)?;
-    let (floor, publisher, reader) = match floor_with_reader(alloc) {
-        Some(made) => made,
-        None => floor_with_reader(alloc).ok_or(AllocError)?,
-    };
-    println!(rt; "calls that take no memory:")?;
-    let language = programs.language();
-    let root = programs.root_block();
-    let templates = programs.templates();
-    println!(rt; "of the language {language} of 4, of block 0 {root}, of templates {templates}")?;
-    let (looks, counts) = (blocks.looks(), blocks.counts());
-    let changes = blocks.changes();
-    println!(rt; "of the store: looks {looks} of 4, counts {counts}, changes {changes}")?;
-    let floors = floors(&floor, publisher, reader);
-    println!(rt; "of a floor: looks {floors} of 4")
-}
-
 fn main(rt: HostRuntime) -> io::Result<()> {
     let (Some(first), Some(second)) = (Fs::new(0), Fs::new(1)) else {
         return Ok(());
@@ -78,6 +50,5 @@ fn main(rt: HostRuntime) -> io::Result<()> {
         println!(rt; "nothing without a write: {begins}, a file in the end: {ends}")?;
     }
     let right = right_values(&rt, rt.alloc());
-    println!(rt; "values that are right: {right} of 5")?;
-    print_spare(&rt, rt.alloc())
+    println!(rt; "values that are right: {right} of 4")
 }
