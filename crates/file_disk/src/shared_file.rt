@@ -7,7 +7,6 @@ ghost use Rattle.std.specs.Prelude.{◌≡◌, ◌≤◌, ◌*◌, IfSome};
 
 use disk::BLOCK_LEN;
 use std::fs::File;
-use std::os::fd::AsRawFd;
 use std::os::unix::fs::FileExt;
 use std::sync::Mutex;
 use std::sync::atomic::{AtomicBool, AtomicU64, Ordering};
@@ -57,14 +56,9 @@ impl GoodSync {
 }
 
 impl SharedFile {
-    /// Settles what the system holds of a file, and lets it forget its copies, so that what is read next comes from the
-    /// drive: a failed sync of an earlier process may have left copies that the drive does not have.
+    /// Settles what the system holds of a file.
     pub(crate) fn new(file: File) -> io::Result<(SharedFile, GoodSync)> {
         file.sync_all()?;
-        let advised = libc::posix_fadvise(file.as_raw_fd(), 0, 0, libc::POSIX_FADV_DONTNEED);
-        if advised != 0 {
-            return Err(io::Error::from_raw_os_error(advised));
-        }
         Ok((SharedFile::never_synced(file), GoodSync { number: 0 }))
     }
 
