@@ -6,5 +6,5 @@ pub use Rattle.templates.proofs.Installed.{language_none, language_ok, language_
 pub use Rattle.templates.proofs.Meanings.{tables_are_catalogues}
 pub use Rattle.templates.proofs.OneSpelling.{blocks_are_templates}
 pub use Rattle.templates.proofs.Ranges.{range-more}
-pub use Rattle.templates.proofs.TablePlaces.{at_place}
+pub use Rattle.templates.proofs.TablePlaces.{at_place, tells}
 pub use Rattle.templates.proofs.WordsWritten.{drop-zeros}

@@ -4,6 +4,7 @@ use Rattle.std.specs.Prelude.{Option, Some, None, is_some, IsTrue, IsSomeAnd, ma
 use Rattle.std.proofs.lemmas.Bool.{lt-ltb, le-ltb, ne_eqb, cases_eq, false≢true}
 use Rattle.std.proofs.lemmas.Option.{same_Some, none-some}
 use Rattle.std.proofs.lemmas.List.{get_or-set_same, get_or-set_other, length-set, length-replicate}
+use Rattle.xn_model.specs.Types.{Types}
 use Rattle.udf_verify.specs.Program.{Program, tree}
 use Rattle.udf_run.specs.declared.pair.Pair.{Pair}
 use Rattle.udf_run.specs.Meaning.{Machine, meaning, reset}
@@ -12,7 +13,7 @@ use Rattle.templates.specs.Decided.{DecidesOwned}
 use Rattle.templates.specs.Templates.{TemplateValue, IsTemplate}
 use Rattle.templates.specs.BuiltIns.{root_template, leaf_template, built_in}
 use Rattle.templates.specs.Meaning.{pair_of, pairs_after, answer_after, owned_by, answer_of}
-use Rattle.templates.specs.Tables.{TableValue, IsTable, template_of, owned_under, size_under, types_of}
+use Rattle.templates.specs.Tables.{TableValue, IsTable, TellsTemplate, template_of, owned_under, size_under, types_of}
 
 module _ (table : TableValue) (t : ℕ) where
   pub at_root : (root : TemplateValue) → root ≡ root_template → t ≡ 0 → Some root ≡ template_of table t
@@ -29,6 +30,16 @@ module _ (table : TableValue) (t : ℕ) where
   pub at_place : 3 ≤ t → get_or table (t - 3) None ≡ template_of table t
   unfolding template_of
   at_place le = sym (ap (λ b. cond b (Some (built_in t)) (get_or table (t - 3) None)) (le-ltb t 3 le))
+
+-- What a look-up in a table tells of its types
+
+under_table : (table : TableValue) (t : ℕ) (found : Option TemplateValue) → template_of table t ≡ found → TellsTemplate (types_of table) t found
+unfolding types_of
+under_table table t (Some x) e = record { installed = ap is_some e; owned = λ m. ap (λ o. owned_under o m) e; size = λ m. ap (λ o. size_under o m) e }
+under_table table t None e = ap is_some e
+
+pub tells : (table : TableValue) (T : Types) (t : ℕ) (found : Option TemplateValue) → found ≡ template_of table t → types_of table ≡ T → TellsTemplate T t found
+tells table T t found e same = subst (λ U. TellsTemplate U t found) same (under_table table t found (sym e))
 
 -- A table without templates, and one more template in a table
 

@@ -1,5 +1,5 @@
 -- A table has the templates of all types. Types 0 to 2 are built in, and type 3 + i stands at place i of the catalogue.
-use Rattle.std.specs.Prelude.{◌≡◌, ℕ, ◌-◌, ◌==◌, nat_lt, if◌then◌else◌, List, [], map, length, slice_index_or, replicate, Option, Some, None, is_some, is_ok}
+use Rattle.std.specs.Prelude.{◌≡◌, ℕ, ◌-◌, ◌==◌, nat_lt, if◌then◌else◌, IsTrue, false, List, [], map, length, slice_index_or, replicate, Option, Some, None, is_some, is_ok}
 use Rattle.std.specs.Option.{ForSome}
 use Rattle.std.specs.Result.{result_ok}
 use Rattle.std.specs.List.{range_with_len}
@@ -51,3 +51,14 @@ template_named content block = if block == 0 then None else result_ok (template_
 -- the table that the catalogue in block 0 names
 unfoldable pub table_of_image : (ℕ → List ℕ) → TableValue
 table_of_image content = map (λ i. template_named content (pointer (content 0) i)) (range_with_len 0 16)
+
+-- type t is installed, with the meaning of a template
+pub record HasTemplate (T : Types) (t : ℕ) (template : TemplateValue) : Type 0 where
+  pub installed : IsTrue (T.installed t)
+  pub owned : (m : List ℕ) → T.owned t m ≡ owned_by template.owns m
+  pub size : (m : List ℕ) → T.size t m ≡ answer_of template.size m
+
+-- what a look-up of a type's template tells: none where the type is not installed
+abbrev pub TellsTemplate : Types → ℕ → Option TemplateValue → Type 0
+TellsTemplate T t (Some template) = HasTemplate T t template
+TellsTemplate T t None = T.installed t ≡ false

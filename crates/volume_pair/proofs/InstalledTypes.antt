@@ -16,7 +16,8 @@ use Rattle.templates.specs.Templates.{TemplateValue}
 use Rattle.templates.proofs.ForCallers.{language_ok}
 use Rattle.xn_state.specs.States.{own_types}
 use Rattle.world.specs.Worlds.{WorldValue, world_with}
-use Rattle.volume_pair.specs.LibraryTypes.{IsInstalledAt, SaysType}
+use Rattle.templates.specs.Tables.{HasTemplate}
+use Rattle.volume_pair.specs.LibraryTypes.{IsInstalledAt}
 
 record IsDone (w w' : World) (m : List ℕ) (i : ℕ) : Type 0 where
   pub made : ℕ × ℕ × ℕ
@@ -40,7 +41,7 @@ done w w' m r i s told = elim s [
     go false (Ok g) e a b = record { made = g.0; new = g.1; is = e; type = subst (λ y. IsInstalledAt y i) a told; after = ap (λ (x : World). x.state) b }
     go false (Err f) e a b = absurd (subst (λ y. IsInstalledAt y i) a told)
 
-says : (content : ℕ → List ℕ) (ty : ℕ) (t : TemplateValue) → template_of language content ty ≡ Some (meaning_of t) → SaysType (types_in language content) ty t
+says : (content : ℕ → List ℕ) (ty : ℕ) (t : TemplateValue) → template_of language content ty ≡ Some (meaning_of t) → HasTemplate (types_in language content) ty t
 unfolding types_in
 says content ty t e = record { installed = ap is_some e; owned = λ m. ap (λ o. owned_under o m) e; size = λ m. ap (λ o. size_under o m) e }
 
@@ -51,7 +52,7 @@ module _ (old new : WorldValue) (m : List ℕ) (whole : length m ≡ 512) (r : R
   pub rootless_still : (fs : ℕ) → fs < 32 → HasNoRoot old.state.lives fs → HasNoRoot new.state.lives fs
   rootless_still fs few none = rootless_from fs old.state.lives new.state.lives (event_cuts fs (world_with old) (Install m) r (world_with new) whole h s tt).0 none
 
-  pub type_says : (t : TemplateValue) (i : ℕ) → template_of_bytes m ≡ Ok t → IsInstalledAt r i → SaysType (own_types new.state) (3 + i) t
+  pub type_says : (t : TemplateValue) (i : ℕ) → template_of_bytes m ≡ Ok t → IsInstalledAt r i → HasTemplate (own_types new.state) (3 + i) t
   type_says t i read told =
       let d = done (world_with old) (world_with new) m r i s told in
       let made : template_of language (latest new.state.lives) (3 + i) ≡ language m =

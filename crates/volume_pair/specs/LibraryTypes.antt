@@ -1,10 +1,9 @@
 -- The library's types on a store that runs.
 --     library_types            those of its three templates alone
 --     IsLibraryType T t        one of them is installed, with its meaning
---     SaysType T t template    a type is installed, with the meaning of a template
 --     IsInstalledAt reply i    a template was installed at place i of the catalogue
 --     IsRemounted value        nothing is pending, and what block 0 on the disk names of types 3 to 5 is the library's
-use Rattle.std.specs.Prelude.{◌≡◌, ◌≤◌, ◌+◌, ℕ, List, [], Some, IsTrue}
+use Rattle.std.specs.Prelude.{◌≡◌, ◌≤◌, ◌+◌, ℕ, [], Some, IsTrue}
 use Rattle.xn_model.specs.Types.{Types}
 use Rattle.xn_model.specs.Root.{has_type}
 use Rattle.xn_model.specs.Images.{block_of}
@@ -12,9 +11,7 @@ use Rattle.xn_model.specs.Lives.{Life, life_at}
 use Rattle.xn_model.specs.Calls.{latest}
 use Rattle.xn_model.specs.Worlds.{Reply, Installed}
 use Rattle.templates.specs.Formats.{table_of}
-use Rattle.templates.specs.Meaning.{owned_by, answer_of}
 use Rattle.templates.specs.Tables.{types_of}
-use Rattle.templates.specs.Templates.{TemplateValue}
 use Rattle.ffs_format.specs.Library.{file_system_templates}
 use Rattle.xn_state.specs.States.{own_types}
 use Rattle.world.specs.Worlds.{WorldValue}
@@ -26,11 +23,6 @@ pub record IsLibraryType (T : Types) (t : ℕ) : Type 0 where
   pub installed : IsTrue (T.installed t)
   pub owned : T.owned t ≡ library_types.owned t
   pub size : T.size t ≡ library_types.size t
-
-pub record SaysType (T : Types) (t : ℕ) (template : TemplateValue) : Type 0 where
-  pub installed : IsTrue (T.installed t)
-  pub owned : (m : List ℕ) → T.owned t m ≡ owned_by template.owns m
-  pub size : (m : List ℕ) → T.size t m ≡ answer_of template.size m
 
 abbrev pub IsInstalledAt : Reply → ℕ → Type 0
 IsInstalledAt (Installed ty block first second) i = ty ≡ 3 + i

@@ -1,7 +1,5 @@
 // Stores whose blocks are written.
 
-ghost use Rattle.std.specs.Prelude.{◌≡◌};
-ghost use Rattle.xn_model.specs.Calls.{pending_of};
 ghost use Rattle.volume_pair.specs.Kept.{Stays};
 
 use world::{Answer, Call, Event, Reply, Running};
@@ -12,10 +10,6 @@ pub trait Disk: Store {
     /// Writes all that is pending, and answers how many writes it took; `None` where it was refused.
     fn drain(&mut self, fs: Fs) -> Option<u32>
         ensures { Stays (Self.types_of self.old) (Self.state_of self.old) (Self.types_of self.new) (Self.state_of self.new) };
-
-    /// How many pending entries count for a file system.
-    fn pending(&self, fs: Fs) -> u32
-        ensures { result ≡ pending_of (Self.state_of self.now) fs.number };
 
     /// The least pending entry of a file system, or the next number to be given.
     fn floor(&self, fs: Fs) -> u64;
@@ -37,10 +31,6 @@ impl Disk for Running {
         self.rules();
         let event = Event::Call(fs, Call::Drain);
         writes_of(self.step(&event))
-    }
-
-    fn pending(&self, fs: Fs) -> u32 {
-        Running::pending(self, fs)
     }
 
     fn floor(&self, fs: Fs) -> u64 {

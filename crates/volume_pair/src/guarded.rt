@@ -14,6 +14,7 @@ use ffs_lib::{EditId, Fs, Volume};
 use std::alloc::Global;
 use std::marker::Model;
 use std::thread::Threads;
+use templates::Template;
 use world::{Event, Reply, Running};
 use xn_model::Refusal;
 use xn_state::{Edit, Store};
@@ -161,6 +162,14 @@ impl<S: Disk> Store for Guarded<S> {
         self.store.root(fs)
     }
 
+    fn template(&self, ty: u32) -> Option<&Template> {
+        self.store.template(ty)
+    }
+
+    fn pending(&self, fs: Fs) -> u32 {
+        self.store.pending(fs)
+    }
+
     fn kind(&self, fs: Fs, block: u32) -> Result<u32, Refusal> {
         self.store.kind(fs, block)
     }
@@ -169,10 +178,6 @@ impl<S: Disk> Store for Guarded<S> {
 impl<S: Disk> Disk for Guarded<S> {
     fn drain(&mut self, fs: Fs) -> Option<u32> {
         self.store.drain(fs)
-    }
-
-    fn pending(&self, fs: Fs) -> u32 {
-        self.store.pending(fs)
     }
 
     fn floor(&self, fs: Fs) -> u64 {

@@ -45,10 +45,6 @@ impl Disk for Kernel<MemLane> {
         writes_of(drained)
     }
 
-    fn pending(&self, fs: Fs) -> u32 {
-        Kernel::pending(self, fs)
-    }
-
     fn floor(&self, fs: Fs) -> u64 {
         Kernel::floor(self, fs)
     }

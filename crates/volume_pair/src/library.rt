@@ -5,11 +5,12 @@ ghost use Rattle.xn_model.specs.Languages.{Extends};
 ghost use Rattle.xn_model.specs.Root.{has_type};
 ghost use Rattle.ffs_model.specs.Library.{library_layout};
 ghost use Rattle.ffs_model.specs.Volumes.{HasNoRoot, VolumeKeeps, no_edits};
+ghost use Rattle.templates.specs.Tables.{HasTemplate};
 ghost use Rattle.ffs_format.specs.Library.{file_system_templates};
 ghost use Rattle.xn_state.specs.States.{own_types};
 ghost use Rattle.events.specs.Events.{reply_of};
 ghost use Rattle.volume_pair.specs.Kept.{HasLibrary};
-ghost use Rattle.volume_pair.specs.LibraryTypes.{IsInstalledAt, IsLibraryType, IsRemounted, SaysType};
+ghost use Rattle.volume_pair.specs.LibraryTypes.{IsInstalledAt, IsLibraryType, IsRemounted};
 
 use ffs_format::law::templates_are_the_librarys;
 use ffs_format::templates;
@@ -52,7 +53,7 @@ fn is_installed_at(reply: &Reply, place: usize) -> bool
 /// Installs a template; whether it has this place of the catalogue then.
 fn install_at(running: &mut Running, template: &Template, place: usize) -> bool
     requires { place < 3 }
-    ensures says { IsTrue result → SaysType (own_types running.new.state) (3 + place) template.now }
+    ensures says { IsTrue result → HasTemplate (own_types running.new.state) (3 + place) template.now }
     ensures more { Extends (own_types running.old.state) (own_types running.new.state) }
     ensures rootless { (fs : ℕ) → fs < 32 → HasNoRoot running.old.state.lives fs → HasNoRoot running.new.state.lives fs }
 {

@@ -36,10 +36,6 @@ impl<K: Naming> Disk for Hub<MemLane, K> {
         writes_of(drained)
     }
 
-    fn pending(&self, fs: Fs) -> u32 {
-        Hub::pending(self, fs)
-    }
-
     fn floor(&self, fs: Fs) -> u64 {
         Hub::floor(self, fs)
     }

@@ -14,6 +14,7 @@ use events::{Event, Reply};
 use std::alloc::{AllocError, Global};
 use std::marker::Model;
 use std::thread::Threads;
+use templates::Template;
 use xn_model::Refusal;
 use xn_state::{Edit, EditId, Fs, Store};
 
@@ -173,6 +174,16 @@ impl Store for Running {
     fn root(&self, fs: Fs) -> Option<u32> {
         self.disk.rules();
         self.disk.root(fs)
+    }
+
+    fn template(&self, ty: u32) -> Option<&Template> {
+        self.disk.rules();
+        self.disk.template(ty)
+    }
+
+    fn pending(&self, fs: Fs) -> u32 {
+        self.disk.rules();
+        self.disk.pending(fs)
     }
 
     fn kind(&self, fs: Fs, block: u32) -> Result<u32, Refusal> {

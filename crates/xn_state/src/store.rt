@@ -4,10 +4,13 @@ ghost use Rattle.std.specs.Prelude.{◌≡◌};
 ghost use Rattle.xn_model.specs.Types.{Types};
 ghost use Rattle.xn_model.specs.Lives.{StoreState};
 ghost use Rattle.xn_model.specs.Results.{Gives, GivesExactly, Lends};
-ghost use Rattle.xn_model.specs.Calls.{init_of, propose_of, make_root_of, forget_of, read_of, root_of, kind_of};
+ghost use Rattle.std.specs.Option.{option_copied};
+ghost use Rattle.xn_model.specs.Calls.{init_of, propose_of, make_root_of, forget_of, read_of, root_of, kind_of, pending_of};
 ghost use Rattle.xn_model.specs.Rules.{IsConsistent};
+ghost use Rattle.templates.specs.Tables.{TellsTemplate};
 
 use edit_list::{Edit, EditId, Fs};
+use templates::Template;
 use xn_model::Refusal;
 
 /// A store, as a library sees it that keeps files in it. Every call keeps its types and its rules, and a refusal changes
@@ -51,6 +54,16 @@ pub trait Store {
     /// The block in the file system's root slot, as block 0's newest state has it; `None` where the slot is empty.
     fn root(&self, fs: Fs) -> Option<u32>
         ensures block { result ≡ root_of (state_of self.now) fs.number }
+        ensures rules { IsConsistent (types_of self.now) (state_of self.now) };
+
+    /// The template of a type, or `None` where the type is not installed.
+    fn template(&self, ty: u32) -> Option<&Template>
+        ensures template { TellsTemplate (types_of self.now) ty (option_copied result) }
+        ensures rules { IsConsistent (types_of self.now) (state_of self.now) };
+
+    /// How many pending entries of all blocks count for the file system.
+    fn pending(&self, fs: Fs) -> u32
+        ensures pending { result ≡ pending_of (state_of self.now) fs.number }
         ensures rules { IsConsistent (types_of self.now) (state_of self.now) };
 
     /// The type of a block of the file system.

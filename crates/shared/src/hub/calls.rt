@@ -4,6 +4,7 @@ ghost use Rattle.std.specs.Prelude.{◌≡◌, ◌≢◌, Option, Some, None, Re
 ghost use Rattle.xn_model.specs.Results.{Gives, GivesExactly, Lends, result_map};
 ghost use Rattle.xn_model.specs.Calls.{init_of, make_root_of, drop_root_of, propose_of, forget_of, begun_of, read_of, kind_of, root_of, tainted_of, pending_of, floor_of, free_of, pick_of};
 ghost use Rattle.xn_state.specs.declared.call.Call.TheVariants.{Drain};
+ghost use Rattle.templates.specs.Tables.{TellsTemplate};
 ghost use Rattle.xn_state.specs.Answers.{Answers};
 ghost use Rattle.xn_model.specs.Lives.{StoreState};
 ghost use Rattle.xn_state.specs.States.{own_types};
@@ -13,6 +14,7 @@ ghost use Rattle.shared.specs.Hubs.{HubValue, with_store};
 use crate::hub::Hub;
 use disk::Lane;
 use durable_floor::Naming;
+use templates::Template;
 use xn_kernel::{Answer, Call, Edit, EditId, Fs, Refusal, Ticket};
 
 impl<L: Lane, K: Naming> Hub<L, K> {
@@ -103,6 +105,13 @@ impl<L: Lane, K: Naming> Hub<L, K> {
         ensures { result ≡ tainted_of self.now.kernel.state block }
     {
         self.kernel.tainted(block)
+    }
+
+    /// The template of a type, or `None` where the type is not installed.
+    pub fn template(&self, ty: u32) -> Option<&Template>
+        ensures { TellsTemplate (own_types self.now.kernel.state) ty (option_copied result) }
+    {
+        self.kernel.template(ty)
     }
 
     /// How many pending entries count for the file system.

@@ -7,6 +7,7 @@ ghost use Rattle.xn_state.specs.States.{own_types};
 use crate::hub::Hub;
 use disk::Lane;
 use durable_floor::Naming;
+use templates::Template;
 use xn_kernel::{Edit, EditId, Fs, Refusal, Store};
 
 impl<L: Lane, K: Naming> Hub<L, K> {
@@ -61,6 +62,16 @@ impl<L: Lane, K: Naming> Store for Hub<L, K> {
     fn root(&self, fs: Fs) -> Option<u32> {
         self.keeps_rules();
         Hub::root(self, fs)
+    }
+
+    fn template(&self, ty: u32) -> Option<&Template> {
+        self.keeps_rules();
+        Hub::template(self, ty)
+    }
+
+    fn pending(&self, fs: Fs) -> u32 {
+        self.keeps_rules();
+        Hub::pending(self, fs)
     }
 
     fn kind(&self, fs: Fs, block: u32) -> Result<u32, Refusal> {

@@ -1,12 +1,15 @@
 // The calls of a store, made of the kernel of a mounted disk.
 
 ghost use Rattle.std.specs.Prelude.{◌≡◌};
+ghost use Rattle.std.specs.Option.{option_copied};
 ghost use Rattle.xn_model.specs.Results.{Gives, GivesExactly, Lends};
 ghost use Rattle.xn_model.specs.Calls.{init_of, propose_of, make_root_of, forget_of, read_of, root_of, kind_of, pending_of, floor_of, free_of, pick_of};
+ghost use Rattle.templates.specs.Tables.{TellsTemplate};
 ghost use Rattle.xn_state.specs.States.{own_types};
 ghost use Rattle.world.specs.Worlds.{WorldValue};
 
 use crate::mounted::MountedDisk;
+use templates::Template;
 use xn_model::Refusal;
 use xn_state::{Edit, EditId, Fs};
 
@@ -67,6 +70,13 @@ impl MountedDisk {
         ensures { result ≡ kind_of self.now.state fs.number block }
     {
         self.kernel.kind(fs, block)
+    }
+
+    /// The template of a type, or `None` where the type is not installed.
+    pub(crate) fn template(&self, ty: u32) -> Option<&Template>
+        ensures { TellsTemplate (own_types self.now.state) ty (option_copied result) }
+    {
+        self.kernel.template(ty)
     }
 
     /// How many pending entries count for the file system.

@@ -2,10 +2,14 @@
 
 ghost use Rattle.std.specs.Prelude.{◌≡◌};
 ghost use Rattle.xn_model.specs.Results.{Lends};
+ghost use Rattle.std.specs.Option.{option_copied};
 ghost use Rattle.xn_model.specs.Calls.{read_of, kind_of, root_of, pending_of, tainted_of, free_of, pick_of};
+ghost use Rattle.templates.specs.Tables.{TellsTemplate};
+ghost use Rattle.xn_state.specs.States.{own_types};
 
 use crate::kernel::Kernel;
 use disk::Lane;
+use templates::Template;
 use xn_state::{Fs, Refusal};
 
 impl<L: Lane> Kernel<L> {
@@ -30,6 +34,13 @@ impl<L: Lane> Kernel<L> {
         ensures { result ≡ root_of self.now.state fs.number }
     {
         self.state.root(fs)
+    }
+
+    /// The template of a type, or `None` where the type is not installed.
+    pub fn template(&self, ty: u32) -> Option<&Template>
+        ensures { TellsTemplate (own_types self.now.state) ty (option_copied result) }
+    {
+        self.state.template(ty)
     }
 
     /// How many pending entries of all blocks count for the file system.

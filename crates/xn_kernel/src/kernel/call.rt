@@ -10,6 +10,7 @@ ghost use Rattle.xn_kernel.specs.Kernels.{KernelValue};
 
 use crate::kernel::Kernel;
 use disk::Lane;
+use templates::Template;
 use xn_state::{Answer, Call, Edit, EditId, Fs, Refusal, Store};
 
 impl<L: Lane> Kernel<L> {
@@ -82,6 +83,16 @@ impl<L: Lane> Store for Kernel<L> {
     fn root(&self, fs: Fs) -> Option<u32> {
         self.rules();
         Kernel::root(self, fs)
+    }
+
+    fn template(&self, ty: u32) -> Option<&Template> {
+        self.rules();
+        Kernel::template(self, ty)
+    }
+
+    fn pending(&self, fs: Fs) -> u32 {
+        self.rules();
+        Kernel::pending(self, fs)
     }
 
     fn kind(&self, fs: Fs, block: u32) -> Result<u32, Refusal> {

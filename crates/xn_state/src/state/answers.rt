@@ -2,11 +2,14 @@
 
 ghost use Rattle.std.specs.Prelude.{◌≡◌};
 ghost use Rattle.xn_model.specs.Results.{Lends};
+ghost use Rattle.std.specs.Option.{option_copied};
 ghost use Rattle.xn_model.specs.Calls.{read_of, kind_of, root_of, pending_of};
+ghost use Rattle.templates.specs.Tables.{TellsTemplate};
+ghost use Rattle.xn_state.specs.States.{own_types};
 
 use crate::state::State;
 use edit_list::Fs;
-use templates::root_slot;
+use templates::{Template, root_slot};
 use xn_model::Refusal;
 
 impl State {
@@ -43,6 +46,13 @@ impl State {
         } else {
             Some(slot.block)
         }
+    }
+
+    /// The template of a type, or `None` where the type is not installed.
+    pub fn template(&self, ty: u32) -> Option<&Template>
+        ensures { TellsTemplate (own_types self.now) ty (option_copied result) }
+    {
+        self.types().get(ty)
     }
 
     /// How many pending entries of all blocks count for the file system.
