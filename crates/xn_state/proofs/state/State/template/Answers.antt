@@ -3,5 +3,5 @@ use Rattle.templates.proofs.ForCallers.{tells}
 use Rattle.xn_state.specs.States.{own_types}
 use Rattle.xn_state.proofs.state.State.template.Goals as goal
 
-pub returns-clause : goal.returns-clause
-returns-clause c = tells c.types.result.now (own_types c.args.self.now) c.args.ty (option_copied c.get.result) c.get.ensures.value c.types.ensures
+pub returns : goal.returns
+returns c = tells c.types.result.now (own_types c.args.self.now) c.args.ty (option_copied c.get.result) c.get.ensures.value c.types.ensures
