@@ -1,6 +1,6 @@
 -- The blocks of the library's file system spell its templates.
-use Rattle.std.proofs.Common.{◌≡◌, ◌-◌, List, [], ◌∷◌, ◌++◌, length, refl, sym, ◌∙◌}
-use Rattle.std.specs.Prelude.{Result, Ok}
+use Rattle.std.proofs.Common.{◌≡◌, ◌-◌, List, [], ◌∷◌, ◌++◌, length, ap, refl, sym, ◌∙◌}
+use Rattle.std.specs.Prelude.{Result, Ok, Some, slice_get}
 use Rattle.xn_model.specs.BareDisks.{zeros}
 use Rattle.templates.specs.declared.fault.TemplateFault.{TemplateFault}
 use Rattle.templates.specs.Templates.{TemplateValue}
@@ -32,3 +32,13 @@ three_known items a b c are root inodes pointers =
     let second : b ≡ inode_template = same_Ok b inode_template (sym inodes ∙ inode_block) in
     let third : c ≡ pointer_template = same_Ok c pointer_template (sym pointers ∙ pointer_block) in
     cc
+
+-- one template that is read from one of them
+pub root_known : (t : TemplateValue) → template_of_bytes (ROOT ++ zeros (512 - length ROOT)) ≡ Ok t → slice_get file_system_templates 0 ≡ Some t
+root_known t e = ap (λ x. Some x) (same_Ok root_template t (sym root_block ∙ e))
+
+pub inodes_known : (t : TemplateValue) → template_of_bytes (INODES ++ zeros (512 - length INODES)) ≡ Ok t → slice_get file_system_templates 1 ≡ Some t
+inodes_known t e = ap (λ x. Some x) (same_Ok inode_template t (sym inode_block ∙ e))
+
+pub pointers_known : (t : TemplateValue) → template_of_bytes (POINTERS ++ zeros (512 - length POINTERS)) ≡ Ok t → slice_get file_system_templates 2 ≡ Some t
+pointers_known t e = ap (λ x. Some x) (same_Ok pointer_template t (sym pointer_block ∙ e))

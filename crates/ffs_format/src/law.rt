@@ -1,11 +1,12 @@
 // Laws of the layout.
 
-ghost use Rattle.std.specs.Prelude.{◌≡◌, ◌≢◌, ◌↔◌, ◌<◌, ◌≤◌, ◌^◌, ◌*◌, ℕ, List, IsTrue, Some, length, map, take, ◌++◌};
+ghost use Rattle.std.specs.Prelude.{◌≡◌, ◌≢◌, ◌↔◌, ◌<◌, ◌≤◌, ◌^◌, ◌+◌, ◌*◌, ℕ, List, IsTrue, Some, length, map, take, slice_get, ◌++◌};
 ghost use Rattle.std.specs.Int.{w32, to_le_bytes};
 ghost use Rattle.xn_model.specs.Lists.{put};
+ghost use Rattle.xn_model.specs.Types.{Types};
 ghost use Rattle.ffs_model.specs.Library.{half_at, inode_at, pointer_word, IsLibrary};
 ghost use Rattle.templates.specs.Formats.{table_of};
-ghost use Rattle.templates.specs.Tables.{TableValue, types_of};
+ghost use Rattle.templates.specs.Tables.{HasTemplate, TableValue, types_of};
 ghost use Rattle.templates.specs.Templates.{TemplateValue};
 ghost use Rattle.ffs_format.specs.Entries.{entry_of, is_name, is_name_length, name_in};
 ghost use Rattle.ffs_format.specs.Fields.{fields_of};
@@ -55,8 +56,9 @@ pub fn numbers_are_the_layouts()
 /// In a table that begins with the library's three templates, types 3, 4 and 5 own what the library's layout reads: a root block
 /// its 16 pointers, a block of inodes the 12 pointers and then the last one of each of its 8, and a block of pointers its 128. They use
 /// 64, 512 and 512 bytes of their blocks.
-/// So it is on a disk that is formatted with these three first.
+/// So it is on a disk that is formatted with these three first, and wherever types 3 to 5 have them.
 pub fn templates_are_the_librarys()
     ensures table { (table : TableValue) → take 3 table ≡ map Some file_system_templates → IsLibrary (types_of table) }
     ensures formatted { (others : List TemplateValue) → IsLibrary (types_of (table_of (file_system_templates ++ others))) }
+    ensures types { (T : Types) → ((i : ℕ) (t : TemplateValue) → slice_get file_system_templates i ≡ Some t → HasTemplate T (3 + i) t) → IsLibrary T }
 {}

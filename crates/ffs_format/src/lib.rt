@@ -11,6 +11,6 @@ pub mod pointers;
 
 pub use entries::{ENTRIES, entry_bytes, entry_inode, entry_name};
 pub use inodes::{INODES, Inode, home};
-pub use library::templates;
+pub use library::{is_library_template, templates};
 pub use names::is_name;
 pub use pointers::{pointer, pointer_bytes};

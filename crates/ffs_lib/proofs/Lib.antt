@@ -31,3 +31,5 @@ pub mod NameLaws
 pub mod MoveLaws
 pub mod MakeLaws
 pub mod Singles
+pub mod NameCounts
+pub mod Opening

@@ -13,11 +13,11 @@ use Rattle.ffs_model.specs.Names.{IsRoot}
 use Rattle.ffs_model.specs.Edits.{HoldsOnly}
 use Rattle.ffs_model.specs.Volumes.{VolumeKeeps, no_edits}
 use Rattle.ffs_model.specs.Library.{library_layout, IsLibrary, pointer_word, zeros}
-use Rattle.ffs_model.proofs.ForCallers.{library_reads, nothing_pending, opened_keeps, pointer_set, pointer_written, root_made, rooted, started, started_holds, started_keeps, zeros_pointer}
+use Rattle.ffs_model.proofs.ForCallers.{library_reads, pointer_set, pointer_written, root_made, rooted, started, started_holds, started_keeps, zeros_pointer}
 use Rattle.ffs_lookup.specs.declared.fault.FfsFault.{FfsFault}
 use Rattle.ffs_lib.specs.Edits.{edit_at}
 use Rattle.ffs_lib.specs.Outcomes.{Keeps, Leaves, Roots, Starts}
-use Rattle.ffs_lib.specs.Volumes.{MayOpen, edits_of}
+use Rattle.ffs_lib.specs.Volumes.{edits_of}
 use Rattle.ffs_lookup.proofs.ForCallers.{gives_ok, pointer_is}
 use Rattle.ffs_lib.proofs.Kept.{begun_there}
 
@@ -29,9 +29,6 @@ none_at (suc n) (suc j) = none_at n j
 
 pub no_numbers : no_edits ≡ edits_of (replicate 16 None)
 no_numbers = λ i j. sym (none_at 16 j) i
-
-pub opened : (T : Types) (state : StoreState) (fs : ℕ) → MayOpen T state fs → VolumeKeeps T library_layout fs no_edits state
-opened T state fs may = opened_keeps T library_layout fs may.edits state may.keeps (nothing_pending T library_layout fs may.edits state may.keeps may.idle)
 
 -- what holds only some bytes
 holds_accepted : (lives : Lives) (s : BlockState) (c : ℕ) (bytes : List ℕ) → c ≢ 0 → HoldsOnly lives c bytes → HoldsOnly (accept 0 s lives) c bytes

@@ -1,8 +1,9 @@
 -- What a file system has before its volume is made, and after.
-use Rattle.std.proofs.Common.{◌≡◌, ◌≢◌, ℕ, ◌+◌, ◌-◌, ◌*◌, ◌/◌, ◌%◌, ◌^◌, ◌<◌, ◌≤◌, ◌⊎◌, Bool, true, false, List, [], ◌∷◌, length, Option, Some, None, Result, Ok, Err, refl, sym, ◌∙◌, ap, inl, inr, arith, subst, eq-eqb}
+use Rattle.std.proofs.Common.{◌≡◌, ◌≢◌, ℕ, zero, suc, ◌+◌, ◌-◌, ◌*◌, ◌/◌, ◌%◌, ◌^◌, ◌<◌, ◌≤◌, ◌⊎◌, Bool, true, false, List, [], ◌∷◌, length, Option, Some, None, Result, Ok, Err, refl, sym, ◌∙◌, ap, inl, inr, arith, subst, eq-eqb}
 use Rattle.std.specs.Prelude.{Contains, not, ◌==◌, ◌&&◌, ◌||◌, nat_lt, if◌then◌else◌, option_map, option_to_list, ◌++◌, IfErr, OnOk}
 use Rattle.std.specs.Int.{w32, to_le_bytes}
-use Rattle.std.proofs.lemmas.Bool.{cases_eq, eqb-false, eqb-true, ne_eqb}
+use Rattle.std.specs.List.{range_with_len}
+use Rattle.std.proofs.lemmas.Bool.{cases_eq, cases_lt, eqb-false, eqb-true, false≢true, le-ltb, ne_eqb}
 use Rattle.std.proofs.lemmas.Option.{none-some}
 use Rattle.xn_model.specs.declared.refusal.Refusal.{Refusal}
 use Rattle.xn_model.specs.declared.refusal.Refusal.TheVariants.{NotInUse, NotYours, RootTaken}
@@ -14,15 +15,15 @@ use Rattle.xn_model.specs.Lives.{BlockState, Life, StoreState, alive_and, is_dro
 use Rattle.xn_model.specs.Results.{Gives, first_refusal, unless}
 use Rattle.xn_model.specs.Calls.{Edit, init_of, kind_of, make_root_of, may_add, new_life, own_life, own_place, propose_of, root_of, root_state, slot_now}
 use Rattle.xn_model.specs.Rules.{IsConsistent}
-use Rattle.xn_model.proofs.ForCallers.{Contains-cons, Contains-none, accepted, each_at, place_from, set_other, set_same, status_cases}
+use Rattle.xn_model.proofs.ForCallers.{Contains-cons, Contains-head, Contains-none, Contains-tail, accepted, any_at, any_from, each_at, place_from, range_at, set_other, set_same, status_cases}
 use Rattle.ffs_model.specs.Cuts.{Under, latest, root}
-use Rattle.ffs_model.specs.Names.{IsRoot}
+use Rattle.ffs_model.specs.Names.{IsInodes, IsRoot}
 use Rattle.ffs_model.specs.Shortages.{is_shortage}
-use Rattle.ffs_model.specs.Library.{IsLibrary, direct_word, half_at, inode_at, inode_mode, inode_pairs, pointer_word, zeros}
+use Rattle.ffs_model.specs.Library.{IsLibrary, direct_word, half_at, inode_at, inode_mode, inode_pairs, library_layout, pointer_word, zeros}
 use Rattle.ffs_model.proofs.ForCallers.{bytes_apart, gives_short, mode_read, pointed_none, proposed_others, rooted, rooted_here, rooted_others, started, started_here, started_others, word_apart, zero_word, zeros_mode, zeros_pointer}
 use Rattle.ffs_lookup.specs.declared.fault.FfsFault.{FfsFault}
-use Rattle.ffs_lookup.specs.declared.fault.FfsFault.TheVariants.{BadName, DirNotEmpty, Exists, IsDir, Kernel, NoEntry, NoInode, NotDir, TooLarge}
-use Rattle.ffs_lookup.specs.Newest.{if_bare, if_makeable, inode_block_in, inode_in, is_own, is_short, make_in, root_in, unless_unused}
+use Rattle.ffs_lookup.specs.declared.fault.FfsFault.TheVariants.{BadName, DirNotEmpty, Exists, IsDir, Kernel, NoEntry, NoInode, NotDir, Pending, TooLarge, Unsound}
+use Rattle.ffs_lookup.specs.Newest.{has_pointer, if_bare, if_makeable, inode_block_in, inode_in, is_own, is_short, make_in, root_in, unless_unused}
 use Rattle.ffs_lookup.proofs.ForCallers.{gives_ok, in_inode_block, in_root_block, kind_known, no_inode_block, no_number, no_root_block, pointer_is, root_again, used_is, zero_is}
 use Rattle.ffs_lib.specs.Edits.{edit_at}
 use Rattle.ffs_lib.specs.Outcomes.{GetsRoot, IsReady, MakesTop, OnlyShort, SetsRoot}
@@ -75,36 +76,59 @@ module _ (T : Types) (state : StoreState) (h : IsConsistent T state) (fs : ℕ) 
       ap if_bare (sym is) ∙ sym (named ∙ ap (λ (t : Bool). if t then if_bare (latest state.lives r) else Err (Kernel RootTaken)) (eq-eqb top_slot.1 3 (typed kind k ∙ three)))
 
 pub has_inodes : (m : List ℕ) → pointer_word m 0 ≢ 0 → Err Exists ≡ if_bare m
-has_inodes m ne = sym (ap (λ (t : Bool). if t then Ok true else Err Exists) (ne_eqb (pointer_word m 0) 0 ne))
+has_inodes m ne = sym (ap (λ (t : Bool). if t then (if has_pointer m then Err (Unsound 1) else Ok true) else Err Exists) (ne_eqb (pointer_word m 0) 0 ne))
 
-pub has_none : (m : List ℕ) → pointer_word m 0 ≡ 0 → Ok true ≡ if_bare m
-has_none m e = sym (ap (λ (t : Bool). if t then Ok true else Err Exists) (eq-eqb (pointer_word m 0) 0 e))
+not_first_there : (m : List ℕ) → pointer_word m 0 ≡ 0 → (if has_pointer m then Err (Unsound 1) else Ok true) ≡ if_bare m
+not_first_there m e = sym (ap (λ (t : Bool). if t then (if has_pointer m then Err (Unsound 1) else Ok true) else Err Exists) (eq-eqb (pointer_word m 0) 0 e))
+
+pub has_none : (m : List ℕ) → pointer_word m 0 ≡ 0 → has_pointer m ≡ false → Ok true ≡ if_bare m
+has_none m e none = sym (ap (λ (t : Bool). if t then Err (Unsound 1) else Ok true) none) ∙ not_first_there m e
+
+pub has_others : (m : List ℕ) → pointer_word m 0 ≡ 0 → has_pointer m ≡ true → Err (Unsound 1) ≡ if_bare m
+has_others m e some = sym (ap (λ (t : Bool). if t then Err (Unsound 1) else Ok true) some) ∙ not_first_there m e
+
+pub none_set : (m : List ℕ) → ((j : ℕ) → j < 16 → pointer_word m j ≡ 0) → has_pointer m ≡ false
+none_set m none = go (has_pointer m) refl
+  where
+    both : (t : Bool) → t ≡ true → not t ≡ true → ⊥
+    both true e f = cc
+    both false e f = cc
+
+    go : (t : Bool) → has_pointer m ≡ t → t ≡ false
+    go false e = refl
+    go true e =
+        let r = any_at (λ j. not (pointer_word m j == 0)) (range_with_len 0 16) e in
+        let few = (range_at 0 16 r.0 r.1).1 in
+        absurd (both (pointer_word m r.0 == 0) (eq-eqb (pointer_word m r.0) 0 (none r.0 (omega (arith, few)))) r.2)
 
 -- What it says of the root slot
 
 false_first : (t u : Bool) (m : List ℕ) → Ok false ≡ (if t then Ok false else if u then if_bare m else Err (Kernel RootTaken)) → t ≡ true
 false_first true u m e = refl
-false_first false true m e = absurd (bare (pointer_word m 0 == 0) e)
+false_first false true m e = absurd (bare (pointer_word m 0 == 0) (has_pointer m) e)
   where
-    bare : (b : Bool) → Ok false ≡ (if b then Ok true else Err Exists) → ⊥
-    bare true f = cc
-    bare false f = cc
+    bare : (b u : Bool) → Ok false ≡ (if b then (if u then Err (Unsound 1) else Ok true) else Err Exists) → ⊥
+    bare true true f = cc
+    bare true false f = cc
+    bare false u f = cc
 false_first false false m e = absurd (cc e)
 
-true_last : (t u : Bool) (m : List ℕ) → Ok true ≡ (if t then Ok false else if u then if_bare m else Err (Kernel RootTaken)) → (t ≡ false) × (u ≡ true) × ((pointer_word m 0 == 0) ≡ true)
+true_last : (t u : Bool) (m : List ℕ) → Ok true ≡ (if t then Ok false else if u then if_bare m else Err (Kernel RootTaken)) → (t ≡ false) × (u ≡ true) × ((pointer_word m 0 == 0) ≡ true) × (has_pointer m ≡ false)
 true_last true u m e = absurd (cc e)
-true_last false true m e = (refl, refl, bare (pointer_word m 0 == 0) e)
+true_last false true m e = let both = bare (pointer_word m 0 == 0) (has_pointer m) e in (refl, refl, both.0, both.1)
   where
-    bare : (b : Bool) → Ok true ≡ (if b then Ok true else Err Exists) → b ≡ true
-    bare true f = refl
-    bare false f = absurd (cc f)
+    bare : (b u : Bool) → Ok true ≡ (if b then (if u then Err (Unsound 1) else Ok true) else Err Exists) → (b ≡ true) × (u ≡ false)
+    bare true true f = absurd (cc f)
+    bare true false f = (refl, refl)
+    bare false u f = absurd (cc f)
 true_last false false m e = absurd (cc e)
 
--- The root block, which has no first block of inodes.
+-- The root block, which points to no block of inodes.
 pub record BareRoot (content : ℕ → List ℕ) (fs : ℕ) : Type 0 where
   pub block : ℕ
   pub is_root : IsRoot content fs block
   pub empty : pointer_word (content block) 0 ≡ 0
+  pub none : has_pointer (content block) ≡ false
 
 module _ (content : ℕ → List ℕ) (fs : ℕ) where
   pub bare_from : Ok true ≡ make_in content fs → BareRoot content fs
@@ -116,12 +140,13 @@ module _ (content : ℕ → List ℕ) (fs : ℕ) where
         block = s.0;
         is_root = let three = eqb-true s.1 3 x.1 in record { at = λ i. (s.0, three i); there = eqb-false s.0 0 x.0 };
         empty = eqb-true (pointer_word (content s.0) 0) 0 x.2;
+        none = x.3;
       }
 
-  pub bare_to : (r : ℕ) → IsRoot content fs r → pointer_word (content r) 0 ≡ 0 → Ok true ≡ make_in content fs
+  pub bare_to : (r : ℕ) → IsRoot content fs r → pointer_word (content r) 0 ≡ 0 → has_pointer (content r) ≡ false → Ok true ≡ make_in content fs
   unfolding make_in
-  bare_to r is e =
-      has_none (content r) e ∙ sym (
+  bare_to r is e none =
+      has_none (content r) e none ∙ sym (
       ap (λ (s : ℕ × ℕ). if s.0 == 0 then Ok false else if s.1 == 3 then if_bare (content s.0) else Err (Kernel RootTaken)) is.at
       ∙ ap (λ (t : Bool). if t then Ok false else if_bare (content r)) (ne_eqb r 0 is.there)
       )
@@ -131,6 +156,33 @@ module _ (content : ℕ → List ℕ) (fs : ℕ) where
   rootless e =
       let s = slot (content 0) fs in
       sym (ap (λ (t : Bool). if t then Err NoEntry else if s.1 == 3 then Ok s.0 else Err NoEntry) (false_first (s.0 == 0) (s.1 == 3) (content s.0) e))
+
+  pub rootless_slot : Ok false ≡ make_in content fs → (slot (content 0) fs).0 ≡ 0
+  unfolding make_in
+  rootless_slot e = let s = slot (content 0) fs in eqb-true s.0 0 (false_first (s.0 == 0) (s.1 == 3) (content s.0) e)
+
+  -- a bare root block points to nothing
+  pub no_pointers : BareRoot content fs → (j b : ℕ) → IsInodes library_layout content fs j b → ⊥
+  no_pointers bare j b x =
+      let same : x.root ≡ bare.block = ap (λ (p : ℕ × ℕ). p.0) (sym x.is_root.at ∙ bare.is_root.at) in
+      let read = under (nat_lt j 16) (pointer_word (content x.root) j) x.points in
+      false≢true (sym bare.none ∙
+      any_from (λ i. not (pointer_word (content bare.block) i == 0)) (range_with_len 0 16) j (among 16 0 j (omega arith) (is_lower read.0))
+      (ap not (ne_eqb (pointer_word (content bare.block) j) 0 (λ z. x.there (sym read.1 ∙ (ap (λ c. pointer_word (content c) j) same ∙ z))))))
+    where
+      under : (t : Bool) (v : ℕ) → (if t then v else 0) ≡ b → (t ≡ true) × (v ≡ b)
+      under true v e = (refl, e)
+      under false v e = absurd (x.there (sym e))
+
+      is_lower : nat_lt j 16 ≡ true → j < 16
+      is_lower e = elim (cases_lt j 16) [ inl lt ↦ lt | inr ge ↦ absurd (false≢true (sym (le-ltb j 16 ge) ∙ e)) ]
+
+      among : (n a i : ℕ) → a ≤ i → i < a + n → Contains (range_with_len a n) i
+      among zero a i low high = absurd (omega (arith, low, high))
+      among (suc n) a i low high = elim (cases_lt a i) [
+        | inl lt ↦ Contains-tail a (range_with_len (a + 1) n) i (among n (a + 1) i (omega (arith, lt)) (omega (arith, high)))
+        | inr ge ↦ let e : a ≡ i = omega (arith, low, ge) in subst (λ z. Contains (range_with_len a (suc n)) z) e (Contains-head a (range_with_len (a + 1) n))
+      ]
 
   -- where there is no block of inodes, no inode is in use
   pub no_inodes : ((j : ℕ) → j < 16 → Err NoEntry ≡ inode_block_in content fs j) → (d : ℕ) → Err NoEntry ≡ inode_in content fs d
@@ -203,7 +255,7 @@ module _ (T : Types) (fs : ℕ) (block number : ℕ) (zeroth first second third 
 
       ready : IsConsistent T zeroth → Ok false ≡ make_in (latest zeroth.lives) fs → IsReady zeroth second fs
       ready h none = record {
-        ready = bare_to (latest second.lives) fs block (is_root h) (no_pointer h 0 (omega arith));
+        ready = bare_to (latest second.lives) fs block (is_root h) (no_pointer h 0 (omega arith)) (none_set (latest second.lives block) (no_pointer h));
         stays = λ d. neither (latest zeroth.lives) (latest second.lives) fs d
             (no_inodes (latest zeroth.lives) fs (λ j low. no_root_block (latest zeroth.lives) fs j NoEntry (rootless (latest zeroth.lives) fs none)) d)
             (no_inodes (latest second.lives) fs (λ j low.
@@ -394,6 +446,8 @@ not_own (Err DirNotEmpty) short = absurd (cc short)
 not_own (Err BadName) short = absurd (cc short)
 not_own (Err TooLarge) short = absurd (cc short)
 not_own (Err NoInode) short = absurd (cc short)
+not_own (Err (Unsound n)) short = absurd (cc short)
+not_own (Err Pending) short = absurd (cc short)
 
 pub never : {A : Type 0} (x : A) (fault : FfsFault) → ◌≡◌ {A = Result A FfsFault} (Ok x) (Err fault) → ⊥
 never x fault e = cc

@@ -1,6 +1,9 @@
-// A name stands once in a directory.
+// A name stands once in a directory, and which names are good.
 
-ghost use Rattle.std.specs.Prelude.{◌≡◌, ℕ, List, Ok};
+ghost use Rattle.std.specs.Prelude.{◌≡◌, ℕ, List, None, Ok};
+ghost use Rattle.ffs_model.specs.Names.{LinksGood};
+ghost use Rattle.ffs_model.specs.Library.{library_layout};
+ghost use Rattle.ffs_lookup.specs.Counts.{over_named};
 ghost use Rattle.ffs_lookup.specs.declared.places.Slot.{Slot};
 ghost use Rattle.ffs_lookup.specs.Newest.{create_in, directory_in, inode_in, rename_in};
 ghost use Rattle.ffs_lib.specs.Once.{NamesOnce};
@@ -16,4 +19,10 @@ pub fn names_stand_once()
         Ok named ≡ inode_in old fs entry.inode → Removed old new fs d entry → NamesOnce old fs → NamesOnce new fs }
     ensures moved { (old new : ℕ → List ℕ) (fs d : ℕ) (name : List ℕ) (other : ℕ) (new_name : List ℕ) (entry : Slot) →
         Ok entry ≡ rename_in old fs d name other new_name → MovedEntry old new fs d entry other new_name → NamesOnce old fs → NamesOnce new fs }
+{}
+
+/// Where no inode has more names than links, in any contents, the names of the file system are good: each inode that is named is in
+/// use, and has links for all slots that name it.
+pub fn counted_names_are_good()
+    ensures { (content : ℕ → List ℕ) (fs : ℕ) → over_named content fs ≡ None → LinksGood library_layout content fs }
 {}

@@ -7,7 +7,8 @@ ghost use Rattle.xn_model.specs.Calls.{may_add, own_life, slot_now};
 ghost use Rattle.xn_model.specs.Rules.{IsConsistent};
 ghost use Rattle.ffs_model.specs.Cuts.{latest};
 ghost use Rattle.ffs_model.specs.Library.{library_layout, zeros, IsLibrary};
-ghost use Rattle.ffs_lookup.specs.Newest.{make_in};
+ghost use Rattle.ffs_lookup.specs.Newest.{has_pointer, make_in};
+ghost use Rattle.ffs_lookup.specs.Counts.{make_from};
 ghost use Rattle.ffs_lib.specs.Outcomes.{GetsRoot, Keeps, Leaves, MakesTop, OnlyShort, Roots, SetsRoot, Starts};
 ghost use Rattle.ffs_lib.specs.Results.{new_inode};
 ghost use Rattle.ffs_lib.specs.Steps.{LastForgets};
@@ -16,13 +17,20 @@ use crate::edits;
 use crate::steps::{INODE_BLOCK, block_with, forgotten};
 use edit_list::Fs;
 use ffs_format::{Inode, pointer, pointer_bytes};
-use ffs_lookup::{DIRECTORY, FfsFault, ROOT, read_block, root_block};
+use ffs_lookup::{DIRECTORY, FfsFault, INODE_BLOCKS, ROOT, read_block, root_block};
 use std::alloc::Global;
 use xn_model::Refusal;
 use xn_state::Store;
 
-/// Whether a root block is there, without a first block of inodes.
-pub fn is_begun<S: Store>(store: &S, fs: Fs) -> Result<bool, FfsFault>
+/// Whether a root block points to a block of inodes.
+fn has_pointer(block: &[u8; 512]) -> bool
+    ensures { result ≡ has_pointer block.now }
+{
+    (0..INODE_BLOCKS).any(|index| pointer(block, index) != 0)
+}
+
+/// Whether a root block is there, without any block of inodes.
+fn is_begun<S: Store>(store: &S, fs: Fs) -> Result<bool, FfsFault>
     ensures { result ≡ make_in (latest (S.state_of store.now).lives) fs.number }
 {
     let Some(root) = store.root(fs) else {
@@ -31,10 +39,25 @@ pub fn is_begun<S: Store>(store: &S, fs: Fs) -> Result<bool, FfsFault>
     if store.kind(fs, root)? != ROOT {
         return Err(FfsFault::Kernel(Refusal::RootTaken));
     }
-    if pointer(read_block(store, fs, root)?, 0) != 0 {
+    let bytes = read_block(store, fs, root)?;
+    if pointer(bytes, 0) != 0 {
         return Err(FfsFault::Exists);
     }
+    if has_pointer(bytes) {
+        return Err(FfsFault::Unsound(1));
+    }
     Ok(true)
+}
+
+/// The same, where nothing of the file system is pending.
+pub fn look_up_root<S: Store>(store: &S, fs: Fs) -> Result<bool, FfsFault>
+    ensures exact { result ≡ make_from (S.state_of store.now) fs.number }
+    ensures rules { IsConsistent (S.types_of store.now) (S.state_of store.now) }
+{
+    if store.pending(fs) > 0 {
+        return Err(FfsFault::Pending);
+    }
+    is_begun(store, fs)
 }
 
 /// The first inode block, with the top directory, which has no block yet.

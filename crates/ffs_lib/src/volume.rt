@@ -4,10 +4,10 @@ ghost use Rattle.std.specs.Prelude.{◌≡◌, ◌≢◌, ◌<◌, ◌≤◌, �
 ghost use Rattle.std.specs.List.{range_with_len};
 ghost use Rattle.ffs_format.specs.Entries.{is_name};
 ghost use Rattle.ffs_model.specs.Cuts.{latest};
-ghost use Rattle.ffs_model.specs.Names.{IsInodes};
 ghost use Rattle.ffs_model.specs.Library.{library_layout, inode_mode, IsLibrary, inode_blocks, inode_links, zeros};
 ghost use Rattle.xn_model.specs.Lists.{put};
-ghost use Rattle.ffs_lookup.specs.Newest.{IsLowest, RefusesAs, TakesEntry, create_in, directory_in, first_named, has_empty_pointer, has_inode, has_room, inode_block_in, make_in, root_in, file_in, is_own, listing, named_in, names_at, names_in, read_count, read_into, rename_in, rmdir_in, unlink_in, without_entry, write_in, inode_in};
+ghost use Rattle.ffs_lookup.specs.Newest.{IsLowest, RefusesAs, TakesEntry, create_in, directory_in, first_named, has_empty_pointer, has_inode, has_room, mapped, root_in, file_in, is_own, listing, named_in, names_at, names_in, read_count, read_into, rename_in, rmdir_in, unlink_in, without_entry, write_in, inode_in};
+ghost use Rattle.ffs_lookup.specs.Counts.{make_from, open_in};
 ghost use Rattle.ffs_lookup.specs.declared.places.Found.{Found};
 ghost use Rattle.ffs_lookup.specs.declared.places.Slot.{Slot};
 ghost use Rattle.ffs_model.specs.Volumes.{VolumeKeeps, no_edits};
@@ -20,7 +20,7 @@ ghost use Rattle.ffs_lib.specs.Results.{new_inode, IsWritten, WrotePart, MadeEnt
 
 use crate::data::{BLOCK_LEN, FILE_BLOCKS, raise_size, read_part, write_block};
 use crate::put::{add_link, attach, empty_inode, enter, put, put_inode, take_link};
-use crate::setup::{attach_first, first_inodes, is_begun, prepare_root};
+use crate::setup::{attach_first, first_inodes, look_up_root, prepare_root};
 use crate::steps::{INODE_BLOCK, forgotten};
 use edit_list::{EditId, Fs};
 use ffs_format::entries::ENTRY_LEN;
@@ -28,7 +28,8 @@ use ffs_format::inodes::{DIRECT_POINTERS, INODES};
 use ffs_format::{ENTRIES, Inode, entry_inode, entry_name, is_name, pointer_bytes};
 use ffs_lookup::{
     DIRECTORY, FfsFault, Free, INODE_BLOCKS, Slot, find_directory, find_entry, find_file,
-    find_free, find_inode, find_pointer, find_room, inode_block, is_empty, read_block, root_block,
+    find_free, find_inode, find_pointer, find_room, is_empty, look_up_volume, read_block,
+    root_block,
 };
 use std::alloc::{AllocError, Global};
 use xn_model::Refusal;
@@ -170,22 +171,23 @@ impl Volume {
     ghost use Rattle.ffs_lib.specs.Volumes.{IsVolume, MayOpen, edits_of};
 
     /// Makes the volume of a file system that has none, or has one half made: a root block, and a first block of inodes with
-    /// inode 1, the top directory. Before any edit it answers `Exists` where there is a volume, and `Kernel(RootTaken)` where the
-    /// root slot names a block of another type. Any refusal of the store is `Kernel`; what was done before it stands, and
-    /// another `make` finishes it.
+    /// inode 1, the top directory. Before any edit it answers `Pending`, `Kernel(RootTaken)` where the root slot names a block of another
+    /// type, `Exists` where there is a volume, and `Unsound(1)` where the root block points to other blocks of inodes and not to the
+    /// first. Any refusal of the store is `Kernel`; what was done before it stands, and another `make` finishes it.
     pub fn make<S: Store>(alloc: Global, store: &mut S, fs: Fs) -> Result<Volume, FfsFault>
         requires { MayOpen (S.types_of store.old) (S.state_of store.old) fs.number }
         ensures types { S.types_of store.new ≡ S.types_of store.old }
         ensures ok { IfOk result (λ volume. IsVolume (S.types_of store.old) (S.state_of store.new) volume) }
         ensures fs { IfOk result (λ volume. volume.fs ≡ fs) }
-        ensures faults { RefusesAs (make_in (latest (S.state_of store.old).lives) fs.number) (S.state_of store.old) (S.state_of store.new) result }
-        ensures short { (begun : Bool) → Ok begun ≡ make_in (latest (S.state_of store.old).lives) fs.number → OnlyShort result }
+        ensures faults { RefusesAs (make_from (S.state_of store.old) fs.number) (S.state_of store.old) (S.state_of store.new) result }
+        ensures short { (begun : Bool) → Ok begun ≡ make_from (S.state_of store.old) fs.number → OnlyShort result }
         ensures made { OnOk result (MadeVolume (latest (S.state_of store.old).lives) (latest (S.state_of store.new).lives) fs.number) }
-        ensures err { OnErr result (VolumeKeeps (S.types_of store.old) library_layout fs.number no_edits (S.state_of store.new)) }
+        ensures err { (begun : Bool) → Ok begun ≡ make_from (S.state_of store.old) fs.number →
+            OnErr result (VolumeKeeps (S.types_of store.old) library_layout fs.number no_edits (S.state_of store.new)) }
         ensures forgotten { OnErr result (Undoes (S.types_of store.old) fs.number (S.state_of store.old)
             (S.state_of store.new) INODE_BLOCK (put zeros 0 (new_inode 2))) }
     {
-        let begun = is_begun(store, fs)?;
+        let begun = look_up_root(store, fs)?;
         let (block, _) = store.init(fs, INODE_BLOCK, &first_inodes())?;
         prepare_root(store, fs, begun, block)?;
         let attached = attach_first(alloc, store, fs, block);
@@ -196,16 +198,16 @@ impl Volume {
         })
     }
 
-    /// The volume of a file system that has one, as after a mount; `NoEntry` where there is none.
+    /// The volume of a file system that has one, as after a mount, also of an image that another program wrote. It looks at all names:
+    /// it answers `Pending` where something of the file system is pending, then `NoEntry` where there is no volume, then `Unsound` of
+    /// the least inode that more entries name than it has links.
     pub fn open<S: Store>(store: &S, fs: Fs) -> Result<Volume, FfsFault>
         requires { MayOpen (S.types_of store.now) (S.state_of store.now) fs.number }
         ensures ok { IfOk result (λ volume. IsVolume (S.types_of store.now) (S.state_of store.now) volume) }
         ensures fs { IfOk result (λ volume. volume.fs ≡ fs) }
-        ensures found { OnOk result ((block : ℕ) × IsInodes library_layout (latest (S.state_of store.now).lives) fs.number 0 block) }
-        ensures exact { MatchResult result (λ _. IsOk (inode_block_in (latest (S.state_of store.now).lives) fs.number 0))
-            (λ fault. Err fault ≡ inode_block_in (latest (S.state_of store.now).lives) fs.number 0) }
+        ensures exact { mapped (λ volume. tt) result ≡ open_in (S.state_of store.now) fs.number }
     {
-        let _ = inode_block(store, fs, 0)?;
+        look_up_volume(store, fs)?;
         Ok(Volume {
             fs,
             added: [None; 16],

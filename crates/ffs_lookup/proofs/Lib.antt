@@ -4,4 +4,5 @@ pub mod Readable
 pub mod Newest
 pub mod Walks
 pub mod Rooms
+pub mod Counting
 pub mod ForCallers

@@ -1,2 +1,4 @@
 pub mod Newest
 pub mod Places
+pub mod Faults
+pub mod Counts

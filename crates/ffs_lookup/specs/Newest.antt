@@ -22,7 +22,7 @@ use Rattle.ffs_model.specs.Library.{half_at, pointer_word, inode_at, inode_mode,
 use Rattle.ffs_format.specs.Entries.{is_name, name_in}
 use Rattle.ffs_format.specs.Fields.{direct_in}
 use Rattle.ffs_lookup.specs.declared.fault.FfsFault.{FfsFault}
-use Rattle.ffs_lookup.specs.declared.fault.FfsFault.TheVariants.{NoEntry, Exists, NotDir, IsDir, DirNotEmpty, BadName, TooLarge, NoInode, Kernel}
+use Rattle.ffs_lookup.specs.declared.fault.FfsFault.TheVariants.{NoEntry, Exists, NotDir, IsDir, DirNotEmpty, BadName, TooLarge, NoInode, Kernel, Unsound}
 use Rattle.ffs_lookup.specs.declared.places.Slot.{Slot}
 use Rattle.ffs_lookup.specs.declared.places.Free.{Free}
 use Rattle.ffs_lookup.specs.declared.places.Room.{Room}
@@ -164,9 +164,12 @@ read_into content old offset (Err fault) = old
 
 -- What a call looks up before it edits
 
--- of `make`: whether a root block is there, without a first block of inodes
+-- of `make`: whether a root block is there, without any block of inodes
+abbrev pub has_pointer : List ℕ → Bool
+has_pointer root = list_any (λ index. not (pointer_word root index == 0)) (range_with_len 0 16)
+
 abbrev pub if_bare : List ℕ → Result Bool FfsFault
-if_bare root = if pointer_word root 0 == 0 then Ok true else Err Exists
+if_bare root = if pointer_word root 0 == 0 then (if has_pointer root then Err (Unsound 1) else Ok true) else Err Exists
 
 abbrev pub if_makeable : (ℕ → List ℕ) → ℕ × ℕ → Result Bool FfsFault
 if_makeable content s = if s.0 == 0 then Ok false else if s.1 == 3 then if_bare (content s.0) else Err (Kernel RootTaken)

@@ -3,6 +3,7 @@
 ghost use Rattle.ffs_lookup.specs.declared.fault.FfsFault.TheVariants.{Kernel};
 ghost use Rattle.xn_model.specs.declared.refusal.Refusal.TheVariants.{NoMemory};
 ghost use Rattle.std.specs.Prelude.{◌≡◌};
+ghost use Rattle.ffs_lookup.specs.Faults.{fault_number};
 
 use std::alloc::AllocError;
 use thiserror::Error;
@@ -38,6 +39,34 @@ pub enum FfsFault {
     /// The store refused a call, or there was no memory. What was done before stands.
     #[error("Kernel {0}")]
     Kernel(Refusal),
+    /// More entries name this inode than it has links, and no lower one; or, of `make`, a root block points to blocks of inodes but not to
+    /// the first one, where the top directory's inode 1 stands.
+    #[error("Unsound {0}")]
+    Unsound(u16),
+    /// Something of the file system is pending.
+    #[error("Pending")]
+    Pending,
+}
+
+impl FfsFault {
+    /// Its number, 1 to 11.
+    pub fn number(&self) -> u8
+        ensures { result ≡ fault_number self.now }
+    {
+        match self {
+            FfsFault::NoEntry => 1,
+            FfsFault::Exists => 2,
+            FfsFault::NotDir => 3,
+            FfsFault::IsDir => 4,
+            FfsFault::DirNotEmpty => 5,
+            FfsFault::BadName => 6,
+            FfsFault::TooLarge => 7,
+            FfsFault::NoInode => 8,
+            FfsFault::Kernel(_) => 9,
+            FfsFault::Unsound(_) => 10,
+            FfsFault::Pending => 11,
+        }
+    }
 }
 
 impl From<Refusal> for FfsFault {

@@ -1,10 +1,14 @@
 //! What stands in the newest bytes of a library file system over a store: where its inodes, its entries, and the room for more of them are.
 #![tactic(auto)]
 
+mod counts;
 mod fault;
+mod library;
 mod places;
 
+pub use counts::{NameCounts, find_over_named, look_up_volume};
 pub use fault::FfsFault;
+pub use library::is_library;
 pub use places::{
     DIRECTORY, Found, Free, INODE_BLOCKS, ROOT, Room, Slot, find_directory, find_entry, find_file,
     find_free, find_inode, find_pointer, find_room, inode_block, is_empty, read_block, root_block,

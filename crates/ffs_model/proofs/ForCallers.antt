@@ -6,6 +6,7 @@ pub use Rattle.ffs_model.proofs.Same.{under_direct, under_inodes}
 pub use Rattle.ffs_model.proofs.Newest.{data_owned, indirect_owned, indirect_reached, one_type, proposed_here, proposed_others, rooted_here, rooted_others, started_here, started_others}
 pub use Rattle.ffs_model.proofs.Found.{read_latest, root_found}
 pub use Rattle.ffs_model.proofs.Volumes.{latest_reached, volume_from}
+pub use Rattle.ffs_model.proofs.Slots.{one_more}
 -- the layout
 pub use Rattle.ffs_model.proofs.Library.{is_not_empty, library_reads, pointed_at, pointed_from}
 pub use Rattle.ffs_model.proofs.Patches.{blocks_read, bytes_apart, bytes_within, entry_written, half_apart, half_within, links_read, mode_read, pointer_written, word_apart, word_part, word_within}
@@ -13,6 +14,7 @@ pub use Rattle.ffs_model.proofs.Zeros.{one_entry, one_inode, zero_half, zero_wor
 pub use Rattle.ffs_model.proofs.Rewritten as rewritten
 pub use Rattle.ffs_model.proofs.Once.{data_once, direct_distinct, direct_once, direct_where, indirect_once}
 -- calls
+pub use Rattle.ffs_model.proofs.Rooted.{newest_types}
 pub use Rattle.ffs_model.proofs.Given.{started, rooted}
 pub use Rattle.ffs_model.proofs.Opened.{ended_keeps, nothing_pending, opened_keeps, remembers, root_made, started_frame, started_holds, started_keeps, started_names}
 pub use Rattle.ffs_model.proofs.Proposals.{directory_grown, entry_cleared, entry_made, inode_forgets, inode_freed, inode_kept, inode_made, inodes_set, inodes_stay, link_added, link_taken, pointer_set, root_stays}
@@ -21,7 +23,7 @@ pub use Rattle.ffs_model.proofs.Before.{cuts_same}
 pub use Rattle.ffs_model.proofs.Calls.{forget_cuts, init_cuts, make_root_cuts, propose_cuts}
 pub use Rattle.ffs_model.proofs.Events.{event_cuts}
 pub use Rattle.ffs_model.proofs.Later.{accepted_below, begin_next, begun_next, drop_root_next, edit_given, forgot_next, given_later, is_given, later_then, next_some, none_later, one_later, proposed_next, rooted_next, settle_next}
-pub use Rattle.ffs_model.proofs.Mounted.{crash_keeps, mounted_bare, mounted_keeps, no_root_keeps, rootless_from, rootless_keeps, rootless_rest}
+pub use Rattle.ffs_model.proofs.Mounted.{crash_keeps, mounted_bare, mounted_keeps, no_root_keeps, rest_keeps, rootless_from, rootless_keeps, rootless_rest}
 pub use Rattle.ffs_model.proofs.Writes.{begin_cuts, settle_cuts}
 -- what is refused for want of something alone
 pub use Rattle.ffs_model.proofs.Pairs.{Replaces, all_of, changes_add, changes_drop, changes_none, claims_from, flat_kept, flat_replaced, pointed_kept, pointed_none, pointed_set, replaces_in, within_parts}

@@ -9,7 +9,6 @@ use crate::guarded::{Guarded, Other};
 use ffs_lib::{FfsFault, Fs, Volume};
 use std::alloc::Global;
 use std::marker::Model;
-use xn_model::Refusal;
 use xn_state::Store;
 
 mod running;
@@ -134,7 +133,7 @@ impl<S: Disk + Drop> Files<S> {
         }
     }
 
-    /// Makes the volume of a file system. `Kernel(InFlight)` where something of it is pending.
+    /// Makes the volume of a file system. `Pending` where something of it is pending.
     pub fn make(&mut self, alloc: Global, fs: Fs) -> Result<(), FfsFault> {
         if !self.turn_to(fs) {
             return Err(FfsFault::NoEntry);
@@ -143,7 +142,7 @@ impl<S: Disk + Drop> Files<S> {
             return Err(FfsFault::NoEntry);
         };
         if store.pending(self.fs) > 0 {
-            return Err(FfsFault::Kernel(Refusal::InFlight));
+            return Err(FfsFault::Pending);
         }
         match Volume::make(alloc, store, self.fs) {
             Ok(volume) => {
@@ -157,7 +156,7 @@ impl<S: Disk + Drop> Files<S> {
         }
     }
 
-    /// Opens the volume of a file system. `Kernel(InFlight)` where something of it is pending.
+    /// Opens the volume of a file system. `Pending` where something of it is pending.
     pub fn open(&mut self, fs: Fs) -> Result<(), FfsFault> {
         if !self.turn_to(fs) {
             return Err(FfsFault::NoEntry);
@@ -166,7 +165,7 @@ impl<S: Disk + Drop> Files<S> {
             return Err(FfsFault::NoEntry);
         };
         if store.pending(self.fs) > 0 {
-            return Err(FfsFault::Kernel(Refusal::InFlight));
+            return Err(FfsFault::Pending);
         }
         self.volume = Some(Volume::open(store, self.fs)?);
         Ok(())

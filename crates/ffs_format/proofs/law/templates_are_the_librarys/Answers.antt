@@ -5,7 +5,7 @@ use Rattle.std.proofs.lemmas.List.{get_or-take}
 use Rattle.templates.specs.Formats.{table_of}
 use Rattle.templates.specs.Tables.{TableValue, owned_under, size_under, template_of, types_of}
 use Rattle.ffs_model.specs.Library.{IsLibrary}
-use Rattle.ffs_format.specs.Library.{file_system_templates}
+use Rattle.ffs_format.specs.Library.{file_system_templates, inode_template, pointer_template, root_template}
 use Rattle.ffs_format.proofs.OwnedPairs.{root_owns, inodes_own, pointers_own, root_sized, inodes_sized, pointers_sized}
 use Rattle.ffs_format.proofs.law.templates_are_the_librarys.Goals as goal
 
@@ -43,3 +43,24 @@ returns-clause-table c = first_three
 
 pub returns-clause-formatted : goal.returns-clause-formatted
 returns-clause-formatted c = λ others. first_three (table_of (file_system_templates ++ others)) refl
+
+pub returns-clause-types : goal.returns-clause-types
+returns-clause-types c = λ T has.
+    let three = has 0 root_template refl in
+    let four = has 1 inode_template refl in
+    let five = has 2 pointer_template refl in
+    record {
+      installed = λ t low high. elim (cases_eq t 3) [
+        | inl e ↦ subst (λ n. IsTrue (T.installed n)) (sym e) three.installed
+        | inr ne ↦ elim (cases_eq t 4) [
+          | inl e ↦ subst (λ n. IsTrue (T.installed n)) (sym e) four.installed
+          | inr ne' ↦ let e : t ≡ 5 = omega arith in subst (λ n. IsTrue (T.installed n)) (sym e) five.installed
+        ]
+      ];
+      root = λ m. three.owned m ∙ root_owns m;
+      inodes = λ m. four.owned m ∙ inodes_own m;
+      indirect = λ m. five.owned m ∙ pointers_own m;
+      root_size = λ m. three.size m ∙ root_sized m;
+      inodes_size = λ m. four.size m ∙ inodes_sized m;
+      indirect_size = λ m. five.size m ∙ pointers_sized m;
+    }

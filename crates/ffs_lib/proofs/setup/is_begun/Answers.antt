@@ -1,6 +1,6 @@
 use Rattle.std.proofs.Common.{sym, ◌∙◌}
 use Rattle.ffs_lookup.proofs.ForCallers.{kind_told, not_ok}
-use Rattle.ffs_lib.proofs.Tops.{has_inodes, has_none, no_root_yet, root_bare, root_reached, root_taken}
+use Rattle.ffs_lib.proofs.Tops.{has_inodes, has_none, has_others, no_root_yet, root_bare, root_reached, root_taken}
 use Rattle.ffs_lib.proofs.setup.is_begun.Goals as goal
 
 pub returns-in_default : goal.returns-in_default
@@ -16,22 +16,29 @@ returns-then-branch-ne-ROOT g c =
     let store = c.args.store.now in
     root_taken (g.S.Store.types_of store) (g.S.Store.state_of store) c.root.ensures.rules c.args.fs.number c.args.fs.few c.in-Some.root c.in-Some.ensures.block _ c.in_ok-kind.ensures.kind c.if-branch-ne-ROOT.true
 
-pub returns-in_err-read_block : goal.returns-in_err-read_block
-returns-in_err-read_block g c =
+pub returns-in_err-bytes : goal.returns-in_err-bytes
+returns-in_err-bytes g c =
     let store = c.args.store.now in
-    absurd (not_ok (c.in_err-read_block.ensures.reached _
+    absurd (not_ok (c.in_err-bytes.ensures.reached _
     (root_reached (g.S.Store.types_of store) (g.S.Store.state_of store) c.root.ensures.rules c.args.fs.number c.args.fs.few c.in-Some.root c.in-Some.ensures.block _ c.in_ok-kind.ensures.kind)))
 
 pub returns-then-pointer-ne0 : goal.returns-then-pointer-ne0
 returns-then-pointer-ne0 g c =
     let store = c.args.store.now in
-    has_inodes c.in_ok-read_block.field-0.now (λ e. c.if-pointer-ne0.true (c.pointer.ensures ∙ e))
-    ∙ root_bare (g.S.Store.types_of store) (g.S.Store.state_of store) c.root.ensures.rules c.args.fs.number c.args.fs.few c.in-Some.root c.in-Some.ensures.block _ c.in_ok-read_block.field-0.now
-    c.in_ok-kind.ensures.kind c.if-branch-ne-ROOT.false c.in_ok-read_block.ensures.bytes
+    has_inodes c.in_ok-bytes.bytes.now (λ e. c.if-pointer-ne0.true (c.pointer.ensures ∙ e))
+    ∙ root_bare (g.S.Store.types_of store) (g.S.Store.state_of store) c.root.ensures.rules c.args.fs.number c.args.fs.few c.in-Some.root c.in-Some.ensures.block _ c.in_ok-bytes.bytes.now
+    c.in_ok-kind.ensures.kind c.if-branch-ne-ROOT.false c.in_ok-bytes.ensures.bytes
+
+pub returns-then-has_pointer : goal.returns-then-has_pointer
+returns-then-has_pointer g c =
+    let store = c.args.store.now in
+    has_others c.in_ok-bytes.bytes.now (sym c.pointer.ensures ∙ c.if-pointer-ne0.false) (sym c.has_pointer.ensures ∙ c.if-has_pointer.true)
+    ∙ root_bare (g.S.Store.types_of store) (g.S.Store.state_of store) c.root.ensures.rules c.args.fs.number c.args.fs.few c.in-Some.root c.in-Some.ensures.block _ c.in_ok-bytes.bytes.now
+    c.in_ok-kind.ensures.kind c.if-branch-ne-ROOT.false c.in_ok-bytes.ensures.bytes
 
 pub returns : goal.returns
 returns g c =
     let store = c.args.store.now in
-    has_none c.in_ok-read_block.field-0.now (sym c.pointer.ensures ∙ c.if-pointer-ne0.false)
-    ∙ root_bare (g.S.Store.types_of store) (g.S.Store.state_of store) c.root.ensures.rules c.args.fs.number c.args.fs.few c.in-Some.root c.in-Some.ensures.block _ c.in_ok-read_block.field-0.now
-    c.in_ok-kind.ensures.kind c.if-branch-ne-ROOT.false c.in_ok-read_block.ensures.bytes
+    has_none c.in_ok-bytes.bytes.now (sym c.pointer.ensures ∙ c.if-pointer-ne0.false) (sym c.has_pointer.ensures ∙ c.if-has_pointer.false)
+    ∙ root_bare (g.S.Store.types_of store) (g.S.Store.state_of store) c.root.ensures.rules c.args.fs.number c.args.fs.few c.in-Some.root c.in-Some.ensures.block _ c.in_ok-bytes.bytes.now
+    c.in_ok-kind.ensures.kind c.if-branch-ne-ROOT.false c.in_ok-bytes.ensures.bytes

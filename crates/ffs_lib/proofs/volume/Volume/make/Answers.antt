@@ -15,31 +15,34 @@ use Rattle.std.proofs.lemmas.Result.{err_from_is_err_and}
 use Rattle.ffs_model.specs.Cuts.{latest}
 use Rattle.ffs_model.proofs.ForCallers.{gives_short, inodes_begun}
 use Rattle.ffs_lookup.specs.Newest.{make_in}
+use Rattle.ffs_lookup.specs.Counts.{make_from}
 use Rattle.ffs_lib.proofs.Refusals.{goes_on}
 use Rattle.xn_model.specs.Rules.{IsConsistent}
-use Rattle.ffs_lib.proofs.Making.{made_keeps, no_numbers, opened, prepared_keeps}
+use Rattle.ffs_lib.proofs.Making.{made_keeps, no_numbers, prepared_keeps}
+use Rattle.ffs_lib.proofs.Opening.{make_found, makeable}
 use Rattle.ffs_lib.proofs.volume.Volume.make.Goals as goal
 
-pub returns-in_err-begun-clause-err : goal.returns-in_err-begun-clause-err
-returns-in_err-begun-clause-err g c = on_err c.from_residual.result (opened (g.S.Store.types_of c.args.store.now) (g.S.Store.state_of c.args.store.now) c.args.fs.number c.requires)
-
 pub returns-in_err-block-clause-err : goal.returns-in_err-block-clause-err
-returns-in_err-block-clause-err g c =
+returns-in_err-block-clause-err g c = λ begins is_ok.
     let fs = c.args.fs.number in
     let T = g.S.Store.types_of c.args.store.now in
     let zeroth = g.S.Store.state_of c.args.store.now in
-    on_err c.from_residual-in_err-block.result (refused T fs no_edits _ zeroth (g.S.Store.state_of c.init.new.self) _ c.in_err-block.ensures.state (opened T zeroth fs c.requires))
+    let found_ok = c.in_ok-begun.ensures.exact in
+    let ready = makeable T zeroth c.look_up_root.ensures.rules fs c.args.fs.few c.requires c.in_ok-begun.begun found_ok in
+    on_err c.from_residual-in_err-block.result (refused T fs no_edits _ zeroth (g.S.Store.state_of c.init.new.self) _ c.in_err-block.ensures.state ready)
 
 pub returns-in_err-prepare_root-clause-err : goal.returns-in_err-prepare_root-clause-err
-returns-in_err-prepare_root-clause-err g c =
+returns-in_err-prepare_root-clause-err g c = λ begins is_ok.
     let fs = c.args.fs.number in
     let T = g.S.Store.types_of c.args.store.now in
     let zeroth = g.S.Store.state_of c.args.store.now in
+    let found_ok = c.in_ok-begun.ensures.exact in
+    let ready = makeable T zeroth c.look_up_root.ensures.rules fs c.args.fs.few c.requires c.in_ok-begun.begun found_ok in
     let first = g.S.Store.state_of c.init.new.self in
     let second = g.S.Store.state_of c.prepare_root.new.store in
     let begun = c.in_ok-block in
     on_err c.from_residual-in_err-prepare_root.result
-    (prepared_keeps T fs c.args.fs.few c.requires.library begun.block begun.field-0-1 c.first_inodes.result c.first_inodes.ensures.bare zeroth first second (opened T zeroth fs c.requires) begun.ensures.state
+    (prepared_keeps T fs c.args.fs.few c.requires.library begun.block begun.field-0-1 c.first_inodes.result c.first_inodes.ensures.bare zeroth first second ready begun.ensures.state
     (subst (λ t. Keeps t fs first second) c.init.ensures.types c.in_err-prepare_root.ensures.keeps))
 
 pub returns-in_err-begun-clause-forgotten : goal.returns-in_err-begun-clause-forgotten
@@ -77,10 +80,12 @@ returns-in_err-forgotten-clause-forgotten g c =
     (subst (λ t. LastForgets t fs begun.block new) before (third, c.in_err-forgotten.ensures.forgotten)))
 
 pub returns-in_err-forgotten-clause-err : goal.returns-in_err-forgotten-clause-err
-returns-in_err-forgotten-clause-err g c =
+returns-in_err-forgotten-clause-err g c = λ begins is_ok.
     let fs = c.args.fs.number in
     let T = g.S.Store.types_of c.args.store.now in
     let zeroth = g.S.Store.state_of c.args.store.now in
+    let found_ok = c.in_ok-begun.ensures.exact in
+    let ready = makeable T zeroth c.look_up_root.ensures.rules fs c.args.fs.few c.requires c.in_ok-begun.begun found_ok in
     let first = g.S.Store.state_of c.init.new.self in
     let second = g.S.Store.state_of c.prepare_root.new.store in
     let third = g.S.Store.state_of c.attach_first-attached.new.store in
@@ -90,7 +95,7 @@ returns-in_err-forgotten-clause-err g c =
     let prepared = c.in_ok-prepare_root.ensures in
     let before = attached.ensures.types ∙ (prepared.types ∙ c.init.ensures.types) in
     on_err c.from_residual-in_err-forgotten.result
-    (made_keeps T fs c.args.fs.few c.requires.library begun.block begun.field-0-1 c.first_inodes.result c.first_inodes.ensures.bare zeroth first second (opened T zeroth fs c.requires) begun.ensures.state
+    (made_keeps T fs c.args.fs.few c.requires.library begun.block begun.field-0-1 c.first_inodes.result c.first_inodes.ensures.bare zeroth first second ready begun.ensures.state
     (subst (λ t. Keeps t fs first second) c.init.ensures.types prepared.keeps) third fourth (subst (λ t. Leaves t fs first second) c.init.ensures.types prepared.ok) attached.result
     (subst (λ t. OnOk attached.result (Starts t fs second third begun.block)) (prepared.types ∙ c.init.ensures.types) attached.ensures.ok) attached.ensures.err
     (subst (λ t. Keeps t fs third fourth) before c.in_err-forgotten.ensures.keeps))
@@ -100,6 +105,8 @@ returns-clause-ok g c =
     let fs = c.args.fs.number in
     let T = g.S.Store.types_of c.args.store.now in
     let zeroth = g.S.Store.state_of c.args.store.now in
+    let found_ok = c.in_ok-begun.ensures.exact in
+    let ready = makeable T zeroth c.look_up_root.ensures.rules fs c.args.fs.few c.requires c.in_ok-begun.begun found_ok in
     let first = g.S.Store.state_of c.init.new.self in
     let second = g.S.Store.state_of c.prepare_root.new.store in
     let third = g.S.Store.state_of c.attach_first-attached.new.store in
@@ -111,7 +118,7 @@ returns-clause-ok g c =
     record {
       library = c.requires.library;
       keeps = subst (λ (array : ℕ → Option ℕ). VolumeKeeps T library_layout fs array fourth) no_numbers
-          (made_keeps T fs c.args.fs.few c.requires.library begun.block begun.field-0-1 c.first_inodes.result c.first_inodes.ensures.bare zeroth first second (opened T zeroth fs c.requires) begun.ensures.state
+          (made_keeps T fs c.args.fs.few c.requires.library begun.block begun.field-0-1 c.first_inodes.result c.first_inodes.ensures.bare zeroth first second ready begun.ensures.state
           (subst (λ t. Keeps t fs first second) c.init.ensures.types prepared.keeps) third fourth (subst (λ t. Leaves t fs first second) c.init.ensures.types prepared.ok) attached.result
           (subst (λ t. OnOk attached.result (Starts t fs second third begun.block)) (prepared.types ∙ c.init.ensures.types) attached.ensures.ok) attached.ensures.err
           (subst (λ t. Keeps t fs third fourth) before c.in_ok-forgotten.ensures.keeps));
@@ -122,6 +129,8 @@ returns-clause-made g c =
     let fs = c.args.fs.number in
     let T = g.S.Store.types_of c.args.store.now in
     let zeroth = g.S.Store.state_of c.args.store.now in
+    let found_ok = c.in_ok-begun.ensures.exact in
+    let ready = makeable T zeroth c.look_up_root.ensures.rules fs c.args.fs.few c.requires c.in_ok-begun.begun found_ok in
     let first = g.S.Store.state_of c.init.new.self in
     let second = g.S.Store.state_of c.prepare_root.new.store in
     let third = g.S.Store.state_of c.attach_first-attached.new.store in
@@ -129,11 +138,11 @@ returns-clause-made g c =
     let begun = c.in_ok-block in
     let attached = c.attach_first-attached in
     let prepared = c.in_ok-prepare_root.ensures in
-    let v = opened T zeroth fs c.requires in
+    let v = ready in
     let v2 = prepared_keeps T fs c.args.fs.few c.requires.library begun.block begun.field-0-1 c.first_inodes.result c.first_inodes.ensures.bare zeroth first second v begun.ensures.state
     (subst (λ t. Keeps t fs first second) c.init.ensures.types prepared.keeps) in
     made_volume T c.requires.library fs c.args.fs.few begun.block begun.field-0-1 zeroth first second v.consistent (subst (λ t. IsConsistent t first) c.init.ensures.types c.init.ensures.rules) v2.consistent
-    c.first_inodes.result c.first_inodes.ensures.exact begun.ensures.state c.in_ok-begun.begun c.in_ok-begun.ensures (subst (λ t. GetsRoot t fs c.in_ok-begun.begun first second) c.init.ensures.types prepared.ready)
+    c.first_inodes.result c.first_inodes.ensures.exact begun.ensures.state c.in_ok-begun.begun (make_found zeroth fs c.in_ok-begun.begun found_ok).1 (subst (λ t. GetsRoot t fs c.in_ok-begun.begun first second) c.init.ensures.types prepared.ready)
     third fourth attached.result _ c.in_ok-forgotten.ensures.same (subst (λ t. OnOk attached.result (MakesTop t fs begun.block second third)) (prepared.types ∙ c.init.ensures.types) attached.ensures.top)
     c.in_ok-forgotten.ensures.ok
 
@@ -150,47 +159,51 @@ returns-in_err-block-clause-short g c = λ begins is_ok.
 
 pub returns-in_err-block-clause-faults : goal.returns-in_err-block-clause-faults
 returns-in_err-block-clause-faults g c =
-    goes_on (make_in (latest (g.S.Store.state_of c.args.store.now).lives) c.args.fs.number) _ c.in_ok-begun.begun _ _ c.in_ok-begun.ensures (not_own _ (returns-in_err-block-clause-short g c c.in_ok-begun.begun c.in_ok-begun.ensures))
+    goes_on (make_from (g.S.Store.state_of c.args.store.now) c.args.fs.number) _ c.in_ok-begun.begun _ _ c.in_ok-begun.ensures.exact (not_own _ (returns-in_err-block-clause-short g c c.in_ok-begun.begun c.in_ok-begun.ensures.exact))
 
 pub returns-in_err-prepare_root-clause-short : goal.returns-in_err-prepare_root-clause-short
 returns-in_err-prepare_root-clause-short g c = λ begins is_ok.
     let fs = c.args.fs.number in
     let T = g.S.Store.types_of c.args.store.now in
     let zeroth = g.S.Store.state_of c.args.store.now in
+    let found_ok = c.in_ok-begun.ensures.exact in
+    let ready = makeable T zeroth c.look_up_root.ensures.rules fs c.args.fs.few c.requires c.in_ok-begun.begun found_ok in
     let first = g.S.Store.state_of c.init.new.self in
     let second = g.S.Store.state_of c.prepare_root.new.store in
     let begun = c.in_ok-block in
-    let found = c.in_ok-begun.ensures ∙ sym (found_still T fs c.args.fs.few begun.block begun.field-0-1 4 zeroth first (opened T zeroth fs c.requires).consistent c.first_inodes.result begun.ensures.state) in
+    let found = (make_found zeroth fs c.in_ok-begun.begun found_ok).1 ∙ sym (found_still T fs c.args.fs.few begun.block begun.field-0-1 4 zeroth first ready.consistent c.first_inodes.result begun.ensures.state) in
     let p = err_from_is_err_and c.from_residual-in_err-prepare_root.result c.from_residual-in_err-prepare_root.ensures.1 in
     rw (p.1, p.2) (c.in_err-prepare_root.ensures.short (subst IsLibrary (sym c.init.ensures.types) c.requires.library) c.init.ensures.rules found)
 
 pub returns-in_err-prepare_root-clause-faults : goal.returns-in_err-prepare_root-clause-faults
 returns-in_err-prepare_root-clause-faults g c =
-    goes_on (make_in (latest (g.S.Store.state_of c.args.store.now).lives) c.args.fs.number) _ c.in_ok-begun.begun _ _ c.in_ok-begun.ensures (not_own _ (returns-in_err-prepare_root-clause-short g c c.in_ok-begun.begun c.in_ok-begun.ensures))
+    goes_on (make_from (g.S.Store.state_of c.args.store.now) c.args.fs.number) _ c.in_ok-begun.begun _ _ c.in_ok-begun.ensures.exact (not_own _ (returns-in_err-prepare_root-clause-short g c c.in_ok-begun.begun c.in_ok-begun.ensures.exact))
 
 pub returns-in_err-forgotten-clause-short : goal.returns-in_err-forgotten-clause-short
 returns-in_err-forgotten-clause-short g c = λ begins is_ok.
     let fs = c.args.fs.number in
     let T = g.S.Store.types_of c.args.store.now in
     let zeroth = g.S.Store.state_of c.args.store.now in
+    let found_ok = c.in_ok-begun.ensures.exact in
+    let ready = makeable T zeroth c.look_up_root.ensures.rules fs c.args.fs.few c.requires c.in_ok-begun.begun found_ok in
     let first = g.S.Store.state_of c.init.new.self in
     let second = g.S.Store.state_of c.prepare_root.new.store in
     let fourth = g.S.Store.state_of c.forgotten.new.store in
     let begun = c.in_ok-block in
     let attached = c.attach_first-attached in
     let prepared = c.in_ok-prepare_root.ensures in
-    let v = opened T zeroth fs c.requires in
+    let v = ready in
     let v2 = prepared_keeps T fs c.args.fs.few c.requires.library begun.block begun.field-0-1 c.first_inodes.result c.first_inodes.ensures.bare zeroth first second v begun.ensures.state
     (subst (λ t. Keeps t fs first second) c.init.ensures.types prepared.keeps) in
     let all = attached_short T c.requires.library fs c.args.fs.few begun.block begun.field-0-1 zeroth first second v.consistent (subst (λ t. IsConsistent t first) c.init.ensures.types c.init.ensures.rules) v2.consistent
-    c.first_inodes.result c.first_inodes.ensures.exact begun.ensures.state c.in_ok-begun.begun c.in_ok-begun.ensures (subst (λ t. GetsRoot t fs c.in_ok-begun.begun first second) c.init.ensures.types prepared.ready)
+    c.first_inodes.result c.first_inodes.ensures.exact begun.ensures.state c.in_ok-begun.begun (make_found zeroth fs c.in_ok-begun.begun found_ok).1 (subst (λ t. GetsRoot t fs c.in_ok-begun.begun first second) c.init.ensures.types prepared.ready)
     attached.result (subst (λ t. IsLibrary t → IsConsistent t second → Ok true ≡ make_in (latest second.lives) fs → may_add second fs (begun.block, 4) ≡ true → OnlyShort attached.result) (prepared.types ∙ c.init.ensures.types) attached.ensures.short) in
     let p = err_from_is_err_and c.from_residual-in_err-forgotten.result c.from_residual-in_err-forgotten.ensures.1 in
     rw (p.1, p.2) (short_fault attached.result _ c.in_err-forgotten.ensures.same all)
 
 pub returns-in_err-forgotten-clause-faults : goal.returns-in_err-forgotten-clause-faults
 returns-in_err-forgotten-clause-faults g c =
-    goes_on (make_in (latest (g.S.Store.state_of c.args.store.now).lives) c.args.fs.number) _ c.in_ok-begun.begun _ _ c.in_ok-begun.ensures (not_own _ (returns-in_err-forgotten-clause-short g c c.in_ok-begun.begun c.in_ok-begun.ensures))
+    goes_on (make_from (g.S.Store.state_of c.args.store.now) c.args.fs.number) _ c.in_ok-begun.begun _ _ c.in_ok-begun.ensures.exact (not_own _ (returns-in_err-forgotten-clause-short g c c.in_ok-begun.begun c.in_ok-begun.ensures.exact))
 
 pub returns-in_err-begun-clause-short : goal.returns-in_err-begun-clause-short
-returns-in_err-begun-clause-short g c = λ begins is_ok. absurd (never begins _ (is_ok ∙ sym c.in_err-begun.ensures))
+returns-in_err-begun-clause-short g c = λ begins is_ok. absurd (never begins _ (is_ok ∙ sym c.in_err-begun.ensures.exact))
