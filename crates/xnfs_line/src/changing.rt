@@ -1,0 +1,151 @@
+// The words that change names: `mkdir`, `rm`, `rmdir`, `mv`, `cp`.
+
+use crate::fault::{Fault, Reason, at};
+use crate::finding::{Place, TOP, fault_at, find, names, place_of, target, there};
+use crate::looking::bytes_of;
+use crate::putting::{flush, put_bytes};
+use crate::walking::walk;
+use std::alloc::Global;
+use xnfs_session::{FfsFault, FlushStore, Session};
+
+/// Turns the fault of a call at a path into that of the line.
+fn done_at<S: FlushStore + Drop, A: Drop>(
+    session: &Session<S>,
+    alloc: Global,
+    path: &str,
+    answer: Result<A, FfsFault>,
+) -> Result<(), Fault> {
+    match answer {
+        Ok(_) => Ok(()),
+        Err(fault) => Err(fault_at(session, alloc, path, fault)),
+    }
+}
+
+/// Makes the folder of a name, which may be there already.
+fn make_or_find<S: FlushStore + Drop>(
+    session: &mut Session<S>,
+    alloc: Global,
+    path: &str,
+    place: Place,
+) -> Result<u16, Fault> {
+    match there(session, alloc, path, place)? {
+        Some(node) if node.is_directory => Ok(node.number),
+        Some(_) => Err(at(alloc, path, Reason::NoFolder)),
+        None => {
+            let made = session.mkdir(alloc, place.folder, place.name.as_bytes());
+            match made {
+                Ok(inode) => Ok(inode),
+                Err(fault) => Err(fault_at(session, alloc, path, fault)),
+            }
+        }
+    }
+}
+
+/// `mkdir -p`: makes a folder and those above it that are not there.
+pub fn make_folders<S: FlushStore + Drop>(
+    session: &mut Session<S>,
+    alloc: Global,
+    path: &str,
+) -> Result<u16, Fault> {
+    let mut folder = TOP;
+    for name in &names(alloc, path)? {
+        folder = make_or_find(session, alloc, path, Place { folder, name })?;
+    }
+    Ok(folder)
+}
+
+/// `mkdir`: makes a folder.
+pub fn make_folder<S: FlushStore + Drop>(
+    session: &mut Session<S>,
+    alloc: Global,
+    path: &str,
+) -> Result<(), Fault> {
+    let place = place_of(session, alloc, path)?;
+    let made = session.mkdir(alloc, place.folder, place.name.as_bytes());
+    done_at(session, alloc, path, made)
+}
+
+/// Gives up all that stands below a folder, the last first.
+fn empty_folder<S: FlushStore + Drop>(
+    session: &mut Session<S>,
+    alloc: Global,
+    path: &str,
+    folder: u16,
+) -> Result<(), Fault> {
+    let mut steps = walk(session, alloc, path, folder)?;
+    while let Some(step) = steps.pop() {
+        let removed = if step.node.is_directory {
+            session.rmdir(alloc, step.folder, &step.name)
+        } else {
+            session.unlink(alloc, step.folder, &step.name)
+        };
+        done_at(session, alloc, path, removed)?;
+        flush(session, alloc)?;
+    }
+    Ok(())
+}
+
+/// `rm`: gives a file up, or with `is_recursive` a folder with all below it.
+pub fn remove<S: FlushStore + Drop>(
+    session: &mut Session<S>,
+    alloc: Global,
+    path: &str,
+    is_recursive: bool,
+) -> Result<(), Fault> {
+    let place = place_of(session, alloc, path)?;
+    if is_recursive
+        && let Some(node) = there(session, alloc, path, place)?
+        && node.is_directory
+    {
+        empty_folder(session, alloc, path, node.number)?;
+        let removed = session.rmdir(alloc, place.folder, place.name.as_bytes());
+        return done_at(session, alloc, path, removed);
+    }
+    let removed = session.unlink(alloc, place.folder, place.name.as_bytes());
+    done_at(session, alloc, path, removed)
+}
+
+/// `rmdir`: gives an empty folder up.
+pub fn remove_folder<S: FlushStore + Drop>(
+    session: &mut Session<S>,
+    alloc: Global,
+    path: &str,
+) -> Result<(), Fault> {
+    let place = place_of(session, alloc, path)?;
+    let removed = session.rmdir(alloc, place.folder, place.name.as_bytes());
+    done_at(session, alloc, path, removed)
+}
+
+/// `mv`: gives a file or a folder another name; into a folder that has it the thing goes under its own name.
+pub fn rename<S: FlushStore + Drop>(
+    session: &mut Session<S>,
+    alloc: Global,
+    path: &str,
+    to: &str,
+) -> Result<(), Fault> {
+    let from = place_of(session, alloc, path)?;
+    if there(session, alloc, path, from)?.is_none() {
+        return Err(at(alloc, path, Reason::Missing));
+    }
+    let (place, _) = target(session, alloc, to, from.name)?;
+    let (name, new_name) = (from.name.as_bytes(), place.name.as_bytes());
+    let moved = session.rename(alloc, from.folder, name, place.folder, new_name);
+    done_at(session, alloc, to, moved)
+}
+
+/// `cp`: copies a file.
+pub fn copy<S: FlushStore + Drop>(
+    session: &mut Session<S>,
+    alloc: Global,
+    path: &str,
+    to: &str,
+) -> Result<(), Fault> {
+    let from = place_of(session, alloc, path)?;
+    let node = find(session, alloc, path)?;
+    if node.is_directory {
+        return Err(at(alloc, path, Reason::Folder));
+    }
+    let bytes = bytes_of(session, alloc, path, &node)?;
+    let (place, onto) = target(session, alloc, to, from.name)?;
+    put_bytes(session, alloc, to, place, onto, &bytes)
+}

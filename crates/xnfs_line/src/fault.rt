@@ -1,0 +1,140 @@
+// What is told where a line can't be done.
+
+use file_disk::FileFault;
+use std::alloc::{AllocError, AllocFailed, Global};
+use std::io;
+use thiserror::Error;
+use xn_kernel::Refusal;
+use xnfs_session::FfsFault;
+
+/// Why something can't be done at a path.
+#[derive(Clone, Copy, Debug, PartialEq, Eq, Error)]
+pub enum Reason {
+    #[error("no such file or folder")]
+    Missing,
+    #[error("is there already: a file is not replaced")]
+    There,
+    #[error("is no folder")]
+    NoFolder,
+    #[error("is a folder")]
+    Folder,
+    #[error("the folder is not empty")]
+    NotEmpty,
+    #[error("no name: a name has 1 to 28 bytes, without a zero, and is not . or ..")]
+    BadName,
+    #[error("too large: a file has at most 71680 bytes")]
+    FileTooLarge,
+    #[error("the folder is full: a folder has at most 192 names")]
+    FolderFull,
+    #[error("no inode: a volume has at most 128 files and folders, its top folder one of them")]
+    NoInode,
+    #[error("no space: {needed} blocks needed, {free} free")]
+    NoSpace { needed: u32, free: u32 },
+    #[error("no space: {free} blocks free")]
+    Full { free: u32 },
+    #[error("inode {0} has more names than links")]
+    Unsound(u16),
+    #[error("something is pending")]
+    Pending,
+    #[error("the store refused: {0}")]
+    Refused(Refusal),
+    #[error("folders below folders have no end")]
+    Endless,
+    #[error("is the top folder")]
+    Top,
+    #[error("would go into itself")]
+    Itself,
+    #[error("is not text")]
+    NotText,
+    #[error("neither a file nor a folder")]
+    Special,
+    #[error("is the name of files that are being made")]
+    Kept,
+    #[error("the file system has no volume there: `xnfs format` makes one")]
+    NoVolume,
+}
+
+/// Why a line can't be done. Its text is what is told, behind the names of the program and of the disk.
+#[derive(Debug, Drop, Error)]
+pub enum Fault {
+    /// At a path of the volume, or of the system.
+    #[error("{path}: {reason}")]
+    At { path: String, reason: Reason },
+    /// What the system answered at a path of its own.
+    #[error("{path}: {error}")]
+    System { path: String, error: io::Error },
+    /// The file is no disk, or can't be had.
+    #[error("{0}")]
+    File(FileFault),
+    /// The disk can't be mounted.
+    #[error("no sound disk: {0}")]
+    Image(&'static str),
+    /// What a volume is without.
+    #[error("{0}")]
+    Volume(Reason),
+    /// The disk failed in a flush, or there was no memory for it.
+    #[error("not on the disk: {0}")]
+    Flush(Refusal),
+    #[error("no memory")]
+    NoMemory,
+    #[error("a standard stream failed")]
+    Stream,
+}
+
+impl From<AllocError> for Fault {
+    fn from(_error: AllocError) -> Fault {
+        Fault::NoMemory
+    }
+}
+
+impl<T: Drop> From<AllocFailed<T>> for Fault {
+    fn from(_error: AllocFailed<T>) -> Fault {
+        Fault::NoMemory
+    }
+}
+
+impl From<io::Error> for Fault {
+    fn from(_error: io::Error) -> Fault {
+        Fault::Stream
+    }
+}
+
+impl From<FileFault> for Fault {
+    fn from(fault: FileFault) -> Fault {
+        Fault::File(fault)
+    }
+}
+
+/// What a volume's fault is at a path. `TooLarge` is that of a file here; of folders it is told apart where names are made.
+pub fn reason_of(fault: FfsFault, free: u32) -> Reason {
+    match fault {
+        FfsFault::NoEntry => Reason::Missing,
+        FfsFault::Exists => Reason::There,
+        FfsFault::NotDir => Reason::NoFolder,
+        FfsFault::IsDir => Reason::Folder,
+        FfsFault::DirNotEmpty => Reason::NotEmpty,
+        FfsFault::BadName => Reason::BadName,
+        FfsFault::TooLarge => Reason::FolderFull,
+        FfsFault::NoInode => Reason::NoInode,
+        FfsFault::Unsound(inode) => Reason::Unsound(inode),
+        FfsFault::Pending => Reason::Pending,
+        FfsFault::Kernel(Refusal::NoSpace) => Reason::Full { free },
+        FfsFault::Kernel(refusal) => Reason::Refused(refusal),
+    }
+}
+
+/// The fault of a reason at a path.
+pub fn at(alloc: Global, path: &str, reason: Reason) -> Fault {
+    match String::from_str(alloc, path) {
+        Ok(path) => Fault::At { path, reason },
+        Err(_) => Fault::NoMemory,
+    }
+}
+
+/// The fault of an error of the system at a path of its own.
+pub fn system(alloc: Global, path: &str, error: io::Error) -> Fault {
+    match String::from_str(alloc, path) {
+        Ok(path) => Fault::System { path, error },
+        Err(_) => Fault::NoMemory,
+    }
+}

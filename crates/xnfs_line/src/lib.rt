@@ -1,0 +1,18 @@
+//! Lines of `xnfs`: what each word does to the files of a disk, and what it prints.
+//!
+//! Of these functions it is proved that they are safe and end. That names stay good in every image that a crash may leave is proved of
+//! each session (`xnfs_session`), whatever is done here. The rest is tested.
+#![tactic(auto)]
+
+mod changing;
+mod checking;
+mod disks;
+mod fault;
+mod finding;
+mod getting;
+mod lines;
+mod looking;
+mod putting;
+mod walking;
+
+pub use lines::line;

@@ -1,0 +1,146 @@
+// The words that look: `ls`, `tree`, `cat`, `stat`, `df`.
+
+use crate::fault::{Fault, Reason, at};
+use crate::finding::{fault_at, find, names};
+use crate::putting::is_hidden;
+use crate::walking::{sorted_names, walk};
+use std::alloc::Global;
+use std::io::Write;
+use xnfs_session::{FlushStore, MOST_BYTES, MOST_INODES, Node, Session};
+
+/// Prints a name, and a folder's with `/` behind it.
+fn print_name(name: &[u8], node: &Node, out: &mut impl Write) -> Result<(), Fault> {
+    out.write_all(name)?;
+    writeln!(out, "{}", if node.is_directory { "/" } else { "" })?;
+    Ok(())
+}
+
+/// Prints what stands at an inode: its kind, how many links it has, and its size in bytes.
+fn print_node(node: &Node, out: &mut impl Write) -> Result<(), Fault> {
+    let kind = if node.is_directory { 'd' } else { '-' };
+    write!(out, "{kind} {:>3} {:>5} ", node.links, node.size)?;
+    Ok(())
+}
+
+/// Prints the line of a name.
+fn print_entry(name: &[u8], node: &Node, is_long: bool, out: &mut impl Write) -> Result<(), Fault> {
+    if is_long {
+        print_node(node, out)?;
+    }
+    print_name(name, node, out)
+}
+
+/// `ls`: the names in a folder, or that of a file.
+pub fn list<S: FlushStore + Drop>(
+    session: &Session<S>,
+    alloc: Global,
+    path: &str,
+    is_long: bool,
+    out: &mut impl Write,
+) -> Result<(), Fault> {
+    let node = find(session, alloc, path)?;
+    if !node.is_directory {
+        let names = names(alloc, path)?;
+        let name = names.last().copied().unwrap_or("");
+        return print_entry(name.as_bytes(), &node, is_long, out);
+    }
+    let names = sorted_names(session, alloc, path, node.number)?;
+    for (name, inode) in &names {
+        if is_hidden(name) {
+            continue;
+        }
+        match session.node(*inode) {
+            Ok(node) => print_entry(name, &node, is_long, out)?,
+            Err(fault) => return Err(fault_at(session, alloc, path, fault)),
+        }
+    }
+    Ok(())
+}
+
+/// `tree`: all that stands below a folder, each name two spaces further in than its folder's.
+pub fn tree<S: FlushStore + Drop>(
+    session: &Session<S>,
+    alloc: Global,
+    path: &str,
+    out: &mut impl Write,
+) -> Result<(), Fault> {
+    let node = find(session, alloc, path)?;
+    if !node.is_directory {
+        return Err(at(alloc, path, Reason::NoFolder));
+    }
+    for step in &walk(session, alloc, path, node.number)? {
+        for _ in 0..step.depth {
+            write!(out, "  ")?;
+        }
+        print_name(&step.name, &step.node, out)?;
+    }
+    Ok(())
+}
+
+/// A file's bytes.
+pub fn bytes_of<S: FlushStore + Drop>(
+    session: &Session<S>,
+    alloc: Global,
+    path: &str,
+    node: &Node,
+) -> Result<Vec<u8>, Fault> {
+    let length = node.size.min(MOST_BYTES) as usize;
+    let mut bytes = vec![in alloc; 0; length]?;
+    match session.read(node.number, 0, &mut bytes) {
+        Ok(_) => Ok(bytes),
+        Err(fault) => Err(fault_at(session, alloc, path, fault)),
+    }
+}
+
+/// `cat`: a file's bytes.
+pub fn cat<S: FlushStore + Drop>(
+    session: &Session<S>,
+    alloc: Global,
+    path: &str,
+    out: &mut impl Write,
+) -> Result<(), Fault> {
+    let node = find(session, alloc, path)?;
+    if node.is_directory {
+        return Err(at(alloc, path, Reason::Folder));
+    }
+    let bytes = bytes_of(session, alloc, path, &node)?;
+    out.write_all(&bytes)?;
+    Ok(())
+}
+
+/// `stat`: what stands at a path.
+pub fn stat<S: FlushStore + Drop>(
+    session: &Session<S>,
+    alloc: Global,
+    path: &str,
+    out: &mut impl Write,
+) -> Result<(), Fault> {
+    let node = find(session, alloc, path)?;
+    let kind = if node.is_directory { "folder" } else { "file" };
+    writeln!(
+        out,
+        "{kind} inode {} links {} size {}",
+        node.number, node.links, node.size
+    )?;
+    Ok(())
+}
+
+/// `df`: what is taken, what is left, and the limits.
+pub fn usage<S: FlushStore + Drop>(
+    session: &Session<S>,
+    out: &mut impl Write,
+) -> Result<(), Fault> {
+    let usage = session.usage();
+    writeln!(out, "blocks free: {}", usage.free_blocks)?;
+    writeln!(
+        out,
+        "inodes used: {} of {MOST_INODES}, free: {}",
+        usage.used_inodes,
+        MOST_INODES.saturating_sub(usage.used_inodes)
+    )?;
+    writeln!(
+        out,
+        "limits: a name 28 bytes, a file {MOST_BYTES} bytes, a folder 192 names"
+    )?;
+    Ok(())
+}

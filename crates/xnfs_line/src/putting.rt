@@ -1,0 +1,142 @@
+// Files that are brought into a volume. A file is made whole beside its place, and then gets its name: so what a name names is whole at each
+// moment and after each crash.
+
+use crate::fault::{Fault, Reason, at};
+use crate::finding::{Place, fault_at};
+use std::alloc::Global;
+use xnfs_session::{FfsFault, FlushStore, MOST_BYTES, Node, Session};
+
+/// The name of a file that is being made. One that a stop has left is given up by the next one in its folder.
+pub const MADE: &str = ".xnfs-put";
+
+/// How many bytes are written before they are flushed: 48 blocks, so that never more edits of a block are pending than may be.
+const PIECE: usize = 48 * 512;
+
+/// Whether `ls` leaves a name out.
+pub fn is_hidden(name: &[u8]) -> bool {
+    name == MADE.as_bytes()
+}
+
+/// Writes all that is pending.
+pub fn flush<S: FlushStore + Drop>(session: &mut Session<S>, alloc: Global) -> Result<(), Fault> {
+    match session.flush(alloc) {
+        Ok(_) => Ok(()),
+        Err(refusal) => Err(Fault::Flush(refusal)),
+    }
+}
+
+/// How many blocks a file of so many bytes takes.
+fn blocks_for(bytes: usize) -> u32 {
+    let bytes = bytes.min(MOST_BYTES as usize);
+    let whole = (bytes / 512) as u32;
+    let data = if bytes % 512 == 0 { whole } else { whole + 1 };
+    if data > 12 { data + 1 } else { data }
+}
+
+/// Writes the bytes of a new file, and flushes each piece of them.
+fn fill<S: FlushStore + Drop>(
+    session: &mut Session<S>,
+    alloc: Global,
+    inode: u16,
+    bytes: &[u8],
+) -> Result<Result<(), FfsFault>, Fault> {
+    let mut at = 0;
+    let mut rest = bytes;
+    while !rest.is_empty() {
+        let (piece, more) = rest.split_at(rest.len().min(PIECE));
+        if let Err(fault) = session.write(alloc, inode, at, piece) {
+            return Ok(Err(fault));
+        }
+        flush(session, alloc)?;
+        at = at.saturating_add(piece.len() as u32);
+        rest = more;
+    }
+    Ok(Ok(()))
+}
+
+/// Gives up the file that is being made, if it is there.
+fn give_up<S: FlushStore + Drop>(
+    session: &mut Session<S>,
+    alloc: Global,
+    folder: u16,
+) -> Result<(), Fault> {
+    match session.unlink(alloc, folder, MADE.as_bytes()) {
+        Ok(()) => flush(session, alloc),
+        Err(_) => Ok(()),
+    }
+}
+
+/// Makes a file of these bytes beside its place.
+fn make<S: FlushStore + Drop>(
+    session: &mut Session<S>,
+    alloc: Global,
+    folder: u16,
+    bytes: &[u8],
+) -> Result<Result<(), FfsFault>, Fault> {
+    give_up(session, alloc, folder)?;
+    match session.create(alloc, folder, MADE.as_bytes()) {
+        Ok(inode) => fill(session, alloc, inode, bytes),
+        Err(fault) => Ok(Err(fault)),
+    }
+}
+
+/// Gives the file that was made its name.
+fn name_it<S: FlushStore + Drop>(
+    session: &mut Session<S>,
+    alloc: Global,
+    place: Place,
+) -> Result<(), FfsFault> {
+    let (folder, name) = (place.folder, place.name.as_bytes());
+    session.rename(alloc, folder, MADE.as_bytes(), folder, name)
+}
+
+/// What is told where a put was refused: of want of blocks how many it needs.
+fn put_fault<S: FlushStore + Drop>(
+    session: &Session<S>,
+    alloc: Global,
+    path: &str,
+    bytes: &[u8],
+    fault: FfsFault,
+) -> Fault {
+    match fault {
+        FfsFault::Kernel(xn_kernel::Refusal::NoSpace) => {
+            let (needed, free) = (blocks_for(bytes.len()), session.free());
+            at(alloc, path, Reason::NoSpace { needed, free })
+        }
+        _ => fault_at(session, alloc, path, fault),
+    }
+}
+
+/// Puts a file of these bytes at a place where nothing is.
+pub fn put_bytes<S: FlushStore + Drop>(
+    session: &mut Session<S>,
+    alloc: Global,
+    path: &str,
+    place: Place,
+    onto: Option<Node>,
+    bytes: &[u8],
+) -> Result<(), Fault> {
+    if bytes.len() > MOST_BYTES as usize {
+        return Err(at(alloc, path, Reason::FileTooLarge));
+    }
+    if let Some(node) = onto {
+        let reason = if node.is_directory {
+            Reason::Folder
+        } else {
+            Reason::There
+        };
+        return Err(at(alloc, path, reason));
+    }
+    let done = match make(session, alloc, place.folder, bytes)? {
+        Ok(()) => name_it(session, alloc, place),
+        Err(fault) => Err(fault),
+    };
+    match done {
+        Ok(()) => flush(session, alloc),
+        Err(fault) => {
+            let fault = put_fault(session, alloc, path, bytes, fault);
+            give_up(session, alloc, place.folder)?;
+            Err(fault)
+        }
+    }
+}

@@ -1,0 +1,55 @@
+// Stores whose pending entries are written in waves.
+
+ghost use Rattle.std.specs.Prelude.{◌≡◌, IsOk, OnOk};
+ghost use Rattle.xn_model.specs.Calls.{free_of};
+ghost use Rattle.ffs_lib.specs.Volumes.{NothingPending};
+ghost use Rattle.xnfs_session.specs.Kept.{KeepsVolumes};
+
+use disk::Lane;
+use std::alloc::Global;
+use xn_kernel::{FlushStop, Kernel, Refusal, Store};
+
+/// A store on a disk that can be flushed.
+pub trait FlushStore: Store {
+    /// Writes all that is pending, and answers how many waves that took. Where it is refused the store may have blocks in flight that
+    /// nothing finishes any more.
+    fn flush(&mut self, alloc: Global) -> Result<u32, Refusal>
+        ensures keeps { KeepsVolumes (Self.types_of self.old) (Self.state_of self.old) (Self.types_of self.new) (Self.state_of self.new) }
+        ensures done { OnOk result (NothingPending (Self.state_of self.new).lives) };
+
+    /// How many blocks are free.
+    fn free(&self) -> u32
+        ensures { result ≡ free_of (Self.state_of self.now) };
+}
+
+/// What a flush answers. The lanes of blocks that could not be finished are given up.
+fn waves_of<L: Lane + Drop>(flushed: Result<u32, FlushStop<L>>) -> Result<u32, Refusal>
+    ensures { OnOk result (IsOk flushed) }
+{
+    match flushed {
+        Ok(waves) => Ok(waves),
+        Err(stop) => {
+            let FlushStop {
+                waves: _,
+                mut tickets,
+                refusal,
+            } = stop;
+            while let Some(ticket) = tickets.pop() {
+                let _lane = ticket.into_lane();
+            }
+            tickets.destroy_empty();
+            Err(refusal)
+        }
+    }
+}
+
+impl<L: Lane + Drop> FlushStore for Kernel<L> {
+    fn flush(&mut self, alloc: Global) -> Result<u32, Refusal> {
+        let flushed = Kernel::flush(self, alloc);
+        waves_of(flushed)
+    }
+
+    fn free(&self) -> u32 {
+        Kernel::free(self)
+    }
+}
