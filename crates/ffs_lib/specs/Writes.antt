@@ -122,7 +122,8 @@ Wrote old new fs n inode offset bytes =
 -- the next block was refused, where this many bytes from a place on are done; or the size, where all are
 abbrev pub StopsNext : Types → ℕ → StoreState → ℕ → ℕ → ℕ → ℕ → ℕ → FfsFault → Type 0
 StopsNext T fs new n start offset done count fault =
-    ((done < count) × (IsBorder start (start + done) ⊎ (start + done ≡ offset)) × (before : StoreState) × StopsBlock T fs before new n ((start + done) / 512) fault)
+    ((done < count) × (IsBorder start (start + done) ⊎ (start + done ≡ offset)) × (before : StoreState)
+        × StopsBlock T fs before new n ((start + done) / 512) fault)
     ⊎ ((done ≡ count) × StopsAtHome T fs new new n fault)
 
 -- The first of what it writes is there, up to a block's end, and the file ends where it did.
@@ -133,7 +134,8 @@ pub record StopsWriting (T : Types) (fs : ℕ) (old new : StoreState) (n : ℕ) 
   pub told : StopsNext T fs new n (padded_from inode offset) offset done (length (padded inode offset bytes)) fault
 
 -- in the middle of a write: its size is not raised yet
-pub record Padded (T : Types) (fs : ℕ) (array : ℕ → Option ℕ) (old new : StoreState) (n : ℕ) (inode : List ℕ) (offset : ℕ) (bytes : List ℕ) (progress : Progress) : Type 0 where
+pub record Padded (T : Types) (fs : ℕ) (array : ℕ → Option ℕ) (old new : StoreState) (n : ℕ) (inode : List ℕ) (offset : ℕ)
+    (bytes : List ℕ) (progress : Progress) : Type 0 where
   pub stage : Stage T fs array new
   pub few : progress.taken ≤ length bytes
   pub done : ℕ
