@@ -28,6 +28,8 @@ pub mod Undoing
 pub mod Laws
 pub mod Removal
 pub mod NameLaws
+pub mod DataLaws
+pub mod Parting
 pub mod MoveLaws
 pub mod MakeLaws
 pub mod Singles

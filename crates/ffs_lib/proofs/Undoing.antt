@@ -30,6 +30,17 @@ module _ (T : Types) (state : StoreState) (fs b : ℕ) where
       at (Err refusal) = inl refl
       at (Ok l) = by (forget_refusal T l)
 
+  pub left_next : left.next ≡ state.next
+  left_next = at (own_life state fs b)
+    where
+      by : (refusal : Option Refusal) → (left_by {A = Unit {0}} (unless refusal (Ok (tt, record state { lives = slice_set state.lives b None }))) state).next ≡ state.next
+      by None = refl
+      by (Some refusal) = refl
+
+      at : (own : Result Life Refusal) → (left_by (result_and_then (forget_at T state b) own) state).next ≡ state.next
+      at (Err refusal) = refl
+      at (Ok l) = by (forget_refusal T l)
+
   latest_left : (c : ℕ) → c ≢ b → latest left.lives c ≡ latest state.lives c
   latest_left c ne = elim left_lives [
     | inl e ↦ ap (λ (xs : Lives). latest xs c) e

@@ -24,9 +24,9 @@ use Rattle.ffs_lookup.specs.declared.fault.FfsFault.{FfsFault}
 use Rattle.ffs_lookup.specs.declared.fault.FfsFault.TheVariants.{IsDir}
 use Rattle.ffs_lib.specs.Edits.{edit_at}
 use Rattle.ffs_lookup.specs.Newest.{and_then, byte_in, byte_of, file_block, file_end, file_in, if_file, inode_in}
-use Rattle.ffs_lib.specs.Outcomes.{AttachesBlock, AttachesData, AttachesPointers, HasBlock, Keeps, IsRaised, WritesBytes}
+use Rattle.ffs_lib.specs.Outcomes.{HasBlock, IsRaised}
 use Rattle.ffs_lib.specs.Results.{WroteBytes}
-use Rattle.ffs_lib.specs.Results.{IsWritten, SameInode, byte_written}
+use Rattle.ffs_lib.specs.Results.{SameInode, byte_written}
 use Rattle.ffs_lib.proofs.Frames.{byte_apart, byte_within}
 use Rattle.ffs_lib.proofs.Owners.{Stands, block_at, direct_block, not_first, passed, pointers_apart, pointers_at, stands_from, two_blocks}
 use Rattle.ffs_lookup.proofs.ForCallers.{file_is, gives_ok, in_file, same_ok}
@@ -49,21 +49,21 @@ file_same v w fs n e = ap (λ (r : Result (List ℕ) FfsFault). and_then r if_fi
 
 -- Bytes that are written
 
-test_in : (f : ℕ → ℕ) (start : ℕ) (bs : List ℕ) (at : ℕ) → start ≤ at → at < start + length bs → byte_written f start bs at ≡ get_or bs (at - start) 0
+pub test_in : (f : ℕ → ℕ) (start : ℕ) (bs : List ℕ) (at : ℕ) → start ≤ at → at < start + length bs → byte_written f start bs at ≡ get_or bs (at - start) 0
 test_in f start bs at lo hi =
     ap (λ (t : Bool). if t && nat_lt at (start + length bs) then get_or bs (at - start) 0 else f at) (le-leb start at lo)
     ∙ ap (λ (t : Bool). if t then get_or bs (at - start) 0 else f at) (lt-ltb at (start + length bs) hi)
 
-test_below : (f : ℕ → ℕ) (start : ℕ) (bs : List ℕ) (at : ℕ) → at < start → byte_written f start bs at ≡ f at
+pub test_below : (f : ℕ → ℕ) (start : ℕ) (bs : List ℕ) (at : ℕ) → at < start → byte_written f start bs at ≡ f at
 test_below f start bs at lt = ap (λ (t : Bool). if t && nat_lt at (start + length bs) then get_or bs (at - start) 0 else f at) (lt-leb start at lt)
 
-test_above : (f : ℕ → ℕ) (start : ℕ) (bs : List ℕ) (at : ℕ) → start + length bs ≤ at → byte_written f start bs at ≡ f at
+pub test_above : (f : ℕ → ℕ) (start : ℕ) (bs : List ℕ) (at : ℕ) → start + length bs ≤ at → byte_written f start bs at ≡ f at
 test_above f start bs at ge =
     ap (λ (t : Bool). if t && nat_lt at (start + length bs) then get_or bs (at - start) 0 else f at) (le-leb start at (omega (arith, ge)))
     ∙ ap (λ (t : Bool). if t then get_or bs (at - start) 0 else f at) (le-ltb at (start + length bs) ge)
 
 -- where a byte stands
-cases_written : (start count at : ℕ) → (at < start) ⊎ ((start ≤ at) × (at < start + count)) ⊎ (start + count ≤ at)
+pub cases_written : (start count at : ℕ) → (at < start) ⊎ ((start ≤ at) × (at < start + count)) ⊎ (start + count ≤ at)
 cases_written start count at = elim (cases_lt at start) [
   | inl lt ↦ inl lt
   | inr ge ↦ inr (elim (cases_lt at (start + count)) [ inl lt ↦ inl (ge, lt) | inr past ↦ inr past ])
@@ -131,10 +131,10 @@ written_on f g h start bs cs x e e' =
 pub written_none : (f : ℕ → ℕ) (start x : ℕ) → f x ≡ byte_written f start [] x
 written_none f start x = elim (cases_lt x start) [ inl lt ↦ sym (test_below f start [] x lt) | inr ge ↦ sym (test_above f start [] x (omega (arith, ge))) ]
 
-written_same : (f g : ℕ → ℕ) (start : ℕ) (bs : List ℕ) (x : ℕ) → f x ≡ g x → byte_written f start bs x ≡ byte_written g start bs x
+pub written_same : (f g : ℕ → ℕ) (start : ℕ) (bs : List ℕ) (x : ℕ) → f x ≡ g x → byte_written f start bs x ≡ byte_written g start bs x
 written_same f g start bs x e = ap (λ y. if nat_le start x && nat_lt x (start + length bs) then get_or bs (x - start) 0 else y) e
 
-byte_there : (content : ℕ → List ℕ) (b k : ℕ) → b ≢ 0 → byte_in content b k ≡ get_or (content b) k 0
+pub byte_there : (content : ℕ → List ℕ) (b k : ℕ) → b ≢ 0 → byte_in content b k ≡ get_or (content b) k 0
 byte_there content b k ne = ap (λ (t : Bool). if t then 0 else get_or (content b) k 0) (ne_eqb b 0 ne)
 
 pub byte_same : (v w : ℕ → List ℕ) (b k : ℕ) → (b ≢ 0 → w b ≡ v b) → byte_in w b k ≡ byte_in v b k
@@ -154,12 +154,12 @@ module _ (T : Types) (lib : IsLibrary T) (state new : StoreState) (h : IsConsist
   own : Stands v fs n inode
   own = stands_from v fs n inode (file_from v fs n inode is)
 
-  pub data_written : (index block at : ℕ) (bytes : List ℕ) → index < 140 → file_block v inode index ≡ block → block ≢ 0 → length (v block) ≡ 512 → at + length bytes ≤ 512 → (entry : ℕ) → propose_of T state fs block (edit_at at bytes [] [] None) ≡ Ok (entry, new) →
+  pub data_written : (index block at : ℕ) (bytes : List ℕ) → index < 140 → file_block v inode index ≡ block → block ≢ 0 → length (v block) ≡ 512 → at + length bytes ≤ 512 → (after : Option ℕ) (entry : ℕ) → propose_of T state fs block (edit_at at bytes [] [] after) ≡ Ok (entry, new) →
       WroteBytes v w fs n inode (512 * index + at) bytes × ((d : ℕ) → d ≢ n → SameInode v w fs d)
-  data_written index block at bytes low points there long fit entry done =
+  data_written index block at bytes low points there long fit after entry done =
       let reach = block_at T lib state h fs few n inode own index block low points there in
-      let t = edited T state new h fs few block 2 (edit_at at bytes [] [] None) entry done reach in
-      let here : w block ≡ put (v block) at bytes = proposed_here T state new h fs block (edit_at at bytes [] [] None) entry done in
+      let t = edited T state new h fs few block 2 (edit_at at bytes [] [] after) entry done reach in
+      let here : w block ≡ put (v block) at bytes = proposed_here T state new h fs block (edit_at at bytes [] [] after) entry done in
       let same : (i : ℕ) → file_block w inode i ≡ file_block v inode i = file_block_by v w inode (λ ne. t.others (word_at inode 56) 5 (pointers_at T lib state h fs few n inode own (word_at inode 56) refl ne)
       (λ e. pointers_apart T lib state h fs few n n inode inode own own index block low points e there)) in
       let others : (i k : ℕ) → i < 140 → i ≢ index → byte_in w (file_block w inode i) k ≡ byte_in v (file_block v inode i) k =
@@ -255,7 +255,7 @@ blocks_agree content a b i direct last = elim (cases_lt i 12) [
       ap (λ (t : Bool). if t then direct_in a i else rest (word_at a 56)) (le-ltb i 12 ge) ∙ (ap rest last ∙ sym (ap (λ (t : Bool). if t then direct_in b i else rest (word_at b 56)) (le-ltb i 12 ge)))
 ]
 
-no_pointers : (content : ℕ → List ℕ) (a : List ℕ) (i : ℕ) → 12 ≤ i → word_at a 56 ≡ 0 → file_block content a i ≡ 0
+pub no_pointers : (content : ℕ → List ℕ) (a : List ℕ) (i : ℕ) → 12 ≤ i → word_at a 56 ≡ 0 → file_block content a i ≡ 0
 no_pointers content a i ge e =
     ap (λ (t : Bool). if t then direct_in a i else if word_at a 56 == 0 then 0 else pointer_word (content (word_at a 56)) (i - 12)) (le-ltb i 12 ge)
     ∙ ap (λ (t : Bool). if t then 0 else pointer_word (content (word_at a 56)) (i - 12)) (eq-eqb (word_at a 56) 0 e)
@@ -361,8 +361,8 @@ module _ (T : Types) (lib : IsLibrary T) (state new : StoreState) (h : IsConsist
 
 -- A pointer of a file's block of pointers is set
 pub data_attached : (T : Types) (lib : IsLibrary T) (state new : StoreState) (h : IsConsistent T state) (fs : ℕ) (few : fs < 32) (n : ℕ) (inode : List ℕ) (is : Ok inode ≡ file_in (latest state.lives) fs n) (last place block entry : ℕ) → word_at inode 56 ≡ last → last ≢ 0 → place < 128 →
-    length (latest state.lives last) ≡ 512 → block < 2 ^ 32 → propose_of T state fs last (edit_at (4 * place) (to_le_bytes w32 block) ((block, 2) ∷ []) [] None) ≡ Ok (entry, new) → HasBlock T (latest state.lives) (latest new.lives) fs n inode (12 + place) block
-data_attached T lib state new h fs few n inode is last place block entry points there low long small done = record {
+    length (latest state.lives last) ≡ 512 → block < 2 ^ 32 → (after : Option ℕ) → propose_of T state fs last (edit_at (4 * place) (to_le_bytes w32 block) ((block, 2) ∷ []) [] after) ≡ Ok (entry, new) → HasBlock T (latest state.lives) (latest new.lives) fs n inode (12 + place) block
+data_attached T lib state new h fs few n inode is last place block entry points there low long small after done = record {
   after = inode;
   file = is ∙ sym (file_same v w fs n (inodes_same T lib v w fs last 5 t (λ z. omega (arith, z)) (λ z. omega (arith, z)) n));
   size = refl;
@@ -387,7 +387,7 @@ data_attached T lib state new h fs few n inode is last place block entry points 
     w = latest new.lives
 
     edit : Edit
-    edit = edit_at (4 * place) (to_le_bytes w32 block) ((block, 2) ∷ []) [] None
+    edit = edit_at (4 * place) (to_le_bytes w32 block) ((block, 2) ∷ []) [] after
 
     own : Stands v fs n inode
     own = stands_from v fs n inode (file_from v fs n inode is)
@@ -421,30 +421,10 @@ data_attached T lib state new h fs few n inode is last place block entry points 
     less : 12 + place - 12 ≡ place
     less = omega arith
 
--- A new block of a file: begun with bytes, and attached
-pub file_grown : {A : Type 0} (T : Types) (fs : ℕ) → fs < 32 → (block number : ℕ) (zeroth first second third : StoreState) → IsConsistent T first → (n index at : ℕ) (bytes all inode : List ℕ) → all ≡ put zeros at bytes →
-    Gives (init_of T zeroth fs 2 all) zeroth first (Ok (block, number)) → (attached result : Result A FfsFault) → result ≡ attached → (IsConsistent T zeroth → OnOk attached (AttachesBlock T fs n index block first second)) → OnOk result (third ≡ second) →
-    (IsLibrary T → Ok inode ≡ file_in (latest zeroth.lives) fs n) → index < 140 → file_block (latest zeroth.lives) inode index ≡ 0 → at + length bytes ≤ 512 → OnOk result (WritesBytes T fs n (512 * index + at) bytes zeroth third)
-file_grown T fs few block number zeroth first second third h1 n index at bytes all inode e given attached (Err fault) is grows same file low hole fit = tt
-file_grown {A} T fs few block number zeroth first second third h1 n index at bytes all inode e given attached (Ok x) is grows same file low hole fit = λ lib array v.
-    let h = v.consistent in
-    let done = subst (λ m. init_of T zeroth fs 2 m ≡ Ok ((block, number), first)) e (gives_ok (init_of T zeroth fs 2 all) zeroth first (block, number) given) in
-    let grown = subst (λ (r : Result A FfsFault). OnOk r (AttachesBlock T fs n index block first second)) (sym is) (grows h) lib h1 in
-    let wrote = block_written T lib zeroth first second h h1 fs few block number at bytes done n index inode grown.0 (file lib) low hole fit grown.1 grown.2 in (
-      λ other is_other. subst (λ (s : StoreState). WroteBytes (latest zeroth.lives) (latest s.lives) fs n other (512 * index + at) bytes) (sym same)
-          (subst (λ i. WroteBytes (latest zeroth.lives) (latest second.lives) fs n i (512 * index + at) bytes) (same_ok inode other (file lib ∙ sym is_other)) wrote),
-      λ d ne. subst (λ (s : StoreState). SameInode (latest zeroth.lives) (latest s.lives) fs d) (sym same)
-          (same_on (latest zeroth.lives) (latest first.lives) (latest second.lives) fs d (fresh_same T lib zeroth first second h h1 fs few block number at bytes done d) (grown.2.others d ne)),
-    )
-
 -- nothing is written
 pub wrote_none : (v : ℕ → List ℕ) (fs n start : ℕ) (inode : List ℕ) → Ok inode ≡ file_in v fs n → WroteBytes v v fs n inode start []
 wrote_none v fs n start inode is = record { after = inode; file = is; size = refl; marks = (refl, refl); each = λ x low. written_none (byte_of v inode) start x }
 
-pub writes_none : (T : Types) (state : StoreState) (fs n start : ℕ) → WritesBytes T fs n start [] state state
-writes_none T state fs n start lib array v = (λ inode is. wrote_none (latest state.lives) fs n start inode is, λ d ne. (refl, λ inode is. (refl, λ at low. refl)))
-
--- one write after another
 -- a file whose bytes stay after some were written
 pub wrote_still : (T : Types) (fs n start : ℕ) (old first second : StoreState) (inode bytes : List ℕ) → WroteBytes (latest old.lives) (latest first.lives) fs n inode start bytes →
     ((after : List ℕ) → Ok after ≡ file_in (latest first.lives) fs n → WroteBytes (latest first.lives) (latest second.lives) fs n after 0 []) → WroteBytes (latest old.lives) (latest second.lives) fs n inode start bytes
@@ -452,77 +432,10 @@ wrote_still T fs n start old first second inode bytes a next =
     let b = next a.after a.file in
     record { after = b.after; file = b.file; size = b.size ∙ a.size; marks = (b.marks.0 ∙ a.marks.0, b.marks.1 ∙ a.marks.1); each = λ at low. b.each at low ∙ (sym (written_none (byte_of (latest first.lives) a.after) 0 at) ∙ a.each at low) }
 
--- all inodes are as before
-pub unwritten : (T : Types) (fs n : ℕ) (old new : StoreState) → (IsLibrary T → IsConsistent T old → (d : ℕ) → SameInode (latest old.lives) (latest new.lives) fs d) → WritesBytes T fs n 0 [] old new
-unwritten T fs n old new same lib array v =
-    let s = same lib v.consistent in
-    let u = latest old.lives in
-    let w = latest new.lives in (
-      λ inode is. record {
-        after = inode;
-        file = is ∙ sym (file_same u w fs n (s n).0);
-        size = refl;
-        marks = (refl, refl);
-        each = λ at low. ((s n).1 inode (file_from u fs n inode is)).1 at low ∙ written_none (byte_of u inode) 0 at;
-      },
-      λ d ne. s d,
-    )
-
-pub unwritten_here : (T : Types) (fs n : ℕ) (old new : StoreState) → new ≡ old → WritesBytes T fs n 0 [] old new
-unwritten_here T fs n old new e = subst (WritesBytes T fs n 0 [] old) (sym e) (writes_none T old fs n 0)
-
 pub wrote_on : (u v w : ℕ → List ℕ) (fs n start : ℕ) (inode bs cs : List ℕ) → WroteBytes u v fs n inode start bs → ((after : List ℕ) → Ok after ≡ file_in v fs n → WroteBytes v w fs n after (start + length bs) cs) → WroteBytes u w fs n inode start (bs ++ cs)
 wrote_on u v w fs n start inode bs cs a next =
     let b = next a.after a.file in
     record { after = b.after; file = b.file; size = b.size ∙ a.size; marks = (b.marks.0 ∙ a.marks.0, b.marks.1 ∙ a.marks.1); each = λ x low. written_on (byte_of u inode) (byte_of v a.after) (byte_of w b.after) start bs cs x (a.each x low) (b.each x low) }
-
--- a write after a change that leaves the bytes
-pub writes_after : (T : Types) (fs n start : ℕ) (bytes : List ℕ) (zeroth first second : StoreState) → Keeps T fs zeroth first → WritesBytes T fs n 0 [] zeroth first → WritesBytes T fs n start bytes first second → WritesBytes T fs n start bytes zeroth second
-writes_after T fs n start bytes zeroth first second keeps one two lib array v =
-    let a = one lib array v in
-    let b = two lib array (keeps lib array v) in (
-      λ inode is.
-          let x = a.0 inode is in
-          let y = b.0 x.after x.file in
-          record {
-            after = y.after;
-            file = y.file;
-            size = y.size ∙ x.size;
-            marks = (y.marks.0 ∙ x.marks.0, y.marks.1 ∙ x.marks.1);
-            each = λ at low. y.each at low ∙ written_same (byte_of (latest first.lives) x.after) (byte_of (latest zeroth.lives) inode) start bytes at (x.each at low ∙ sym (written_none (byte_of (latest zeroth.lives) inode) 0 at));
-          },
-      λ d ne. same_on (latest zeroth.lives) (latest first.lives) (latest second.lives) fs d (a.1 d ne) (b.1 d ne),
-    )
-
--- A block of pointers: begun, and attached
-pub pointers_grown : {A : Type 0} (T : Types) (fs : ℕ) → fs < 32 → (block number : ℕ) (zeroth first second third : StoreState) → IsConsistent T first → (n : ℕ) (inode : List ℕ) → Gives (init_of T zeroth fs 5 zeros) zeroth first (Ok (block, number)) →
-    (attached : Result A FfsFault) (x : A) → attached ≡ Ok x → OnOk attached (AttachesPointers T fs n block first second) → third ≡ second → (IsLibrary T → Ok inode ≡ file_in (latest zeroth.lives) fs n) → word_at inode 56 ≡ 0 → WritesBytes T fs n 0 [] zeroth third
-pointers_grown {A} T fs few block number zeroth first second third h1 n inode given attached x is grows same file none lib array v =
-    let h = v.consistent in
-    let u = latest zeroth.lives in
-    let m = latest first.lives in
-    let done = gives_ok (init_of T zeroth fs 5 zeros) zeroth first (block, number) given in
-    let t = begun T zeroth first h fs few 5 9 zeros (block, number) done in
-    let fresh = λ (d : ℕ). none_touched T lib zeroth h fs few m block 9 t (λ z. omega (arith, z)) (λ z. omega (arith, z)) (λ z. omega (arith, z)) (λ z. omega (arith, z)) d in
-    let apart : (c k : ℕ) → Under T u fs c k → c ≢ block = λ c k r e.
-    let y = latest_reached T zeroth h fs few c k r in
-    let s = started T zeroth first fs 5 zeros (block, number) done in
-    none-some y.life (sym s.free ∙ (ap (life_at zeroth.lives) (sym e) ∙ y.alive)) in
-    let grown = subst (λ (r : Result A FfsFault). OnOk r (AttachesPointers T fs n block first second)) is grows lib h1 (started_here T zeroth first fs 5 zeros (block, number) done)
-    (λ c k r. apart c k (reached_before T u m fs block 9 t apart c k r)) in
-    let again : Ok inode ≡ file_in m fs n = file lib ∙ sym (file_same u m fs n (fresh n).0) in
-    let wrote = grown.0 inode again none in
-    let kept = (fresh n).1 inode (file_from u fs n inode (file lib)) in
-    let all : WroteBytes u (latest second.lives) fs n inode 0 [] = record {
-      after = wrote.after;
-      file = wrote.file;
-      size = wrote.size;
-      marks = wrote.marks;
-      each = λ at low. wrote.each at low ∙ written_same (byte_of m inode) (byte_of u inode) 0 [] at (kept.1 at low);
-    } in (
-      λ other is_other. subst (λ (s : StoreState). WroteBytes u (latest s.lives) fs n other 0 []) (sym same) (subst (λ i. WroteBytes u (latest second.lives) fs n i 0 []) (same_ok inode other (file lib ∙ sym is_other)) all),
-      λ d ne. subst (λ (s : StoreState). SameInode u (latest s.lives) fs d) (sym same) (same_on u m (latest second.lives) fs d (fresh d) (grown.1 d ne)),
-    )
 
 -- a place of a file's block of pointers, after a block was begun
 pub indirect_block : (content : ℕ → List ℕ) (inode : List ℕ) (last place : ℕ) → word_at inode 56 ≡ last → last ≢ 0 → file_block content inode (12 + place) ≡ pointer_word (content last) place
@@ -530,30 +443,8 @@ indirect_block content inode last place e ne =
     let less : 12 + place - 12 ≡ place = omega arith in
     pointed_block content inode (12 + place) (omega arith) (λ z. ne (sym e ∙ z)) ∙ (ap (λ c. pointer_word (content c) (12 + place - 12)) e ∙ ap (λ j. pointer_word (content last) j) less)
 
-pub attaches_data : {A : Type 0} (T : Types) (fs : ℕ) → fs < 32 → (n place block number last : ℕ) (zeroth first second : StoreState) (attached : Result A FfsFault) (inode all : List ℕ) → Gives (init_of T zeroth fs 2 all) zeroth first (Ok (block, number)) →
-    (IsLibrary T → Ok inode ≡ file_in (latest zeroth.lives) fs n) → word_at inode 56 ≡ last → last ≢ 0 → length (latest zeroth.lives last) ≡ 512 → IsConsistent T zeroth → OnOk attached (AttachesData T fs n place block first second) →
-    OnOk attached (AttachesBlock T fs n (12 + place) block first second)
-attaches_data T fs few n place block number last zeroth first second attached inode all given file e ne long h taken = on_ok_weaker attached (λ attaches lib h1.
-    let u = latest zeroth.lives in
-    let m = latest first.lives in
-    let done = gives_ok (init_of T zeroth fs 2 all) zeroth first (block, number) given in
-    let t = begun T zeroth first h fs few 2 9 all (block, number) done in
-    let fresh = none_touched T lib zeroth h fs few m block 9 t (λ z. omega (arith, z)) (λ z. omega (arith, z)) (λ z. omega (arith, z)) (λ z. omega (arith, z)) n in
-    let own = stands_from u fs n inode (file_from u fs n inode (file lib)) in
-    let at = pointers_at T lib zeroth h fs few n inode own last e ne in
-    attaches lib h1 (λ other is.
-    let one : inode ≡ other = same_ok inode other (file lib ∙ (sym (file_same u m fs n fresh.0) ∙ sym is)) in
-    ap (λ x. length (m (word_at x 56))) (sym one) ∙ (ap (λ b. length (m b)) e ∙ (ap length (t.others last 5 at (t.apart last 5 at (λ z. omega (arith, z)))) ∙ long)))) taken
-
--- a part more of all bytes
-pub wrote_more : (T : Types) (old first second : StoreState) (fs n start at part_start : ℕ) (front part rest bytes : List ℕ) (inode : List ℕ) → WroteBytes (latest old.lives) (latest first.lives) fs n inode start front → at ≡ start + length front → part_start ≡ at →
-    ((after : List ℕ) → Ok after ≡ file_in (latest first.lives) fs n → WroteBytes (latest first.lives) (latest second.lives) fs n after part_start part) → WroteBytes (latest old.lives) (latest second.lives) fs n inode start (front ++ part)
-wrote_more T old first second fs n start at part_start front part rest bytes inode a e f next =
-    wrote_on (latest old.lives) (latest first.lives) (latest second.lives) fs n start inode front part a
-    (λ after is. subst (λ s. WroteBytes (latest first.lives) (latest second.lives) fs n after s part) (f ∙ e) (next after is))
-
 -- the ends of files
-end_raised : (a s : ℕ) → s ≤ 71680 → min (max a s) 71680 ≡ max (min a 71680) s
+pub end_raised : (a s : ℕ) → s ≤ 71680 → min (max a s) 71680 ≡ max (min a 71680) s
 end_raised a s low = elim (cases_lt a s) [
   | inl lt ↦
       let up : max a s ≡ s = max-eq_right (omega (arith, lt)) in
@@ -569,30 +460,3 @@ end_raised a s low = elim (cases_lt a s) [
       let rest : max (min a 71680) s ≡ min a 71680 = max-eq_left least in
       ap (λ x. min x 71680) same ∙ sym rest
 ]
-
-pub raised_then : (u v w : ℕ → List ℕ) (fs n start : ℕ) (inode bytes : List ℕ) → start + length bytes ≤ 71680 → length bytes ≢ 0 → (a : WroteBytes u v fs n inode start bytes) → IsRaised v w fs n a.after (start + length bytes) → IsWritten u w fs n inode start bytes
-raised_then u v w fs n start inode bytes low some a r = record {
-  after = r.after;
-  file = r.file;
-  ends = ap (λ x. min x 71680) (r.sized ∙ ap (λ x. max x (start + length bytes)) a.size)
-      ∙ (end_raised (word_at inode 4) (start + length bytes) low ∙ sym (ap (λ (t : Bool). if t then file_end inode else max (file_end inode) (start + length bytes)) (ne_eqb (length bytes) 0 some)));
-  marks = (r.marks.0 ∙ a.marks.0, r.marks.1 ∙ a.marks.1);
-  each = λ x less. r.each x less ∙ a.each x less;
-}
-
-pub none_then : (u v : ℕ → List ℕ) (fs n start : ℕ) (inode bytes : List ℕ) → length bytes ≡ 0 → WroteBytes u v fs n inode start bytes → IsWritten u v fs n inode start bytes
-none_then u v fs n start inode bytes none a = record {
-  after = a.after;
-  file = a.file;
-  ends = ap (λ x. min x 71680) a.size ∙ sym (ap (λ (t : Bool). if t then file_end inode else max (file_end inode) (start + length bytes)) (eq-eqb (length bytes) 0 none));
-  marks = a.marks;
-  each = a.each;
-}
-
-pub all_of : (front rest bytes : List ℕ) → front ++ rest ≡ bytes → length rest ≡ 0 → front ≡ bytes
-all_of front [] bytes e none = sym (append_none front) ∙ e
-  where
-    append_none : (xs : List ℕ) → xs ++ [] ≡ xs
-    append_none [] = refl
-    append_none (x ∷ xs) = ap (λ ys. x ∷ ys) (append_none xs)
-all_of front (x ∷ rest) bytes e none = absurd (omega (arith, none))

@@ -4,3 +4,4 @@ pub mod Outcomes
 pub mod Volumes
 pub mod Steps
 pub mod Once
+pub mod Writes

@@ -16,7 +16,7 @@ use Rattle.xn_model.specs.Rules.{IsConsistent}
 use Rattle.ffs_lookup.specs.declared.fault.FfsFault.{FfsFault}
 use Rattle.ffs_format.specs.Fields.{fields_of}
 use Rattle.ffs_lookup.specs.Newest.{byte_of, directory_in, file_block, file_in, is_short, make_in, has_empty_pointer, inode_block_in, root_in}
-use Rattle.ffs_lib.specs.Results.{MadeVolume, SameInode, SameMarks, WroteBytes, new_inode}
+use Rattle.ffs_lib.specs.Results.{MadeVolume, SameInode, SameMarks, new_inode}
 
 abbrev pub Keeps : Types → ℕ → StoreState → StoreState → Type 0
 Keeps T fs old new = IsLibrary T → (array : ℕ → Option ℕ) → VolumeKeeps T library_layout fs array old → VolumeKeeps T library_layout fs array new
@@ -66,15 +66,8 @@ pub record IsGrown (old new : ℕ → List ℕ) (fs d : ℕ) (inode : List ℕ) 
   pub others : (e : ℕ) → e ≢ d → SameInode old new fs e
 
 -- What stands in the bytes of a file
---     WritesBytes      bytes are written into it, and its size stays
---     AttachesBlock    it has a new block, where it had none
---     HasPointers      it has a block of pointers
---     RaisesSize       its size is raised
-
-abbrev pub WritesBytes : Types → ℕ → ℕ → ℕ → List ℕ → StoreState → StoreState → Type 0
-WritesBytes T fs n start bytes old new = IsLibrary T → (array : ℕ → Option ℕ) → VolumeKeeps T library_layout fs array old →
-    ((inode : List ℕ) → Ok inode ≡ file_in (latest old.lives) fs n → WroteBytes (latest old.lives) (latest new.lives) fs n inode start bytes)
-    × ((d : ℕ) → d ≢ n → SameInode (latest old.lives) (latest new.lives) fs d)
+--     HasBlock     it has a new block, where it had none
+--     IsRaised     its size is raised
 
 -- one block that is no data changed
 pub record HasBlock (T : Types) (old new : ℕ → List ℕ) (fs n : ℕ) (inode : List ℕ) (index block : ℕ) : Type 0 where
@@ -91,39 +84,12 @@ pub record HasBlock (T : Types) (old new : ℕ → List ℕ) (fs n : ℕ) (inode
   pub bytes : (c : ℕ) → c ≢ home → new c ≡ old c
   pub others : (d : ℕ) → d ≢ n → SameInode old new fs d
 
-abbrev pub AttachesBlock : Types → ℕ → ℕ → ℕ → ℕ → StoreState → StoreState → Type 0
-AttachesBlock T fs n index block old new = IsLibrary T → IsConsistent T old →
-    (inode : List ℕ) × (Ok inode ≡ file_in (latest old.lives) fs n) × HasBlock T (latest old.lives) (latest new.lives) fs n inode index block
-
--- the same at one of the places of its block of pointers, which is a whole block
-abbrev pub AttachesData : Types → ℕ → ℕ → ℕ → ℕ → StoreState → StoreState → Type 0
-AttachesData T fs n place block old new = IsLibrary T → IsConsistent T old → ((inode : List ℕ) → Ok inode ≡ file_in (latest old.lives) fs n → length (latest old.lives (word_at inode 56)) ≡ 512) →
-    (inode : List ℕ) × (Ok inode ≡ file_in (latest old.lives) fs n) × HasBlock T (latest old.lives) (latest new.lives) fs n inode (12 + place) block
-
--- a block of pointers that are all 0
-abbrev pub AttachesPointers : Types → ℕ → ℕ → ℕ → StoreState → StoreState → Type 0
-AttachesPointers T fs n block old new = IsLibrary T → IsConsistent T old → latest old.lives block ≡ zeros → ((c u : ℕ) → Under T (latest old.lives) fs c u → c ≢ block) →
-    ((inode : List ℕ) → Ok inode ≡ file_in (latest old.lives) fs n → word_at inode 56 ≡ 0 → WroteBytes (latest old.lives) (latest new.lives) fs n inode 0 [])
-    × ((d : ℕ) → d ≢ n → SameInode (latest old.lives) (latest new.lives) fs d)
-
--- a file has a block of pointers
-pub record HasPointers (T : Types) (state : StoreState) (fs n : ℕ) : Type 0 where
-  pub consistent : IsConsistent T state
-  pub inode : List ℕ
-  pub file : Ok inode ≡ file_in (latest state.lives) fs n
-  pub there : word_at inode 56 ≢ 0
-
 pub record IsRaised (old new : ℕ → List ℕ) (fs n : ℕ) (inode : List ℕ) (size : ℕ) : Type 0 where
   pub after : List ℕ
   pub file : Ok after ≡ file_in new fs n
   pub sized : word_at after 4 ≡ max (word_at inode 4) size
   pub marks : SameMarks inode after
   pub each : (at : ℕ) → at < 71680 → byte_of new after at ≡ byte_of old inode at
-
-abbrev pub RaisesSize : Types → ℕ → ℕ → ℕ → StoreState → StoreState → Type 0
-RaisesSize T fs n size old new = IsLibrary T → (array : ℕ → Option ℕ) → VolumeKeeps T library_layout fs array old →
-    ((inode : List ℕ) → Ok inode ≡ file_in (latest old.lives) fs n → IsRaised (latest old.lives) (latest new.lives) fs n inode size)
-    × ((d : ℕ) → d ≢ n → SameInode (latest old.lives) (latest new.lives) fs d)
 
 -- What stands after other edits of a name
 --     Relinks                  an inode's links changed

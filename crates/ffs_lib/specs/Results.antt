@@ -6,9 +6,9 @@
 --     IsPlaced, IsLowestNumber   an entry stands where it should; an inode is the lowest free one
 --     HasMore, MadeEntry         a directory has one entry more; it names a new inode
 --     MadeVolume                 a file system has a top directory
---     byte_written, IsWritten    the bytes of a file after a write
+--     byte_written               the bytes of a file after some are written
 --     SameMarks                  an inode has its mode and its links
---     WroteBytes, WrotePart      some bytes are written, or the first of them, and its size is as before
+--     WroteBytes                 some bytes are written, and its size is as before
 --     IsAs, AsBefore             an inode is as before but for its links
 --     IsLinked, TookLink         it is, with so many links; it lost one, or is free
 --     MovedEntry                 an entry went to another directory, or got another name
@@ -94,19 +94,9 @@ pub record MadeVolume (old new : ℕ → List ℕ) (fs : ℕ) : Type 0 where
 abbrev pub byte_written : (ℕ → ℕ) → ℕ → List ℕ → ℕ → ℕ
 byte_written old offset bytes at = if nat_le offset at && nat_lt at (offset + length bytes) then get_or bytes (at - offset) 0 else old at
 
-abbrev pub end_after : List ℕ → ℕ → ℕ → ℕ
-end_after inode offset count = if count == 0 then file_end inode else max (file_end inode) (offset + count)
-
 -- an inode has its mode and its links
 abbrev pub SameMarks : List ℕ → List ℕ → Type 0
 SameMarks inode after = (inode_mode after ≡ inode_mode inode) × (inode_links after ≡ inode_links inode)
-
-pub record IsWritten (old new : ℕ → List ℕ) (fs n : ℕ) (inode : List ℕ) (offset : ℕ) (bytes : List ℕ) : Type 0 where
-  pub after : List ℕ
-  pub file : Ok after ≡ file_in new fs n
-  pub ends : file_end after ≡ end_after inode offset (length bytes)
-  pub marks : SameMarks inode after
-  pub each : (at : ℕ) → at < 71680 → byte_of new after at ≡ byte_written (byte_of old inode) offset bytes at
 
 -- bytes are written into a file, and its size is as before
 pub record WroteBytes (old new : ℕ → List ℕ) (fs n : ℕ) (inode : List ℕ) (start : ℕ) (bytes : List ℕ) : Type 0 where
@@ -115,10 +105,6 @@ pub record WroteBytes (old new : ℕ → List ℕ) (fs n : ℕ) (inode : List �
   pub size : word_at after 4 ≡ word_at inode 4
   pub marks : SameMarks inode after
   pub each : (at : ℕ) → at < 71680 → byte_of new after at ≡ byte_written (byte_of old inode) start bytes at
-
--- the first of some bytes are written, and the size is as before
-abbrev pub WrotePart : (ℕ → List ℕ) → (ℕ → List ℕ) → ℕ → ℕ → List ℕ → ℕ → List ℕ → Type 0
-WrotePart old new fs n inode offset bytes = (front : List ℕ) × (back : List ℕ) × (front ++ back ≡ bytes) × WroteBytes old new fs n inode offset front
 
 -- Inodes that are as before but for their links
 

@@ -1,216 +1,210 @@
 // The bytes of files.
 
-ghost use Rattle.std.specs.Prelude.{◌≡◌, ◌≢◌, ℕ, ◌<◌, ◌≤◌, ◌+◌, ◌*◌, ◌/◌, ◌%◌, List, [], length, map, None, Some, Ok, IfOk, IsOk, IsTrue, OnErr, OnOk};
+ghost use Rattle.std.specs.Prelude.{◌≡◌, ◌≢◌, ◌⊎◌, ℕ, ◌<◌, ◌≤◌, ◌+◌, ◌-◌, ◌*◌, ◌/◌, ◌%◌, List, [], length, map, replicate, Option, None, Some, Ok, IfErr, IfOk, IsOk, IsTrue, OnOk, ◌^◌, ◌↔◌};
 ghost use Rattle.std.specs.List.{range_with_len};
 ghost use Rattle.xn_model.specs.Root.{word_at};
-ghost use Rattle.xn_model.specs.Calls.{may_add, was_given};
+ghost use Rattle.xn_model.specs.Calls.{was_given};
+ghost use Rattle.xn_model.specs.Types.{Types};
+ghost use Rattle.xn_model.specs.Lives.{StoreState};
 ghost use Rattle.ffs_model.specs.Cuts.{Under, latest};
 ghost use Rattle.ffs_model.specs.Library.{IsLibrary, pointer_word};
 ghost use Rattle.ffs_format.specs.Fields.{direct_in};
-ghost use Rattle.ffs_lookup.specs.Newest.{byte_in, byte_of, file_block, file_in};
-ghost use Rattle.ffs_lib.specs.Outcomes.{CanEdit, Keeps, AttachesBlock, AttachesData, AttachesPointers, HasPointers, OnlyShort, RaisesSize, WritesBytes};
+ghost use Rattle.ffs_lookup.specs.Newest.{byte_in, byte_of, file_block, file_end, file_in, mapped, write_in};
+ghost use Rattle.ffs_lookup.specs.declared.fault.FfsFault.TheVariants.{Kernel};
+ghost use Rattle.xn_model.specs.declared.refusal.Refusal.TheVariants.{TooManyPending};
+ghost use Rattle.ffs_lib.specs.Outcomes.{IsRaised};
+ghost use Rattle.ffs_lib.specs.Results.{OnlyChanges};
+ghost use Rattle.ffs_lib.specs.Steps.{Ends, Stage, StopsAtHome, newest};
+ghost use Rattle.ffs_lib.specs.Writes.{LastGiven, Padded, Parts, PointsTo, Puts, PutsBy, StopsPart};
 ghost use Rattle.ffs_lookup.specs.Places.{IsFile};
 
-use crate::edits;
-use crate::steps::{DATA, POINTER_BLOCK, POINTERS, block_with, forgotten};
+use crate::put::{attach, put, put_inode};
+use crate::steps::{DATA, POINTER_BLOCK, POINTERS, block_with, is_word};
 use edit_list::{EditId, Fs};
 use ffs_format::inodes::{DIRECT_POINTERS, INODE_LEN};
 use ffs_format::{pointer, pointer_bytes};
 use ffs_lookup::{FfsFault, Found, find_file, read_block};
 use std::alloc::Global;
+use xn_model::Refusal;
 use xn_state::Store;
 
 /// How many bytes a block has.
 pub const BLOCK_LEN: usize = 512;
 
 /// How many blocks a file has at most.
-pub const FILE_BLOCKS: usize = DIRECT_POINTERS + POINTERS;
+const FILE_BLOCKS: usize = DIRECT_POINTERS + POINTERS;
 
-/// Lets a file's inode point to a new block of data.
-fn attach_direct<S: Store>(
+/// How many bytes a file has at most.
+pub const MOST_BYTES: usize = BLOCK_LEN * FILE_BLOCKS;
+
+/// The last edits of a write past the file's end: what the next one comes after, and what that of the size does. Each comes after the one
+/// before it that is of another block than the inode's. That of the size is of the inode's block, so it comes after those of that block anyway.
+#[derive(Clone, Copy)]
+pub struct Last {
+    pub edit: Option<EditId>,
+    pub size: Option<EditId>,
+}
+
+/// How far a write came: how many bytes were taken, its last edits, and the fault that ended it.
+#[derive(Clone, Copy)]
+pub struct Progress {
+    pub taken: usize,
+    pub last: Last,
+    pub fault: Option<FfsFault>,
+}
+
+/// What comes after an edit of another block than the inode's.
+fn next_after(edit: EditId) -> Last
+    ensures edit { result.edit ≡ Some edit }
+    ensures size { result.size ≡ Some edit }
+{
+    Last {
+        edit: Some(edit),
+        size: Some(edit),
+    }
+}
+
+/// Gives a file a new block of data, to which its inode points.
+fn add_direct<S: Store>(
     alloc: Global,
     store: &mut S,
     fs: Fs,
     number: u16,
     index: usize,
-    block: u32,
+    at: usize,
+    bytes: &[u8],
+    after: Option<EditId>,
 ) -> Result<EditId, FfsFault>
-    requires { index < 12 }
+    requires few { index < 12 }
+    requires within { at + length bytes.now ≤ 512 }
     ensures types { S.types_of store.new ≡ S.types_of store.old }
-    ensures err { OnErr result (S.state_of store.new ≡ S.state_of store.old) }
-    ensures attached { OnOk result (AttachesBlock (S.types_of store.old) fs.number number index block (S.state_of store.old) (S.state_of store.new)) }
-    ensures keeps { Keeps (S.types_of store.old) fs.number (S.state_of store.old) (S.state_of store.new) }
-    ensures short { CanEdit (S.types_of store.old) (S.state_of store.old) None → (inode : List ℕ) →
-        Ok inode ≡ file_in (latest (S.state_of store.old).lives) fs.number number → direct_in inode index ≡ 0 →
-        IsTrue (may_add (S.state_of store.old) fs.number (block, 2)) → OnlyShort result }
-    ensures given { IfOk result (λ entry. IsTrue (was_given (S.state_of store.new) (Some entry))) }
+    ensures ends { (T : Types) (array : ℕ → Option ℕ) (inode : List ℕ) → S.types_of store.old ≡ T → Stage T fs.number array (S.state_of store.old) →
+        Ok inode ≡ file_in (newest (S.state_of store.old)) fs.number number → direct_in inode index ≡ 0 → IsTrue (was_given (S.state_of store.old) after) →
+        Ends T fs.number array (S.state_of store.new) result
+        (PutsBy (S.state_of store.old) (S.state_of store.new) fs.number number (512 * index + at) bytes.now)
+        (StopsPart T fs.number (S.state_of store.old) (S.state_of store.new) number index) }
 {
+    let (block, _) = store.init(fs, DATA, &block_with(at, bytes))?;
     let Found {
         block: home,
         place,
         mut inode,
     } = find_file(store, fs, number)?;
     inode.set_direct(index, block);
-    let edit = edits::addition(alloc, INODE_LEN * place, inode.bytes(), (block, DATA), None)?;
-    Ok(store.propose(fs, home, &edit)?)
+    let here = INODE_LEN * place;
+    attach(
+        alloc,
+        store,
+        fs,
+        home,
+        here,
+        inode.bytes(),
+        (block, DATA),
+        after,
+    )
 }
 
-/// Writes into one of the blocks of a file that its inode points to.
-fn write_direct<S: Store>(
+/// Gives a file a block of pointers.
+fn add_pointers<S: Store>(
     alloc: Global,
     store: &mut S,
     fs: Fs,
     number: u16,
-    index: usize,
-    at: usize,
-    bytes: &[u8],
-) -> Result<EditId, FfsFault>
-    requires few { index < 12 }
-    requires within { at + length bytes.now ≤ 512 }
-    requires some { 0 < length bytes.now }
+    after: Option<EditId>,
+) -> Result<u32, FfsFault>
     ensures types { S.types_of store.new ≡ S.types_of store.old }
-    ensures stays { OnErr result (WritesBytes (S.types_of store.old) fs.number number 0 [] (S.state_of store.old) (S.state_of store.new)) }
-    ensures written { OnOk result (WritesBytes (S.types_of store.old) fs.number number (512 * index + at) bytes.now (S.state_of store.old)
-        (S.state_of store.new)) }
-    ensures keeps { Keeps (S.types_of store.old) fs.number (S.state_of store.old) (S.state_of store.new) }
-    ensures short { CanEdit (S.types_of store.old) (S.state_of store.old) None → (inode : List ℕ) →
-        Ok inode ≡ file_in (latest (S.state_of store.old).lives) fs.number number → OnlyShort result }
-    ensures given { IfOk result (λ entry. IsTrue (was_given (S.state_of store.new) (Some entry))) }
+    ensures ends { (T : Types) (array : ℕ → Option ℕ) (inode : List ℕ) (index : ℕ) → 12 ≤ index → S.types_of store.old ≡ T →
+        Stage T fs.number array (S.state_of store.old) →
+        Ok inode ≡ file_in (newest (S.state_of store.old)) fs.number number → word_at inode 56 ≡ 0 → IsTrue (was_given (S.state_of store.old) after) →
+        Ends T fs.number array (S.state_of store.new) result
+        (PointsTo (S.state_of store.old) (S.state_of store.new) fs.number number inode)
+        (StopsPart T fs.number (S.state_of store.old) (S.state_of store.new) number index) }
 {
-    let block = find_file(store, fs, number)?.inode.direct(index);
-    if block == 0 {
-        let (block, _) = store.init(fs, DATA, &block_with(at, bytes))?;
-        let attached = attach_direct(alloc, store, fs, number, index, block);
-        return forgotten(store, fs, block, attached);
-    }
-    let _ = read_block(store, fs, block)?;
-    let edit = edits::change(alloc, at, bytes, None)?;
-    Ok(store.propose(fs, block, &edit)?)
-}
-
-/// Lets a file's inode point to a new block of pointers.
-fn attach_pointers<S: Store>(
-    alloc: Global,
-    store: &mut S,
-    fs: Fs,
-    number: u16,
-    block: u32,
-) -> Result<EditId, FfsFault>
-    ensures types { S.types_of store.new ≡ S.types_of store.old }
-    ensures err { OnErr result (S.state_of store.new ≡ S.state_of store.old) }
-    ensures attached { OnOk result (AttachesPointers (S.types_of store.old) fs.number number block (S.state_of store.old) (S.state_of store.new)) }
-    ensures keeps { Keeps (S.types_of store.old) fs.number (S.state_of store.old) (S.state_of store.new) }
-    ensures short { CanEdit (S.types_of store.old) (S.state_of store.old) None → (inode : List ℕ) →
-        Ok inode ≡ file_in (latest (S.state_of store.old).lives) fs.number number → word_at inode 56 ≡ 0 →
-        IsTrue (may_add (S.state_of store.old) fs.number (block, 5)) → OnlyShort result }
-    ensures pointed { OnOk result (CanEdit (S.types_of store.old) (S.state_of store.old) None → block ≢ 0 →
-        HasPointers (S.types_of store.old) (S.state_of store.new) fs.number number) }
-    ensures given { IfOk result (λ entry. IsTrue (was_given (S.state_of store.new) (Some entry))) }
-{
+    let (block, _) = store.init(fs, POINTER_BLOCK, &[0; 512])?;
     let Found {
         block: home,
         place,
         mut inode,
     } = find_file(store, fs, number)?;
     inode.set_indirect(block);
-    let edit = edits::addition(
+    let here = INODE_LEN * place;
+    let _ = attach(
         alloc,
-        INODE_LEN * place,
+        store,
+        fs,
+        home,
+        here,
         inode.bytes(),
         (block, POINTER_BLOCK),
-        None,
+        after,
     )?;
-    Ok(store.propose(fs, home, &edit)?)
+    Ok(block)
 }
 
-/// Sees to it that a file has a block of pointers.
-fn add_pointers<S: Store>(alloc: Global, store: &mut S, fs: Fs, number: u16) -> Result<(), FfsFault>
-    ensures types { S.types_of store.new ≡ S.types_of store.old }
-    ensures same { WritesBytes (S.types_of store.old) fs.number number 0 [] (S.state_of store.old) (S.state_of store.new) }
-    ensures keeps { Keeps (S.types_of store.old) fs.number (S.state_of store.old) (S.state_of store.new) }
-    ensures short { CanEdit (S.types_of store.old) (S.state_of store.old) None → (inode : List ℕ) →
-        Ok inode ≡ file_in (latest (S.state_of store.old).lives) fs.number number → OnlyShort result }
-    ensures pointed { OnOk result (CanEdit (S.types_of store.old) (S.state_of store.old) None → (inode : List ℕ) →
-        Ok inode ≡ file_in (latest (S.state_of store.old).lives) fs.number number →
-        HasPointers (S.types_of store.old) (S.state_of store.new) fs.number number) }
-{
-    if find_file(store, fs, number)?.inode.indirect() == 0 {
-        let (block, _) = store.init(fs, POINTER_BLOCK, &[0; 512])?;
-        let attached = attach_pointers(alloc, store, fs, number, block);
-        let _ = forgotten(store, fs, block, attached)?;
-    }
-    Ok(())
-}
-
-/// Lets a file's block of pointers point to a new block of data.
-fn attach_data<S: Store>(
+/// The block of pointers of a file, which gets one where it had none.
+fn pointers_of<S: Store>(
     alloc: Global,
     store: &mut S,
     fs: Fs,
     number: u16,
-    place: usize,
-    block: u32,
-) -> Result<EditId, FfsFault>
-    requires { place < 128 }
+    after: Option<EditId>,
+) -> Result<u32, FfsFault>
     ensures types { S.types_of store.new ≡ S.types_of store.old }
-    ensures err { OnErr result (S.state_of store.new ≡ S.state_of store.old) }
-    ensures attached { OnOk result (AttachesData (S.types_of store.old) fs.number number place block (S.state_of store.old) (S.state_of store.new)) }
-    ensures keeps { Keeps (S.types_of store.old) fs.number (S.state_of store.old) (S.state_of store.new) }
-    ensures short { CanEdit (S.types_of store.old) (S.state_of store.old) None → (inode : List ℕ) →
-        Ok inode ≡ file_in (latest (S.state_of store.old).lives) fs.number number → word_at inode 56 ≢ 0 →
-        pointer_word (latest (S.state_of store.old).lives (word_at inode 56)) place ≡ 0 →
-        length (latest (S.state_of store.old).lives (word_at inode 56)) ≡ 512 →
-        IsTrue (may_add (S.state_of store.old) fs.number (block, 2)) → OnlyShort result }
-    ensures given { IfOk result (λ entry. IsTrue (was_given (S.state_of store.new) (Some entry))) }
+    ensures ends { (T : Types) (array : ℕ → Option ℕ) (inode : List ℕ) (index : ℕ) → 12 ≤ index → S.types_of store.old ≡ T →
+        Stage T fs.number array (S.state_of store.old) →
+        Ok inode ≡ file_in (newest (S.state_of store.old)) fs.number number →
+        (word_at inode 56 ≢ 0 → length (newest (S.state_of store.old) (word_at inode 56)) ≡ 512) → IsTrue (was_given (S.state_of store.old) after) →
+        Ends T fs.number array (S.state_of store.new) result
+        (PointsTo (S.state_of store.old) (S.state_of store.new) fs.number number inode)
+        (StopsPart T fs.number (S.state_of store.old) (S.state_of store.new) number index) }
 {
     let indirect = find_file(store, fs, number)?.inode.indirect();
-    if indirect == 0 {
-        return Err(FfsFault::NoEntry);
+    if indirect != 0 {
+        return Ok(indirect);
     }
-    let edit = edits::addition(alloc, 4 * place, &pointer_bytes(block), (block, DATA), None)?;
-    Ok(store.propose(fs, indirect, &edit)?)
+    add_pointers(alloc, store, fs, number, after)
 }
 
-/// Writes into one of the blocks of a file that its block of pointers points to.
-fn write_indirect<S: Store>(
+/// Gives a file a new block of data, to which its block of pointers points.
+fn add_pointed<S: Store>(
     alloc: Global,
     store: &mut S,
     fs: Fs,
-    number: u16,
-    place: usize,
+    pointers: u32,
+    index: usize,
     at: usize,
     bytes: &[u8],
+    after: Option<EditId>,
 ) -> Result<EditId, FfsFault>
-    requires few { place < 128 }
+    requires far { 12 ≤ index }
+    requires few { index < 140 }
     requires within { at + length bytes.now ≤ 512 }
-    requires some { 0 < length bytes.now }
     ensures types { S.types_of store.new ≡ S.types_of store.old }
-    ensures stays { OnErr result (WritesBytes (S.types_of store.old) fs.number number 0 [] (S.state_of store.old) (S.state_of store.new)) }
-    ensures written { OnOk result (WritesBytes (S.types_of store.old) fs.number number (512 * (12 + place) + at) bytes.now (S.state_of store.old)
-        (S.state_of store.new)) }
-    ensures keeps { Keeps (S.types_of store.old) fs.number (S.state_of store.old) (S.state_of store.new) }
-    ensures short { CanEdit (S.types_of store.old) (S.state_of store.old) None → (inode : List ℕ) →
-        Ok inode ≡ file_in (latest (S.state_of store.old).lives) fs.number number → OnlyShort result }
-    ensures given { IfOk result (λ entry. IsTrue (was_given (S.state_of store.new) (Some entry))) }
+    ensures ends { (T : Types) (array : ℕ → Option ℕ) (n : ℕ) (inode : List ℕ) → S.types_of store.old ≡ T → Stage T fs.number array (S.state_of store.old) →
+        Ok inode ≡ file_in (newest (S.state_of store.old)) fs.number n → word_at inode 56 ≡ pointers → pointers ≢ 0 →
+        length (newest (S.state_of store.old) pointers) ≡ 512 → pointer_word (newest (S.state_of store.old) pointers) (index - 12) ≡ 0 →
+        IsTrue (was_given (S.state_of store.old) after) →
+        Ends T fs.number array (S.state_of store.new) result
+        (PutsBy (S.state_of store.old) (S.state_of store.new) fs.number n (512 * index + at) bytes.now)
+        (StopsPart T fs.number (S.state_of store.old) (S.state_of store.new) n index) }
 {
-    add_pointers(alloc, store, fs, number)?;
-    let indirect = find_file(store, fs, number)?.inode.indirect();
-    if indirect == 0 {
-        return Err(FfsFault::NoEntry);
-    }
-    let block = pointer(read_block(store, fs, indirect)?, place);
-    if block == 0 {
-        let (block, _) = store.init(fs, DATA, &block_with(at, bytes))?;
-        let attached = attach_data(alloc, store, fs, number, place, block);
-        return forgotten(store, fs, block, attached);
-    }
-    let _ = read_block(store, fs, block)?;
-    let edit = edits::change(alloc, at, bytes, None)?;
-    Ok(store.propose(fs, block, &edit)?)
+    let (block, _) = store.init(fs, DATA, &block_with(at, bytes))?;
+    let here = 4 * (index - DIRECT_POINTERS);
+    is_word(block);
+    attach(
+        alloc,
+        store,
+        fs,
+        pointers,
+        here,
+        &pointer_bytes(block),
+        (block, DATA),
+        after,
+    )
 }
 
-/// Writes into one of the blocks of a file.
-pub fn write_block<S: Store>(
+/// Gives a file a new block of data in a hole.
+fn add_block<S: Store>(
     alloc: Global,
     store: &mut S,
     fs: Fs,
@@ -218,41 +212,291 @@ pub fn write_block<S: Store>(
     index: usize,
     at: usize,
     bytes: &[u8],
-) -> Result<EditId, FfsFault>
+    last: Last,
+) -> Result<Last, FfsFault>
+    requires few { index < 140 }
+    requires within { at + length bytes.now ≤ 512 }
+    ensures types { S.types_of store.new ≡ S.types_of store.old }
+    ensures ends { (T : Types) (array : ℕ → Option ℕ) (inode : List ℕ) → S.types_of store.old ≡ T → Stage T fs.number array (S.state_of store.old) →
+        Ok inode ≡ file_in (newest (S.state_of store.old)) fs.number number → file_block (newest (S.state_of store.old)) inode index ≡ 0 →
+        (12 ≤ index → word_at inode 56 ≢ 0 → length (newest (S.state_of store.old) (word_at inode 56)) ≡ 512) →
+        LastGiven (S.state_of store.old) last → Ends T fs.number array (S.state_of store.new) result
+        (λ next. Puts (S.state_of store.old) (S.state_of store.new) fs.number number (512 * index + at) bytes.now × LastGiven (S.state_of store.new) next)
+        (StopsPart T fs.number (S.state_of store.old) (S.state_of store.new) number index) }
+{
+    if index < DIRECT_POINTERS {
+        let added = add_direct(alloc, store, fs, number, index, at, bytes, last.edit)?;
+        return Ok(Last {
+            edit: last.edit,
+            size: Some(added),
+        });
+    }
+    let pointers = pointers_of(alloc, store, fs, number, last.edit)?;
+    let added = add_pointed(alloc, store, fs, pointers, index, at, bytes, last.edit)?;
+    Ok(next_after(added))
+}
+
+/// Writes into one of the blocks of a file.
+fn write_block<S: Store>(
+    alloc: Global,
+    store: &mut S,
+    fs: Fs,
+    number: u16,
+    index: usize,
+    at: usize,
+    bytes: &[u8],
+    last: Last,
+) -> Result<Last, FfsFault>
     requires few { index < 140 }
     requires within { at + length bytes.now ≤ 512 }
     requires some { 0 < length bytes.now }
     ensures types { S.types_of store.new ≡ S.types_of store.old }
-    ensures stays { OnErr result (WritesBytes (S.types_of store.old) fs.number number 0 [] (S.state_of store.old) (S.state_of store.new)) }
-    ensures written { OnOk result (WritesBytes (S.types_of store.old) fs.number number (512 * index + at) bytes.now (S.state_of store.old)
-        (S.state_of store.new)) }
-    ensures keeps { Keeps (S.types_of store.old) fs.number (S.state_of store.old) (S.state_of store.new) }
-    ensures short { CanEdit (S.types_of store.old) (S.state_of store.old) None → (inode : List ℕ) →
-        Ok inode ≡ file_in (latest (S.state_of store.old).lives) fs.number number → OnlyShort result }
-    ensures given { IfOk result (λ entry. IsTrue (was_given (S.state_of store.new) (Some entry))) }
+    ensures ends { (T : Types) (array : ℕ → Option ℕ) (inode : List ℕ) → S.types_of store.old ≡ T → Stage T fs.number array (S.state_of store.old) →
+        Ok inode ≡ file_in (newest (S.state_of store.old)) fs.number number → LastGiven (S.state_of store.old) last →
+        Ends T fs.number array (S.state_of store.new) result
+        (λ next. Puts (S.state_of store.old) (S.state_of store.new) fs.number number (512 * index + at) bytes.now × LastGiven (S.state_of store.new) next)
+        (StopsPart T fs.number (S.state_of store.old) (S.state_of store.new) number index) }
 {
-    if index < DIRECT_POINTERS {
-        write_direct(alloc, store, fs, number, index, at, bytes)
-    } else {
-        write_indirect(alloc, store, fs, number, index - DIRECT_POINTERS, at, bytes)
+    let file = find_file(store, fs, number)?;
+    let block = file_block(store, fs, number, &file, index)?;
+    if block == 0 {
+        return add_block(alloc, store, fs, number, index, at, bytes, last);
+    }
+    let _ = read_block(store, fs, block)?;
+    let edit = put(alloc, store, fs, block, at, bytes, &[], &[], last.edit)?;
+    Ok(next_after(edit))
+}
+
+/// Whether these bytes are all 0.
+fn are_zeros(bytes: &[u8]) -> bool
+    requires { length bytes.now ≤ 512 }
+    ensures { IsTrue result ↔ (bytes.now ≡ replicate (length bytes.now) 0) }
+{
+    bytes == &[0; BLOCK_LEN][..bytes.len()]
+}
+
+/// Writes zeros into one of the blocks of a file, where it is there and has other bytes.
+fn clear_block<S: Store>(
+    alloc: Global,
+    store: &mut S,
+    fs: Fs,
+    number: u16,
+    index: usize,
+    at: usize,
+    count: usize,
+    last: Last,
+) -> Result<Last, FfsFault>
+    requires few { index < 140 }
+    requires within { at + count ≤ 512 }
+    requires some { 0 < count }
+    ensures types { S.types_of store.new ≡ S.types_of store.old }
+    ensures ends { (T : Types) (array : ℕ → Option ℕ) (inode : List ℕ) → S.types_of store.old ≡ T → Stage T fs.number array (S.state_of store.old) →
+        Ok inode ≡ file_in (newest (S.state_of store.old)) fs.number number → LastGiven (S.state_of store.old) last →
+        Ends T fs.number array (S.state_of store.new) result
+        (λ next. Puts (S.state_of store.old) (S.state_of store.new) fs.number number (512 * index + at) (replicate count 0)
+        × LastGiven (S.state_of store.new) next)
+        (StopsPart T fs.number (S.state_of store.old) (S.state_of store.new) number index) }
+{
+    let file = find_file(store, fs, number)?;
+    let block = file_block(store, fs, number, &file, index)?;
+    if block == 0 {
+        return Ok(last);
+    }
+    let held = read_block(store, fs, block)?;
+    if are_zeros(&held[at..at + count]) {
+        return Ok(last);
+    }
+    let zeros = &[0; BLOCK_LEN][..count];
+    let edit = put(alloc, store, fs, block, at, zeros, &[], &[], last.edit)?;
+    Ok(next_after(edit))
+}
+
+/// What a part of a write comes to: so many bytes more, or its fault.
+fn step(progress: Progress, count: usize, part: Result<Last, FfsFault>) -> Progress
+    requires { progress.taken + count < 2 ^ 64 }
+    ensures ok { IfOk part (λ last. result ≡ record { taken = progress.taken + count; last = last; fault = progress.fault }) }
+    ensures err { IfErr part (λ fault. result ≡ record { taken = progress.taken; last = progress.last; fault = Some fault }) }
+{
+    match part {
+        Ok(last) => Progress {
+            taken: progress.taken + count,
+            last,
+            ..progress
+        },
+        Err(fault) => Progress {
+            fault: Some(fault),
+            ..progress
+        },
     }
 }
 
-/// Raises the size of a file to this, where it is below, after the edit before it.
+/// The last edits of a write for a part past the file's end, and none for one before it.
+fn last_if(last: Last, past: bool) -> Last
+    ensures { (state : StoreState) → LastGiven state last → LastGiven state result }
+{
+    if past {
+        last
+    } else {
+        Last {
+            edit: None,
+            size: None,
+        }
+    }
+}
+
+/// Writes the next of some bytes, up to a block's end. A part before the file's end comes after no edit, and none comes after it.
+fn write_part<S: Store>(
+    alloc: Global,
+    store: &mut S,
+    fs: Fs,
+    number: u16,
+    end: usize,
+    start: usize,
+    bytes: &[u8],
+    progress: Progress,
+) -> Progress
+    requires within { start + length bytes.now ≤ 71680 }
+    requires some { progress.taken < length bytes.now }
+    requires none { progress.fault ≡ None }
+    ensures types { S.types_of store.new ≡ S.types_of store.old }
+    ensures falls { result.fault ≡ None → progress.taken < result.taken }
+    ensures few { result.taken ≤ length bytes.now }
+    ensures parts { (T : Types) (array : ℕ → Option ℕ) (zeroth : StoreState) → S.types_of store.old ≡ T → IsOk (file_in (newest zeroth) fs.number number) →
+        Parts T fs.number array zeroth (S.state_of store.old) number start bytes.now progress →
+        Parts T fs.number array zeroth (S.state_of store.new) number start bytes.now result }
+{
+    let at = start + progress.taken;
+    let within = at % BLOCK_LEN;
+    let count = (bytes.len() - progress.taken).min(BLOCK_LEN - within);
+    let part = &bytes[progress.taken..progress.taken + count];
+    let past = at + count > end;
+    let last = last_if(progress.last, past);
+    let written = write_block(alloc, store, fs, number, at / BLOCK_LEN, within, part, last);
+    let next = step(progress, count, written);
+    Progress {
+        last: if past { next.last } else { progress.last },
+        ..next
+    }
+}
+
+/// Writes bytes into a file that ends here, from a byte on, block after block, and leaves its size.
+pub fn write_parts<S: Store>(
+    alloc: Global,
+    store: &mut S,
+    fs: Fs,
+    number: u16,
+    end: usize,
+    start: usize,
+    bytes: &[u8],
+    last: Last,
+) -> Progress
+    requires within { start + length bytes.now ≤ 71680 }
+    ensures types { S.types_of store.new ≡ S.types_of store.old }
+    ensures few { result.taken ≤ length bytes.now }
+    ensures whole { result.fault ≡ None → result.taken ≡ length bytes.now }
+    ensures parts { (T : Types) (array : ℕ → Option ℕ) → S.types_of store.old ≡ T → Stage T fs.number array (S.state_of store.old) →
+        IsOk (file_in (newest (S.state_of store.old)) fs.number number) → LastGiven (S.state_of store.old) last →
+        Parts T fs.number array (S.state_of store.old) (S.state_of store.new) number start bytes.now result }
+{
+    let mut progress = Progress {
+        taken: 0,
+        last,
+        fault: None,
+    };
+    while progress.taken < bytes.len() {
+        progress = write_part(alloc, store, fs, number, end, start, bytes, progress);
+        if progress.fault.is_some() {
+            return progress;
+        }
+    }
+    progress
+}
+
+/// Writes the next of some zeros, up to a block's end.
+fn clear_part<S: Store>(
+    alloc: Global,
+    store: &mut S,
+    fs: Fs,
+    number: u16,
+    start: usize,
+    end: usize,
+    progress: Progress,
+) -> Progress
+    requires within { end ≤ 71680 }
+    requires some { start + progress.taken < end }
+    requires none { progress.fault ≡ None }
+    ensures types { S.types_of store.new ≡ S.types_of store.old }
+    ensures falls { result.fault ≡ None → progress.taken < result.taken }
+    ensures few { start + result.taken ≤ end }
+    ensures parts { (T : Types) (array : ℕ → Option ℕ) (zeroth : StoreState) → S.types_of store.old ≡ T → IsOk (file_in (newest zeroth) fs.number number) →
+        Parts T fs.number array zeroth (S.state_of store.old) number start (replicate (end - start) 0) progress →
+        Parts T fs.number array zeroth (S.state_of store.new) number start (replicate (end - start) 0) result }
+{
+    let at = start + progress.taken;
+    let within = at % BLOCK_LEN;
+    let count = (end - at).min(BLOCK_LEN - within);
+    let cleared = clear_block(
+        alloc,
+        store,
+        fs,
+        number,
+        at / BLOCK_LEN,
+        within,
+        count,
+        progress.last,
+    );
+    step(progress, count, cleared)
+}
+
+/// Sees to it that a file has zeros from a byte on to another one, where it has blocks, and leaves its size.
+pub fn clear_parts<S: Store>(
+    alloc: Global,
+    store: &mut S,
+    fs: Fs,
+    number: u16,
+    start: usize,
+    end: usize,
+) -> Progress
+    requires within { end ≤ 71680 }
+    ensures types { S.types_of store.new ≡ S.types_of store.old }
+    ensures whole { result.fault ≡ None → result.taken ≡ end - start }
+    ensures parts { (T : Types) (array : ℕ → Option ℕ) → S.types_of store.old ≡ T → Stage T fs.number array (S.state_of store.old) →
+        IsOk (file_in (newest (S.state_of store.old)) fs.number number) →
+        Parts T fs.number array (S.state_of store.old) (S.state_of store.new) number start (replicate (end - start) 0) result }
+{
+    let mut progress = Progress {
+        taken: 0,
+        last: Last {
+            edit: None,
+            size: None,
+        },
+        fault: None,
+    };
+    while progress.taken < end.saturating_sub(start) {
+        progress = clear_part(alloc, store, fs, number, start, end, progress);
+        if progress.fault.is_some() {
+            return progress;
+        }
+    }
+    progress
+}
+
+/// Raises the size of a file to this, where it is below, after an edit.
 pub fn raise_size<S: Store>(
     alloc: Global,
     store: &mut S,
     fs: Fs,
     number: u16,
     size: u32,
-    after: EditId,
+    after: Option<EditId>,
 ) -> Result<(), FfsFault>
     ensures types { S.types_of store.new ≡ S.types_of store.old }
-    ensures err { OnErr result (S.state_of store.new ≡ S.state_of store.old) }
-    ensures raised { OnOk result (RaisesSize (S.types_of store.old) fs.number number size (S.state_of store.old) (S.state_of store.new)) }
-    ensures keeps { Keeps (S.types_of store.old) fs.number (S.state_of store.old) (S.state_of store.new) }
-    ensures short { CanEdit (S.types_of store.old) (S.state_of store.old) (Some after) → (inode : List ℕ) →
-        Ok inode ≡ file_in (latest (S.state_of store.old).lives) fs.number number → OnlyShort result }
+    ensures ends { (T : Types) (array : ℕ → Option ℕ) (inode : List ℕ) → S.types_of store.old ≡ T → Stage T fs.number array (S.state_of store.old) →
+        Ok inode ≡ file_in (newest (S.state_of store.old)) fs.number number → IsTrue (was_given (S.state_of store.old) after) →
+        Ends T fs.number array (S.state_of store.new) result
+        (λ _. IsRaised (newest (S.state_of store.old)) (newest (S.state_of store.new)) fs.number number inode size
+        × OnlyChanges (newest (S.state_of store.old)) (newest (S.state_of store.new)) fs.number number)
+        (StopsAtHome T fs.number (S.state_of store.old) (S.state_of store.new) number) }
 {
     let Found {
         block,
@@ -261,10 +505,67 @@ pub fn raise_size<S: Store>(
     } = find_file(store, fs, number)?;
     if inode.size() < size {
         inode.set_size(size);
-        let edit = edits::change(alloc, INODE_LEN * place, inode.bytes(), Some(after))?;
-        let _ = store.propose(fs, block, &edit)?;
+        let _ = put_inode(alloc, store, fs, block, place, &inode, &[], &[], after)?;
     }
     Ok(())
+}
+
+/// Looks up where a file ends into which so many bytes are to be written at an offset.
+pub fn look_up_end<S: Store>(
+    store: &S,
+    fs: Fs,
+    number: u16,
+    offset: usize,
+    count: usize,
+) -> Result<usize, FfsFault>
+    ensures within { OnOk result (offset + count ≤ 71680) }
+    ensures few { IfOk result (λ end. end ≤ 71680) }
+    ensures exact { IsLibrary (S.types_of store.now) → result ≡ mapped file_end (write_in (newest (S.state_of store.now)) fs.number number (offset + count)) }
+{
+    let file = find_file(store, fs, number)?;
+    if offset > MOST_BYTES || count > MOST_BYTES - offset {
+        return Err(FfsFault::TooLarge);
+    }
+    Ok((file.inode.size() as usize).min(MOST_BYTES))
+}
+
+/// Writes bytes into a file that ends here, and zeros before them from its end on, and leaves its size.
+pub fn write_padded<S: Store>(
+    alloc: Global,
+    store: &mut S,
+    fs: Fs,
+    number: u16,
+    end: usize,
+    offset: usize,
+    bytes: &[u8],
+) -> Progress
+    requires within { offset + length bytes.now ≤ 71680 }
+    ensures types { S.types_of store.new ≡ S.types_of store.old }
+    ensures few { result.taken ≤ length bytes.now }
+    ensures padded { (T : Types) (array : ℕ → Option ℕ) (inode : List ℕ) → S.types_of store.old ≡ T → Stage T fs.number array (S.state_of store.old) →
+        Ok inode ≡ file_in (newest (S.state_of store.old)) fs.number number → file_end inode ≡ end →
+        Padded T fs.number array (S.state_of store.old) (S.state_of store.new) number inode offset bytes.now result }
+{
+    let cleared = clear_parts(alloc, store, fs, number, end, offset);
+    if cleared.fault.is_some() {
+        return Progress {
+            taken: 0,
+            ..cleared
+        };
+    }
+    write_parts(alloc, store, fs, number, end, offset, bytes, cleared.last)
+}
+
+/// What is answered where no byte was taken: a fault, but 0 where too many edits are pending.
+pub fn none_taken(fault: Option<FfsFault>) -> Result<usize, FfsFault>
+    ensures none { OnOk result ((fault ≡ None) ⊎ (fault ≡ Some (Kernel TooManyPending))) }
+    ensures count { IfOk result (λ count. count ≡ 0) }
+    ensures err { IfErr result (λ other. (fault ≡ Some other) × (other ≢ Kernel TooManyPending)) }
+{
+    match fault {
+        None | Some(FfsFault::Kernel(Refusal::TooManyPending)) => Ok(0),
+        Some(other) => Err(other),
+    }
 }
 
 /// The block of a file at an index, or 0 in a hole.
@@ -281,6 +582,7 @@ fn file_block<S: Store>(
     ensures block { IfOk result (λ block. block ≡ file_block (latest (S.state_of store.now).lives) file.now.inode index) }
     ensures reached { IfOk result (λ block. IsLibrary (S.types_of store.now) → block ≢ 0 →
         Under (S.types_of store.now) (latest (S.state_of store.now).lives) fs.number block 2) }
+    ensures long { OnOk result (12 ≤ index → word_at file.now.inode 56 ≢ 0 → length (latest (S.state_of store.now).lives (word_at file.now.inode 56)) ≡ 512) }
 {
     if index < DIRECT_POINTERS {
         return Ok(file.inode.direct(index));

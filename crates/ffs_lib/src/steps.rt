@@ -1,6 +1,6 @@
 // Types of blocks, and what the edits of a volume are made of.
 
-ghost use Rattle.std.specs.Prelude.{◌≡◌, ◌≤◌, ◌+◌, IfOk, OnOk, OnErr, length};
+ghost use Rattle.std.specs.Prelude.{◌≡◌, ◌<◌, ◌≤◌, ◌^◌, ◌+◌, IfOk, OnOk, OnErr, length};
 ghost use Rattle.xn_model.specs.Calls.{forget_of};
 ghost use Rattle.xn_model.specs.Lists.{put};
 ghost use Rattle.ffs_model.specs.Library.{inode_blocks, zeros};
@@ -26,6 +26,13 @@ pub const POINTER_BLOCK: u32 = 5;
 
 /// How many pointers a block of pointers has.
 pub const POINTERS: usize = 128;
+
+/// A block's number is a word.
+pub fn is_word(block: u32)
+    ensures { block < 2 ^ 32 }
+{
+    let _ = block;
+}
 
 /// Forgets a new block that was to be attached, where that was refused.
 pub fn forgotten<S: Store, A>(

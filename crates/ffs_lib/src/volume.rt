@@ -1,27 +1,31 @@
 // A volume: the files and directories of a file system.
 
-ghost use Rattle.std.specs.Prelude.{◌≡◌, ◌≢◌, ◌<◌, ◌≤◌, ◌^◌, ◌+◌, ◌++◌, ◌==◌, ◌&&◌, not, true, false, ◌⊎◌, Bool, ℕ, List, Option, length, map, Contains, None, Some, Ok, Err, IfOk, IfErr, OnOk, OnErr, IfSome, IsOk, IsTrue, MatchResult};
+ghost use Rattle.std.specs.Prelude.{◌≡◌, ◌≢◌, ◌<◌, ◌≤◌, ◌+◌, ◌++◌, ◌==◌, ◌&&◌, not, true, false, ◌⊎◌, Bool, ℕ, List, Option, length, map, Contains, None, Some, Ok, Err, IfOk, IfErr, OnOk, OnErr, IfSome, IsOk, IsTrue, MatchResult};
 ghost use Rattle.std.specs.List.{range_with_len};
 ghost use Rattle.ffs_format.specs.Entries.{is_name};
 ghost use Rattle.ffs_model.specs.Cuts.{latest};
 ghost use Rattle.ffs_model.specs.Library.{library_layout, inode_mode, IsLibrary, inode_blocks, inode_links, zeros};
 ghost use Rattle.xn_model.specs.Lists.{put};
-ghost use Rattle.ffs_lookup.specs.Newest.{IsLowest, RefusesAs, TakesEntry, create_in, directory_in, first_named, has_empty_pointer, has_inode, has_room, mapped, root_in, file_in, is_own, listing, named_in, names_at, names_in, read_count, read_into, rename_in, rmdir_in, unlink_in, without_entry, write_in, inode_in};
+ghost use Rattle.ffs_lookup.specs.Newest.{IsLowest, RefusesAs, TakesEntry, create_in, directory_in, first_named, has_empty_pointer, has_inode, has_room, mapped, root_in, file_in, listing, named_in, names_at, names_in, read_count, read_into, rename_in, rmdir_in, unlink_in, without_entry, inode_in};
 ghost use Rattle.ffs_lookup.specs.Counts.{make_from, open_in};
 ghost use Rattle.ffs_lookup.specs.declared.places.Found.{Found};
 ghost use Rattle.ffs_lookup.specs.declared.places.Slot.{Slot};
 ghost use Rattle.ffs_model.specs.Volumes.{VolumeKeeps, no_edits};
 ghost use Rattle.ffs_lookup.specs.Places.{IsDirectory, IsFree, IsSlot};
 ghost use Rattle.ffs_lib.specs.Outcomes.{HasFreePointer, OnlyShort};
+ghost use Rattle.ffs_lib.specs.Writes.{Writes, WritesSome};
 ghost use Rattle.ffs_lib.specs.Steps.{Creates, Ends, Leaves, NamesAgain, Renames, Stage, StopsGrowing, StopsNaming, StopsNew, StopsUnnaming, TakesFree, Undoes, Unlinks, Unmakes, Unnamed, newest};
 ghost use Rattle.xn_model.specs.Types.{Types};
+ghost use Rattle.xn_model.specs.declared.refusal.Refusal.{Refusal};
 ghost use Rattle.xn_model.specs.Calls.{was_given};
-ghost use Rattle.ffs_lib.specs.Results.{new_inode, IsWritten, WrotePart, MadeEntry, MadeVolume, MovedEntry, OnlyChanges, OthersSame, TookLink};
+ghost use Rattle.ffs_lib.specs.Results.{new_inode, MadeEntry, MadeVolume, MovedEntry, OnlyChanges, OthersSame, TookLink};
 
-use crate::data::{BLOCK_LEN, FILE_BLOCKS, raise_size, read_part, write_block};
+use crate::data::{
+    BLOCK_LEN, MOST_BYTES, look_up_end, none_taken, raise_size, read_part, write_padded,
+};
 use crate::put::{add_link, attach, empty_inode, enter, put, put_inode, take_link};
 use crate::setup::{attach_first, first_inodes, look_up_root, prepare_root};
-use crate::steps::{INODE_BLOCK, forgotten};
+use crate::steps::{INODE_BLOCK, forgotten, is_word};
 use edit_list::{EditId, Fs};
 use ffs_format::entries::ENTRY_LEN;
 use ffs_format::inodes::{DIRECT_POINTERS, INODES};
@@ -32,14 +36,10 @@ use ffs_lookup::{
     root_block,
 };
 use std::alloc::{AllocError, Global};
-use xn_model::Refusal;
 use xn_state::Store;
 
 /// The mode of a file's inode.
 const FILE: u16 = 1;
-
-/// How many bytes a file has at most.
-const MOST_BYTES: usize = BLOCK_LEN * FILE_BLOCKS;
 
 /// A volume of a store: which file system it is, and by which edits it added inode blocks that no inode stands behind yet.
 #[derive(Drop)]
@@ -53,13 +53,6 @@ fn has_places(added: &[Option<EditId>; 16])
     ensures { length added.now ≡ 16 }
 {
     let _ = added;
-}
-
-/// A block's number is a word.
-fn is_word(block: u32)
-    ensures { block < 2 ^ 32 }
-{
-    let _ = block;
 }
 
 /// Adds the names of a directory's block and their inodes, by place.
@@ -149,22 +142,6 @@ fn moves_directory(inode: &Inode, from: u16, to: u16) -> bool
     ensures { result ≡ (inode_mode inode.now == 2) && not (from == to) }
 {
     inode.mode() == DIRECTORY && from != to
-}
-
-/// What a call answers once it may have edited. A look-up that fails then is told as the store's refusal, so that a fault of the
-/// library's own always comes before any edit.
-fn once_edited<A>(answer: Result<A, FfsFault>) -> Result<A, FfsFault>
-    ensures ok { IfOk result (λ value. answer ≡ Ok value) }
-    ensures done { IfOk answer (λ value. result ≡ Ok value) }
-    ensures err { IfErr result (λ fault. is_own fault ≡ false) }
-    ensures same { IfErr answer (λ fault. is_own fault ≡ false → result ≡ Err fault) }
-    ensures short { OnlyShort answer → OnlyShort result }
-{
-    match answer {
-        Ok(value) => Ok(value),
-        Err(FfsFault::Kernel(refusal)) => Err(FfsFault::Kernel(refusal)),
-        Err(_) => Err(FfsFault::Kernel(Refusal::NotInUse)),
-    }
 }
 
 impl Volume {
@@ -371,9 +348,9 @@ impl Volume {
         })
     }
 
-    /// Writes bytes into a file from an offset on, block after block; a file has at most 71,680 bytes, and what lies between its end
-    /// and the offset is zeros, but for what a write that was cut short left there. Before any edit it answers `NoEntry` or `IsDir` of
-    /// the inode, then `TooLarge`. Any refusal of the store is `Kernel`; the blocks before it are written.
+    /// Writes bytes into a file at an offset. Where that is past its end, the bytes between are zeros. Before any edit it answers, in this
+    /// order, `NoEntry` or `IsDir` of the inode, `TooLarge` where the data would end past 71,680 bytes. Any refusal of the store is
+    /// `Kernel`; what was done before it stands, and the size is as before.
     pub fn write<S: Store>(
         &self,
         alloc: Global,
@@ -382,62 +359,55 @@ impl Volume {
         offset: u32,
         bytes: &[u8],
     ) -> Result<(), FfsFault>
-        requires volume { IsVolume (S.types_of store.old) (S.state_of store.old) self.now }
+        requires { IsVolume (S.types_of store.old) (S.state_of store.old) self.now }
         ensures types { S.types_of store.new ≡ S.types_of store.old }
-        ensures faults { RefusesAs (write_in (latest (S.state_of store.old).lives) self.now.fs.number inode (offset + length bytes.now))
-            (S.state_of store.old) (S.state_of store.new) result }
-        ensures short { (file : List ℕ) → Ok file ≡ write_in (latest (S.state_of store.old).lives) self.now.fs.number inode (offset + length bytes.now) →
-            OnlyShort result }
-        ensures written { OnOk result ((file : List ℕ) → Ok file ≡ file_in (latest (S.state_of store.old).lives) self.now.fs.number inode →
-            IsWritten (latest (S.state_of store.old).lives) (latest (S.state_of store.new).lives) self.now.fs.number inode file offset bytes.now) }
-        ensures others { OnlyChanges (latest (S.state_of store.old).lives) (latest (S.state_of store.new).lives) self.now.fs.number inode }
-        ensures stage { (file : List ℕ) → Ok file ≡ file_in (latest (S.state_of store.old).lives) self.now.fs.number inode →
-            OnErr result
-            (WrotePart (latest (S.state_of store.old).lives) (latest (S.state_of store.new).lives) self.now.fs.number inode file offset bytes.now) }
+        ensures answers { Writes (S.types_of store.old) self.now.fs.number inode offset bytes.now (S.state_of store.old) (S.state_of store.new) result }
         ensures keeps { IsVolume (S.types_of store.old) (S.state_of store.new) self.now }
     {
-        let _ = find_file(store, self.fs, inode)?;
         let start = offset as usize;
-        if start > MOST_BYTES || bytes.len() > MOST_BYTES - start {
-            return Err(FfsFault::TooLarge);
+        let end = look_up_end(store, self.fs, inode, start, bytes.len())?;
+        if bytes.is_empty() {
+            return Ok(());
         }
-        once_edited(self.write_all(alloc, store, inode, start, bytes))
+        let progress = write_padded(alloc, store, self.fs, inode, end, start, bytes);
+        match progress.fault {
+            Some(fault) => Err(fault),
+            None => {
+                let size = (start + bytes.len()) as u32;
+                raise_size(alloc, store, self.fs, inode, size, progress.last.size)
+            }
+        }
     }
 
-    /// Writes bytes into a file from a byte on, block after block, and raises its size.
-    fn write_all<S: Store>(
+    /// Writes the first of some bytes into a file at an offset, as many as the store takes now, and answers how many. It ends before a block
+    /// that the store refuses, and then raises the size to there. It answers 0 where the store has too many pending entries for the first
+    /// block, or for the size: once they are durable the call can be made again. Other faults are those of `write`.
+    pub fn write_some<S: Store>(
         &self,
         alloc: Global,
         store: &mut S,
         inode: u16,
-        start: usize,
+        offset: u32,
         bytes: &[u8],
-    ) -> Result<(), FfsFault>
-        requires volume { IsVolume (S.types_of store.old) (S.state_of store.old) self.now }
-        requires within { start + length bytes.now ≤ 71680 }
+    ) -> Result<usize, FfsFault>
+        requires { IsVolume (S.types_of store.old) (S.state_of store.old) self.now }
         ensures types { S.types_of store.new ≡ S.types_of store.old }
-        ensures short { (file : List ℕ) → Ok file ≡ file_in (latest (S.state_of store.old).lives) self.now.fs.number inode → OnlyShort result }
-        ensures written { OnOk result ((file : List ℕ) → Ok file ≡ file_in (latest (S.state_of store.old).lives) self.now.fs.number inode →
-            IsWritten (latest (S.state_of store.old).lives) (latest (S.state_of store.new).lives) self.now.fs.number inode file start bytes.now) }
-        ensures others { OnlyChanges (latest (S.state_of store.old).lives) (latest (S.state_of store.new).lives) self.now.fs.number inode }
-        ensures stage { (file : List ℕ) → Ok file ≡ file_in (latest (S.state_of store.old).lives) self.now.fs.number inode →
-            OnErr result (WrotePart (latest (S.state_of store.old).lives) (latest (S.state_of store.new).lives) self.now.fs.number inode file start bytes.now) }
+        ensures answers { WritesSome (S.types_of store.old) self.now.fs.number inode offset bytes.now (S.state_of store.old) (S.state_of store.new) result }
         ensures keeps { IsVolume (S.types_of store.old) (S.state_of store.new) self.now }
     {
-        let mut at = start;
-        let mut rest = bytes;
-        let mut last = None;
-        while !rest.is_empty() {
-            let within = at % BLOCK_LEN;
-            let length = rest.len().min(BLOCK_LEN - within);
-            let (part, more) = rest.split_at(length);
-            last = Some(write_block(alloc, store, self.fs, inode, at / BLOCK_LEN, within, part)?);
-            at += length;
-            rest = more;
+        let start = offset as usize;
+        let end = look_up_end(store, self.fs, inode, start, bytes.len())?;
+        if bytes.is_empty() {
+            return Ok(0);
         }
-        match last {
-            Some(last) => raise_size(alloc, store, self.fs, inode, at as u32, last),
-            None => Ok(()),
+        let progress = write_padded(alloc, store, self.fs, inode, end, start, bytes);
+        if progress.taken == 0 {
+            return none_taken(progress.fault);
+        }
+        let size = (start + progress.taken) as u32;
+        match raise_size(alloc, store, self.fs, inode, size, progress.last.size) {
+            Ok(()) => Ok(progress.taken),
+            Err(fault) => none_taken(Some(fault)),
         }
     }
 

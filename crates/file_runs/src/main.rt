@@ -15,6 +15,7 @@ mod renames;
 mod rows;
 mod scan;
 mod text;
+mod writes;
 
 use faults::print_faults;
 use ffs_lib::Fs;
@@ -28,12 +29,14 @@ use std::alloc::Global;
 use std::io;
 use std::thread::Threads;
 use volume_pair::{Files, fresh_kernel};
+use writes::print_writes;
 
 /// What is run on a disk of its own.
 #[derive(Clone, Copy)]
 enum Part {
     Rows,
     File,
+    Writes,
     Faults,
     Rename(u32, End),
     Directory,
@@ -44,6 +47,7 @@ enum Part {
 fn size(part: Part) -> u32 {
     match part {
         Part::File => 256,
+        Part::Writes => 320,
         Part::Directory | Part::Random => 48,
         _ => 32,
     }
@@ -61,6 +65,7 @@ fn run(
     match part {
         Part::Rows => print_rows(rt, alloc, &mut files, first),
         Part::File => print_file(rt, alloc, &mut files, first),
+        Part::Writes => print_writes(rt, alloc, &mut files, first),
         Part::Faults => print_faults(rt, alloc, &mut files, first),
         Part::Rename(writes, end) => print_rename(rt, alloc, &mut files, first, writes, end),
         Part::Directory => print_directory(rt, alloc, &mut files, first),
@@ -88,7 +93,7 @@ fn main(rt: HostRuntime) -> io::Result<()> {
     run(&rt, alloc, Part::Rows, first, second)?;
     run_rows(&rt, alloc, first, second)?;
     print_shared(&rt, alloc, first, second)?;
-    for part in [Part::File, Part::Faults] {
+    for part in [Part::File, Part::Writes, Part::Faults] {
         run(&rt, alloc, part, first, second)?;
     }
     for writes in 0..6 {

@@ -158,6 +158,13 @@ impl Plain {
         }
     }
 
+    /// Sets the bytes of an inode between two places to 0.
+    fn clear_bytes(&mut self, inode: u16, from: usize, to: usize) {
+        for at in from..to {
+            self.set_bytes(inode, at, &[0]);
+        }
+    }
+
     /// The place of a directory that has a name.
     fn find(&self, directory: u16, name: u16) -> Option<usize> {
         (0..PLACES).find(|place| {
@@ -268,10 +275,11 @@ impl Plain {
         if end > 71_680 {
             return Err(FfsFault::TooLarge);
         }
-        self.set_bytes(inode, offset as usize, bytes);
         if !bytes.is_empty() {
+            self.clear_bytes(inode, node.size as usize, offset as usize);
             node.size = node.size.max(end as u32);
         }
+        self.set_bytes(inode, offset as usize, bytes);
         self.set_node(inode, node);
         Ok(0)
     }

@@ -1,13 +1,20 @@
 // Makes a volume and a file on fresh disks, each with a crash after another count of writes, and looks at what the crash leaves; then some
-// values. What finds no memory is made again. So this prints the same where any one request for memory is refused; `tools/refused_memory` tries that.
+// values. What finds no memory is made again. So this prints the same where any one request for memory is refused. Last come calls that take
+// no memory, and a line before them: they do what they should also where every request from there on is refused. `tools/refused_memory`
+// tries both.
 #![tactic(auto)]
 
+mod clients;
 mod images;
+mod programs;
+mod spare;
+mod stores;
 mod tally;
 mod values;
 
 use ffs_lib::Fs;
 use images::left_by;
+use spare::print_spare;
 use std::alloc::{AllocError, Global};
 use std::io;
 use std::thread::Threads;
@@ -50,5 +57,12 @@ fn main(rt: HostRuntime) -> io::Result<()> {
         println!(rt; "nothing without a write: {begins}, a file in the end: {ends}")?;
     }
     let right = right_values(&rt, rt.alloc());
-    println!(rt; "values that are right: {right} of 4")
+    println!(rt; "values that are right: {right} of 5")?;
+    // One request is refused at most before the calls that take no memory, so the second time prints.
+    let is_printed = print_spare(&rt, rt.alloc())? || print_spare(&rt, rt.alloc())?;
+    if is_printed {
+        Ok(())
+    } else {
+        Err(AllocError.into())
+    }
 }

@@ -1,4 +1,4 @@
-// What all crashes left.
+// What all crashes left, and how many of some values are right.
 
 use crate::images::Left;
 
@@ -33,4 +33,15 @@ impl Tally {
         }
         self.ends_with_a_file = left == Left::File;
     }
+}
+
+/// How many are true.
+pub fn count(done: &[bool]) -> u32 {
+    let mut count = 0u32;
+    for one in done {
+        if *one {
+            count = count.saturating_add(1);
+        }
+    }
+    count
 }

@@ -1,9 +1,11 @@
 // Values that take memory to make. Each is made again where there is none, which is all that may keep it from being right.
 
+use crate::clients::client_is_answered;
 use crash_check::{ImageFault, mount};
 use disk::{Lanes, MemDisk, MemLane, fresh_lanes};
 use durable_floor::Floor;
 use std::alloc::Global;
+use std::sync::Wait;
 use std::thread::Threads;
 use templates::format_image;
 use udf_asm::{assemble, print};
@@ -70,12 +72,13 @@ fn has_readers(alloc: Global) -> Option<bool> {
 }
 
 /// How many of these values are right.
-pub fn right_values(rt: &(impl Threads + Sync), alloc: Global) -> u32 {
+pub fn right_values<R: Threads + Wait + Sync>(rt: &R, alloc: Global) -> u32 {
     let made = [
         is_spelled_again(alloc).or(is_spelled_again(alloc)),
         is_joined(alloc).or(is_joined(alloc)),
         is_mounted(rt, alloc).or(is_mounted(rt, alloc)),
         has_readers(alloc).or(has_readers(alloc)),
+        client_is_answered(rt, alloc).or(client_is_answered(rt, alloc)),
     ];
     let mut right = 0u32;
     for value in made {

@@ -1,11 +1,11 @@
 -- What is known of a file system stays over the calls of others, over what the device does, and over a crash.
-use Rattle.std.proofs.Common.{◌∙◌, lit≤, false, ◌≡◌, ◌≢◌, ℕ, ◌<◌, ◌≤◌, List, Option, Some, None, Result, refl, sym, ap, subst}
+use Rattle.std.proofs.Common.{◌∙◌, lit≤, Bool, false, Ok, Err, ◌≡◌, ◌≢◌, ℕ, ◌<◌, ◌≤◌, List, Option, Some, None, Result, refl, sym, ap, subst}
 use Rattle.std.specs.Prelude.{IfSome, IsSomeAnd, IsTrue}
 use Rattle.xn_model.specs.declared.refusal.Refusal.{Refusal}
 use Rattle.xn_model.specs.Types.{Types}
 use Rattle.xn_model.specs.Lives.{StoreState}
 use Rattle.xn_model.specs.Results.{Gives, GivesExactly}
-use Rattle.xn_model.specs.Calls.{Edit, init_of, propose_of, make_root_of, forget_of}
+use Rattle.xn_model.specs.Calls.{Edit, init_of, propose_of, make_root_of, forget_of, pending_of}
 use Rattle.xn_model.specs.Languages.{Extends}
 use Rattle.xn_model.specs.Worlds.{World, Event, Client, Install, Begin, Land, Fail, Sync, FailSync, Finish, Crash, Reply, Step, IsEvent, is_crash, types_now}
 use Rattle.xn_model.specs.Rules.{IsConsistent, Holds, Keeps}
@@ -14,7 +14,11 @@ use Rattle.xn_model.proofs.ForCallers as model
 use Rattle.ffs_model.specs.Cuts.{CutsFrom}
 use Rattle.ffs_model.specs.Events.{IsForeign}
 use Rattle.ffs_model.specs.Library.{library_layout, IsLibrary}
-use Rattle.ffs_model.proofs.ForCallers.{begun_next, cuts_same, event_cuts, forget_cuts, forgot_next, init_cuts, library_reads, make_root_cuts, none_later, one_later, propose_cuts, proposed_next, rooted_next, volume_from}
+use Rattle.ffs_model.proofs.ForCallers.{begun_next, cuts_same, event_cuts, forget_cuts, forgot_next, init_cuts, library_reads, make_root_cuts, none_later, nothing_pending, one_later, opened_keeps, propose_cuts, proposed_next, rooted_next, volume_from}
+use Rattle.ffs_model.specs.Volumes.{VolumeKeeps, no_edits}
+use Rattle.ffs_lookup.specs.declared.fault.FfsFault.{FfsFault}
+use Rattle.ffs_lookup.specs.Newest.{RefusesAs}
+use Rattle.ffs_lookup.specs.Counts.{make_from}
 use Rattle.ffs_lib.specs.declared.volume.Volume.{Volume}
 use Rattle.events.specs.declared.event.Event as world_event
 use Rattle.events.specs.declared.event.Event.TheVariants as event
@@ -146,3 +150,13 @@ device_event (event.FailSync block) d = (tt, λ fs. tt)
 device_event (event.Finish block) d = (tt, λ fs. tt)
 device_event (event.Call fs call) d = absurd d
 device_event (event.Crash kept) d = absurd d
+
+-- a volume that could not be made is closed, with its rules
+pub make_kept : (T T' : Types) (old new : StoreState) (fs : ℕ) (volume : Option Volume) (fault : FfsFault) → T' ≡ T → IsKept T old fs volume → pending_of old fs ≡ 0 →
+    RefusesAs {A = Bool} {B = Volume} (make_from old fs) old new (Err fault) → ((begun : Bool) → Ok begun ≡ make_from old fs → VolumeKeeps T library_layout fs no_edits new) → IsKept T' new fs None
+make_kept T T' old new fs volume fault e k idle refuses keeps = retyped T T' new fs None e (record { library = k.library; few = k.few; keeps = go (make_from old fs) refl refuses; mine = tt })
+  where
+    go : (r : Result Bool FfsFault) → make_from old fs ≡ r → RefusesAs {A = Bool} {B = Volume} r old new (Err fault) → VolumeKeeps T library_layout fs no_edits new
+    go (Ok begun) e h = keeps begun (sym e)
+    go (Err f) e h = subst (VolumeKeeps T library_layout fs no_edits) (sym h.1)
+        (opened_keeps T library_layout fs (array_of volume) old k.keeps (nothing_pending T library_layout fs (array_of volume) old k.keeps idle))

@@ -91,6 +91,23 @@ fn act<S: Store>(alloc: Global, store: &mut S, volume: &mut Volume, action: &Act
     }
 }
 
+/// Has a volume write the first of some bytes.
+fn act_in_part<S: Store>(
+    alloc: Global,
+    store: &mut S,
+    volume: &mut Volume,
+    inode: u16,
+    offset: u32,
+    bytes: &[u8],
+) -> Result<usize, FfsFault>
+    requires { IsVolume (S.types_of store.old) (S.state_of store.old) volume.old }
+    ensures types { S.types_of store.new ≡ S.types_of store.old }
+    ensures fs { volume.new.fs ≡ volume.old.fs }
+    ensures keeps { IsVolume (S.types_of store.old) (S.state_of store.new) volume.new }
+{
+    volume.write_some(alloc, store, inode, offset, bytes)
+}
+
 impl<S: Disk + Drop> Files<S> {
     /// Two file systems on a store, of which no volume is open.
     pub fn new(store: S, first: Fs, second: Fs) -> Files<S>
@@ -183,6 +200,27 @@ impl<S: Disk + Drop> Files<S> {
             return Err(FfsFault::NoEntry);
         };
         act(alloc, store, volume, action)
+    }
+
+    /// Writes the first of some bytes into a file, as many as the store takes now, and answers how many.
+    pub fn write_some(
+        &mut self,
+        alloc: Global,
+        fs: Fs,
+        inode: u16,
+        offset: u32,
+        bytes: &[u8],
+    ) -> Result<usize, FfsFault> {
+        if !self.turn_to(fs) {
+            return Err(FfsFault::NoEntry);
+        }
+        let Some(store) = &mut self.store else {
+            return Err(FfsFault::NoEntry);
+        };
+        let Some(volume) = &mut self.volume else {
+            return Err(FfsFault::NoEntry);
+        };
+        act_in_part(alloc, store, volume, inode, offset, bytes)
     }
 
     /// Reads from a file, and answers how many bytes there were.

@@ -97,6 +97,102 @@ impl<S: FlushStore + Drop> Session<S> {
         Ok(Session { store, fs, volume })
     }
 
+    /// The store again.
+    pub fn into_store(self) -> S
+        ensures { result ≡ self }
+    {
+        let Session {
+            store,
+            fs: _,
+            volume: _,
+        } = self;
+        store
+    }
+
+    /// Writes all that is pending, and answers how many waves that took. After a refusal the session is of no more use.
+    pub fn flush(&mut self, alloc: Global) -> Result<u32, Refusal> {
+        let _few = self.fs.index();
+        self.store.flush(alloc)
+    }
+
+    /// How many entries of its file system are pending.
+    pub fn pending(&self) -> u32 {
+        self.store.pending(self.fs)
+    }
+
+    /// What stands at an inode in use.
+    pub fn node(&self, number: u16) -> Result<Node, FfsFault> {
+        let found = find_inode(&self.store, self.fs, number)?;
+        Ok(node_of(number, &found))
+    }
+
+    /// The inode that a name in a directory names.
+    pub fn look_up(&self, directory: u16, name: &[u8]) -> Result<u16, FfsFault> {
+        let found = find_directory(&self.store, self.fs, directory)?;
+        if !is_name(name) {
+            return Err(FfsFault::BadName);
+        }
+        match find_entry(&self.store, self.fs, &found, directory, name)? {
+            Some(slot) => Ok(slot.inode),
+            None => Err(FfsFault::NoEntry),
+        }
+    }
+
+    /// The names in a directory and their inodes, in the order of its blocks.
+    pub fn list(&self, alloc: Global, directory: u16) -> Result<Vec<(Vec<u8>, u16)>, FfsFault> {
+        self.volume.list(alloc, &self.store, directory)
+    }
+
+    /// Reads a file from an offset on, and answers how many bytes there were.
+    pub fn read(&self, inode: u16, offset: u32, bytes: &mut [u8]) -> Result<usize, FfsFault> {
+        self.volume.read(&self.store, inode, offset, bytes)
+    }
+
+    /// Makes an empty file, and answers its inode.
+    pub fn create(&mut self, alloc: Global, directory: u16, name: &[u8]) -> Result<u16, FfsFault> {
+        self.volume.create(alloc, &mut self.store, directory, name)
+    }
+
+    /// Makes an empty directory, and answers its inode.
+    pub fn mkdir(&mut self, alloc: Global, directory: u16, name: &[u8]) -> Result<u16, FfsFault> {
+        self.volume.mkdir(alloc, &mut self.store, directory, name)
+    }
+
+    /// Writes bytes into a file from an offset on.
+    pub fn write(
+        &mut self,
+        alloc: Global,
+        inode: u16,
+        offset: u32,
+        bytes: &[u8],
+    ) -> Result<(), FfsFault> {
+        self.volume
+            .write(alloc, &mut self.store, inode, offset, bytes)
+    }
+
+    /// Takes a file's name, and gives the file up with its last one.
+    pub fn unlink(&mut self, alloc: Global, directory: u16, name: &[u8]) -> Result<(), FfsFault> {
+        self.volume.unlink(alloc, &mut self.store, directory, name)
+    }
+
+    /// Gives an empty directory up.
+    pub fn rmdir(&mut self, alloc: Global, directory: u16, name: &[u8]) -> Result<(), FfsFault> {
+        self.volume.rmdir(alloc, &mut self.store, directory, name)
+    }
+
+    /// Gives a file or a directory another name.
+    pub fn rename(
+        &mut self,
+        alloc: Global,
+        directory: u16,
+        name: &[u8],
+        other: u16,
+        new_name: &[u8],
+    ) -> Result<(), FfsFault> {
+        self.volume
+            .rename(alloc, &mut self.store, directory, name, other, new_name)
+    }
+
     /// How many blocks of the disk are free.
     pub fn free(&self) -> u32 {
         self.store.free()

@@ -1,73 +1,87 @@
-use Rattle.std.proofs.Common.{[], ◌+◌, ◌<◌, ◌∙◌, arith, length, refl, sym}
-use Rattle.std.proofs.lemmas.Result.{err_from_is_err_and}
+use Rattle.std.proofs.Common.{◌≡◌, ◌≢◌, ◌∙◌, ◌+◌, ◌-◌, ◌≤◌, ℕ, List, [], Some, None, Ok, Err, Result, ap, arith, inl, inr, length, refl, subst, sym, take}
+use Rattle.std.specs.Prelude.{MatchResult}
+use Rattle.std.proofs.lemmas.Bool.{eqb-false}
+use Rattle.std.proofs.lemmas.List.{take_all}
+use Rattle.ffs_lib.specs.Outcomes.{IsRaised}
+use Rattle.xn_model.specs.Lives.{StoreState}
 use Rattle.ffs_model.specs.Cuts.{latest}
-use Rattle.ffs_lookup.specs.Newest.{write_in}
-use Rattle.ffs_lib.proofs.Kept.{handed_err, handed_on, on_err}
-use Rattle.ffs_lib.proofs.Tops.{never}
-use Rattle.ffs_lib.proofs.Writing.{wrote_none}
-use Rattle.ffs_lib.proofs.Refusals.{fits_file, goes_on, refuses, too_large, write_nothing}
+use Rattle.ffs_lookup.specs.declared.fault.FfsFault.{FfsFault}
+use Rattle.ffs_lookup.specs.Newest.{file_end, write_in}
+use Rattle.ffs_lib.specs.Steps.{Answers, Stage, Stops}
+use Rattle.ffs_lib.specs.Volumes.{edits_of}
+use Rattle.ffs_lib.specs.Writes.{StopsWriting, Wrote}
+use Rattle.ffs_lib.proofs.Laws.{answers_ok, match_then, staged}
+use Rattle.ffs_lib.proofs.Parting.{end_found, raise_refused, raised_wrote, stops_writing, write_file}
 use Rattle.ffs_lib.proofs.volume.Volume.write.Goals as goal
-use Rattle.ffs_lib.proofs.volume.Volume.write.Goals.{then-start-gt-MOST_BYTES-via-then-start-gt-MOST_BYTES, then-start-gt-MOST_BYTES-via-else-start-gt-MOST_BYTES+then-bytes-start}
 
-pub returns-in_err-find_file-clause-faults : goal.returns-in_err-find_file-clause-faults
-returns-in_err-find_file-clause-faults g c =
-    let content = latest (g.S.Store.state_of c.args.store.now).lives in
-    let fs = c.args.self.now.fs.number in
-    let size = c.args.offset + length c.args.bytes.now in
-    let fault = c.in_err-find_file.field-0.0 in
-    let p = err_from_is_err_and c.from_residual.result c.from_residual.ensures.1 in
-    rw (p.1, p.2)
-    (refuses (write_in content fs c.args.inode size) _ fault (g.S.Store.state_of c.args.store.now)
-    (write_nothing content fs c.args.inode size fault (c.in_err-find_file.ensures.exact c.requires.volume.library)) refl)
+pub returns-in-Some-clause-answers : goal.returns-in-Some-clause-answers
+returns-in-Some-clause-answers g c =
+    let T = g.S.Store.types_of c.args.store.now in
+    let volume = c.args.self.now in
+    let fs = volume.fs.number in
+    let old = g.S.Store.state_of c.args.store.now in
+    let new = g.S.Store.state_of c.write_padded-progress.new.store in
+    let n = c.args.inode in
+    let bytes = c.args.bytes.now in
+    let v = c.requires in
+    let s = staged v volume.fs.few in
+    let f = end_found (write_in (latest old.lives) fs n (c.args.offset + length bytes)) c.in_ok-end.end (c.in_ok-end.ensures.exact v.library) in
+    let is = write_file (latest old.lives) fs n (c.args.offset + length bytes) f.0 f.1 in
+    let p = c.write_padded-progress.ensures.padded T (edits_of volume.added) f.0 refl s is f.2 in
+    let stop = stops_writing T fs (edits_of volume.added) old new n f.0 c.args.offset bytes c.write_padded-progress.result is p c.in-Some.fault c.in-Some.is in
+    answers_ok (write_in (latest old.lives) fs n (c.args.offset + length bytes)) (λ inode _. Wrote old new fs n inode c.args.offset bytes) (λ inode fault. StopsWriting T fs old new n inode c.args.offset bytes fault) (Err c.in-Some.fault) f.0 old new f.1 (stop.0, stop.1.0)
 
-pub returns-then-start-gt-MOST_BYTES-clause-faults : goal.returns-then-start-gt-MOST_BYTES-clause-faults
-returns-then-start-gt-MOST_BYTES-clause-faults g c =
-    let content = latest (g.S.Store.state_of c.args.store.now).lives in
-    let fs = c.args.self.now.fs.number in
-    let size = c.args.offset + length c.args.bytes.now in
-    let large : 71680 < size =
-    elim c.then-start-gt-MOST_BYTES.branch [ then-start-gt-MOST_BYTES-via-then-start-gt-MOST_BYTES w ↦ omega arith | then-start-gt-MOST_BYTES-via-else-start-gt-MOST_BYTES+then-bytes-start w ↦ omega arith ] in
-    refuses (write_in content fs c.args.inode size) _ _ (g.S.Store.state_of c.args.store.now)
-    (too_large content fs c.args.inode size c.in_ok-find_file.field-0.inode (c.in_ok-find_file.ensures.exact c.requires.volume.library) large) refl
+pub returns-in-Some-clause-keeps : goal.returns-in-Some-clause-keeps
+returns-in-Some-clause-keeps g c =
+    let volume = c.args.self.now in
+    let old = g.S.Store.state_of c.args.store.now in
+    let n = c.args.inode in
+    let v = c.requires in
+    let size : ℕ = c.args.offset + length c.args.bytes.now in
+    let f = end_found (write_in (latest old.lives) volume.fs.number n size) c.in_ok-end.end (c.in_ok-end.ensures.exact v.library) in
+    let p = c.write_padded-progress.ensures.padded (g.S.Store.types_of c.args.store.now) (edits_of volume.added) f.0 refl (staged v volume.fs.few) (write_file (latest old.lives) volume.fs.number n size f.0 f.1) f.2 in
+    record { library = v.library; keeps = p.stage.keeps }
 
-pub returns-clause-faults : goal.returns-clause-faults
-returns-clause-faults g c =
-    let content = latest (g.S.Store.state_of c.args.store.now).lives in
-    let fs = c.args.self.now.fs.number in
-    let size = c.args.offset + length c.args.bytes.now in
-    let inode = c.in_ok-find_file.field-0.inode in
-    goes_on (write_in content fs c.args.inode size) c.once_edited.result inode (g.S.Store.state_of c.args.store.now) (g.S.Store.state_of c.write_all.new.store)
-    (fits_file content fs c.args.inode size inode (c.in_ok-find_file.ensures.exact c.requires.volume.library) (omega arith)) c.once_edited.ensures.err
+pub returns-in-None-clause-answers : goal.returns-in-None-clause-answers
+returns-in-None-clause-answers g c =
+    let T = g.S.Store.types_of c.args.store.now in
+    let volume = c.args.self.now in
+    let fs = volume.fs.number in
+    let array = edits_of volume.added in
+    let old = g.S.Store.state_of c.args.store.now in
+    let middle = g.S.Store.state_of c.write_padded-progress.new.store in
+    let new = g.S.Store.state_of c.raise_size.new.store in
+    let n = c.args.inode in
+    let offset = c.args.offset in
+    let bytes = c.args.bytes.now in
+    let v = c.requires in
+    let s = staged v volume.fs.few in
+    let f = end_found (write_in (latest old.lives) fs n (offset + length bytes)) c.in_ok-end.end (c.in_ok-end.ensures.exact v.library) in
+    let is = write_file (latest old.lives) fs n (offset + length bytes) f.0 f.1 in
+    let p = c.write_padded-progress.ensures.padded T array f.0 refl s is f.2 in
+    let progress = c.write_padded-progress.result in
+    let all : progress.taken ≡ length bytes = p.whole c.in-None.is in
+    let some : progress.taken ≢ 0 = λ z. eqb-false (length bytes) 0 (sym c.if-is_empty.ensures) (sym all ∙ z) in
+    let w = p.puts.wrote f.0 is in
+    let x = c.raise_size.ensures.ends T array w.after c.write_padded-progress.ensures.types p.stage w.file p.given.1 in
+    let whole : take progress.taken bytes ≡ bytes = take_all progress.taken bytes (omega (arith, all)) in
+    let counted = p.counted some in
+    let low = c.in_ok-end.ensures.within in
+    answers_ok (write_in (latest old.lives) fs n (offset + length bytes)) (λ inode _. Wrote old new fs n inode offset bytes) (λ inode fault. StopsWriting T fs old new n inode offset bytes fault) c.raise_size.result f.0 old new f.1
+    (match_then _ (λ _. Wrote old new fs n f.0 offset bytes) _ (λ fault. StopsWriting T fs old new n f.0 offset bytes fault) c.raise_size.result
+    (λ done r. subst (Wrote old new fs n f.0 offset) whole (raised_wrote T fs array old middle n f.0 offset bytes progress is p counted low some new (subst (λ (k : ℕ). IsRaised (latest middle.lives) (latest new.lives) fs n w.after (offset + k)) (sym all) r.0) r.1))
+    (λ fault stop. subst (λ (m : List ℕ). StopsWriting T fs old new n f.0 offset m fault) whole (raise_refused T fs array old middle n f.0 offset bytes progress is p counted low some new fault stop)) x.1)
 
-pub returns-clause-written : goal.returns-clause-written
-returns-clause-written g c = handed_on _ c.write_all.result c.once_edited.result c.once_edited.ensures.ok c.write_all.ensures.written
-
-pub returns-clause-stage : goal.returns-clause-stage
-returns-clause-stage g c = λ file is. handed_err _ c.write_all.result c.once_edited.result c.once_edited.ensures.done (c.write_all.ensures.stage file is)
-
-pub returns-in_err-find_file-clause-stage : goal.returns-in_err-find_file-clause-stage
-returns-in_err-find_file-clause-stage g c = λ file is.
-    let v = latest (g.S.Store.state_of c.args.store.now).lives in
-    on_err c.from_residual.result ([], c.args.bytes.now, refl, wrote_none v c.args.self.now.fs.number c.args.inode c.args.offset file is)
-
-pub returns-then-start-gt-MOST_BYTES-clause-stage : goal.returns-then-start-gt-MOST_BYTES-clause-stage
-returns-then-start-gt-MOST_BYTES-clause-stage g c = λ file is.
-    let v = latest (g.S.Store.state_of c.args.store.now).lives in
-    ([], c.args.bytes.now, refl, wrote_none v c.args.self.now.fs.number c.args.inode c.args.offset file is)
-
-pub returns-in_err-find_file-clause-short : goal.returns-in_err-find_file-clause-short
-returns-in_err-find_file-clause-short g c = λ file is.
-    let content = latest (g.S.Store.state_of c.args.store.now).lives in
-    let size = c.args.offset + length c.args.bytes.now in
-    absurd (never file _ (is ∙ sym (write_nothing content c.args.self.now.fs.number c.args.inode size c.in_err-find_file.field-0.0 (c.in_err-find_file.ensures.exact c.requires.volume.library))))
-
-pub returns-then-start-gt-MOST_BYTES-clause-short : goal.returns-then-start-gt-MOST_BYTES-clause-short
-returns-then-start-gt-MOST_BYTES-clause-short g c = λ file is.
-    let content = latest (g.S.Store.state_of c.args.store.now).lives in
-    let size = c.args.offset + length c.args.bytes.now in
-    let large : 71680 < size =
-    elim c.then-start-gt-MOST_BYTES.branch [ then-start-gt-MOST_BYTES-via-then-start-gt-MOST_BYTES w ↦ omega arith | then-start-gt-MOST_BYTES-via-else-start-gt-MOST_BYTES+then-bytes-start w ↦ omega arith ] in
-    absurd (never file _ (is ∙ sym (too_large content c.args.self.now.fs.number c.args.inode size c.in_ok-find_file.field-0.inode (c.in_ok-find_file.ensures.exact c.requires.volume.library) large)))
-
-pub returns-clause-short : goal.returns-clause-short
-returns-clause-short g c = λ file is. c.once_edited.ensures.short (c.write_all.ensures.short c.in_ok-find_file.field-0.inode (c.in_ok-find_file.ensures.exact c.requires.volume.library))
+pub returns-in-None-clause-keeps : goal.returns-in-None-clause-keeps
+returns-in-None-clause-keeps g c =
+    let volume = c.args.self.now in
+    let old = g.S.Store.state_of c.args.store.now in
+    let n = c.args.inode in
+    let v = c.requires in
+    let size : ℕ = c.args.offset + length c.args.bytes.now in
+    let f = end_found (write_in (latest old.lives) volume.fs.number n size) c.in_ok-end.end (c.in_ok-end.ensures.exact v.library) in
+    let is = write_file (latest old.lives) volume.fs.number n size f.0 f.1 in
+    let p = c.write_padded-progress.ensures.padded (g.S.Store.types_of c.args.store.now) (edits_of volume.added) f.0 refl (staged v volume.fs.few) is f.2 in
+    let w = p.puts.wrote f.0 is in
+    let x = c.raise_size.ensures.ends (g.S.Store.types_of c.args.store.now) (edits_of volume.added) w.after c.write_padded-progress.ensures.types p.stage w.file p.given.1 in
+    record { library = v.library; keeps = x.0.keeps }

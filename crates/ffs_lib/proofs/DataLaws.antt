@@ -1,0 +1,414 @@
+-- What the edits leave by which bytes of a file are written: one law for each kind.
+use Rattle.std.proofs.Common.{◌≡◌, ◌≢◌, ℕ, ◌+◌, ◌-◌, ◌*◌, ◌/◌, ◌^◌, ◌<◌, ◌≤◌, ◌⊎◌, List, [], ◌∷◌, length, Option, None, Some, Result, Ok, Err, refl, sym, ◌∙◌, ap, arith, subst, inl, inr}
+use Rattle.std.specs.Prelude.{Contains, IsTrue, slice_set}
+use Rattle.std.specs.Int.{w32, to_le_bytes}
+use Rattle.std.proofs.lemmas.Bool.{cases_lt}
+use Rattle.std.proofs.lemmas.List.{length-replicate}
+use Rattle.std.proofs.lemmas.Option.{none-some}
+use Rattle.xn_model.specs.Types.{Types}
+use Rattle.xn_model.specs.Lists.{put}
+use Rattle.xn_model.specs.Root.{word_at}
+use Rattle.xn_model.specs.Lives.{StoreState, life_at}
+use Rattle.xn_model.specs.Calls.{forget_of, init_of, propose_of, was_given}
+use Rattle.xn_model.specs.Rules.{IsConsistent}
+use Rattle.xn_model.proofs.ForCallers.{Contains-head}
+use Rattle.ffs_model.specs.Cuts.{Under, latest}
+use Rattle.ffs_model.specs.Library.{inode_blocks, inode_links, inode_mode, library_layout, pointer_word, zeros}
+use Rattle.ffs_model.proofs.ForCallers.{begun_next, data_short, given_later, latest_reached, library_reads, one_later, pointer_set_short, proposed_given, proposed_next, proposed_others, started, started_here, started_keeps, under_inodes, zero_word}
+use Rattle.ffs_format.specs.Fields.{Fields, direct_in, fields_of}
+use Rattle.ffs_lookup.specs.declared.fault.FfsFault.{FfsFault}
+use Rattle.ffs_lookup.specs.declared.places.Found.{Found}
+use Rattle.ffs_lookup.specs.Newest.{byte_of, file_block, file_in}
+use Rattle.ffs_lookup.specs.Places.{IsFile}
+use Rattle.ffs_lookup.proofs.ForCallers.{found_has, same_ok}
+use Rattle.ffs_lib.specs.Edits.{edit_at}
+use Rattle.ffs_lib.specs.Outcomes.{HasBlock, IsRaised}
+use Rattle.ffs_lib.specs.Results.{OnlyChanges, SameInode, WroteBytes}
+use Rattle.ffs_lib.specs.Steps.{IsHome, ShortEdit, Stage, StopsAttaching, Tells, Wants, left_by, newest}
+use Rattle.ffs_lib.specs.Writes.{PointsTo, Puts, PutsBy, StopsAdding, StopsBlock, StopsPart}
+use Rattle.ffs_lib.proofs.DataShort.{direct_refused, pointers_refused, size_refused}
+use Rattle.ffs_lib.proofs.Edited.{file_data, kept, pointed, pointed_data, pointers_reached}
+use Rattle.ffs_lib.proofs.Fields.{one_more, same_blocks}
+use Rattle.ffs_lib.proofs.Laws.{can_edit, gives_of, home_of}
+use Rattle.ffs_lib.proofs.Owners.{Stands, block_at, direct_block, pointers_at, stands_from, where_block}
+use Rattle.ffs_lib.proofs.Same.{Touches, begun, begun_some, block_same, none_touched, reached_before, same_on}
+use Rattle.ffs_lib.proofs.Short.{begun_addable}
+use Rattle.ffs_lib.proofs.Undoing.{left_next, undone_same}
+use Rattle.ffs_lib.proofs.Writing.{block_written, data_attached, data_written, direct_attached, file_from, file_now, file_others, file_same, indirect_block, no_pointers, pointers_attached, size_raised, wrote_none, wrote_on, wrote_still, written_none, written_same}
+
+-- Bytes that stay, and one write after another
+
+-- all inodes are as before
+pub all_same : (old new : StoreState) (fs n : ℕ) → ((d : ℕ) → SameInode (latest old.lives) (latest new.lives) fs d) → old.next ≤ new.next → Puts old new fs n 0 []
+all_same old new fs n same later =
+    let u = latest old.lives in
+    let w = latest new.lives in
+    record {
+      wrote = λ inode is. record {
+        after = inode;
+        file = is ∙ sym (file_same u w fs n (same n).0);
+        size = refl;
+        marks = (refl, refl);
+        each = λ at low. ((same n).1 inode (file_from u fs n inode is)).1 at low ∙ written_none (byte_of u inode) 0 at;
+      };
+      others = λ d ne. same d;
+      later = later;
+    }
+
+pub puts_none : (state : StoreState) (fs n start : ℕ) → Puts state state fs n start []
+puts_none state fs n start = record {
+  wrote = λ inode is. wrote_none (latest state.lives) fs n start inode is;
+  others = λ d ne. (refl, λ inode is. (refl, λ at low. refl));
+  later = omega arith;
+}
+
+pub later_on : (a b c : ℕ) → a ≤ b → b ≤ c → a ≤ c
+later_on a b c e f = omega (arith, e, f)
+
+-- after some bytes, nothing; after nothing, some
+pub puts_still : (old first second : StoreState) (fs n start : ℕ) (bytes : List ℕ) → Puts old first fs n start bytes → Puts first second fs n 0 [] → Puts old second fs n start bytes
+puts_still old first second fs n start bytes a b = record {
+  wrote = λ inode is.
+      let x = a.wrote inode is in
+      let y = b.wrote x.after x.file in
+      record {
+        after = y.after;
+        file = y.file;
+        size = y.size ∙ x.size;
+        marks = (y.marks.0 ∙ x.marks.0, y.marks.1 ∙ x.marks.1);
+        each = λ at low. y.each at low ∙ (sym (written_none (byte_of (latest first.lives) x.after) 0 at) ∙ x.each at low);
+      };
+  others = λ d ne. same_on (latest old.lives) (latest first.lives) (latest second.lives) fs d (a.others d ne) (b.others d ne);
+  later = later_on old.next first.next second.next a.later b.later;
+}
+
+pub puts_after : (old first second : StoreState) (fs n start : ℕ) (bytes : List ℕ) → Puts old first fs n 0 [] → Puts first second fs n start bytes → Puts old second fs n start bytes
+puts_after old first second fs n start bytes a b = record {
+  wrote = λ inode is.
+      let x = a.wrote inode is in
+      let y = b.wrote x.after x.file in
+      record {
+        after = y.after;
+        file = y.file;
+        size = y.size ∙ x.size;
+        marks = (y.marks.0 ∙ x.marks.0, y.marks.1 ∙ x.marks.1);
+        each = λ at low. y.each at low ∙ written_same (byte_of (latest first.lives) x.after) (byte_of (latest old.lives) inode) start bytes at (x.each at low ∙ sym (written_none (byte_of (latest old.lives) inode) 0 at));
+      };
+  others = λ d ne. same_on (latest old.lives) (latest first.lives) (latest second.lives) fs d (a.others d ne) (b.others d ne);
+  later = later_on old.next first.next second.next a.later b.later;
+}
+
+-- a part that was refused after that
+pub stops_after : (T : Types) (fs : ℕ) (old first new : StoreState) (n index : ℕ) (fault : FfsFault) → Puts old first fs n 0 [] → StopsPart T fs first new n index fault → StopsPart T fs old new n index fault
+stops_after T fs old first new n index fault a x = record { same = puts_after old first new fs n 0 [] a x.same; before = x.before; told = x.told }
+
+-- A block that is there
+
+pub refused_there : (T : Types) (fs : ℕ) (old new : StoreState) (n index block : ℕ) (inode : List ℕ) → Ok inode ≡ file_in (latest old.lives) fs n → file_block (latest old.lives) inode index ≡ block → block ≢ 0 → new ≡ old → (fault : FfsFault) → Wants T old fs block fault →
+    StopsPart T fs old new n index fault
+refused_there T fs old new n index block inode is points there same fault wants = subst (λ (s : StoreState). StopsPart T fs old s n index fault) (sym same) (record {
+  same = puts_none old fs n 0;
+  before = old;
+  told = inl (record { same = refl; inode = inode; file = is; there = λ z. there (sym points ∙ z); wants = subst (λ b. Wants T old fs b fault) (sym points) wants });
+})
+
+module _ (T : Types) (fs : ℕ) (array : ℕ → Option ℕ) (old : StoreState) (s : Stage T fs array old) (n : ℕ) (found : Found) (file : IsFile old fs n found) (is : Ok found.inode ≡ file_in (latest old.lives) fs n)
+    (index block at : ℕ) (bytes : List ℕ) (low : index < 140) (points : file_block (latest old.lives) found.inode index ≡ block) (there : block ≢ 0) (long : length (latest old.lives block) ≡ 512) (fit : at + length bytes ≤ 512) (after : Option ℕ) where
+  own : Stands (latest old.lives) fs n found.inode
+  own = stands_from (latest old.lives) fs n found.inode (file_from (latest old.lives) fs n found.inode is)
+
+  pub there_short : 0 < length bytes → IsTrue (was_given old after) → ShortEdit T old fs block (edit_at at bytes [] [] after)
+  there_short some given = data_short T s.library old s.keeps.consistent fs s.few block long after given (block_at T s.library old s.keeps.consistent fs s.few n found.inode own index block low points there) at bytes some fit
+
+  pub puts : (new : StoreState) (entry : ℕ) → propose_of T old fs block (edit_at at bytes [] [] after) ≡ Ok (entry, new) → Stage T fs array new × PutsBy old new fs n (512 * index + at) bytes entry
+  puts new entry done =
+      let h = s.keeps.consistent in
+      let edit = edit_at at bytes [] [] after in
+      let r = data_written T s.library old new h fs s.few n found.inode is index block at bytes low points there long fit after entry done in (
+        record {
+          library = s.library;
+          few = s.few;
+          keeps = elim (where_block (latest old.lives) found.inode index block points there) [
+            | inl k ↦ file_data T s.library fs s.few array old new s.keeps n block entry found edit file (found_has old fs n found file.is index block k.0 k.1 there) done
+            | inr k ↦
+                let ge = k.0 in
+                pointed_data T s.library fs s.few array old new s.keeps (word_at found.inode 56) (index - 12) block entry edit (pointers_reached T s.library old fs n found file.is (word_at found.inode 56) refl k.1) (omega (arith, ge, low)) k.2 there done
+          ];
+        },
+        (
+          record {
+            wrote = λ other i. subst (λ (x : List ℕ). WroteBytes (latest old.lives) (latest new.lives) fs n x (512 * index + at) bytes) (same_ok found.inode other (is ∙ sym i)) r.0;
+            others = r.1;
+            later = one_later new.next old.next (proposed_next T old new fs block edit entry done);
+          },
+          proposed_given T old new h fs block edit entry done,
+        ),
+      )
+
+-- A new block
+
+pub not_begun : (T : Types) (fs : ℕ) (old new : StoreState) (n index : ℕ) (inode : List ℕ) → Ok inode ≡ file_in (latest old.lives) fs n → file_block (latest old.lives) inode index ≡ 0 → (owner : ℕ) → IsHome (latest old.lives) fs n owner ⊎ (owner ≡ word_at inode 56) →
+    (ty : ℕ) (bytes : List ℕ) → (ty ≡ 2) ⊎ ((ty ≡ 5) × (bytes ≡ zeros)) → new ≡ old → (fault : FfsFault) → Tells (init_of T old fs ty bytes) fault → StopsPart T fs old new n index fault
+not_begun T fs old new n index inode is hole owner of ty bytes kind same fault told = subst (λ (s : StoreState). StopsPart T fs old s n index fault) (sym same) (record {
+  same = puts_none old fs n 0;
+  before = old;
+  told = inr (record { inode = inode; file = is; hole = hole; owner = owner; of_inode = of; ty = ty; bytes = bytes; kind = kind; told = inl (refl, told) });
+})
+
+module _ (T : Types) (fs : ℕ) (array : ℕ → Option ℕ) (zeroth first : StoreState) (s : Stage T fs array zeroth) (n : ℕ) (inode : List ℕ) (is : Ok inode ≡ file_in (latest zeroth.lives) fs n) (ty : ℕ) (bytes : List ℕ) (block number : ℕ) (done : init_of T zeroth fs ty bytes ≡ Ok ((block, number), first)) where
+  pub begun_stage : Stage T fs array first
+  begun_stage = record { library = s.library; few = s.few; keeps = started_keeps T library_layout (library_reads T s.library) fs s.few array zeroth first s.keeps fs ty bytes (block, number) done }
+
+  pub begun_touches : Touches T (latest zeroth.lives) (latest first.lives) fs block 9
+  begun_touches = begun T zeroth first s.keeps.consistent fs s.few ty 9 bytes (block, number) done
+
+  pub begun_all : (d : ℕ) → SameInode (latest zeroth.lives) (latest first.lives) fs d
+  begun_all d = none_touched T s.library zeroth s.keeps.consistent fs s.few (latest first.lives) block 9 begun_touches (λ z. omega (arith, z)) (λ z. omega (arith, z)) (λ z. omega (arith, z)) (λ z. omega (arith, z)) d
+
+  pub begun_again : Ok inode ≡ file_in (latest first.lives) fs n
+  begun_again = is ∙ sym (file_same (latest zeroth.lives) (latest first.lives) fs n (begun_all n).0)
+
+  pub begun_later : zeroth.next ≤ first.next
+  begun_later = one_later first.next zeroth.next (begun_next T zeroth first fs ty bytes (block, number) done)
+
+  pub begun_given : (after : Option ℕ) → IsTrue (was_given zeroth after) → IsTrue (was_given first after)
+  begun_given after given = given_later zeroth first begun_later after given
+
+  pub begun_puts : Puts zeroth first fs n 0 []
+  begun_puts = all_same zeroth first fs n begun_all begun_later
+
+  pub undone_part : (new : StoreState) (index owner : ℕ) (fault : FfsFault) → file_block (latest zeroth.lives) inode index ≡ 0 → IsHome (latest zeroth.lives) fs n owner ⊎ (owner ≡ word_at inode 56) → (ty ≡ 2) ⊎ ((ty ≡ 5) × (bytes ≡ zeros)) →
+      new ≡ left_by (forget_of T first fs block) first → Wants T first fs owner fault → StopsPart T fs zeroth new n index fault
+  undone_part new index owner fault hole of kind left wants = record {
+    same = all_same zeroth new fs n (λ d. subst (λ (m : StoreState). SameInode (latest zeroth.lives) (latest m.lives) fs d) (sym left) (undone_same T s.library zeroth first s.keeps.consistent fs s.few ty bytes block number done d))
+        (subst (λ (k : ℕ). zeroth.next ≤ k) (sym (ap (λ (m : StoreState). m.next) left ∙ left_next T first fs block)) begun_later);
+    before = zeroth;
+    told = inr (record {
+      inode = inode;
+      file = is;
+      hole = hole;
+      owner = owner;
+      of_inode = of;
+      ty = ty;
+      bytes = bytes;
+      kind = kind;
+      told = inr (record { block = block; number = number; first = first; begun = done; forgotten = left; wants = wants });
+    });
+  }
+
+  -- the block of its inode
+  pub begun_home : (found : Found) → IsFile first fs n found → IsHome (latest zeroth.lives) fs n found.block
+  begun_home found file =
+      home_of first fs n found.block found.place file.is.stands ∙ block_same T s.library (latest zeroth.lives) (latest first.lives) fs block 9 begun_touches (λ z. omega (arith, z)) ((n - 1) / 8)
+
+  pub begun_own : Stands (latest first.lives) fs n inode
+  begun_own = stands_from (latest first.lives) fs n inode (file_from (latest first.lives) fs n inode begun_again)
+
+  -- what it has there is not another block
+  pub begun_mine : (found : Found) → Ok found.inode ≡ file_in (latest first.lives) fs n → found.inode ≡ inode
+  begun_mine found exact = same_ok found.inode inode (exact ∙ sym begun_again)
+
+-- A new block of data, to which the inode points
+
+module _ (T : Types) (fs : ℕ) (array : ℕ → Option ℕ) (zeroth first : StoreState) (s : Stage T fs array zeroth) (n : ℕ) (inode : List ℕ) (is : Ok inode ≡ file_in (latest zeroth.lives) fs n)
+    (index at : ℕ) (bytes : List ℕ) (low : index < 12) (hole : direct_in inode index ≡ 0) (fit : at + length bytes ≤ 512) (block number : ℕ) (done : init_of T zeroth fs 2 (put zeros at bytes) ≡ Ok ((block, number), first))
+    (after : Option ℕ) (given : IsTrue (was_given zeroth after)) (found : Found) (file : IsFile first fs n found) (exact : Ok found.inode ≡ file_in (latest first.lives) fs n)
+    (own : List ℕ) (whole : length own ≡ 64) (set : fields_of own ≡ record (fields_of found.inode) { direct = slice_set (fields_of found.inode).direct index block }) where
+  pub direct_short : ShortEdit T first fs found.block (edit_at (64 * found.place) own ((block, 2) ∷ []) [] after)
+  direct_short =
+      direct_refused T first after (can_edit (begun_stage T fs array zeroth first s n inode is 2 (put zeros at bytes) block number done) (begun_given T fs array zeroth first s n inode is 2 (put zeros at bytes) block number done after given))
+      fs s.few n found file own whole index block low (ap (λ (f : Fields). f.direct) set) (ap (λ (f : Fields). f.indirect) set) (ap (λ i. direct_in i index) (begun_mine T fs array zeroth first s n inode is 2 (put zeros at bytes) block number done found exact) ∙ hole)
+      (begun_addable T zeroth first fs 2 block number (put zeros at bytes) (gives_of (init_of T zeroth fs 2 (put zeros at bytes)) zeroth first (block, number) done))
+
+  pub direct_undone : (new : StoreState) → new ≡ left_by (forget_of T first fs block) first → (fault : FfsFault) → Wants T first fs found.block fault → StopsPart T fs zeroth new n index fault
+  direct_undone new left fault wants =
+      undone_part T fs array zeroth first s n inode is 2 (put zeros at bytes) block number done new index found.block fault (direct_block (latest zeroth.lives) inode index low ∙ hole)
+      (inl (begun_home T fs array zeroth first s n inode is 2 (put zeros at bytes) block number done found file)) (inl refl) left wants
+
+  pub adds_direct : (second : StoreState) (entry : ℕ) → propose_of T first fs found.block (edit_at (64 * found.place) own ((block, 2) ∷ []) [] after) ≡ Ok (entry, second) → Stage T fs array second × PutsBy zeroth second fs n (512 * index + at) bytes entry
+  adds_direct second entry put_done =
+      let h = s.keeps.consistent in
+      let s1 = begun_stage T fs array zeroth first s n inode is 2 (put zeros at bytes) block number done in
+      let h1 = s1.keeps.consistent in
+      let mode = ap (λ (f : Fields). f.mode) set in
+      let links = ap (λ (f : Fields). f.links) set in
+      let direct = ap (λ (f : Fields). f.direct) set in
+      let edit = edit_at (64 * found.place) own ((block, 2) ∷ []) [] after in
+      let g : HasBlock T (latest first.lives) (latest second.lives) fs n found.inode index block =
+      direct_attached T s.library first second h1 fs s.few n found file exact own whole mode ((block, 2) ∷ []) after entry put_done links index block low direct (ap (λ (f : Fields). f.indirect) set) (ap (λ (f : Fields). f.size) set) in
+      let wrote = block_written T s.library zeroth first second h h1 fs s.few block number at bytes done n index inode found.inode is (omega (arith, low)) (direct_block (latest zeroth.lives) inode index low ∙ hole) fit exact g in (
+        record {
+          library = s.library;
+          few = s.few;
+          keeps = kept T s.library fs s.few array first second s1.keeps n found.block found.place file.is.stands own whole ((block, 2) ∷ []) [] after entry put_done (mode ∙ ap inode_mode file.is.bytes) (links ∙ ap inode_links file.is.bytes)
+              (λ b m. elim (one_more found.inode own index block b direct m) [
+                | inl j ↦ inl (subst (λ (x : List ℕ). Contains (inode_blocks x) b) file.is.bytes j)
+                | inr e ↦ inr (λ z. file.file (sym mode ∙ z), subst (λ (x : ℕ). Contains {X = ℕ × ℕ} ((block, 2) ∷ []) (x, 2)) (sym e) (Contains-head (block, 2) []))
+              ]);
+        },
+        (
+          record {
+            wrote = λ other i. subst (λ (x : List ℕ). WroteBytes (latest zeroth.lives) (latest second.lives) fs n x (512 * index + at) bytes) (same_ok inode other (is ∙ sym i)) wrote;
+            others = λ d ne. same_on (latest zeroth.lives) (latest first.lives) (latest second.lives) fs d (begun_all T fs array zeroth first s n inode is 2 (put zeros at bytes) block number done d) (g.others d ne);
+            later = later_on zeroth.next first.next second.next (begun_later T fs array zeroth first s n inode is 2 (put zeros at bytes) block number done) (one_later second.next first.next (proposed_next T first second fs found.block edit entry put_done));
+          },
+          proposed_given T first second h1 fs found.block edit entry put_done,
+        ),
+      )
+
+-- A new block of data, to which its block of pointers points
+
+module _ (T : Types) (fs : ℕ) (array : ℕ → Option ℕ) (zeroth first : StoreState) (s : Stage T fs array zeroth) (n : ℕ) (inode : List ℕ) (is : Ok inode ≡ file_in (latest zeroth.lives) fs n)
+    (last place at : ℕ) (bytes : List ℕ) (points : word_at inode 56 ≡ last) (there : last ≢ 0) (low : place < 128) (long : length (latest zeroth.lives last) ≡ 512) (none : pointer_word (latest zeroth.lives last) place ≡ 0) (fit : at + length bytes ≤ 512)
+    (block number : ℕ) (small : block < 2 ^ 32) (done : init_of T zeroth fs 2 (put zeros at bytes) ≡ Ok ((block, number), first)) (after : Option ℕ) (given : IsTrue (was_given zeroth after)) where
+  reached : Under T (latest zeroth.lives) fs last 5
+  reached = pointers_at T s.library zeroth s.keeps.consistent fs s.few n inode (stands_from (latest zeroth.lives) fs n inode (file_from (latest zeroth.lives) fs n inode is)) last points there
+
+  stays : latest first.lives last ≡ latest zeroth.lives last
+  stays =
+      let t = begun_touches T fs array zeroth first s n inode is 2 (put zeros at bytes) block number done in
+      t.others last 5 reached (t.apart last 5 reached (λ z. omega (arith, z)))
+
+  still_reached : Under T (latest first.lives) fs last 5
+  still_reached =
+      let s1 = begun_stage T fs array zeroth first s n inode is 2 (put zeros at bytes) block number done in
+      pointers_at T s.library first s1.keeps.consistent fs s.few n inode (begun_own T fs array zeroth first s n inode is 2 (put zeros at bytes) block number done) last points there
+
+  pub pointed_short : ShortEdit T first fs last (edit_at (4 * place) (to_le_bytes w32 block) ((block, 2) ∷ []) [] after)
+  pointed_short =
+      let s1 = begun_stage T fs array zeroth first s n inode is 2 (put zeros at bytes) block number done in
+      pointer_set_short T s.library first s1.keeps.consistent fs s.few last (ap length stays ∙ long) after (begun_given T fs array zeroth first s n inode is 2 (put zeros at bytes) block number done after given) still_reached place block low small
+      (ap (λ (m : List ℕ). pointer_word m place) stays ∙ none) (begun_addable T zeroth first fs 2 block number (put zeros at bytes) (gives_of (init_of T zeroth fs 2 (put zeros at bytes)) zeroth first (block, number) done))
+
+  pointed_hole : file_block (latest zeroth.lives) inode (12 + place) ≡ 0
+  pointed_hole = indirect_block (latest zeroth.lives) inode last place points there ∙ none
+
+  pub pointed_undone : (new : StoreState) → new ≡ left_by (forget_of T first fs block) first → (fault : FfsFault) → Wants T first fs last fault → StopsPart T fs zeroth new n (12 + place) fault
+  pointed_undone new left fault wants =
+      undone_part T fs array zeroth first s n inode is 2 (put zeros at bytes) block number done new (12 + place) last fault pointed_hole (inr (sym points)) (inl refl) left wants
+
+  pub adds_pointed : (second : StoreState) (entry : ℕ) → propose_of T first fs last (edit_at (4 * place) (to_le_bytes w32 block) ((block, 2) ∷ []) [] after) ≡ Ok (entry, second) →
+      Stage T fs array second × PutsBy zeroth second fs n (512 * (12 + place) + at) bytes entry
+  adds_pointed second entry put_done =
+      let h = s.keeps.consistent in
+      let s1 = begun_stage T fs array zeroth first s n inode is 2 (put zeros at bytes) block number done in
+      let h1 = s1.keeps.consistent in
+      let again = begun_again T fs array zeroth first s n inode is 2 (put zeros at bytes) block number done in
+      let edit = edit_at (4 * place) (to_le_bytes w32 block) ((block, 2) ∷ []) [] after in
+      let g : HasBlock T (latest first.lives) (latest second.lives) fs n inode (12 + place) block =
+      data_attached T s.library first second h1 fs s.few n inode again last place block entry points there low (ap length stays ∙ long) small after put_done in
+      let wrote = block_written T s.library zeroth first second h h1 fs s.few block number at bytes done n (12 + place) inode inode is (omega (arith, low)) pointed_hole fit again g in (
+        record { library = s.library; few = s.few; keeps = pointed T s.library fs s.few array first second s1.keeps last entry edit still_reached put_done },
+        (
+          record {
+            wrote = λ other i. subst (λ (x : List ℕ). WroteBytes (latest zeroth.lives) (latest second.lives) fs n x (512 * (12 + place) + at) bytes) (same_ok inode other (is ∙ sym i)) wrote;
+            others = λ d ne. same_on (latest zeroth.lives) (latest first.lives) (latest second.lives) fs d (begun_all T fs array zeroth first s n inode is 2 (put zeros at bytes) block number done d) (g.others d ne);
+            later = later_on zeroth.next first.next second.next (begun_later T fs array zeroth first s n inode is 2 (put zeros at bytes) block number done) (one_later second.next first.next (proposed_next T first second fs last edit entry put_done));
+          },
+          proposed_given T first second h1 fs last edit entry put_done,
+        ),
+      )
+
+-- A new block of pointers
+
+module _ (T : Types) (fs : ℕ) (array : ℕ → Option ℕ) (zeroth first : StoreState) (s : Stage T fs array zeroth) (n : ℕ) (inode : List ℕ) (is : Ok inode ≡ file_in (latest zeroth.lives) fs n) (none : word_at inode 56 ≡ 0)
+    (block number : ℕ) (done : init_of T zeroth fs 5 zeros ≡ Ok ((block, number), first)) (after : Option ℕ) (given : IsTrue (was_given zeroth after)) (found : Found) (file : IsFile first fs n found) (exact : Ok found.inode ≡ file_in (latest first.lives) fs n)
+    (own : List ℕ) (whole : length own ≡ 64) (set : fields_of own ≡ record (fields_of found.inode) { indirect = block }) where
+  same : found.inode ≡ inode
+  same = begun_mine T fs array zeroth first s n inode is 5 zeros block number done found exact
+
+  pub pointers_short : ShortEdit T first fs found.block (edit_at (64 * found.place) own ((block, 5) ∷ []) [] after)
+  pointers_short =
+      pointers_refused T first after (can_edit (begun_stage T fs array zeroth first s n inode is 5 zeros block number done) (begun_given T fs array zeroth first s n inode is 5 zeros block number done after given))
+      fs s.few n found file own whole block (ap (λ (f : Fields). f.direct) set) (ap (λ (f : Fields). f.indirect) set) (ap (λ i. word_at i 56) same ∙ none)
+      (begun_addable T zeroth first fs 5 block number zeros (gives_of (init_of T zeroth fs 5 zeros) zeroth first (block, number) done))
+
+  pub pointers_undone : (new : StoreState) → new ≡ left_by (forget_of T first fs block) first → (index : ℕ) → 12 ≤ index → (fault : FfsFault) → Wants T first fs found.block fault → StopsPart T fs zeroth new n index fault
+  pointers_undone new left index far fault wants =
+      undone_part T fs array zeroth first s n inode is 5 zeros block number done new index found.block fault (no_pointers (latest zeroth.lives) inode index far none)
+      (inl (begun_home T fs array zeroth first s n inode is 5 zeros block number done found file)) (inr (refl, refl)) left wants
+
+  apart : (c k : ℕ) → Under T (latest zeroth.lives) fs c k → c ≢ block
+  apart c k r e =
+      let y = latest_reached T zeroth s.keeps.consistent fs s.few c k r in
+      let m = started T zeroth first fs 5 zeros (block, number) done in
+      none-some y.life (sym m.free ∙ (ap (life_at zeroth.lives) (sym e) ∙ y.alive))
+
+  home_apart : found.block ≢ block
+  home_apart =
+      let t = begun_touches T fs array zeroth first s n inode is 5 zeros block number done in
+      let at = under_inodes T library_layout (library_reads T s.library) (latest first.lives) fs (library_layout.home n).0 found.block file.is.stands.inodes in
+      apart found.block 4 (reached_before T (latest zeroth.lives) (latest first.lives) fs block 9 t apart found.block 4 at)
+
+  pub adds_pointers : (second : StoreState) (entry : ℕ) → propose_of T first fs found.block (edit_at (64 * found.place) own ((block, 5) ∷ []) [] after) ≡ Ok (entry, second) →
+      Stage T fs array second × PointsTo zeroth second fs n inode block
+  adds_pointers second entry put_done =
+      let s1 = begun_stage T fs array zeroth first s n inode is 5 zeros block number done in
+      let h1 = s1.keeps.consistent in
+      let mode = ap (λ (f : Fields). f.mode) set in
+      let links = ap (λ (f : Fields). f.links) set in
+      let direct = ap (λ (f : Fields). f.direct) set in
+      let last = ap (λ (f : Fields). f.indirect) set in
+      let edit = edit_at (64 * found.place) own ((block, 5) ∷ []) [] after in
+      let bare = started_here T zeroth first fs 5 zeros (block, number) done in
+      let now : latest second.lives block ≡ zeros = proposed_others T first second h1 fs found.block edit entry put_done block (λ e. home_apart (sym e)) ∙ bare in
+      let wrote = pointers_attached T s.library first second h1 fs s.few n found file exact own whole mode ((block, 5) ∷ []) after entry put_done links block direct last (ap (λ (f : Fields). f.size) set) bare home_apart (ap (λ i. word_at i 56) same ∙ none) in
+      let puts : Puts first second fs n 0 [] = record {
+        wrote = λ other i. subst (λ (x : List ℕ). WroteBytes (latest first.lives) (latest second.lives) fs n x 0 []) (same_ok found.inode other (exact ∙ sym i)) wrote;
+        others = file_others T s.library first second h1 fs s.few n found file exact own whole mode ((block, 5) ∷ []) after entry put_done;
+        later = one_later second.next first.next (proposed_next T first second fs found.block edit entry put_done);
+      } in (
+        record {
+          library = s.library;
+          few = s.few;
+          keeps = kept T s.library fs s.few array first second s1.keeps n found.block found.place file.is.stands own whole ((block, 5) ∷ []) [] after entry put_done (mode ∙ ap inode_mode file.is.bytes) (links ∙ ap inode_links file.is.bytes)
+              (λ b m. inl (subst (λ xs. Contains xs b) (same_blocks found.inode own direct ∙ ap inode_blocks file.is.bytes) m));
+        },
+        record {
+          puts = puts_after zeroth first second fs n 0 [] (begun_puts T fs array zeroth first s n inode is 5 zeros block number done) puts;
+          after = own;
+          file = file_now T s.library first second h1 fs s.few n found file exact own whole mode ((block, 5) ∷ []) after entry put_done;
+          points = last;
+          there = begun_some T zeroth first s.keeps.consistent fs 5 zeros (block, number) done;
+          long = ap length now ∙ length-replicate {A = ℕ} 512 0;
+          holes = λ index far low hole. ap (λ m. pointer_word m (index - 12)) now ∙ zero_word (4 * (index - 12));
+        },
+      )
+
+-- The block of pointers that is there
+pub points_there : (state : StoreState) (fs n : ℕ) (inode : List ℕ) (block : ℕ) → Ok inode ≡ file_in (latest state.lives) fs n → word_at inode 56 ≡ block → block ≢ 0 → length (latest state.lives block) ≡ 512 → PointsTo state state fs n inode block
+points_there state fs n inode block is points there long = record {
+  puts = puts_none state fs n 0;
+  after = inode;
+  file = is;
+  points = points;
+  there = there;
+  long = long;
+  holes = λ index far low hole.
+      let e : 12 + (index - 12) ≡ index = omega (arith, far) in
+      sym (indirect_block (latest state.lives) inode block (index - 12) points there) ∙ (ap (file_block (latest state.lives) inode) e ∙ hole);
+}
+
+-- The size
+
+module _ (T : Types) (fs : ℕ) (array : ℕ → Option ℕ) (old : StoreState) (s : Stage T fs array old) (n : ℕ) (found : Found) (file : IsFile old fs n found) (exact : Ok found.inode ≡ file_in (latest old.lives) fs n)
+    (own : List ℕ) (whole : length own ≡ 64) (size : ℕ) (set : fields_of own ≡ record (fields_of found.inode) { size = size }) (after : Option ℕ) where
+  pub size_short : IsTrue (was_given old after) → ShortEdit T old fs found.block (edit_at (64 * found.place) own [] [] after)
+  size_short given = size_refused T old after (can_edit s given) fs s.few n found file own whole (ap (λ (f : Fields). f.direct) set) (ap (λ (f : Fields). f.indirect) set)
+
+  pub raises : (new : StoreState) (entry : ℕ) → word_at found.inode 4 < size → propose_of T old fs found.block (edit_at (64 * found.place) own [] [] after) ≡ Ok (entry, new) →
+      Stage T fs array new × IsRaised (latest old.lives) (latest new.lives) fs n found.inode size × OnlyChanges (latest old.lives) (latest new.lives) fs n
+  raises new entry less done =
+      let h = s.keeps.consistent in
+      let mode = ap (λ (f : Fields). f.mode) set in
+      let links = ap (λ (f : Fields). f.links) set in
+      let direct = ap (λ (f : Fields). f.direct) set in (
+        record {
+          library = s.library;
+          few = s.few;
+          keeps = kept T s.library fs s.few array old new s.keeps n found.block found.place file.is.stands own whole [] [] after entry done (mode ∙ ap inode_mode file.is.bytes) (links ∙ ap inode_links file.is.bytes)
+              (λ b m. inl (subst (λ xs. Contains xs b) (same_blocks found.inode own direct ∙ ap inode_blocks file.is.bytes) m));
+        },
+        size_raised T s.library old new h fs s.few n found file exact own whole mode [] after entry done links size direct (ap (λ (f : Fields). f.indirect) set) (ap (λ (f : Fields). f.size) set) less,
+        file_others T s.library old new h fs s.few n found file exact own whole mode [] after entry done,
+      )

@@ -1,0 +1,65 @@
+use Rattle.std.proofs.Common.{◌≡◌, ◌∙◌, ◌*◌, ◌+◌, ◌-◌, ◌<◌, ◌^◌, ℕ, List, [], ◌∷◌, Some, ap, arith, length, refl, subst, sym, inl, inr}
+use Rattle.std.specs.Int.{w32, to_le_bytes}
+use Rattle.xn_model.specs.Lists.{put}
+use Rattle.xn_model.specs.Calls.{init_of}
+use Rattle.ffs_model.specs.Cuts.{latest}
+use Rattle.ffs_model.specs.Library.{zeros}
+use Rattle.ffs_model.proofs.ForCallers.{data_begun}
+use Rattle.ffs_lookup.proofs.ForCallers.{gives_err}
+use Rattle.ffs_lookup.specs.Newest.{file_block}
+use Rattle.ffs_lib.specs.Edits.{edit_at}
+use Rattle.ffs_lib.specs.Steps.{Attached}
+use Rattle.ffs_lib.specs.Writes.{PutsBy, StopsPart}
+use Rattle.ffs_lib.proofs.DataLaws.{adds_pointed, begun_stage, not_begun, pointed_short, pointed_undone}
+use Rattle.ffs_lib.proofs.DataShort.{block_long}
+use Rattle.ffs_lib.proofs.Laws.{attaches, begins_by, begins_err, fails, same_stage, short_told, told_by}
+use Rattle.ffs_lib.proofs.Writing.{indirect_block}
+use Rattle.ffs_lib.proofs.data.add_pointed.Goals as goal
+
+pub returns-in_err-block-clause-ends : goal.returns-in_err-block-clause-ends
+returns-in_err-block-clause-ends g c = λ T array n inode e s is points there long none given.
+    let old = g.S.Store.state_of c.args.store.now in
+    let new = g.S.Store.state_of c.init.new.self in
+    let fs = c.args.fs.number in
+    let index = c.args.index in
+    let far = c.requires.far in
+    let bytes = put zeros c.args.at c.args.bytes.now in
+    let gave = begins_err (g.S.Store.types_of c.args.store.now) T fs 2 _ bytes old new c.in_err-block.field-0.0 e c.block_with.ensures c.in_err-block.ensures.state in
+    let same = gives_err (init_of T old fs 2 bytes) old new _ gave in
+    let told = told_by (init_of T old fs 2 bytes) old new _ gave in
+    let at : 12 + (index - 12) ≡ index = omega (arith, far) in
+    let hole : file_block (latest old.lives) inode index ≡ 0 = ap (file_block (latest old.lives) inode) (sym at) ∙ (indirect_block (latest old.lives) inode c.args.pointers (index - 12) points there ∙ none) in
+    fails _ _ (same_stage s same) c.from_residual.result _ c.from_residual.ensures.1 (
+      short_told (init_of T old fs 2 bytes) (data_begun T old s.keeps.consistent fs bytes (block_long c.args.at c.args.bytes.now c.requires.within)) _ told,
+      not_begun T fs old new n index inode is hole c.args.pointers (inr (sym points)) 2 bytes (inl refl) same _ told,
+    )
+
+pub returns-clause-ends : goal.returns-clause-ends
+returns-clause-ends g c = λ T array n inode e s is points there long none given.
+    let zeroth = g.S.Store.state_of c.args.store.now in
+    let first = g.S.Store.state_of c.init.new.self in
+    let new = g.S.Store.state_of c.attach.new.store in
+    let fs = c.args.fs.number in
+    let index = c.args.index in
+    let far = c.requires.far in
+    let few = c.requires.few in
+    let place : ℕ = index - 12 in
+    let at = c.args.at in
+    let bytes = c.args.bytes.now in
+    let last = c.args.pointers in
+    let block = c.in_ok-block.block in
+    let number = c.in_ok-block.field-0-1 in
+    let small = c.is_word.ensures in
+    let low : place < 128 = omega (arith, far, few) in
+    let same : 12 + place ≡ index = omega (arith, far) in
+    let done = begins_by (g.S.Store.types_of c.args.store.now) T fs 2 _ (put zeros at bytes) zeroth first (block, number) e c.block_with.ensures c.in_ok-block.ensures.state in
+    let types = c.init.ensures.types ∙ e in
+    let edit = edit_at (4 * place) (to_le_bytes w32 block) ((block, 2) ∷ []) [] c.args.after in
+    let put_done = subst (λ (b : List ℕ). Attached T fs block last (edit_at (4 * place) b ((block, 2) ∷ []) [] c.args.after) first new c.attach.result) c.pointer_bytes.ensures.bytes (c.attach.ensures.put T types) in
+    attaches T fs block last edit array first new _ _
+    (begun_stage T fs array zeroth first s n inode is 2 (put zeros at bytes) block number done) c.attach.result put_done
+    (pointed_short T fs array zeroth first s n inode is last place at bytes points there low long none c.requires.within block number small done c.args.after given)
+    (λ entry p. let x = adds_pointed T fs array zeroth first s n inode is last place at bytes points there low long none c.requires.within block number small done c.args.after given new entry p in
+    (x.0, subst (λ (i : ℕ). PutsBy zeroth new fs n (512 * i + at) bytes entry) same x.1))
+    (λ fault left told. subst (λ (i : ℕ). StopsPart T fs zeroth new n i fault) same
+    (pointed_undone T fs array zeroth first s n inode is last place at bytes points there low long none c.requires.within block number small done c.args.after given new left fault (edit, told)))

@@ -1,0 +1,11 @@
+use Rattle.std.proofs.Common.{◌≡◌, ◌∙◌, ℕ, List, ap, length, replicate, sym, take}
+use Rattle.std.specs.Prelude.{IsTrue, bytes_eq}
+use Rattle.std.proofs.lemmas.Slice.Eq.{bytes_eq-Decides}
+use Rattle.std.proofs.lemmas.List.{take-replicate}
+use Rattle.ffs_lib.proofs.data.are_zeros.Goals as goal
+
+pub returns : goal.returns
+returns c =
+    let same : take (length c.args.bytes.now) (replicate 512 0) ≡ replicate (length c.args.bytes.now) 0 = take-replicate (length c.args.bytes.now) 512 0 c.requires in
+    let d = bytes_eq-Decides c.args.bytes.now (take (length c.args.bytes.now) (replicate 512 0)) in
+    (λ t. d.0 (sym c.eq.ensures ∙ t) ∙ same, λ e. c.eq.ensures ∙ d.1 (e ∙ sym same))

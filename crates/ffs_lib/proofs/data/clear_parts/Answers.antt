@@ -1,0 +1,47 @@
+use Rattle.std.proofs.Common.{◌≡◌, ◌-◌, ◌∙◌, ℕ, List, None, Option, refl, arith, length, replicate}
+use Rattle.ffs_lib.proofs.Parting.{none_left, parts_none}
+use Rattle.ffs_lib.proofs.data.clear_parts.Goals as goal
+
+pub loop-progress-init : goal.loop-progress-init
+loop-progress-init g c = record {
+  types = refl;
+  none = refl;
+  few = omega arith;
+  parts = λ T array e s ok. parts_none T c.args.fs.number array (g.S.Store.state_of c.args.store.now) c.args.number c.args.start (replicate (c.args.end - c.args.start) 0) (record { edit = None; size = None }) s (refl, refl);
+}
+
+pub clear_part-progress-requires-clause-none : goal.clear_part-progress-requires-clause-none
+clear_part-progress-requires-clause-none g c = c.loop-progress.invariant.none
+
+pub returns-then-is_some-clause-types : goal.returns-then-is_some-clause-types
+returns-then-is_some-clause-types g c = c.clear_part-progress.ensures.types ∙ c.loop-progress.invariant.types
+
+pub returns-then-is_some-clause-parts : goal.returns-then-is_some-clause-parts
+returns-then-is_some-clause-parts g c = λ T array e s ok.
+    let inv = c.loop-progress.invariant in
+    c.clear_part-progress.ensures.parts T array (g.S.Store.state_of c.args.store.now) (inv.types ∙ e) ok (inv.parts T array e s ok)
+
+pub loop-progress-preserved : goal.loop-progress-preserved
+loop-progress-preserved g c =
+    let inv = c.loop-progress.invariant in
+    record {
+      types = c.clear_part-progress.ensures.types ∙ inv.types;
+      none = none_left c.clear_part-progress.result.fault c.is_some.result c.if-is_some.false c.is_some.ensures;
+      few = let more = c.clear_part-progress.ensures.few in omega (arith, more);
+      parts = λ T array e s ok. c.clear_part-progress.ensures.parts T array (g.S.Store.state_of c.args.store.now) (inv.types ∙ e) ok (inv.parts T array e s ok);
+    }
+
+pub returns-clause-types : goal.returns-clause-types
+returns-clause-types g c = c.loop-progress.invariant.types
+
+pub returns-clause-whole : goal.returns-clause-whole
+returns-clause-whole g c = λ none. let few = c.loop-progress.invariant.few in omega (arith, few)
+
+pub returns-clause-parts : goal.returns-clause-parts
+returns-clause-parts g c = c.loop-progress.invariant.parts
+
+pub loop-progress-smaller : goal.loop-progress-smaller
+loop-progress-smaller g c =
+    let more = c.clear_part-progress.ensures.falls (none_left c.clear_part-progress.result.fault c.is_some.result c.if-is_some.false c.is_some.ensures) in
+    let few = c.clear_part-progress.ensures.few in
+    omega (arith, more, few)

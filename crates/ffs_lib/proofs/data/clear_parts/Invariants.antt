@@ -1,0 +1,22 @@
+use Rattle.std.proofs.Common.{◌≡◌, ◌-◌, ◌≤◌, ℕ, List, Option, None, replicate}
+use Rattle.std.specs.Prelude.{IsOk}
+use Rattle.xn_model.specs.Types.{Types}
+use Rattle.ffs_lookup.specs.Newest.{file_in}
+use Rattle.ffs_lib.specs.Steps.{Stage, newest}
+use Rattle.ffs_lib.specs.Writes.{Parts}
+use Rattle.ffs_lib.proofs.data.clear_parts.Given as goal
+
+-- the first bytes are written, and no part was refused
+abbrev pub invariant-loop-progress : goal.invariant-loop-progress
+invariant-loop-progress g l =
+    let old = g.S.Store.state_of l.initial.store in
+    record {
+      types : g.S.Store.types_of l.store ≡ g.S.Store.types_of l.initial.store;
+      none : l.progress.fault ≡ None;
+      few : l.progress.taken ≤ l.end - l.start;
+      parts : (T : Types) (array : ℕ → Option ℕ) → g.S.Store.types_of l.initial.store ≡ T → Stage T l.fs.number array old → IsOk (file_in (newest old) l.fs.number l.number) →
+          Parts T l.fs.number array old (g.S.Store.state_of l.store) l.number l.start (replicate (l.end - l.start) 0) l.progress;
+    }
+
+abbrev pub decreases-loop-progress : goal.decreases-loop-progress
+decreases-loop-progress g l = l.end - l.start - l.progress.taken

@@ -1,0 +1,27 @@
+use Rattle.std.proofs.Common.{◌≡◌, ◌∙◌, ℕ, List, ap, length, refl, subst, sym}
+use Rattle.xn_model.specs.Root.{word_at}
+use Rattle.ffs_model.specs.Cuts.{latest}
+use Rattle.ffs_model.specs.Library.{IsLibrary}
+use Rattle.ffs_lookup.proofs.ForCallers.{same_ok}
+use Rattle.ffs_lib.proofs.DataLaws.{points_there}
+use Rattle.ffs_lib.proofs.Tops.{never}
+use Rattle.ffs_lib.proofs.data.pointers_of.Goals as goal
+
+pub returns-in_err-find_file-clause-ends : goal.returns-in_err-find_file-clause-ends
+returns-in_err-find_file-clause-ends g c = λ T array inode index far e s is long given.
+    absurd (never inode _ (is ∙ sym (c.in_err-find_file.ensures.exact (subst IsLibrary (sym e) s.library))))
+
+pub returns-then-indirect-ne0-clause-ends : goal.returns-then-indirect-ne0-clause-ends
+returns-then-indirect-ne0-clause-ends g c = λ T array inode index far e s is long given.
+    let old = g.S.Store.state_of c.args.store.now in
+    let exact = c.in_ok-find_file.ensures.exact (subst IsLibrary (sym e) s.library) in
+    let block = c.indirect-indirect.result in
+    let same : word_at inode 56 ≡ block = ap (λ (m : List ℕ). word_at m 56) (same_ok inode c.in_ok-find_file.field-0.inode (is ∙ sym exact)) ∙ sym c.indirect-indirect.ensures in
+    let there = c.if-indirect-ne0.true in
+    (s, points_there old c.args.fs.number c.args.number inode block is same there (ap (λ b. length (latest old.lives b)) (sym same) ∙ long (λ z. there (sym same ∙ z))))
+
+pub returns-clause-ends : goal.returns-clause-ends
+returns-clause-ends g c = λ T array inode index far e s is long given.
+    let exact = c.in_ok-find_file.ensures.exact (subst IsLibrary (sym e) s.library) in
+    let same = ap (λ (m : List ℕ). word_at m 56) (same_ok inode c.in_ok-find_file.field-0.inode (is ∙ sym exact)) in
+    c.add_pointers.ensures.ends T array inode index far e s is (same ∙ (sym c.indirect-indirect.ensures ∙ c.if-indirect-ne0.false)) given

@@ -1,0 +1,22 @@
+use Rattle.std.proofs.Common.{◌≡◌, ◌-◌, ◌≤◌, ℕ, List, Option, None, length}
+use Rattle.std.specs.Prelude.{IsOk}
+use Rattle.xn_model.specs.Types.{Types}
+use Rattle.ffs_lookup.specs.Newest.{file_in}
+use Rattle.ffs_lib.specs.Steps.{Stage, newest}
+use Rattle.ffs_lib.specs.Writes.{LastGiven, Parts}
+use Rattle.ffs_lib.proofs.data.write_parts.Given as goal
+
+-- the first bytes are written, and no part was refused
+abbrev pub invariant-loop-progress : goal.invariant-loop-progress
+invariant-loop-progress g l =
+    let old = g.S.Store.state_of l.initial.store in
+    record {
+      types : g.S.Store.types_of l.store ≡ g.S.Store.types_of l.initial.store;
+      none : l.progress.fault ≡ None;
+      few : l.progress.taken ≤ length l.bytes;
+      parts : (T : Types) (array : ℕ → Option ℕ) → g.S.Store.types_of l.initial.store ≡ T → Stage T l.fs.number array old → IsOk (file_in (newest old) l.fs.number l.number) → LastGiven old l.initial.progress.last →
+          Parts T l.fs.number array old (g.S.Store.state_of l.store) l.number l.start l.bytes l.progress;
+    }
+
+abbrev pub decreases-loop-progress : goal.decreases-loop-progress
+decreases-loop-progress g l = length l.bytes - l.progress.taken

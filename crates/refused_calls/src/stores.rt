@@ -1,0 +1,152 @@
+// Calls of a kernel, alone and shared, that take no memory. What they need is made before them.
+
+ghost use Rattle.std.specs.Prelude.{◌≡◌};
+
+use crate::clients::fresh_kernel;
+use crate::tally::count;
+use disk::MemLane;
+use durable_floor::{Floor, Naming, Reader};
+use shared::Hub;
+use std::alloc::Global;
+use std::thread::Threads;
+use xn_kernel::{DrainStop, Fs, Kernel, Landed, Refusal, Ticket};
+
+/// A kernel in which file system 0 has a durable block, 1, in its root slot and a fresh one, 2, and file system 1 has two fresh ones, 3
+/// and 4.
+#[derive(Drop)]
+pub struct Blocks {
+    pub kernel: Kernel<MemLane>,
+    pub first: Fs,
+    pub second: Fs,
+}
+
+impl Blocks {
+    /// Makes it. `None`: there was no memory.
+    pub fn new(rt: &(impl Threads + Sync), alloc: Global) -> Option<Blocks> {
+        let (first, second) = (Fs::new(0)?, Fs::new(1)?);
+        let mut kernel = fresh_kernel(rt, alloc)?;
+        let _ = kernel.init(first, 2, &[1; 512]).ok()?;
+        let _ = kernel.make_root(first, 1).ok()?;
+        if !is_drained(kernel.drain(), 2) {
+            return None;
+        }
+        let _ = kernel.init(first, 2, &[2; 512]).ok()?;
+        let _ = kernel.init(second, 2, &[3; 512]).ok()?;
+        let _ = kernel.init(second, 2, &[4; 512]).ok()?;
+        Some(Blocks {
+            kernel,
+            first,
+            second,
+        })
+    }
+
+    /// How many of 5 looks find what they should.
+    pub fn looks(&self) -> u32 {
+        let Blocks {
+            kernel,
+            first,
+            second,
+        } = self;
+        count(&[
+            kernel.read(*first, 1) == Ok(&[1; 512]) && kernel.root(*first) == Some(1),
+            kernel.kind(*first, 1) == Ok(2) && !kernel.tainted(1),
+            kernel.template(1).is_some() && kernel.template(3).is_none(),
+            kernel.pending(*second) == 2 && kernel.floor(*second) == 4,
+            kernel.free() == 27 && kernel.pick() == Some(2) && kernel.lane(1).is_some(),
+        ])
+    }
+
+    /// How many of 4 changes do what they should.
+    pub fn changes(self) -> u32 {
+        let Blocks {
+            mut kernel,
+            first,
+            ..
+        } = self;
+        let is_forgotten = kernel.forget(first, 2).is_ok();
+        let is_written = match kernel.begin(3) {
+            Ok(ticket) => is_finished(kernel.finish(landed(ticket))),
+            Err(_) => false,
+        };
+        let is_drained = is_drained(kernel.drain(), 1);
+        let mut lanes = kernel.into_lanes();
+        let is_home = lanes.blocks() == 32
+            && match lanes.take(3) {
+                Some(lane) => lane.bytes() == &[3; 512] && lanes.give(lane).is_ok(),
+                None => false,
+            };
+        count(&[is_forgotten, is_written, is_drained, is_home])
+    }
+}
+
+/// How many of 5 looks at such a kernel in a hub find what they should.
+pub fn hub_looks<K: Naming>(hub: &Hub<MemLane, K>, first: Fs, second: Fs) -> u32 {
+    count(&[
+        hub.read(first, 1) == Ok(&[1; 512]) && hub.root(first) == Some(1),
+        hub.kind(first, 1) == Ok(2) && !hub.tainted(1),
+        hub.template(1).is_some() && hub.template(3).is_none(),
+        hub.pending(second) == 2 && hub.floor(second) == 4,
+        hub.free() == 27 && hub.pick() == Some(2) && hub.lane(1).is_some(),
+    ])
+}
+
+/// How many of 5 changes of it do what they should. The word of file system 1 is raised to its floor, which a reader meets and then reads
+/// with no lock.
+pub fn hub_changes<K: Naming>(
+    hub: &mut Hub<MemLane, K>,
+    floor: &Floor,
+    reader: Reader,
+    first: Fs,
+    second: Fs,
+) -> u32
+    requires floor { floor.now ≡ K.floor }
+    requires reader { reader.floor ≡ K.floor }
+{
+    let mut reader = reader;
+    let is_forgotten = hub.forget(first, 2).is_ok();
+    let is_written = match hub.begin(3) {
+        Ok(ticket) => is_finished(hub.finish(landed(ticket))),
+        Err(_) => false,
+    };
+    let is_met = hub.meet(second, &mut reader) == 5;
+    let is_drained = is_drained(hub.drain(), 1);
+    let is_read = floor.read(&mut reader, 1) == 6;
+    count(&[is_forgotten, is_written, is_met, is_drained, is_read])
+}
+
+/// The ticket behind a write and its sync.
+fn landed(mut ticket: Ticket<MemLane>) -> Ticket<MemLane> {
+    let _landed = ticket.land();
+    let _synced = ticket.sync();
+    ticket
+}
+
+/// Whether a finish made one entry durable. A ticket that comes back is given up.
+fn is_finished(answer: Result<Landed, (Ticket<MemLane>, Refusal)>) -> bool {
+    match answer {
+        Ok(landed) => landed.durable == 1,
+        Err((ticket, _refusal)) => {
+            let _lane = ticket.into_lane();
+            false
+        }
+    }
+}
+
+/// Whether a drain wrote all that was pending, in so many writes. A ticket that it gave out is given up.
+fn is_drained(answer: Result<u32, DrainStop<MemLane>>, right: u32) -> bool {
+    match answer {
+        Ok(writes) => writes == right,
+        Err(
+            DrainStop {
+                writes: _,
+                ticket,
+                refusal: _,
+            },
+        ) => {
+            if let Some(ticket) = ticket {
+                let _lane = ticket.into_lane();
+            }
+            false
+        }
+    }
+}
