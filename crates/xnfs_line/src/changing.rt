@@ -130,6 +130,9 @@ pub fn rename<S: FlushStore + Drop>(
     let (place, _) = target(session, alloc, to, from.name)?;
     let (name, new_name) = (from.name.as_bytes(), place.name.as_bytes());
     let moved = session.rename(alloc, from.folder, name, place.folder, new_name);
+    if moved == Err(FfsFault::IsDir) {
+        return Err(at(alloc, path, Reason::Stays));
+    }
     done_at(session, alloc, to, moved)
 }
 

@@ -12,7 +12,7 @@ use xnfs_session::FfsFault;
 pub enum Reason {
     #[error("no such file or folder")]
     Missing,
-    #[error("is there already: a file is not replaced")]
+    #[error("is there already")]
     There,
     #[error("is no folder")]
     NoFolder,
@@ -40,10 +40,10 @@ pub enum Reason {
     Refused(Refusal),
     #[error("folders below folders have no end")]
     Endless,
+    #[error("a folder stays in its folder: it can only get another name there")]
+    Stays,
     #[error("is the top folder")]
     Top,
-    #[error("would go into itself")]
-    Itself,
     #[error("is not text")]
     NotText,
     #[error("neither a file nor a folder")]

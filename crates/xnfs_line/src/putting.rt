@@ -134,9 +134,8 @@ pub fn put_bytes<S: FlushStore + Drop>(
     match done {
         Ok(()) => flush(session, alloc),
         Err(fault) => {
-            let fault = put_fault(session, alloc, path, bytes, fault);
             give_up(session, alloc, place.folder)?;
-            Err(fault)
+            Err(put_fault(session, alloc, path, bytes, fault))
         }
     }
 }
