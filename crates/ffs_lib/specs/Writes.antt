@@ -123,7 +123,7 @@ Wrote old new fs n inode offset bytes =
 abbrev pub StopsNext : Types → ℕ → StoreState → ℕ → ℕ → ℕ → ℕ → ℕ → FfsFault → Type 0
 StopsNext T fs new n start offset done count fault =
     ((done < count) × (IsBorder start (start + done) ⊎ (start + done ≡ offset)) × (before : StoreState)
-        × StopsBlock T fs before new n ((start + done) / 512) fault)
+    × StopsBlock T fs before new n ((start + done) / 512) fault)
     ⊎ ((done ≡ count) × StopsAtHome T fs new new n fault)
 
 -- The first of what it writes is there, up to a block's end, and the file ends where it did.
