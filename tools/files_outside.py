@@ -2,6 +2,7 @@
 
 import os
 import random
+import shutil
 import subprocess
 
 TOP = os.path.dirname(os.path.dirname(os.path.abspath(__file__)))
@@ -9,7 +10,6 @@ XNFS = os.path.join(TOP, "crates/xnfs/out/xnfs")
 XNSIM = os.path.join(TOP, "crates/xnsim/out/xnsim")
 NAMES = ["a", "b", "c", "notes.txt", "data"]
 LENGTHS = [0, 1, 100, 511, 512, 513, 3000, 6144, 6145, 20000, 30000]
-UNFINISHED = ".xnfs-put"
 
 
 def run(program, words, folder, given=b""):
@@ -31,7 +31,7 @@ class Tree:
         return [other for other in self.paths if other.startswith(path + "/")]
 
     def is_folder(self, path):
-        return path == "" or (path in self.paths and self.paths[path] is None)
+        return path in ("", "/") or (path in self.paths and self.paths[path] is None)
 
     def apply(self, words, given):
         """The tree after a line that is done; None where it can't be."""
@@ -82,22 +82,17 @@ def random_line(tree, rng):
 
 def found(folder, image):
     """The tree that a volume has, without what a stop has left; None where the disk can't be opened."""
-    status, told, _ = run(XNFS, [image, "tree"], folder)
-    if status != 0:
+    out = os.path.join(folder, "found")
+    shutil.rmtree(out, ignore_errors=True)
+    if run(XNFS, [image, "get", "/", "found"], folder)[0] != 0:
         return None
-    tree, above = Tree(), []
-    for line in told.decode().splitlines():
-        depth = (len(line) - len(line.lstrip(" "))) // 2
-        name = line.strip()
-        above[depth:] = [name.rstrip("/")]
-        path = "/" + "/".join(above)
-        if name.endswith("/"):
-            tree.paths[path] = None
-        elif name != UNFINISHED:
-            status, data, _ = run(XNFS, [image, "cat", path], folder)
-            if status != 0:
-                return None
-            tree.paths[path] = data
+    tree = Tree()
+    for above, folders, files in os.walk(out):
+        path = above[len(out) :]
+        tree.paths.update({f"{path}/{name}": None for name in folders})
+        for name in files:
+            with open(os.path.join(above, name), "rb") as file:
+                tree.paths[f"{path}/{name}"] = file.read()
     return tree
 
 

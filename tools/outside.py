@@ -151,7 +151,7 @@ class Author:
     def attach(self):
         owner = self.one(self.blocks(lambda life: self.named_by(life.ty)))
         life = self.store.lives[owner] if owner < BLOCKS else None
-        ty = self.named_by(life.ty) if life else 3
+        ty = (self.named_by(life.ty) if life else None) or 3
         target = self.one(self.blocks(lambda life: life.ty == ty and life.status == reference.FRESH))
         return f"edit 0 {owner} 0={target.to_bytes(4, 'little').hex()} +{target}:{ty}"
 
