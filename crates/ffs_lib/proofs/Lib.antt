@@ -32,4 +32,5 @@ pub mod MoveLaws
 pub mod MakeLaws
 pub mod Singles
 pub mod NameCounts
+pub mod NamesApart
 pub mod Opening

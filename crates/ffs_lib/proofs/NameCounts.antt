@@ -64,11 +64,11 @@ within (x ∷ xs) = one_more (suc (length xs)) (λ y. Contains xs y) (λ y. Cont
 
 -- What is read where a test is passed
 
-under_test : (t : Bool) (v n : ℕ) → (if t then v else 0) ≡ n → n ≢ 0 → (t ≡ true) × (v ≡ n)
+pub under_test : (t : Bool) (v n : ℕ) → (if t then v else 0) ≡ n → n ≢ 0 → (t ≡ true) × (v ≡ n)
 under_test true v n e ne = (refl, e)
 under_test false v n e ne = absurd (ne (sym e))
 
-is_less : (a b : ℕ) → nat_lt a b ≡ true → a < b
+pub is_less : (a b : ℕ) → nat_lt a b ≡ true → a < b
 is_less a b e = elim (cases_lt a b) [ inl lt ↦ lt | inr ge ↦ absurd (no (sym (le-ltb a b ge) ∙ e)) ]
   where
     no : false ≡ true → ⊥

@@ -1,8 +1,12 @@
 // A name stands once in a directory, and which names are good.
 
-ghost use Rattle.std.specs.Prelude.{◌≡◌, ℕ, List, None, Ok};
+ghost use Rattle.std.specs.Prelude.{◌≡◌, ◌<◌, ℕ, List, None, Ok};
 ghost use Rattle.ffs_model.specs.Names.{LinksGood};
-ghost use Rattle.ffs_model.specs.Library.{library_layout};
+ghost use Rattle.ffs_model.specs.Library.{library_layout, IsLibrary};
+ghost use Rattle.ffs_model.specs.Cuts.{latest};
+ghost use Rattle.xn_model.specs.Types.{Types};
+ghost use Rattle.xn_model.specs.Lives.{StoreState};
+ghost use Rattle.xn_model.specs.Rules.{IsConsistent};
 ghost use Rattle.ffs_lookup.specs.Counts.{over_named};
 ghost use Rattle.ffs_lookup.specs.declared.places.Slot.{Slot};
 ghost use Rattle.ffs_lookup.specs.Newest.{create_in, directory_in, inode_in, rename_in};
@@ -22,7 +26,10 @@ pub fn names_stand_once()
 {}
 
 /// Where no inode has more names than links, in any contents, the names of the file system are good: each inode that is named is in
-/// use, and has links for all slots that name it.
+/// use, and has links for all slots that name it. In the newest bytes of a store with the library's types, where no block is pointed to
+/// twice, names are good only there.
 pub fn counted_names_are_good()
-    ensures { (content : ℕ → List ℕ) (fs : ℕ) → over_named content fs ≡ None → LinksGood library_layout content fs }
+    ensures only { (T : Types) (state : StoreState) (fs : ℕ) → IsLibrary T → IsConsistent T state → fs < 32 →
+        LinksGood library_layout (latest state.lives) fs → over_named (latest state.lives) fs ≡ None }
+    ensures good { (content : ℕ → List ℕ) (fs : ℕ) → over_named content fs ≡ None → LinksGood library_layout content fs }
 {}

@@ -5,4 +5,4 @@ pub use Rattle.ffs_lookup.proofs.Readable.{owner_of}
 pub use Rattle.ffs_lookup.proofs.Counting.{contained, least_none}
 pub use Rattle.ffs_lookup.proofs.Rooms.{find_none}
 pub use Rattle.ffs_lookup.proofs.Stores.{gives_err, gives_ok}
-pub use Rattle.ffs_lookup.proofs.Walks.{badly_named, first_names, if_some_ok, named_is, names_are, names_more, names_past, no_names, nothing_named, place_more, place_past, same_ok}
+pub use Rattle.ffs_lookup.proofs.Walks.{badly_named, entries_more, entries_past, first_entries, first_names, if_some_ok, named_is, names_are, names_more, names_past, no_names, nothing_named, place_more, place_past, range_more, same_ok}

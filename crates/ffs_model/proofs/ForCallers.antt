@@ -8,7 +8,7 @@ pub use Rattle.ffs_model.proofs.Found.{read_latest, root_found}
 pub use Rattle.ffs_model.proofs.Volumes.{latest_reached, volume_from}
 pub use Rattle.ffs_model.proofs.Slots.{one_more}
 -- the layout
-pub use Rattle.ffs_model.proofs.Library.{is_not_empty, library_reads, pointed_at, pointed_from}
+pub use Rattle.ffs_model.proofs.Library.{is_not_empty, library_reads, map_at, pointed_at, pointed_from}
 pub use Rattle.ffs_model.proofs.Patches.{blocks_read, bytes_apart, bytes_within, entry_written, half_apart, half_within, links_read, mode_read, pointer_written, word_apart, word_part, word_within}
 pub use Rattle.ffs_model.proofs.Zeros.{one_entry, one_inode, zero_half, zero_word, zeros_direct, zeros_mode, zeros_pointer}
 pub use Rattle.ffs_model.proofs.Rewritten as rewritten
