@@ -1,12 +1,12 @@
 -- What a line tells is an event.
-use Rattle.std.proofs.Common.{◌≡◌, ℕ, Bool, true, false, MatchBool, List, refl}
+use Rattle.std.proofs.Common.{◌≡◌, List, ℕ, refl}
 use Rattle.xn_state.specs.declared.call.Call.TheVariants.{Propose, MakeRoot, DropRoot, Forget, Read, Pending, Floor, Pick, Drain}
 use Rattle.events.specs.declared.event.Event.{Event}
 use Rattle.events.specs.declared.event.Event.TheVariants as event
 use Rattle.script.specs.declared.told.LineEvent.{LineEvent}
 use Rattle.script.specs.declared.told.LineEvent.TheVariants as line
 use Rattle.script.specs.Events.{Spells}
-use Rattle.script.specs.Told.{Tells}
+use Rattle.script.specs.Told.{IsSpelledOut, Tells}
 
 -- any but a fresh block and a template
 pub told_event : (words : List (List ℕ)) (told : LineEvent) → ((fs : _) (ty : _) (text : _) → told ≡ line.Init fs ty text → ⊥) → ((text : _) → told ≡ line.Install text → ⊥) → Tells words told → (e : Event) × Spells words e
@@ -29,7 +29,22 @@ told_event words (line.FailSync block) other more tells = (event.FailSync block,
 told_event words (line.Finish block) other more tells = (event.Finish block, tells)
 told_event words (line.Crash kept) other more tells = (event.Crash kept, tells)
 
--- from what each answer says follows something else
-pub match_then : {A B C D : Type 0} (b : Bool) → (A → C) → (B → D) → MatchBool b A B → MatchBool b C D
-match_then true f g h = f h
-match_then false f g h = g h
+pub told_out : (told : LineEvent) → ((fs : _) (ty : _) (text : _) → told ≡ line.Init fs ty text → ⊥) → ((text : _) → told ≡ line.Install text → ⊥) → IsSpelledOut told
+told_out (line.Init fs ty text) other more = absurd (other fs ty text refl)
+told_out (line.Edit fs block edit) other more = tt
+told_out (line.MakeRoot fs block) other more = tt
+told_out (line.DropRoot fs) other more = tt
+told_out (line.Forget fs block) other more = tt
+told_out (line.Read fs block) other more = tt
+told_out (line.Pending fs) other more = tt
+told_out (line.Floor fs) other more = tt
+told_out (line.Pick fs) other more = tt
+told_out (line.Drain fs) other more = tt
+told_out (line.Install text) other more = absurd (more text refl)
+told_out (line.Begin block) other more = tt
+told_out (line.Land block) other more = tt
+told_out (line.Fail block stays) other more = tt
+told_out (line.Sync block) other more = tt
+told_out (line.FailSync block) other more = tt
+told_out (line.Finish block) other more = tt
+told_out (line.Crash kept) other more = tt

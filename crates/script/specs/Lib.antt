@@ -1,4 +1,4 @@
 pub mod Events
-pub mod Told
 pub mod Scripts
+pub mod Told
 pub mod Replies

@@ -1,11 +1,12 @@
 -- Events as lines tell them.
-use Rattle.std.specs.Prelude.{ℕ, List}
+use Rattle.std.specs.Prelude.{⊤, ℕ, List}
 use Rattle.xn_state.specs.declared.call.Call.TheVariants.{Init, Propose, MakeRoot, DropRoot, Forget, Read, Pending, Floor, Pick, Drain}
 use Rattle.events.specs.declared.event.Event.TheVariants as event
 use Rattle.script.specs.declared.told.LineEvent.{LineEvent}
 use Rattle.script.specs.declared.told.LineEvent.TheVariants as line
 use Rattle.script_words.specs.Hex.{IsBlockText, IsHex, SpellsBlock}
 use Rattle.script.specs.Events.{Spells, SpellNothing}
+use Rattle.script.specs.Scripts.{words_of}
 
 -- The words tell this: they spell its event. Of a fresh block and of a template they do where the text spells its bytes; where it spells none, they
 -- spell nothing.
@@ -32,3 +33,14 @@ Tells words (line.Sync block) = Spells words (event.Sync block)
 Tells words (line.FailSync block) = Spells words (event.FailSync block)
 Tells words (line.Finish block) = Spells words (event.Finish block)
 Tells words (line.Crash kept) = Spells words (event.Crash kept)
+
+-- What is told is an event: where it has a block's bytes as a text, that spells them.
+abbrev pub IsSpelledOut : LineEvent → Type 0
+IsSpelledOut (line.Init fs ty text) = IsBlockText text.now
+IsSpelledOut (line.Install text) = IsHex text.now
+IsSpelledOut _ = ⊤
+
+-- an event that a line spells, as it tells it
+pub record IsRead (text : List ℕ) (told : LineEvent) : Type 0 where
+  pub tells : Tells (words_of text) told
+  pub spelled : IsSpelledOut told

@@ -2,10 +2,13 @@
 //! printed as a line.
 #![tactic(auto)]
 
+mod line;
 mod print;
 mod script;
 mod told;
+mod words;
 
+pub use line::ScriptLine;
 pub use print::print_reply;
-pub use script::{parse, parse_line};
+pub use script::parse;
 pub use script_words::{ScriptFault, parse_block, parse_number};

@@ -1,5 +1,5 @@
 -- Runs of the first events of a script.
-use Rattle.std.proofs.Common.{◌≡◌, ◌<◌, ◌≤◌, ◌+◌, ℕ, Bor, Option, None, Some, List, [], ◌∷◌, ◌++◌, length, take, map, get_or, refl, sym, ◌∙◌, ap, subst}
+use Rattle.std.proofs.Common.{◌≡◌, ℕ, Option, None, Some, List, [], ◌∷◌, ◌++◌, map, refl, sym, ◌∙◌, ap, subst}
 use Rattle.std.specs.List.{flat_map}
 use Rattle.std.specs.Io.KnownBytes.{Appends}
 use Rattle.std.proofs.lemmas.List.{map-append, append-nil, append_assoc}
@@ -11,7 +11,7 @@ use Rattle.events.specs.declared.event.Event.{Event}
 use Rattle.events.specs.Events.{event_of, reply_of}
 use Rattle.script.specs.Replies.{reply_line}
 use Rattle.script.specs.Scripts.{AllSpell, LineSpells}
-use Rattle.script.proofs.ForCallers.{zip_all, zip_more}
+use Rattle.script.proofs.ForCallers.{zip_push}
 use Rattle.xn_model.specs.Images.{joined}
 use Rattle.xnsim_line.specs.Runs.{IsPrintedRun, IsRun, IsRunLine, RunsLines}
 
@@ -77,21 +77,19 @@ pub no_lines_run : (from : model.World) (old : Option (List ℕ)) → IsLinesRun
 no_lines_run from old = record { events = []; spelled = tt; ran = none_run from old }
 
 -- one line more
-pub line_run : (from : model.World) (lines : List (Bor (List ℕ))) (place : ℕ) (default : Bor (List ℕ)) (old mid new : Option (List ℕ)) (before after : model.World) →
-    place < length lines → IsRunLine before (get_or lines place default).now mid new after →
-    IsLinesRun from (take place (map (λ line. line.now) lines)) old mid before → IsLinesRun from (take (place + 1) (map (λ line. line.now) lines)) old new after
-line_run from lines place default old mid new before after within one so_far = record {
+pub line_run : (from : model.World) (lines : List (List ℕ)) (line : List ℕ) (old mid new : Option (List ℕ)) (before after : model.World) →
+    IsRunLine before line mid new after → IsLinesRun from lines old mid before → IsLinesRun from (lines ++ line ∷ []) old new after
+line_run from lines line old mid new before after one so_far = record {
   events = so_far.events ++ one.event ∷ [];
-  spelled = zip_more LineSpells lines place so_far.events (so_far.events ++ one.event ∷ []) one.event default within one.spells refl so_far.spelled;
+  spelled = zip_push LineSpells lines so_far.events line one.event so_far.spelled one.spells;
   ran = run_one_more from so_far.events one.event old mid new before after one.reply one.step one.printed so_far.ran;
 }
 
 -- after the last line
-pub lines_run : (from : model.World) (lines : List (Bor (List ℕ))) (place : ℕ) (old new : Option (List ℕ)) (after : model.World) → length lines ≤ place →
-    IsLinesRun from (take place (map (λ line. line.now) lines)) old new after →
-    RunsLines (map (λ line. line.now) lines) (λ events. IsPrintedRun from events old new (joined after.image))
-lines_run from lines place old new after past so_far = (
+pub lines_run : (from : model.World) (lines all : List (List ℕ)) (old new : Option (List ℕ)) (after : model.World) → lines ≡ all → IsLinesRun from lines old new after →
+    RunsLines all (λ events. IsPrintedRun from events old new (joined after.image))
+lines_run from lines all old new after whole so_far = (
   so_far.events,
-  zip_all LineSpells lines place so_far.events past so_far.spelled,
+  subst (λ ls. AllSpell ls so_far.events) whole so_far.spelled,
   record { replies = so_far.ran.replies; after = after; run = so_far.ran.run; printed = so_far.ran.printed; left = refl },
 )

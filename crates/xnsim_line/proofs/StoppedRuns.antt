@@ -1,5 +1,5 @@
 -- Runs up to a stop.
-use Rattle.std.proofs.Common.{◌≡◌, ◌<◌, ◌≤◌, ◌+◌, ℕ, Bor, Option, None, Some, List, [], ◌∷◌, ◌++◌, append_assoc, map, length, take, drop, get_or, refl, sym, ◌∙◌, ap, subst, arith}
+use Rattle.std.proofs.Common.{◌≡◌, ◌+◌, ℕ, Option, None, Some, List, [], ◌∷◌, ◌++◌, append_assoc, map, length, take, drop, refl, sym, ◌∙◌, ap, subst, arith}
 use Rattle.std.specs.Prelude.{Result, Ok, Err, IfOk, IfErr, IsOk, OnOk}
 use Rattle.std.specs.List.{flat_map}
 use Rattle.std.specs.Io.KnownBytes.{Appends}
@@ -15,7 +15,7 @@ use Rattle.events.specs.declared.event.Event.{Event}
 use Rattle.events.specs.Events.{event_of, reply_of}
 use Rattle.script.specs.Replies.{reply_line}
 use Rattle.script.specs.Scripts.{AllSpell, LineSpells, SpellEvents}
-use Rattle.script.proofs.ForCallers.{zip_all, zip_more}
+use Rattle.script.proofs.ForCallers.{zip_push}
 use Rattle.xnsim_words.specs.declared.invocation.Stop.{Stop}
 use Rattle.xnsim_line.specs.Stops.{writes_by, writes_in, end_line, image_left, IsAskedOn, IsAskedRun, IsHeldBack, IsLineHeldBack, IsLineWithin, IsStoppedRun}
 use Rattle.xnsim_line.specs.Runs.{opened_world, IsPrintedRun, IsRun, RunsLines}
@@ -105,40 +105,35 @@ pub no_lines_within : (from : World) (limit : ℕ) (old : Option (List ℕ)) →
 no_lines_within from limit old = record { events = []; spelled = tt; ran = none_within from limit old }
 
 -- one line more
-pub line_within : (from : World) (lines : List (Bor (List ℕ))) (place : ℕ) (default : Bor (List ℕ)) (limit : ℕ) (old mid new : Option (List ℕ)) (before after : World) (left rest : ℕ) →
-    place < length lines → IsLineWithin before (get_or lines place default).now left mid new after rest →
-    AreLinesWithin from (take place (map (λ line. line.now) lines)) limit old mid before left →
-    AreLinesWithin from (take (place + 1) (map (λ line. line.now) lines)) limit old new after rest
-line_within from lines place default limit old mid new before after left rest within one so_far = record {
+pub line_within : (from : World) (lines : List (List ℕ)) (line : List ℕ) (limit : ℕ) (old mid new : Option (List ℕ)) (before after : World) (left rest : ℕ) →
+    IsLineWithin before line left mid new after rest → AreLinesWithin from lines limit old mid before left → AreLinesWithin from (lines ++ line ∷ []) limit old new after rest
+line_within from lines line limit old mid new before after left rest one so_far = record {
   events = so_far.events ++ one.run.event ∷ [];
-  spelled = zip_more LineSpells lines place so_far.events (so_far.events ++ one.run.event ∷ []) one.run.event default within one.run.spells refl so_far.spelled;
+  spelled = zip_push LineSpells lines so_far.events line one.run.event so_far.spelled one.run.spells;
   ran = one_within from so_far.events one.run.event limit old mid new before after one.run.reply left rest one.run.step one.counted one.run.printed so_far.ran;
 }
 
 -- after the last line
-pub lines_to_end : (from : World) (lines : List (Bor (List ℕ))) (place : ℕ) (stop : Stop) (old new : Option (List ℕ)) (after : World) (left : ℕ) → length lines ≤ place →
-    AreLinesWithin from (take place (map (λ line. line.now) lines)) stop.writes old new after left →
-    RunsLines (map (λ line. line.now) lines) (λ events. IsStoppedRun from events stop old new (joined after.image))
-lines_to_end from lines place stop old new after left past so_far = (
+pub lines_to_end : (from : World) (lines all : List (List ℕ)) (stop : Stop) (old new : Option (List ℕ)) (after : World) (left : ℕ) → lines ≡ all →
+    AreLinesWithin from lines stop.writes old new after left → RunsLines all (λ events. IsStoppedRun from events stop old new (joined after.image))
+lines_to_end from lines all stop old new after left whole so_far = (
   so_far.events,
-  zip_all LineSpells lines place so_far.events past so_far.spelled,
+  subst (λ ls. AllSpell ls so_far.events) whole so_far.spelled,
   ran_to_end from so_far.events [] so_far.events stop old new after left (joined after.image) so_far.ran (append-nil so_far.events) refl refl,
 )
 
 -- at a line whose event is held back
-pub lines_to_stop : (from : World) (lines : List (Bor (List ℕ))) (place : ℕ) (default : Bor (List ℕ)) (stop : Stop) (old mid new : Option (List ℕ)) (before after : World) (left : ℕ)
+pub lines_to_stop : (from : World) (lines all : List (List ℕ)) (line : List ℕ) (stop : Stop) (old mid new : Option (List ℕ)) (before after : World) (left : ℕ)
     (last : List (List ℕ)) → ((event : Event) (rest : List Event) → last ≡ image_left stop.loses (event ∷ rest) after) →
-    place < length lines → IsLineHeldBack before (get_or lines place default).now left mid new after → SpellEvents (map (λ line. line.now) lines) →
-    AreLinesWithin from (take place (map (λ line. line.now) lines)) stop.writes old mid before left →
-    RunsLines (map (λ line. line.now) lines) (λ events. IsStoppedRun from events stop old new (joined last))
-lines_to_stop from lines place default stop old mid new before after left last ends within one given so_far =
-    let texts = map (λ (line : Bor (List ℕ)). line.now) lines in
+    lines ++ line ∷ [] ≡ take (length lines + 1) all → IsLineHeldBack before line left mid new after → SpellEvents all → AreLinesWithin from lines stop.writes old mid before left →
+    RunsLines all (λ events. IsStoppedRun from events stop old new (joined last))
+lines_to_stop from lines all line stop old mid new before after left last ends front one given so_far =
     let event = one.event in
-    let rest = drop (place + 1) given.0 in
-    let first = zip_more LineSpells lines place so_far.events (so_far.events ++ event ∷ []) event default within one.spells refl so_far.spelled in
-    let whole = rest_spelled texts (place + 1) (so_far.events ++ event ∷ []) first given in (
+    let rest = drop (length lines + 1) given.0 in
+    let first = zip_push LineSpells lines so_far.events line event so_far.spelled one.spells in
+    let whole = rest_spelled all (length lines + 1) (so_far.events ++ event ∷ []) (subst (λ ls. AllSpell ls (so_far.events ++ event ∷ [])) front first) given in (
       so_far.events ++ event ∷ rest,
-      subst (AllSpell texts) (append_assoc so_far.events (event ∷ []) rest) whole,
+      subst (AllSpell all) (append_assoc so_far.events (event ∷ []) rest) whole,
       ran_to_stop from so_far.events event rest (so_far.events ++ event ∷ rest) stop old mid new before after left (joined last) so_far.ran refl one.held one.printed (ap joined (ends event rest)),
     )
 

@@ -114,7 +114,7 @@ fn run_files<'a, F: Files, W: Write>(
         .ok_or(Fault::CannotRead(image))?;
     let text = files.read(alloc, script).ok_or(Fault::CannotRead(script))?;
     let lines = parse(alloc, text_of(text.as_slice(), script)?)?;
-    let after = run_on_image(rt, alloc, before, lines.as_slice(), stop, out)?;
+    let after = run_on_image(rt, alloc, before, lines, stop, out)?;
     if !files.write(image, after.as_slice()) {
         return Err(Fault::CannotWrite(image));
     }
@@ -161,7 +161,7 @@ fn run_input<'a, R: Read, W: Write>(
         });
     }
     let lines = parse(alloc, text_of(text.as_slice(), STANDARD_INPUT)?)?;
-    run_script(rt, alloc, MIN_BLOCKS, &[], lines.as_slice(), out)?;
+    run_script(rt, alloc, MIN_BLOCKS, &[], lines, out)?;
     Ok(())
 }
 

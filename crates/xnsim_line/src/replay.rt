@@ -1,15 +1,15 @@
 // A script is run.
 
-ghost use Rattle.std.specs.Prelude.{◌≡◌, ◌≤◌, length, map, IfOk, IfErr, IsOk, OnOk};
+ghost use Rattle.std.specs.Prelude.{◌≡◌, ◌≤◌, length, IfOk, IfErr, IsOk, OnOk};
 ghost use Rattle.xn_model.specs.Images.{IsDiskSize, joined};
-ghost use Rattle.script.specs.Scripts.{SpellEvents, SpellsSome};
+ghost use Rattle.script.specs.Scripts.{SpellEvents};
 ghost use Rattle.world.specs.Worlds.{world_with};
 ghost use Rattle.xnsim_line.specs.Done.{IsMountFault, IsRunFault};
 ghost use Rattle.xnsim_line.specs.Runs.{fresh_world, IsPrintedRun, IsRunLine, RunsLines};
 ghost use Rattle.xnsim_line.specs.Stops.{IsAskedOn, IsAskedRun};
 
 use crate::stopping::run_lines_until;
-use script::{parse_line, print_reply};
+use script::{ScriptLine, print_reply};
 use std::alloc::{AllocError, Global};
 use std::io::Write;
 use std::thread::Threads;
@@ -38,42 +38,32 @@ fn fresh_world(
 /// Runs the event that a line spells on a world, and prints its reply.
 fn run_line<'a, W: Write>(
     rt: &(impl Threads + Sync),
-    alloc: Global,
     world: &mut World,
-    line: &str,
+    line: ScriptLine<'_>,
     out: &mut W,
 ) -> Result<(), Fault<'a>>
-    requires spells { SpellsSome line.now }
-    ensures run { OnOk result (IsRunLine (world_with world.old) line.now (W.contents out.old) (W.contents out.new) (world_with world.new)) }
+    ensures run { OnOk result (IsRunLine (world_with world.old) line.entry (W.contents out.old) (W.contents out.new) (world_with world.new)) }
     ensures fault { IfErr result IsRunFault }
 {
-    let read = parse_line(alloc, line);
-    match &read {
-        Ok(Some(event)) => {
-            let mut reply = Reply::Down;
-            world.step_into(rt, event, &mut reply);
-            print_reply(out, &reply)?;
-            Ok(())
-        }
-        Ok(None) => unreachable!(),
-        Err(_) => Err(Fault::NoMemory),
-    }
+    let event = line.into_event();
+    let mut reply = Reply::Down;
+    world.step_into(rt, &event, &mut reply);
+    print_reply(out, &reply)?;
+    Ok(())
 }
 
 /// Runs the events that these lines spell on a world, and prints a reply an event.
 fn run_lines<'a, W: Write>(
     rt: &(impl Threads + Sync),
-    alloc: Global,
     world: &mut World,
-    lines: &[&str],
+    lines: Vec<ScriptLine<'_>>,
     out: &mut W,
 ) -> Result<(), Fault<'a>>
-    requires { SpellEvents (map (λ line. line.now) lines.now) }
-    ensures run { OnOk result (RunsLines (map (λ line. line.now) lines.now) (λ events. IsPrintedRun (world_with world.old) events (W.contents out.old) (W.contents out.new) (joined world.new.image))) }
+    ensures run { OnOk result (RunsLines lines.entry.items (λ events. IsPrintedRun (world_with world.old) events (W.contents out.old) (W.contents out.new) (joined world.new.image))) }
     ensures fault { IfErr result IsRunFault }
 {
     for line in lines {
-        run_line(rt, alloc, world, line, out)?;
+        run_line(rt, world, line, out)?;
     }
     Ok(())
 }
@@ -83,16 +73,16 @@ fn run_asked<'a, W: Write>(
     rt: &(impl Threads + Sync),
     alloc: Global,
     world: &mut World,
-    lines: &[&str],
+    lines: Vec<ScriptLine<'_>>,
     stop: Option<Stop>,
     out: &mut W,
 ) -> Result<(), Fault<'a>>
-    requires { SpellEvents (map (λ line. line.now) lines.now) }
-    ensures run { OnOk result (RunsLines (map (λ line. line.now) lines.now) (λ events. IsAskedOn stop (world_with world.old) events (W.contents out.old) (W.contents out.new) (joined world.new.image))) }
+    requires { SpellEvents lines.items }
+    ensures run { OnOk result (RunsLines lines.entry.items (λ events. IsAskedOn stop (world_with world.old) events (W.contents out.old) (W.contents out.new) (joined world.new.image))) }
     ensures fault { IfErr result IsRunFault }
 {
     match stop {
-        None => run_lines(rt, alloc, world, lines, out),
+        None => run_lines(rt, world, lines, out),
         Some(stop) => run_lines_until(rt, alloc, world, lines, stop, out),
     }
 }
@@ -115,17 +105,17 @@ pub fn run_script<'a, W: Write>(
     alloc: Global,
     blocks: u32,
     templates: &[Template],
-    lines: &[&str],
+    lines: Vec<ScriptLine<'_>>,
     out: &mut W,
 ) -> Result<Vec<u8>, Fault<'a>>
     requires size { IsDiskSize blocks }
     requires few { length templates.now ≤ 16 }
-    requires lines { SpellEvents (map (λ line. line.now) lines.now) }
-    ensures run { IfOk result (λ image. RunsLines (map (λ line. line.now) lines.now) (λ events. IsPrintedRun (fresh_world blocks templates.now) events (W.contents out.old) (W.contents out.new) image.items)) }
+    requires lines { SpellEvents lines.items }
+    ensures run { IfOk result (λ image. RunsLines lines.entry.items (λ events. IsPrintedRun (fresh_world blocks templates.now) events (W.contents out.old) (W.contents out.new) image.items)) }
     ensures fault { IfErr result IsRunFault }
 {
     let mut world = fresh_world(rt, alloc, blocks, templates)?;
-    let ran = run_lines(rt, alloc, &mut world, lines, out);
+    let ran = run_lines(rt, &mut world, lines, out);
     end_run(world, ran)
 }
 
@@ -135,12 +125,12 @@ pub fn run_on_image<'a, W: Write>(
     rt: &(impl Threads + Sync),
     alloc: Global,
     image: Vec<u8>,
-    lines: &[&str],
+    lines: Vec<ScriptLine<'_>>,
     stop: Option<Stop>,
     out: &mut W,
 ) -> Result<Vec<u8>, Fault<'a>>
-    requires lines { SpellEvents (map (λ line. line.now) lines.now) }
-    ensures run { IfOk result (λ after. RunsLines (map (λ line. line.now) lines.now) (λ events. IsAskedRun stop image.items events (W.contents out.old) (W.contents out.new) after.items)) }
+    requires lines { SpellEvents lines.items }
+    ensures run { IfOk result (λ after. RunsLines lines.entry.items (λ events. IsAskedRun stop image.items events (W.contents out.old) (W.contents out.new) after.items)) }
     ensures fault { IfErr result (IsMountFault image.items) }
 {
     let opened = World::open_image(rt, alloc, image);

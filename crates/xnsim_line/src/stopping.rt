@@ -6,14 +6,14 @@ ghost use Rattle.xn_model.specs.Calls.{pick_of};
 ghost use Rattle.xn_model.specs.Images.{joined};
 ghost use Rattle.xn_model.specs.Worlds as model;
 ghost use Rattle.xn_model.specs.Worlds.{drain_for, write_out};
-ghost use Rattle.script.specs.Scripts.{SpellEvents, SpellsSome};
+ghost use Rattle.script.specs.Scripts.{SpellEvents};
 ghost use Rattle.events.specs.Events.{event_of, reply_of};
 ghost use Rattle.world.specs.Worlds.{is_any_in_flight, world_with};
 ghost use Rattle.xnsim_line.specs.Done.{IsRunFault};
 ghost use Rattle.xnsim_line.specs.Runs.{RunsLines};
 ghost use Rattle.xnsim_line.specs.Stops.{is_drain, is_write, writes_by, IsHeldBack, IsLineHeldBack, IsLineWithin, IsStoppedRun};
 
-use script::{parse_line, print_reply};
+use script::{ScriptLine, print_reply};
 use std::alloc::Global;
 use std::io;
 use std::io::Write;
@@ -215,32 +215,26 @@ fn go_on_within(
 /// more, and answers false.
 fn run_line_within<'a, W: Write>(
     rt: &(impl Threads + Sync),
-    alloc: Global,
     world: &mut World,
-    line: &str,
+    line: ScriptLine<'_>,
     left: &mut u64,
     out: &mut W,
 ) -> Result<bool, Fault<'a>>
-    requires spells { SpellsSome line.now }
     ensures run { IfOk result (λ ran. MatchBool ran
-        (IsLineWithin (world_with world.old) line.now left.old (W.contents out.old) (W.contents out.new) (world_with world.new) left.new)
-        (IsLineHeldBack (world_with world.old) line.now left.old (W.contents out.old) (W.contents out.new) (world_with world.new))) }
+        (IsLineWithin (world_with world.old) line.entry left.old (W.contents out.old) (W.contents out.new) (world_with world.new) left.new)
+        (IsLineHeldBack (world_with world.old) line.entry left.old (W.contents out.old) (W.contents out.new) (world_with world.new))) }
     ensures fault { IfErr result IsRunFault }
 {
-    let read = parse_line(alloc, line);
-    match &read {
-        Ok(Some(event)) => match go_on_within(rt, world, event, left) {
-            Some(reply) => {
-                print_reply(out, &reply)?;
-                Ok(true)
-            }
-            None => {
-                print_stopped(out)?;
-                Ok(false)
-            }
-        },
-        Ok(None) => unreachable!(),
-        Err(_) => Err(Fault::NoMemory),
+    let event = line.into_event();
+    match go_on_within(rt, world, &event, left) {
+        Some(reply) => {
+            print_reply(out, &reply)?;
+            Ok(true)
+        }
+        None => {
+            print_stopped(out)?;
+            Ok(false)
+        }
     }
 }
 
@@ -259,17 +253,17 @@ pub fn run_lines_until<'a, W: Write>(
     rt: &(impl Threads + Sync),
     alloc: Global,
     world: &mut World,
-    lines: &[&str],
+    lines: Vec<ScriptLine<'_>>,
     stop: Stop,
     out: &mut W,
 ) -> Result<(), Fault<'a>>
-    requires { SpellEvents (map (λ line. line.now) lines.now) }
-    ensures run { OnOk result (RunsLines (map (λ line. line.now) lines.now) (λ events. IsStoppedRun (world_with world.old) events stop (W.contents out.old) (W.contents out.new) (joined world.new.image))) }
+    requires { SpellEvents lines.items }
+    ensures run { OnOk result (RunsLines lines.entry.items (λ events. IsStoppedRun (world_with world.old) events stop (W.contents out.old) (W.contents out.new) (joined world.new.image))) }
     ensures fault { IfErr result IsRunFault }
 {
     let mut left = stop.writes;
     for line in lines {
-        if !run_line_within(rt, alloc, world, line, &mut left, out)? {
+        if !run_line_within(rt, world, line, &mut left, out)? {
             lose_unsettled(rt, alloc, world, stop);
             return Ok(());
         }

@@ -1,15 +1,12 @@
-use Rattle.std.proofs.Common.{rules, ◌≡◌, ◌∙◌, ◌<◌, ◌≤◌, ◌*◌, length, map, ap, subst, sym, arith}
+use Rattle.std.proofs.Common.{rules, ◌≡◌, ◌<◌, ◌≤◌, ◌*◌, length, subst, arith}
 use Rattle.std.proofs.lemmas.Result.{err_from_is_err_and}
 use Rattle.image_model.specs.Walk.{count_of}
-use Rattle.script.specs.Scripts.{AllSpell, SpellEvents}
+use Rattle.script.specs.Scripts.{AllSpell}
 use Rattle.xnsim_words.specs.Files.{IsStartHeld}
 use Rattle.xnsim_line.proofs.MountFaults.{mount_fault}
 use Rattle.xnsim_words.proofs.ForCallers.{whole_held}
 use Rattle.xnsim_line.proofs.StoppedRuns.{asked_sound}
 use Rattle.xnsim_line.proofs.commands.run_files.Goals as goal
-
-pub run_on_image-requires-clause-lines : goal.run_on_image-requires-clause-lines
-run_on_image-requires-clause-lines g c = λ κs b. subst (λ lines. SpellEvents (map (λ line. line.now) lines)) (sym c.as_slice-2.ensures.value) c.in_ok-lines.ensures.events
 
 pub returns-clause-done : goal.returns-clause-done
 returns-clause-done g c =
@@ -28,7 +25,7 @@ returns-clause-done g c =
       after = c.in_ok-after.after.items;
       image_held = whole_held held c.args.image.now image 16777217 start few;
       script_held = search rules;
-      script = subst (λ lines. AllSpell lines run.0) (ap (map (λ line. line.now)) c.as_slice-2.ensures.value ∙ c.in_ok-lines.ensures.lines) run.1;
+      script = subst (λ lines. AllSpell lines run.0) c.in_ok-lines.ensures.lines run.1;
       run = run.2;
       written = search rules;
     }

@@ -1,21 +1,22 @@
+use Rattle.std.proofs.Common.{◌∙◌, map-id, rules, sym}
+use Rattle.std.proofs.lemmas.Iterator.Adapters.{YieldsList-from_vec}
+use Rattle.std.proofs.lemmas.Iterator.Consumers.{YieldsList-end}
 use Rattle.world.specs.Worlds.{world_with}
 use Rattle.xnsim_line.proofs.ScriptRuns.{line_run, lines_run, no_lines_run}
-use Rattle.xnsim_line.proofs.SpelledLines.{spelled_at}
 use Rattle.xnsim_line.proofs.replay.run_lines.Goals as goal
 
 pub loop-line-init : goal.loop-line-init
 loop-line-init g c = no_lines_run (world_with c.args.world.now) (g.W.Write.contents c.args.out.now)
 
-pub run_line-requires-clause-spells : goal.run_line-requires-clause-spells
-run_line-requires-clause-spells g c = λ κs b. spelled_at c.args.lines.now c.loop-line.line-index _ c.loop-line-test.true c.requires
-
 pub loop-line-preserved : goal.loop-line-preserved
 loop-line-preserved g c =
-    line_run (world_with c.args.world.now) c.args.lines.now c.loop-line.line-index _
+    line_run (world_with c.args.world.now) c.loop-line.yielded c.in-Some.line
     (g.W.Write.contents c.args.out.now) (g.W.Write.contents c.loop-line.out) (g.W.Write.contents c.run_line.new.out)
-    (world_with c.loop-line.world) (world_with c.run_line.new.world) c.loop-line-test.true c.in_ok-run_line.ensures.run c.loop-line.invariant
+    (world_with c.loop-line.world) (world_with c.run_line.new.world) c.in_ok-run_line.ensures.run c.loop-line.invariant
 
 pub returns-clause-run : goal.returns-clause-run
 returns-clause-run g c =
-    lines_run (world_with c.args.world.now) c.args.lines.now c.loop-line.line-index (g.W.Write.contents c.args.out.now) (g.W.Write.contents c.loop-line.out)
-    (world_with c.loop-line.world) c.loop-line-test.false c.loop-line.invariant
+    let end = YieldsList-end (YieldsList-from_vec {s = c.into_iter-line-iterator.result} c.args.lines.items (search rules) (search rules))
+    c.loop-line.yielded c.loop-line.line-iterator c.loop-line.yielded_by c.next.result c.next.new.self c.in-None.is c.next.ensures.steps in
+    lines_run (world_with c.args.world.now) c.loop-line.yielded c.args.lines.items (g.W.Write.contents c.args.out.now) (g.W.Write.contents c.loop-line.out)
+    (world_with c.loop-line.world) (sym (map-id c.loop-line.yielded) ∙ end.0) c.loop-line.invariant

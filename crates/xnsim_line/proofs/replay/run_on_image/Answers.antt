@@ -1,4 +1,4 @@
-use Rattle.std.proofs.Common.{◌≡◌, map}
+use Rattle.std.proofs.Common.{◌≡◌}
 use Rattle.xn_model.specs.Images.{joined}
 use Rattle.world.specs.Worlds.{world_with}
 use Rattle.xnsim_line.specs.Done.{IsMountFault, IsRunFault}
@@ -10,7 +10,7 @@ pub returns-in-Ok-clause-run : goal.returns-in-Ok-clause-run
 returns-in-Ok-clause-run g c =
     let last = joined c.run_asked-ran.new.world.image in
     ended c.end_run.result c.run_asked-ran.result _ (λ after. after.items ≡ last) _ c.end_run.ensures.ran c.run_asked-ran.ensures.run c.end_run.ensures.image
-    (λ after ran reached. asked_run c.args.stop c.args.image.items (world_with c.in-Ok.world) (map (λ line. line.now) c.args.lines.now)
+    (λ after ran reached. asked_run c.args.stop c.args.image.items (world_with c.in-Ok.world) c.args.lines.items
     (g.W.Write.contents c.args.out.now) (g.W.Write.contents c.run_asked-ran.new.out) last after.items
     c.in-Ok.ensures.ok.0 c.in-Ok.ensures.ok.1 reached ran)
 

@@ -1,4 +1,4 @@
-use Rattle.std.proofs.Common.{◌≡◌, map}
+use Rattle.std.proofs.Common.{◌≡◌}
 use Rattle.xn_model.specs.Images.{joined}
 use Rattle.world.specs.Worlds.{world_with}
 use Rattle.xnsim_line.specs.Runs.{fresh_world}
@@ -9,5 +9,5 @@ pub returns-clause-run : goal.returns-clause-run
 returns-clause-run g c =
     let last = joined c.run_lines-ran.new.world.image in
     ended c.end_run.result c.run_lines-ran.result _ (λ after. after.items ≡ last) _ c.end_run.ensures.ran c.run_lines-ran.ensures.run c.end_run.ensures.image
-    (λ after ran reached. printed_run (world_with c.in_ok-world.world) (fresh_world c.args.blocks c.args.templates.now) (map (λ line. line.now) c.args.lines.now)
+    (λ after ran reached. printed_run (world_with c.in_ok-world.world) (fresh_world c.args.blocks c.args.templates.now) c.args.lines.items
     (g.W.Write.contents c.args.out.now) (g.W.Write.contents c.run_lines-ran.new.out) last after.items c.in_ok-world.ensures reached ran)

@@ -1,6 +1,6 @@
 use Rattle.std.proofs.Common.{None}
 use Rattle.script.proofs.ScriptLines.{first_cut}
-use Rattle.script.proofs.script.first_word.Goals as goal
+use Rattle.script.proofs.words.first_word.Goals as goal
 
 pub returns-in-Some : goal.returns-in-Some
 returns-in-Some c = rw c.in-Some.is at (first_cut c.args.text.now c.split_once.result c.split_once.ensures.cases)

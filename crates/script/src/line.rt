@@ -1,0 +1,138 @@
+// A line of a script, with the event that it spells.
+
+ghost use Rattle.std.specs.Prelude.{◌≡◌, ◌↔◌, List, IfNone, IfOk, IfSome, IsSome, IsTrue, MatchBool, ℕ};
+ghost use Rattle.script_words.specs.Hex.{IsHex, SpellsBlock};
+ghost use Rattle.events.specs.declared.event.Event.{Event};
+ghost use Rattle.script.specs.Events.{Spells, SpellNothing};
+ghost use Rattle.script.specs.Scripts.{LineSpells, SpellsSome, words_of};
+ghost use Rattle.script.specs.Told.{IsSpelledOut, Tells};
+
+use crate::told::LineEvent;
+use crate::words::read_line;
+use events::Event;
+use script_words::parse_block;
+use std::alloc::{AllocError, Global};
+use std::marker::Model;
+use xn_state::Call;
+
+/// A line of a script that spells an event, which was read from it. Clauses see the line's text.
+pub struct ScriptLine<'a> {
+    text: &'a str,
+    told: LineEvent<'a>,
+}
+
+impl<'a> Model for ScriptLine<'a> {
+    ghost use Rattle.std.specs.Prelude.{List, ℕ};
+    ghost use Rattle.script.specs.Told.{IsRead};
+
+    ghost Value = { List ℕ };
+
+    ghost view = { λ line. line.text.now };
+
+    ghost invariant = { λ line. IsRead line.text.now line.told };
+}
+
+/// Written by hand, so that a function that drops one calls this: a derived drop is proved anew in each such function.
+impl<'a> Drop for ScriptLine<'a> {
+    fn drop(self) {
+        let ScriptLine { text: _, told: _ } = self;
+    }
+}
+
+/// The block that 1 to 512 pairs of lower-case digits spell; the bytes behind them are zero.
+fn parse_template(text: &str) -> Option<[u8; 512]>
+    ensures readable { IsSome result ↔ IsHex text.now }
+    ensures block { IfSome result (SpellsBlock text.now) }
+{
+    match text {
+        "-" => None,
+        _ => parse_block(text),
+    }
+}
+
+/// Whether what a line tells is an event: the text of a fresh block's bytes or of a template's has to spell them.
+fn is_event(told: &LineEvent) -> bool
+    ensures { MatchBool result
+        (IsSpelledOut told.now × ((words : List (List ℕ)) → Tells words told.now → (event : Event) × Spells words event))
+        ((words : List (List ℕ)) → Tells words told.now → SpellNothing words) }
+{
+    match told {
+        LineEvent::Init(_, _, text) => match parse_block(text) {
+            Some(_block) => true,
+            None => false,
+        },
+        LineEvent::Install(text) => match parse_template(text) {
+            Some(_block) => true,
+            None => false,
+        },
+        _ => true,
+    }
+}
+
+/// The event of the word `install` and the text behind it. It is not inlined, so that no other line clears the room of a template for it.
+#[inline(never)]
+fn install_event(text: &str) -> Event
+    requires { IsHex text.now }
+    ensures { (block : List ℕ) × (result ≡ Event.Install block) × SpellsBlock text.now block }
+{
+    let Some(bytes) = parse_template(text) else {
+        unreachable!()
+    };
+    Event::Install(bytes)
+}
+
+/// The event that a line tells.
+fn told_event(told: LineEvent) -> Event
+    requires { IsSpelledOut told }
+    ensures { (words : List (List ℕ)) → Tells words told.entry → Spells words result }
+{
+    match told {
+        LineEvent::Init(fs, ty, text) => {
+            let Some(bytes) = parse_block(text) else {
+                unreachable!()
+            };
+            Event::Call(fs, Call::Init { ty, bytes })
+        }
+        LineEvent::Edit(fs, block, edit) => Event::Call(fs, Call::Propose { block, edit }),
+        LineEvent::MakeRoot(fs, block) => Event::Call(fs, Call::MakeRoot { block }),
+        LineEvent::DropRoot(fs) => Event::Call(fs, Call::DropRoot),
+        LineEvent::Forget(fs, block) => Event::Call(fs, Call::Forget { block }),
+        LineEvent::Read(fs, block) => Event::Call(fs, Call::Read { block }),
+        LineEvent::Pending(fs) => Event::Call(fs, Call::Pending),
+        LineEvent::Floor(fs) => Event::Call(fs, Call::Floor),
+        LineEvent::Pick(fs) => Event::Call(fs, Call::Pick),
+        LineEvent::Drain(fs) => Event::Call(fs, Call::Drain),
+        LineEvent::Install(text) => install_event(text),
+        LineEvent::Begin(block) => Event::Begin(block),
+        LineEvent::Land(block) => Event::Land(block),
+        LineEvent::Fail(block, new_bytes_stay) => Event::Fail(block, new_bytes_stay),
+        LineEvent::Sync(block) => Event::Sync(block),
+        LineEvent::FailSync(block) => Event::FailSync(block),
+        LineEvent::Finish(block) => Event::Finish(block),
+        LineEvent::Crash(kept) => Event::Crash(kept),
+    }
+}
+
+impl<'a> ScriptLine<'a> {
+    /// Reads a line. `None` is for one that spells no event.
+    pub fn read(alloc: Global, text: &'a str) -> Result<Option<ScriptLine<'a>>, AllocError>
+        ensures some { IfOk result (λ read. IfSome read (λ line. (line ≡ text.now) × SpellsSome text.now)) }
+        ensures none { IfOk result (λ read. IfNone read (SpellNothing (words_of text.now))) }
+    {
+        let Some(told) = read_line(alloc, text)? else {
+            return Ok(None);
+        };
+        if !is_event(&told) {
+            return Ok(None);
+        }
+        Ok(Some(ScriptLine { text, told }))
+    }
+
+    /// The event that the line spells.
+    pub fn into_event(self) -> Event
+        ensures { LineSpells self.entry result }
+    {
+        let ScriptLine { text: _, told } = self;
+        told_event(told)
+    }
+}

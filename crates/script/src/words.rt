@@ -1,0 +1,230 @@
+// The words of a line are read.
+
+ghost use Rattle.std.specs.Prelude.{◌≡◌, ◌≢◌, ◌<◌, ◌==◌, ℕ, List, IfOk, IfSome, IfNone, IsSome, [], ◌∷◌, codes, map, option_copied};
+ghost use Rattle.std.specs.Fmt.{decimal};
+ghost use Rattle.std.specs.List.{slice_split};
+ghost use Rattle.script.specs.Events.{SpellNothing, IsNoWrite};
+ghost use Rattle.script.specs.Told.{Tells};
+ghost use Rattle.script.specs.Scripts.{words_in, words_of};
+
+use crate::told::LineEvent;
+use script_words::{parse_edit, parse_number, parse_numbers, parse_u32};
+use std::alloc::{AllocError, Global};
+use xn_state::Fs;
+
+/// The file system that a word names.
+fn parse_fs(word: &str) -> Option<Fs>
+    ensures spelled { IfSome result (λ fs. word.now ≡ decimal fs.number) }
+    ensures readable { (n : ℕ) → n < 32 → word.now ≡ decimal n → IsSome result }
+{
+    let number = parse_number(word, 31)?;
+    Fs::new(number as u8)
+}
+
+/// The event of the words `init`, these two and the words behind them.
+fn parse_init<'a>(fs: &str, ty: &str, words: &[&'a str]) -> Option<LineEvent<'a>>
+    ensures some { IfSome result (Tells (codes "init" ∷ fs.now ∷ ty.now ∷ map (λ word. word.now) words.now)) }
+    ensures none { IfNone result (SpellNothing (codes "init" ∷ fs.now ∷ ty.now ∷ map (λ word. word.now) words.now)) }
+{
+    let [bytes] = words else {
+        return None;
+    };
+    Some(LineEvent::Init(parse_fs(fs)?, parse_u32(ty)?, bytes))
+}
+
+/// The event of the words `edit`, these two and the words behind them.
+fn parse_edit_event<'a>(
+    alloc: Global,
+    fs: &str,
+    block: &str,
+    words: &[&str],
+) -> Result<Option<LineEvent<'a>>, AllocError>
+    ensures some { IfOk result (λ read. IfSome read (Tells (codes "edit" ∷ fs.now ∷ block.now ∷ map (λ word. word.now) words.now))) }
+    ensures none { IfOk result (λ read. IfNone read (SpellNothing (codes "edit" ∷ fs.now ∷ block.now ∷ map (λ word. word.now) words.now))) }
+{
+    let (Some(fs), Some(block)) = (parse_fs(fs), parse_u32(block)) else {
+        return Ok(None);
+    };
+    let Some(edit) = parse_edit(alloc, words)? else {
+        return Ok(None);
+    };
+    Ok(Some(LineEvent::Edit(fs, block, edit)))
+}
+
+/// The event of a name and two words behind it, a file system and a block.
+fn parse_place<'a>(name: &str, fs: &str, block: &str) -> Option<LineEvent<'a>>
+    ensures some { IfSome result (Tells (name.now ∷ fs.now ∷ block.now ∷ [])) }
+    ensures none { IfNone result (name.now ≢ codes "edit" → name.now ≢ codes "fail" → name.now ≢ codes "crash" → SpellNothing (name.now ∷ fs.now ∷ block.now ∷ [])) }
+{
+    let fs = parse_fs(fs)?;
+    let block = parse_u32(block)?;
+    match name {
+        "root" => Some(LineEvent::MakeRoot(fs, block)),
+        "forget" => Some(LineEvent::Forget(fs, block)),
+        "read" => Some(LineEvent::Read(fs, block)),
+        _ => None,
+    }
+}
+
+/// The event of the word `fail` and two words behind it, a block and which bytes stay.
+fn parse_fail<'a>(block: &str, bytes: &str) -> Option<LineEvent<'a>>
+    ensures some { IfSome result (Tells (codes "fail" ∷ block.now ∷ bytes.now ∷ [])) }
+    ensures none { IfNone result (SpellNothing (codes "fail" ∷ block.now ∷ bytes.now ∷ [])) }
+{
+    let block = parse_u32(block)?;
+    match bytes {
+        "old" => Some(LineEvent::Fail(block, false)),
+        "new" => Some(LineEvent::Fail(block, true)),
+        _ => None,
+    }
+}
+
+/// The event of a name and two words behind it.
+fn parse_triple<'a>(name: &str, first: &str, second: &str) -> Option<LineEvent<'a>>
+    ensures some { IfSome result (Tells (name.now ∷ first.now ∷ second.now ∷ [])) }
+    ensures none { IfNone result (name.now ≢ codes "edit" → name.now ≢ codes "crash" → SpellNothing (name.now ∷ first.now ∷ second.now ∷ [])) }
+{
+    if name == "fail" {
+        parse_fail(first, second)
+    } else {
+        parse_place(name, first, second)
+    }
+}
+
+/// The event of a name and one word behind it, a file system.
+fn parse_system<'a>(name: &str, word: &str) -> Option<LineEvent<'a>>
+    ensures some { IfSome result (Tells (name.now ∷ word.now ∷ [])) }
+    ensures none { IfNone result (IsNoWrite name.now → name.now ≢ codes "install" → name.now ≢ codes "crash" → SpellNothing (name.now ∷ word.now ∷ [])) }
+{
+    let fs = parse_fs(word)?;
+    match name {
+        "unroot" => Some(LineEvent::DropRoot(fs)),
+        "floor" => Some(LineEvent::Floor(fs)),
+        "pending" => Some(LineEvent::Pending(fs)),
+        _ => None,
+    }
+}
+
+/// The event of a name and one word behind it.
+fn parse_short<'a>(name: &str, word: &'a str) -> Option<LineEvent<'a>>
+    ensures some { IfSome result (Tells (name.now ∷ word.now ∷ [])) }
+    ensures none { IfNone result (name.now ≢ codes "crash" → SpellNothing (name.now ∷ word.now ∷ [])) }
+{
+    match name {
+        "install" => Some(LineEvent::Install(word)),
+        "begin" => Some(LineEvent::Begin(parse_u32(word)?)),
+        "land" => Some(LineEvent::Land(parse_u32(word)?)),
+        "sync" => Some(LineEvent::Sync(parse_u32(word)?)),
+        "failsync" => Some(LineEvent::FailSync(parse_u32(word)?)),
+        "finish" => Some(LineEvent::Finish(parse_u32(word)?)),
+        _ => parse_system(name, word),
+    }
+}
+
+/// The event of a name alone, a call of file system 0.
+fn parse_name<'a>(name: &str) -> Option<LineEvent<'a>>
+    ensures some { IfSome result (Tells (name.now ∷ [])) }
+    ensures none { IfNone result (name.now ≢ codes "crash" → SpellNothing (name.now ∷ [])) }
+{
+    let Some(fs) = Fs::new(0) else { unreachable!() };
+    match name {
+        "pick" => Some(LineEvent::Pick(fs)),
+        "drain" => Some(LineEvent::Drain(fs)),
+        _ => None,
+    }
+}
+
+/// The event of a name, two words behind it and the words behind those.
+fn parse_long<'a>(
+    alloc: Global,
+    name: &str,
+    first: &str,
+    second: &str,
+    rest: &[&'a str],
+) -> Result<Option<LineEvent<'a>>, AllocError>
+    ensures some { IfOk result (λ read. IfSome read (Tells (name.now ∷ first.now ∷ second.now ∷ map (λ word. word.now) rest.now))) }
+    ensures none { IfOk result (λ read. IfNone read
+        (name.now ≢ codes "crash" → SpellNothing (name.now ∷ first.now ∷ second.now ∷ map (λ word. word.now) rest.now))) }
+{
+    match name {
+        "init" => Ok(parse_init(first, second, rest)),
+        "edit" => parse_edit_event(alloc, first, second, rest),
+        _ if rest.is_empty() => Ok(parse_triple(name, first, second)),
+        _ => Ok(None),
+    }
+}
+
+/// The event of the word `crash` and the words behind it, blocks.
+fn parse_crash<'a>(alloc: Global, words: &[&str]) -> Result<Option<LineEvent<'a>>, AllocError>
+    ensures some { IfOk result (λ read. IfSome read (Tells (codes "crash" ∷ map (λ word. word.now) words.now))) }
+    ensures none { IfOk result (λ read. IfNone read (SpellNothing (codes "crash" ∷ map (λ word. word.now) words.now))) }
+{
+    match parse_numbers(alloc, words)? {
+        Some(kept) => Ok(Some(LineEvent::Crash(kept))),
+        None => Ok(None),
+    }
+}
+
+/// The parts of a text that is cut at each `separator`.
+fn cut<'a>(alloc: Global, text: &'a str, separator: char) -> Result<Vec<&'a str>, AllocError>
+    requires { separator < 128 }
+    ensures { IfOk result (λ parts. map (λ part. part.now) parts.items ≡ slice_split (λ byte. byte == separator) text.now) }
+{
+    text.split(separator).collect(alloc)
+}
+
+/// The first word of a text, and what stands behind the space after it, where there is one.
+fn first_word(text: &str) -> (&str, Option<&str>)
+    ensures { words_of text.now ≡ result.0.now ∷ words_in (option_copied result.1) }
+{
+    match text.split_once(' ') {
+        Some((word, rest)) => (word, Some(rest)),
+        None => (text, None),
+    }
+}
+
+/// The words of a text, or none where there is no text.
+fn words_in(alloc: Global, text: Option<&str>) -> Result<Vec<&str>, AllocError>
+    ensures { IfOk result (λ words. map (λ word. word.now) words.items ≡ words_in (option_copied text.entry)) }
+{
+    match text {
+        Some(text) => cut(alloc, text, ' '),
+        None => Ok(Vec::new(alloc)),
+    }
+}
+
+/// The event of a name and what stands behind it, where that is no crash.
+fn read_words<'a>(
+    alloc: Global,
+    name: &str,
+    rest: Option<&'a str>,
+) -> Result<Option<LineEvent<'a>>, AllocError>
+    ensures some { IfOk result (λ read. IfSome read (Tells (name.now ∷ words_in (option_copied rest.entry)))) }
+    ensures none { IfOk result (λ read. IfNone read (name.now ≢ codes "crash" → SpellNothing (name.now ∷ words_in (option_copied rest.entry)))) }
+{
+    let Some(rest) = rest else {
+        return Ok(parse_name(name));
+    };
+    let (first, rest) = first_word(rest);
+    let Some(rest) = rest else {
+        return Ok(parse_short(name, first));
+    };
+    let (second, rest) = first_word(rest);
+    let words = words_in(alloc, rest)?;
+    parse_long(alloc, name, first, second, words.as_slice())
+}
+
+/// The event of a line as it tells it, or `None` where it tells none. Crashes come last, as few lines are such.
+pub fn read_line(alloc: Global, line: &str) -> Result<Option<LineEvent>, AllocError>
+    ensures some { IfOk result (λ read. IfSome read (Tells (words_of line.now))) }
+    ensures none { IfOk result (λ read. IfNone read (SpellNothing (words_of line.now))) }
+{
+    let (name, rest) = first_word(line);
+    match read_words(alloc, name, rest)? {
+        None if name == "crash" => {
+            let words = words_in(alloc, rest)?;
+            parse_crash(alloc, words.as_slice())
+        }
+        told => Ok(told),
+    }
+}
