@@ -5,4 +5,5 @@ pub mod Newest
 pub mod Walks
 pub mod Rooms
 pub mod Counting
+pub mod Repairing
 pub mod ForCallers

@@ -2,3 +2,4 @@ pub mod Newest
 pub mod Places
 pub mod Faults
 pub mod Counts
+pub mod Repairs

@@ -1,6 +1,6 @@
 // How many entries of directories name an inode, and whether it has links for them.
 
-ghost use Rattle.std.specs.Prelude.{◌≡◌, ◌++◌, ℕ, List, [], Some, Ok, IsOk, OnOk, IfOk};
+ghost use Rattle.std.specs.Prelude.{◌≡◌, ◌≤◌, ◌-◌, ◌++◌, ℕ, List, [], Some, Ok, IsOk, OnOk, IfOk, slice_index};
 ghost use Rattle.xn_model.specs.Rules.{IsConsistent};
 ghost use Rattle.ffs_model.specs.Cuts.{latest};
 ghost use Rattle.ffs_model.specs.Library.{IsLibrary};
@@ -34,6 +34,15 @@ impl NameCounts {
             each: [0; 128],
             past: None,
         }
+    }
+
+    /// How many entries name the inode with a number.
+    pub fn of(&self, number: u16) -> u32
+        requires low { 1 ≤ number }
+        requires high { number ≤ 128 }
+        ensures { result ≡ slice_index self.now.each (number - 1) }
+    {
+        self.each[usize::from(number - 1)]
     }
 
     /// Counts an entry with this inode number; an entry with 0 is none.
@@ -95,7 +104,7 @@ fn least_of(least: Option<u16>, inode: u16) -> u16
 }
 
 /// Counts the entries of all directories of a file system.
-fn count_names<S: Store>(store: &S, fs: Fs) -> Result<NameCounts, FfsFault>
+pub fn count_names<S: Store>(store: &S, fs: Fs) -> Result<NameCounts, FfsFault>
     ensures done { IsLibrary (S.types_of store.now) → IsOk result }
     ensures counts { IsLibrary (S.types_of store.now) → IfOk result (AreCounts (named_numbers (latest (S.state_of store.now).lives) fs.number)) }
 {

@@ -5,6 +5,7 @@ mod counts;
 mod fault;
 mod library;
 mod places;
+mod repairs;
 
 pub use counts::{NameCounts, find_over_named, look_up_volume};
 pub use fault::FfsFault;
@@ -13,3 +14,4 @@ pub use places::{
     DIRECTORY, Found, Free, INODE_BLOCKS, ROOT, Room, Slot, find_directory, find_entry, find_file,
     find_free, find_inode, find_pointer, find_room, inode_block, is_empty, read_block, root_block,
 };
+pub use repairs::{Repair, Repairs, look_up_repairs};

@@ -17,9 +17,10 @@ pub use Rattle.ffs_model.proofs.Once.{data_once, direct_distinct, direct_once, d
 pub use Rattle.ffs_model.proofs.Rooted.{newest_types}
 pub use Rattle.ffs_model.proofs.Given.{started, rooted}
 pub use Rattle.ffs_model.proofs.Opened.{ended_keeps, nothing_pending, opened_keeps, remembers, root_made, started_frame, started_holds, started_keeps, started_names}
-pub use Rattle.ffs_model.proofs.Proposals.{directory_grown, entry_cleared, entry_made, inode_forgets, inode_freed, inode_kept, inode_made, inodes_set, inodes_stay, link_added, link_taken, pointer_set, root_stays}
-pub use Rattle.ffs_model.proofs.Quiet.{below_written, file_written, other_spare, other_written}
+pub use Rattle.ffs_model.proofs.Proposals.{directory_grown, entry_cleared, entry_made, inode_forgets, inode_freed, inode_kept, inode_made, inode_unlinked, inodes_set, inodes_stay, link_added, link_taken, links_taken, pointer_set, root_stays, spare_by_freed, spare_by_taken}
+pub use Rattle.ffs_model.proofs.Quiet.{below_written, file_written, other_number, other_spare, other_written}
 pub use Rattle.ffs_model.proofs.Before.{cuts_same}
+pub use Rattle.ffs_model.proofs.ToSpare.{names_now, spare_begins}
 pub use Rattle.ffs_model.proofs.Calls.{forget_cuts, init_cuts, make_root_cuts, propose_cuts}
 pub use Rattle.ffs_model.proofs.Events.{event_cuts}
 pub use Rattle.ffs_model.proofs.Later.{accepted_below, begin_next, begun_next, drop_root_next, edit_given, forgot_next, given_later, is_given, later_then, next_some, none_later, one_later, proposed_next, rooted_next, settle_next}
