@@ -8,8 +8,8 @@ pub use Rattle.ffs_model.proofs.Found.{read_latest, root_found}
 pub use Rattle.ffs_model.proofs.Volumes.{latest_reached, volume_from}
 pub use Rattle.ffs_model.proofs.Slots.{one_more}
 -- the layout
-pub use Rattle.ffs_model.proofs.Library.{is_not_empty, library_reads, pointed_at, pointed_from}
-pub use Rattle.ffs_model.proofs.Patches.{blocks_read, bytes_apart, bytes_within, entry_written, half_apart, half_within, links_read, mode_read, pointer_written, word_apart, word_part, word_within}
+pub use Rattle.ffs_model.proofs.Library.{is_not_empty, library_reads, map_at, pointed_at, pointed_from}
+pub use Rattle.ffs_model.proofs.Patches.{blocks_read, bytes_apart, bytes_within, entry_written, half_apart, half_within, links_read, mode_read, number_written, pointer_written, word_apart, word_part, word_within}
 pub use Rattle.ffs_model.proofs.Zeros.{one_entry, one_inode, zero_half, zero_word, zeros_direct, zeros_mode, zeros_pointer}
 pub use Rattle.ffs_model.proofs.Rewritten as rewritten
 pub use Rattle.ffs_model.proofs.Once.{data_once, direct_distinct, direct_once, direct_where, indirect_once}
@@ -17,8 +17,8 @@ pub use Rattle.ffs_model.proofs.Once.{data_once, direct_distinct, direct_once, d
 pub use Rattle.ffs_model.proofs.Rooted.{newest_types}
 pub use Rattle.ffs_model.proofs.Given.{started, rooted}
 pub use Rattle.ffs_model.proofs.Opened.{ended_keeps, nothing_pending, opened_keeps, remembers, root_made, started_frame, started_holds, started_keeps, started_names}
-pub use Rattle.ffs_model.proofs.Proposals.{directory_grown, entry_cleared, entry_made, inode_forgets, inode_freed, inode_kept, inode_made, inode_unlinked, inodes_set, inodes_stay, link_added, link_taken, links_taken, pointer_set, root_stays, spare_by_freed, spare_by_taken}
-pub use Rattle.ffs_model.proofs.Quiet.{below_written, file_written, other_number, other_spare, other_written}
+pub use Rattle.ffs_model.proofs.Proposals.{directory_grown, entry_cleared, entry_made, entry_turned, freed_waits, inode_forgets, inode_freed, inode_kept, inode_made, inode_unlinked, inodes_set, inodes_stay, link_added, link_taken, links_taken, pointer_set, root_stays, slot_waits, spare_by_freed, spare_by_taken, taken_waits}
+pub use Rattle.ffs_model.proofs.Quiet.{below_written, file_written, other_number, other_spare, other_waits, other_written}
 pub use Rattle.ffs_model.proofs.Before.{cuts_same}
 pub use Rattle.ffs_model.proofs.ToSpare.{names_now, spare_begins}
 pub use Rattle.ffs_model.proofs.Calls.{forget_cuts, init_cuts, make_root_cuts, propose_cuts}
