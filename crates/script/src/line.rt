@@ -81,7 +81,8 @@ fn install_event(text: &str) -> Event
     Event::Install(bytes)
 }
 
-/// The event that a line tells.
+/// The event that a line tells. It is not inlined, so that its room is not cleared and copied once more where it is called.
+#[inline(never)]
 fn told_event(told: LineEvent) -> Event
     requires { IsSpelledOut told }
     ensures { (words : List (List ℕ)) → Tells words told.entry → Spells words result }
@@ -129,6 +130,7 @@ impl<'a> ScriptLine<'a> {
     }
 
     /// The event that the line spells.
+    #[inline(always)]
     pub fn into_event(self) -> Event
         ensures { LineSpells self.entry result }
     {

@@ -35,20 +35,19 @@ fn fresh_world(
     }
 }
 
-/// Runs the event that a line spells on a world, and prints its reply.
+/// Runs the event that a line spells on a world, leaves its reply in `reply`, and prints it.
 fn run_line<'a, W: Write>(
     rt: &(impl Threads + Sync),
     world: &mut World,
     line: ScriptLine<'_>,
+    reply: &mut Reply,
     out: &mut W,
 ) -> Result<(), Fault<'a>>
     ensures run { OnOk result (IsRunLine (world_with world.old) line.entry (W.contents out.old) (W.contents out.new) (world_with world.new)) }
     ensures fault { IfErr result IsRunFault }
 {
-    let event = line.into_event();
-    let mut reply = Reply::Down;
-    world.step_into(rt, &event, &mut reply);
-    print_reply(out, &reply)?;
+    world.step_into(rt, &line.into_event(), reply);
+    print_reply(out, reply)?;
     Ok(())
 }
 
@@ -62,8 +61,9 @@ fn run_lines<'a, W: Write>(
     ensures run { OnOk result (RunsLines lines.entry.items (λ events. IsPrintedRun (world_with world.old) events (W.contents out.old) (W.contents out.new) (joined world.new.image))) }
     ensures fault { IfErr result IsRunFault }
 {
+    let mut reply = Reply::Down;
     for line in lines {
-        run_line(rt, world, line, out)?;
+        run_line(rt, world, line, &mut reply, out)?;
     }
     Ok(())
 }
