@@ -53,10 +53,10 @@ directory_same v w fs d e = ap (λ (r : Result (List ℕ) FfsFault). and_then r 
 
 module _ (T : Types) (lib : IsLibrary T) (state new : StoreState) (h : IsConsistent T state) (fs : ℕ) (few : fs < 32) (n block place : ℕ) (stands : IsPlace state fs n block place)
     (bytes : List ℕ) (whole : length bytes ≡ 64) (adds : List (ℕ × ℕ)) (drops : List ℕ) (after : Option ℕ) (entry : ℕ) (done : propose_of T state fs block (edit_at (64 * place) bytes adds drops after) ≡ Ok (entry, new)) where
-  home_touched : Touches T (latest state.lives) (latest new.lives) fs block 4
+  pub home_touched : Touches T (latest state.lives) (latest new.lives) fs block 4
   home_touched = edited T state new h fs few block 4 (edit_at (64 * place) bytes adds drops after) entry done (under_inodes T library_layout (library_reads T lib) (latest state.lives) fs ((n - 1) / 8) block stands.inodes)
 
-  home_bytes : latest new.lives block ≡ put (latest state.lives block) (64 * place) bytes
+  pub home_bytes : latest new.lives block ≡ put (latest state.lives block) (64 * place) bytes
   home_bytes = proposed_here T state new h fs block (edit_at (64 * place) bytes adds drops after) entry done
 
   written : inode_at (latest new.lives block) place ≡ bytes

@@ -35,3 +35,4 @@ pub mod MakeLaws
 pub mod Singles
 pub mod NameCounts
 pub mod Opening
+pub mod Reclaiming

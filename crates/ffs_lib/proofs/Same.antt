@@ -177,33 +177,33 @@ module _ (T : Types) (lib : IsLibrary T) (state : StoreState) (h : IsConsistent 
   none_touched two three four five d = same_by d (inodes_same T lib v w fs block ty t three four d) (λ inode s. avoids d inode s two five)
 
   -- a block of inodes, in which another one was written
-  pub inode_touched : ty ≡ 4 → (n place : ℕ) (bytes : List ℕ) → IsPlace state fs n block place → length bytes ≡ 64 → w block ≡ put (v block) (64 * place) bytes → (d : ℕ) → d ≢ n → SameInode v w fs d
-  inode_touched four n place bytes stands whole here d ne =
-      same_by d (inode_same T lib v w fs block ty t (λ z. omega (arith, four, z)) d by_place) (λ inode s. avoids d inode s (λ z. omega (arith, four, z)) (λ z. omega (arith, four, z)))
-    where
-      reads : Reads T library_layout
-      reads = library_reads T lib
+  module _ (four : ty ≡ 4) (n place : ℕ) (bytes : List ℕ) (stands : IsPlace state fs n block place) (whole : length bytes ≡ 64) (here : w block ≡ put (v block) (64 * place) bytes) (d : ℕ) (ne : d ≢ n) where
+    reads : Reads T library_layout
+    reads = library_reads T lib
 
-      in_place : (b : ℕ) → d ≢ 0 → IsInodes library_layout v fs ((d - 1) / 8) b → b ≡ block → (d - 1) % 8 ≡ place → ⊥
-      in_place b some is e p =
-          let top = is.root in
-          let one : stands.inodes.root ≡ top = same_root v fs stands.inodes.root top stands.inodes.is_root is.is_root in
-          let points : library_layout.pointer (v top) ((n - 1) / 8) ≡ b = ap (λ r. library_layout.pointer (v r) ((n - 1) / 8)) (sym one) ∙ (stands.inodes.points ∙ sym e) in
-          let index : (d - 1) / 8 ≡ (n - 1) / 8 =
-          reads.apart (v top) ((d - 1) / 8) ((n - 1) / 8) b (fits_newest T lib state state h fs few top 3 (root is.is_root.at is.is_root.there)) is.points points is.there in
-          ne (reads.homes d n some stands.some index (p ∙ stands.at))
+    in_place : (b : ℕ) → d ≢ 0 → IsInodes library_layout v fs ((d - 1) / 8) b → b ≡ block → (d - 1) % 8 ≡ place → ⊥
+    in_place b some is e p =
+        let top = is.root in
+        let one : stands.inodes.root ≡ top = same_root v fs stands.inodes.root top stands.inodes.is_root is.is_root in
+        let points : library_layout.pointer (v top) ((n - 1) / 8) ≡ b = ap (λ r. library_layout.pointer (v r) ((n - 1) / 8)) (sym one) ∙ (stands.inodes.points ∙ sym e) in
+        let index : (d - 1) / 8 ≡ (n - 1) / 8 =
+        reads.apart (v top) ((d - 1) / 8) ((n - 1) / 8) b (fits_newest T lib state state h fs few top 3 (root is.is_root.at is.is_root.there)) is.points points is.there in
+        ne (reads.homes d n some stands.some index (p ∙ stands.at))
 
-      by_place : (b : ℕ) → d ≢ 0 → d ≤ 128 → IsInodes library_layout v fs ((d - 1) / 8) b → inode_at (w b) ((d - 1) % 8) ≡ inode_at (v b) ((d - 1) % 8)
-      by_place b some low is = elim (cases_eq b block) [
-        | inr apart ↦ ap (λ m. inode_at m ((d - 1) % 8)) (t.others b 4 (under_inodes T library_layout reads v fs ((d - 1) / 8) b is) apart)
-        | inl e ↦
-            let q = (d - 1) % 8 in
-            let m = v block in
-            let fit : 64 * place + length bytes ≤ length m = let long = stands.long in let few = stands.few in omega (arith, long, few, whole) in
-            let other : q ≢ place = in_place b some is e in
-            let away : (64 * q + 64 ≤ 64 * place) ⊎ (64 * place + length bytes ≤ 64 * q) = elim (cases_lt q place) [ inl lt ↦ inl (omega (arith, lt)) | inr ge ↦ inr (omega (arith, ge, other, whole)) ] in
-            ap (λ c. inode_at (w c) q) e ∙ (ap (λ x. inode_at x q) here ∙ (bytes_apart m (64 * place) bytes fit 64 (64 * q) away ∙ ap (λ c. inode_at (v c) q) (sym e)))
-      ]
+    pub inode_bytes : (b : ℕ) → d ≢ 0 → d ≤ 128 → IsInodes library_layout v fs ((d - 1) / 8) b → inode_at (w b) ((d - 1) % 8) ≡ inode_at (v b) ((d - 1) % 8)
+    inode_bytes b some low is = elim (cases_eq b block) [
+      | inr apart ↦ ap (λ m. inode_at m ((d - 1) % 8)) (t.others b 4 (under_inodes T library_layout reads v fs ((d - 1) / 8) b is) apart)
+      | inl e ↦
+          let q = (d - 1) % 8 in
+          let m = v block in
+          let fit : 64 * place + length bytes ≤ length m = let long = stands.long in let few = stands.few in omega (arith, long, few, whole) in
+          let other : q ≢ place = in_place b some is e in
+          let away : (64 * q + 64 ≤ 64 * place) ⊎ (64 * place + length bytes ≤ 64 * q) = elim (cases_lt q place) [ inl lt ↦ inl (omega (arith, lt)) | inr ge ↦ inr (omega (arith, ge, other, whole)) ] in
+          ap (λ c. inode_at (w c) q) e ∙ (ap (λ x. inode_at x q) here ∙ (bytes_apart m (64 * place) bytes fit 64 (64 * q) away ∙ ap (λ c. inode_at (v c) q) (sym e)))
+    ]
+
+    pub inode_touched : SameInode v w fs d
+    inode_touched = same_by d (inode_same T lib v w fs block ty t (λ z. omega (arith, four, z)) d inode_bytes) (λ inode s. avoids d inode s (λ z. omega (arith, four, z)) (λ z. omega (arith, four, z)))
 
   -- a block of a file or directory
   pub data_touched : ty ≡ 2 → (n : ℕ) (own : List ℕ) (s : Stands v fs n own) (i : ℕ) → i < 140 → file_block v own i ≡ block → block ≢ 0 → (d : ℕ) → d ≢ n → SameInode v w fs d

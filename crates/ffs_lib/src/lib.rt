@@ -6,10 +6,11 @@ mod data;
 mod edits;
 pub mod law;
 mod put;
+mod reclaim;
 mod setup;
 mod steps;
 mod volume;
 
 pub use edit_list::{EditId, Fs};
-pub use ffs_lookup::FfsFault;
+pub use ffs_lookup::{FfsFault, Repair, Repairs};
 pub use volume::Volume;

@@ -8,6 +8,8 @@ ghost use Rattle.ffs_model.specs.Library.{library_layout, inode_mode, IsLibrary,
 ghost use Rattle.xn_model.specs.Lists.{put};
 ghost use Rattle.ffs_lookup.specs.Newest.{IsLowest, RefusesAs, TakesEntry, create_in, directory_in, first_named, has_empty_pointer, has_inode, has_room, mapped, root_in, file_in, listing, named_in, names_at, names_in, read_count, read_into, rename_in, rmdir_in, unlink_in, without_entry, inode_in};
 ghost use Rattle.ffs_lookup.specs.Counts.{make_from, open_in};
+ghost use Rattle.ffs_lookup.specs.Repairs.{idle_in, repair_at, repair_in};
+ghost use Rattle.ffs_lib.specs.Reclaiming.{Reclaims};
 ghost use Rattle.ffs_lookup.specs.declared.places.Found.{Found};
 ghost use Rattle.ffs_lookup.specs.declared.places.Slot.{Slot};
 ghost use Rattle.ffs_model.specs.Volumes.{VolumeKeeps, no_edits};
@@ -24,6 +26,7 @@ use crate::data::{
     BLOCK_LEN, MOST_BYTES, look_up_end, none_taken, raise_size, read_part, write_padded,
 };
 use crate::put::{add_link, attach, empty_inode, enter, put, put_inode, take_link};
+use crate::reclaim::reclaim_inodes;
 use crate::setup::{attach_first, first_inodes, look_up_root, prepare_root};
 use crate::steps::{INODE_BLOCK, forgotten, is_word};
 use edit_list::{EditId, Fs};
@@ -31,9 +34,9 @@ use ffs_format::entries::ENTRY_LEN;
 use ffs_format::inodes::{DIRECT_POINTERS, INODES};
 use ffs_format::{ENTRIES, Inode, entry_inode, entry_name, is_name, pointer_bytes};
 use ffs_lookup::{
-    DIRECTORY, FfsFault, Free, INODE_BLOCKS, Slot, find_directory, find_entry, find_file,
-    find_free, find_inode, find_pointer, find_room, is_empty, look_up_volume, read_block,
-    root_block,
+    DIRECTORY, FfsFault, Free, INODE_BLOCKS, Repairs, Slot, find_directory, find_entry, find_file,
+    find_free, find_inode, find_pointer, find_room, is_empty, look_up_repairs, look_up_volume,
+    read_block, root_block,
 };
 use std::alloc::{AllocError, Global};
 use xn_state::Store;
@@ -529,6 +532,29 @@ impl Volume {
     {
         let slot = self.look_up_empty(store, directory, name)?;
         self.remove(alloc, store, slot, None)
+    }
+
+    /// What each inode needs to be in use exactly where it has a name, with as many links as names. A crash may leave inodes without a
+    /// name, or with more links than names, for good. Those in use without a name are to be given up, unless they are directories with
+    /// entries; the top directory needs nothing. It answers `Pending` where something of the file system is pending.
+    pub fn reclaimable<S: Store>(&self, store: &S) -> Result<Repairs, FfsFault>
+        ensures exact { IsLibrary (S.types_of store.now) → mapped (λ repairs. tt) result ≡ idle_in (S.state_of store.now) self.now.fs.number }
+        ensures each { IsLibrary (S.types_of store.now) → IfOk result (λ repairs. (n : ℕ) →
+            repair_at repairs.each n ≡ repair_in (newest (S.state_of store.now)) self.now.fs.number n) }
+    {
+        look_up_repairs(store, self.fs)
+    }
+
+    /// Does with each inode what it needs, the lowest first, and answers that: what is to be given up is freed, with its blocks, and what
+    /// has more links than names has as many. No file with a name changes its bytes. Before any edit it answers `Pending` where something
+    /// of the file system is pending. Any refusal of the store is `Kernel`; what was done before it stands.
+    pub fn reclaim<S: Store>(&self, alloc: Global, store: &mut S) -> Result<Repairs, FfsFault>
+        requires { IsVolume (S.types_of store.old) (S.state_of store.old) self.now }
+        ensures types { S.types_of store.new ≡ S.types_of store.old }
+        ensures answers { Reclaims (S.types_of store.old) self.now.fs.number (S.state_of store.old) (S.state_of store.new) result }
+        ensures keeps { IsVolume (S.types_of store.old) (S.state_of store.new) self.now }
+    {
+        reclaim_inodes(alloc, store, self.fs)
     }
 
     /// Clears an entry, and takes a link from the inode that it names.

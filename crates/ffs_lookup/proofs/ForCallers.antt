@@ -3,7 +3,7 @@ pub use Rattle.ffs_lookup.proofs.Finding.{direct_has, found_has, found_mode, fre
 pub use Rattle.ffs_lookup.proofs.Newest.{block_again, directory_again, directory_is, file_is, good_number, in_directory, in_file, in_inode_block, in_root_block, is_numbered, kind_known, kind_told, no_inode_block, no_number, no_root_block, not_both, not_ok, not_zero, root_again, unused_is, used_is, zero_is}
 pub use Rattle.ffs_lookup.proofs.Readable.{owner_of}
 pub use Rattle.ffs_lookup.proofs.Counting.{contained, least_none}
-pub use Rattle.ffs_lookup.proofs.Repairing.{HasSpareLinks, IsUnnamed, given_up, links_set}
+pub use Rattle.ffs_lookup.proofs.Repairing.{HasSpareLinks, IsUnnamed, given_up, links_set, unnumbered_repair}
 pub use Rattle.ffs_lookup.proofs.Rooms.{find_none}
 pub use Rattle.ffs_lookup.proofs.Stores.{gives_err, gives_ok}
 pub use Rattle.ffs_lookup.proofs.Walks.{badly_named, first_names, if_some_ok, named_is, names_are, names_more, names_past, no_names, nothing_named, place_more, place_past, same_ok}

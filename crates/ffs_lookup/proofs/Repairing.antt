@@ -1,5 +1,5 @@
 -- What an inode needs, case by case, and what is said of all of them.
-use Rattle.std.proofs.Common.{◌≡◌, ◌≢◌, ℕ, ◌+◌, ◌-◌, ◌<◌, ◌≤◌, inl, inr, Bool, true, false, not, List, length, get_or, set, replicate, Ok, Err, refl, sym, ◌∙◌, ap, arith}
+use Rattle.std.proofs.Common.{◌≡◌, ◌≢◌, ◌⊎◌, ℕ, ◌+◌, ◌-◌, ◌<◌, ◌≤◌, inl, inr, Bool, true, false, not, List, length, get_or, set, replicate, Ok, Err, refl, sym, ◌∙◌, ap, arith}
 use Rattle.std.specs.Prelude.{Result, ◌||◌, ◌==◌, nat_lt, slice_index_or, if◌then◌else◌}
 use Rattle.std.proofs.lemmas.Bool.{cases_eq, cases_lt, eq-eqb, le-ltb, lt-ltb, ne_eqb}
 use Rattle.std.proofs.lemmas.List.{get_or-replicate, get_or-set_other, get_or-set_same, get_or_past, length-replicate, length-set}
@@ -49,6 +49,9 @@ repair_of_other content fs n ne = ap (λ (t : Bool). if t then Keep else repair_
 repair_of_none : (content : ℕ → List ℕ) (fs n : ℕ) → Err NoEntry ≡ inode_in content fs n → n ≢ 1 → repair_in content fs n ≡ Keep
 repair_of_none content fs n e ne = repair_of_other content fs n ne ∙ ap (repair_found content (names_count content fs n)) (sym e)
 
+pub unnumbered_repair : (content : ℕ → List ℕ) (fs n : ℕ) → (n ≡ 0) ⊎ ((n ≢ 0) × (128 < n)) → repair_in content fs n ≡ Keep
+unnumbered_repair content fs n bad = repair_of_none content fs n (no_number content fs n (bad_number n bad)) (elim bad [ inl e ↦ λ z. absurd (omega (arith, e, z)) | inr h ↦ let high = h.1 in λ z. absurd (omega (arith, high, z)) ])
+
 -- What is found of those below a number
 pub record AreFound (content : ℕ → List ℕ) (fs : ℕ) (each : List Repair) (at : ℕ) : Type 0 where
   pub long : length each ≡ 128
@@ -75,14 +78,14 @@ pub all_found : (content : ℕ → List ℕ) (fs : ℕ) (each : List Repair) (at
 all_found content fs each at all x n = elim (cases_eq n 0) [
   | inl e ↦
       ap (λ (t : Bool). if t then Keep else slice_index_or each (n - 1) Keep) (eq-eqb n 0 e)
-      ∙ sym (repair_of_none content fs n (no_number content fs n (bad_number n (inl e))) (λ z. absurd (omega (arith, e, z))))
+      ∙ sym (unnumbered_repair content fs n (inl e))
   | inr some ↦
       ap (λ (t : Bool). if t then Keep else slice_index_or each (n - 1) Keep) (ne_eqb n 0 some)
       ∙ elim (cases_lt 128 n) [
         | inl high ↦
             let long = x.long in
             get_or_past each (n - 1) Keep (omega (arith, long, high))
-            ∙ sym (repair_of_none content fs n (no_number content fs n (bad_number n (inr (some, high)))) (λ z. absurd (omega (arith, high, z))))
+            ∙ sym (unnumbered_repair content fs n (inr (some, high)))
         | inr low ↦ x.low (n - 1) (omega (arith, some, low, all)) ∙ ap (repair_in content fs) (omega (arith, some))
       ]
 ]

@@ -1,0 +1,93 @@
+use Rattle.std.proofs.Common.{◌≡◌, ◌∙◌, ◌*◌, ℕ, List, [], None, inr, refl, subst, sym}
+use Rattle.xn_model.specs.Calls.{propose_of}
+use Rattle.ffs_model.specs.Cuts.{latest}
+use Rattle.ffs_model.specs.Volumes.{KeepsNumber}
+use Rattle.ffs_model.specs.Library.{IsLibrary, inode_links, library_layout}
+use Rattle.ffs_lookup.specs.declared.repairs.Repair.TheVariants.{GiveUp}
+use Rattle.ffs_lookup.proofs.ForCallers.{same_ok}
+use Rattle.ffs_lib.specs.Edits.{edit_at}
+use Rattle.ffs_lib.specs.Outcomes.{HasNoData}
+use Rattle.ffs_lib.specs.Steps.{ShortEdit}
+use Rattle.ffs_lib.specs.Reclaiming.{emptying}
+use Rattle.ffs_lib.proofs.Laws.{fails, finishes, home_of, no_memory, same_stage, short_told}
+use Rattle.ffs_lib.proofs.Reclaiming.{empties, empties_short, given_up_then, inode_goes, inode_short, nothing_repaired, pointers_emptied, reached_pointers}
+use Rattle.ffs_lib.proofs.Tops.{never}
+use Rattle.ffs_lib.proofs.reclaim.give_up.Goals as goal
+
+pub returns-in_err-empty_pointers-clause-ends : goal.returns-in_err-empty_pointers-clause-ends
+returns-in_err-empty_pointers-clause-ends g c = λ T array e s may.
+    let fs = c.args.fs.number in
+    let n = c.args.number in
+    let old = g.S.Store.state_of c.args.store.now in
+    let new = g.S.Store.state_of c.empty_pointers.new.store in
+    let found = c.in_ok-found.found in
+    let is = c.in_ok-found.ensures.found in
+    let exact = c.in_ok-found.ensures.exact (subst IsLibrary (sym e) s.library) in
+    let points = sym c.indirect.ensures in
+    let block = c.indirect.result in
+    let p = c.in_err-empty_pointers.ensures.put T e (reached_pointers T fs array old s n found is exact block points) in
+    let edit = emptying old block in
+    fails _ _ (same_stage s p.0) c.from_residual-in_err-empty_pointers.result _ c.from_residual-in_err-empty_pointers.ensures.1
+    (short_told (propose_of T old fs block edit) (empties_short T fs array old s n found is exact block points p.1 p.2) _ p.3, nothing_repaired T fs old new n GiveUp found.inode exact p.0 block (inr (sym points)) _ (edit, p.3))
+
+pub returns-in_err-found-2-clause-ends : goal.returns-in_err-found-2-clause-ends
+returns-in_err-found-2-clause-ends g c = λ T array e s may.
+    let old = g.S.Store.state_of c.args.store.now in
+    let found = c.in_ok-found.found in
+    let is = c.in_ok-found.ensures.found in
+    let exact = c.in_ok-found.ensures.exact (subst IsLibrary (sym e) s.library) in
+    let points = sym c.indirect.ensures in
+    let block = c.indirect.result in
+    let put = c.in_ok-empty_pointers.ensures.put T e (reached_pointers T c.args.fs.number array old s c.args.number found is exact block points) in
+    let k = empties T c.args.fs.number array old s c.args.number found is exact block points (g.S.Store.state_of c.empty_pointers.new.store) put in
+    absurd (never found.inode _ (k.same ∙ sym (c.in_err-found-2.ensures.exact (subst IsLibrary (sym (c.empty_pointers.ensures.types ∙ e)) s.library))))
+
+pub returns-in_err-drops-clause-ends : goal.returns-in_err-drops-clause-ends
+returns-in_err-drops-clause-ends g c = λ T array e s may.
+    let fs = c.args.fs.number in
+    let n = c.args.number in
+    let old = g.S.Store.state_of c.args.store.now in
+    let first = g.S.Store.state_of c.empty_pointers.new.store in
+    let found = c.in_ok-found.found in
+    let is = c.in_ok-found.ensures.found in
+    let exact = c.in_ok-found.ensures.exact (subst IsLibrary (sym e) s.library) in
+    let points = sym c.indirect.ensures in
+    let block = c.indirect.result in
+    let put = c.in_ok-empty_pointers.ensures.put T e (reached_pointers T fs array old s n found is exact block points) in
+    let k = empties T fs array old s n found is exact block points first put in
+    let again = c.in_ok-found-2.found in
+    let edit = emptying first again.block in
+    fails _ _ k.stage c.from_residual-in_err-drops.result _ c.from_residual-in_err-drops.ensures.1
+    (refl, pointers_emptied T fs array old first first n found.inode exact k refl again.block (home_of first fs n again.block again.place c.in_ok-found-2.ensures.found.stands) _ (edit, no_memory (propose_of T first fs again.block edit)))
+
+pub returns-clause-ends : goal.returns-clause-ends
+returns-clause-ends g c = λ T array e s may.
+    let fs = c.args.fs.number in
+    let n = c.args.number in
+    let old = g.S.Store.state_of c.args.store.now in
+    let first = g.S.Store.state_of c.empty_pointers.new.store in
+    let new = g.S.Store.state_of c.put_inode.new.store in
+    let found = c.in_ok-found.found in
+    let is = c.in_ok-found.ensures.found in
+    let exact = c.in_ok-found.ensures.exact (subst IsLibrary (sym e) s.library) in
+    let points = sym c.indirect.ensures in
+    let block = c.indirect.result in
+    let put = c.in_ok-empty_pointers.ensures.put T e (reached_pointers T fs array old s n found is exact block points) in
+    let k = empties T fs array old s n found is exact block points first put in
+    let types = c.empty_pointers.ensures.types ∙ e in
+    let again = c.in_ok-found-2.found in
+    let is2 = c.in_ok-found-2.ensures.found in
+    let exact2 = c.in_ok-found-2.ensures.exact (subst IsLibrary (sym types) s.library) in
+    let same : again.inode ≡ found.inode = same_ok again.inode found.inode (exact2 ∙ sym k.same) in
+    let own : may.inode ≡ again.inode = same_ok may.inode found.inode (may.found ∙ sym exact) ∙ sym same in
+    let none : HasNoData T (latest first.lives) again.inode = subst (λ (i : List ℕ). HasNoData T (latest first.lives) i) (sym same) k.none in
+    let spare : KeepsNumber library_layout first.lives fs None (inode_links again.inode) n = subst (λ (i : List ℕ). KeepsNumber library_layout first.lives fs None (inode_links i) n) own (k.spares n (inode_links may.inode) may.some may.spares) in
+    let bytes = c.free.result in
+    let items = c.deref.result.now in
+    let edit = edit_at (64 * again.place) bytes [] items None in
+    finishes T fs again.block edit array first new _ _ k.stage c.put_inode.result (c.put_inode.ensures.put T types)
+    (subst (λ (ds : List ℕ). ShortEdit T first fs again.block (edit_at (64 * again.place) bytes [] ds None)) (sym (c.deref.ensures.value ∙ c.in_ok-drops.ensures)) (inode_short T fs array first k.stage n again is2 exact2 none bytes c.free.ensures))
+    (λ entry done.
+    let x = inode_goes T fs array first k.stage n again is2 exact2 none bytes c.free.ensures spare new items entry done in
+    (x.0, given_up_then T fs array old first new n found.inode k x.1))
+    (λ fault left told. pointers_emptied T fs array old first new n found.inode exact k left again.block (home_of first fs n again.block again.place is2.stands) fault (edit, told))

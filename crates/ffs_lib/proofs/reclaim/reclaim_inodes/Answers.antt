@@ -1,0 +1,57 @@
+use Rattle.std.proofs.Common.{◌≡◌, ◌+◌, ◌≤◌, ◌∙◌, arith, refl, subst, sym}
+use Rattle.ffs_model.specs.Cuts.{latest}
+use Rattle.ffs_model.specs.Library.{IsLibrary}
+use Rattle.ffs_lookup.specs.Repairs.{repair_in}
+use Rattle.ffs_lib.proofs.Laws.{stops_err}
+use Rattle.ffs_lib.proofs.Reclaiming.{idle_ok, idle_then, may_repair, middle_ends, middle_more, middle_stops}
+use Rattle.ffs_lib.proofs.reclaim.reclaim_inodes.Goals as goal
+
+pub returns-in_err-repair_inode-clause-reclaims : goal.returns-in_err-repair_inode-clause-reclaims
+returns-in_err-repair_inode-clause-reclaims g c = λ T array e s.
+    let fs = c.args.fs.number in
+    let old = g.S.Store.state_of c.args.store.now in
+    let now = g.S.Store.state_of c.loop-at.store in
+    let new = g.S.Store.state_of c.repair_inode.new.store in
+    let at = c.loop-at.at in
+    let lib = subst IsLibrary (sym e) s.library in
+    let looked = c.in_ok-repairs.ensures.exact lib in
+    let idle = idle_ok old fs looked in
+    let middle = c.loop-at.invariant.middle T array e s idle in
+    let repair : c.of.result ≡ repair_in (latest old.lives) fs (at + 1) = c.of.ensures ∙ c.in_ok-repairs.ensures.each lib (at + 1) in
+    let p = c.in_err-repair_inode.ensures.ends T array (c.loop-at.invariant.types ∙ e) middle.stage (may_repair T fs array old s idle now at middle (at + 1) refl c.of.result repair) in (
+      p.0,
+      idle_then T fs old new c.from_residual-in_err-repair_inode.result looked
+          (stops_err _ _ c.from_residual-in_err-repair_inode.result c.in_err-repair_inode.field-0.0 c.from_residual-in_err-repair_inode.ensures.1
+          (p.1.0, middle_stops T fs array old now new at (at + 1) refl c.of.result repair middle c.in_err-repair_inode.field-0.0 p.1.1)),
+    )
+
+pub loop-at-preserved : goal.loop-at-preserved
+loop-at-preserved g c = record {
+  types = c.repair_inode.ensures.types ∙ c.loop-at.invariant.types;
+  middle = λ T array e s idle.
+      let fs = c.args.fs.number in
+      let old = g.S.Store.state_of c.args.store.now in
+      let now = g.S.Store.state_of c.loop-at.store in
+      let at = c.loop-at.at in
+      let lib = subst IsLibrary (sym e) s.library in
+      let middle = c.loop-at.invariant.middle T array e s idle in
+      let repair : c.of.result ≡ repair_in (latest old.lives) fs (at + 1) = c.of.ensures ∙ c.in_ok-repairs.ensures.each lib (at + 1) in
+      let p = c.in_ok-repair_inode.ensures.ends T array (c.loop-at.invariant.types ∙ e) middle.stage (may_repair T fs array old s idle now at middle (at + 1) refl c.of.result repair) in
+      let low : at + 1 ≤ 128 = omega arith in
+      middle_more T fs array old now (g.S.Store.state_of c.repair_inode.new.store) at (at + 1) refl low c.of.result repair middle p.0 p.1;
+}
+
+pub returns-clause-reclaims : goal.returns-clause-reclaims
+returns-clause-reclaims g c = λ T array e s.
+    let fs = c.args.fs.number in
+    let old = g.S.Store.state_of c.args.store.now in
+    let lib = subst IsLibrary (sym e) s.library in
+    let looked = c.in_ok-repairs.ensures.exact lib in
+    let middle = c.loop-at.invariant.middle T array e s (idle_ok old fs looked) in
+    let all : c.loop-at.at ≡ 128 = omega arith in (
+      middle.stage,
+      idle_then T fs old (g.S.Store.state_of c.loop-at.store) _ looked (record {
+        told = c.in_ok-repairs.ensures.each lib;
+        each = middle_ends T fs array old (g.S.Store.state_of c.loop-at.store) c.loop-at.at all middle;
+      }),
+    )

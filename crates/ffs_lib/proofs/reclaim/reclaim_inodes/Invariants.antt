@@ -1,0 +1,16 @@
+use Rattle.std.proofs.Common.{◌≡◌, ℕ, Option}
+use Rattle.xn_model.specs.Types.{Types}
+use Rattle.xn_model.specs.Calls.{pending_of}
+use Rattle.ffs_lib.specs.Steps.{Stage}
+use Rattle.ffs_lib.specs.Reclaiming.{InMiddle}
+use Rattle.ffs_lib.proofs.reclaim.reclaim_inodes.Given as goal
+
+-- the first inodes are repaired
+abbrev pub invariant-loop-at : goal.invariant-loop-at
+invariant-loop-at g l =
+    let old = g.S.Store.state_of l.initial.store in
+    record {
+      types : g.S.Store.types_of l.store ≡ g.S.Store.types_of l.initial.store;
+      middle : (T : Types) (array : ℕ → Option ℕ) → g.S.Store.types_of l.initial.store ≡ T → Stage T l.fs.number array old → pending_of old l.fs.number ≡ 0 →
+          InMiddle T l.fs.number array old (g.S.Store.state_of l.store) l.at;
+    }

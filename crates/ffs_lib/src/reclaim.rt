@@ -1,0 +1,124 @@
+// Inodes in use without a name, and inodes with more links than names, as a crash may leave them.
+
+ghost use Rattle.std.specs.Prelude.{◌≡◌, ◌≢◌, ℕ, Option};
+ghost use Rattle.xn_model.specs.Types.{Types};
+ghost use Rattle.ffs_model.specs.Cuts.{Under};
+ghost use Rattle.ffs_lib.specs.Reclaiming.{Emptied, MayRepair, Reclaims, RepairedOne, StopsRepairing};
+ghost use Rattle.ffs_lib.specs.Steps.{Ends, Stage, newest};
+
+use crate::put::{put, put_inode};
+use crate::steps::{blocks_in, blocks_of};
+use edit_list::{EditId, Fs};
+use ffs_format::Inode;
+use ffs_lookup::{FfsFault, Found, Repair, Repairs, find_inode, look_up_repairs, read_block};
+use std::alloc::Global;
+use xn_state::Store;
+
+/// How many inodes there may be.
+const MOST_INODES: u16 = 128;
+
+/// Drops the blocks that a block of pointers points to, if there are any.
+fn empty_pointers<S: Store>(
+    alloc: Global,
+    store: &mut S,
+    fs: Fs,
+    block: u32,
+) -> Result<(), FfsFault>
+    ensures types { S.types_of store.new ≡ S.types_of store.old }
+    ensures put { (T : Types) → S.types_of store.old ≡ T → (block ≢ 0 → Under T (newest (S.state_of store.old)) fs.number block 5) →
+        Emptied T fs.number block (S.state_of store.old) (S.state_of store.new) result }
+{
+    if block == 0 {
+        return Ok(());
+    }
+    let dropped = blocks_in(alloc, read_block(store, fs, block)?)?;
+    if dropped.is_empty() {
+        return Ok(());
+    }
+    let _ = put(alloc, store, fs, block, 0, &[0; 512], &[], &dropped, None)?;
+    Ok(())
+}
+
+/// Gives an inode up, with its blocks.
+fn give_up<S: Store>(alloc: Global, store: &mut S, fs: Fs, number: u16) -> Result<EditId, FfsFault>
+    ensures types { S.types_of store.new ≡ S.types_of store.old }
+    ensures ends { (T : Types) (array : ℕ → Option ℕ) → S.types_of store.old ≡ T → Stage T fs.number array (S.state_of store.old) →
+        MayRepair (S.state_of store.old) fs.number number Repair.GiveUp → Ends T fs.number array (S.state_of store.new) result
+        (λ _. RepairedOne (S.state_of store.old) (S.state_of store.new) fs.number number Repair.GiveUp)
+        (StopsRepairing T fs.number (S.state_of store.old) (S.state_of store.new) number Repair.GiveUp) }
+{
+    let found = find_inode(store, fs, number)?;
+    empty_pointers(alloc, store, fs, found.inode.indirect())?;
+    let found = find_inode(store, fs, number)?;
+    let drops = blocks_of(alloc, &found.inode)?;
+    put_inode(
+        alloc,
+        store,
+        fs,
+        found.block,
+        found.place,
+        &Inode::free(),
+        &[],
+        &drops,
+        None,
+    )
+}
+
+/// Sets the links of an inode.
+fn set_links<S: Store>(
+    alloc: Global,
+    store: &mut S,
+    fs: Fs,
+    number: u16,
+    links: u16,
+) -> Result<EditId, FfsFault>
+    ensures types { S.types_of store.new ≡ S.types_of store.old }
+    ensures ends { (T : Types) (array : ℕ → Option ℕ) → S.types_of store.old ≡ T → Stage T fs.number array (S.state_of store.old) →
+        MayRepair (S.state_of store.old) fs.number number (Repair.SetLinks links) → Ends T fs.number array (S.state_of store.new) result
+        (λ _. RepairedOne (S.state_of store.old) (S.state_of store.new) fs.number number (Repair.SetLinks links))
+        (StopsRepairing T fs.number (S.state_of store.old) (S.state_of store.new) number (Repair.SetLinks links)) }
+{
+    let Found {
+        block,
+        place,
+        mut inode,
+    } = find_inode(store, fs, number)?;
+    inode.set_links(links);
+    put_inode(alloc, store, fs, block, place, &inode, &[], &[], None)
+}
+
+/// Does with an inode what it needs.
+fn repair_inode<S: Store>(
+    alloc: Global,
+    store: &mut S,
+    fs: Fs,
+    number: u16,
+    repair: Repair,
+) -> Result<(), FfsFault>
+    ensures types { S.types_of store.new ≡ S.types_of store.old }
+    ensures ends { (T : Types) (array : ℕ → Option ℕ) → S.types_of store.old ≡ T → Stage T fs.number array (S.state_of store.old) →
+        MayRepair (S.state_of store.old) fs.number number repair → Ends T fs.number array (S.state_of store.new) result
+        (λ _. RepairedOne (S.state_of store.old) (S.state_of store.new) fs.number number repair)
+        (StopsRepairing T fs.number (S.state_of store.old) (S.state_of store.new) number repair) }
+{
+    let _ = match repair {
+        Repair::Keep => return Ok(()),
+        Repair::GiveUp => give_up(alloc, store, fs, number)?,
+        Repair::SetLinks(links) => set_links(alloc, store, fs, number, links)?,
+    };
+    Ok(())
+}
+
+/// Looks up what each inode needs, and does it, the lowest first.
+pub fn reclaim_inodes<S: Store>(alloc: Global, store: &mut S, fs: Fs) -> Result<Repairs, FfsFault>
+    ensures types { S.types_of store.new ≡ S.types_of store.old }
+    ensures reclaims { (T : Types) (array : ℕ → Option ℕ) → S.types_of store.old ≡ T → Stage T fs.number array (S.state_of store.old) →
+        Stage T fs.number array (S.state_of store.new) × Reclaims T fs.number (S.state_of store.old) (S.state_of store.new) result }
+{
+    let repairs = look_up_repairs(store, fs)?;
+    for at in 0..MOST_INODES {
+        let number = at + 1;
+        repair_inode(alloc, store, fs, number, repairs.of(number))?;
+    }
+    Ok(repairs)
+}
