@@ -35,3 +35,7 @@ pub mod MakeLaws
 pub mod Singles
 pub mod NameCounts
 pub mod Opening
+pub mod Turning
+pub mod Replacing
+pub mod TurnLaws
+pub mod Replaced

@@ -5,3 +5,4 @@ pub mod Volumes
 pub mod Steps
 pub mod Once
 pub mod Writes
+pub mod Replacing

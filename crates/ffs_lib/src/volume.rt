@@ -14,11 +14,13 @@ ghost use Rattle.ffs_model.specs.Volumes.{VolumeKeeps, no_edits};
 ghost use Rattle.ffs_lookup.specs.Places.{IsDirectory, IsFree, IsSlot};
 ghost use Rattle.ffs_lib.specs.Outcomes.{HasFreePointer, OnlyShort};
 ghost use Rattle.ffs_lib.specs.Writes.{Writes, WritesSome};
-ghost use Rattle.ffs_lib.specs.Steps.{Creates, Ends, Leaves, NamesAgain, Renames, Stage, StopsGrowing, StopsNaming, StopsNew, StopsUnnaming, TakesFree, Undoes, Unlinks, Unmakes, Unnamed, newest};
+ghost use Rattle.ffs_lib.specs.Steps.{Creates, Ends, Leaves, MayLose, NamesAgain, Renames, Stage, StopsGrowing, StopsNaming, StopsNew, StopsUnnaming, TakesFree, Undoes, Unlinks, Unmakes, Unnamed, newest};
 ghost use Rattle.xn_model.specs.Types.{Types};
 ghost use Rattle.xn_model.specs.declared.refusal.Refusal.{Refusal};
 ghost use Rattle.xn_model.specs.Calls.{was_given};
 ghost use Rattle.ffs_lib.specs.Results.{new_inode, MadeEntry, MadeVolume, MovedEntry, OnlyChanges, OthersSame, TookLink};
+
+mod replace;
 
 use crate::data::{
     BLOCK_LEN, MOST_BYTES, look_up_end, none_taken, raise_size, read_part, write_padded,
@@ -546,6 +548,9 @@ impl Volume {
             Ends T self.now.fs.number array (S.state_of store.new) result
             (λ _. Unnamed (newest (S.state_of store.old)) (newest (S.state_of store.new)) self.now.fs.number slot)
             (StopsUnnaming T self.now.fs.number (S.state_of store.old) (S.state_of store.new) slot) }
+        ensures waits { (T : Types) (array : ℕ → Option ℕ) (n e : ℕ) → S.types_of store.old ≡ T → Stage T self.now.fs.number array (S.state_of store.old) →
+            IsTrue (was_given (S.state_of store.old) after) → n ≢ slot.inode → MayLose (S.state_of store.old) self.now.fs.number n e →
+            OnOk result (MayLose (S.state_of store.new) self.now.fs.number n e) }
     {
         let at = ENTRY_LEN * slot.place;
         let cleared = put(

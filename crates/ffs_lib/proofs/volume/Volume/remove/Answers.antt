@@ -3,6 +3,7 @@ use Rattle.xn_model.specs.Calls.{propose_of}
 use Rattle.ffs_model.specs.Cuts.{latest}
 use Rattle.ffs_lib.specs.Edits.{edit_at}
 use Rattle.ffs_lib.proofs.Laws.{clears, clears_short, fails, may_lose, same_stage, short_told}
+use Rattle.ffs_lib.proofs.TurnLaws.{clear_waits}
 use Rattle.ffs_lib.proofs.volume.Volume.remove.Goals as goal
 
 pub returns-in_err-cleared-clause-ends : goal.returns-in_err-cleared-clause-ends
@@ -28,3 +29,12 @@ returns-clause-ends g c = λ T array e s given.
     let k = clears T c.args.self.now.fs.number array (g.S.Store.state_of c.args.store.now) s first c.args.slot c.requires c.args.after c.in_ok-cleared.cleared (c.in_ok-cleared.ensures.put T e) in
     let x = c.in_ok-take_link.ensures.ends T array (c.put.ensures.types ∙ e) k.stage (may_lose s c.requires k) in
     (x.0, record { middle = latest first.lives; cleared = k.content; took = x.1 })
+
+pub returns-clause-waits : goal.returns-clause-waits
+returns-clause-waits g c = λ T array n a e s given other m.
+    let fs = c.args.self.now.fs.number in
+    let old = g.S.Store.state_of c.args.store.now in
+    let first = g.S.Store.state_of c.put.new.store in
+    let done = c.in_ok-cleared.ensures.put T e in
+    let k = clears T fs array old s first c.args.slot c.requires c.args.after c.in_ok-cleared.cleared done in
+    c.in_ok-take_link.ensures.waits T array n a (c.put.ensures.types ∙ e) k.stage (may_lose s c.requires k) other (clear_waits T fs array old s n a m first c.args.slot c.requires c.args.after c.in_ok-cleared.cleared done)
