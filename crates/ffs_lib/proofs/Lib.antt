@@ -39,3 +39,4 @@ pub mod Turning
 pub mod Replacing
 pub mod TurnLaws
 pub mod Replaced
+pub mod PairLaws

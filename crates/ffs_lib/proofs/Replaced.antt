@@ -1,25 +1,26 @@
 -- What is left of two files after each edit by which the name of one goes to the other.
-use Rattle.std.proofs.Common.{◌≡◌, ◌≢◌, ℕ, ◌+◌, ◌<◌, ◌≤◌, Bool, true, false, cond, List, [], ◌∷◌, map, Option, Some, None, Ok, refl, sym, ◌∙◌, ap, arith, subst, eq-eqb}
+use Rattle.std.proofs.Common.{◌≡◌, ◌≢◌, ℕ, ◌<◌, ◌≤◌, Bool, true, false, cond, List, [], ◌∷◌, map, Option, Some, None, Ok, refl, sym, ◌∙◌, ap, arith, subst, eq-eqb}
 use Rattle.std.specs.Prelude.{Contains, bytes_eq, find, option_map, ◌==◌, ◌&&◌, if◌then◌else◌}
 use Rattle.std.proofs.lemmas.Bool.{and_parts, eqb-true}
 use Rattle.std.proofs.lemmas.Option.{same_Some}
 use Rattle.xn_model.specs.Types.{Types}
 use Rattle.xn_model.specs.Lives.{StoreState}
 use Rattle.ffs_model.specs.Cuts.{latest}
-use Rattle.ffs_model.specs.Library.{inode_links, library_layout}
+use Rattle.ffs_model.specs.Library.{inode_blocks, inode_links, library_layout}
 use Rattle.ffs_lookup.specs.declared.fault.FfsFault.{FfsFault}
 use Rattle.ffs_lookup.specs.declared.places.Slot.{Slot}
-use Rattle.ffs_lookup.specs.Newest.{directory_in, entries_of, file_in, first_named, inode_in, is_at, listing, named_in, without_entry}
+use Rattle.ffs_lookup.specs.Newest.{directory_in, entries_of, inode_in, is_at, listing, named_in, without_entry}
 use Rattle.ffs_lookup.specs.Places.{IsSlot}
 use Rattle.ffs_lookup.proofs.ForCallers.{not_both, same_ok}
-use Rattle.ffs_lib.specs.Replacing.{Replaced, ReplacedEntry, StopsReplacing, StopsTurning, Turned, turned_entry}
-use Rattle.ffs_lib.specs.Results.{AsBefore, IsAs, IsLinked, SameInode, TookLink}
+use Rattle.ffs_lib.specs.Replacing.{AreDirect, Replaced, ReplacedEntry, StopsReplacing, StopsTurning, Turned, pair_of, turned_entry}
+use Rattle.ffs_lib.specs.Results.{IsLinked, SameInode}
 use Rattle.ffs_lib.specs.Steps.{AddsLink, Removable, Removed, StopsRemoving, TakesLink, Unnamed}
 use Rattle.ffs_lib.proofs.Alone.{are_apart}
 use Rattle.ffs_lib.proofs.Entering.{directory_from, directory_same}
 use Rattle.ffs_lib.proofs.Firsts.{find_listed, named_among}
 use Rattle.ffs_lib.proofs.Laws.{less_of, removed, took_on, true_false}
 use Rattle.ffs_lib.proofs.Moving.{as_on, directory_to, named_block, same_as}
+use Rattle.ffs_lib.proofs.PairLaws.{direct_of}
 use Rattle.ffs_lib.proofs.Replacing.{CanReplace}
 use Rattle.ffs_lib.proofs.Same.{same_on}
 use Rattle.ffs_lib.proofs.StillNamed.{named_to}
@@ -43,6 +44,11 @@ other_place from to e z = not_itself (ap (λ (s : Slot). (s.block == to.block) &
   where
     not_itself : (to.block == to.block) && (to.place == to.place) ≡ false → ⊥
     not_itself f = true_false _ (ap (λ t. t && (to.place == to.place)) (eq-eqb to.block to.block refl) ∙ eq-eqb to.place to.place refl) f
+
+pub at_one_place : (state : StoreState) (fs : ℕ) (from to : Slot) → IsSlot state fs from → IsSlot state fs to → (from.block == to.block) && (from.place == to.place) ≡ true → from.inode ≡ to.inode
+at_one_place state fs from to a b e =
+    let p = and_parts (from.block == to.block) (from.place == to.place) e in
+    same_place state fs from to a b (eqb-true from.block to.block p.0) (eqb-true from.place to.place p.1)
 
 pub itself_done : (state : StoreState) (fs d other : ℕ) (from to : Slot) → IsSlot state fs from → IsSlot state fs to → (from.block == to.block) && (from.place == to.place) ≡ true → Replaced state state fs d from other to
 itself_done state fs d other from to a b e =
@@ -118,6 +124,23 @@ module _ (u : ℕ → List ℕ) (fs d : ℕ) (name : List ℕ) (other : ℕ) (ot
   pub is_moved : Ok x.own ≡ inode_in u fs n
   is_moved = file_from u fs n x.own x.is_own
 
+  -- blocks of both directories
+  home_has : Contains (inode_blocks x.home) from.block
+  home_has =
+      let b = named_block u fs d name from (named_to u fs d name x.home from x.is_home x.good x.first) in
+      subst (λ (i : List ℕ). Contains (inode_blocks i) from.block) (same_ok b.0 x.home (b.1 ∙ sym (directory_from u fs d x.home x.is_home).0)) b.2
+
+  target_has : Contains (inode_blocks x.target) to.block
+  target_has =
+      let b = named_block u fs other other_name to (named_to u fs other other_name x.target to x.is_target x.other_good x.second) in
+      subst (λ (i : List ℕ). Contains (inode_blocks i) to.block) (same_ok b.0 x.target (b.1 ∙ sym (directory_from u fs other x.target x.is_target).0)) b.2
+
+  direct_in_both : (v : ℕ → List ℕ) → ((e : ℕ) (inode : List ℕ) → Ok inode ≡ directory_in u fs e → Ok inode ≡ directory_in v fs e) → AreDirect v fs (pair_of from to)
+  direct_in_both v there = record { from = direct_of v fs d x.home from.block (there d x.home x.is_home) home_has; to = direct_of v fs other x.target to.block (there other x.target x.is_target) target_has }
+
+  pub direct_before : AreDirect u fs (pair_of from to)
+  direct_before = direct_in_both u (λ e inode i. i)
+
   module _ (v1 : ℕ → List ℕ) (l : AddsLink u v1 fs n) where
     same1 : (e : ℕ) (inode : List ℕ) → Ok inode ≡ directory_in u fs e → SameInode u v1 fs e
     same1 e inode i = l.others e (not_moved e inode i)
@@ -140,6 +163,9 @@ module _ (u : ℕ → List ℕ) (fs d : ℕ) (name : List ℕ) (other : ℕ) (ot
       listing2 : (e : ℕ) (inode : List ℕ) → Ok inode ≡ directory_in u fs e → listing v2 inode ≡ map (turned_entry to n) (listing u inode)
       listing2 e inode i = t.entries inode ∙ ap (map (turned_entry to n)) (listing1 e inode i)
 
+      pub direct_turned : AreDirect v2 fs (pair_of from to)
+      direct_turned = direct_in_both v2 there2
+
       -- so is the first entry
       pub home_named : Ok from ≡ named_in v2 fs d name
       home_named = named_to v2 fs d name x.home from (there2 d x.home x.is_home) x.good
@@ -151,6 +177,13 @@ module _ (u : ℕ → List ℕ) (fs d : ℕ) (name : List ℕ) (other : ℕ) (ot
       module _ (v4 : ℕ → List ℕ) (g : Unnamed v2 v4 fs from) where
         pub home_removed : Removed v2 v4 fs d from
         home_removed = removed v2 g.middle fs d from home_removable g.cleared v4 g.took
+
+        there4 : (e : ℕ) (inode : List ℕ) → Ok inode ≡ directory_in u fs e → Ok inode ≡ directory_in v4 fs e
+        there4 e inode i =
+            there2 e inode i ∙ (sym (directory_same v2 g.middle fs e (g.cleared.inodes e)) ∙ sym (directory_same g.middle v4 fs e (g.took.others e (not_moved e inode i)).0))
+
+        pub direct_unnamed : AreDirect v4 fs (pair_of from to)
+        direct_unnamed = direct_in_both v4 there4
 
         -- all but both directories and both files are as before
         after_turn : (e : ℕ) → e ≢ other → SameInode v1 v2 fs e

@@ -1,5 +1,5 @@
 -- What is looked up before an entry is replaced, in the order of the tests.
-use Rattle.std.proofs.Common.{◌≡◌, ◌≢◌, ℕ, Bool, true, false, List, Option, Some, None, refl, sym, ◌∙◌, ap, ne_eqb}
+use Rattle.std.proofs.Common.{◌≡◌, ◌≢◌, ℕ, Bool, true, false, List, Option, Some, None, sym, ◌∙◌, ap, ne_eqb}
 use Rattle.std.specs.Prelude.{IsTrue, Result, Ok, Err, ◌==◌, ◌&&◌, not, if◌then◌else◌}
 use Rattle.std.specs.Option.{ok_or}
 use Rattle.std.proofs.lemmas.Bool.{and_parts, eqb-false, eqb-true}

@@ -1,11 +1,10 @@
 -- What the edits of `replace` leave: of an entry that goes to another inode, and of a link that may be taken later.
-use Rattle.std.proofs.Common.{◌≡◌, ◌≢◌, ℕ, suc, ◌*◌, ◌^◌, ◌<◌, ◌≤◌, List, [], length, replicate, Option, Some, Result, Ok, Err, refl, sym, ◌∙◌, ap, arith, subst, inl, inr}
-use Rattle.std.specs.Prelude.{IsTrue, OnOk}
+use Rattle.std.proofs.Common.{◌≡◌, ◌≢◌, ℕ, suc, ◌*◌, ◌^◌, ◌<◌, List, [], length, replicate, Option, Some, Result, Ok, Err, sym, ◌∙◌, ap, arith, subst, inl, inr}
+use Rattle.std.specs.Prelude.{OnOk}
 use Rattle.std.specs.Int.{w16, to_le_bytes}
 use Rattle.xn_model.specs.Types.{Types}
-use Rattle.xn_model.specs.Root.{word_at}
 use Rattle.xn_model.specs.Lives.{StoreState}
-use Rattle.xn_model.specs.Calls.{Edit, propose_of, was_given}
+use Rattle.xn_model.specs.Calls.{Edit, propose_of}
 use Rattle.ffs_model.specs.Cuts.{Under, latest}
 use Rattle.ffs_model.specs.Library.{inode_blocks, inode_links, inode_mode, library_layout}
 use Rattle.ffs_model.specs.Volumes.{CanUnlink}

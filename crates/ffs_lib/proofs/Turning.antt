@@ -1,6 +1,6 @@
 -- An entry of a directory goes to another inode: what is listed then, and what else is as before.
-use Rattle.std.proofs.Common.{◌≡◌, ℕ, ◌+◌, ◌*◌, ◌^◌, ◌<◌, ◌≤◌, ◌≢◌, ◌⊎◌, Bool, true, false, cond, List, [], ◌∷◌, ◌++◌, map, length, take, drop, get_or, Option, Some, None, Ok, refl, sym, ◌∙◌, ap, inl, inr, arith, eq-eqb}
-use Rattle.std.specs.Prelude.{Contains, ◌==◌, ◌&&◌, min, filter_map, flat_map, option_map, if◌then◌else◌}
+use Rattle.std.proofs.Common.{◌≡◌, ℕ, ◌+◌, ◌*◌, ◌^◌, ◌<◌, ◌≤◌, ◌≢◌, ◌⊎◌, Bool, true, false, List, [], ◌∷◌, ◌++◌, map, length, take, drop, get_or, Option, Some, None, Ok, refl, sym, ◌∙◌, ap, inl, inr, arith, eq-eqb}
+use Rattle.std.specs.Prelude.{◌==◌, ◌&&◌, min, filter_map, flat_map, option_map, if◌then◌else◌}
 use Rattle.std.specs.List.{range_with_len, cons_option}
 use Rattle.std.specs.Int.{w16, to_le_bytes}
 use Rattle.std.proofs.lemmas.Bool.{cases_eq, cases_lt, ne_eqb}
@@ -16,7 +16,7 @@ use Rattle.ffs_model.specs.Library.{IsLibrary, half_at, inode_blocks, library_la
 use Rattle.ffs_model.proofs.ForCallers.{bytes_apart, direct_where, half_apart, half_within, library_reads, proposed_here, proposed_others, under_direct}
 use Rattle.ffs_format.specs.Entries.{name_in}
 use Rattle.ffs_lookup.specs.declared.places.Slot.{Slot}
-use Rattle.ffs_lookup.specs.Newest.{is_at, listing}
+use Rattle.ffs_lookup.specs.Newest.{listing}
 use Rattle.ffs_lookup.specs.Places.{IsSlot}
 use Rattle.ffs_lib.specs.Edits.{edit_at}
 use Rattle.ffs_lib.specs.Replacing.{Turned, turned_entry}

@@ -3,13 +3,17 @@
 --     turned_entry          an entry of a list, with another inode where it stands at a place
 --     Turned                all lists have it so, and inodes are as before
 --     ReplacedEntry         the moved file stands at the replaced entry alone, and the former file lost a link
+--     pair_of, IsDirect, AreDirect, KeepsPairs    the two entries as slots; that inodes point to their blocks; that what they name in the cuts stays
+--     NamesStand            what the two entries name in the cuts
 --     Replaced              what the call leaves
 --     StopsReplacing, Replaces    the stages of a refused one, and what its fault tells; the call
-use Rattle.std.specs.Prelude.{◌≡◌, ◌≢◌, ℕ, Bool, not, ◌&&◌, ◌==◌, List, map, Contains, Result, Ok, Err, ◌⊎◌, if◌then◌else◌}
+use Rattle.std.specs.Prelude.{◌≡◌, ◌≢◌, ℕ, Bool, not, ◌&&◌, ◌==◌, List, map, Contains, Option, Result, Ok, Err, ◌⊎◌, if◌then◌else◌}
 use Rattle.std.specs.Option.{ok_or}
 use Rattle.xn_model.specs.Types.{Types}
-use Rattle.xn_model.specs.Lives.{StoreState}
-use Rattle.ffs_model.specs.Library.{inode_blocks, inode_links, inode_mode}
+use Rattle.xn_model.specs.Lives.{Lives, StoreState}
+use Rattle.ffs_model.specs.Library.{inode_blocks, inode_links, inode_mode, library_layout}
+use Rattle.ffs_model.specs.Names.{IsInodes}
+use Rattle.ffs_model.specs.Standing.{AreNamed, SlotPair, StayNamed}
 use Rattle.ffs_format.specs.Entries.{is_name}
 use Rattle.ffs_lookup.specs.declared.fault.FfsFault.{FfsFault}
 use Rattle.ffs_lookup.specs.declared.fault.FfsFault.TheVariants.{BadName, NoEntry, NotDir, TooLarge}
@@ -61,6 +65,35 @@ pub record ReplacedEntry (old new : ℕ → List ℕ) (fs d : ℕ) (from : Slot)
   pub moved : (inode : List ℕ) → Ok inode ≡ inode_in old fs from.inode → IsLinked old new fs from.inode inode (inode_links inode)
   pub former : (inode : List ℕ) → Ok inode ≡ inode_in old fs to.inode → TookLink old new fs to.inode inode
   pub others : (x : ℕ) → x ≢ d → x ≢ other → x ≢ from.inode → x ≢ to.inode → SameInode old new fs x
+
+-- In the cuts
+
+abbrev pub pair_of : Slot → Slot → SlotPair
+pair_of from to = record { from = (from.block, from.place); to = (to.block, to.place); moved = from.inode; former = to.inode }
+
+-- an inode points to a block itself
+pub record IsDirect (content : ℕ → List ℕ) (fs b : ℕ) : Type 0 where
+  pub index : ℕ
+  pub block : ℕ
+  pub place : ℕ
+  pub inodes : IsInodes library_layout content fs index block
+  pub has : Contains (library_layout.direct (content block) place) b
+
+pub record AreDirect (content : ℕ → List ℕ) (fs : ℕ) (p : SlotPair) : Type 0 where
+  pub from : IsDirect content fs p.from.0
+  pub to : IsDirect content fs p.to.0
+
+-- what two slots name in the cuts they name on
+abbrev pub KeepsPairs : ℕ → StoreState → StoreState → Type 0
+KeepsPairs fs old new =
+    (first : Lives) (p : SlotPair) (after : Option ℕ) → AreDirect (newest old) fs p → StayNamed library_layout first old.lives p after → StayNamed library_layout first new.lives p after
+
+-- In every cut that has the second entry's block as it was newest at the call, or later, this entry names one of the two files; and in every one that
+-- has both blocks so, one of the entries names the moved one.
+abbrev pub NamesStand : StoreState → StoreState → Slot → Slot → Type 0
+NamesStand old new from to = AreNamed library_layout old.lives new.lives (pair_of from to)
+
+-- The call
 
 -- Onto itself nothing is done; where both entries name one inode the first is taken from its directory, as `unlink` does.
 pub record Replaced (old new : StoreState) (fs d : ℕ) (from : Slot) (other : ℕ) (to : Slot) : Type 0 where

@@ -9,6 +9,7 @@ ghost use Rattle.ffs_model.specs.Library.{inode_links};
 ghost use Rattle.xn_model.specs.Types.{Types};
 ghost use Rattle.ffs_model.specs.Cuts.{Under};
 ghost use Rattle.ffs_lib.specs.Edits.{edit_at};
+ghost use Rattle.ffs_lib.specs.Replacing.{KeepsPairs};
 ghost use Rattle.ffs_lib.specs.Steps.{AddsLink, Attached, Dropped, Ends, Enters, IsEntry, MayLose, MayName, Proposed, Stage, StopsAtHome, StopsEntering, StopsTaking, TakesLink, newest};
 
 use crate::steps::{DATA, block_with, blocks_in, blocks_of, count_blocks, forgotten};
@@ -165,6 +166,8 @@ pub fn take_link<S: Store>(
     ensures waits { (T : Types) (array : ℕ → Option ℕ) (n e : ℕ) → S.types_of store.old ≡ T → Stage T fs.number array (S.state_of store.old) →
         MayLose (S.state_of store.old) fs.number number after → n ≢ number → MayLose (S.state_of store.old) fs.number n e →
         OnOk result (MayLose (S.state_of store.new) fs.number n e) }
+    ensures pairs { (T : Types) (array : ℕ → Option ℕ) → S.types_of store.old ≡ T → Stage T fs.number array (S.state_of store.old) →
+        MayLose (S.state_of store.old) fs.number number after → KeepsPairs fs.number (S.state_of store.old) (S.state_of store.new) }
 {
     let Found {
         block,
@@ -306,6 +309,8 @@ pub fn add_link<S: Store>(
         Ends T fs.number array (S.state_of store.new) result
         (λ e. MayName (S.state_of store.new) fs.number number e × AddsLink (newest (S.state_of store.old)) (newest (S.state_of store.new)) fs.number number)
         (StopsAtHome T fs.number (S.state_of store.old) (S.state_of store.new) number) }
+    ensures pairs { (T : Types) (array : ℕ → Option ℕ) → S.types_of store.old ≡ T → Stage T fs.number array (S.state_of store.old) →
+        KeepsPairs fs.number (S.state_of store.old) (S.state_of store.new) }
 {
     let Found {
         block,

@@ -1,12 +1,14 @@
 // The entry of one file that comes to name another.
 
-ghost use Rattle.std.specs.Prelude.{◌≡◌, ◌≢◌, ◌&&◌, ◌==◌, not, ℕ, Option, Ok, Err, IfOk, MatchResult};
-ghost use Rattle.ffs_model.specs.Library.{IsLibrary, inode_links};
+ghost use Rattle.std.specs.Prelude.{◌≡◌, ◌≢◌, ◌&&◌, ◌==◌, not, ℕ, Option, None, Some, Ok, IfOk, MatchResult};
+ghost use Rattle.ffs_model.specs.Library.{IsLibrary, inode_links, library_layout};
+ghost use Rattle.ffs_model.specs.Standing.{StayNamed};
 ghost use Rattle.ffs_lookup.specs.Newest.{first_named, mapped, named_in};
 ghost use Rattle.ffs_lookup.specs.Places.{IsDirectory, IsSlot};
 ghost use Rattle.ffs_lookup.specs.declared.places.Slot.{Slot};
-ghost use Rattle.ffs_lib.specs.Replacing.{Replaces, ReplacedEntry, StopsTurning, Turned, directories_in, files_in, replace_in};
+ghost use Rattle.ffs_lib.specs.Replacing.{NamesStand, Replaces, ReplacedEntry, StopsTurning, Turned, directories_in, files_in, pair_of, replace_in};
 ghost use Rattle.ffs_lib.specs.Steps.{Ends, Leaves, MayLose, MayName, Stage, Wants, newest};
+ghost use Rattle.xn_model.specs.Lives.{Lives};
 ghost use Rattle.xn_model.specs.Types.{Types};
 
 use super::{Volume, are_directories, are_names};
@@ -94,7 +96,8 @@ impl Volume {
     ghost use Rattle.ffs_lib.specs.Volumes.{IsVolume};
 
     /// Gives a file the name of another one, in the same directory or in another, and takes its old name; the other file loses that name, and is given
-    /// up with its last one. In every image that a crash leaves, from the one on that has the name as it was at the call, it names one of the two files.
+    /// up with its last one. In every image that a crash leaves, if both directories have there what they had at the call, the second name names
+    /// one of the two files, and one of the names names the moved one.
     /// Before any edit it answers, in this order, `NoEntry` or `NotDir` of either directory, `BadName` of either name, `NoEntry` of the first
     /// name, then of the second, `IsDir` of either entry, `TooLarge` where the first file has 65,535 links. Onto itself it does nothing;
     /// where both entries name one file it is `unlink` of the first. Any refusal of the store is `Kernel`; what was done before it stands, so both names
@@ -113,6 +116,8 @@ impl Volume {
         ensures answers { Replaces (S.types_of store.old) self.now.fs.number directory name.now other other_name.now (S.state_of store.old)
             (S.state_of store.new) result }
         ensures keeps { IsVolume (S.types_of store.old) (S.state_of store.new) self.now }
+        ensures stands { (from to : Slot) → Ok (from, to) ≡ replace_in (newest (S.state_of store.old)) self.now.fs.number directory name.now other other_name.now →
+            from.inode ≢ to.inode → NamesStand (S.state_of store.old) (S.state_of store.new) from to }
     {
         let (from, to) = look_up_replace(store, self.fs, directory, name, other, other_name)?;
         if is_same_place(from, to) {
@@ -145,6 +150,7 @@ impl Volume {
         ensures leaves { Leaves (S.types_of store.old) self.now (S.state_of store.new) result
             (λ _. ReplacedEntry (newest (S.state_of store.old)) (newest (S.state_of store.new)) self.now.fs.number directory from other to)
             (StopsTurning (S.types_of store.old) self.now.fs.number (S.state_of store.old) (S.state_of store.new) directory from to) }
+        ensures stands { NamesStand (S.state_of store.old) (S.state_of store.new) from to }
     {
         let linked = add_link(alloc, store, self.fs, from.inode)?;
         let turned = self.turn(alloc, store, other, other_name, from.inode, linked)?;
@@ -171,6 +177,11 @@ impl Volume {
             (λ e. Turned (newest (S.state_of store.old)) (newest (S.state_of store.new)) self.now.fs.number slot inode
             × MayLose (S.state_of store.new) self.now.fs.number slot.inode e)
             (λ fault. (S.state_of store.new ≡ S.state_of store.old) × Wants T (S.state_of store.old) self.now.fs.number slot.block fault) }
+        ensures pairs { (T : Types) (array : ℕ → Option ℕ) (first : Lives) (from slot : Slot) → S.types_of store.old ≡ T →
+            Stage T self.now.fs.number array (S.state_of store.old) → Ok slot ≡ named_in (newest (S.state_of store.old)) self.now.fs.number directory name.now →
+            from.inode ≡ inode → StayNamed library_layout first (S.state_of store.old).lives (pair_of from slot) None →
+            MatchResult result (λ e. StayNamed library_layout first (S.state_of store.new).lives (pair_of from slot) (Some e))
+            (λ _. StayNamed library_layout first (S.state_of store.new).lives (pair_of from slot) None) }
     {
         let slot = self.named(store, directory, name)?;
         let number = inode.to_le_bytes();

@@ -1,12 +1,14 @@
-use Rattle.std.proofs.Common.{Ok, refl, sym}
+use Rattle.std.proofs.Common.{◌≡◌, ◌∙◌, Ok, refl, subst, sym}
 use Rattle.ffs_model.specs.Cuts.{latest}
+use Rattle.ffs_lookup.proofs.ForCallers.{same_ok}
 use Rattle.ffs_lookup.specs.declared.places.Slot.{Slot}
-use Rattle.ffs_lib.specs.Replacing.{Replaced, ReplacedEntry, StopsReplacing, StopsTurning, replace_in}
-use Rattle.ffs_lib.specs.Steps.{StopsRemoving, StopsUnnaming, Unnamed}
+use Rattle.ffs_lib.specs.Replacing.{NamesStand, Replaced, ReplacedEntry, StopsReplacing, StopsTurning, replace_in}
+use Rattle.ffs_lib.specs.Steps.{StopsUnnaming, Unnamed}
 use Rattle.ffs_lib.specs.Volumes.{edits_of}
 use Rattle.ffs_lib.proofs.Laws.{answers_ok, match_then, removed, staged, stops_removing}
-use Rattle.ffs_lib.proofs.Replaced.{another_done, another_stops, first_removable, itself_done, other_place, same_done, same_stops}
+use Rattle.ffs_lib.proofs.Replaced.{another_done, at_one_place, another_stops, first_removable, itself_done, other_place, same_done, same_stops}
 use Rattle.ffs_lib.proofs.Replacing.{can_replace}
+use Rattle.ffs_lib.proofs.Tops.{never}
 use Rattle.ffs_lib.proofs.volume.Volume.replace.Goals as goal
 
 pub returns-then-is_same_place-clause-answers : goal.returns-then-is_same_place-clause-answers
@@ -65,3 +67,24 @@ returns-clause-answers g c =
     answers_ok (replace_in u fs.number d c.args.name.now other c.args.other_name.now) (λ entries _. Replaced old new fs.number d entries.0 other entries.1) (λ entries fault. StopsReplacing T fs.number old new d entries.0 entries.1 fault) c.name_over.result (from, to) old new exact
     (match_then (λ _. ReplacedEntry u (latest new.lives) fs.number d from other to) (λ _. Replaced old new fs.number d from other to) (StopsTurning T fs.number old new d from to) (StopsReplacing T fs.number old new d from to) c.name_over.result
     (λ _ y. another_done old new fs.number d other from to apart y) (λ fault y. another_stops T fs.number old new d from to apart fault y) c.name_over.ensures.leaves.1)
+
+pub returns-in_err-from-clause-stands : goal.returns-in_err-from-clause-stands
+returns-in_err-from-clause-stands g c = λ from to is apart. absurd (never (from, to) _ (is ∙ sym (c.in_err-from.ensures.exact c.requires.library)))
+
+pub returns-then-is_same_place-clause-stands : goal.returns-then-is_same_place-clause-stands
+returns-then-is_same_place-clause-stands g c = λ from to is apart.
+    let old = g.S.Store.state_of c.args.store.now in
+    let pair : (c.in_ok-from.from, c.in_ok-from.to) ≡ (from, to) = same_ok (c.in_ok-from.from, c.in_ok-from.to) (from, to) (c.in_ok-from.ensures.exact c.requires.library ∙ sym is) in
+    absurd (apart (subst (λ (p : Slot × Slot). p.0.inode ≡ p.1.inode) pair (at_one_place old c.args.self.now.fs.number c.in_ok-from.from c.in_ok-from.to c.in_ok-from.ensures.first c.in_ok-from.ensures.second (sym c.if-is_same_place.ensures))))
+
+pub returns-then-from-to-clause-stands : goal.returns-then-from-to-clause-stands
+returns-then-from-to-clause-stands g c = λ from to is apart.
+    let old = g.S.Store.state_of c.args.store.now in
+    let pair : (c.in_ok-from.from, c.in_ok-from.to) ≡ (from, to) = same_ok (c.in_ok-from.from, c.in_ok-from.to) (from, to) (c.in_ok-from.ensures.exact c.requires.library ∙ sym is) in
+    absurd (apart (subst (λ (p : Slot × Slot). p.0.inode ≡ p.1.inode) pair c.if-from-to.true))
+
+pub returns-clause-stands : goal.returns-clause-stands
+returns-clause-stands g c = λ from to is apart.
+    let old = g.S.Store.state_of c.args.store.now in
+    let pair : (c.in_ok-from.from, c.in_ok-from.to) ≡ (from, to) = same_ok (c.in_ok-from.from, c.in_ok-from.to) (from, to) (c.in_ok-from.ensures.exact c.requires.library ∙ sym is) in
+    subst (λ (p : Slot × Slot). NamesStand old (g.S.Store.state_of c.name_over.new.store) p.0 p.1) pair c.name_over.ensures.stands
