@@ -14,7 +14,7 @@ use Rattle.xn_model.specs.Lists.{put}
 use Rattle.ffs_model.specs.Edits.{EntryMade, HoldsOnly, OneEntry, InodeMade, LinkAdded, LinkTaken, InodeFreed, InodeKept}
 use Rattle.ffs_model.specs.Volumes.{Reads, VolumeKeeps, CanName, CanUnlink, with_edit}
 use Rattle.ffs_model.specs.Library.{library_layout, IsLibrary, half_at, inode_at, inode_blocks, inode_links, inode_mode, pointer_word, with_inode, zeros}
-use Rattle.ffs_model.proofs.ForCallers.{below_written, data_owned, directory_grown, entry_cleared, entry_made, entry_written, file_written, indirect_owned, indirect_reached, inode_forgets, inode_freed, inode_kept, inode_made, inodes_set, library_reads, link_added, link_taken, links_read, mode_read, other_spare, other_written, pointer_set, pointer_written, proposed_others, under_direct, word_part, zeros_direct, zeros_mode, zeros_pointer}
+use Rattle.ffs_model.proofs.ForCallers.{below_written, data_owned, directory_grown, entry_cleared, entry_made, entry_turned, entry_written, file_written, freed_waits, indirect_owned, indirect_reached, inode_forgets, inode_freed, inode_kept, inode_made, inodes_set, library_reads, link_added, link_taken, links_read, mode_read, number_written, other_spare, other_waits, other_written, pointer_set, pointer_written, proposed_others, slot_waits, taken_waits, under_direct, word_part, zeros_direct, zeros_mode, zeros_pointer}
 use Rattle.ffs_model.proofs.Rewritten as rewritten
 use Rattle.ffs_lookup.specs.declared.places.Found.{Found}
 use Rattle.ffs_lookup.specs.declared.places.Slot.{Slot}
@@ -71,6 +71,17 @@ module _ (T : Types) (lib : IsLibrary T) (fs : ℕ) (few : fs < 32) (array : ℕ
         inode_freed T library_layout reads fs few array state new v block edit entry done n at.some at.inodes e can
         (subst (λ p. library_layout.links m p ≡ 1) at.at (links_read m place at.few ∙ one)) x comes
 
+    -- what may be taken of another inode may be after these two
+    pub less_waits : inode_mode bytes ≡ inode_mode old → suc (inode_links bytes) ≡ inode_links old → inode_blocks bytes ≡ inode_blocks old → (i e : ℕ) → i ≢ 0 → i ≢ n → CanUnlink library_layout state.lives fs i e → CanUnlink library_layout new.lives fs i e
+    less_waits mode links blocks i e some other can =
+        let x = subst (λ p. LinkTaken library_layout m (with_inode m place bytes) p) at.at (rewritten.taken m at.long place at.few bytes whole mode links blocks) in
+        taken_waits T library_layout reads fs few array state new v block edit entry done n at.some at.inodes x i e some other can
+
+    pub gone_waits : inode_mode bytes ≡ 0 → inode_blocks bytes ≡ [] → (i e : ℕ) → i ≢ 0 → i ≢ n → CanUnlink library_layout state.lives fs i e → CanUnlink library_layout new.lives fs i e
+    gone_waits mode none i e some other can =
+        let x = subst (λ p. InodeFreed library_layout m (with_inode m place bytes) p) at.at (rewritten.freed m at.long place at.few bytes whole mode none) in
+        freed_waits T library_layout reads fs few array state new v block edit entry done n at.some at.inodes x i e some other can
+
     pub kept : inode_mode bytes ≡ inode_mode old → inode_links bytes ≡ inode_links old →
         ((c : ℕ) → Contains (inode_blocks bytes) c → Contains (inode_blocks old) c ⊎ ((inode_mode bytes ≢ 2) × Contains adds (c, 2))) → VolumeKeeps T library_layout fs array new
     kept mode links blocks =
@@ -102,6 +113,25 @@ module _ (T : Types) (lib : IsLibrary T) (fs : ℕ) (few : fs < 32) (array : ℕ
       (under_direct T library_layout reads (latest state.lives) fs named.index named.block named.place slot.block named.inodes named.has) (λ z. omega arith) (λ z. omega arith) slot.place slot.inode is.some
       (entry_written (latest state.lives slot.block) is.long slot.place is.few (replicate 32 0) refl) named
 
+  pub cleared_waits : (slot : Slot) → IsSlot state fs slot → (after : Option ℕ) (entry : ℕ) → propose_of T state fs slot.block (edit_at (32 * slot.place) (replicate 32 0) [] [] after) ≡ Ok (entry, new) →
+      (i e : ℕ) → i ≢ 0 → CanUnlink library_layout state.lives fs i e → CanUnlink library_layout new.lives fs i e
+  unfolding half_at
+  cleared_waits slot is after entry done i e some can =
+      let named = is.names in
+      slot_waits T library_layout reads fs few array state new v slot.block (edit_at (32 * slot.place) (replicate 32 0) [] [] after) entry done 2
+      (under_direct T library_layout reads (latest state.lives) fs named.index named.block named.place slot.block named.inodes named.has) (λ z. omega arith) (λ z. omega arith) slot.place 0 i e some some
+      (entry_written (latest state.lives slot.block) is.long slot.place is.few (replicate 32 0) refl) can
+
+  -- an entry goes to another inode
+  pub turned : (slot : Slot) → IsSlot state fs slot → (bytes : List ℕ) → length bytes ≡ 2 → (n e entry : ℕ) → half_at bytes 0 ≡ n → n ≢ 0 → slot.inode ≢ n → CanName library_layout state.lives fs n e →
+      propose_of T state fs slot.block (edit_at (32 * slot.place) bytes [] [] (Some e)) ≡ Ok (entry, new) → VolumeKeeps T library_layout fs array new × CanUnlink library_layout new.lives fs slot.inode entry
+  turned slot is bytes whole n e entry half some apart can done =
+      let named = is.names in
+      entry_turned T library_layout reads fs few array state new v slot.block (edit_at (32 * slot.place) bytes [] [] (Some e)) entry done 2
+      (under_direct T library_layout reads (latest state.lives) fs named.index named.block named.place slot.block named.inodes named.has) (λ z. omega arith) (λ z. omega arith) slot.place n slot.inode e some is.some apart
+      (subst (λ x. EntryMade library_layout (latest state.lives slot.block) (put (latest state.lives slot.block) (32 * slot.place) bytes) slot.place x) half
+      (number_written (latest state.lives slot.block) is.long slot.place is.few bytes (omega (arith, whole)) (omega (arith, whole)))) named can refl
+
   -- a block of inodes is attached
   pub attached : (root index block first entry : ℕ) → IsRoot (latest state.lives) fs root → IsEmptyPointer state fs index → block < 2 ^ 32 → IsInodes library_layout (latest state.lives) fs 0 first →
       HoldsOnly state.lives block zeros → latest state.lives block ≡ zeros → block ≢ 0 →
@@ -131,6 +161,9 @@ module _ (T : Types) (lib : IsLibrary T) (fs : ℕ) (few : fs < 32) (array : ℕ
     other_written T library_layout reads fs few array state v block new edit entry done 5 (λ z. omega arith) (λ z. omega arith) (λ z. omega arith) at,
     other_spare T library_layout reads fs few array state v block new edit entry done 5 n e (λ z. omega arith) (λ z. omega arith) (λ z. omega arith) at some can comes,
   )
+
+  pub dropped_waits : (block i e entry : ℕ) (edit : Edit) → Under T (latest state.lives) fs block 5 → i ≢ 0 → CanUnlink library_layout state.lives fs i e → propose_of T state fs block edit ≡ Ok (entry, new) → CanUnlink library_layout new.lives fs i e
+  dropped_waits block i e entry edit at some can done = other_waits T library_layout reads fs few array state v block new edit entry done 5 i e (λ z. omega arith) (λ z. omega arith) (λ z. omega arith) at some can
 
   -- a block of data of a file is written: one that its inode points to, or one that its block of pointers does
   pub file_data : (n block entry : ℕ) (found : Found) (edit : Edit) → IsFile state fs n found → Contains (library_layout.direct (latest state.lives found.block) found.place) block →

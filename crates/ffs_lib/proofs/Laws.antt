@@ -324,6 +324,17 @@ unlisted u v fs d slot own is has c = record {
   others = λ x ne. c.others d own is has x ne;
 }
 
+-- an inode that was as before lost a link
+pub took_on : (u v w : ℕ → List ℕ) (fs n : ℕ) (inode : List ℕ) → SameInode u v fs n → Ok inode ≡ inode_in u fs n → TookLink v w fs n inode → TookLink u w fs n inode
+took_on u v w fs n inode same i k = record {
+  kept = λ lt.
+      let y = k.kept lt in
+      let x = same.1 inode i in
+      (record { after = y.0.after; found = y.0.found; mode = y.0.mode; size = y.0.size; entries = y.0.entries ∙ x.0; each = λ at low. y.0.each at low ∙ x.1 at low; direct = y.0.direct; room = y.0.room ∙ room_by u v inode inode refl x.1 }, y.1);
+  freed = k.freed;
+  zeroed = k.zeroed;
+}
+
 module _ (u v : ℕ → List ℕ) (fs d : ℕ) (slot : Slot) (r : Removable u fs d slot) (c : Clearing u v fs slot) where
   pub removed : (w : ℕ → List ℕ) → TakesLink v w fs slot.inode → Removed u w fs d slot
   removed w t =
@@ -337,17 +348,7 @@ module _ (u v : ℕ → List ℕ) (fs d : ℕ) (slot : Slot) (r : Removable u fs
             let at : Ok inode ≡ inode_in v fs d = (directory_from u fs d inode i).0 ∙ sym (c.inodes d) in
             (i ∙ (sym (directory_same u v fs d (c.inodes d)) ∙ sym (directory_same v w fs d mine.0)), (mine.1 inode at).0 ∙ c.entries inode);
         others = λ x ne ne'. same_on u v w fs x (lost.others x ne) (t.others x ne');
-        unlinked = λ inode i. took_on inode same i w (t.took inode (i ∙ sym (c.inodes n)));
-      }
-    where
-      took_on : (inode : List ℕ) → SameInode u v fs slot.inode → Ok inode ≡ inode_in u fs slot.inode → (w : ℕ → List ℕ) → TookLink v w fs slot.inode inode → TookLink u w fs slot.inode inode
-      took_on inode same i w k = record {
-        kept = λ lt.
-            let y = k.kept lt in
-            let x = same.1 inode i in
-            (record { after = y.0.after; found = y.0.found; mode = y.0.mode; size = y.0.size; entries = y.0.entries ∙ x.0; each = λ at low. y.0.each at low ∙ x.1 at low; direct = y.0.direct; room = y.0.room ∙ room_by u v inode inode refl x.1 }, y.1);
-        freed = k.freed;
-        zeroed = k.zeroed;
+        unlinked = λ inode i. took_on u v w fs n inode same i (t.took inode (i ∙ sym (c.inodes n)));
       }
 
 -- where an inode has more links than one, it loses but one of them

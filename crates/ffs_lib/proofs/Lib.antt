@@ -36,3 +36,8 @@ pub mod Singles
 pub mod NameCounts
 pub mod Opening
 pub mod Reclaiming
+pub mod Turning
+pub mod Replacing
+pub mod TurnLaws
+pub mod Replaced
+pub mod PairLaws

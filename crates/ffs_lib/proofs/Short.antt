@@ -1,5 +1,5 @@
 -- Edits of a step that are refused for want of something alone.
-use Rattle.std.proofs.Common.{◌≡◌, ◌≢◌, ℕ, ◌*◌, ◌^◌, ◌<◌, true, ◌&&◌, List, [], ◌∷◌, length, get_or, Option, Some, Result, Ok, Err, refl, sym, ◌∙◌, ap, arith, subst, eq-eqb}
+use Rattle.std.proofs.Common.{◌≡◌, ◌≢◌, ℕ, ◌*◌, ◌^◌, ◌<◌, ◌≤◌, true, ◌&&◌, List, [], ◌∷◌, length, get_or, Option, Some, Result, Ok, Err, refl, sym, ◌∙◌, ap, arith, subst, eq-eqb}
 use Rattle.std.specs.Prelude.{IsErrAnd, slice_set, replicate, ◌==◌}
 use Rattle.std.specs.Int.{w32, to_le_bytes}
 use Rattle.std.proofs.lemmas.Bool.{and_from}
@@ -94,6 +94,10 @@ module _ (T : Types) (state : StoreState) (after : Option ℕ) (can : CanEdit T 
   -- an entry of a directory is written
   pub entry_short : (block place : ℕ) → Under T v fs block 2 → length (v block) ≡ 512 → place < 16 → (bytes : List ℕ) → length bytes ≡ 32 → ShortEdit T state fs block (edit_at (32 * place) bytes [] [] after)
   entry_short block place at long low bytes whole = data_short T can.library state can.consistent fs few block long after can.given at (32 * place) bytes (omega (arith, whole)) (omega (arith, whole, low))
+
+  -- or a part of it
+  pub part_short : (block place : ℕ) → Under T v fs block 2 → length (v block) ≡ 512 → place < 16 → (bytes : List ℕ) → 0 < length bytes → length bytes ≤ 32 → ShortEdit T state fs block (edit_at (32 * place) bytes [] [] after)
+  part_short block place at long low bytes some part = data_short T can.library state can.consistent fs few block long after can.given at (32 * place) bytes some (omega (arith, part, low))
 
   pub slot_short : (entry : Slot) → IsSlot state fs entry → (bytes : List ℕ) → length bytes ≡ 32 → ShortEdit T state fs entry.block (edit_at (32 * entry.place) bytes [] [] after)
   slot_short entry at bytes whole =

@@ -10,9 +10,10 @@ use Rattle.xn_model.specs.Root.{word_at}
 use Rattle.ffs_format.specs.Entries.{is_name}
 use Rattle.ffs_lookup.specs.declared.fault.FfsFault.TheVariants.{BadName, Exists}
 use Rattle.ffs_lookup.specs.declared.places.Slot.{Slot}
-use Rattle.ffs_lookup.specs.Newest.{and_then, create_in, directory_in, entries_of, first_named, entries_in, if_new, if_room, inode_in, listing, name_at, rename_in, root_in}
-use Rattle.ffs_lookup.proofs.ForCallers.{same_ok}
+use Rattle.ffs_lookup.specs.Newest.{and_then, create_in, directory_in, entries_of, file_in, first_named, entries_in, if_new, if_room, inode_in, listing, name_at, rename_in, root_in}
+use Rattle.ffs_lookup.proofs.ForCallers.{not_both, same_ok}
 use Rattle.ffs_lib.specs.Once.{Lacks, NamesOnce, Once}
+use Rattle.ffs_lib.specs.Replacing.{ReplacedEntry, replace_in, turned_entry}
 use Rattle.ffs_lib.specs.Results.{MadeEntry, MovedEntry, SameInode, new_inode}
 use Rattle.ffs_lib.specs.Steps.{Removed}
 use Rattle.ffs_lib.proofs.Entering.{directory_from, directory_same}
@@ -20,7 +21,10 @@ use Rattle.ffs_lib.proofs.Firsts.{find_listed, none_mapped}
 use Rattle.ffs_lib.proofs.Moving.{directory_to}
 use Rattle.ffs_lib.proofs.Owners.{not_first, passed}
 use Rattle.ffs_lib.proofs.Renaming.{can_move, none_from, then_first}
+use Rattle.ffs_lib.proofs.Replaced.{same_name}
+use Rattle.ffs_lib.proofs.Replacing.{can_replace}
 use Rattle.ffs_lib.proofs.Tops.{never}
+use Rattle.ffs_lib.proofs.Writing.{file_from}
 
 abbrev Entry : Type 0
 Entry = Slot × List ℕ
@@ -168,3 +172,52 @@ module _ (u w : ℕ → List ℕ) (fs : ℕ) (once : NamesOnce u fs) where
             let mode : inode_mode own ≡ 2 = sym k.mode ∙ (ap inode_mode (sym same) ∙ (directory_from w fs x after i).1) in
             subst (λ (a : List ℕ). Once (listing w a)) (sym same) (subst Once (sym k.entries) (once entry.inode own (directory_to u fs entry.inode own is mode)))
       ]
+
+  -- a list whose names stay
+  lacks_same : (f : Entry → Entry) → ((p : Entry) → (f p).1 ≡ p.1) → (name : List ℕ) (ps : List Entry) → Lacks name ps → Lacks name (map f ps)
+  lacks_same f same name [] l = l
+  lacks_same f same name (p ∷ ps) l = (λ z. l.0 (sym (same p) ∙ z), lacks_same f same name ps l.1)
+
+  once_same : (f : Entry → Entry) → ((p : Entry) → (f p).1 ≡ p.1) → (ps : List Entry) → Once ps → Once (map f ps)
+  once_same f same [] o = o
+  once_same f same (p ∷ ps) o = (subst (λ name. Lacks name (map f ps)) (sym (same p)) (lacks_same f same p.1 ps o.0), once_same f same ps o.1)
+
+  pub replaced_once : (d : ℕ) (name : List ℕ) (other : ℕ) (other_name : List ℕ) (from to : Slot) → Ok (from, to) ≡ replace_in u fs d name other other_name → ReplacedEntry u w fs d from other to → NamesOnce w fs
+  replaced_once d name other other_name from to e r x after i =
+      let c = can_replace u fs d name other other_name from to e in
+      elim (cases_eq x from.inode) [
+        | inl z ↦
+            let own = file_from u fs from.inode c.own c.is_own in
+            let k = (r.moved c.own own).0 in
+            absurd (no_directory from.inode c.own c.is_own (sym k.mode ∙ is_directory x after i from.inode z k.after k.found))
+        | inr away ↦ elim (cases_eq x to.inode) [
+          | inl z ↦
+              let own = file_from u fs to.inode c.former c.is_former in
+              let k = r.former c.former own in
+              elim (cases_lt 1 (inode_links c.former)) [
+                | inl lt ↦ let a = (k.kept lt).0 in absurd (no_directory to.inode c.former c.is_former (sym a.mode ∙ is_directory x after i to.inode z a.after a.found))
+                | inr le ↦ absurd (never after _ ((directory_from w fs x after i).0 ∙ (ap (inode_in w fs) z ∙ k.freed le)))
+              ]
+          | inr away' ↦ elim (cases_eq x d) [
+            | inl z ↦ listed x after i c.home (c.is_home ∙ ap (directory_in u fs) (sym z))
+            | inr ne ↦ elim (cases_eq x other) [
+              | inl z ↦ listed x after i c.target (c.is_target ∙ ap (directory_in u fs) (sym z))
+              | inr ne' ↦ same_once x after i (r.others x ne ne' away away')
+            ]
+          ]
+        ]
+      ]
+    where
+      no_directory : (n : ℕ) (own : List ℕ) → Ok own ≡ file_in u fs n → inode_mode own ≡ 2 → ⊥
+      no_directory n own is two = not_both u fs n own own (directory_to u fs n own (file_from u fs n own is) two) is
+
+      is_directory : (x : ℕ) (after : List ℕ) → Ok after ≡ directory_in w fs x → (n : ℕ) → x ≡ n → (now : List ℕ) → Ok now ≡ inode_in w fs n → inode_mode now ≡ 2
+      is_directory x after i n z now found =
+          let at = directory_from w fs x after i in
+          ap inode_mode (same_ok now after (found ∙ (ap (inode_in w fs) (sym z) ∙ sym at.0))) ∙ at.1
+
+      listed : (x : ℕ) (after : List ℕ) → Ok after ≡ directory_in w fs x → (inode : List ℕ) → Ok inode ≡ directory_in u fs x → Once (listing w after)
+      listed x after i inode is =
+          let l = r.lists x inode is in
+          subst (λ (a : List ℕ). Once (listing w a)) (same_ok inode after (l.0 ∙ sym i))
+          (subst Once (sym l.1) (once_fewer _ _ (once_same (turned_entry to from.inode) (same_name to from.inode) (listing u inode) (once x inode is))))

@@ -15,7 +15,7 @@ use Rattle.ffs_lib.proofs.Entering.{directory_from, directory_same}
 use Rattle.ffs_lib.proofs.Moving.{directory_to}
 use Rattle.ffs_lib.proofs.Firsts.{find_listed, find_skip, named_among, same_bytes}
 
-named_to : (content : ℕ → List ℕ) (fs d : ℕ) (name inode : List ℕ) (entry : Slot) → Ok inode ≡ directory_in content fs d → IsTrue (is_name name) → Some entry ≡ first_named content inode name → Ok entry ≡ named_in content fs d name
+pub named_to : (content : ℕ → List ℕ) (fs d : ℕ) (name inode : List ℕ) (entry : Slot) → Ok inode ≡ directory_in content fs d → IsTrue (is_name name) → Some entry ≡ first_named content inode name → Ok entry ≡ named_in content fs d name
 unfolding named_in
 named_to content fs d name inode entry e good first =
     ap (λ (o : Option Slot). ok_or o NoEntry) first

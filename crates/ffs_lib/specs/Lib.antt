@@ -6,3 +6,4 @@ pub mod Steps
 pub mod Once
 pub mod Writes
 pub mod Reclaiming
+pub mod Replacing

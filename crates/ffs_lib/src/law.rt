@@ -7,10 +7,11 @@ ghost use Rattle.ffs_lookup.specs.Counts.{over_named};
 ghost use Rattle.ffs_lookup.specs.declared.places.Slot.{Slot};
 ghost use Rattle.ffs_lookup.specs.Newest.{create_in, directory_in, inode_in, rename_in};
 ghost use Rattle.ffs_lib.specs.Once.{NamesOnce};
+ghost use Rattle.ffs_lib.specs.Replacing.{ReplacedEntry, replace_in};
 ghost use Rattle.ffs_lib.specs.Results.{MadeEntry, MovedEntry};
 ghost use Rattle.ffs_lib.specs.Steps.{Removed};
 
-/// What `create`, `mkdir`, `unlink`, `rmdir` and `rename` leave keeps names single in the newest bytes. A crash may end that: of two edits in
+/// What `create`, `mkdir`, `unlink`, `rmdir`, `rename` and `replace` leave keeps names single in the newest bytes. A crash may end that: of two edits in
 /// two blocks of a directory the later may be the one that is on the disk.
 pub fn names_stand_once()
     ensures made { (old new : ℕ → List ℕ) (fs d : ℕ) (name inode : List ℕ) (mode n : ℕ) → Ok inode ≡ create_in old fs d name →
@@ -19,6 +20,8 @@ pub fn names_stand_once()
         Ok named ≡ inode_in old fs entry.inode → Removed old new fs d entry → NamesOnce old fs → NamesOnce new fs }
     ensures moved { (old new : ℕ → List ℕ) (fs d : ℕ) (name : List ℕ) (other : ℕ) (new_name : List ℕ) (entry : Slot) →
         Ok entry ≡ rename_in old fs d name other new_name → MovedEntry old new fs d entry other new_name → NamesOnce old fs → NamesOnce new fs }
+    ensures replaced { (old new : ℕ → List ℕ) (fs d : ℕ) (name : List ℕ) (other : ℕ) (other_name : List ℕ) (from to : Slot) →
+        Ok (from, to) ≡ replace_in old fs d name other other_name → ReplacedEntry old new fs d from other to → NamesOnce old fs → NamesOnce new fs }
 {}
 
 /// Where no inode has more names than links, in any contents, the names of the file system are good: each inode that is named is in

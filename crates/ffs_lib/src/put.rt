@@ -1,6 +1,6 @@
 // The one edit of a volume: bytes at a place of a block, with the blocks that it adds and drops, after another edit.
 
-ghost use Rattle.std.specs.Prelude.{◌≡◌, ◌≢◌, ◌<◌, ◌*◌, IfOk, IsTrue, ℕ, List, [], ◌∷◌, Ok, Option, Some, length, replicate, true};
+ghost use Rattle.std.specs.Prelude.{◌≡◌, ◌≢◌, ◌<◌, ◌*◌, IfOk, IsTrue, OnOk, ℕ, List, [], ◌∷◌, Ok, Option, Some, length, replicate, true};
 ghost use Rattle.ffs_lib.specs.Results.{new_inode};
 ghost use Rattle.ffs_format.specs.Entries.{is_name};
 ghost use Rattle.ffs_format.specs.Fields.{direct_in, fields_of};
@@ -9,6 +9,7 @@ ghost use Rattle.ffs_model.specs.Library.{inode_links};
 ghost use Rattle.xn_model.specs.Types.{Types};
 ghost use Rattle.ffs_model.specs.Cuts.{Under};
 ghost use Rattle.ffs_lib.specs.Edits.{edit_at};
+ghost use Rattle.ffs_lib.specs.Replacing.{KeepsPairs};
 ghost use Rattle.ffs_lib.specs.Steps.{AddsLink, Attached, Dropped, Ends, Enters, IsEntry, MayLose, MayName, Proposed, Stage, StopsAtHome, StopsEntering, StopsTaking, TakesLink, newest};
 
 use crate::steps::{DATA, block_with, blocks_in, blocks_of, count_blocks, forgotten};
@@ -162,6 +163,11 @@ pub fn take_link<S: Store>(
         MayLose (S.state_of store.old) fs.number number after → Ends T fs.number array (S.state_of store.new) result
         (λ _. TakesLink (newest (S.state_of store.old)) (newest (S.state_of store.new)) fs.number number)
         (StopsTaking T fs.number (S.state_of store.old) (S.state_of store.new) number) }
+    ensures waits { (T : Types) (array : ℕ → Option ℕ) (n e : ℕ) → S.types_of store.old ≡ T → Stage T fs.number array (S.state_of store.old) →
+        MayLose (S.state_of store.old) fs.number number after → n ≢ number → MayLose (S.state_of store.old) fs.number n e →
+        OnOk result (MayLose (S.state_of store.new) fs.number n e) }
+    ensures pairs { (T : Types) (array : ℕ → Option ℕ) → S.types_of store.old ≡ T → Stage T fs.number array (S.state_of store.old) →
+        MayLose (S.state_of store.old) fs.number number after → KeepsPairs fs.number (S.state_of store.old) (S.state_of store.new) }
 {
     let Found {
         block,
@@ -303,6 +309,8 @@ pub fn add_link<S: Store>(
         Ends T fs.number array (S.state_of store.new) result
         (λ e. MayName (S.state_of store.new) fs.number number e × AddsLink (newest (S.state_of store.old)) (newest (S.state_of store.new)) fs.number number)
         (StopsAtHome T fs.number (S.state_of store.old) (S.state_of store.new) number) }
+    ensures pairs { (T : Types) (array : ℕ → Option ℕ) → S.types_of store.old ≡ T → Stage T fs.number array (S.state_of store.old) →
+        KeepsPairs fs.number (S.state_of store.old) (S.state_of store.new) }
 {
     let Found {
         block,

@@ -6,7 +6,7 @@ ghost use Rattle.ffs_format.specs.Entries.{is_name};
 ghost use Rattle.ffs_model.specs.Cuts.{latest};
 ghost use Rattle.ffs_model.specs.Library.{library_layout, inode_mode, IsLibrary, inode_blocks, inode_links, zeros};
 ghost use Rattle.xn_model.specs.Lists.{put};
-ghost use Rattle.ffs_lookup.specs.Newest.{IsLowest, RefusesAs, TakesEntry, create_in, directory_in, first_named, has_empty_pointer, has_inode, has_room, mapped, root_in, file_in, listing, named_in, names_at, names_in, read_count, read_into, rename_in, rmdir_in, unlink_in, without_entry, inode_in};
+ghost use Rattle.ffs_lookup.specs.Newest.{IsLowest, RefusesAs, TakesEntry, create_in, directory_in, first_named, has_empty_pointer, has_inode, has_room, is_at, mapped, root_in, file_in, listing, named_in, names_at, names_in, read_count, read_into, rename_in, rmdir_in, unlink_in, without_entry, inode_in};
 ghost use Rattle.ffs_lookup.specs.Counts.{make_from, open_in};
 ghost use Rattle.ffs_lookup.specs.Repairs.{idle_in, repair_at, repair_in};
 ghost use Rattle.ffs_lib.specs.Reclaiming.{Reclaims};
@@ -15,12 +15,17 @@ ghost use Rattle.ffs_lookup.specs.declared.places.Slot.{Slot};
 ghost use Rattle.ffs_model.specs.Volumes.{VolumeKeeps, no_edits};
 ghost use Rattle.ffs_lookup.specs.Places.{IsDirectory, IsFree, IsSlot};
 ghost use Rattle.ffs_lib.specs.Outcomes.{HasFreePointer, OnlyShort};
+ghost use Rattle.ffs_lib.specs.Replacing.{AreDirect, pair_of};
+ghost use Rattle.ffs_model.specs.Standing.{StayNamed};
+ghost use Rattle.xn_model.specs.Lives.{Lives};
 ghost use Rattle.ffs_lib.specs.Writes.{Writes, WritesSome};
-ghost use Rattle.ffs_lib.specs.Steps.{Creates, Ends, Leaves, NamesAgain, Renames, Stage, StopsGrowing, StopsNaming, StopsNew, StopsUnnaming, TakesFree, Undoes, Unlinks, Unmakes, Unnamed, newest};
+ghost use Rattle.ffs_lib.specs.Steps.{Creates, Ends, Leaves, MayLose, NamesAgain, Renames, Stage, StopsGrowing, StopsNaming, StopsNew, StopsUnnaming, TakesFree, Undoes, Unlinks, Unmakes, Unnamed, newest};
 ghost use Rattle.xn_model.specs.Types.{Types};
 ghost use Rattle.xn_model.specs.declared.refusal.Refusal.{Refusal};
 ghost use Rattle.xn_model.specs.Calls.{was_given};
 ghost use Rattle.ffs_lib.specs.Results.{new_inode, MadeEntry, MadeVolume, MovedEntry, OnlyChanges, OthersSame, TookLink};
+
+mod replace;
 
 use crate::data::{
     BLOCK_LEN, MOST_BYTES, look_up_end, none_taken, raise_size, read_part, write_padded,
@@ -572,6 +577,13 @@ impl Volume {
             Ends T self.now.fs.number array (S.state_of store.new) result
             (λ _. Unnamed (newest (S.state_of store.old)) (newest (S.state_of store.new)) self.now.fs.number slot)
             (StopsUnnaming T self.now.fs.number (S.state_of store.old) (S.state_of store.new) slot) }
+        ensures waits { (T : Types) (array : ℕ → Option ℕ) (n e : ℕ) → S.types_of store.old ≡ T → Stage T self.now.fs.number array (S.state_of store.old) →
+            IsTrue (was_given (S.state_of store.old) after) → n ≢ slot.inode → MayLose (S.state_of store.old) self.now.fs.number n e →
+            OnOk result (MayLose (S.state_of store.new) self.now.fs.number n e) }
+        ensures pairs { (T : Types) (array : ℕ → Option ℕ) (first : Lives) (to : Slot) (e : ℕ) → S.types_of store.old ≡ T →
+            Stage T self.now.fs.number array (S.state_of store.old) → after ≡ Some e → AreDirect (newest (S.state_of store.old)) self.now.fs.number (pair_of slot to) →
+            is_at to slot ≡ false → StayNamed library_layout first (S.state_of store.old).lives (pair_of slot to) after →
+            StayNamed library_layout first (S.state_of store.new).lives (pair_of slot to) after }
     {
         let at = ENTRY_LEN * slot.place;
         let cleared = put(

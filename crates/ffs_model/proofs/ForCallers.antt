@@ -7,6 +7,7 @@ pub use Rattle.ffs_model.proofs.Newest.{data_owned, indirect_owned, indirect_rea
 pub use Rattle.ffs_model.proofs.Found.{read_latest, root_found}
 pub use Rattle.ffs_model.proofs.Volumes.{latest_reached, volume_from}
 pub use Rattle.ffs_model.proofs.Slots.{one_more}
+pub use Rattle.ffs_model.proofs.Standing.{stands_cleared, stands_first, stands_other, stands_turned}
 -- the layout
 pub use Rattle.ffs_model.proofs.Library.{is_not_empty, library_reads, map_at, pointed_at, pointed_from}
 pub use Rattle.ffs_model.proofs.Patches.{blocks_read, bytes_apart, bytes_within, entry_written, half_apart, half_within, links_read, mode_read, number_written, pointer_written, word_apart, word_part, word_within}

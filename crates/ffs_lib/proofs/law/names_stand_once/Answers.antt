@@ -1,4 +1,4 @@
-use Rattle.ffs_lib.proofs.Singles.{made_once, moved_once, removed_once}
+use Rattle.ffs_lib.proofs.Singles.{made_once, moved_once, removed_once, replaced_once}
 use Rattle.ffs_lib.proofs.law.names_stand_once.Goals as goal
 
 pub returns-clause-made : goal.returns-clause-made
@@ -9,3 +9,6 @@ returns-clause-removed c = λ old new fs d own named entry is at r once. removed
 
 pub returns-clause-moved : goal.returns-clause-moved
 returns-clause-moved c = λ old new fs d name other new_name entry e m once. moved_once old new fs once d name other new_name entry e m
+
+pub returns-clause-replaced : goal.returns-clause-replaced
+returns-clause-replaced c = λ old new fs d name other other_name from to e r once. replaced_once old new fs once d name other other_name from to e r

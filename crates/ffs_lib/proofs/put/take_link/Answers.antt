@@ -5,9 +5,11 @@ use Rattle.ffs_model.specs.Library.{IsLibrary, inode_links}
 use Rattle.ffs_lookup.proofs.ForCallers.{same_ok}
 use Rattle.ffs_lib.specs.Edits.{edit_at}
 use Rattle.ffs_lib.specs.Outcomes.{HasNoData}
-use Rattle.ffs_lib.specs.Steps.{ShortEdit, clearing}
+use Rattle.ffs_lib.specs.Steps.{MayLose, ShortEdit, clearing}
 use Rattle.ffs_lib.proofs.Laws.{at_pointers, data_taken, drops, drops_short, fails, finishes, free_short, frees, given_up, home_of, link_less, link_short, no_memory, nothing_taken, same_stage, short_told}
+use Rattle.ffs_lib.proofs.PairLaws.{direct_dropped, pairs_at_home, pairs_dropped, pairs_same, pairs_then}
 use Rattle.ffs_lib.proofs.Tops.{never}
+use Rattle.ffs_lib.proofs.TurnLaws.{data_waits, free_waits, link_waits, on_proposed}
 use Rattle.ffs_lib.proofs.put.take_link.Goals as goal
 
 pub returns-then-links-gt1-clause-ends : goal.returns-then-links-gt1-clause-ends
@@ -107,3 +109,108 @@ returns-clause-ends g c = λ T array e s m.
     let x = frees T fs array first k.stage n dropped again c.in_ok-found.ensures.found exact2 k.can k.given none bytes c.free.ensures new (ap inode_links same ∙ one) items entry done in
     (x.0, given_up (latest old.lives) (latest first.lives) (latest new.lives) fs n found.inode exact (omega (arith, one)) k.others x.1 x.2 x.3))
     (λ fault left told. data_taken T fs array old first new n found.inode dropped exact (omega (arith, links, few)) k left again.block again.place c.in_ok-found.ensures.found.stands fault (edit, told))
+
+pub returns-then-links-gt1-clause-waits : goal.returns-then-links-gt1-clause-waits
+returns-then-links-gt1-clause-waits g c = λ T array i a e s m other k.
+    let fs = c.args.fs.number in
+    let n = c.args.number in
+    let old = g.S.Store.state_of c.args.store.now in
+    let new = g.S.Store.state_of c.put_inode.new.store in
+    let found = c.in_ok-block.field-0 in
+    let exact = c.in_ok-block.ensures.exact (subst IsLibrary (sym e) s.library) in
+    let bytes = c.set_links.new.self in
+    let links = c.links-links.ensures in
+    let more = c.if-links-gt1.true in
+    on_proposed T fs found.block (edit_at (64 * found.place) bytes [] [] (Some c.args.after)) old new (MayLose new fs i a) c.put_inode.result (c.put_inode.ensures.put T e)
+    (link_waits T fs array old s i a k n c.args.after other found c.in_ok-block.ensures.found exact bytes c.put_inode.ensures.whole _ c.set_links.ensures.fields (omega (arith, links, more)) new)
+
+pub returns-clause-waits : goal.returns-clause-waits
+returns-clause-waits g c = λ T array i a e s m other k.
+    let fs = c.args.fs.number in
+    let n = c.args.number in
+    let old = g.S.Store.state_of c.args.store.now in
+    let first = g.S.Store.state_of c.drop_data.new.store in
+    let new = g.S.Store.state_of c.put_inode-2.new.store in
+    let found = c.in_ok-block.field-0 in
+    let is = c.in_ok-block.ensures.found in
+    let exact = c.in_ok-block.ensures.exact (subst IsLibrary (sym e) s.library) in
+    let points = sym c.indirect.ensures in
+    let block = c.indirect.result in
+    let under = at_pointers T fs array old s n c.args.after m.some found is exact block points m.can m.given in
+    let put = c.in_ok-dropped.ensures.put T e under in
+    let dropped = c.in_ok-dropped.dropped in
+    let d = drops T fs array old s n c.args.after m.some found is exact block points m.can m.given first dropped put in
+    let types = c.drop_data.ensures.types ∙ e in
+    let again = c.in_ok-found.found in
+    let exact2 = c.in_ok-found.ensures.exact (subst IsLibrary (sym types) s.library) in
+    let bytes = c.free.result in
+    let items = c.deref.result.now in
+    let later = data_waits T fs array old s i a k n c.args.after block other under first dropped found.inode put d in
+    on_proposed T fs again.block (edit_at (64 * again.place) bytes [] items (Some dropped)) first new (MayLose new fs i a) c.put_inode-2.result (c.put_inode-2.ensures.put T types)
+    (free_waits T fs array first d.stage i a later n dropped other again c.in_ok-found.ensures.found exact2 bytes c.free.ensures items new)
+
+pub returns-then-links-gt1-clause-pairs : goal.returns-then-links-gt1-clause-pairs
+returns-then-links-gt1-clause-pairs g c = λ T array e s m.
+    let found = c.in_ok-block.field-0 in
+    pairs_at_home T c.args.fs.number array (g.S.Store.state_of c.args.store.now) s (g.S.Store.state_of c.put_inode.new.store) c.args.number found.block found.place c.in_ok-block.ensures.found.stands
+    (edit_at (64 * found.place) c.set_links.new.self [] [] (Some c.args.after)) c.put_inode.result (c.put_inode.ensures.put T e)
+
+pub returns-in_err-dropped-clause-pairs : goal.returns-in_err-dropped-clause-pairs
+returns-in_err-dropped-clause-pairs g c = λ T array e s m.
+    let fs = c.args.fs.number in
+    let n = c.args.number in
+    let old = g.S.Store.state_of c.args.store.now in
+    let found = c.in_ok-block.field-0 in
+    let is = c.in_ok-block.ensures.found in
+    let exact = c.in_ok-block.ensures.exact (subst IsLibrary (sym e) s.library) in
+    let points = sym c.indirect.ensures in
+    let block = c.indirect.result in
+    let under = at_pointers T fs array old s n c.args.after m.some found is exact block points m.can m.given in
+    let p = c.in_err-dropped.ensures.put T e under in
+    pairs_same fs old (g.S.Store.state_of c.drop_data.new.store) p.0
+
+pub returns-in_err-found-clause-pairs : goal.returns-in_err-found-clause-pairs
+returns-in_err-found-clause-pairs g c = λ T array e s m.
+    let fs = c.args.fs.number in
+    let n = c.args.number in
+    let old = g.S.Store.state_of c.args.store.now in
+    let found = c.in_ok-block.field-0 in
+    let is = c.in_ok-block.ensures.found in
+    let exact = c.in_ok-block.ensures.exact (subst IsLibrary (sym e) s.library) in
+    let points = sym c.indirect.ensures in
+    let block = c.indirect.result in
+    let under = at_pointers T fs array old s n c.args.after m.some found is exact block points m.can m.given in
+    pairs_dropped T fs array old s (g.S.Store.state_of c.drop_data.new.store) block c.args.after under c.in_ok-dropped.dropped (c.in_ok-dropped.ensures.put T e under)
+
+pub returns-in_err-drops-clause-pairs : goal.returns-in_err-drops-clause-pairs
+returns-in_err-drops-clause-pairs g c = λ T array e s m.
+    let fs = c.args.fs.number in
+    let n = c.args.number in
+    let old = g.S.Store.state_of c.args.store.now in
+    let found = c.in_ok-block.field-0 in
+    let is = c.in_ok-block.ensures.found in
+    let exact = c.in_ok-block.ensures.exact (subst IsLibrary (sym e) s.library) in
+    let points = sym c.indirect.ensures in
+    let block = c.indirect.result in
+    let under = at_pointers T fs array old s n c.args.after m.some found is exact block points m.can m.given in
+    pairs_dropped T fs array old s (g.S.Store.state_of c.drop_data.new.store) block c.args.after under c.in_ok-dropped.dropped (c.in_ok-dropped.ensures.put T e under)
+
+pub returns-clause-pairs : goal.returns-clause-pairs
+returns-clause-pairs g c = λ T array e s m.
+    let fs = c.args.fs.number in
+    let n = c.args.number in
+    let old = g.S.Store.state_of c.args.store.now in
+    let found = c.in_ok-block.field-0 in
+    let is = c.in_ok-block.ensures.found in
+    let exact = c.in_ok-block.ensures.exact (subst IsLibrary (sym e) s.library) in
+    let points = sym c.indirect.ensures in
+    let block = c.indirect.result in
+    let under = at_pointers T fs array old s n c.args.after m.some found is exact block points m.can m.given in
+    let first = g.S.Store.state_of c.drop_data.new.store in
+    let dropped = c.in_ok-dropped.dropped in
+    let put = c.in_ok-dropped.ensures.put T e under in
+    let d = drops T fs array old s n c.args.after m.some found is exact block points m.can m.given first dropped put in
+    let again = c.in_ok-found.found in
+    pairs_then fs old first (g.S.Store.state_of c.put_inode-2.new.store) (direct_dropped T fs array old s first block c.args.after under dropped put) (pairs_dropped T fs array old s first block c.args.after under dropped put)
+    (pairs_at_home T fs array first d.stage (g.S.Store.state_of c.put_inode-2.new.store) n again.block again.place c.in_ok-found.ensures.found.stands (edit_at (64 * again.place) c.free.result [] c.deref.result.now (Some dropped)) c.put_inode-2.result
+    (c.put_inode-2.ensures.put T (c.drop_data.ensures.types ∙ e)))

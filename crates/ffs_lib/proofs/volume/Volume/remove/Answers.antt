@@ -1,8 +1,14 @@
-use Rattle.std.proofs.Common.{◌∙◌, ◌*◌, [], inl, inr, replicate}
+use Rattle.std.proofs.Common.{◌∙◌, ◌*◌, [], inl, inr, replicate, subst, sym}
 use Rattle.xn_model.specs.Calls.{propose_of}
+use Rattle.xn_model.specs.Lives.{StoreState}
 use Rattle.ffs_model.specs.Cuts.{latest}
+use Rattle.ffs_model.specs.Library.{library_layout}
+use Rattle.ffs_model.specs.Standing.{StayNamed}
 use Rattle.ffs_lib.specs.Edits.{edit_at}
+use Rattle.ffs_lib.specs.Replacing.{pair_of}
 use Rattle.ffs_lib.proofs.Laws.{clears, clears_short, fails, may_lose, same_stage, short_told}
+use Rattle.ffs_lib.proofs.PairLaws.{direct_cleared, pairs_cleared}
+use Rattle.ffs_lib.proofs.TurnLaws.{clear_waits}
 use Rattle.ffs_lib.proofs.volume.Volume.remove.Goals as goal
 
 pub returns-in_err-cleared-clause-ends : goal.returns-in_err-cleared-clause-ends
@@ -28,3 +34,42 @@ returns-clause-ends g c = λ T array e s given.
     let k = clears T c.args.self.now.fs.number array (g.S.Store.state_of c.args.store.now) s first c.args.slot c.requires c.args.after c.in_ok-cleared.cleared (c.in_ok-cleared.ensures.put T e) in
     let x = c.in_ok-take_link.ensures.ends T array (c.put.ensures.types ∙ e) k.stage (may_lose s c.requires k) in
     (x.0, record { middle = latest first.lives; cleared = k.content; took = x.1 })
+
+pub returns-clause-waits : goal.returns-clause-waits
+returns-clause-waits g c = λ T array n a e s given other m.
+    let fs = c.args.self.now.fs.number in
+    let old = g.S.Store.state_of c.args.store.now in
+    let first = g.S.Store.state_of c.put.new.store in
+    let done = c.in_ok-cleared.ensures.put T e in
+    let k = clears T fs array old s first c.args.slot c.requires c.args.after c.in_ok-cleared.cleared done in
+    c.in_ok-take_link.ensures.waits T array n a (c.put.ensures.types ∙ e) k.stage (may_lose s c.requires k) other (clear_waits T fs array old s n a m first c.args.slot c.requires c.args.after c.in_ok-cleared.cleared done)
+
+pub returns-in_err-cleared-clause-pairs : goal.returns-in_err-cleared-clause-pairs
+returns-in_err-cleared-clause-pairs g c = λ T array first to a e s comes direct apart x.
+    subst (λ (m : StoreState). StayNamed library_layout first m.lives (pair_of c.args.slot to) c.args.after) (sym (c.in_err-cleared.ensures.put T e).0) x
+
+pub returns-in_err-take_link-clause-pairs : goal.returns-in_err-take_link-clause-pairs
+returns-in_err-take_link-clause-pairs g c = λ T array first to a e s comes direct apart x.
+    let fs = c.args.self.now.fs.number in
+    let old = g.S.Store.state_of c.args.store.now in
+    let mid = g.S.Store.state_of c.put.new.store in
+    let slot = c.args.slot in
+    let entry = c.in_ok-cleared.cleared in
+    let done = c.in_ok-cleared.ensures.put T e in
+    let k = clears T fs array old s mid slot c.requires c.args.after entry done in
+    let y = pairs_cleared T fs array old s slot c.requires mid first to a entry c.args.after comes done apart x in
+    let direct2 = direct_cleared T fs array old s slot c.requires mid entry c.args.after done (pair_of slot to) direct in
+    c.in_err-take_link.ensures.pairs T array (c.put.ensures.types ∙ e) k.stage (may_lose s c.requires k) first (pair_of slot to) c.args.after direct2 y
+
+pub returns-clause-pairs : goal.returns-clause-pairs
+returns-clause-pairs g c = λ T array first to a e s comes direct apart x.
+    let fs = c.args.self.now.fs.number in
+    let old = g.S.Store.state_of c.args.store.now in
+    let mid = g.S.Store.state_of c.put.new.store in
+    let slot = c.args.slot in
+    let entry = c.in_ok-cleared.cleared in
+    let done = c.in_ok-cleared.ensures.put T e in
+    let k = clears T fs array old s mid slot c.requires c.args.after entry done in
+    let y = pairs_cleared T fs array old s slot c.requires mid first to a entry c.args.after comes done apart x in
+    let direct2 = direct_cleared T fs array old s slot c.requires mid entry c.args.after done (pair_of slot to) direct in
+    c.in_ok-take_link.ensures.pairs T array (c.put.ensures.types ∙ e) k.stage (may_lose s c.requires k) first (pair_of slot to) c.args.after direct2 y

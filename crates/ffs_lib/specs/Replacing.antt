@@ -1,0 +1,121 @@
+-- What `replace` does: the entry of one file comes to name another file, which leaves its own.
+--     replace_in            what it looks up: the entry that is moved, and the one that is replaced
+--     turned_entry          an entry of a list, with another inode where it stands at a place
+--     Turned                all lists have it so, and inodes are as before
+--     ReplacedEntry         the moved file stands at the replaced entry alone, and the former file lost a link
+--     pair_of, IsDirect, AreDirect, KeepsPairs    the two entries as slots; that inodes point to their blocks; that what they name in the cuts stays
+--     NamesStand            what the two entries name in the cuts
+--     Replaced              what the call leaves
+--     StopsReplacing, Replaces    the stages of a refused one, and what its fault tells; the call
+use Rattle.std.specs.Prelude.{◌≡◌, ◌≢◌, ℕ, Bool, not, ◌&&◌, ◌==◌, List, map, Contains, Option, Result, Ok, Err, ◌⊎◌, if◌then◌else◌}
+use Rattle.std.specs.Option.{ok_or}
+use Rattle.xn_model.specs.Types.{Types}
+use Rattle.xn_model.specs.Lives.{Lives, StoreState}
+use Rattle.ffs_model.specs.Library.{inode_blocks, inode_links, inode_mode, library_layout}
+use Rattle.ffs_model.specs.Names.{IsInodes}
+use Rattle.ffs_model.specs.Standing.{AreNamed, SlotPair, StayNamed}
+use Rattle.ffs_format.specs.Entries.{is_name}
+use Rattle.ffs_lookup.specs.declared.fault.FfsFault.{FfsFault}
+use Rattle.ffs_lookup.specs.declared.fault.FfsFault.TheVariants.{BadName, NoEntry, NotDir, TooLarge}
+use Rattle.ffs_lookup.specs.declared.places.Slot.{Slot}
+use Rattle.ffs_lookup.specs.Newest.{and_then, directory_in, file_in, first_named, inode_in, is_at, listing, without_entry}
+use Rattle.ffs_lib.specs.Results.{IsLinked, SameInode, TookLink}
+use Rattle.ffs_lib.specs.Steps.{AddsLink, Answers, Removed, StopsAtHome, StopsRemoving, StopsTaking, Wants, newest}
+
+-- What it looks up: both directories, both names, both entries, both files; then whether the first inode may have a link more, if the second
+-- entry names another one.
+
+abbrev pub if_directories : List ℕ → List ℕ → List ℕ → List ℕ → Result (List ℕ × List ℕ) FfsFault
+if_directories name other_name from to =
+    if (inode_mode from == 2) && (inode_mode to == 2) then (if is_name name && is_name other_name then Ok (from, to) else Err BadName) else Err NotDir
+
+unfoldable pub directories_in : (ℕ → List ℕ) → ℕ → ℕ → List ℕ → ℕ → List ℕ → Result (List ℕ × List ℕ) FfsFault
+directories_in content fs d name other other_name = and_then (inode_in content fs d) (λ from. and_then (inode_in content fs other) (if_directories name other_name from))
+
+abbrev pub is_full_for : Slot → Slot → List ℕ → Bool
+is_full_for from to inode = not (from.inode == to.inode) && (inode_links inode == 65535)
+
+unfoldable pub files_in : (ℕ → List ℕ) → ℕ → Slot → Slot → Result (Slot × Slot) FfsFault
+files_in content fs from to =
+    and_then (file_in content fs from.inode) (λ inode. and_then (file_in content fs to.inode) (λ other. if is_full_for from to inode then Err TooLarge else Ok (from, to)))
+
+abbrev pub entries_named : (ℕ → List ℕ) → ℕ → List ℕ → List ℕ → List ℕ × List ℕ → Result (Slot × Slot) FfsFault
+entries_named content fs name other_name directories =
+    and_then (ok_or (first_named content directories.0 name) NoEntry) (λ from. and_then (ok_or (first_named content directories.1 other_name) NoEntry) (files_in content fs from))
+
+unfoldable pub replace_in : (ℕ → List ℕ) → ℕ → ℕ → List ℕ → ℕ → List ℕ → Result (Slot × Slot) FfsFault
+replace_in content fs d name other other_name = and_then (directories_in content fs d name other other_name) (entries_named content fs name other_name)
+
+-- What it leaves
+
+abbrev pub turned_entry : Slot → ℕ → Slot × List ℕ → Slot × List ℕ
+turned_entry entry n p = if is_at entry p.0 then (record p.0 { inode = n }, p.1) else p
+
+-- Inodes are as before, lists have another inode at the place of the entry, and all inodes but the one that has its block are as before.
+pub record Turned (old new : ℕ → List ℕ) (fs : ℕ) (entry : Slot) (n : ℕ) : Type 0 where
+  pub inodes : (d : ℕ) → inode_in new fs d ≡ inode_in old fs d
+  pub entries : (inode : List ℕ) → listing new inode ≡ map (turned_entry entry n) (listing old inode)
+  pub others : (d : ℕ) (own : List ℕ) → Ok own ≡ inode_in old fs d → Contains (inode_blocks own) entry.block → (x : ℕ) → x ≢ d → SameInode old new fs x
+
+-- Each directory has its 64 bytes, and its list without the moved entry and with the moved inode at the replaced one. The moved inode is as before,
+-- with as many links; the former one lost a link, or is free; all but these two and the two directories are as before.
+pub record ReplacedEntry (old new : ℕ → List ℕ) (fs d : ℕ) (from : Slot) (other : ℕ) (to : Slot) : Type 0 where
+  pub lists : (x : ℕ) (inode : List ℕ) → Ok inode ≡ directory_in old fs x →
+      (Ok inode ≡ directory_in new fs x) × (listing new inode ≡ without_entry from (map (turned_entry to from.inode) (listing old inode)))
+  pub moved : (inode : List ℕ) → Ok inode ≡ inode_in old fs from.inode → IsLinked old new fs from.inode inode (inode_links inode)
+  pub former : (inode : List ℕ) → Ok inode ≡ inode_in old fs to.inode → TookLink old new fs to.inode inode
+  pub others : (x : ℕ) → x ≢ d → x ≢ other → x ≢ from.inode → x ≢ to.inode → SameInode old new fs x
+
+-- In the cuts
+
+abbrev pub pair_of : Slot → Slot → SlotPair
+pair_of from to = record { from = (from.block, from.place); to = (to.block, to.place); moved = from.inode; former = to.inode }
+
+-- an inode points to a block itself
+pub record IsDirect (content : ℕ → List ℕ) (fs b : ℕ) : Type 0 where
+  pub index : ℕ
+  pub block : ℕ
+  pub place : ℕ
+  pub inodes : IsInodes library_layout content fs index block
+  pub has : Contains (library_layout.direct (content block) place) b
+
+pub record AreDirect (content : ℕ → List ℕ) (fs : ℕ) (p : SlotPair) : Type 0 where
+  pub from : IsDirect content fs p.from.0
+  pub to : IsDirect content fs p.to.0
+
+-- what two slots name in the cuts they name on
+abbrev pub KeepsPairs : ℕ → StoreState → StoreState → Type 0
+KeepsPairs fs old new =
+    (first : Lives) (p : SlotPair) (after : Option ℕ) → AreDirect (newest old) fs p → StayNamed library_layout first old.lives p after → StayNamed library_layout first new.lives p after
+
+-- In every cut that has the second entry's block as it was newest at the call, or later, this entry names one of the two files; and in every one that
+-- has both blocks so, one of the entries names the moved one.
+abbrev pub NamesStand : StoreState → StoreState → Slot → Slot → Type 0
+NamesStand old new from to = AreNamed library_layout old.lives new.lives (pair_of from to)
+
+-- The call
+
+-- Onto itself nothing is done; where both entries name one inode the first is taken from its directory, as `unlink` does.
+pub record Replaced (old new : StoreState) (fs d : ℕ) (from : Slot) (other : ℕ) (to : Slot) : Type 0 where
+  pub itself : from ≡ to → new ≡ old
+  pub same : from ≢ to → from.inode ≡ to.inode → Removed (newest old) (newest new) fs d from
+  pub another : from.inode ≢ to.inode → ReplacedEntry (newest old) (newest new) fs d from other to
+
+-- A stage: nothing; a link more of the moved inode; the entry turned, too; the old one cleared, too, then the link taken; then the former inode is as
+-- before but for what its block of pointers owned.
+abbrev pub StopsTurning : Types → ℕ → StoreState → StoreState → ℕ → Slot → Slot → FfsFault → Type 0
+StopsTurning T fs old new d from to fault =
+    StopsAtHome T fs old new from.inode fault
+    ⊎ ((first : StoreState) × AddsLink (newest old) (newest first) fs from.inode × (((new ≡ first) × Wants T first fs to.block fault)
+    ⊎ ((second : StoreState) × Turned (newest first) (newest second) fs to from.inode × (StopsRemoving T fs second new d from fault
+    ⊎ ((third : StoreState) × Removed (newest second) (newest third) fs d from × StopsTaking T fs third new to.inode fault)))))
+
+pub record StopsReplacing (T : Types) (fs : ℕ) (old new : StoreState) (d : ℕ) (from to : Slot) (fault : FfsFault) : Type 0 where
+  pub other : from ≢ to
+  pub same : from.inode ≡ to.inode → StopsRemoving T fs old new d from fault
+  pub another : from.inode ≢ to.inode → StopsTurning T fs old new d from to fault
+
+abbrev pub Replaces : Types → ℕ → ℕ → List ℕ → ℕ → List ℕ → StoreState → StoreState → Result (Unit {0}) FfsFault → Type 0
+Replaces T fs d name other other_name old new result =
+    Answers (replace_in (newest old) fs d name other other_name) (λ entries _. Replaced old new fs d entries.0 other entries.1)
+    (λ entries fault. StopsReplacing T fs old new d entries.0 entries.1 fault) old new result
