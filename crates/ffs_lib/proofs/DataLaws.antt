@@ -1,8 +1,7 @@
 -- What the edits leave by which bytes of a file are written: one law for each kind.
-use Rattle.std.proofs.Common.{◌≡◌, ◌≢◌, ℕ, ◌+◌, ◌-◌, ◌*◌, ◌/◌, ◌^◌, ◌<◌, ◌≤◌, ◌⊎◌, List, [], ◌∷◌, length, Option, None, Some, Result, Ok, Err, refl, sym, ◌∙◌, ap, arith, subst, inl, inr}
+use Rattle.std.proofs.Common.{◌≡◌, ◌≢◌, ℕ, ◌+◌, ◌-◌, ◌*◌, ◌/◌, ◌^◌, ◌<◌, ◌≤◌, ◌⊎◌, List, [], ◌∷◌, length, Option, Ok, refl, sym, ◌∙◌, ap, arith, subst, inl, inr}
 use Rattle.std.specs.Prelude.{Contains, IsTrue, slice_set}
 use Rattle.std.specs.Int.{w32, to_le_bytes}
-use Rattle.std.proofs.lemmas.Bool.{cases_lt}
 use Rattle.std.proofs.lemmas.List.{length-replicate}
 use Rattle.std.proofs.lemmas.Option.{none-some}
 use Rattle.xn_model.specs.Types.{Types}
@@ -10,7 +9,6 @@ use Rattle.xn_model.specs.Lists.{put}
 use Rattle.xn_model.specs.Root.{word_at}
 use Rattle.xn_model.specs.Lives.{StoreState, life_at}
 use Rattle.xn_model.specs.Calls.{forget_of, init_of, propose_of, was_given}
-use Rattle.xn_model.specs.Rules.{IsConsistent}
 use Rattle.xn_model.proofs.ForCallers.{Contains-head}
 use Rattle.ffs_model.specs.Cuts.{Under, latest}
 use Rattle.ffs_model.specs.Library.{inode_blocks, inode_links, inode_mode, library_layout, pointer_word, zeros}
@@ -24,8 +22,8 @@ use Rattle.ffs_lookup.proofs.ForCallers.{found_has, same_ok}
 use Rattle.ffs_lib.specs.Edits.{edit_at}
 use Rattle.ffs_lib.specs.Outcomes.{HasBlock, IsRaised}
 use Rattle.ffs_lib.specs.Results.{OnlyChanges, SameInode, WroteBytes}
-use Rattle.ffs_lib.specs.Steps.{IsHome, ShortEdit, Stage, StopsAttaching, Tells, Wants, left_by, newest}
-use Rattle.ffs_lib.specs.Writes.{PointsTo, Puts, PutsBy, StopsAdding, StopsBlock, StopsPart}
+use Rattle.ffs_lib.specs.Steps.{IsHome, ShortEdit, Stage, Tells, Wants, left_by}
+use Rattle.ffs_lib.specs.Writes.{PointsTo, Puts, PutsBy, StopsPart}
 use Rattle.ffs_lib.proofs.DataShort.{direct_refused, pointers_refused, size_refused}
 use Rattle.ffs_lib.proofs.Edited.{file_data, kept, pointed, pointed_data, pointers_reached}
 use Rattle.ffs_lib.proofs.Fields.{one_more, same_blocks}
@@ -34,7 +32,7 @@ use Rattle.ffs_lib.proofs.Owners.{Stands, block_at, direct_block, pointers_at, s
 use Rattle.ffs_lib.proofs.Same.{Touches, begun, begun_some, block_same, none_touched, reached_before, same_on}
 use Rattle.ffs_lib.proofs.Short.{begun_addable}
 use Rattle.ffs_lib.proofs.Undoing.{left_next, undone_same}
-use Rattle.ffs_lib.proofs.Writing.{block_written, data_attached, data_written, direct_attached, file_from, file_now, file_others, file_same, indirect_block, no_pointers, pointers_attached, size_raised, wrote_none, wrote_on, wrote_still, written_none, written_same}
+use Rattle.ffs_lib.proofs.Writing.{block_written, data_attached, data_written, direct_attached, file_from, file_now, file_others, file_same, indirect_block, no_pointers, pointers_attached, size_raised, wrote_none, written_none, written_same}
 
 -- Bytes that stay, and one write after another
 

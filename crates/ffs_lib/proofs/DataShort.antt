@@ -1,37 +1,22 @@
 -- The edits of a file's bytes are refused for want of something alone, and their numbers were given.
-use Rattle.std.proofs.Common.{◌≡◌, ◌≢◌, ℕ, ◌+◌, ◌*◌, ◌<◌, ◌≤◌, true, List, [], ◌∷◌, length, get_or, Option, Some, None, Result, Ok, Err, refl, sym, ◌∙◌, ap, inl, inr, arith, subst}
-use Rattle.std.specs.Prelude.{IsErrAnd, IsTrue, OnErr, OnOk, slice_set}
+use Rattle.std.proofs.Common.{◌≡◌, ℕ, ◌+◌, ◌*◌, ◌<◌, ◌≤◌, List, [], ◌∷◌, length, get_or, Option, sym, ◌∙◌, ap, arith, subst}
+use Rattle.std.specs.Prelude.{IsTrue, slice_set}
 use Rattle.std.proofs.lemmas.List.{length-replicate}
-use Rattle.xn_model.specs.declared.refusal.Refusal.{Refusal}
 use Rattle.xn_model.specs.Types.{Types}
 use Rattle.xn_model.specs.Lists.{put}
 use Rattle.xn_model.specs.Root.{word_at}
 use Rattle.xn_model.specs.Lives.{StoreState}
-use Rattle.xn_model.specs.Results.{Gives}
-use Rattle.xn_model.specs.Calls.{Edit, forget_of, init_of, may_add, propose_of, was_given}
-use Rattle.xn_model.specs.Rules.{IsConsistent}
+use Rattle.xn_model.specs.Calls.{may_add}
 use Rattle.xn_model.proofs.ForCallers.{addable, length_put}
-use Rattle.ffs_model.specs.Cuts.{Under, step, latest}
-use Rattle.ffs_model.specs.Library.{IsLibrary, inode_pairs, pointer_word, zeros}
-use Rattle.ffs_model.specs.Shortages.{is_shortage}
-use Rattle.ffs_model.proofs.ForCallers.{Replaces, data_owned, edit_given, gives_short, indirect_set}
+use Rattle.ffs_model.specs.Library.{inode_pairs, zeros}
+use Rattle.ffs_model.proofs.ForCallers.{Replaces, indirect_set}
 use Rattle.ffs_format.specs.Fields.{direct_in, fields_of}
-use Rattle.ffs_lookup.specs.declared.fault.FfsFault.{FfsFault}
-use Rattle.ffs_lookup.specs.declared.fault.FfsFault.TheVariants.{Kernel}
 use Rattle.ffs_lookup.specs.declared.places.Found.{Found}
-use Rattle.ffs_lookup.specs.Newest.{file_in}
 use Rattle.ffs_lookup.specs.Places.{IsFile}
-use Rattle.ffs_lookup.proofs.ForCallers.{gives_ok}
 use Rattle.ffs_lib.specs.Edits.{edit_at}
 use Rattle.ffs_lib.specs.Outcomes.{CanEdit}
-use Rattle.ffs_lib.specs.Results.{SameInode}
-use Rattle.ffs_lib.specs.Steps.{left_by}
-use Rattle.ffs_lib.proofs.Edited.{done_by}
 use Rattle.ffs_lib.proofs.Fields.{direct_get}
-use Rattle.ffs_lib.proofs.Owners.{block_at, direct_block, stands_from}
-use Rattle.ffs_lib.proofs.Same.{begun, none_touched}
-use Rattle.ffs_lib.proofs.Short.{ShortEdit, attached_short, begun_addable, handed, handed_on, kept_short, pairs_kept, pairs_set, refusal_short, short_fault}
-use Rattle.ffs_lib.proofs.Undoing.{undone_same}
+use Rattle.ffs_lib.proofs.Short.{ShortEdit, attached_short, kept_short, pairs_kept, pairs_set}
 
 -- New blocks
 

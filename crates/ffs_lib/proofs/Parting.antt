@@ -1,27 +1,26 @@
 -- Bytes of a file that are written block after block, and what a write comes to.
-use Rattle.std.proofs.Common.{◌≡◌, ◌≢◌, ℕ, suc, ◌+◌, ◌-◌, ◌*◌, ◌/◌, ◌%◌, ◌<◌, ◌≤◌, ◌⊎◌, Bool, true, false, List, [], ◌∷◌, ◌++◌, length, drop, take, get_or, replicate, Option, None, Some, Result, Ok, Err, refl, sym, ◌∙◌, ap, arith, subst, inl, inr, length-append}
-use Rattle.std.specs.Prelude.{IfErr, IfOk, IfSome, IsOk, MatchResult, OnOk, is_some, max, min, nat_lt, ◌==◌, if◌then◌else◌}
-use Rattle.std.proofs.lemmas.Bool.{cases_eq, cases_lt}
-use Rattle.std.proofs.lemmas.List.{drop-replicate, get_or-drop, get_or-replicate, get_or-take, length-drop, length-replicate, length-take-le, take-append-le, take-replicate, take_all}
+use Rattle.std.proofs.Common.{◌≡◌, ◌≢◌, ℕ, ◌+◌, ◌-◌, ◌*◌, ◌/◌, ◌%◌, ◌<◌, ◌≤◌, ◌⊎◌, Bool, true, false, List, [], ◌++◌, length, drop, take, get_or, replicate, Option, None, Some, Result, Ok, Err, refl, sym, ◌∙◌, ap, arith, subst, inl, inr, length-append}
+use Rattle.std.specs.Prelude.{IfErr, IfOk, IfSome, MatchResult, OnOk, is_some, max, min, nat_lt, if◌then◌else◌}
+use Rattle.std.proofs.lemmas.Bool.{cases_lt}
+use Rattle.std.proofs.lemmas.List.{get_or-drop, get_or-replicate, get_or-take, length-drop, length-replicate, length-take-le, take-append-le, take_all}
 use Rattle.std.proofs.Math.Seq.{take-add, take-append-add}
-use Rattle.std.proofs.Math.Nat.{max-eq_left, max-eq_right, min-eq_left, min-eq_right}
+use Rattle.std.proofs.Math.Nat.{min-eq_left, min-eq_right}
 use Rattle.xn_model.specs.Types.{Types}
 use Rattle.xn_model.specs.Lives.{StoreState}
 use Rattle.xn_model.specs.Root.{word_at}
 use Rattle.ffs_model.specs.Cuts.{latest}
 use Rattle.ffs_model.proofs.ForCallers.{given_later}
 use Rattle.ffs_lookup.specs.declared.fault.FfsFault.{FfsFault}
-use Rattle.ffs_lookup.specs.Newest.{byte_in, byte_of, file_block, file_end, file_in, is_short, mapped, write_in}
+use Rattle.ffs_lookup.specs.Newest.{byte_in, byte_of, file_block, file_end, file_in, mapped, write_in}
 use Rattle.ffs_lookup.specs.declared.fault.FfsFault.TheVariants.{Kernel, TooLarge}
 use Rattle.xn_model.specs.declared.refusal.Refusal.TheVariants.{TooManyPending}
 use Rattle.ffs_lib.specs.Outcomes.{IsRaised}
 use Rattle.ffs_lib.specs.Results.{OnlyChanges, WroteBytes, byte_written}
-use Rattle.ffs_lib.specs.Steps.{Ends, Stage, Stops, StopsAtHome, newest}
-use Rattle.ffs_lib.specs.Writes.{IsBorder, IsWritten, LastGiven, Padded, Parts, Puts, StopsBlock, StopsNext, StopsPart, StopsSome, StopsWriting, Wrote, WroteSome, padded, padded_from}
+use Rattle.ffs_lib.specs.Steps.{Ends, Stage, Stops, StopsAtHome}
+use Rattle.ffs_lib.specs.Writes.{IsBorder, LastGiven, Padded, Parts, Puts, StopsBlock, StopsNext, StopsPart, StopsSome, StopsWriting, Wrote, WroteSome, padded, padded_from}
 use Rattle.ffs_lib.specs.declared.data.Last.{Last}
 use Rattle.ffs_lib.specs.declared.data.Progress.{Progress}
 use Rattle.ffs_lib.proofs.DataLaws.{later_on, puts_none, puts_still}
-use Rattle.ffs_lib.proofs.Laws.{is_ok_one}
 use Rattle.ffs_lib.proofs.Same.{same_on}
 use Rattle.ffs_lib.proofs.Writing.{byte_there, cases_written, end_raised, test_above, test_below, test_in, written_by, written_none, wrote_on}
 use Rattle.ffs_lib.proofs.Owners.{not_first, passed}

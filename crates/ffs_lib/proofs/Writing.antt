@@ -1,18 +1,16 @@
 -- What an edit of a file's blocks leaves of its bytes.
-use Rattle.std.proofs.Common.{◌≡◌, ◌≢◌, ℕ, zero, suc, ◌+◌, ◌-◌, ◌*◌, ◌/◌, ◌%◌, ◌^◌, ◌<◌, ◌≤◌, ◌⊎◌, Bool, List, [], ◌∷◌, ◌++◌, length, get_or, Option, None, Ok, Err, refl, sym, ◌∙◌, ap, inl, inr, arith, subst, eq-eqb, length-append}
-use Rattle.std.specs.Prelude.{OnOk, Result, ◌==◌, ◌&&◌, max, min, nat_le, nat_lt, if◌then◌else◌, slice_set}
+use Rattle.std.proofs.Common.{◌≡◌, ◌≢◌, ℕ, zero, suc, ◌+◌, ◌-◌, ◌*◌, ◌/◌, ◌%◌, ◌^◌, ◌<◌, ◌≤◌, ◌⊎◌, Bool, List, [], ◌∷◌, ◌++◌, length, get_or, Option, Ok, refl, sym, ◌∙◌, ap, inl, inr, arith, subst, eq-eqb, length-append}
+use Rattle.std.specs.Prelude.{Result, ◌==◌, ◌&&◌, max, min, nat_le, nat_lt, if◌then◌else◌, slice_set}
 use Rattle.std.specs.Int.{w32, to_le_bytes}
 use Rattle.std.proofs.lemmas.Bool.{cases_eq, cases_lt, le-leb, le-ltb, lt-leb, lt-ltb, ne_eqb}
 use Rattle.std.proofs.lemmas.List.{get_or-append-add, get_or-replicate, get_or_append_left}
 use Rattle.std.proofs.Math.Nat.{max-eq_left, max-eq_right, min-eq_left, min-eq_right}
 use Rattle.std.proofs.lemmas.Option.{none-some}
-use Rattle.std.proofs.lemmas.Result.{on_ok_weaker}
 use Rattle.xn_model.specs.Types.{Types}
 use Rattle.xn_model.specs.Lists.{put}
 use Rattle.xn_model.specs.Root.{word_at}
 use Rattle.xn_model.specs.Lives.{StoreState, life_at}
 use Rattle.xn_model.specs.Calls.{Edit, init_of, propose_of}
-use Rattle.xn_model.specs.Results.{Gives}
 use Rattle.xn_model.specs.Rules.{IsConsistent}
 use Rattle.ffs_model.specs.Cuts.{Under, latest}
 use Rattle.ffs_model.specs.Library.{IsLibrary, inode_mode, library_layout, pointer_word, zeros, inode_links}
@@ -23,16 +21,16 @@ use Rattle.ffs_lookup.specs.Places.{IsFile}
 use Rattle.ffs_lookup.specs.declared.fault.FfsFault.{FfsFault}
 use Rattle.ffs_lookup.specs.declared.fault.FfsFault.TheVariants.{IsDir}
 use Rattle.ffs_lib.specs.Edits.{edit_at}
-use Rattle.ffs_lookup.specs.Newest.{and_then, byte_in, byte_of, file_block, file_end, file_in, if_file, inode_in}
+use Rattle.ffs_lookup.specs.Newest.{and_then, byte_in, byte_of, file_block, file_in, if_file, inode_in}
 use Rattle.ffs_lib.specs.Outcomes.{HasBlock, IsRaised}
 use Rattle.ffs_lib.specs.Results.{WroteBytes}
 use Rattle.ffs_lib.specs.Results.{SameInode, byte_written}
 use Rattle.ffs_lib.proofs.Frames.{byte_apart, byte_within}
 use Rattle.ffs_lib.proofs.Owners.{Stands, block_at, direct_block, not_first, passed, pointers_apart, pointers_at, stands_from, two_blocks}
-use Rattle.ffs_lookup.proofs.ForCallers.{file_is, gives_ok, in_file, same_ok}
+use Rattle.ffs_lookup.proofs.ForCallers.{file_is, in_file, same_ok}
 use Rattle.ffs_lib.proofs.Entering.{inode_put}
 use Rattle.ffs_lib.proofs.Fields.{direct_get}
-use Rattle.ffs_lib.proofs.Same.{Touches, avoids, begun, begun_some, data_touched, edited, file_block_by, file_block_same, none_touched, pointers_touched, reached_before, inodes_same, same_on, word_read}
+use Rattle.ffs_lib.proofs.Same.{Touches, avoids, begun, begun_some, data_touched, edited, file_block_by, file_block_same, none_touched, pointers_touched, reached_before, inodes_same, word_read}
 
 -- A file is an inode in use
 

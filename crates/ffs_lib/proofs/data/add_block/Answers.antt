@@ -1,9 +1,8 @@
-use Rattle.std.proofs.Common.{◌≡◌, ◌∙◌, ◌*◌, ◌+◌, ◌-◌, ℕ, List, Some, Option, ap, arith, refl, subst, sym}
+use Rattle.std.proofs.Common.{◌≡◌, ◌∙◌, ◌*◌, ◌+◌, ℕ, Some, Option, subst, sym}
 use Rattle.std.specs.Prelude.{IsTrue}
 use Rattle.xn_model.specs.Calls.{was_given}
 use Rattle.ffs_model.specs.Cuts.{latest}
 use Rattle.ffs_model.proofs.ForCallers.{given_later}
-use Rattle.ffs_lib.specs.Writes.{LastGiven}
 use Rattle.ffs_lib.proofs.DataLaws.{puts_after, stops_after}
 use Rattle.ffs_lib.proofs.Laws.{fails}
 use Rattle.ffs_lib.proofs.Owners.{direct_block}

@@ -1,10 +1,10 @@
-use Rattle.std.proofs.Common.{◌≡◌, ◌∙◌, ◌*◌, ◌+◌, ◌≤◌, ℕ, List, [], ◌∷◌, Some, ap, arith, length, refl, subst, sym, inl}
+use Rattle.std.proofs.Common.{◌∙◌, ◌*◌, [], ◌∷◌, ap, length, refl, subst, sym, inl}
 use Rattle.xn_model.specs.Lists.{put}
 use Rattle.xn_model.specs.Calls.{init_of}
 use Rattle.ffs_model.specs.Cuts.{latest}
 use Rattle.ffs_model.specs.Library.{IsLibrary, zeros}
 use Rattle.ffs_model.proofs.ForCallers.{data_begun}
-use Rattle.ffs_format.specs.Fields.{Fields, fields_of}
+use Rattle.ffs_format.specs.Fields.{fields_of}
 use Rattle.ffs_lookup.proofs.ForCallers.{block_again, gives_err}
 use Rattle.ffs_lib.specs.Edits.{edit_at}
 use Rattle.ffs_lib.proofs.DataLaws.{adds_direct, begun_again, begun_stage, direct_short, direct_undone, not_begun}

@@ -1,9 +1,9 @@
-use Rattle.std.proofs.Common.{◌≡◌, ◌∙◌, ◌*◌, ℕ, List, [], ◌∷◌, Some, ap, arith, length, refl, subst, sym, inl, inr}
+use Rattle.std.proofs.Common.{◌∙◌, ◌*◌, [], ◌∷◌, ap, length, refl, subst, sym, inl, inr}
 use Rattle.xn_model.specs.Calls.{init_of, propose_of}
 use Rattle.ffs_model.specs.Cuts.{latest}
 use Rattle.ffs_model.specs.Library.{IsLibrary, zeros}
 use Rattle.ffs_model.proofs.ForCallers.{pointers_begun}
-use Rattle.ffs_format.specs.Fields.{Fields, fields_of}
+use Rattle.ffs_format.specs.Fields.{fields_of}
 use Rattle.ffs_lookup.proofs.ForCallers.{block_again, gives_err}
 use Rattle.ffs_lib.specs.Edits.{edit_at}
 use Rattle.ffs_lib.proofs.DataLaws.{adds_pointers, begun_again, begun_stage, pointers_short, pointers_undone, not_begun}

@@ -1,18 +1,15 @@
-use Rattle.std.proofs.Common.{◌≡◌, ◌∙◌, ◌*◌, ◌+◌, ◌-◌, ◌<◌, ◌≤◌, ℕ, List, [], Some, Ok, Option, ap, arith, drop, get_or, length, refl, replicate, subst, sym, take}
+use Rattle.std.proofs.Common.{◌≡◌, ◌∙◌, ◌+◌, ◌-◌, ℕ, List, [], Some, Ok, Option, ap, arith, drop, length, replicate, subst, sym, take}
 use Rattle.std.specs.Prelude.{IsTrue}
 use Rattle.std.proofs.lemmas.List.{length-replicate, take-replicate}
-use Rattle.xn_model.specs.Root.{word_at}
 use Rattle.xn_model.specs.Calls.{propose_of, was_given}
 use Rattle.ffs_model.specs.Cuts.{latest}
 use Rattle.ffs_model.specs.Library.{IsLibrary}
 use Rattle.ffs_lookup.specs.Newest.{byte_in, file_block}
-use Rattle.ffs_lookup.proofs.ForCallers.{not_ok, same_ok}
 use Rattle.ffs_lib.specs.Edits.{edit_at}
 use Rattle.ffs_lib.specs.Steps.{Tells}
 use Rattle.ffs_lib.proofs.DataLaws.{puts, refused_there, there_short}
 use Rattle.ffs_lib.proofs.Laws.{fails, same_stage, short_told}
 use Rattle.ffs_lib.proofs.Parting.{zero_part, zeros_held, zeros_puts}
-use Rattle.ffs_lib.proofs.Tops.{never}
 use Rattle.ffs_lib.proofs.data.clear_block.Goals as goal
 
 pub returns-then-block-eq0-clause-ends : goal.returns-then-block-eq0-clause-ends

@@ -1,6 +1,5 @@
-use Rattle.std.proofs.Common.{◌≡◌, ◌+◌, ◌-◌, ◌*◌, ◌/◌, ◌%◌, ◌<◌, ◌≤◌, ◌∙◌, ℕ, List, Ok, ap, arith, drop, length, refl, replicate, subst, sym, take}
+use Rattle.std.proofs.Common.{◌≡◌, ◌-◌, ◌∙◌, ℕ, ap, arith, drop, length, replicate, sym, take}
 use Rattle.std.proofs.lemmas.List.{drop-replicate, length-replicate, take-replicate}
-use Rattle.ffs_model.specs.Cuts.{latest}
 use Rattle.ffs_lib.proofs.Laws.{is_ok_one}
 use Rattle.ffs_lib.proofs.Parting.{parts_by}
 use Rattle.ffs_lib.proofs.data.clear_part.Goals as goal

@@ -1,4 +1,4 @@
-use Rattle.std.proofs.Common.{◌≡◌, ◌-◌, ◌∙◌, ℕ, List, None, Option, refl, arith, length, replicate}
+use Rattle.std.proofs.Common.{◌-◌, ◌∙◌, None, refl, arith, replicate}
 use Rattle.ffs_lib.proofs.Parting.{none_left, parts_none}
 use Rattle.ffs_lib.proofs.data.clear_parts.Goals as goal
 

@@ -1,4 +1,4 @@
-use Rattle.std.proofs.Common.{◌≡◌, ◌∙◌, ℕ, List, ap, length, refl, subst, sym}
+use Rattle.std.proofs.Common.{◌≡◌, ◌∙◌, ℕ, List, ap, length, subst, sym}
 use Rattle.xn_model.specs.Root.{word_at}
 use Rattle.ffs_model.specs.Cuts.{latest}
 use Rattle.ffs_model.specs.Library.{IsLibrary}

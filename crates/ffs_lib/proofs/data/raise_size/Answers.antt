@@ -1,11 +1,8 @@
-use Rattle.std.proofs.Common.{◌≡◌, ◌∙◌, ◌*◌, ◌<◌, ◌≤◌, ℕ, List, [], ap, arith, length, refl, subst, sym}
-use Rattle.std.specs.Prelude.{max}
-use Rattle.std.proofs.Math.Nat.{max-eq_left}
+use Rattle.std.proofs.Common.{◌∙◌, ◌*◌, ◌<◌, ℕ, List, [], arith, subst, sym}
 use Rattle.xn_model.specs.Root.{word_at}
 use Rattle.xn_model.specs.Calls.{propose_of}
 use Rattle.ffs_model.specs.Cuts.{latest}
 use Rattle.ffs_model.specs.Library.{IsLibrary}
-use Rattle.ffs_format.specs.Fields.{Fields, fields_of}
 use Rattle.ffs_lookup.proofs.ForCallers.{same_ok}
 use Rattle.ffs_lib.specs.Edits.{edit_at}
 use Rattle.ffs_lib.specs.Outcomes.{IsRaised}

@@ -1,4 +1,4 @@
-use Rattle.std.proofs.Common.{◌≡◌, ◌∙◌, ◌*◌, ◌+◌, ℕ, List, [], Some, Option, ap, arith, length, refl, subst, sym}
+use Rattle.std.proofs.Common.{◌≡◌, ◌∙◌, ℕ, List, [], Some, Option, ap, length, subst, sym}
 use Rattle.std.specs.Prelude.{IsTrue}
 use Rattle.xn_model.specs.Root.{word_at}
 use Rattle.xn_model.specs.Calls.{propose_of, was_given}

@@ -1,7 +1,6 @@
-use Rattle.std.proofs.Common.{◌≡◌, ◌∙◌, ℕ, List, Ok, Result, ap, refl, subst, sym}
+use Rattle.std.proofs.Common.{◌∙◌, ℕ, List, Result, refl, subst}
 use Rattle.std.specs.Prelude.{IsOk}
 use Rattle.ffs_lookup.specs.declared.fault.FfsFault.{FfsFault}
-use Rattle.ffs_model.specs.Cuts.{latest}
 use Rattle.ffs_lib.proofs.Parting.{none_left, padded_cleared, padded_written, some_left}
 use Rattle.ffs_lib.proofs.data.write_padded.Goals as goal
 

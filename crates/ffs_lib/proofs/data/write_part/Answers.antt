@@ -1,5 +1,4 @@
-use Rattle.std.proofs.Common.{◌≡◌, ◌+◌, ◌-◌, ◌*◌, ◌/◌, ◌%◌, ◌<◌, ◌≤◌, ◌∙◌, ℕ, List, Ok, ap, arith, drop, length, refl, subst, sym, take}
-use Rattle.ffs_model.specs.Cuts.{latest}
+use Rattle.std.proofs.Common.{◌≡◌, ◌+◌, ◌-◌, ℕ, ap, arith, drop, subst, sym, take}
 use Rattle.ffs_model.proofs.ForCallers.{given_later}
 use Rattle.ffs_lib.proofs.Laws.{is_ok_one}
 use Rattle.ffs_lib.proofs.Parting.{part_later, parts_by, parts_kept}

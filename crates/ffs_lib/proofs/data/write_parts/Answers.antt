@@ -1,4 +1,4 @@
-use Rattle.std.proofs.Common.{◌≡◌, ◌∙◌, ℕ, List, refl, arith, length}
+use Rattle.std.proofs.Common.{◌∙◌, refl, arith}
 use Rattle.ffs_lib.proofs.Parting.{none_left, parts_none}
 use Rattle.ffs_lib.proofs.data.write_parts.Goals as goal
 

@@ -1,4 +1,4 @@
-use Rattle.std.proofs.Common.{◌≡◌, ◌-◌, ◌≤◌, ℕ, List, Option, None, length}
+use Rattle.std.proofs.Common.{◌≡◌, ◌-◌, ◌≤◌, ℕ, Option, None, length}
 use Rattle.std.specs.Prelude.{IsOk}
 use Rattle.xn_model.specs.Types.{Types}
 use Rattle.ffs_lookup.specs.Newest.{file_in}

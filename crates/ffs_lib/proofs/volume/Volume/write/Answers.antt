@@ -1,13 +1,9 @@
-use Rattle.std.proofs.Common.{◌≡◌, ◌≢◌, ◌∙◌, ◌+◌, ◌-◌, ◌≤◌, ℕ, List, [], Some, None, Ok, Err, Result, ap, arith, inl, inr, length, refl, subst, sym, take}
-use Rattle.std.specs.Prelude.{MatchResult}
+use Rattle.std.proofs.Common.{◌≡◌, ◌≢◌, ◌∙◌, ◌+◌, ℕ, List, Err, arith, length, refl, subst, sym, take}
 use Rattle.std.proofs.lemmas.Bool.{eqb-false}
 use Rattle.std.proofs.lemmas.List.{take_all}
 use Rattle.ffs_lib.specs.Outcomes.{IsRaised}
-use Rattle.xn_model.specs.Lives.{StoreState}
 use Rattle.ffs_model.specs.Cuts.{latest}
-use Rattle.ffs_lookup.specs.declared.fault.FfsFault.{FfsFault}
-use Rattle.ffs_lookup.specs.Newest.{file_end, write_in}
-use Rattle.ffs_lib.specs.Steps.{Answers, Stage, Stops}
+use Rattle.ffs_lookup.specs.Newest.{write_in}
 use Rattle.ffs_lib.specs.Volumes.{edits_of}
 use Rattle.ffs_lib.specs.Writes.{StopsWriting, Wrote}
 use Rattle.ffs_lib.proofs.Laws.{answers_ok, match_then, staged}

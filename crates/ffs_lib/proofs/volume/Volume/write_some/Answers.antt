@@ -1,19 +1,16 @@
-use Rattle.std.proofs.Common.{◌≡◌, ◌≢◌, ◌∙◌, ◌+◌, ◌-◌, ◌<◌, ◌≤◌, ℕ, List, [], Some, None, Ok, Err, Option, true, Result, ap, arith, inl, inr, length, refl, subst, sym, take}
-use Rattle.std.specs.Prelude.{MatchResult}
-use Rattle.std.proofs.lemmas.Bool.{cases_eq, eqb-false}
-use Rattle.std.proofs.lemmas.List.{take_all}
-use Rattle.xn_model.specs.Lives.{StoreState}
+use Rattle.std.proofs.Common.{◌≡◌, ◌≢◌, ◌∙◌, ◌+◌, ℕ, Some, None, Ok, Option, true, arith, length, refl, subst, sym}
+use Rattle.std.proofs.lemmas.Bool.{eqb-false}
 use Rattle.ffs_model.specs.Cuts.{latest}
 use Rattle.ffs_lookup.specs.declared.fault.FfsFault.{FfsFault}
-use Rattle.ffs_lookup.specs.Newest.{file_end, is_short, write_in}
+use Rattle.ffs_lookup.specs.Newest.{is_short, write_in}
 use Rattle.ffs_lookup.specs.declared.fault.FfsFault.TheVariants.{Kernel}
 use Rattle.xn_model.specs.declared.refusal.Refusal.TheVariants.{TooManyPending}
 use Rattle.ffs_lib.specs.Outcomes.{IsRaised}
 use Rattle.ffs_lib.specs.Results.{OnlyChanges}
-use Rattle.ffs_lib.specs.Steps.{Answers, Stage, Stops, StopsAtHome}
+use Rattle.ffs_lib.specs.Steps.{Stops, StopsAtHome}
 use Rattle.ffs_lib.specs.Volumes.{edits_of}
-use Rattle.ffs_lib.specs.Writes.{StopsSome, StopsWriting, Wrote, WroteSome}
-use Rattle.ffs_lib.proofs.Laws.{answers_ok, match_then, staged}
+use Rattle.ffs_lib.specs.Writes.{StopsSome, WroteSome}
+use Rattle.ffs_lib.proofs.Laws.{answers_ok, staged}
 use Rattle.ffs_lib.proofs.Parting.{end_found, none_by, raise_refused, raised_wrote, some_wrote, stops_writing, whole_stop, write_file}
 use Rattle.ffs_lib.proofs.volume.Volume.write_some.Goals as goal
 
