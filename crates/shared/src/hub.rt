@@ -146,6 +146,7 @@ impl<L: Lane, K: Naming> Hub<L, K> {
         ensures idle { OnOk result (IsIdle self.old.kernel.state.lives) }
         ensures done { OnOk result (all_pending self.new.kernel.state.lives ≡ 0) }
         ensures few { IfOk result (λ writes. writes ≤ all_pending self.old.kernel.state.lives) }
+        ensures stopped { IfErr result (λ stop. stop.refusal ≡ Refusal.Device → IsIdle self.old.kernel.state.lives) }
         ensures err { IfErr result (λ stop.
             Refuses L.bytes_of L.faults_of L.write_gives L.sync_gives L.read_gives self.old.kernel stop.writes stop.ticket stop.refusal self.new.kernel) }
         ensures raised { AllRaised self.new }
