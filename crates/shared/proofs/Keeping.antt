@@ -1,5 +1,5 @@
 -- Each call leaves no word above its file system's floor.
-use Rattle.std.proofs.Common.{◌≡◌, ◌⊎◌, ℕ, zero, suc, Bool, true, false, List, Option, Some, None, Result, Ok, Err, refl, ap, ⊎_elim, arith}
+use Rattle.std.proofs.Common.{◌≡◌, ◌⊎◌, ℕ, zero, suc, Bool, true, false, List, [], Option, Some, None, Result, Ok, Err, refl, ap, ⊎_elim, arith}
 use Rattle.std.specs.Prelude.{IsTrue, OnErr, IfOk, IfErr, IsErrAnd}
 use Rattle.xn_model.specs.Types.{Types}
 use Rattle.xn_model.specs.Lives.{StoreState}
@@ -12,6 +12,8 @@ use Rattle.xn_state.specs.declared.answer.Answer.{Answer}
 use Rattle.xn_state.specs.Answers.{Answers}
 use Rattle.xn_kernel.specs.Kernels.{KernelValue, TicketValue, result_map_err}
 use Rattle.xn_kernel.specs.Drains.{Reads, WritesTo, Round, Rounds, Stops, Refuses}
+use Rattle.disk.specs.declared.lane.DeviceFault.{DeviceFault}
+use Rattle.xn_kernel.specs.Flushes.{Ends, FlushRefuses, Wave, Waves, with_begun}
 use Rattle.shared.specs.Floors.{FloorsRise}
 use Rattle.shared.specs.Hubs.{NoWordAbove}
 use Rattle.shared.proofs.Floors.{init_rises, propose_rises, make_root_rises, drop_root_rises, forget_rises, begun_rises, settled_rises, rises_by, rises_on, begun_ok_rises, settled_ok_rises}
@@ -110,3 +112,46 @@ module _ {L : Type 0} (bytes : L → List ℕ) (faults : L → ℕ) (writes : Wr
       IfErr result (λ stop. Refuses bytes faults writes syncs reads old (count stop) (ticket stop) (refusal stop) new) → FloorsRise old.state new.state
   drain_rises old new (Ok n) count ticket refusal ok err = rounds_rise n old new ok
   drain_rises old new (Err stop) count ticket refusal ok err = refuses_rise old new (count stop) (ticket stop) (refusal stop) err
+
+  -- A flush
+
+  ends_rise : (answer : Result (Unit {0}) DeviceFault) (home : L) (ticket : TicketValue L) (old : KernelValue L) (before : List (TicketValue L)) (is_durable : Bool) (new : KernelValue L) (after : List (TicketValue L)) →
+      Ends bytes faults syncs reads answer home ticket old before is_durable new after → FloorsRise old.state new.state
+  ends_rise answer home ticket old before true new after e =
+      let x = e.0 in
+      rises_on old.state x.store new.state (settled_ok_rises old.state x.store ticket.block ticket.bytes (ticket.count, x.freed) x.settles) (rises_by x.store new.state (ap (λ k. k.state) x.next))
+  ends_rise answer home ticket old before false new after e = ⊎_elim
+      (λ kept.
+      let x = kept.0 in
+      rises_on old.state x.store new.state (settled_ok_rises old.state x.store ticket.block (bytes x.settled) (0, 0) x.settles) (rises_by x.store new.state (ap (λ k. k.state) x.next)))
+      (λ stays. rises_by old.state new.state (ap (λ k. k.state) stays.2))
+      e
+
+  wave_rises : (n room durable : ℕ) (old : KernelValue L) (before : List (TicketValue L)) (new : KernelValue L) (after : List (TicketValue L)) →
+      Wave bytes faults writes syncs reads n room durable old before new after → FloorsRise old.state new.state
+  wave_rises zero room durable old before new after w = rises_by old.state new.state (ap (λ k. k.state) w.1)
+  wave_rises (suc n) room durable old before new after w =
+      let one = begun_ok_rises old.state w.begun w.ticket.block (w.ticket.bytes, w.ticket.count) w.written.begins in
+      let two = wave_rises n w.left w.others (with_begun old w.ticket.block w.begun) before w.mid w.between w.rest in
+      let three = ends_rise w.answer w.written.home w.ticket w.mid w.between w.is_durable new after w.ends in
+      rises_on old.state w.begun new.state one (rises_on w.begun w.mid.state new.state two three)
+
+  waves_rise : (n : ℕ) (old new : KernelValue L) → Waves bytes faults writes syncs reads n old new → FloorsRise old.state new.state
+  waves_rise zero old new e = rises_by old.state new.state (ap (λ k. k.state) e)
+  waves_rise (suc n) old new w =
+      rises_on old.state w.0.state new.state (wave_rises w.1.blocks 32 w.1.blocks old [] w.0 [] w.1.wave) (waves_rise n w.0 new w.2)
+
+  flush_refuses_rise : (old new : KernelValue L) (n : ℕ) (tickets : List (TicketValue L)) (refusal : Refusal) → FlushRefuses bytes faults writes syncs reads old n tickets refusal new → FloorsRise old.state new.state
+  flush_refuses_rise old new n tickets refusal h = ⊎_elim
+      (λ busy. rises_by old.state new.state (ap (λ k. k.state) busy.4))
+      (λ idle. ⊎_elim
+      (λ wanting. rises_by old.state new.state (ap (λ k. k.state) wanting.3))
+      (λ s. rises_on old.state s.0.state new.state (waves_rise n old s.0 s.1) (wave_rises s.2.blocks 32 s.2.durable s.0 [] new tickets s.2.wave))
+      idle.1)
+      h
+
+  pub flush_rises : {S : Type 0} (old new : KernelValue L) (result : Result ℕ S) (count : S → ℕ) (tickets : S → List (TicketValue L)) (refusal : S → Refusal) →
+      IfOk result (λ n. Waves bytes faults writes syncs reads n old new) →
+      IfErr result (λ stop. FlushRefuses bytes faults writes syncs reads old (count stop) (tickets stop) (refusal stop) new) → FloorsRise old.state new.state
+  flush_rises old new (Ok n) count tickets refusal ok err = waves_rise n old new ok
+  flush_rises old new (Err stop) count tickets refusal ok err = flush_refuses_rise old new (count stop) (tickets stop) (refusal stop) err

@@ -10,6 +10,7 @@ ghost use Rattle.xn_model.specs.Rules.{IsIdle};
 ghost use Rattle.xn_model.specs.Lives.{StoreState};
 ghost use Rattle.xn_kernel.specs.Kernels.{KernelValue, TicketValue, is_mine, result_map_err};
 ghost use Rattle.xn_kernel.specs.Drains.{Rounds, Refuses, with_home};
+ghost use Rattle.xn_kernel.specs.Flushes.{FlushRefuses, Waves};
 ghost use Rattle.shared.specs.Hubs.{HubValue, NoWordAbove, AllRaised};
 
 use crate::lock::Held;
@@ -18,7 +19,7 @@ use durable_floor::{Floor, Naming, Publisher, Reader};
 use std::alloc::Global;
 use std::marker::{Model, PhantomData};
 use std::sync::Arc;
-use xn_kernel::{DrainStop, Fs, Kernel, Landed, Refusal, Ticket};
+use xn_kernel::{DrainStop, FlushStop, Fs, Kernel, Landed, Refusal, Ticket};
 
 mod calls;
 mod store;
@@ -152,6 +153,23 @@ impl<L: Lane, K: Naming> Hub<L, K> {
         ensures raised { AllRaised self.new }
     {
         let ended = self.kernel.drain();
+        raise_all(&self.kernel, &self.floor, &mut self.publisher);
+        ended
+    }
+
+    /// Writes all that is pending in waves, each synced before the next, as the kernel does, in one call. Whatever it answers, each word is then its
+    /// file system's floor.
+    pub fn flush(&mut self, alloc: Global) -> Result<u32, FlushStop<L>>
+        ensures waves { IfOk result (λ waves. Waves L.bytes_of L.faults_of L.write_gives L.sync_gives L.read_gives waves self.old.kernel self.new.kernel) }
+        ensures idle { OnOk result (IsIdle self.old.kernel.state.lives) }
+        ensures rests { OnOk result (IsIdle self.new.kernel.state.lives) }
+        ensures done { OnOk result (all_pending self.new.kernel.state.lives ≡ 0) }
+        ensures few { IfOk result (λ waves. waves ≤ all_pending self.old.kernel.state.lives) }
+        ensures err { IfErr result (λ stop. FlushRefuses L.bytes_of L.faults_of L.write_gives L.sync_gives L.read_gives self.old.kernel
+            stop.waves stop.tickets.items stop.refusal self.new.kernel) }
+        ensures raised { AllRaised self.new }
+    {
+        let ended = self.kernel.flush(alloc);
         raise_all(&self.kernel, &self.floor, &mut self.publisher);
         ended
     }
