@@ -14,7 +14,9 @@ use Rattle.block_cache.specs.declared.entry.Entry.{Entry}
 use Rattle.block_cache.specs.declared.totals.Totals.{Totals}
 use Rattle.block_cache.specs.Cached.{CachedLife}
 use Rattle.block_cache.specs.Undone.{life_of, lives_of}
-use Rattle.block_cache.specs.Kept.{AreKept, place_at, change_place, appended, settled, with_begun, with_status}
+use Rattle.block_cache.specs.declared.new_bytes.NewBytes.{NewBytes}
+use Rattle.block_cache.specs.NewBytes.{appended_by}
+use Rattle.block_cache.specs.Kept.{AreKept, place_at, change_place, settled, with_begun, with_status}
 use Rattle.block_cache.specs.Totals.{pending_of, in_flight_of, totals_of, totals_at}
 use Rattle.block_cache.proofs.Changes.{length-pending}
 
@@ -125,7 +127,7 @@ totals_kept places b status = λ i. record {
 
 -- How many are pending after a change
 
-pub pending_appended : (k : ℕ) (bytes : List ℕ) (o : Option CachedLife) → pending_of (option_map (appended k bytes) o) ≤ pending_of o + 1
+pub pending_appended : (k : ℕ) (bytes : NewBytes) (o : Option CachedLife) → pending_of (option_map (appended_by k bytes) o) ≤ pending_of o + 1
 pending_appended k bytes None = omega arith
 pending_appended k bytes (Some l) = omega (arith, length_push l.keys k)
 

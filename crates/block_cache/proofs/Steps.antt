@@ -1,15 +1,16 @@
 -- What each call leaves of the places and the slab.
 use Rattle.std.proofs.Common.{◌≡◌, ℕ, ◌<◌, ◌≤◌, Bool, List, [], ◌∷◌, length, take, drop, Option, Some, None, refl, sym, ◌∙◌, ap, arith, subst}
-use Rattle.std.specs.Prelude.{IsTrue, IfSome, is_some, option_map}
+use Rattle.std.specs.Prelude.{IsTrue, IfSome, is_some, option_map, slice_set}
 use Rattle.slab.specs.Slab.{Slab, get, Updates}
 use Rattle.xn_model.specs.declared.status.Status.{Status}
 use Rattle.xn_model.specs.Lives as model
 use Rattle.xn_model.specs.Lives.{Life, Lives, life_at, change_at, with_state, settle, settled_at, begun_at, current, root_on_disk}
-use Rattle.xn_model.specs.Calls.{Edit, life_pending, life_bytes, patched}
+use Rattle.xn_model.specs.Calls.{life_pending, life_bytes, patched}
 use Rattle.block_cache.specs.declared.entry.Entry.{Entry}
 use Rattle.block_cache.specs.Claims.{state_of}
 use Rattle.block_cache.specs.Cached.{CachedLife}
-use Rattle.block_cache.specs.Made.{Makes}
+use Rattle.block_cache.specs.declared.new_bytes.NewBytes.{NewBytes}
+use Rattle.block_cache.specs.NewBytes.{appended_by, new_bytes}
 use Rattle.block_cache.specs.Named.{places_named}
 use Rattle.block_cache.specs.Undone.{before, entries_of, life_of, lives_of}
 use Rattle.block_cache.specs.Kept.{IsApart, IsAmong, AreOf, IsKept, AreKept, IsWhole, place_at, change_place, appended, settled, with_status, with_begun, first_keys}
@@ -58,15 +59,18 @@ if_some : (o : Option CachedLife) (P : CachedLife → Type 0) → ((l : CachedLi
 if_some None P h = tt
 if_some (Some l) P h = h l refl
 
--- an edit of the newest bytes, which are those that are kept
-pub made_there : (slab : Slab Entry) (places : List (Option CachedLife)) (lives : Lives) (b : ℕ) (edit : Option Edit) (bytes : List ℕ) → AreKept slab places → lives_of slab places ≡ lives →
-    IfSome edit (Makes (life_bytes (life_at lives b)) bytes) → IfSome (place_at places b) (λ l. IfSome edit (Makes l.current bytes))
-made_there slab places lives b edit bytes kept view made =
-    let P : CachedLife → Type 0 = λ l. IfSome edit (Makes l.current bytes) in
-    if_some (place_at places b) P
+same_map : (o : Option CachedLife) (f g : CachedLife → CachedLife) → ((l : CachedLife) → Some l ≡ o → f l ≡ g l) → option_map f o ≡ option_map g o
+same_map None f g h = refl
+same_map (Some l) f g h = ap (λ x. Some x) (h l refl)
+
+-- one more entry of the newest bytes, which are those that are kept
+pub appended_there : (slab : Slab Entry) (places : List (Option CachedLife)) (lives : Lives) (b k : ℕ) (bytes : NewBytes) → AreKept slab places → lives_of slab places ≡ lives →
+    change_place places b (appended_by k bytes) ≡ change_place places b (appended k (new_bytes bytes (life_bytes (life_at lives b))))
+appended_there slab places lives b k bytes kept view =
+    ap (slice_set places b) (same_map (place_at places b) (appended_by k bytes) (appended k (new_bytes bytes (life_bytes (life_at lives b))))
     (λ l at.
     let now = ap life_bytes (life_there slab places lives b l view at) ∙ current_of_life slab b l (place_kept slab places b l kept (sym at)) in
-    subst (λ m. IfSome edit (Makes m bytes)) now made)
+    ap (λ m. appended k (new_bytes bytes m) l) (sym now)))
 
 pub few_keys : (slab : Slab Entry) (places : List (Option CachedLife)) (lives : Lives) (b k : ℕ) → AreKept slab places → lives_of slab places ≡ lives →
     k ≤ life_pending (life_at lives b) → IfSome (place_at places b) (λ l. k ≤ length l.keys)

@@ -13,16 +13,17 @@ ghost use Rattle.block_cache.specs.Systems.{system_of};
 ghost use Rattle.block_cache.specs.Named.{places_named};
 ghost use Rattle.block_cache.specs.Claims.{state_of, claim_of};
 ghost use Rattle.block_cache.specs.Kept.{IsAmong, IsApart, first_keys, keys_of};
-ghost use Rattle.block_cache.specs.Made.{Makes};
+ghost use Rattle.block_cache.specs.NewBytes.{MayLeave, new_bytes};
 ghost use Rattle.block_cache.specs.Views.{image_at, HasImage, facts_of, pending_at, rest_at};
 
 use crate::claim::Claim;
 use crate::entry::Entry;
 use crate::life::{Facts, FoundLife, Life};
 use crate::named_places::NamedPlaces;
+use crate::new_bytes::NewBytes;
 use crate::places::Places;
 use crate::rollback;
-use edit_list::{Edit, EditId, Fs, Undo};
+use edit_list::{EditId, Fs, Undo};
 use slab::Slab;
 use std::alloc::{AllocError, Global};
 use std::marker::Model;
@@ -240,26 +241,24 @@ impl Cache {
         }
     }
 
-    /// One more entry of a block in use, which leaves these bytes, and the bytes that it overwrites. Where it is an edit, that is made in
-    /// place.
+    /// One more entry of a block in use, which leaves these bytes, and the bytes that it overwrites.
     pub fn append(
         &mut self,
         block: u32,
         claim: Claim,
-        bytes: &[u8; 512],
-        edit: Option<&Edit>,
+        bytes: NewBytes<'_>,
         undo: Undo,
     ) -> Result<(), AllocError>
         requires alive { IsTrue (is_some (life_at self.old block)) }
         requires room { life_pending (life_at self.old block) < 64 }
-        requires undoes { patched bytes.now undo ≡ life_bytes (life_at self.old block) }
-        requires made { IfSome (option_copied edit) (Makes (life_bytes (life_at self.old block)) bytes.now) }
-        ensures ok { OnOk result (self.new ≡ change_at self.old block (with_state (state_of claim bytes.now))) }
+        requires leaves { MayLeave bytes }
+        requires undoes { patched (new_bytes bytes (life_bytes (life_at self.old block))) undo ≡ life_bytes (life_at self.old block) }
+        ensures ok { OnOk result (self.new ≡ change_at self.old block (with_state (state_of claim (new_bytes bytes.entry (life_bytes (life_at self.old block)))))) }
         ensures err { OnErr result (self.new ≡ self.old) }
     {
         self.entries.reserve(1)?;
         let key = self.entries.vacant_key();
-        self.places.append(block, key, bytes, edit)?;
+        self.places.append(block, key, bytes)?;
         self.entries.insert_reserved(Entry { block, claim, undo });
         Ok(())
     }

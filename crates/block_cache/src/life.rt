@@ -1,12 +1,13 @@
 // What a block in use holds.
 
-ghost use Rattle.std.specs.Prelude.{◌≡◌, ◌≤◌, ◌&&◌, ◌==◌, true, false, is_some, [], ◌∷◌, ◌++◌, length, drop, option_map, option_copied, Some, None, IfOk, IfSome, OnOk, OnErr};
+ghost use Rattle.std.specs.Prelude.{◌≡◌, ◌≤◌, ◌&&◌, ◌==◌, true, false, is_some, [], ◌∷◌, ◌++◌, length, drop, option_map, Some, None, IfOk, OnOk, OnErr};
 ghost use Rattle.xn_model.specs.Lives.{is_dropped, is_for, is_fresh, is_owned_by};
 ghost use Rattle.block_cache.specs.Systems.{system_of};
 ghost use Rattle.block_cache.specs.Kept.{started, resting};
-ghost use Rattle.block_cache.specs.Made.{Makes};
+ghost use Rattle.block_cache.specs.NewBytes.{MayLeave, appended_by};
 
-use edit_list::{Edit, Fs};
+use crate::new_bytes::NewBytes;
+use edit_list::Fs;
 use std::alloc::{AllocError, Global};
 use std::marker::Model;
 use xn_model::Status;
@@ -111,6 +112,7 @@ impl Facts {
 
 impl Life {
     /// A life that no owner names, a file system's or nobody's, with its first entry.
+    #[inline(always)]
     pub fn start(
         alloc: Global,
         key: usize,
@@ -197,22 +199,14 @@ impl Life {
         &self.current
     }
 
-    /// Puts one more entry behind the others, which left these bytes. Where it is an edit, that is made in place.
-    pub fn append(
-        &mut self,
-        key: usize,
-        bytes: &[u8; 512],
-        edit: Option<&Edit>,
-    ) -> Result<(), AllocError>
-        requires made { IfSome (option_copied edit) (Makes self.old.current bytes.now) }
-        ensures ok { OnOk result (self.new ≡ record self.old { current = bytes.now; keys = self.old.keys ++ key ∷ [] }) }
+    /// Puts one more entry behind the others, which left these bytes.
+    pub fn append(&mut self, key: usize, bytes: NewBytes<'_>) -> Result<(), AllocError>
+        requires { MayLeave bytes }
+        ensures ok { OnOk result (self.new ≡ appended_by key bytes.entry self.old) }
         ensures err { OnErr result (self.new ≡ self.old) }
     {
         self.keys.push(key)?;
-        match edit {
-            Some(edit) => edit.apply(&mut self.current),
-            None => self.current = *bytes,
-        }
+        bytes.put(&mut self.current);
         Ok(())
     }
 

@@ -3,13 +3,13 @@
 ghost use Rattle.std.specs.Prelude.{◌≡◌, ◌^◌, ◌<◌, ◌≤◌, length, map, Option, IsTrue, IfOk, OnOk, OnErr, IfSome, is_some, slice_set};
 ghost use Rattle.std.specs.List.{range_with_len};
 ghost use Rattle.std.specs.Option.{option_copied};
-ghost use Rattle.block_cache.specs.Kept.{place_at, change_place, appended, resting_at, settled, with_status, with_begun};
-ghost use Rattle.block_cache.specs.Made.{Makes};
+ghost use Rattle.block_cache.specs.Kept.{place_at, change_place, resting_at, settled, with_status, with_begun};
+ghost use Rattle.block_cache.specs.NewBytes.{MayLeave, appended_by};
 ghost use Rattle.block_cache.specs.Totals.{totals_at};
 
 use crate::life::{FoundLife, Life};
+use crate::new_bytes::NewBytes;
 use crate::totals::Totals;
-use edit_list::Edit;
 use std::alloc::{AllocError, Global};
 use std::marker::Model;
 use xn_model::Status;
@@ -85,6 +85,7 @@ impl LifeList {
     }
 
     /// Puts a life on a block, or frees it.
+    #[inline(always)]
     pub fn set(&mut self, block: u32, life: Option<Life>)
         ensures { self.new ≡ slice_set self.old block life }
     {
@@ -93,21 +94,15 @@ impl LifeList {
         }
     }
 
-    /// Puts one more entry of a block behind the others, which left these bytes. Where it is an edit, that is made in place.
-    pub fn append(
-        &mut self,
-        block: u32,
-        key: usize,
-        bytes: &[u8; 512],
-        edit: Option<&Edit>,
-    ) -> Result<(), AllocError>
+    /// Puts one more entry of a block behind the others, which left these bytes.
+    pub fn append(&mut self, block: u32, key: usize, bytes: NewBytes<'_>) -> Result<(), AllocError>
         requires alive { IsTrue (is_some (place_at self.old block)) }
-        requires made { IfSome (place_at self.old block) (λ life. IfSome (option_copied edit) (Makes life.current bytes.now)) }
-        ensures ok { OnOk result (self.new ≡ change_place self.old block (appended key bytes.now)) }
+        requires leaves { MayLeave bytes }
+        ensures ok { OnOk result (self.new ≡ change_place self.old block (appended_by key bytes.entry)) }
         ensures err { OnErr result (self.new ≡ self.old) }
     {
         match &mut self.lives[block as usize] {
-            Some(life) => life.append(key, bytes, edit),
+            Some(life) => life.append(key, bytes),
             None => unreachable!(),
         }
     }

@@ -3,14 +3,14 @@
 ghost use Rattle.std.specs.Prelude.{◌≡◌, ◌+◌, ◌^◌, ◌<◌, ◌≤◌, length, map, Option, IsTrue, IfOk, OnOk, OnErr, IfSome, is_some, slice_set, sum_by};
 ghost use Rattle.std.specs.List.{range_with_len};
 ghost use Rattle.std.specs.Option.{option_copied};
-ghost use Rattle.block_cache.specs.Kept.{place_at, change_place, appended, resting_at, settled, with_status, with_begun};
-ghost use Rattle.block_cache.specs.Made.{Makes};
+ghost use Rattle.block_cache.specs.Kept.{place_at, change_place, resting_at, settled, with_status, with_begun};
+ghost use Rattle.block_cache.specs.NewBytes.{MayLeave, appended_by};
 ghost use Rattle.block_cache.specs.Totals.{pending_of, in_flight_of};
 
 use crate::life::{FoundLife, Life};
 use crate::life_list::LifeList;
+use crate::new_bytes::NewBytes;
 use crate::totals::Totals;
-use edit_list::Edit;
 use std::alloc::{AllocError, Global};
 use std::marker::Model;
 use xn_model::Status;
@@ -82,6 +82,7 @@ impl Places {
     }
 
     /// Puts a life on a block, or frees it.
+    #[inline(always)]
     pub fn set(&mut self, block: u32, life: Option<Life>)
         requires few { sum_by pending_of self.old + pending_of life < 2 ^ 64 }
         ensures { self.new ≡ slice_set self.old block life }
@@ -91,22 +92,16 @@ impl Places {
         self.totals.change(before, self.lives.totals(block));
     }
 
-    /// Puts one more entry of a block behind the others, which left these bytes. Where it is an edit, that is made in place.
-    pub fn append(
-        &mut self,
-        block: u32,
-        key: usize,
-        bytes: &[u8; 512],
-        edit: Option<&Edit>,
-    ) -> Result<(), AllocError>
+    /// Puts one more entry of a block behind the others, which left these bytes.
+    pub fn append(&mut self, block: u32, key: usize, bytes: NewBytes<'_>) -> Result<(), AllocError>
         requires alive { IsTrue (is_some (place_at self.old block)) }
-        requires made { IfSome (place_at self.old block) (λ life. IfSome (option_copied edit) (Makes life.current bytes.now)) }
+        requires leaves { MayLeave bytes }
         requires few { sum_by pending_of self.old + 1 < 2 ^ 64 }
-        ensures ok { OnOk result (self.new ≡ change_place self.old block (appended key bytes.now)) }
+        ensures ok { OnOk result (self.new ≡ change_place self.old block (appended_by key bytes.entry)) }
         ensures err { OnErr result (self.new ≡ self.old) }
     {
         let before = self.lives.totals(block);
-        self.lives.append(block, key, bytes, edit)?;
+        self.lives.append(block, key, bytes)?;
         self.totals.change(before, self.lives.totals(block));
         Ok(())
     }

@@ -68,3 +68,9 @@ not_marked marks xs i x within none before = elim (cases_Bool (has_number (take 
       let here : get_or xs at.0 0 ≡ x = get_or_default xs at.0 0 x (omega (arith, lt, within)) ∙ (sym (get_or-take i xs at.0 x lt) ∙ at.2) in
       absurd (false≢true (sym none ∙ (ap (λ n. get_or marks (n % 1024) false) (sym here) ∙ before at.0 lt)))
 ]
+
+-- one number alone is none twice
+pub few_distinct : (xs : List ℕ) → length xs < 2 → true ≡ distinct xs
+few_distinct [] few = refl
+few_distinct (x ∷ []) few = refl
+few_distinct (x ∷ y ∷ ys) few = absurd (omega arith)

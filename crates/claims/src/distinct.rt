@@ -17,6 +17,9 @@ pub(crate) fn has_number(numbers: &[u32], number: u32) -> bool
 pub fn are_distinct(numbers: &[u32]) -> bool
     ensures { result ≡ distinct numbers.now }
 {
+    if numbers.len() < 2 {
+        return true;
+    }
     let mut is_marked = [false; 1024];
     for (place, number) in numbers.iter().enumerate() {
         let mark = (*number % 1024) as usize;

@@ -2,7 +2,9 @@
 use Rattle.std.proofs.Common.{◌≡◌, ℕ, List, Option, Some, None, Result, Ok, Err, sym, ◌∙◌, ap}
 use Rattle.xn_model.specs.declared.refusal.Refusal.{Refusal}
 use Rattle.xn_model.specs.Types.{Types}
-use Rattle.xn_model.specs.Lives.{Life, StoreState, current, life_at}
+use Rattle.std.specs.Prelude.{option_map}
+use Rattle.std.proofs.lemmas.Option.{none-some, same_Some}
+use Rattle.xn_model.specs.Lives.{Life, Lives, StoreState, current, life_at}
 use Rattle.xn_model.specs.Results.{unless, result_and_then}
 use Rattle.xn_model.specs.Calls.{Edit, own_life, accepts, edited, life_bytes, patched, propose_refusal, propose_at, propose_of}
 use Rattle.xn_model.specs.Rules.{IsConsistent}
@@ -51,3 +53,10 @@ bytes_made T state fs b e bytes made =
     let own = own_then state fs b (proposed_at T state fs b e) bytes made in
     let same = given_ok (propose_refusal T state fs b e own.0) (Ok (patched (current own.0) e.patches)) bytes own.2 in
     sym (same_ok (patched (current own.0) e.patches) bytes same) ∙ ap (λ o. patched (life_bytes o) e.patches) (sym own.1.alive)
+
+pub newest_bytes : (lives : Lives) (b : ℕ) (old : List ℕ) → Some old ≡ option_map current (life_at lives b) → life_bytes (life_at lives b) ≡ old
+newest_bytes lives b old e = by (life_at lives b) e
+  where
+    by : (o : Option Life) → Some old ≡ option_map current o → life_bytes o ≡ old
+    by None e = absurd (none-some old (sym e))
+    by (Some l) e = sym (same_Some old (current l) e)

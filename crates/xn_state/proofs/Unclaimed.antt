@@ -1,18 +1,25 @@
 -- Edits that claim nothing and leave what decides the owned blocks.
-use Rattle.std.proofs.Common.{◌≡◌, ℕ, true, List, [], ◌∷◌, ◌++◌, length, Option, Some, None, refl, sym, ◌∙◌, ap, subst}
-use Rattle.std.specs.Prelude.{◌&&◌, is_some}
-use Rattle.std.proofs.lemmas.Bool.{and_from, false≢true}
-use Rattle.xn_model.specs.Lists.{blocks_of, distinct}
-use Rattle.xn_model.specs.Types.{Types, inside, without, claims, named_once}
+use Rattle.std.proofs.Common.{◌≡◌, ℕ, ◌+◌, true, not, List, [], ◌∷◌, ◌++◌, length, drop, Option, Some, None, refl, sym, ◌∙◌, ap, arith, subst}
+use Rattle.std.specs.Prelude.{◌&&◌, is_some, nat_le, nat_lt}
+use Rattle.std.specs.List.{list_all}
+use Rattle.std.proofs.lemmas.Bool.{and_from, and_parts, false≢true, leb-true}
+use Rattle.std.proofs.lemmas.List.{drop_all}
+use Rattle.edit_list.proofs.ForCallers.{length-put, patches_of_edit}
+use Rattle.xn_model.specs.declared.refusal.Refusal.TheVariants.{ClaimWrong, SizeWrong}
+use Rattle.xn_model.specs.Lists.{blank, blocks_of, distinct, put}
+use Rattle.xn_model.specs.Types.{Types, inside, without, claims, named_once, within_size}
+use Rattle.xn_model.specs.Results.{first_refusal}
+use Rattle.xn_state.specs.Proposals.{last_tests}
 use Rattle.xn_model.specs.Lives.{Life, Lives, StoreState, current, life_at}
-use Rattle.xn_model.specs.Calls.{Edit, patched}
+use Rattle.xn_model.specs.Calls.{Edit, Patch, is_patch, patched, within_limits}
 use Rattle.xn_model.specs.Rules.{IsConsistent}
 use Rattle.owner_records.specs.Owners.{is_claimed, owned_count}
 use Rattle.owner_records.proofs.ForCallers.{claimed_is, inside_from, newest_once, owned_counted}
 use Rattle.udf_run.specs.ReadSets.{AgreeOn}
 use Rattle.udf_run.specs.Safe.{IsBlock}
 use Rattle.templates.specs.Decided.{DecidesOwned}
-use Rattle.claims.specs.Decided.{Leaves}
+use Rattle.claims.specs.Decided.{Leaves, newest_at, newest_of}
+use Rattle.std.proofs.lemmas.Option.{same_Some}
 
 pub some_life : (lives : Lives) (b : ℕ) → is_some (life_at lives b) ≡ true → (l : Life) × (life_at lives b ≡ Some l)
 some_life lives b alive = by (life_at lives b) refl alive
@@ -20,6 +27,9 @@ some_life lives b alive = by (life_at lives b) refl alive
     by : (o : Option Life) → life_at lives b ≡ o → is_some o ≡ true → (l : Life) × (life_at lives b ≡ Some l)
     by None here e = absurd (false≢true e)
     by (Some l) here e = (l, here)
+
+pub newest_type : (lives : Lives) (b ty : ℕ) (l : Life) (m : List ℕ) → life_at lives b ≡ Some l → newest_at lives b ≡ Some (ty, m) → l.ty ≡ ty
+newest_type lives b ty l m here e = ap (λ (p : ℕ × List ℕ). p.0) (same_Some (l.ty, current l) (ty, m) (sym (ap newest_of here) ∙ e))
 
 all_left : (ps : List (ℕ × ℕ)) → without ps [] ++ [] ≡ ps
 all_left [] = refl
@@ -41,6 +51,28 @@ unchanged_claim T state b l h alive =
     ap (λ n. is_claimed state.lives b n (T.owned l.ty (current l)) [] [] && named_once T l.ty (current l)) (sym (owned_counted T state b l h alive))
     ∙ (sym (claimed_is T state b 0 l (current l) [] [] h alive refl refl refl refl)
     ∙ and_from (claims T l.ty (current l) (current l) [] []) (named_once T l.ty (current l)) (claims_nothing T l.ty (current l)) (newest_once T state b l h alive))
+
+-- an edit of a block of data that claims nothing
+
+length_patched : (m : List ℕ) (ps : List Patch) → length m ≡ 512 → list_all is_patch ps ≡ true → length (patched m ps) ≡ 512
+length_patched m [] long all = long
+length_patched m (p ∷ ps) long all =
+    let parts = and_parts (is_patch p) (list_all is_patch ps) all in
+    let fits = leb-true (p.offset + length p.bytes) 512 (and_parts (nat_lt 0 (length p.bytes)) (nat_le (p.offset + length p.bytes) 512) parts.0).1 in
+    length_patched (put m p.offset p.bytes) ps (length-put m p.offset p.bytes (omega (arith, fits, long)) ∙ long) parts.1
+
+pub data_left : (T : Types) (state : StoreState) (b ty : ℕ) (l : Life) (old : List ℕ) (e : Edit) → IsConsistent T state → life_at state.lives b ≡ Some l → l.ty ≡ ty → ty ≡ 2 → length old ≡ 512 →
+    within_limits e ≡ true → e.adds ≡ [] → e.drops ≡ [] → first_refusal (last_tests T state b e ty (patched old e.patches)) ≡ None
+data_left T state b ty l old e h alive same is long limits adds drops =
+    let new = patched old e.patches in
+    let owned : T.owned ty new ≡ T.owned l.ty (current l) =
+    ap (λ t. T.owned t new) is ∙ (h.built_ins.data_owns new ∙ (sym (h.built_ins.data_owns (current l)) ∙ ap (λ t. T.owned t (current l)) (sym (same ∙ is)))) in
+    let claim : (is_claimed state.lives b (owned_count state.lives b) (T.owned ty new) e.adds e.drops && named_once T ty new) ≡ true =
+    (λ i. is_claimed state.lives b (owned_count state.lives b) (owned i) (adds i) (drops i) && distinct (blocks_of (owned i))) ∙ unchanged_claim T state b l h alive in
+    let whole = length_patched old e.patches long (patches_of_edit e limits) in
+    let size : within_size T ty new ≡ true =
+    ap (λ n. blank (drop n new)) (ap (λ t. T.size t new) is ∙ h.built_ins.data_size new) ∙ ap blank (drop_all 512 new (omega (arith, whole))) in
+    λ i. first_refusal ((not (claim i), ClaimWrong) ∷ (not (size i), SizeWrong) ∷ [])
 
 module _ (T : Types) (state : StoreState) (b ty chunks : ℕ) (l : Life) (new : List ℕ) (e : Edit) (alive : life_at state.lives b ≡ Some l) (same_type : l.ty ≡ ty) (edited : patched (current l) e.patches ≡ new)
     (long : length (current l) ≡ 512) (decides : DecidesOwned T l.ty (current l) chunks) (leaves : Leaves chunks e) where

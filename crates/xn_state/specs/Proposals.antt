@@ -14,6 +14,12 @@ use Rattle.xn_model.specs.Calls.{Edit, own_life, too_many, exhausted, within_lim
 
 -- the tests of an edit, by what is known of the block and its newest bytes: row by row those of the model, but that the claim
 -- is read off the statuses
+abbrev pub last_tests : Types → StoreState → ℕ → Edit → ℕ → List ℕ → List (Bool × Refusal)
+last_tests T state b e ty new =
+    (not (is_claimed state.lives b (owned_count state.lives b) (T.owned ty new) e.adds e.drops && named_once T ty new), ClaimWrong)
+    ∷ (not (within_size T ty new), SizeWrong)
+    ∷ []
+
 abbrev pub propose_tests : Types → StoreState → ℕ → ℕ → Edit → Facts → List ℕ → List (Bool × Refusal)
 propose_tests T state fs b e facts old =
     (too_many state fs facts.pending, TooManyPending)
@@ -24,9 +30,7 @@ propose_tests T state fs b e facts old =
     ∷ (has_number (blocks_of e.adds) (chain_end state.lives b), Cycle)
     ∷ (not (list_all (may_drop state b) e.drops && distinct e.drops), NotOwned)
     ∷ (not (list_all (is_empty T state) e.drops), NotEmpty)
-    ∷ (not (is_claimed state.lives b (owned_count state.lives b) (T.owned facts.ty (patched old e.patches)) e.adds e.drops && named_once T facts.ty (patched old e.patches)), ClaimWrong)
-    ∷ (not (within_size T facts.ty (patched old e.patches)), SizeWrong)
-    ∷ []
+    ∷ last_tests T state b e facts.ty (patched old e.patches)
 
 abbrev pub edited_with : Types → StoreState → ℕ → ℕ → Edit → Facts → List ℕ → Result (List ℕ) Refusal
 edited_with T state fs b e facts old = unless (first_refusal (propose_tests T state fs b e facts old)) (Ok (patched old e.patches))

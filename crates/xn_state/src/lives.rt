@@ -9,7 +9,7 @@ ghost use Rattle.xn_model.specs.Calls.{is_ready, is_tainted, life_bytes, life_pe
 ghost use Rattle.xn_model.specs.Images.{blocks_in};
 ghost use Rattle.block_cache.specs.Systems.{system_of};
 ghost use Rattle.block_cache.specs.Claims.{state_of};
-ghost use Rattle.block_cache.specs.Made.{Makes};
+ghost use Rattle.block_cache.specs.NewBytes.{MayLeave, new_bytes};
 ghost use Rattle.block_cache.specs.Views.{facts_of};
 ghost use Rattle.xn_model.specs.Mounts.{found_status};
 ghost use Rattle.owner_records.specs.Owners.{is_claimed, owned_count};
@@ -20,11 +20,11 @@ ghost use Rattle.xn_state.specs.Mounts.{life_of, lives_in};
 
 use crate::counts::{count_entry, mark};
 use crate::found::Found;
-use block_cache::{Cache, Claim, Facts, FoundLife};
+use block_cache::{Cache, Claim, Facts, FoundLife, NewBytes};
 use block_set::BlockSet;
 use claims::OwnedCounts;
 use dependencies::{Candidates, Homes, home_for, least_for};
-use edit_list::{Edit, EditId, Fs, Undo};
+use edit_list::{EditId, Fs, Undo};
 use free_map::FreeMap;
 use std::alloc::{AllocError, Global};
 use std::marker::Model;
@@ -275,15 +275,13 @@ impl Lives {
         Ok(())
     }
 
-    /// Makes one more entry of a block in use, which leaves these bytes: the block owns what it adds and no longer what it drops. Where it
-    /// is an edit, that is made in place.
+    /// Makes one more entry of a block in use, which leaves these bytes: the block owns what it adds and no longer what it drops.
     pub fn accept(
         &mut self,
         fs: Option<Fs>,
         block: u32,
         claim: Claim,
-        bytes: &[u8; 512],
-        edit: Option<&Edit>,
+        bytes: NewBytes<'_>,
         undo: Undo,
         adds: &[(u32, u32)],
         drops: &[u32],
@@ -295,18 +293,18 @@ impl Lives {
         requires claims { MayClaim self.old block adds.now drops.now }
         requires few_adds { length adds.now ≤ 128 }
         requires few_drops { length drops.now ≤ 128 }
-        requires undoes { patched bytes.now undo ≡ life_bytes (life_at self.old block) }
-        requires made { IfSome (option_copied edit) (Makes (life_bytes (life_at self.old block)) bytes.now) }
+        requires leaves { MayLeave bytes }
+        requires undoes { patched (new_bytes bytes (life_bytes (life_at self.old block))) undo ≡ life_bytes (life_at self.old block) }
         requires fresh { (b : ℕ) → pends claim.entry (life_at self.old b) ≡ false }
         requires fs { claim.fs ≡ system_of fs }
         requires adds { claim.adds ≡ adds.now }
         requires drops { claim.drops ≡ drops.now }
-        ensures ok { OnOk result (self.new ≡ accepted_at self.old block (state_of claim bytes.now)) }
+        ensures ok { OnOk result (self.new ≡ accepted_at self.old block (state_of claim (new_bytes bytes.entry (life_bytes (life_at self.old block))))) }
         ensures err { OnErr result (self.new ≡ self.old) }
     {
         let number = claim.entry().number();
         let is_first = self.cache.pending(block) == 0;
-        self.cache.append(block, claim, bytes, edit, undo)?;
+        self.cache.append(block, claim, bytes, undo)?;
         set_dropped(&mut self.cache, block, drops);
         set_owned(&mut self.cache, block, adds);
         self.owned

@@ -7,7 +7,7 @@ ghost use Rattle.dependencies.specs.Pending.{pends};
 ghost use Rattle.xn_state.specs.Installs.{installed_lives};
 
 use crate::lives::Lives;
-use block_cache::Claim;
+use block_cache::{Claim, NewBytes};
 use edit_list::{EditId, Undo};
 use std::alloc::{AllocError, Global};
 use templates::TEMPLATE_TYPE;
@@ -39,7 +39,7 @@ impl Lives {
         let second = EditId(number.0 + 1);
         let claim = Claim::copied(alloc, second, &adds, &[], None, None)?;
         self.start(alloc, block, number, None, TEMPLATE_TYPE, template)?;
-        match self.accept(None, 0, claim, root, None, undo, &adds, &[]) {
+        match self.accept(None, 0, claim, NewBytes::Whole(root), undo, &adds, &[]) {
             Ok(()) => Ok(()),
             Err(error) => {
                 self.forget(block);

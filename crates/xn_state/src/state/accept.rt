@@ -1,18 +1,18 @@
 // One more entry of a block.
 
-ghost use Rattle.std.specs.Prelude.{◌≡◌, ◌<◌, ◌≤◌, ◌^◌, ◌-◌, length, is_some, option_copied, IfSome, IsTrue, Ok};
+ghost use Rattle.std.specs.Prelude.{◌≡◌, ◌<◌, ◌≤◌, ◌^◌, ◌-◌, length, is_some, IsTrue, Ok};
 ghost use Rattle.xn_model.specs.Lives.{life_at};
 ghost use Rattle.xn_model.specs.Results.{Gives};
 ghost use Rattle.xn_model.specs.Calls.{accepts, life_bytes, life_pending, patched, pending_of};
-ghost use Rattle.block_cache.specs.Made.{Makes};
+ghost use Rattle.block_cache.specs.NewBytes.{MayLeave, new_bytes};
 ghost use Rattle.claims.specs.Owned.{MayClaim};
 ghost use Rattle.claims.specs.Decided.{Decides};
 ghost use Rattle.xn_state.specs.Proposals.{entry_of};
 ghost use Rattle.xn_state.specs.States.{Continues, own_types};
 
 use crate::state::State;
-use block_cache::Claim;
-use edit_list::{Edit, EditId, Fs, Undo};
+use block_cache::{Claim, NewBytes};
+use edit_list::{EditId, Fs, Undo};
 use udf_run::ReadSet;
 use xn_model::Refusal;
 
@@ -24,14 +24,13 @@ pub(crate) struct Claims<'a> {
 }
 
 impl State {
-    /// A block in use accepts an entry with these bytes and claims, after which the rules hold; where it is an edit, that is made in place.
-    /// What undoes it gives the newest bytes again. The chunks that decide what the bytes own are kept, where they are known. `NoMemory` changes nothing.
+    /// A block in use accepts an entry with these bytes and claims, after which the rules hold. What undoes it gives the newest
+    /// bytes again. The chunks that decide what the bytes own are kept, where they are known. `NoMemory` changes nothing.
     pub(crate) fn accept(
         &mut self,
         fs: Fs,
         block: u32,
-        bytes: &[u8; 512],
-        edit: Option<&Edit>,
+        bytes: NewBytes<'_>,
         reads: Option<ReadSet>,
         undo: Undo,
         claims: Claims<'_>,
@@ -43,11 +42,11 @@ impl State {
         requires claims { MayClaim self.old.lives block claims.adds.now claims.drops.now }
         requires few_adds { length claims.adds.now ≤ 128 }
         requires small { length claims.drops.now ≤ 128 }
-        requires reads { Decides (own_types self.old) self.old.lives block bytes.now reads }
-        requires undoes { patched bytes.now undo ≡ life_bytes (life_at self.old.lives block) }
-        requires made { IfSome (option_copied edit) (Makes (life_bytes (life_at self.old.lives block)) bytes.now) }
-        requires continues { Continues self.old (accepts self.old block (entry_of self.old fs.number bytes.now claims.adds.now claims.drops.now claims.after)).1 }
-        ensures state { Gives (Ok (accepts self.old block (entry_of self.old fs.number bytes.now claims.entry.adds.now claims.entry.drops.now claims.entry.after))) self.old self.new result }
+        requires reads { Decides (own_types self.old) self.old.lives block (new_bytes bytes (life_bytes (life_at self.old.lives block))) reads }
+        requires undoes { patched (new_bytes bytes (life_bytes (life_at self.old.lives block))) undo ≡ life_bytes (life_at self.old.lives block) }
+        requires leaves { MayLeave bytes }
+        requires continues { Continues self.old (accepts self.old block (entry_of self.old fs.number (new_bytes bytes (life_bytes (life_at self.old.lives block))) claims.adds.now claims.drops.now claims.after)).1 }
+        ensures state { Gives (Ok (accepts self.old block (entry_of self.old fs.number (new_bytes bytes.entry (life_bytes (life_at self.old.lives block))) claims.entry.adds.now claims.entry.drops.now claims.entry.after))) self.old self.new result }
     {
         let Claims { adds, drops, after } = claims;
         let number = EditId(self.next);
@@ -56,7 +55,7 @@ impl State {
         };
         let Ok(()) = self
             .lives
-            .accept(Some(fs), block, claim, bytes, edit, undo, adds, drops)
+            .accept(Some(fs), block, claim, bytes, undo, adds, drops)
         else {
             return Err(Refusal::NoMemory);
         };

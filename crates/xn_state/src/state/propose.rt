@@ -1,26 +1,29 @@
 // A file system edits one of its blocks.
 
-ghost use Rattle.std.specs.Prelude.{◌≡◌, ◌<◌, ◌≤◌, ◌&&◌, ◌^◌, ◌-◌, length, is_some, IsTrue, IfErr, IfOk, IfSome, OnOk, Some};
+ghost use Rattle.std.specs.Prelude.{◌≡◌, ◌<◌, ◌≤◌, ◌&&◌, ◌^◌, ◌-◌, length, is_some, IsTrue, IfErr, IfOk, IfSome, Ok, OnOk, Some};
 ghost use Rattle.std.specs.List.{list_all};
 ghost use Rattle.xn_model.specs.Lists.{blocks_of, distinct, has_number};
 ghost use Rattle.xn_model.specs.Types.{named_once};
 ghost use Rattle.xn_model.specs.Lives.{Life, chain_end, current, life_at};
-ghost use Rattle.xn_model.specs.Results.{Gives, result_map};
+ghost use Rattle.xn_model.specs.Results.{Gives, first_refusal, result_map, unless};
 ghost use Rattle.xn_model.specs.Calls.{is_empty, life_bytes, life_pending, may_add, may_drop, patched, pending_of, propose_of, was_given, within_limits};
 ghost use Rattle.xn_model.specs.Rules.{IsConsistent};
 ghost use Rattle.owner_records.specs.Owners.{is_claimed, owned_count};
 ghost use Rattle.templates.specs.Decided.{DecidesOwned};
 ghost use Rattle.claims.specs.Decided.{Decides, Leaves, newest_at};
-ghost use Rattle.xn_state.specs.Proposals.{edited_with, proposed_of};
+ghost use Rattle.xn_state.specs.Proposals.{edited_with, last_tests, proposed_of};
 ghost use Rattle.xn_state.specs.States.{own_types};
 
 use crate::state::accept::Claims;
 use crate::state::{State, is_within_size};
-use block_cache::Facts;
+use block_cache::{Facts, NewBytes};
 use claims::{are_blocks_distinct, are_distinct, leaves, names, owned_pairs};
 use edit_list::{Edit, EditId, Fs, Undo};
 use udf_run::ReadSet;
 use xn_model::Refusal;
+
+/// The type of blocks of data, which point to nothing and may use all their bytes.
+const DATA_TYPE: u32 = 2;
 
 impl State {
     /// Whether an entry of this number was given, where one is named.
@@ -144,9 +147,39 @@ impl State {
         }
     }
 
-    /// Writes into `bytes` what an edit leaves of a block with these, and answers the chunks that decide what they own, or
-    /// the first refusal that applies.
-    #[inline(always)]
+    /// The chunks that decide what a block owns that an edit leaves, or the first of the last two refusals that applies. A block of data may
+    /// have any bytes and owns nothing, so an edit of it that claims nothing takes no look at them, and the chunks stay unknown.
+    fn left_by(
+        &self,
+        block: u32,
+        ty: u32,
+        old: &[u8; 512],
+        edit: &Edit,
+    ) -> Result<Option<ReadSet>, Refusal>
+        requires alive { IsTrue (is_some (life_at self.now.lives block)) }
+        requires installed { IsTrue ((own_types self.now).installed ty) }
+        requires newest { newest_at self.now.lives block ≡ Some (ty, old.now) }
+        requires limits { IsTrue (within_limits edit.now) }
+        ensures plan { result_map (λ reads. patched old.now edit.now.patches) result
+            ≡ unless (first_refusal (last_tests (own_types self.now) self.now block edit.now ty (patched old.now edit.now.patches))) (Ok (patched old.now edit.now.patches)) }
+        ensures reads { IfOk result (λ reads. IfSome reads (λ set. DecidesOwned (own_types self.now) ty (patched old.now edit.now.patches) set.chunks)) }
+    {
+        if ty == DATA_TYPE && edit.adds().is_empty() && edit.drops().is_empty() {
+            self.keeps_rules();
+            return Ok(None);
+        }
+        let mut bytes = *old;
+        edit.apply(&mut bytes);
+        let Some(reads) = self.claimed(block, ty, &bytes, edit) else {
+            return Err(Refusal::ClaimWrong);
+        };
+        if !is_within_size(self.types(), ty, &bytes) {
+            return Err(Refusal::SizeWrong);
+        }
+        Ok(Some(reads))
+    }
+
+    /// The chunks that decide what a block with these bytes owns once it is edited, or the first refusal that applies.
     fn edited(
         &self,
         fs: Fs,
@@ -154,13 +187,12 @@ impl State {
         facts: Facts,
         old: &[u8; 512],
         edit: &Edit,
-        bytes: &mut [u8; 512],
-    ) -> Result<ReadSet, Refusal>
+    ) -> Result<Option<ReadSet>, Refusal>
         requires alive { IsTrue (is_some (life_at self.now.lives block)) }
         requires installed { IsTrue ((own_types self.now).installed facts.ty) }
         requires newest { newest_at self.now.lives block ≡ Some (facts.ty, old.now) }
-        ensures plan { result_map (λ reads. bytes.new) result ≡ edited_with (own_types self.now) self.now fs.number block edit.now facts old.now }
-        ensures reads { IfOk result (λ reads. DecidesOwned (own_types self.now) facts.ty bytes.new reads.chunks) }
+        ensures plan { result_map (λ reads. patched old.now edit.now.patches) result ≡ edited_with (own_types self.now) self.now fs.number block edit.now facts old.now }
+        ensures reads { IfOk result (λ reads. IfSome reads (λ set. DecidesOwned (own_types self.now) facts.ty (patched old.now edit.now.patches) set.chunks)) }
         ensures room { OnOk result (facts.pending < 64) }
         ensures few { OnOk result (pending_of self.now fs.number < 4096) }
         ensures numbers { OnOk result (self.now.next < 2 ^ 64 - 1) }
@@ -190,29 +222,13 @@ impl State {
         if !self.are_empty(edit.drops()) {
             return Err(Refusal::NotEmpty);
         }
-        *bytes = *old;
-        edit.apply(bytes);
-        let Some(reads) = self.claimed(block, facts.ty, bytes, edit) else {
-            return Err(Refusal::ClaimWrong);
-        };
-        if !is_within_size(self.types(), facts.ty, bytes) {
-            return Err(Refusal::SizeWrong);
-        }
-        Ok(reads)
+        self.left_by(block, facts.ty, old, edit)
     }
 
-    /// Writes into `bytes` what an edit leaves, and answers the chunks that decide what they own, or the first refusal that
-    /// applies.
-    #[inline(always)]
-    fn proposed(
-        &self,
-        fs: Fs,
-        block: u32,
-        edit: &Edit,
-        bytes: &mut [u8; 512],
-    ) -> Result<ReadSet, Refusal>
-        ensures plan { result_map (λ reads. bytes.new) result ≡ proposed_of (own_types self.now) self.now fs.number block edit.now }
-        ensures reads { IfOk result (λ reads. Decides (own_types self.now) self.now.lives block bytes.new (Some reads)) }
+    /// The chunks that decide what a block owns once it is edited, or the first refusal that applies.
+    fn proposed(&self, fs: Fs, block: u32, edit: &Edit) -> Result<Option<ReadSet>, Refusal>
+        ensures plan { result_map (λ reads. patched (life_bytes (life_at self.now.lives block)) edit.now.patches) result ≡ proposed_of (own_types self.now) self.now fs.number block edit.now }
+        ensures reads { IfOk result (λ reads. Decides (own_types self.now) self.now.lives block (patched (life_bytes (life_at self.now.lives block)) edit.now.patches) reads) }
         ensures rules { IsConsistent (own_types self.now) self.now }
         ensures alive { OnOk result (IsTrue (is_some (life_at self.now.lives block))) }
         ensures room { OnOk result (life_pending (life_at self.now.lives block) < 64) }
@@ -224,7 +240,7 @@ impl State {
         let Some(old) = self.lives.current(block) else {
             unreachable!()
         };
-        self.edited(fs, block, facts, old, edit, bytes)
+        self.edited(fs, block, facts, old, edit)
     }
 
     /// What undoes an edit of a block in use.
@@ -256,14 +272,13 @@ impl State {
     pub fn propose(&mut self, fs: Fs, block: u32, edit: &Edit) -> Result<EditId, Refusal>
         ensures state { Gives (propose_of (own_types self.old) self.old fs.number block edit.now) self.old self.new result }
     {
-        let mut bytes = [0u8; 512];
-        let reads = self.proposed(fs, block, edit, &mut bytes)?;
+        let reads = self.proposed(fs, block, edit)?;
         let undo = self.undo_of(block, edit)?;
         let claims = Claims {
             adds: edit.adds(),
             drops: edit.drops(),
             after: edit.after(),
         };
-        self.accept(fs, block, &bytes, Some(edit), Some(reads), undo, claims)
+        self.accept(fs, block, NewBytes::Patched(edit), reads, undo, claims)
     }
 }

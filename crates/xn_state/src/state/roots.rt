@@ -13,6 +13,7 @@ ghost use Rattle.xn_state.specs.States.{own_types};
 use crate::root::slot_undo;
 use crate::state::State;
 use crate::state::accept::Claims;
+use block_cache::NewBytes;
 use edit_list::{EditId, Fs, Undo};
 use templates::{root_slot, with_root_slot};
 use udf_run::Pair;
@@ -62,7 +63,7 @@ impl State {
             drops: &[],
             after: None,
         };
-        self.accept(fs, 0, &bytes, None, None, undo, claims)
+        self.accept(fs, 0, NewBytes::Whole(&bytes), None, undo, claims)
     }
 
     /// Block 0's bytes with the file system's root slot empty, and the block that stands there.
@@ -107,7 +108,7 @@ impl State {
             drops: &[block],
             after: None,
         };
-        self.accept(fs, 0, &bytes, None, None, undo, claims)
+        self.accept(fs, 0, NewBytes::Whole(&bytes), None, undo, claims)
     }
 
     /// What undoes a change of the file system's root slot, in block 0.

@@ -1,6 +1,6 @@
 use Rattle.std.proofs.Common.{◌%◌, ◌∙◌, true, get_or, sym, arith}
 use Rattle.std.proofs.lemmas.List.{get_or_default, length-set}
-use Rattle.claims.proofs.Numbers.{distinct_more, marked_more, not_marked, twice}
+use Rattle.claims.proofs.Numbers.{distinct_more, few_distinct, marked_more, not_marked, twice}
 use Rattle.claims.proofs.distinct.are_distinct.Goals as goal
 use Rattle.claims.proofs.distinct.are_distinct.Goals.{else-is_marked-mark-via-then-is_marked-mark+else-has_number, else-is_marked-mark-via-else-is_marked-mark}
 
@@ -28,3 +28,6 @@ loop-place-preserved c =
       | else-is_marked-mark-via-else-is_marked-mark w ↦
           (distinct_more xs place x c.loop-place-test.true is c.loop-place.invariant.0 (not_marked marks xs place x (omega arith) w.if-is_marked-mark.false before), marked, still)
     ]
+
+pub returns-then-numbers-lt2 : goal.returns-then-numbers-lt2
+returns-then-numbers-lt2 c = few_distinct c.args.numbers.now c.if-numbers-lt2.true

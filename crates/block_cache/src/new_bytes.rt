@@ -1,0 +1,28 @@
+// What an entry leaves of a block's bytes.
+
+ghost use Rattle.std.specs.Prelude.{◌≡◌};
+ghost use Rattle.block_cache.specs.NewBytes.{MayLeave, new_bytes};
+
+use edit_list::Edit;
+
+/// What an entry leaves of a block's bytes.
+#[derive(Clone, Copy)]
+pub enum NewBytes<'a> {
+    /// These.
+    Whole(&'a [u8; 512]),
+    /// What the patches of an edit make of the newest ones, in place.
+    Patched(&'a Edit),
+}
+
+impl NewBytes<'_> {
+    /// Puts them in the place of the newest ones.
+    pub(crate) fn put(self, current: &mut [u8; 512])
+        requires { MayLeave self }
+        ensures { current.new ≡ new_bytes self.entry current.old }
+    {
+        match self {
+            NewBytes::Whole(bytes) => *current = *bytes,
+            NewBytes::Patched(edit) => edit.apply(current),
+        }
+    }
+}
