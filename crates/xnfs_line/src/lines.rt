@@ -1,7 +1,7 @@
 // A line of the program.
 
 use crate::changing::{copy, make_folder, make_folders, remove, remove_folder, rename};
-use crate::checking::check;
+use crate::checking::{check, repair};
 use crate::disks::{format, open};
 use crate::fault::Fault;
 use crate::getting::{get, put};
@@ -74,6 +74,7 @@ fn run_word<R: Files<File = File> + AllocGlobal + Clone + Drop, S: FlushStore + 
 ) -> Result<(), Fault> {
     match word {
         Word::Put { source, path } => put(rt, session, alloc, source, path, input)?,
+        Word::Check { is_repairing: true } => repair(session, alloc, out)?,
         Word::Get { path, target } => get(rt, session, alloc, path, target, out)?,
         Word::MakeFolder { .. }
         | Word::Remove { .. }

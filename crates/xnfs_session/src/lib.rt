@@ -7,6 +7,6 @@
 mod flushing;
 mod session;
 
-pub use ffs_lib::{FfsFault, Fs};
+pub use ffs_lib::{FfsFault, Fs, Repair, Repairs};
 pub use flushing::FlushStore;
 pub use session::{MOST_BYTES, MOST_INODES, Node, Session, Usage};

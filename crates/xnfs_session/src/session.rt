@@ -4,7 +4,7 @@ ghost use Rattle.std.specs.Prelude.{◌≡◌};
 
 use crate::flushing::FlushStore;
 use ffs_format::is_name;
-use ffs_lib::{FfsFault, Fs, Volume};
+use ffs_lib::{FfsFault, Fs, Repairs, Volume};
 use ffs_lookup::{DIRECTORY, Found, find_directory, find_entry, find_inode, is_library};
 use std::alloc::Global;
 use std::marker::Model;
@@ -191,6 +191,18 @@ impl<S: FlushStore + Drop> Session<S> {
     ) -> Result<(), FfsFault> {
         self.volume
             .rename(alloc, &mut self.store, directory, name, other, new_name)
+    }
+
+    /// What each inode needs to be in use exactly where it has a name, with as many links as names; `Pending` before what is pending is
+    /// written.
+    pub fn reclaimable(&self) -> Result<Repairs, FfsFault> {
+        self.volume.reclaimable(&self.store)
+    }
+
+    /// Does with each inode what it needs, and answers that. What is pending is written first.
+    pub fn reclaim(&mut self, alloc: Global) -> Result<Repairs, FfsFault> {
+        let _waves = self.flush(alloc)?;
+        self.volume.reclaim(alloc, &mut self.store)
     }
 
     /// How many blocks of the disk are free.

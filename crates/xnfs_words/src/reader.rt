@@ -208,10 +208,15 @@ fn rename<'a>(alloc: Global) -> Result<Command<'a>, AllocError> {
 }
 
 /// `check`.
-fn check<'a>(alloc: Global) -> Command<'a> {
+fn check<'a>(alloc: Global) -> Result<Command<'a>, AllocError> {
+    let repair = Arg::new(alloc, "repair")
+        .long("repair")
+        .action(ArgAction::SetTrue)
+        .help("free inodes without a name, and take links that no name has");
     Command::new(alloc, "check")
         .about("check the disk and its names")
-        .after_help("Example: xnfs disk.img check")
+        .after_help("Example: xnfs disk.img check --repair")
+        .arg(repair)
 }
 
 /// All commands.
@@ -225,7 +230,7 @@ fn commands<'a>(alloc: Global) -> Result<Vec<Command<'a>>, AllocError> {
     commands.push(put(alloc)?)?;
     commands.push(get(alloc)?)?;
     add_changes(alloc, &mut commands)?;
-    commands.push(check(alloc))?;
+    commands.push(check(alloc)?)?;
     Ok(commands)
 }
 

@@ -31,8 +31,8 @@ pub enum Word<'a> {
     Move { path: &'a str, to: &'a str },
     /// A file is copied.
     Copy { path: &'a str, to: &'a str },
-    /// The disk and its names are checked.
-    Check,
+    /// The disk and its names are checked, and perhaps what a crash has left is repaired.
+    Check { is_repairing: bool },
 }
 
 /// What a command line asks for.
@@ -107,7 +107,9 @@ fn changing_word<'a>(name: &str, path: &'a str, found: &ArgMatches<'a>) -> Optio
             path,
             to: value(found, "TO"),
         },
-        "check" => Word::Check,
+        "check" => Word::Check {
+            is_repairing: found.get_flag("repair"),
+        },
         _ => return None,
     };
     Some(word)
