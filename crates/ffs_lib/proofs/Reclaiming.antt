@@ -28,7 +28,7 @@ use Rattle.ffs_lookup.specs.Places.{IsFound}
 use Rattle.ffs_lookup.proofs.ForCallers.{given_up, links_set, same_ok, unnumbered_repair}
 use Rattle.ffs_lib.specs.Edits.{data_of_inode, data_of_pointers, edit_at}
 use Rattle.ffs_lib.specs.Outcomes.{HasNoData}
-use Rattle.ffs_lib.specs.Results.{IsLinked, OnlyChanges, SameInode, place_in}
+use Rattle.ffs_lib.specs.Results.{AsBefore, IsLinked, OnlyChanges, SameInode, place_in}
 use Rattle.ffs_lib.specs.Steps.{Answers, Ends, IsHome, ShortEdit, Stage, Stops, Tells, Wants}
 use Rattle.ffs_lib.specs.Reclaiming.{Emptied, InMiddle, MayRepair, PointersEmptied, ReclaimedAll, Reclaims, Repaired, RepairedOne, StopsReclaiming, StopsRepairing, emptying}
 use Rattle.ffs_lib.proofs.Dropping.{cleared_owns, no_pairs, put_whole}
@@ -36,7 +36,7 @@ use Rattle.ffs_lib.proofs.Edited.{pointers_reached}
 use Rattle.ffs_lib.proofs.Entering.{home_bytes, home_touched, inode_gone, inode_put, others_put, place_put}
 use Rattle.ffs_lib.proofs.Fields.{free_blocks, free_mode, same_blocks}
 use Rattle.ffs_lib.proofs.Laws.{can_edit, fails}
-use Rattle.ffs_lib.proofs.Moving.{relinked}
+use Rattle.ffs_lib.proofs.Moving.{relinked, same_as}
 use Rattle.ffs_lib.proofs.NameCounts.{names_within}
 use Rattle.ffs_lib.proofs.Owners.{block_from, stands_from}
 use Rattle.ffs_lib.proofs.Rooms.{room_by}
@@ -299,7 +299,6 @@ module _ (T : Types) (fs : ℕ) (array : ℕ → Option ℕ) (old : StoreState) 
         inode = r.inode;
         found = r.found ∙ sym (x.later n (inr (omega (arith, next)))).0;
         spares = x.spares n (inode_links r.inode) (omega (arith, next)) (subst (λ m. KeepsNumber library_layout old.lives fs None m n) all_links (spare_of n r.inode r.found));
-        enough = omega arith;
       }
   may_repair now done x n next (SetLinks links) e =
       let r = links_set (latest old.lives) fs n links (sym e) in
@@ -309,7 +308,6 @@ module _ (T : Types) (fs : ℕ) (array : ℕ → Option ℕ) (old : StoreState) 
           inode = r.inode;
           found = r.found ∙ sym (x.later n (inr (omega (arith, next)))).0;
           spares = x.spares n (inode_links r.inode - links) (omega (arith, next)) (subst (λ k. KeepsNumber library_layout old.lives fs None (inode_links r.inode - k) n) r.names (spare_of n r.inode r.found));
-          enough = omega arith;
         },
         r.fewer,
       )
@@ -391,3 +389,13 @@ pub idle_then : (T : Types) (fs : ℕ) (old new : StoreState) (result : Result R
     Reclaims T fs old new result
 idle_then T fs old new result e x =
     subst (λ (r : Result (Unit {0}) FfsFault). Answers r (λ _ repairs. ReclaimedAll (latest old.lives) (latest new.lives) fs repairs) (λ _ fault. StopsReclaiming T fs old new fault) old new result) e x
+
+-- An inode with a name
+
+pub named_kept : (old new : ℕ → List ℕ) (fs n : ℕ) → names_count old fs n ≢ 0 → Repaired old new fs n (repair_in old fs n) → AsBefore old new fs n
+named_kept old new fs n named x = go (repair_in old fs n) refl x
+  where
+    go : (repair : Repair) → repair_in old fs n ≡ repair → Repaired old new fs n repair → AsBefore old new fs n
+    go Keep e y = same_as old new fs n y
+    go GiveUp e y = absurd (named (given_up old fs n e).none)
+    go (SetLinks links) e y = λ inode i. (y inode i).0

@@ -43,7 +43,6 @@ pub record HasSpare (state : StoreState) (fs n : ℕ) (spare : ℕ → ℕ) : Ty
   pub inode : List ℕ
   pub found : Ok inode ≡ inode_in (newest state) fs n
   pub spares : KeepsNumber library_layout state.lives fs None (spare (inode_links inode)) n
-  pub enough : spare (inode_links inode) ≤ inode_links inode
 
 abbrev pub MayRepair : StoreState → ℕ → ℕ → Repair → Type 0
 MayRepair state fs n Keep = ⊤

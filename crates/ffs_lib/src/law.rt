@@ -1,14 +1,16 @@
 // A name stands once in a directory, and which names are good.
 
-ghost use Rattle.std.specs.Prelude.{◌≡◌, ℕ, List, None, Ok};
+ghost use Rattle.std.specs.Prelude.{◌≡◌, ◌≢◌, ℕ, List, None, Ok};
 ghost use Rattle.ffs_model.specs.Names.{LinksGood};
 ghost use Rattle.ffs_model.specs.Library.{library_layout};
-ghost use Rattle.ffs_lookup.specs.Counts.{over_named};
+ghost use Rattle.ffs_lookup.specs.Counts.{names_count, over_named};
 ghost use Rattle.ffs_lookup.specs.declared.places.Slot.{Slot};
 ghost use Rattle.ffs_lookup.specs.Newest.{create_in, directory_in, inode_in, rename_in};
 ghost use Rattle.ffs_lib.specs.Once.{NamesOnce};
+ghost use Rattle.ffs_lib.specs.Reclaiming.{ReclaimedAll};
 ghost use Rattle.ffs_lib.specs.Replacing.{ReplacedEntry, replace_in};
-ghost use Rattle.ffs_lib.specs.Results.{MadeEntry, MovedEntry};
+ghost use Rattle.ffs_lib.specs.Results.{AsBefore, MadeEntry, MovedEntry};
+ghost use Rattle.ffs_lookup.specs.declared.repairs.Repairs.{Repairs};
 ghost use Rattle.ffs_lib.specs.Steps.{Removed};
 
 /// What `create`, `mkdir`, `unlink`, `rmdir`, `rename` and `replace` leave keeps names single in the newest bytes. A crash may end that: of two edits in
@@ -22,6 +24,11 @@ pub fn names_stand_once()
         Ok entry ≡ rename_in old fs d name other new_name → MovedEntry old new fs d entry other new_name → NamesOnce old fs → NamesOnce new fs }
     ensures replaced { (old new : ℕ → List ℕ) (fs d : ℕ) (name : List ℕ) (other : ℕ) (other_name : List ℕ) (from to : Slot) →
         Ok (from, to) ≡ replace_in old fs d name other other_name → ReplacedEntry old new fs d from other to → NamesOnce old fs → NamesOnce new fs }
+{}
+
+/// An inode that has a name keeps its mode, its size, its bytes and its entries where inodes are reclaimed.
+pub fn named_inodes_stay()
+    ensures { (old new : ℕ → List ℕ) (fs n : ℕ) (repairs : Repairs) → ReclaimedAll old new fs repairs → names_count old fs n ≢ 0 → AsBefore old new fs n }
 {}
 
 /// Where no inode has more names than links, in any contents, the names of the file system are good: each inode that is named is in
