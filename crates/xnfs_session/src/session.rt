@@ -193,6 +193,19 @@ impl<S: FlushStore + Drop> Session<S> {
             .rename(alloc, &mut self.store, directory, name, other, new_name)
     }
 
+    /// Gives a file the name of another file, which loses it and is given up with its last one.
+    pub fn replace(
+        &mut self,
+        alloc: Global,
+        directory: u16,
+        name: &[u8],
+        other: u16,
+        other_name: &[u8],
+    ) -> Result<(), FfsFault> {
+        self.volume
+            .replace(alloc, &mut self.store, directory, name, other, other_name)
+    }
+
     /// What each inode needs to be in use exactly where it has a name, with as many links as names; `Pending` before what is pending is
     /// written.
     pub fn reclaimable(&self) -> Result<Repairs, FfsFault> {
