@@ -6,7 +6,7 @@ ghost use Rattle.volume_pair.specs.Kept.{HasLibrary, IsKept};
 
 use crate::disks::Disk;
 use crate::guarded::{Guarded, Other};
-use ffs_lib::{FfsFault, Fs, Volume};
+use ffs_lib::{FfsFault, Fs, Repairs, Volume};
 use std::alloc::Global;
 use std::marker::Model;
 use xn_state::Store;
@@ -112,6 +112,20 @@ fn act_in_part<S: Store>(
     ensures keeps { IsVolume (S.types_of store.old) (S.state_of store.new) volume.new }
 {
     volume.write_some(alloc, store, inode, offset, bytes)
+}
+
+/// Has a volume do with each inode what it needs.
+fn act_on_all<S: Store>(
+    alloc: Global,
+    store: &mut S,
+    volume: &mut Volume,
+) -> Result<Repairs, FfsFault>
+    requires { IsVolume (S.types_of store.old) (S.state_of store.old) volume.old }
+    ensures types { S.types_of store.new ≡ S.types_of store.old }
+    ensures fs { volume.new.fs ≡ volume.old.fs }
+    ensures keeps { IsVolume (S.types_of store.old) (S.state_of store.new) volume.new }
+{
+    volume.reclaim(alloc, store)
 }
 
 impl<S: Disk + Drop> Files<S> {
@@ -227,6 +241,21 @@ impl<S: Disk + Drop> Files<S> {
             return Err(FfsFault::NoEntry);
         };
         act_in_part(alloc, store, volume, inode, offset, bytes)
+    }
+
+    /// Does with each inode what it needs to be in use exactly where it has a name, with as many links as names, and answers that. `Pending`
+    /// where something of the file system is pending.
+    pub fn reclaim(&mut self, alloc: Global, fs: Fs) -> Result<Repairs, FfsFault> {
+        if !self.turn_to(fs) {
+            return Err(FfsFault::NoEntry);
+        }
+        let Some(store) = &mut self.store else {
+            return Err(FfsFault::NoEntry);
+        };
+        let Some(volume) = &mut self.volume else {
+            return Err(FfsFault::NoEntry);
+        };
+        act_on_all(alloc, store, volume)
     }
 
     /// Reads from a file, and answers how many bytes there were.
