@@ -38,7 +38,7 @@ class Tree:
         after = self.copy()
         match words:
             case ["put", "-", path]:
-                if not self.is_folder(os.path.dirname(path)) or path in self.paths:
+                if not self.is_folder(os.path.dirname(path)) or self.is_folder(path):
                     return None
                 after.paths[path] = given
             case ["mkdir", path]:
@@ -54,11 +54,11 @@ class Tree:
                     return None
                 del after.paths[path]
             case ["mv", path, to]:
-                if self.paths.get(path) is None or to in self.paths or not self.is_folder(os.path.dirname(to)):
+                if self.paths.get(path) is None or self.is_folder(to) or not self.is_folder(os.path.dirname(to)):
                     return None
                 after.paths[to] = after.paths.pop(path)
             case ["cp", path, to]:
-                if self.paths.get(path) is None or to in self.paths or not self.is_folder(os.path.dirname(to)):
+                if self.paths.get(path) is None or self.is_folder(to) or not self.is_folder(os.path.dirname(to)):
                     return None
                 after.paths[to] = self.paths[path]
         return after

@@ -7,7 +7,7 @@ use volume_pair::{Action, Answer, Disk, Files};
 use xn_model::Refusal;
 
 /// How many calls are refused.
-const CASES: usize = 24;
+const CASES: usize = 31;
 
 /// A name of 29 bytes.
 const LONG: &[u8] = b"a name of twenty-nine bytes..";
@@ -38,6 +38,13 @@ const FAULTS: [(Action<'static>, FfsFault); CASES] = [
     (Action::Rename(1, b"f", 1, b".."), FfsFault::BadName),
     (Action::Rename(1, b"f", 1, b"d"), FfsFault::Exists),
     (Action::Rename(1, b"d", 3, b"y"), FfsFault::IsDir),
+    (Action::Replace(1, b"x", 1, b"f"), FfsFault::NoEntry),
+    (Action::Replace(1, b"f", 9, b"x"), FfsFault::NoEntry),
+    (Action::Replace(1, b"f", 2, b"x"), FfsFault::NotDir),
+    (Action::Replace(1, b"f", 1, b".."), FfsFault::BadName),
+    (Action::Replace(1, b"f", 1, b"x"), FfsFault::NoEntry),
+    (Action::Replace(1, b"f", 1, b"d"), FfsFault::IsDir),
+    (Action::Replace(1, b"d", 3, b"x"), FfsFault::IsDir),
 ];
 
 /// Makes calls that are refused, and prints how many of them were as they should.

@@ -1,5 +1,5 @@
 // Runs the library file system on disks in memory: its calls with the writes that they take, over a world, a kernel, and a kernel that
-// threads share; two threads at once; its sizes, its faults, crashes after each write of a rename and of four files' lives, and random
+// threads share; two threads at once; its sizes, its faults, crashes after each write of a rename, of a replacement and of four files' lives, and random
 // calls of two file systems beside each other, also on disks where their types were just installed.
 #![tactic(auto)]
 
@@ -23,7 +23,7 @@ use forty::print_forty;
 use limits::{print_directory, print_file};
 use locked::print_shared;
 use random::{print_random, print_starts};
-use renames::{End, print_rename};
+use renames::{End, print_rename, print_replacement};
 use rows::print_rows;
 use std::alloc::Global;
 use std::io;
@@ -39,6 +39,7 @@ enum Part {
     Writes,
     Faults,
     Rename(u32, End),
+    Replacement(u32, End),
     Directory,
     Random,
 }
@@ -68,6 +69,9 @@ fn run(
         Part::Writes => print_writes(rt, alloc, &mut files, first),
         Part::Faults => print_faults(rt, alloc, &mut files, first),
         Part::Rename(writes, end) => print_rename(rt, alloc, &mut files, first, writes, end),
+        Part::Replacement(writes, end) => {
+            print_replacement(rt, alloc, &mut files, first, writes, end)
+        }
         Part::Directory => print_directory(rt, alloc, &mut files, first),
         Part::Random => print_random(rt, alloc, &mut files, [first, second], 2000),
     }
@@ -85,6 +89,44 @@ fn run_rows(
     print_rows(rt, alloc, &mut files, first)
 }
 
+/// Runs a rename and a replacement with a crash after each of their writes.
+fn run_moves(
+    rt: &(impl Threads + Print + Sync),
+    alloc: Global,
+    first: Fs,
+    second: Fs,
+) -> io::Result<()> {
+    for writes in 0..6 {
+        run(
+            rt,
+            alloc,
+            Part::Rename(writes, End::Finished),
+            first,
+            second,
+        )?;
+    }
+    for end in [End::Kept, End::Lost] {
+        for writes in 1..6 {
+            run(rt, alloc, Part::Rename(writes, end), first, second)?;
+        }
+    }
+    for writes in 0..5 {
+        run(
+            rt,
+            alloc,
+            Part::Replacement(writes, End::Finished),
+            first,
+            second,
+        )?;
+    }
+    for end in [End::Kept, End::Lost] {
+        for writes in 1..5 {
+            run(rt, alloc, Part::Replacement(writes, end), first, second)?;
+        }
+    }
+    Ok(())
+}
+
 fn main(rt: HostRuntime) -> io::Result<()> {
     let alloc = rt.alloc();
     let (Some(first), Some(second)) = (Fs::new(0), Fs::new(1)) else {
@@ -96,20 +138,7 @@ fn main(rt: HostRuntime) -> io::Result<()> {
     for part in [Part::File, Part::Writes, Part::Faults] {
         run(&rt, alloc, part, first, second)?;
     }
-    for writes in 0..6 {
-        run(
-            &rt,
-            alloc,
-            Part::Rename(writes, End::Finished),
-            first,
-            second,
-        )?;
-    }
-    for end in [End::Kept, End::Lost] {
-        for writes in 1..6 {
-            run(&rt, alloc, Part::Rename(writes, end), first, second)?;
-        }
-    }
+    run_moves(&rt, alloc, first, second)?;
     print_forty(&rt, alloc, [first, second])?;
     run(&rt, alloc, Part::Directory, first, second)?;
     run(&rt, alloc, Part::Random, first, second)?;

@@ -236,6 +236,9 @@ impl Plain {
             Action::Rename(directory, name, other, new_name) => {
                 self.rename(*directory, name, *other, new_name)
             }
+            Action::Replace(directory, name, other, other_name) => {
+                self.replace(*directory, name, *other, other_name)
+            }
         }
     }
 
@@ -338,6 +341,36 @@ impl Plain {
         };
         self.enter(other, gap, entry);
         self.set_place(directory, place, GAP);
+        Ok(0)
+    }
+
+    fn replace(&mut self, directory: u16, name: &[u8], other: u16, other_name: &[u8]) -> Answer {
+        if self.node(directory).mode == 0 || self.node(other).mode == 0 {
+            return Err(FfsFault::NoEntry);
+        }
+        let _ = self.check(directory, DIRECTORY)?;
+        let _ = self.check(other, DIRECTORY)?;
+        let number = name_number(other_name).ok_or(FfsFault::BadName)?;
+        let from = self.check_name(directory, name)?;
+        let to = self.find(other, number).ok_or(FfsFault::NoEntry)?;
+        let inode = self.place(directory, from).inode;
+        let former = self.place(other, to).inode;
+        let _ = self.check(inode, FILE)?;
+        let _ = self.check(former, FILE)?;
+        if directory == other && from == to {
+            return Ok(0);
+        }
+        if inode == former {
+            self.remove(directory, from);
+            return Ok(0);
+        }
+        self.remove(other, to);
+        let entry = Place {
+            inode,
+            name: number,
+        };
+        self.set_place(other, to, entry);
+        self.set_place(directory, from, GAP);
         Ok(0)
     }
 

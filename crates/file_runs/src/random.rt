@@ -124,6 +124,11 @@ impl Run {
             }
             9..12 => Action::Unlink(directory, self.name(second, directory, true)),
             12 => Action::Rmdir(directory, self.name(second, directory, true)),
+            13 => {
+                let name = self.name(second, directory, true);
+                let other = self.inode(second, 2);
+                Action::Replace(directory, name, other, self.name(second, other, true))
+            }
             _ => {
                 let name = self.name(second, directory, true);
                 let other = self.inode(second, 2);

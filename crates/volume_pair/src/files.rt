@@ -28,6 +28,8 @@ pub enum Action<'a> {
     Rmdir(u16, &'a [u8]),
     /// From a directory, a name, into a directory, as a name.
     Rename(u16, &'a [u8], u16, &'a [u8]),
+    /// From a directory, a file of a name, over one that a directory has by a name.
+    Replace(u16, &'a [u8], u16, &'a [u8]),
 }
 
 /// What such a call answers: the new inode, or 0 where there is none.
@@ -86,6 +88,10 @@ fn act<S: Store>(alloc: Global, store: &mut S, volume: &mut Volume, action: &Act
         }
         Action::Rename(directory, name, other, new_name) => {
             volume.rename(alloc, store, *directory, name, *other, new_name)?;
+            Ok(0)
+        }
+        Action::Replace(directory, name, other, other_name) => {
+            volume.replace(alloc, store, *directory, name, *other, other_name)?;
             Ok(0)
         }
     }

@@ -116,7 +116,8 @@ pub fn remove_folder<S: FlushStore + Drop>(
     done_at(session, alloc, path, removed)
 }
 
-/// `mv`: gives a file or a folder another name; into a folder that has it the thing goes under its own name.
+/// `mv`: gives a file or a folder another name; into a folder that has it the thing goes under its own name. A file takes the place of
+/// one that is there.
 pub fn rename<S: FlushStore + Drop>(
     session: &mut Session<S>,
     alloc: Global,
@@ -124,11 +125,15 @@ pub fn rename<S: FlushStore + Drop>(
     to: &str,
 ) -> Result<(), Fault> {
     let from = place_of(session, alloc, path)?;
-    if there(session, alloc, path, from)?.is_none() {
+    let Some(node) = there(session, alloc, path, from)? else {
         return Err(at(alloc, path, Reason::Missing));
-    }
-    let (place, _) = target(session, alloc, to, from.name)?;
+    };
+    let (place, onto) = target(session, alloc, to, from.name)?;
     let (name, new_name) = (from.name.as_bytes(), place.name.as_bytes());
+    if !node.is_directory && onto.is_some_and(|node| !node.is_directory) {
+        let replaced = session.replace(alloc, from.folder, name, place.folder, new_name);
+        return done_at(session, alloc, to, replaced);
+    }
     let moved = session.rename(alloc, from.folder, name, place.folder, new_name);
     if moved == Err(FfsFault::IsDir) {
         return Err(at(alloc, path, Reason::Stays));
@@ -136,7 +141,7 @@ pub fn rename<S: FlushStore + Drop>(
     done_at(session, alloc, to, moved)
 }
 
-/// `cp`: copies a file.
+/// `cp`: copies a file; onto itself it does nothing.
 pub fn copy<S: FlushStore + Drop>(
     session: &mut Session<S>,
     alloc: Global,
@@ -150,5 +155,8 @@ pub fn copy<S: FlushStore + Drop>(
     }
     let bytes = bytes_of(session, alloc, path, &node)?;
     let (place, onto) = target(session, alloc, to, from.name)?;
+    if onto.is_some_and(|file| file.number == node.number) {
+        return Ok(());
+    }
     put_bytes(session, alloc, to, place, onto, &bytes)
 }

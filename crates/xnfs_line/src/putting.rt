@@ -80,14 +80,19 @@ fn make<S: FlushStore + Drop>(
     }
 }
 
-/// Gives the file that was made its name.
+/// Gives the file that was made its name, which a file may have.
 fn name_it<S: FlushStore + Drop>(
     session: &mut Session<S>,
     alloc: Global,
     place: Place,
+    is_there: bool,
 ) -> Result<(), FfsFault> {
     let (folder, name) = (place.folder, place.name.as_bytes());
-    session.rename(alloc, folder, MADE.as_bytes(), folder, name)
+    if is_there {
+        session.replace(alloc, folder, MADE.as_bytes(), folder, name)
+    } else {
+        session.rename(alloc, folder, MADE.as_bytes(), folder, name)
+    }
 }
 
 /// What is told where a put was refused: of want of blocks how many it needs.
@@ -107,7 +112,7 @@ fn put_fault<S: FlushStore + Drop>(
     }
 }
 
-/// Puts a file of these bytes at a place where nothing is.
+/// Puts a file of these bytes at a place, also where a file is, which it replaces.
 pub fn put_bytes<S: FlushStore + Drop>(
     session: &mut Session<S>,
     alloc: Global,
@@ -119,16 +124,11 @@ pub fn put_bytes<S: FlushStore + Drop>(
     if bytes.len() > MOST_BYTES as usize {
         return Err(at(alloc, path, Reason::FileTooLarge));
     }
-    if let Some(node) = onto {
-        let reason = if node.is_directory {
-            Reason::Folder
-        } else {
-            Reason::There
-        };
-        return Err(at(alloc, path, reason));
+    if onto.is_some_and(|node| node.is_directory) {
+        return Err(at(alloc, path, Reason::Folder));
     }
     let done = match make(session, alloc, place.folder, bytes)? {
-        Ok(()) => name_it(session, alloc, place),
+        Ok(()) => name_it(session, alloc, place, onto.is_some()),
         Err(fault) => Err(fault),
     };
     match done {

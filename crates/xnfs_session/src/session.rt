@@ -193,6 +193,19 @@ impl<S: FlushStore + Drop> Session<S> {
             .rename(alloc, &mut self.store, directory, name, other, new_name)
     }
 
+    /// Gives a file the name of another file, which loses it and is given up with its last one.
+    pub fn replace(
+        &mut self,
+        alloc: Global,
+        directory: u16,
+        name: &[u8],
+        other: u16,
+        other_name: &[u8],
+    ) -> Result<(), FfsFault> {
+        self.volume
+            .replace(alloc, &mut self.store, directory, name, other, other_name)
+    }
+
     /// How many blocks of the disk are free.
     pub fn free(&self) -> u32 {
         self.store.free()
