@@ -581,8 +581,9 @@ impl Volume {
             IsTrue (was_given (S.state_of store.old) after) → n ≢ slot.inode → MayLose (S.state_of store.old) self.now.fs.number n e →
             OnOk result (MayLose (S.state_of store.new) self.now.fs.number n e) }
         ensures pairs { (T : Types) (array : ℕ → Option ℕ) (first : Lives) (to : Slot) (e : ℕ) → S.types_of store.old ≡ T →
-            Stage T self.now.fs.number array (S.state_of store.old) → after ≡ Some e → AreDirect (newest (S.state_of store.old)) self.now.fs.number (pair_of slot to) →
-            is_at to slot ≡ false → StayNamed library_layout first (S.state_of store.old).lives (pair_of slot to) after →
+            Stage T self.now.fs.number array (S.state_of store.old) → after ≡ Some e →
+            AreDirect (newest (S.state_of store.old)) self.now.fs.number (pair_of slot to) → is_at to slot ≡ false →
+            StayNamed library_layout first (S.state_of store.old).lives (pair_of slot to) after →
             StayNamed library_layout first (S.state_of store.new).lives (pair_of slot to) after }
     {
         let at = ENTRY_LEN * slot.place;

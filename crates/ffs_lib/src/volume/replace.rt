@@ -96,12 +96,11 @@ impl Volume {
     ghost use Rattle.ffs_lib.specs.Volumes.{IsVolume};
 
     /// Gives a file the name of another one, in the same directory or in another, and takes its old name; the other file loses that name, and is given
-    /// up with its last one. In every image that a crash leaves, if both directories have there what they had at the call, the second name names
-    /// one of the two files, and one of the names names the moved one.
-    /// Before any edit it answers, in this order, `NoEntry` or `NotDir` of either directory, `BadName` of either name, `NoEntry` of the first
-    /// name, then of the second, `IsDir` of either entry, `TooLarge` where the first file has 65,535 links. Onto itself it does nothing;
-    /// where both entries name one file it is `unlink` of the first. Any refusal of the store is `Kernel`; what was done before it stands, so both names
-    /// may be left, or the other file without a name.
+    /// up with its last one. In every cut that has the second entry's block as it was at the call, or later, this entry names one of the two files; in
+    /// every one that has both entries' blocks so, one of them names the moved file. Before any edit it answers, in this order, `NoEntry` or `NotDir` of
+    /// either directory, `BadName` of either name, `NoEntry` of the first name, then of the second, `IsDir` of either entry, `TooLarge` where the first file
+    /// has 65,535 links and the second entry names another one. Onto itself it does nothing; where both entries name one file it is `unlink` of the first.
+    /// Any refusal of the store is `Kernel`; what was done before it stands, so both names may be left, or the other file without a name.
     pub fn replace<S: Store>(
         &self,
         alloc: Global,
@@ -116,7 +115,8 @@ impl Volume {
         ensures answers { Replaces (S.types_of store.old) self.now.fs.number directory name.now other other_name.now (S.state_of store.old)
             (S.state_of store.new) result }
         ensures keeps { IsVolume (S.types_of store.old) (S.state_of store.new) self.now }
-        ensures stands { (from to : Slot) → Ok (from, to) ≡ replace_in (newest (S.state_of store.old)) self.now.fs.number directory name.now other other_name.now →
+        ensures stands { (from to : Slot) →
+            Ok (from, to) ≡ replace_in (newest (S.state_of store.old)) self.now.fs.number directory name.now other other_name.now →
             from.inode ≢ to.inode → NamesStand (S.state_of store.old) (S.state_of store.new) from to }
     {
         let (from, to) = look_up_replace(store, self.fs, directory, name, other, other_name)?;
