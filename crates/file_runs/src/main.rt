@@ -1,6 +1,6 @@
 // Runs the library file system on disks in memory: its calls with the writes that they take, over a world, a kernel, and a kernel that
-// threads share; two threads at once; its sizes, its faults, crashes after each write of a rename, of a replacement and of four files' lives, and random
-// calls of two file systems beside each other, also on disks where their types were just installed.
+// threads share; two threads at once; its sizes, its faults, crashes after each write of a rename, of a replacement and of four files' lives, what is
+// reclaimed after crashes, and random calls of two file systems beside each other, also on disks where their types were just installed.
 #![tactic(auto)]
 
 mod callers;
@@ -11,6 +11,7 @@ mod locked;
 mod names;
 mod plain;
 mod random;
+mod reclaims;
 mod renames;
 mod rows;
 mod scan;
@@ -23,12 +24,13 @@ use forty::print_forty;
 use limits::{print_directory, print_file};
 use locked::print_shared;
 use random::{print_random, print_starts};
+use reclaims::print_reclaim;
 use renames::{End, print_rename, print_replacement};
 use rows::print_rows;
 use std::alloc::Global;
 use std::io;
 use std::thread::Threads;
-use volume_pair::{Files, fresh_kernel};
+use volume_pair::{Action, Files, fresh_kernel};
 use writes::print_writes;
 
 /// What is run on a disk of its own.
@@ -40,6 +42,8 @@ enum Part {
     Faults,
     Rename(u32, End),
     Replacement(u32, End),
+    Unlinked(u32),
+    Renamed(u32),
     Directory,
     Random,
 }
@@ -71,6 +75,14 @@ fn run(
         Part::Rename(writes, end) => print_rename(rt, alloc, &mut files, first, writes, end),
         Part::Replacement(writes, end) => {
             print_replacement(rt, alloc, &mut files, first, writes, end)
+        }
+        Part::Unlinked(writes) => {
+            let call = ("an unlink", Action::Unlink(1, b"a"));
+            print_reclaim(rt, alloc, &mut files, first, call, writes)
+        }
+        Part::Renamed(writes) => {
+            let call = ("a rename", Action::Rename(1, b"a", 3, b"b"));
+            print_reclaim(rt, alloc, &mut files, first, call, writes)
         }
         Part::Directory => print_directory(rt, alloc, &mut files, first),
         Part::Random => print_random(rt, alloc, &mut files, [first, second], 2000),
@@ -139,6 +151,12 @@ fn main(rt: HostRuntime) -> io::Result<()> {
         run(&rt, alloc, part, first, second)?;
     }
     run_moves(&rt, alloc, first, second)?;
+    for writes in 0..3 {
+        run(&rt, alloc, Part::Unlinked(writes), first, second)?;
+    }
+    for writes in 3..6 {
+        run(&rt, alloc, Part::Renamed(writes), first, second)?;
+    }
     print_forty(&rt, alloc, [first, second])?;
     run(&rt, alloc, Part::Directory, first, second)?;
     run(&rt, alloc, Part::Random, first, second)?;
