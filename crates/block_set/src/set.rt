@@ -67,6 +67,9 @@ impl BlockSet {
     pub fn least(&self) -> Option<u32>
         ensures { result ≡ position is_member self.now }
     {
+        if self.count == 0 {
+            return None;
+        }
         let word = self.filled.lowest()?;
         Some(self.words.lowest_in(word) as u32)
     }
