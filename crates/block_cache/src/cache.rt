@@ -95,13 +95,12 @@ impl Cache {
     {
         self.entries.reserve(1)?;
         let key = self.entries.vacant_key();
-        let life = Life::start(alloc, key, fs, ty, bytes)?;
+        self.places.start(block, key, fs, ty, bytes)?;
         self.entries.insert_reserved(Entry {
             block,
             claim: Claim::first(number, fs),
             undo: Undo::none(alloc),
         });
-        self.places.set(block, Some(life));
         Ok(())
     }
 
@@ -111,7 +110,7 @@ impl Cache {
     {
         let life = self.places.life(block);
         forget_all(&mut self.entries, life);
-        self.places.set(block, None);
+        self.places.end(block);
         self.named = self.named.without(block);
     }
 

@@ -9,6 +9,7 @@ mod life;
 mod life_list;
 mod named_places;
 mod new_bytes;
+mod place;
 mod places;
 mod rollback;
 mod totals;

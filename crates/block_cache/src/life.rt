@@ -111,28 +111,43 @@ impl Facts {
 }
 
 impl Life {
-    /// A life that no owner names, a file system's or nobody's, with its first entry.
+    /// A life of no meaning, with no key, for the place of a free block.
+    pub fn blank(alloc: Global) -> Life
+        ensures { result.keys ≡ [] }
+    {
+        Life {
+            fs: None,
+            ty: 0,
+            status: Status::Fresh,
+            current: [0; 512],
+            is_durable: false,
+            keys: Vec::new(alloc),
+            begun: None,
+        }
+    }
+
+    /// Becomes a life that no owner names, a file system's or nobody's, with its first entry.
     #[inline(always)]
-    pub fn start(
-        alloc: Global,
+    pub fn restart(
+        &mut self,
         key: usize,
         fs: Option<Fs>,
         ty: u32,
         bytes: &[u8; 512],
-    ) -> Result<Life, AllocError>
-        ensures { IfOk result (λ life. life ≡ started key (system_of fs) ty bytes.now) }
+    ) -> Result<(), AllocError>
+        ensures ok { OnOk result (self.new ≡ started key (system_of fs) ty bytes.now) }
+        ensures err { OnErr result (self.new ≡ self.old) }
     {
-        let mut keys = Vec::with_capacity(alloc, 1)?;
-        keys.push_reserved(key);
-        Ok(Life {
-            fs,
-            ty,
-            status: Status::Fresh,
-            current: *bytes,
-            is_durable: false,
-            keys,
-            begun: None,
-        })
+        self.keys.reserve(1)?;
+        self.keys.clear();
+        self.keys.push_reserved(key);
+        self.fs = fs;
+        self.ty = ty;
+        self.status = Status::Fresh;
+        self.current = *bytes;
+        self.is_durable = false;
+        self.begun = None;
+        Ok(())
     }
 
     /// The life of a block whose one state is on the disk.

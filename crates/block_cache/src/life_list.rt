@@ -1,22 +1,25 @@
 // The lives of all blocks, by block number.
 
-ghost use Rattle.std.specs.Prelude.{◌≡◌, ◌^◌, ◌<◌, ◌≤◌, length, map, Option, IsTrue, IfOk, OnOk, OnErr, IfSome, is_some, slice_set};
+ghost use Rattle.std.specs.Prelude.{◌≡◌, ◌^◌, ◌<◌, ◌≤◌, length, map, Option, Some, None, IsTrue, IfOk, OnOk, OnErr, IfSome, is_some, slice_set};
 ghost use Rattle.std.specs.List.{range_with_len};
 ghost use Rattle.std.specs.Option.{option_copied};
-ghost use Rattle.block_cache.specs.Kept.{place_at, change_place, resting_at, settled, with_status, with_begun};
+ghost use Rattle.block_cache.specs.Systems.{system_of};
+ghost use Rattle.block_cache.specs.Kept.{place_at, change_place, resting_at, settled, started, with_status, with_begun};
 ghost use Rattle.block_cache.specs.NewBytes.{MayLeave, appended_by};
 ghost use Rattle.block_cache.specs.Totals.{totals_at};
 
 use crate::life::{FoundLife, Life};
 use crate::new_bytes::NewBytes;
+use crate::place::Place;
 use crate::totals::Totals;
+use edit_list::Fs;
 use std::alloc::{AllocError, Global};
 use std::marker::Model;
 use xn_model::Status;
 
 /// The lives of all blocks, by block number.
 pub struct LifeList {
-    lives: Vec<Option<Life>>,
+    lives: Vec<Place>,
 }
 
 impl Model for LifeList {
@@ -50,8 +53,8 @@ impl LifeList {
             let here = found[block];
             let bytes = &blocks[block];
             match here {
-                None => lives.push_reserved(None),
-                Some(life) => lives.push_reserved(Some(Life::found(alloc, life, bytes))),
+                None => lives.push_reserved(Place::free(alloc)),
+                Some(life) => lives.push_reserved(Place::found(alloc, life, bytes)),
             }
         }
         Ok(LifeList { lives })
@@ -70,8 +73,7 @@ impl LifeList {
         ensures few { length self.now < 2 ^ 64 }
     {
         match self.lives.get(block as usize) {
-            Some(Some(life)) => Some(life),
-            Some(None) => None,
+            Some(place) => place.life(),
             None => None,
         }
     }
@@ -84,13 +86,29 @@ impl LifeList {
         Totals::of(self.life(block))
     }
 
-    /// Puts a life on a block, or frees it.
+    /// Starts a life on a block, a file system's or nobody's, with its first entry.
     #[inline(always)]
-    pub fn set(&mut self, block: u32, life: Option<Life>)
-        ensures { self.new ≡ slice_set self.old block life }
+    pub fn start(
+        &mut self,
+        block: u32,
+        key: usize,
+        fs: Option<Fs>,
+        ty: u32,
+        bytes: &[u8; 512],
+    ) -> Result<(), AllocError>
+        requires { block < length self.old }
+        ensures ok { OnOk result (self.new ≡ slice_set self.old block (Some (started key (system_of fs) ty bytes.now))) }
+        ensures err { OnErr result (self.new ≡ self.old) }
+    {
+        self.lives[block as usize].start(key, fs, ty, bytes)
+    }
+
+    /// Frees a block. Past the end there is none.
+    pub fn end(&mut self, block: u32)
+        ensures { self.new ≡ slice_set self.old block None }
     {
         if (block as usize) < self.lives.len() {
-            self.lives[block as usize] = life;
+            self.lives[block as usize].end();
         }
     }
 
@@ -101,10 +119,7 @@ impl LifeList {
         ensures ok { OnOk result (self.new ≡ change_place self.old block (appended_by key bytes.entry)) }
         ensures err { OnErr result (self.new ≡ self.old) }
     {
-        match &mut self.lives[block as usize] {
-            Some(life) => life.append(key, bytes),
-            None => unreachable!(),
-        }
+        self.lives[block as usize].append(key, bytes)
     }
 
     /// Makes the first entries of a block durable.
@@ -113,9 +128,7 @@ impl LifeList {
         ensures { self.new ≡ change_place self.old block (settled count) }
     {
         if (block as usize) < self.lives.len() {
-            if let Some(life) = &mut self.lives[block as usize] {
-                life.settle(count as usize);
-            }
+            self.lives[block as usize].settle(count as usize);
         }
     }
 
@@ -124,9 +137,7 @@ impl LifeList {
         ensures { self.new ≡ change_place self.old block (with_status status) }
     {
         if (block as usize) < self.lives.len() {
-            if let Some(life) = &mut self.lives[block as usize] {
-                life.set_status(status);
-            }
+            self.lives[block as usize].set_status(status);
         }
     }
 
@@ -135,9 +146,7 @@ impl LifeList {
         ensures { self.new ≡ change_place self.old block (with_begun begun) }
     {
         if (block as usize) < self.lives.len() {
-            if let Some(life) = &mut self.lives[block as usize] {
-                life.set_begun(begun);
-            }
+            self.lives[block as usize].set_begun(begun);
         }
     }
 }

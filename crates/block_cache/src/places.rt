@@ -1,9 +1,10 @@
 // The lives of all blocks, by place.
 
-ghost use Rattle.std.specs.Prelude.{◌≡◌, ◌+◌, ◌^◌, ◌<◌, ◌≤◌, length, map, Option, IsTrue, IfOk, OnOk, OnErr, IfSome, is_some, slice_set, sum_by};
+ghost use Rattle.std.specs.Prelude.{◌≡◌, ◌+◌, ◌^◌, ◌<◌, ◌≤◌, length, map, Option, Some, None, IsTrue, IfOk, OnOk, OnErr, IfSome, is_some, slice_set, sum_by};
 ghost use Rattle.std.specs.List.{range_with_len};
 ghost use Rattle.std.specs.Option.{option_copied};
-ghost use Rattle.block_cache.specs.Kept.{place_at, change_place, resting_at, settled, with_status, with_begun};
+ghost use Rattle.block_cache.specs.Systems.{system_of};
+ghost use Rattle.block_cache.specs.Kept.{place_at, change_place, resting_at, settled, started, with_status, with_begun};
 ghost use Rattle.block_cache.specs.NewBytes.{MayLeave, appended_by};
 ghost use Rattle.block_cache.specs.Totals.{pending_of, in_flight_of};
 
@@ -11,6 +12,7 @@ use crate::life::{FoundLife, Life};
 use crate::life_list::LifeList;
 use crate::new_bytes::NewBytes;
 use crate::totals::Totals;
+use edit_list::Fs;
 use std::alloc::{AllocError, Global};
 use std::marker::Model;
 use xn_model::Status;
@@ -81,14 +83,34 @@ impl Places {
         self.lives.life(block)
     }
 
-    /// Puts a life on a block, or frees it.
+    /// Starts a life on a block, a file system's or nobody's, with its first entry.
     #[inline(always)]
-    pub fn set(&mut self, block: u32, life: Option<Life>)
-        requires few { sum_by pending_of self.old + pending_of life < 2 ^ 64 }
-        ensures { self.new ≡ slice_set self.old block life }
+    pub fn start(
+        &mut self,
+        block: u32,
+        key: usize,
+        fs: Option<Fs>,
+        ty: u32,
+        bytes: &[u8; 512],
+    ) -> Result<(), AllocError>
+        requires within { block < length self.old }
+        requires few { sum_by pending_of self.old + 1 < 2 ^ 64 }
+        ensures ok { OnOk result (self.new ≡ slice_set self.old block (Some (started key (system_of fs) ty bytes.now))) }
+        ensures err { OnErr result (self.new ≡ self.old) }
     {
         let before = self.lives.totals(block);
-        self.lives.set(block, life);
+        self.lives.start(block, key, fs, ty, bytes)?;
+        self.totals.change(before, self.lives.totals(block));
+        Ok(())
+    }
+
+    /// Frees a block.
+    pub fn end(&mut self, block: u32)
+        requires few { sum_by pending_of self.old < 2 ^ 64 }
+        ensures { self.new ≡ slice_set self.old block None }
+    {
+        let before = self.lives.totals(block);
+        self.lives.end(block);
         self.totals.change(before, self.lives.totals(block));
     }
 

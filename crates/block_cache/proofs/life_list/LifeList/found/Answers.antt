@@ -17,13 +17,13 @@ loop-block-preserved c =
     elim c.match-here.branch [
       | in-None w ↦
           let place = here ∙ w.in-None.is in (
-            ap (λ v. v.items) w.lives-is ∙ (w.push_reserved.ensures.items ∙ ((λ i. before.0 i ++ resting_in blocks b (sym place i) ∷ []) ∙ more)),
+            ap (λ v. v.items) w.lives-is ∙ (w.push_reserved.ensures.items ∙ (ap (λ l. c.loop-block.lives.items ++ l ∷ []) w.free.ensures ∙ ((λ i. before.0 i ++ resting_in blocks b (sym place i) ∷ []) ∙ more))),
             ap vec_len w.lives-is ∙ (w.push_reserved.ensures.len ∙ ap (λ n. n + 1) before.1),
             subst (λ n. length found ≤ n) (sym (ap vec_capacity w.lives-is ∙ w.push_reserved.ensures.capacity)) before.2,
           )
       | in-Some w ↦
           let place = here ∙ w.in-Some.is in (
-            ap (λ v. v.items) w.lives-is ∙ (w.push_reserved-in-Some.ensures.items ∙ (ap (λ l. c.loop-block.lives.items ++ Some l ∷ []) w.found.ensures ∙ ((λ i. before.0 i ++ resting_in blocks b (sym place i) ∷ []) ∙ more))),
+            ap (λ v. v.items) w.lives-is ∙ (w.push_reserved-in-Some.ensures.items ∙ (ap (λ l. c.loop-block.lives.items ++ l ∷ []) w.found.ensures ∙ ((λ i. before.0 i ++ resting_in blocks b (sym place i) ∷ []) ∙ more))),
             ap vec_len w.lives-is ∙ (w.push_reserved-in-Some.ensures.len ∙ ap (λ n. n + 1) before.1),
             subst (λ n. length found ≤ n) (sym (ap vec_capacity w.lives-is ∙ w.push_reserved-in-Some.ensures.capacity)) before.2,
           )
