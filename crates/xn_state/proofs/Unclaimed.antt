@@ -11,7 +11,7 @@ use Rattle.xn_model.specs.Types.{Types, inside, without, claims, named_once, wit
 use Rattle.xn_model.specs.Results.{first_refusal}
 use Rattle.xn_state.specs.Proposals.{last_tests}
 use Rattle.xn_model.specs.Lives.{Life, Lives, StoreState, current, life_at}
-use Rattle.xn_model.specs.Calls.{Edit, Patch, is_patch, patched, within_limits}
+use Rattle.xn_model.specs.Calls.{Edit, Patch, is_patch, owns_nothing, patched, within_limits}
 use Rattle.xn_model.specs.Rules.{IsConsistent}
 use Rattle.owner_records.specs.Owners.{is_claimed, owned_count}
 use Rattle.owner_records.proofs.ForCallers.{claimed_is, inside_from, newest_once, owned_counted}
@@ -51,6 +51,13 @@ unchanged_claim T state b l h alive =
     ap (λ n. is_claimed state.lives b n (T.owned l.ty (current l)) [] [] && named_once T l.ty (current l)) (sym (owned_counted T state b l h alive))
     ∙ (sym (claimed_is T state b 0 l (current l) [] [] h alive refl refl refl refl)
     ∙ and_from (claims T l.ty (current l) (current l) [] []) (named_once T l.ty (current l)) (claims_nothing T l.ty (current l)) (newest_once T state b l h alive))
+
+-- a block of data points to no other
+
+pub data_owns_nothing : (T : Types) (state : StoreState) (ty : ℕ) (m : List ℕ) → IsConsistent T state → ty ≡ 2 → true ≡ owns_nothing T ty m
+data_owns_nothing T state ty m h is =
+    let none : T.owned ty m ≡ [] = ap (λ t. T.owned t m) is ∙ h.built_ins.data_owns m in
+    rw (none, owns_nothing)
 
 -- an edit of a block of data that claims nothing
 

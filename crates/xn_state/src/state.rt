@@ -32,6 +32,9 @@ mod propose;
 mod ready;
 mod roots;
 
+/// The type of blocks of data, which point to nothing and may use all their bytes.
+const DATA_TYPE: u32 = 2;
+
 /// What a store knows of its blocks, beside the disk.
 pub struct State {
     alloc: Global,
@@ -129,10 +132,23 @@ impl State {
         if !is_within_size(self.types(), ty, bytes) {
             return Some(Refusal::SizeWrong);
         }
-        if !owns_nothing(self.types(), ty, bytes) {
+        if !self.owns_nothing(ty, bytes) {
             return Some(Refusal::ClaimWrong);
         }
         None
+    }
+
+    /// Whether a block of an installed type points to no other. One of data doesn't, so that there no room is made for what a program
+    /// may emit.
+    fn owns_nothing(&self, ty: u32, bytes: &[u8; 512]) -> bool
+        requires { IsTrue ((own_types self.now).installed ty) }
+        ensures { result ≡ owns_nothing (own_types self.now) ty bytes.now }
+    {
+        if ty == DATA_TYPE {
+            self.keeps_rules();
+            return true;
+        }
+        emits_nothing(self.types(), ty, bytes)
     }
 
     /// Starts a life with these bytes on the lowest free block.
@@ -231,8 +247,8 @@ fn is_blank(bytes: &[u8]) -> bool
     bytes.iter().all(|byte| *byte == 0)
 }
 
-/// Whether a block of an installed type points to no other.
-fn owns_nothing(table: &Table, ty: u32, bytes: &[u8; 512]) -> bool
+/// Whether the owns program of an installed type emits nothing on a block.
+fn emits_nothing(table: &Table, ty: u32, bytes: &[u8; 512]) -> bool
     requires { IsTrue ((types_of table.now).installed ty) }
     ensures { result ≡ owns_nothing (types_of table.now) ty bytes.now }
 {

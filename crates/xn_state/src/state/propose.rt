@@ -15,15 +15,12 @@ ghost use Rattle.xn_state.specs.Proposals.{edited_with, last_tests, proposed_of}
 ghost use Rattle.xn_state.specs.States.{own_types};
 
 use crate::state::accept::Claims;
-use crate::state::{State, is_within_size};
+use crate::state::{DATA_TYPE, State, is_within_size};
 use block_cache::{Facts, NewBytes};
 use claims::{are_blocks_distinct, are_distinct, leaves, names, owned_pairs};
 use edit_list::{Edit, EditId, Fs, Undo};
 use udf_run::ReadSet;
 use xn_model::Refusal;
-
-/// The type of blocks of data, which point to nothing and may use all their bytes.
-const DATA_TYPE: u32 = 2;
 
 impl State {
     /// Whether an entry of this number was given, where one is named.
