@@ -11,7 +11,7 @@ use Rattle.ffs_lookup.specs.Files.{InodeValue, Absent, Free, Unusable, File, Dir
 use Rattle.ffs_lookup.specs.FileValues.{blocks_value, bytes_value, files_of, inode_value, value_in}
 use Rattle.ffs_lookup.proofs.Finds.{any_is_found, find_flat, find_map, find_on, first_found, first_on, first_test, found_holds, is_some_mapped}
 use Rattle.ffs_lookup.proofs.Newest.{good_number, in_root_block}
-use Rattle.ffs_lookup.proofs.Values.{value_by_place}
+use Rattle.ffs_lookup.proofs.Values.{value_by_place, value_there}
 
 module _ (content : ℕ → List ℕ) (fs root : ℕ) (is : Ok root ≡ root_in content fs) where
   abbrev pointed_by : ℕ → ℕ
@@ -41,15 +41,6 @@ module _ (content : ℕ → List ℕ) (fs root : ℕ) (is : Ok root ≡ root_in 
   value_free m = go (is_free_inode m) (inode_mode m == 0) (inode_mode m == 2)
     where
       go : (a b c : Bool) → is_free (if a then Free else if b then Unusable else if c then Directory (inode_links m) (blocks_value content m) else File (inode_links m) (bytes_value content m)) ≡ a
-      go true b c = refl
-      go false true c = refl
-      go false false true = refl
-      go false false false = refl
-
-  value_there : (m : List ℕ) → is_absent (inode_value content m) ≡ false
-  value_there m = go (is_free_inode m) (inode_mode m == 0) (inode_mode m == 2)
-    where
-      go : (a b c : Bool) → is_absent (if a then Free else if b then Unusable else if c then Directory (inode_links m) (blocks_value content m) else File (inode_links m) (bytes_value content m)) ≡ false
       go true b c = refl
       go false true c = refl
       go false false true = refl
@@ -111,7 +102,7 @@ module _ (content : ℕ → List ℕ) (fs root : ℕ) (is : Ok root ≡ root_in 
     where
       one : (p : ℕ) (t : Bool) → is_absent (if t then Absent else inode_value content (inode_at (content (pointed_by j)) p)) ≡ t
       one p true = refl
-      one p false = value_there (inode_at (content (pointed_by j)) p)
+      one p false = value_there content (inode_at (content (pointed_by j)) p)
 
       go : (t : Bool) → option_map (λ p. 8 * j + p + 1) (find (λ p. t) (range_with_len 0 8)) ≡ (if t then Some (8 * j + 1) else None)
       go true = let z : 8 * j + 0 + 1 ≡ 8 * j + 1 = omega arith in ap (λ n. Some n) z

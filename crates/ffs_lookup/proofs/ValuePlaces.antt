@@ -1,8 +1,10 @@
 -- What the blocks of a directory's value say of its entries, and where there is room for one more.
-use Rattle.std.proofs.Common.{◌≡◌, ℕ, ◌*◌, ◌<◌, Bool, true, false, List, [], map, Option, Some, None, refl, sym, ◌∙◌, ap, arith}
-use Rattle.std.specs.Prelude.{◌==◌, ◌&&◌, ◌||◌, not, find, bytes_eq, flat_map, is_some, option_map, option_and_then, slice_index_or, if◌then◌else◌}
-use Rattle.std.specs.List.{list_any, range_with_len}
+use Rattle.std.proofs.Common.{◌≡◌, ◌≢◌, ℕ, zero, suc, ◌+◌, ◌*◌, ◌<◌, Bool, true, false, List, [], ◌∷◌, map, replicate, Option, Some, None, refl, sym, ◌∙◌, ap, inl, inr, arith, eq-eqb}
+use Rattle.std.specs.Prelude.{◌==◌, ◌&&◌, ◌||◌, not, find, bytes_eq, filter_map, flat_map, is_some, option_map, option_and_then, unwrap_or, slice_index_or, slice_set, if◌then◌else◌}
+use Rattle.std.specs.List.{cons_option, list_any, range_with_len}
 use Rattle.std.specs.Option.{option_or}
+use Rattle.std.proofs.lemmas.Bool.{cases_eq, eqb-false, ne_eqb}
+use Rattle.std.proofs.lemmas.Option.{none-some, same_Some}
 use Rattle.std.proofs.lemmas.List.FromFn.{get_or-map-range_with_len}
 use Rattle.ffs_model.specs.Library.{half_at, inode_blocks}
 use Rattle.ffs_format.specs.Entries.{name_in}
@@ -10,10 +12,10 @@ use Rattle.ffs_format.specs.Fields.{direct_in}
 use Rattle.ffs_lookup.specs.declared.places.Slot.{Slot}
 use Rattle.ffs_lookup.specs.declared.places.Room.{Room}
 use Rattle.ffs_lookup.specs.declared.places.Room.TheVariants.{Entry as InBlock, Pointer}
-use Rattle.ffs_lookup.specs.Newest.{entries_in, entry_at as slot_in, first_named, has_gap, has_name, has_room, name_of_place, room_from, room_in}
-use Rattle.ffs_lookup.specs.Files.{Blocks, Entry, block_at, entry_at, is_named, look_up, positions, positions_in, room}
+use Rattle.ffs_lookup.specs.Newest.{entries_in, entry_at as slot_in, first_named, has_gap, has_name, has_room, name_at, name_of_place, names_of, room_from, room_in, used_entry}
+use Rattle.ffs_lookup.specs.Files.{Blocks, Entry, block_at, entry_at, is_named, look_up, positions, positions_in, put_entry, room}
 use Rattle.ffs_lookup.specs.FileValues.{block_value, blocks_value}
-use Rattle.ffs_lookup.proofs.Finds.{any_is_found, find_flat, find_map, find_on, find_pointed, first_found, first_map, first_of, first_on, flat_map_on, flat_pointed, found_holds, is_some_mapped, map_twice}
+use Rattle.ffs_lookup.proofs.Finds.{filter_map_flat, filter_map_map, filter_map_on, map_flat, map_on, any_is_found, find_flat, find_map, find_on, find_pointed, first_found, first_map, first_of, first_on, flat_map_on, flat_pointed, found_holds, found_within, is_some_mapped, map_twice}
 use Rattle.ffs_lookup.proofs.Walks.{found_in, is_named as is_named_at}
 
 module _ (content : ℕ → List ℕ) (inode : List ℕ) where
@@ -194,3 +196,130 @@ module _ (content : ℕ → List ℕ) (inode : List ℕ) where
       go (Some b) e =
           sym (is_some_mapped (InBlock b) (find (λ p. half_at (content b) (32 * p) == 0) (range_with_len 0 16))
           ∙ (sym (any_is_found (λ p. half_at (content b) (32 * p) == 0) (range_with_len 0 16)) ∙ found_holds (λ c. has_gap (content c)) (inode_blocks inode) b e))
+
+  -- where there is room is a place, the first one of a block that is not there yet
+  pub room_known : (at : ℕ × ℕ) → Some at ≡ room blocks → (at.0 < 12) × (at.1 < 16) × (word at.0 ≡ 0 → at.1 ≡ 0)
+  room_known at e = go (find gap_at (range_with_len 0 12)) refl (e ∙ (ap (λ o. option_or o (option_map (λ i. (i, 0)) (find (λ i. not (is_some (block_at blocks i))) (range_with_len 0 12)))) free_is
+      ∙ ap (λ o. option_or (option_and_then (found_at is_gap) (find gap_at (range_with_len 0 12))) (option_map (λ i. (i, 0)) o)) missing_is))
+    where
+      first : (i : ℕ) → missing ≡ Some i → Some at ≡ Some (i, 0) → (at.0 < 12) × (at.1 < 16) × (word at.0 ≡ 0 → at.1 ≡ 0)
+      first i m f =
+          let same : at ≡ (i, 0) = same_Some at (i, 0) f in
+          let low = (found_within (λ j. word j == 0) 0 12 i m).1 in
+          let index : at.0 ≡ i = ap (λ x. x.0) same in
+          let place : at.1 ≡ 0 = ap (λ x. x.1) same in
+          (omega (arith, low, index), omega (arith, place), λ z. place)
+
+      pointer : (o : Option ℕ) → missing ≡ o → Some at ≡ option_map (λ i. (i, 0)) o → (at.0 < 12) × (at.1 < 16) × (word at.0 ≡ 0 → at.1 ≡ 0)
+      pointer None m f = absurd (none-some at (sym f))
+      pointer (Some i) m f = first i m f
+
+      gap : (i : ℕ) → find gap_at (range_with_len 0 12) ≡ Some i → (t : Bool) → (word i == 0) ≡ t → (o : Option ℕ) → find (λ p. is_gap (name_of_place (content (word i)) p)) (range_with_len 0 16) ≡ o →
+          is_some {T = ℕ × ℕ} (if t then None else option_map (λ p. (i, p)) o) ≡ true →
+          Some at ≡ option_or (if t then None else option_map (λ p. (i, p)) o) (option_map (λ j. (j, 0)) missing) → (at.0 < 12) × (at.1 < 16) × (word at.0 ≡ 0 → at.1 ≡ 0)
+      gap i m true z o h is f = absurd (cc is)
+      gap i m false z None h is f = absurd (cc is)
+      gap i m false z (Some p) h is f =
+          let same : at ≡ (i, p) = same_Some at (i, p) f in
+          let low = (found_within gap_at 0 12 i m).1 in
+          let few = (found_within (λ q. is_gap (name_of_place (content (word i)) q)) 0 16 p h).1 in
+          let index : at.0 ≡ i = ap (λ x. x.0) same in
+          let place : at.1 ≡ p = ap (λ x. x.1) same in
+          (omega (arith, low, index), omega (arith, few, place), λ none. absurd (eqb-false (word i) 0 z (ap word (sym index) ∙ none)))
+
+      go : (o : Option ℕ) → find gap_at (range_with_len 0 12) ≡ o → Some at ≡ option_or (option_and_then (found_at is_gap) o) (option_map (λ i. (i, 0)) missing) → (at.0 < 12) × (at.1 < 16) × (word at.0 ≡ 0 → at.1 ≡ 0)
+      go None m f = pointer missing refl f
+      go (Some i) m f =
+          gap i m (word i == 0) refl (find (λ p. is_gap (name_of_place (content (word i)) p)) (range_with_len 0 16)) refl (has_found i ∙ found_holds gap_at (range_with_len 0 12) i m) f
+
+-- What is listed
+
+module _ (content : ℕ → List ℕ) (inode : List ℕ) where
+  name_places : (b : ℕ) (xs : List ℕ) → map (λ (entry : Slot). (name_at content entry, entry.inode)) (filter_map (λ place. used_entry (slot_in content b place)) xs) ≡ filter_map (name_of_place (content b)) xs
+  name_places b [] = refl
+  name_places b (x ∷ xs) = step (half_at (content b) (32 * x) == 0) (name_places b xs)
+    where
+      step : (t : Bool) → map (λ (entry : Slot). (name_at content entry, entry.inode)) (filter_map (λ place. used_entry (slot_in content b place)) xs) ≡ filter_map (name_of_place (content b)) xs →
+          map (λ (entry : Slot). (name_at content entry, entry.inode)) (cons_option (if t then None else Some (slot_in content b x)) (filter_map (λ place. used_entry (slot_in content b place)) xs))
+          ≡ cons_option (if t then None else Some (name_in (content b) (32 * x), half_at (content b) (32 * x))) (filter_map (name_of_place (content b)) xs)
+      step true r = r
+      step false r = ap (λ ys. (name_in (content b) (32 * x), half_at (content b) (32 * x)) ∷ ys) r
+
+  -- the names of a directory are those of its value
+  pub listed_is : names_of content inode ≡ filter_map (entry_at (blocks content inode)) (positions (blocks content inode))
+  listed_is =
+      ap (map (λ (entry : Slot). (name_at content entry, entry.inode))) (flat_pointed (entries_in content) (word content inode) (range_with_len 0 12))
+      ∙ (map_flat (λ (entry : Slot). (name_at content entry, entry.inode)) (λ i. if word content inode i == 0 then [] else entries_in content (word content inode i)) (range_with_len 0 12)
+      ∙ (flat_map_on (λ i. map (λ (entry : Slot). (name_at content entry, entry.inode)) (if word content inode i == 0 then [] else entries_in content (word content inode i)))
+      (λ i. filter_map (entry_at (blocks content inode)) (positions_in i (block_value content (word content inode i)))) 0 12 (λ i low high. one i (omega (arith, high)) (word content inode i == 0) refl)
+      ∙ (sym (filter_map_flat (entry_at (blocks content inode)) (λ i. positions_in i (block_value content (word content inode i))) (range_with_len 0 12))
+      ∙ ap (filter_map (entry_at (blocks content inode))) (sym (positions_are content inode)))))
+    where
+      one : (i : ℕ) → i < 12 → (t : Bool) → (word content inode i == 0) ≡ t →
+          map (λ (entry : Slot). (name_at content entry, entry.inode)) (if t then [] else entries_in content (word content inode i))
+          ≡ filter_map (entry_at (blocks content inode)) (positions_in i (if t then None else Some (map (name_of_place (content (word content inode i))) (range_with_len 0 16))))
+      one i lt true e = refl
+      one i lt false e =
+          name_places (word content inode i) (range_with_len 0 16)
+          ∙ sym (filter_map_map (entry_at (blocks content inode)) (λ p. (i, p)) (range_with_len 0 16)
+          ∙ filter_map_on (λ p. entry_at (blocks content inode) (i, p)) (name_of_place (content (word content inode i))) 0 16 (λ p low high.
+          entry_here content inode i p lt (omega (arith, high)) ∙ ap (λ (t : Bool). if t then None else name_of_place (content (word content inode i)) p) e))
+
+-- An entry that is put or cleared
+
+set_range : {A : Type 0} (f : ℕ → A) (y : A) (a n k j : ℕ) → a + k ≡ j → slice_set (map f (range_with_len a n)) k y ≡ map (λ i. if i == j then y else f i) (range_with_len a n)
+set_range f y a zero k j e = refl
+set_range f y a (suc n) zero j e =
+    ap (λ t. (if t then y else f a) ∷ map f (range_with_len (a + 1) n)) (sym (eq-eqb a j (omega (arith, e))))
+    ∙ ap (λ xs. (if a == j then y else f a) ∷ xs) (map_on f (λ i. if i == j then y else f i) (a + 1) n (λ i low high. ap (λ t. if t then y else f i) (sym (ne_eqb i j (λ z. omega (arith, e, z, low))))))
+set_range f y a (suc n) (suc k) j e =
+    ap (λ t. (if t then y else f a) ∷ slice_set (map f (range_with_len (a + 1) n)) k y) (sym (ne_eqb a j (λ z. omega (arith, e, z))))
+    ∙ ap (λ xs. (if a == j then y else f a) ∷ xs) (set_range f y (a + 1) n k j (omega (arith, e)))
+
+module _ (v w : ℕ → List ℕ) (inode after : List ℕ) (k place : ℕ) (low : k < 12) (few : place < 16) (entry : Option Entry) where
+  abbrev old_place : ℕ → Option Entry
+  old_place p = if direct_in inode k == 0 then None else name_of_place (v (direct_in inode k)) p
+
+  old_block : unwrap_or (block_value v (direct_in inode k)) (replicate 16 None) ≡ map old_place (range_with_len 0 16)
+  old_block = go (direct_in inode k == 0)
+    where
+      go : (t : Bool) → unwrap_or (if t then None else Some (map (name_of_place (v (direct_in inode k))) (range_with_len 0 16))) (replicate 16 None)
+          ≡ map (λ p. if t then None else name_of_place (v (direct_in inode k)) p) (range_with_len 0 16)
+      go true = refl
+      go false = refl
+
+  abbrev new_places : List (Option Entry)
+  new_places = slice_set (unwrap_or (block_at (blocks_value v inode) k) (replicate 16 None)) place entry
+
+  -- The blocks of a directory whose entry at one place is another one, in a block that may be new.
+  pub put_is : ((i : ℕ) → i < 12 → i ≢ k → direct_in after i ≡ direct_in inode i) → direct_in after k ≢ 0 →
+      ((i p : ℕ) → i < 12 → i ≢ k → direct_in inode i ≢ 0 → p < 16 → name_of_place (w (direct_in inode i)) p ≡ name_of_place (v (direct_in inode i)) p) →
+      ((p : ℕ) → p < 16 → name_of_place (w (direct_in after k)) p ≡ (if p == place then entry else old_place p)) →
+      blocks_value w after ≡ put_entry (blocks_value v inode) (k, place) entry
+  put_is directs there others here =
+      map_on (λ i. block_value w (direct_in after i)) (λ i. if i == k then Some new_places else block_value v (direct_in inode i)) 0 12 (λ i from to. one i (omega (arith, to)))
+      ∙ sym (set_range (λ i. block_value v (direct_in inode i)) (Some new_places) 0 12 k k (omega arith))
+    where
+      set_places : new_places ≡ map (λ p. if p == place then entry else old_place p) (range_with_len 0 16)
+      set_places =
+          ap (λ o. slice_set (unwrap_or o (replicate 16 None)) place entry) (block_here v inode k low)
+          ∙ (ap (λ ps. slice_set ps place entry) old_block ∙ set_range old_place entry 0 16 place place (omega arith))
+
+      at : block_value w (direct_in after k) ≡ Some new_places
+      at =
+          ap (λ t. if t then None else Some (map (name_of_place (w (direct_in after k))) (range_with_len 0 16))) (ne_eqb (direct_in after k) 0 there)
+          ∙ ap (λ ps. Some ps) (map_on (name_of_place (w (direct_in after k))) (λ p. if p == place then entry else old_place p) 0 16 (λ p from to. here p (omega (arith, to))) ∙ sym set_places)
+
+      away : (i : ℕ) → i < 12 → i ≢ k → block_value w (direct_in after i) ≡ block_value v (direct_in inode i)
+      away i lt ne = ap (block_value w) (directs i lt ne) ∙ go (direct_in inode i == 0) refl
+        where
+          go : (t : Bool) → (direct_in inode i == 0) ≡ t → (if t then None else Some (map (name_of_place (w (direct_in inode i))) (range_with_len 0 16)))
+              ≡ (if t then None else Some (map (name_of_place (v (direct_in inode i))) (range_with_len 0 16)))
+          go true e = refl
+          go false e = ap (λ ps. Some ps) (map_on (name_of_place (w (direct_in inode i))) (name_of_place (v (direct_in inode i))) 0 16 (λ p from to. others i p lt ne (λ z. eqb-false (direct_in inode i) 0 e z) (omega (arith, to))))
+
+      one : (i : ℕ) → i < 12 → block_value w (direct_in after i) ≡ (if i == k then Some new_places else block_value v (direct_in inode i))
+      one i lt = elim (cases_eq i k) [
+        | inl e ↦ ap (λ j. block_value w (direct_in after j)) e ∙ (at ∙ ap (λ t. if t then Some new_places else block_value v (direct_in inode i)) (sym (eq-eqb i k e)))
+        | inr ne ↦ away i lt ne ∙ ap (λ t. if t then Some new_places else block_value v (direct_in inode i)) (sym (ne_eqb i k ne))
+      ]

@@ -7,7 +7,7 @@ use Rattle.ffs_lookup.specs.declared.fault.FfsFault.{FfsFault}
 use Rattle.ffs_lookup.specs.declared.fault.FfsFault.TheVariants.{NoEntry, NotDir, IsDir}
 use Rattle.ffs_lookup.specs.Newest.{and_then, mapped, root_in, root_of_type, inode_block_in, unless_zero, inode_in, unless_unused, directory_in, if_directory, file_in, if_file, is_free_inode}
 use Rattle.xn_model.specs.Root.{slot}
-use Rattle.ffs_lookup.specs.Files.{InodeValue, Absent, Free, Unusable, File, Directory, Blocks, in_use, directory_of, file_of}
+use Rattle.ffs_lookup.specs.Files.{InodeValue, Absent, Free, Unusable, File, Directory, Blocks, in_use, directory_of, file_of, is_absent}
 use Rattle.ffs_lookup.specs.FileValues.{blocks_value, bytes_value, files_of, inode_value, place_in, value_in}
 
 -- A free inode is not in use
@@ -93,6 +93,16 @@ module _ (content : ℕ → List ℕ) where
         go true false h f = let z = h refl in absurd (cc z)
         go false true h f = absurd (cc f)
         go false false h f = refl
+
+    -- of one that has a block
+    pub value_there : is_absent (inode_value content m) ≡ false
+    value_there = go (is_free_inode m) (inode_mode m == 0) (inode_mode m == 2)
+      where
+        go : (a b c : Bool) → is_absent (kind a b c) ≡ false
+        go true b c = refl
+        go false true c = refl
+        go false false true = refl
+        go false false false = refl
 
     used_inode : mapped (inode_value content) (if inode_mode m == 0 then Err NoEntry else Ok m) ≡ in_use (inode_value content m)
     used_inode = go (is_free_inode m) (inode_mode m == 0) (inode_mode m == 2) refl refl refl (free_is_unused m)

@@ -9,7 +9,7 @@
 --     with_value, with_entry, with_block, without_link    the files with one changed: another value; an entry put or cleared; a new block of inodes;
 --                                                         a link less
 --     Answer                                      a fault, and nothing changes; or what is answered, and the files after it
---     read, listed                                what `read` and `list` answer
+--     read, read_over, listed                     what `read` and `list` answer
 --     created, written, unlinked, removed, renamed, replaced    the calls
 use Rattle.std.specs.Prelude.{ℕ, ◌+◌, ◌-◌, ◌/◌, Bool, true, false, not, ◌&&◌, ◌==◌, nat_lt, nat_le, List, [], ◌++◌, length, take, drop, map, find, replicate, Option, Some, None, Result, Ok, Err, is_some, bytes_eq, option_map, option_and_then, unwrap_or, filter_map, flat_map, slice_index_or, slice_set, if◌then◌else◌}
 use Rattle.std.specs.List.{range_with_len}
@@ -150,6 +150,11 @@ without_link files n = with_value files n (less_a_link (files n))
 -- at most so many bytes of a file from an offset on
 abbrev pub read : Files → ℕ → ℕ → ℕ → Result (List ℕ) FfsFault
 read files n offset count = mapped (λ file. take count (drop offset file.1)) (file_of (files n))
+
+-- and what it leaves of the bytes that it was given
+abbrev pub read_over : List ℕ → Result (List ℕ) FfsFault → List ℕ
+read_over old (Ok new) = new ++ drop (length new) old
+read_over old (Err fault) = old
 
 -- the names of a directory, and the inodes that they name
 abbrev pub listed : Files → ℕ → Result (List Entry) FfsFault
