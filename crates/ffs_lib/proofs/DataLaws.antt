@@ -56,7 +56,7 @@ all_same old new fs n same later =
 pub puts_none : (state : StoreState) (fs n start : ℕ) → Puts state state fs n start []
 puts_none state fs n start = record {
   wrote = λ inode is. wrote_none (latest state.lives) fs n start inode is;
-  others = λ d ne. (refl, λ inode is. (refl, λ at low. refl));
+  others = λ d ne. (refl, λ inode is. (refl, λ at low. refl), λ some few. refl);
   later = omega arith;
 }
 

@@ -24,7 +24,8 @@ use Rattle.ffs_lookup.specs.Newest.{and_then, directory_in, file_block, if_direc
 use Rattle.ffs_lookup.specs.declared.places.Room.TheVariants.{Entry, Pointer}
 use Rattle.ffs_lib.specs.Outcomes.{IsGrown}
 use Rattle.ffs_lookup.specs.Places.{IsFree, IsPlace}
-use Rattle.ffs_lib.specs.Results.{HasMore, MadeEntry, SameContents, SameInode, new_inode, place_in}
+use Rattle.ffs_lookup.specs.FileValues.{place_in}
+use Rattle.ffs_lib.specs.Results.{HasMore, MadeEntry, SameContents, SameInode, SameOrNew, new_inode}
 use Rattle.ffs_lib.proofs.Fields.{blocks_are, get_mapped, set_words}
 use Rattle.ffs_lib.proofs.Firsts.{first_more}
 use Rattle.ffs_lib.proofs.Alone.{none_listed}
@@ -34,7 +35,7 @@ use Rattle.ffs_lib.proofs.More.{OneMore, block_more, blocks_more, lists_more, mo
 use Rattle.ffs_lookup.proofs.ForCallers.{block_again, free_mode, good_number, in_inode_block, same_ok, unused_is, used_is}
 use Rattle.ffs_lib.proofs.Rooms.{place_by, placed_before}
 use Rattle.ffs_lib.proofs.Owners.{Stands, block_at, block_from, direct_block, only_first, passed, stands_from}
-use Rattle.ffs_lib.proofs.Same.{Touches, begun, block_same, data_touched, edited, inode_touched, inodes_same, none_touched, same_on}
+use Rattle.ffs_lib.proofs.Same.{Touches, as_same, begun, block_same, data_touched, edited, inode_touched, inodes_same, new_on, none_touched, same_on}
 
 -- A directory is an inode in use
 
@@ -252,16 +253,16 @@ module _ (u v w : ℕ → List ℕ) (fs d : ℕ) (name : List ℕ) (mode n : ℕ
         free = free;
         made = (enters.1 n (λ e. apart (sym e))).0 ∙ made;
         entry = λ other is. more_before other (same.1 other (directory_from u fs d other is).0) (enters.0 other (is ∙ sym (directory_same u v fs d same.0)));
-        others = λ e ne ne'. same_on u v w fs e (first e ne') (enters.1 e ne);
+        others = λ e ne ne'. as_same u w fs n e (same_on u v w fs e (first e ne') (enters.1 e ne));
       }
     where
       not_both_ways : (x : List ℕ) → ◌≡◌ {A = Result (List ℕ) FfsFault} (Ok x) (Err NoEntry) → ⊥
       not_both_ways x e = cc
 
-  pub stays_made : ((e : ℕ) → SameInode u v fs e) → MadeEntry v w fs d name mode n → MadeEntry u w fs d name mode n
+  pub stays_made : ((e : ℕ) → SameOrNew u v fs n e) → MadeEntry v w fs d name mode n → MadeEntry u w fs d name mode n
   stays_made stays m = record {
     free = sym (stays n).0 ∙ m.free;
     made = m.made;
     entry = λ inode is. more_before inode ((stays d).1 inode (directory_from u fs d inode is).0) (m.entry inode (is ∙ sym (directory_same u v fs d (stays d).0)));
-    others = λ e ne ne'. same_on u v w fs e (stays e) (m.others e ne ne');
+    others = λ e ne ne'. new_on u v w fs n e (stays e) (m.others e ne ne');
   }

@@ -25,7 +25,8 @@ use Rattle.ffs_lookup.specs.Places.{IsFound, IsPlace, IsSlot}
 use Rattle.ffs_lookup.proofs.ForCallers.{block_again, gives_err, gives_ok, same_ok}
 use Rattle.ffs_lib.specs.Edits.{data_of_inode, data_of_pointers, edit_at}
 use Rattle.ffs_lib.specs.Outcomes.{CanEdit, HasNoData}
-use Rattle.ffs_lib.specs.Results.{AsBefore, IsAs, SameInode, TookLink, place_in}
+use Rattle.ffs_lookup.specs.FileValues.{place_in}
+use Rattle.ffs_lib.specs.Results.{AsBefore, IsAs, SameInode, TookLink}
 use Rattle.ffs_lib.specs.Steps.{AddsLink, Answers, Attached, ClearedPointers, Clearing, Dropped, Ends, IsHome, LastForgets, MayLose, MayName, Proposed, Removable, Removed, ShortEdit, Stage, Stops, StopsAtHome, StopsRemoving, StopsTaking, StopsUnnaming, TakesLink, Tells, Undoes, Unlisted, Wants, clearing, left_by}
 use Rattle.ffs_lib.specs.Volumes.{IsVolume, edits_of}
 use Rattle.ffs_lib.specs.declared.volume.Volume.{Volume}
@@ -274,7 +275,7 @@ module _ (T : Types) (fs : ℕ) (array : ℕ → Option ℕ) (old : StoreState) 
         | inl z ↦ absurd (there (points ∙ z))
         | inr z ↦ ap (λ b. T.owned 5 (latest old.lives b)) points ∙ s.library.indirect (latest old.lives block) ∙ no_pairs (pointed (pointer_word (latest old.lives block)) 128 2) (ap length z)
       ] in
-      let first : DroppedData T fs array old old n found.inode after = record { stage = s; can = can; given = given; same = exact; others = λ d ne. (refl, λ inode i. (refl, λ at low. refl)); none = bare; left = λ few. inl refl } in
+      let first : DroppedData T fs array old old n found.inode after = record { stage = s; can = can; given = given; same = exact; others = λ d ne. (refl, λ inode i. (refl, λ at low. refl), λ some few. refl); none = bare; left = λ few. inl refl } in
       subst (λ m. DroppedData T fs array old new n found.inode m) (sym x.1) (subst (λ (m : StoreState). DroppedData T fs array old m n found.inode after) (sym x.0) first)
   drops new e (inr x) =
       let h = s.keeps.consistent in
@@ -390,7 +391,7 @@ at_home T fs old new n block place is same fault wants = (same, block, home_of o
 pub nothing_taken : (T : Types) (fs : ℕ) (old new : StoreState) (n : ℕ) (inode : List ℕ) → Ok inode ≡ inode_in (latest old.lives) fs n → new ≡ old → (block : ℕ) → IsHome (latest old.lives) fs n block ⊎ (block ≡ word_at inode 56) →
     (fault : FfsFault) → Wants T old fs block fault → StopsTaking T fs old new n fault
 nothing_taken T fs old new n inode is same block of fault wants = subst (λ (s : StoreState). StopsTaking T fs old s n fault) (sym same) (record {
-  others = λ d ne. (refl, λ x i. (refl, λ at low. refl));
+  others = λ d ne. (refl, λ x i. (refl, λ at low. refl), λ some few. refl);
   inode = inode;
   was = is;
   is = is;

@@ -15,7 +15,7 @@ use Rattle.ffs_lookup.specs.Newest.{has_empty_pointer, has_room, inode_in, root_
 use Rattle.ffs_lookup.specs.Places.{IsSlot}
 use Rattle.ffs_lookup.proofs.ForCallers.{block_again, root_again}
 use Rattle.ffs_lib.specs.Outcomes.{HasFreePointer}
-use Rattle.ffs_lib.specs.Results.{SameInode}
+use Rattle.ffs_lib.specs.Results.{SameUse}
 use Rattle.ffs_lib.proofs.Owners.{Stands, stands_from, stands_to}
 use Rattle.ffs_lib.proofs.Rooms.{room_by}
 
@@ -77,5 +77,5 @@ recorded_given state array given None j e = refl
 recorded_given state array given (Some n) j e = given j n (sym e)
 
 -- an inode that is as before has room as before
-pub same_room : (v w : ℕ → List ℕ) (fs d : ℕ) (inode : List ℕ) → SameInode v w fs d → Ok inode ≡ inode_in v fs d → has_room w inode ≡ has_room v inode
+pub same_room : (v w : ℕ → List ℕ) (fs d : ℕ) (inode : List ℕ) → SameUse v w fs d → Ok inode ≡ inode_in v fs d → has_room w inode ≡ has_room v inode
 same_room v w fs d inode same is = room_by v w inode inode refl (same.1 inode is).1

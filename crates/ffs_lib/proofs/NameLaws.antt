@@ -1,6 +1,8 @@
 -- What the edits leave by which a name is made.
-use Rattle.std.proofs.Common.{◌≡◌, ◌≢◌, ℕ, ◌+◌, ◌-◌, ◌*◌, ◌/◌, ◌%◌, ◌^◌, ◌<◌, List, [], ◌∷◌, length, replicate, Option, None, Some, Ok, Err, refl, sym, ◌∙◌, ap, arith, subst, inl, inr}
+use Rattle.std.proofs.Common.{◌≡◌, ◌≢◌, ℕ, ◌+◌, ◌-◌, ◌*◌, ◌/◌, ◌%◌, ◌^◌, ◌<◌, List, [], ◌∷◌, length, replicate, take, Option, None, Some, Ok, Err, refl, sym, ◌∙◌, ap, arith, subst, inl, inr}
 use Rattle.std.specs.Prelude.{Contains, IsTrue, find, option_map, slice_set, ◌==◌}
+use Rattle.std.proofs.lemmas.List.{drop-replicate, take-replicate}
+use Rattle.std.proofs.lemmas.Bool.{cases_eq}
 use Rattle.std.specs.Int.{w32, to_le_bytes}
 use Rattle.std.specs.List.{list_any, range_with_len}
 use Rattle.xn_model.specs.Types.{Types}
@@ -24,7 +26,7 @@ use Rattle.ffs_lookup.specs.Places.{IsDirectory, IsEmptyPointer, IsFree, IsGap}
 use Rattle.ffs_lookup.proofs.ForCallers.{directory_is, find_none, free_mode, in_directory, root_again, same_ok}
 use Rattle.ffs_lib.specs.Edits.{edit_at}
 use Rattle.ffs_lib.specs.Outcomes.{HasFreePointer, IsAdded, IsGrown, IsMade}
-use Rattle.ffs_lib.specs.Results.{HasMore, IsLowestNumber, SameInode, new_inode}
+use Rattle.ffs_lib.specs.Results.{HasMore, IsLowestNumber, SameInode, SameOrNew, new_inode}
 use Rattle.ffs_lib.specs.Steps.{Entered, IsEntry, IsHome, MayName, ShortEdit, Stage, StopsEntering, StopsGrowing, Tells, Wants, left_by}
 use Rattle.ffs_lib.proofs.Edited.{attached, entered, grown, made, same_root}
 use Rattle.ffs_lib.proofs.Entering.{begun_same, block_entered, directory_from, directory_same, gap_entered, inode_put}
@@ -33,7 +35,7 @@ use Rattle.ffs_lib.proofs.Laws.{can_edit, gives_of, home_of}
 use Rattle.ffs_lib.proofs.Linked.{same_room}
 use Rattle.ffs_lib.proofs.Tops.{never}
 use Rattle.ffs_lib.proofs.Owners.{block_from, stands_from}
-use Rattle.ffs_lib.proofs.Same.{Touches, begun, begun_some, block_same, none_touched, pointer_touched, root_bytes, root_same, same_on}
+use Rattle.ffs_lib.proofs.Same.{Touches, as_same, begun, begun_some, block_same, new_on, none_touched, place_added, place_kept, pointer_touched, root_bytes, root_same, same_on}
 use Rattle.ffs_lib.proofs.Undoing.{undone_same}
 use Rattle.ffs_lib.proofs.Short.{attached_short, begun_addable, entry_short, kept_short, pairs_kept, pairs_set, pointer_short}
 
@@ -67,7 +69,7 @@ direct_contains T fs old d found inode dir same block has =
 pub not_entered : (T : Types) (fs : ℕ) (old new : StoreState) (d : ℕ) (inode : List ℕ) → Ok inode ≡ directory_in (latest old.lives) fs d → new ≡ old → (block : ℕ) → Contains (inode_blocks inode) block → (fault : FfsFault) → Wants T old fs block fault →
     StopsEntering T fs old new d fault
 not_entered T fs old new d inode dir same block has fault wants = record {
-  same = λ x. subst (λ (s : StoreState). SameInode (latest old.lives) (latest s.lives) fs x) (sym same) (refl, λ i e. (refl, λ at low. refl));
+  same = λ x. subst (λ (s : StoreState). SameInode (latest old.lives) (latest s.lives) fs x) (sym same) (refl, λ i e. (refl, λ at low. refl), λ some few. refl);
   inode = inode;
   directory = dir;
   told = inl (same, block, has, wants);
@@ -76,7 +78,7 @@ not_entered T fs old new d inode dir same block has fault wants = record {
 pub not_begun : (T : Types) (fs : ℕ) (old new : StoreState) (d : ℕ) (inode : List ℕ) → Ok inode ≡ directory_in (latest old.lives) fs d → new ≡ old → (bytes : List ℕ) (home : ℕ) → IsHome (latest old.lives) fs d home → (fault : FfsFault) → Tells (init_of T old fs 2 bytes) fault →
     StopsEntering T fs old new d fault
 not_begun T fs old new d inode dir same bytes home at fault told = record {
-  same = λ x. subst (λ (s : StoreState). SameInode (latest old.lives) (latest s.lives) fs x) (sym same) (refl, λ i e. (refl, λ at low. refl));
+  same = λ x. subst (λ (s : StoreState). SameInode (latest old.lives) (latest s.lives) fs x) (sym same) (refl, λ i e. (refl, λ at low. refl), λ some few. refl);
   inode = inode;
   directory = dir;
   told = inr (bytes, home, at, inl (same, told));
@@ -202,13 +204,13 @@ pub named_once : (v w : ℕ → List ℕ) (fs d n : ℕ) (inode : List ℕ) → 
 named_once v w fs d n inode dir free others =
     let own = (directory_from v fs d inode dir).0 in
     let same = others d (λ e. never inode _ (own ∙ (ap (inode_in v fs) e ∙ free))) in
-    (dir ∙ sym (directory_same v w fs d same.0), same_room v w fs d inode same own)
+    (dir ∙ sym (directory_same v w fs d same.0), same_room v w fs d inode (same.0, same.1) own)
 
 -- A new block of inodes
 
 pub not_added : (T : Types) (fs : ℕ) (old new : StoreState) → HasFreePointer (latest old.lives) fs → new ≡ old → (fault : FfsFault) → Tells (init_of T old fs 4 zeros) fault → StopsGrowing T fs old new fault
 not_added T fs old new free same fault told = record {
-  same = λ x. subst (λ (s : StoreState). SameInode (latest old.lives) (latest s.lives) fs x) (sym same) (refl, λ i e. (refl, λ at low. refl));
+  same = λ x. subst (λ (s : StoreState). SameInode (latest old.lives) (latest s.lives) fs x) (sym same) (refl, λ i e. (refl, λ at low. refl), λ some few. refl);
   root = free.root;
   is_root = free.is_root;
   told = inl (same, told);
@@ -216,6 +218,9 @@ not_added T fs old new free same fault told = record {
 
 no_mode : (p : ℕ) → p < 8 → inode_mode (inode_at zeros p) ≡ 0
 no_mode p lt = sym (mode_read zeros p lt) ∙ zeros_mode p
+
+zeros_inode : (p : ℕ) → p < 8 → inode_at zeros p ≡ replicate 64 0
+zeros_inode p few = ap (take 64) (drop-replicate (64 * p) 512 0) ∙ take-replicate 64 (512 - 64 * p) 0 (omega (arith, few))
 
 module _ (T : Types) (fs : ℕ) (array : ℕ → Option ℕ) (zeroth first : StoreState) (s : Stage T fs array zeroth) (free : HasFreePointer (latest zeroth.lives) fs) (block number : ℕ) (done : init_of T zeroth fs 4 zeros ≡ Ok ((block, number), first)) where
   pub point_stage : Stage T fs array first
@@ -260,7 +265,7 @@ module _ (T : Types) (fs : ℕ) (array : ℕ → Option ℕ) (zeroth first : Sto
     }
 
     pub points : (second : StoreState) (entry : ℕ) → propose_of T first fs root (edit_at (4 * index) (to_le_bytes w32 block) ((block, 4) ∷ []) [] None) ≡ Ok (entry, second) →
-        IsAdded T fs array index block entry second × ((x : ℕ) → SameInode (latest zeroth.lives) (latest second.lives) fs x)
+        IsAdded T fs array index block entry second × ((x : ℕ) → SameOrNew (latest zeroth.lives) (latest second.lives) fs (8 * index + 1) x)
     points second entry put_done =
         let h = s.keeps.consistent in
         let h1 = point_stage.keeps.consistent in
@@ -276,7 +281,18 @@ module _ (T : Types) (fs : ℕ) (array : ℕ → Option ℕ) (zeroth first : Sto
         top.there (sym top.points ∙ (ap (λ r. library_layout.pointer (w r) 0) one ∙ (ap (λ m. library_layout.pointer m 0) (ap w (sym z) ∙ bare) ∙ zeros_pointer 0))) in (
           attached T s.library fs s.few array first second point_stage.keeps root index block point_free.first entry is_root e small top only bare there put_done,
           λ x.
-              same_on v w (latest second.lives) fs x (none_touched T s.library zeroth h fs s.few w block 6 touched (λ z. omega (arith, z)) (λ z. omega (arith, z)) (λ z. omega (arith, z)) (λ z. omega (arith, z)) x)
-              (pointer_touched T s.library first second h1 fs s.few root index block entry is_root e.few (ap (λ r. pointer_word (w r) index) (sym same) ∙ e.empty) (ap (λ r. length (w r)) (sym same) ∙ e.long) small there put_done
-              apart x (λ some z. ap (λ m. inode_mode (inode_at m ((x - 1) % 8))) bare ∙ no_mode ((x - 1) % 8) (omega arith))),
+              let first_same = none_touched T s.library zeroth h fs s.few w block 6 touched (λ z. omega (arith, z)) (λ z. omega (arith, z)) (λ z. omega (arith, z)) (λ z. omega (arith, z)) x in
+              let empty = ap (λ r. pointer_word (w r) index) (sym same) ∙ e.empty in
+              let long = ap (λ r. length (w r)) (sym same) ∙ e.long in
+              let seen = pointer_touched T s.library first second h1 fs s.few root index block entry is_root e.few empty long small there put_done apart x (λ some z. ap (λ m. inode_mode (inode_at m ((x - 1) % 8))) bare ∙ no_mode ((x - 1) % 8) (omega arith)) in
+              new_on v w (latest second.lives) fs (8 * index + 1) x (as_same v w fs (8 * index + 1) x first_same) (
+                seen.0,
+                seen.1,
+                λ some few. elim (cases_eq ((x - 1) / 8) index) [
+                  | inr ne ↦ inl (place_kept T s.library first second h1 fs s.few root index block entry is_root e.few empty long small there put_done x few ne)
+                  | inl z ↦
+                      let added = place_added T s.library first second h1 fs s.few root index block entry is_root e.few empty long small there put_done apart x z in
+                      inr (record { together = omega (arith, z); absent = added.0; free = added.1 ∙ ap (λ (m : List ℕ). Ok m) (ap (λ m. inode_at m ((x - 1) % 8)) bare ∙ zeros_inode ((x - 1) % 8) (omega arith)) })
+                ],
+              ),
         )

@@ -58,7 +58,7 @@ zeros_puts state fs n inode is index at count fit none =
       wrote = λ other i.
           let wrote : WroteBytes v v fs n inode (512 * index + at) (replicate count 0) = record { after = inode; file = is; size = refl; marks = (refl, refl); each = zeros_stand v inode index at count fit none } in
           subst (λ (x : List ℕ). WroteBytes v v fs n x (512 * index + at) (replicate count 0)) (ok_one inode other (is ∙ sym i)) wrote;
-      others = λ d ne. (refl, λ x i. (refl, λ at low. refl));
+      others = λ d ne. (refl, λ x i. (refl, λ at low. refl), λ some few. refl);
       later = omega arith;
     }
   where

@@ -28,7 +28,8 @@ use Rattle.ffs_lookup.specs.Places.{IsFound}
 use Rattle.ffs_lookup.proofs.ForCallers.{given_up, links_set, same_ok, unnumbered_repair}
 use Rattle.ffs_lib.specs.Edits.{data_of_inode, data_of_pointers, edit_at}
 use Rattle.ffs_lib.specs.Outcomes.{HasNoData}
-use Rattle.ffs_lib.specs.Results.{AsBefore, IsLinked, OnlyChanges, SameInode, place_in}
+use Rattle.ffs_lookup.specs.FileValues.{place_in}
+use Rattle.ffs_lib.specs.Results.{AsBefore, IsLinked, OnlyChanges, SameInode}
 use Rattle.ffs_lib.specs.Steps.{Answers, Ends, IsHome, ShortEdit, Stage, Stops, Tells, Wants}
 use Rattle.ffs_lib.specs.Reclaiming.{Emptied, InMiddle, MayRepair, PointersEmptied, ReclaimedAll, Reclaims, Repaired, RepairedOne, StopsReclaiming, StopsRepairing, emptying}
 use Rattle.ffs_lib.proofs.Dropping.{cleared_owns, no_pairs, put_whole}
@@ -40,20 +41,10 @@ use Rattle.ffs_lib.proofs.Moving.{relinked, same_as}
 use Rattle.ffs_lib.proofs.NameCounts.{names_within}
 use Rattle.ffs_lib.proofs.Owners.{block_from, stands_from}
 use Rattle.ffs_lib.proofs.Rooms.{room_by}
-use Rattle.ffs_lib.proofs.Same.{Touches, block_same, edited, inode_bytes, inodes_same, pointers_touched, same_on}
+use Rattle.ffs_lib.proofs.Same.{Touches, block_same, edited, inode_bytes, inodes_same, place_same, pointers_touched, same_on}
 use Rattle.ffs_lib.proofs.Short.{free_pairs, freed_short}
 
 -- The places of inodes
-
--- a place whose bytes stay
-place_same : (T : Types) (lib : IsLibrary T) (v w : ℕ → List ℕ) (fs block ty : ℕ) → Touches T v w fs block ty → ty ≢ 3 → (d : ℕ) → d ≤ 128 →
-    ((b : ℕ) → IsInodes library_layout v fs ((d - 1) / 8) b → inode_at (w b) ((d - 1) % 8) ≡ inode_at (v b) ((d - 1) % 8)) → place_in w fs d ≡ place_in v fs d
-place_same T lib v w fs block ty t not3 d low stays =
-    ap (λ (r : Result ℕ FfsFault). and_then r (λ b. Ok (inode_at (w b) ((d - 1) % 8)))) (block_same T lib v w fs block ty t not3 ((d - 1) / 8)) ∙ go (inode_block_in v fs ((d - 1) / 8)) refl
-  where
-    go : (r : Result ℕ FfsFault) → r ≡ inode_block_in v fs ((d - 1) / 8) → and_then r (λ b. Ok (inode_at (w b) ((d - 1) % 8))) ≡ and_then r (λ b. Ok (inode_at (v b) ((d - 1) % 8)))
-    go (Err fault) e = refl
-    go (Ok b) e = ap (λ (m : List ℕ). Ok m) (stays b (block_from v fs ((d - 1) / 8) b (omega (arith, low)) e))
 
 module _ (T : Types) (fs : ℕ) (array : ℕ → Option ℕ) (old : StoreState) (s : Stage T fs array old) (n : ℕ) (found : Found) (is : IsFound old fs n found) (exact : Ok found.inode ≡ inode_in (latest old.lives) fs n) where
   -- the places of other inodes in the block of one that is written
@@ -159,7 +150,7 @@ module _ (T : Types) (fs : ℕ) (array : ℕ → Option ℕ) (old : StoreState) 
         | inl z ↦ absurd (there (points ∙ z))
         | inr z ↦ ap (λ b. T.owned 5 (latest old.lives b)) points ∙ s.library.indirect (latest old.lives block) ∙ no_pairs (pointed (pointer_word (latest old.lives block)) 128 2) (ap length z)
       ] in
-      let first : EmptiedData T fs array old old n found.inode = record { stage = s; same = exact; others = λ d ne. (refl, λ inode i. (refl, λ at low. refl)); places = λ i low. refl; spares = λ i m some k. k; none = bare; left = inl refl } in
+      let first : EmptiedData T fs array old old n found.inode = record { stage = s; same = exact; others = λ d ne. (refl, λ inode i. (refl, λ at low. refl), λ some few. refl); places = λ i low. refl; spares = λ i m some k. k; none = bare; left = inl refl } in
       subst (λ (m : StoreState). EmptiedData T fs array old m n found.inode) (sym x.0) first
   empties new (inr x) =
       let h = s.keeps.consistent in
@@ -215,7 +206,7 @@ given_up_then T fs array old first new n inode k r = record {
 pub nothing_repaired : (T : Types) (fs : ℕ) (old new : StoreState) (n : ℕ) (repair : Repair) (inode : List ℕ) → Ok inode ≡ inode_in (latest old.lives) fs n → new ≡ old → (block : ℕ) → IsHome (latest old.lives) fs n block ⊎ (block ≡ word_at inode 56) →
     (fault : FfsFault) → Wants T old fs block fault → StopsRepairing T fs old new n repair fault
 nothing_repaired T fs old new n repair inode is same block of fault wants = subst (λ (s : StoreState). StopsRepairing T fs old s n repair fault) (sym same) (record {
-  others = λ d ne. (refl, λ x i. (refl, λ at low. refl));
+  others = λ d ne. (refl, λ x i. (refl, λ at low. refl), λ some few. refl);
   inode = inode;
   was = is;
   is = is;
@@ -267,7 +258,7 @@ module _ (T : Types) (fs : ℕ) (array : ℕ → Option ℕ) (old : StoreState) 
   begins_middle = record {
     stage = s;
     before = λ i some low. absurd (some (omega (arith, low)));
-    later = λ i of. (refl, λ inode e. (refl, λ at low. refl));
+    later = λ i of. (refl, λ inode e. (refl, λ at low. refl), λ some few. refl);
     spares = λ i m high x. x;
   }
 

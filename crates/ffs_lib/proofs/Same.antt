@@ -1,5 +1,5 @@
 -- What a change of one block leaves of the inodes that it does not touch.
-use Rattle.std.proofs.Common.{◌≡◌, ◌≢◌, ℕ, ◌+◌, ◌-◌, ◌*◌, ◌/◌, ◌%◌, ◌^◌, ◌<◌, ◌≤◌, ◌⊎◌, Bool, true, false, List, [], ◌∷◌, length, get_or, None, Ok, Err, refl, sym, ◌∙◌, ap, inl, inr, arith, subst, eq-eqb}
+use Rattle.std.proofs.Common.{◌≡◌, ◌≢◌, ℕ, ◌+◌, ◌-◌, ◌*◌, ◌/◌, ◌%◌, ◌^◌, ◌<◌, ◌≤◌, ◌⊎◌, Bool, true, false, List, [], ◌∷◌, length, get_or, replicate, None, Ok, Err, refl, sym, ◌∙◌, ap, inl, inr, arith, subst, eq-eqb}
 use Rattle.std.specs.Prelude.{Contains, Result, ◌==◌, ◌||◌, nat_lt, if◌then◌else◌}
 use Rattle.std.specs.Int.{w32, to_le_bytes}
 use Rattle.std.proofs.lemmas.Nat.{from_le_bytes-to_le_bytes_4}
@@ -21,7 +21,8 @@ use Rattle.ffs_lookup.specs.declared.fault.FfsFault.{FfsFault}
 use Rattle.ffs_lookup.specs.declared.fault.FfsFault.TheVariants.{NoEntry}
 use Rattle.ffs_lookup.specs.Newest.{and_then, byte_in, file_block, inode_block_in, inode_in, root_in, root_of_type, unless_unused, unless_zero}
 use Rattle.ffs_lookup.specs.Places.{IsPlace}
-use Rattle.ffs_lib.specs.Results.{SameContents, SameInode}
+use Rattle.ffs_lookup.specs.FileValues.{place_in}
+use Rattle.ffs_lib.specs.Results.{IsNewPlace, SameContents, SameInode, SameOrNew, SamePlace, SameUse}
 use Rattle.ffs_lib.specs.Edits.{edit_at}
 use Rattle.ffs_lib.proofs.Edited.{same_root}
 use Rattle.ffs_lookup.proofs.ForCallers.{in_root_block, not_zero, root_again, unused_is, zero_is}
@@ -108,6 +109,20 @@ module _ (T : Types) (lib : IsLibrary T) (v w : ℕ → List ℕ) (fs block ty :
       let at = under_inodes T library_layout (library_reads T lib) v fs ((d - 1) / 8) b is in
       ap (λ m. inode_at m ((d - 1) % 8)) (t.others b 4 at (t.apart b 4 at (λ z. other (sym z)))))
 
+  -- a place whose bytes stay
+  pub place_same : ty ≢ 3 → (d : ℕ) → d ≤ 128 → ((b : ℕ) → IsInodes library_layout v fs ((d - 1) / 8) b → inode_at (w b) ((d - 1) % 8) ≡ inode_at (v b) ((d - 1) % 8)) → place_in w fs d ≡ place_in v fs d
+  place_same not d low stays =
+      ap (λ (r : Result ℕ FfsFault). and_then r (λ b. Ok (inode_at (w b) ((d - 1) % 8)))) (block_same not ((d - 1) / 8)) ∙ go (inode_block_in v fs ((d - 1) / 8)) refl
+    where
+      go : (r : Result ℕ FfsFault) → r ≡ inode_block_in v fs ((d - 1) / 8) → and_then r (λ b. Ok (inode_at (w b) ((d - 1) % 8))) ≡ and_then r (λ b. Ok (inode_at (v b) ((d - 1) % 8)))
+      go (Err fault) e = refl
+      go (Ok b) e = ap (λ (m : List ℕ). Ok m) (stays b (block_from v fs ((d - 1) / 8) b (omega (arith, low)) e))
+
+  pub places_same : ty ≢ 3 → ty ≢ 4 → (d : ℕ) → SamePlace v w fs d
+  places_same not other d some low = place_same not d low (λ b is.
+      let at = under_inodes T library_layout (library_reads T lib) v fs ((d - 1) / 8) b is in
+      ap (λ m. inode_at m ((d - 1) % 8)) (t.others b 4 at (t.apart b 4 at (λ z. other (sym z)))))
+
 -- what is reached after a new block was begun was so before
 pub reached_before : (T : Types) (v w : ℕ → List ℕ) (fs block ty : ℕ) → Touches T v w fs block ty → ((c u : ℕ) → Under T v fs c u → c ≢ block) → (c u : ℕ) → Under T w fs c u → Under T v fs c u
 reached_before T v w fs block ty t apart c u (root e ne) = root (ap (λ m. slot m fs) (sym t.top) ∙ e) ne
@@ -169,12 +184,15 @@ module _ (T : Types) (lib : IsLibrary T) (state : StoreState) (h : IsConsistent 
         λ at low. ap (λ b. byte_in w b (at % 512)) (file_block_same (at / 512)) ∙ block_bytes (at / 512) (at % 512) (omega (arith, low)),
       )
 
-  same_by : (d : ℕ) → inode_in w fs d ≡ inode_in v fs d → ((inode : List ℕ) → Stands v fs d inode → Avoids v inode block) → SameInode v w fs d
-  same_by d e a = (e, λ inode is. let s = stands_from v fs d inode is in contents_same d inode s (a inode s))
+  use_by : (d : ℕ) → inode_in w fs d ≡ inode_in v fs d → ((inode : List ℕ) → Stands v fs d inode → Avoids v inode block) → SameUse v w fs d
+  use_by d e a = (e, λ inode is. let s = stands_from v fs d inode is in contents_same d inode s (a inode s))
+
+  same_by : (d : ℕ) → inode_in w fs d ≡ inode_in v fs d → ((inode : List ℕ) → Stands v fs d inode → Avoids v inode block) → SamePlace v w fs d → SameInode v w fs d
+  same_by d e a place = let u = use_by d e a in (u.0, u.1, place)
 
   -- a new block, or the root block: no inode has it
   pub none_touched : ty ≢ 2 → ty ≢ 3 → ty ≢ 4 → ty ≢ 5 → (d : ℕ) → SameInode v w fs d
-  none_touched two three four five d = same_by d (inodes_same T lib v w fs block ty t three four d) (λ inode s. avoids d inode s two five)
+  none_touched two three four five d = same_by d (inodes_same T lib v w fs block ty t three four d) (λ inode s. avoids d inode s two five) (places_same T lib v w fs block ty t three four d)
 
   -- a block of inodes, in which another one was written
   module _ (four : ty ≡ 4) (n place : ℕ) (bytes : List ℕ) (stands : IsPlace state fs n block place) (whole : length bytes ≡ 64) (here : w block ≡ put (v block) (64 * place) bytes) (d : ℕ) (ne : d ≢ n) where
@@ -203,7 +221,9 @@ module _ (T : Types) (lib : IsLibrary T) (state : StoreState) (h : IsConsistent 
     ]
 
     pub inode_touched : SameInode v w fs d
-    inode_touched = same_by d (inode_same T lib v w fs block ty t (λ z. omega (arith, four, z)) d inode_bytes) (λ inode s. avoids d inode s (λ z. omega (arith, four, z)) (λ z. omega (arith, four, z)))
+    inode_touched =
+        same_by d (inode_same T lib v w fs block ty t (λ z. omega (arith, four, z)) d inode_bytes) (λ inode s. avoids d inode s (λ z. omega (arith, four, z)) (λ z. omega (arith, four, z)))
+        (λ some low. place_same T lib v w fs block ty t (λ z. omega (arith, four, z)) d low (λ b is. inode_bytes b some low is))
 
   -- a block of a file or directory
   pub data_touched : ty ≡ 2 → (n : ℕ) (own : List ℕ) (s : Stands v fs n own) (i : ℕ) → i < 140 → file_block v own i ≡ block → block ≢ 0 → (d : ℕ) → d ≢ n → SameInode v w fs d
@@ -212,6 +232,7 @@ module _ (T : Types) (lib : IsLibrary T) (state : StoreState) (h : IsConsistent 
         pointers = λ some e. pointers_apart T lib state h fs few n d own inode s r i block low is e there;
         blocks = λ j high some e. ne (two_blocks T lib state h fs few d n inode own r s j i block high low e is there).0;
       })
+      (places_same T lib v w fs block ty t (λ z. omega (arith, two, z)) (λ z. omega (arith, two, z)) d)
 
   -- a file's block of pointers
   pub pointers_touched : ty ≡ 5 → (n : ℕ) (own : List ℕ) (s : Stands v fs n own) → word_at own 56 ≡ block → block ≢ 0 → (d : ℕ) → d ≢ n → SameInode v w fs d
@@ -220,6 +241,7 @@ module _ (T : Types) (lib : IsLibrary T) (state : StoreState) (h : IsConsistent 
         pointers = λ some e. ne (two_pointers T lib state h fs few d n inode own r s block e is there);
         blocks = λ j high some e. pointers_apart T lib state h fs few d n inode own r s j block high e is there;
       })
+      (places_same T lib v w fs block ty t (λ z. omega (arith, five, z)) (λ z. omega (arith, five, z)) d)
 
 pub word_read : (b : ℕ) → b < 2 ^ 32 → word_at (to_le_bytes w32 b) 0 ≡ b
 unfolding word_at
@@ -270,10 +292,38 @@ module _ (T : Types) (lib : IsLibrary T) (state new : StoreState) (h : IsConsist
   pub now_pointed : inode_block_in new_bytes fs index ≡ Ok b
   now_pointed = read new_bytes index new_root ∙ (ap unless_zero new_word ∙ sym (not_zero b there))
 
+  -- at other indices the same one is there
+  elsewhere : (j : ℕ) → j ≢ index → inode_block_in new_bytes fs j ≡ inode_block_in old_bytes fs j
+  elsewhere j ne =
+      let four : length (to_le_bytes w32 b) ≡ 4 = refl in
+      let away : (4 * j + 4 ≤ 4 * index) ⊎ (4 * index + length (to_le_bytes w32 b) ≤ 4 * j) = elim (cases_lt j index) [ inl lt ↦ inl (omega (arith, lt)) | inr ge ↦ inr (omega (arith, ge, ne, four)) ] in
+      let word : pointer_word (new_bytes top) j ≡ pointer_word (old_bytes top) j = ap (λ m. pointer_word m j) here ∙ word_apart (old_bytes top) (4 * index) (to_le_bytes w32 b) fit (4 * j) away in
+      read new_bytes j new_root ∙ (ap unless_zero word ∙ sym (read old_bytes j old_root))
+
+  -- a place is as before, or in that block, where there was none
+  pub place_kept : (d : ℕ) → d ≤ 128 → (d - 1) / 8 ≢ index → place_in new_bytes fs d ≡ place_in old_bytes fs d
+  place_kept d low ne =
+      let j : ℕ = (d - 1) / 8 in
+      let p : ℕ = (d - 1) % 8 in
+      ap (λ (r : Result ℕ FfsFault). and_then r (λ c. Ok (inode_at (new_bytes c) p))) (elsewhere j ne) ∙ go j p refl (inode_block_in old_bytes fs j) refl
+    where
+      go : (j p : ℕ) → j ≡ (d - 1) / 8 → (r : Result ℕ FfsFault) → r ≡ inode_block_in old_bytes fs j → and_then r (λ c. Ok (inode_at (new_bytes c) p)) ≡ and_then r (λ c. Ok (inode_at (old_bytes c) p))
+      go j p e (Err fault) f = refl
+      go j p e (Ok c) f =
+          let is = block_from old_bytes fs j c (omega (arith, low, e)) f in
+          let at = under_inodes T library_layout (library_reads T lib) old_bytes fs j c is in
+          ap (λ (m : List ℕ). Ok (inode_at m p)) (touched.others c 4 at (touched.apart c 4 at (λ z. omega (arith, z))))
+
+  pub place_added : b ≢ top → (d : ℕ) → (d - 1) / 8 ≡ index → (place_in old_bytes fs d ≡ Err NoEntry) × (place_in new_bytes fs d ≡ Ok (inode_at (old_bytes b) ((d - 1) % 8)))
+  place_added apart d e = (
+    ap (λ (r : Result ℕ FfsFault). and_then r (λ c. Ok (inode_at (old_bytes c) ((d - 1) % 8)))) (ap (inode_block_in old_bytes fs) e ∙ none_pointed),
+    ap (λ (r : Result ℕ FfsFault). and_then r (λ c. Ok (inode_at (new_bytes c) ((d - 1) % 8)))) (ap (inode_block_in new_bytes fs) e ∙ now_pointed) ∙ ap (λ (m : List ℕ). Ok (inode_at m ((d - 1) % 8))) (others b apart),
+  )
+
   -- an inode that isn't in use in that block is as before
-  pub pointer_touched : b ≢ top → (d : ℕ) → (d ≢ 0 → (d - 1) / 8 ≡ index → inode_mode (inode_at (old_bytes b) ((d - 1) % 8)) ≡ 0) → SameInode old_bytes new_bytes fs d
+  pub pointer_touched : b ≢ top → (d : ℕ) → (d ≢ 0 → (d - 1) / 8 ≡ index → inode_mode (inode_at (old_bytes b) ((d - 1) % 8)) ≡ 0) → SameUse old_bytes new_bytes fs d
   pointer_touched apart d unused =
-      same_by T lib state h fs few new_bytes top 3 touched d (inode_by old_bytes new_bytes fs d by_index) (λ inode s. avoids T lib state h fs few new_bytes top 3 touched d inode s (λ z. omega (arith, z)) (λ z. omega (arith, z)))
+      use_by T lib state h fs few new_bytes top 3 touched d (inode_by old_bytes new_bytes fs d by_index) (λ inode s. avoids T lib state h fs few new_bytes top 3 touched d inode s (λ z. omega (arith, z)) (λ z. omega (arith, z)))
     where
       by_index : d ≢ 0 → d ≤ 128 → and_then (inode_block_in new_bytes fs ((d - 1) / 8)) (λ c. unless_unused (inode_at (new_bytes c) ((d - 1) % 8))) ≡ and_then (inode_block_in old_bytes fs ((d - 1) / 8)) (λ c. unless_unused (inode_at (old_bytes c) ((d - 1) % 8)))
       by_index some few' = elim (cases_eq ((d - 1) / 8) index) [
@@ -285,11 +335,7 @@ module _ (T : Types) (lib : IsLibrary T) (state new : StoreState) (h : IsConsist
         | inr ne ↦
             let j : ℕ = (d - 1) / 8 in
             let p : ℕ = (d - 1) % 8 in
-            let four : length (to_le_bytes w32 b) ≡ 4 = refl in
-            let away : (4 * j + 4 ≤ 4 * index) ⊎ (4 * index + length (to_le_bytes w32 b) ≤ 4 * j) = elim (cases_lt j index) [ inl lt ↦ inl (omega (arith, lt)) | inr ge ↦ inr (omega (arith, ge, ne, four)) ] in
-            let word : pointer_word (new_bytes top) j ≡ pointer_word (old_bytes top) j = ap (λ m. pointer_word m j) here ∙ word_apart (old_bytes top) (4 * index) (to_le_bytes w32 b) fit (4 * j) away in
-            let same : inode_block_in new_bytes fs j ≡ inode_block_in old_bytes fs j = read new_bytes j new_root ∙ (ap unless_zero word ∙ sym (read old_bytes j old_root)) in
-            ap (λ (r : Result ℕ FfsFault). and_then r (λ c. unless_unused (inode_at (new_bytes c) p))) same ∙ go j p few' refl (inode_block_in old_bytes fs j) refl
+            ap (λ (r : Result ℕ FfsFault). and_then r (λ c. unless_unused (inode_at (new_bytes c) p))) (elsewhere j ne) ∙ go j p few' refl (inode_block_in old_bytes fs j) refl
       ]
         where
           go : (j p : ℕ) → d ≤ 128 → j ≡ (d - 1) / 8 → (r : Result ℕ FfsFault) → r ≡ inode_block_in old_bytes fs j → and_then r (λ c. unless_unused (inode_at (new_bytes c) p)) ≡ and_then r (λ c. unless_unused (inode_at (old_bytes c) p))
@@ -310,5 +356,30 @@ begun_some T state new h fs ty bytes made done e =
 pub contents_on : (u v w : ℕ → List ℕ) (inode : List ℕ) → SameContents u v inode → SameContents v w inode → SameContents u w inode
 contents_on u v w inode a b = (b.0 ∙ a.0, λ at low. b.1 at low ∙ a.1 at low)
 
+pub use_on : (u v w : ℕ → List ℕ) (fs d : ℕ) → SameUse u v fs d → SameUse v w fs d → SameUse u w fs d
+use_on u v w fs d a b = (b.0 ∙ a.0, λ inode e. contents_on u v w inode (a.1 inode e) (b.1 inode (e ∙ sym a.0)))
+
 pub same_on : (u v w : ℕ → List ℕ) (fs d : ℕ) → SameInode u v fs d → SameInode v w fs d → SameInode u w fs d
-same_on u v w fs d a b = (b.0 ∙ a.0, λ inode e. contents_on u v w inode (a.1 inode e) (b.1 inode (e ∙ sym a.0)))
+same_on u v w fs d a b = (b.0 ∙ a.0, λ inode e. contents_on u v w inode (a.1 inode e) (b.1 inode (e ∙ sym a.0)), λ some low. b.2 some low ∙ a.2 some low)
+
+pub as_same : (v w : ℕ → List ℕ) (fs n x : ℕ) → SameInode v w fs x → SameOrNew v w fs n x
+as_same v w fs n x a = (a.0, a.1, λ some low. inl (a.2 some low))
+
+never : {A : Type 0} (x : A) (fault : FfsFault) → ◌≡◌ {A = Result A FfsFault} (Ok x) (Err fault) → ⊥
+never x fault e = cc
+
+pub new_on : (u v w : ℕ → List ℕ) (fs n x : ℕ) → SameOrNew u v fs n x → SameOrNew v w fs n x → SameOrNew u w fs n x
+new_on u v w fs n x a b = (
+  b.0 ∙ a.0,
+  λ inode e. contents_on u v w inode (a.1 inode e) (b.1 inode (e ∙ sym a.0)),
+  λ some low. elim (a.2 some low) [
+    | inl e ↦ elim (b.2 some low) [
+      | inl f ↦ inl (f ∙ e)
+      | inr k ↦ inr (record { together = k.together; absent = sym e ∙ k.absent; free = k.free })
+    ]
+    | inr k ↦ elim (b.2 some low) [
+      | inl f ↦ inr (record { together = k.together; absent = k.absent; free = f ∙ k.free })
+      | inr j ↦ absurd (never (replicate 64 0) NoEntry (sym k.free ∙ j.absent))
+    ]
+  ],
+)

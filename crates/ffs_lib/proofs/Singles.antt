@@ -14,7 +14,7 @@ use Rattle.ffs_lookup.specs.Newest.{and_then, create_in, directory_in, entries_o
 use Rattle.ffs_lookup.proofs.ForCallers.{not_both, same_ok}
 use Rattle.ffs_lib.specs.Once.{Lacks, NamesOnce, Once}
 use Rattle.ffs_lib.specs.Replacing.{ReplacedEntry, replace_in, turned_entry}
-use Rattle.ffs_lib.specs.Results.{MadeEntry, MovedEntry, SameInode, new_inode}
+use Rattle.ffs_lib.specs.Results.{MadeEntry, MovedEntry, SameUse, new_inode}
 use Rattle.ffs_lib.specs.Steps.{Removed}
 use Rattle.ffs_lib.proofs.Entering.{directory_from, directory_same}
 use Rattle.ffs_lib.proofs.Firsts.{find_listed, none_mapped}
@@ -85,7 +85,7 @@ unfolding word_at
 no_blocks mode = refl
 
 module _ (u w : ℕ → List ℕ) (fs : ℕ) (once : NamesOnce u fs) where
-  same_once : (x : ℕ) (inode : List ℕ) → Ok inode ≡ directory_in w fs x → SameInode u w fs x → Once (listing w inode)
+  same_once : (x : ℕ) (inode : List ℕ) → Ok inode ≡ directory_in w fs x → SameUse u w fs x → Once (listing w inode)
   same_once x inode i same =
       let at : Ok inode ≡ directory_in u fs x = i ∙ directory_same u w fs x same.0 in
       subst Once (sym (same.1 inode (directory_from u fs x inode at).0).0) (once x inode at)
@@ -103,7 +103,7 @@ module _ (u w : ℕ → List ℕ) (fs : ℕ) (once : NamesOnce u fs) where
           | inl z ↦
               let own : after ≡ new_inode mode = same_ok after (new_inode mode) ((directory_from w fs x after i).0 ∙ (ap (inode_in w fs) z ∙ m.made)) in
               subst (λ (a : List ℕ). Once (listing w a)) (sym own) (bare (inode_blocks (new_inode mode)) (no_blocks mode))
-          | inr ne' ↦ same_once x after i (m.others x ne ne')
+          | inr ne' ↦ let o = m.others x ne ne' in same_once x after i (o.0, o.1)
         ]
       ]
     where
@@ -118,7 +118,7 @@ module _ (u w : ℕ → List ℕ) (fs : ℕ) (once : NamesOnce u fs) where
         let same : after ≡ own = same_ok after own (i ∙ (ap (directory_in w fs) z ∙ sym g.0)) in
         subst (λ (a : List ℕ). Once (listing w a)) (sym same) (subst Once (sym g.1) (once_fewer _ (listing u own) (once d own is)))
     | inr ne ↦ elim (cases_eq x entry.inode) [
-      | inr ne' ↦ same_once x after i (r.others x ne ne')
+      | inr ne' ↦ let o = r.others x ne ne' in same_once x after i (o.0, o.1)
       | inl z ↦
           let took = r.unlinked named at in
           let found : Ok after ≡ inode_in w fs entry.inode = (directory_from w fs x after i).0 ∙ ap (inode_in w fs) z in
@@ -165,7 +165,7 @@ module _ (u w : ℕ → List ℕ) (fs : ℕ) (once : NamesOnce u fs) where
     where
       elsewhere : (d other : ℕ) (entry : Slot) → MovedEntry u w fs d entry other new_name → (own : List ℕ) → Ok own ≡ inode_in u fs entry.inode → (x : ℕ) (after : List ℕ) → Ok after ≡ directory_in w fs x → x ≢ d → x ≢ other → Once (listing w after)
       elsewhere d other entry m own is x after i ne ne' = elim (cases_eq x entry.inode) [
-        | inr away ↦ same_once x after i (m.same x ne ne' away)
+        | inr away ↦ let o = m.same x ne ne' away in same_once x after i (o.0, o.1)
         | inl z ↦
             let k = m.others x ne ne' own (is ∙ ap (inode_in u fs) (sym z)) in
             let same : after ≡ k.after = same_ok after k.after ((directory_from w fs x after i).0 ∙ sym k.found) in
@@ -202,7 +202,7 @@ module _ (u w : ℕ → List ℕ) (fs : ℕ) (once : NamesOnce u fs) where
             | inl z ↦ listed x after i c.home (c.is_home ∙ ap (directory_in u fs) (sym z))
             | inr ne ↦ elim (cases_eq x other) [
               | inl z ↦ listed x after i c.target (c.is_target ∙ ap (directory_in u fs) (sym z))
-              | inr ne' ↦ same_once x after i (r.others x ne ne' away away')
+              | inr ne' ↦ let o = r.others x ne ne' away away' in same_once x after i (o.0, o.1)
             ]
           ]
         ]

@@ -27,9 +27,9 @@ use Rattle.ffs_lookup.specs.Newest.{has_pointer, if_bare, if_makeable, inode_blo
 use Rattle.ffs_lookup.proofs.ForCallers.{gives_ok, in_inode_block, in_root_block, kind_known, no_inode_block, no_number, no_root_block, pointer_is, root_again, used_is, zero_is}
 use Rattle.ffs_lib.specs.Edits.{edit_at}
 use Rattle.ffs_lib.specs.Outcomes.{GetsRoot, IsReady, MakesTop, OnlyShort, SetsRoot}
-use Rattle.ffs_lib.specs.Results.{MadeVolume, SameInode, new_inode}
+use Rattle.ffs_lib.specs.Results.{MadeVolume, SameInode, SameUse, new_inode}
 use Rattle.ffs_lib.proofs.Owners.{number_from}
-use Rattle.ffs_lib.proofs.Same.{Touches, begun, begun_some, none_touched, now_pointed, none_pointed, pointer_touched, same_on}
+use Rattle.ffs_lib.proofs.Same.{Touches, begun, begun_some, none_touched, now_pointed, none_pointed, pointer_touched, use_on}
 
 -- What `make` finds
 
@@ -192,7 +192,7 @@ module _ (content : ℕ → List ℕ) (fs : ℕ) where
       go true e = no_number content fs d e
       go false e = let n = number_from d e in let low = n.1 in no_inode_block content fs d e ((d - 1) / 8) NoEntry refl (none ((d - 1) / 8) (omega (arith, low)))
 
-pub neither : (v w : ℕ → List ℕ) (fs d : ℕ) → Err NoEntry ≡ inode_in v fs d → Err NoEntry ≡ inode_in w fs d → SameInode v w fs d
+pub neither : (v w : ℕ → List ℕ) (fs d : ℕ) → Err NoEntry ≡ inode_in v fs d → Err NoEntry ≡ inode_in w fs d → SameUse v w fs d
 neither v w fs d old new = (sym new ∙ old, λ inode e. absurd (not_both inode (e ∙ sym old)))
   where
     not_both : (x : List ℕ) → ◌≡◌ {A = Result (List ℕ) FfsFault} (Ok x) (Err NoEntry) → ⊥
@@ -408,9 +408,11 @@ module _ (T : Types) (lib : IsLibrary T) (fs : ℕ) (few : fs < 32) (block numbe
   ready : IsReady first second fs
   ready = prepared lib h1 (found ∙ sym (found_still T fs few block number 4 zeroth first h bytes given))
 
-  stays : (d : ℕ) → SameInode (latest zeroth.lives) (latest second.lives) fs d
-  stays d = same_on (latest zeroth.lives) (latest first.lives) (latest second.lives) fs d
-      (none_touched T lib zeroth h fs few (latest first.lives) block 6 touched (λ z. omega (arith, z)) (λ z. omega (arith, z)) (λ z. omega (arith, z)) (λ z. omega (arith, z)) d) (ready.stays d)
+  stays : (d : ℕ) → SameUse (latest zeroth.lives) (latest second.lives) fs d
+  stays d =
+      let begins : SameInode (latest zeroth.lives) (latest first.lives) fs d =
+      none_touched T lib zeroth h fs few (latest first.lives) block 6 touched (λ z. omega (arith, z)) (λ z. omega (arith, z)) (λ z. omega (arith, z)) (λ z. omega (arith, z)) d in
+      use_on (latest zeroth.lives) (latest first.lives) (latest second.lives) fs d (begins.0, begins.1) (ready.stays d)
 
   holds : latest second.lives block ≡ put zeros 0 (new_inode 2)
   holds =
@@ -426,7 +428,7 @@ module _ (T : Types) (lib : IsLibrary T) (fs : ℕ) (few : fs < 32) (block numbe
       (record {
         free = sym (stays 1).0 ∙ m.free;
         top = m.top;
-        others = λ d ne. same_on (latest zeroth.lives) (latest second.lives) (latest third.lives) fs d (stays d) (m.others d ne);
+        others = λ d ne. use_on (latest zeroth.lives) (latest second.lives) (latest third.lives) fs d (stays d) (m.others d ne);
       })
 
   pub attached_short : {A : Type 0} (result : Result A FfsFault) → (IsLibrary T → IsConsistent T second → Ok true ≡ make_in (latest second.lives) fs → may_add second fs (block, 4) ≡ true → OnlyShort result) → OnlyShort result

@@ -16,7 +16,7 @@ use Rattle.xn_model.specs.Rules.{IsConsistent}
 use Rattle.ffs_lookup.specs.declared.fault.FfsFault.{FfsFault}
 use Rattle.ffs_format.specs.Fields.{fields_of}
 use Rattle.ffs_lookup.specs.Newest.{byte_of, directory_in, file_block, file_in, is_short, make_in, has_empty_pointer, inode_block_in, root_in}
-use Rattle.ffs_lib.specs.Results.{MadeVolume, SameInode, SameMarks, new_inode}
+use Rattle.ffs_lib.specs.Results.{MadeVolume, SameInode, SameMarks, SameUse, new_inode}
 
 abbrev pub Keeps : Types → ℕ → StoreState → StoreState → Type 0
 Keeps T fs old new = IsLibrary T → (array : ℕ → Option ℕ) → VolumeKeeps T library_layout fs array old → VolumeKeeps T library_layout fs array new
@@ -108,7 +108,7 @@ SetsRoot T fs block old new = IsConsistent T old → (l : Life) → life_at old.
 
 pub record IsReady (old new : StoreState) (fs : ℕ) : Type 0 where
   pub ready : Ok true ≡ make_in (latest new.lives) fs
-  pub stays : (d : ℕ) → SameInode (latest old.lives) (latest new.lives) fs d
+  pub stays : (d : ℕ) → SameUse (latest old.lives) (latest new.lives) fs d
   pub kept : (c : ℕ) (l : Life) → c ≢ 0 → life_at old.lives c ≡ Some l → latest new.lives c ≡ latest old.lives c
   pub addable : (p : ℕ × ℕ) → may_add old fs p ≡ true → may_add new fs p ≡ true
 

@@ -19,10 +19,11 @@ use Rattle.ffs_lookup.specs.declared.fault.FfsFault.TheVariants.{NoEntry}
 use Rattle.ffs_lookup.specs.declared.repairs.Repair.{Repair}
 use Rattle.ffs_lookup.specs.declared.repairs.Repair.TheVariants.{Keep, GiveUp, SetLinks}
 use Rattle.ffs_lookup.specs.declared.repairs.Repairs.{Repairs}
+use Rattle.ffs_lookup.specs.FileValues.{place_in}
 use Rattle.ffs_lookup.specs.Newest.{inode_in}
 use Rattle.ffs_lookup.specs.Repairs.{idle_in, repair_at, repair_in}
 use Rattle.ffs_lib.specs.Edits.{data_of_pointers, edit_at}
-use Rattle.ffs_lib.specs.Results.{IsLinked, OnlyChanges, SameInode, place_in}
+use Rattle.ffs_lib.specs.Results.{IsLinked, OnlyChanges, SameInode}
 use Rattle.ffs_lib.specs.Steps.{Answers, IsHome, Stage, Tells, Wants, newest}
 
 -- kept as it is, or free, which is 64 zeros, or with so many links and all else as before

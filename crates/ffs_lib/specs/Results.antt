@@ -1,8 +1,8 @@
 -- What a call leaves of files and directories, in the newest bytes before it and after it.
---     SameContents, SameInode    the entries and the bytes of an inode are as before; the inode with a number is, with all it has
+--     SameContents, SameUse      the entries and the bytes of an inode are as before; the inode in use with a number is, with all it has
+--     SameInode, SameOrNew       and the 64 bytes at its place, in use or not; or it is free in a new block of inodes, that of another one
 --     OthersSame, OnlyChanges    so are all inodes but those with two numbers; but that with one
 --     new_inode                  an inode with one link, size 0 and no block
---     place_in                   the 64 bytes at the place of an inode, in use or not
 --     IsPlaced, IsLowestNumber   an entry stands where it should; an inode is the lowest free one
 --     HasMore, MadeEntry         a directory has one entry more; it names a new inode
 --     MadeVolume                 a file system has a top directory
@@ -16,21 +16,40 @@ use Rattle.std.specs.Prelude.{◌≡◌, ◌≢◌, ℕ, ◌+◌, ◌-◌, ◌*�
 use Rattle.std.specs.List.{list_any}
 use Rattle.std.specs.Int.{w16, to_le_bytes}
 use Rattle.xn_model.specs.Root.{word_at}
-use Rattle.ffs_model.specs.Library.{inode_at, inode_blocks, inode_links, inode_mode}
+use Rattle.ffs_model.specs.Library.{inode_blocks, inode_links, inode_mode}
 use Rattle.ffs_lookup.specs.declared.fault.FfsFault.{FfsFault}
 use Rattle.ffs_lookup.specs.declared.fault.FfsFault.TheVariants.{NoEntry}
 use Rattle.ffs_lookup.specs.declared.places.Slot.{Slot}
 use Rattle.ffs_lookup.specs.declared.places.Room.TheVariants.{Entry, Pointer}
 use Rattle.ffs_format.specs.Fields.{fields_of}
-use Rattle.ffs_lookup.specs.Newest.{and_then, byte_of, directory_in, file_in, first_named, has_room, inode_block_in, inode_in, is_at, listing, number_in, room_in, root_in, without_entry}
+use Rattle.ffs_lookup.specs.FileValues.{place_in}
+use Rattle.ffs_lookup.specs.Newest.{byte_of, directory_in, file_in, first_named, has_room, inode_in, is_at, listing, number_in, room_in, root_in, without_entry}
 
 -- Inodes that stay
 
 abbrev pub SameContents : (ℕ → List ℕ) → (ℕ → List ℕ) → List ℕ → Type 0
 SameContents old new inode = (listing new inode ≡ listing old inode) × ((at : ℕ) → at < 71680 → byte_of new inode at ≡ byte_of old inode at)
 
+abbrev pub SameUse : (ℕ → List ℕ) → (ℕ → List ℕ) → ℕ → ℕ → Type 0
+SameUse old new fs n = (inode_in new fs n ≡ inode_in old fs n) × ((inode : List ℕ) → Ok inode ≡ inode_in old fs n → SameContents old new inode)
+
+abbrev pub SamePlace : (ℕ → List ℕ) → (ℕ → List ℕ) → ℕ → ℕ → Type 0
+SamePlace old new fs n = n ≢ 0 → n ≤ 128 → place_in new fs n ≡ place_in old fs n
+
 abbrev pub SameInode : (ℕ → List ℕ) → (ℕ → List ℕ) → ℕ → ℕ → Type 0
-SameInode old new fs n = (inode_in new fs n ≡ inode_in old fs n) × ((inode : List ℕ) → Ok inode ≡ inode_in old fs n → SameContents old new inode)
+SameInode old new fs n =
+    (inode_in new fs n ≡ inode_in old fs n) × ((inode : List ℕ) → Ok inode ≡ inode_in old fs n → SameContents old new inode) × SamePlace old new fs n
+
+-- an inode is free in the block of inodes of another one, which is new
+pub record IsNewPlace (old new : ℕ → List ℕ) (fs n x : ℕ) : Type 0 where
+  pub together : (x - 1) / 8 ≡ (n - 1) / 8
+  pub absent : place_in old fs x ≡ Err NoEntry
+  pub free : place_in new fs x ≡ Ok (replicate 64 0)
+
+abbrev pub SameOrNew : (ℕ → List ℕ) → (ℕ → List ℕ) → ℕ → ℕ → ℕ → Type 0
+SameOrNew old new fs n x =
+    (inode_in new fs x ≡ inode_in old fs x) × ((inode : List ℕ) → Ok inode ≡ inode_in old fs x → SameContents old new inode)
+    × (x ≢ 0 → x ≤ 128 → (place_in new fs x ≡ place_in old fs x) ⊎ IsNewPlace old new fs n x)
 
 abbrev pub OthersSame : (ℕ → List ℕ) → (ℕ → List ℕ) → ℕ → ℕ → ℕ → Type 0
 OthersSame old new fs n m = (d : ℕ) → d ≢ n → d ≢ m → SameInode old new fs d
@@ -43,9 +62,6 @@ OnlyChanges old new fs n = (d : ℕ) → d ≢ n → SameInode old new fs d
 -- its mode and its one link, then zeros
 abbrev pub new_inode : ℕ → List ℕ
 new_inode mode = to_le_bytes w16 mode ++ to_le_bytes w16 1 ++ replicate 60 0
-
-abbrev pub place_in : (ℕ → List ℕ) → ℕ → ℕ → Result (List ℕ) FfsFault
-place_in content fs n = and_then (inode_block_in content fs ((n - 1) / 8)) (λ block. Ok (inode_at (content block) ((n - 1) % 8)))
 
 -- An entry stands at the first place without one in the first block that has one, and the inode has its blocks and its size; or else it stands
 -- in a new block at the first empty pointer, and the size is 512 times the blocks.
@@ -75,18 +91,18 @@ pub record HasMore (old new : ℕ → List ℕ) (fs d : ℕ) (inode name : List 
 abbrev pub IsLowestNumber : (ℕ → List ℕ) → ℕ → ℕ → Type 0
 IsLowestNumber content fs n = (root : ℕ) → Ok root ≡ root_in content fs → Some n ≡ number_in content root
 
--- A free inode came into use, and the directory with number d names it.
+-- A free inode came into use, and the directory with number d names it. All others are as before, or free in a new block of inodes.
 pub record MadeEntry (old new : ℕ → List ℕ) (fs d : ℕ) (name : List ℕ) (mode n : ℕ) : Type 0 where
   pub free : inode_in old fs n ≡ Err NoEntry
   pub made : inode_in new fs n ≡ Ok (new_inode mode)
   pub entry : (inode : List ℕ) → Ok inode ≡ directory_in old fs d → HasMore old new fs d inode name n
-  pub others : OthersSame old new fs d n
+  pub others : (x : ℕ) → x ≢ d → x ≢ n → SameOrNew old new fs n x
 
--- Inode 1, which was free, is a directory without entries, and all others are as before.
+-- Inode 1, which was free, is a directory without entries, and all others in use are as before.
 pub record MadeVolume (old new : ℕ → List ℕ) (fs : ℕ) : Type 0 where
   pub free : inode_in old fs 1 ≡ Err NoEntry
   pub top : inode_in new fs 1 ≡ Ok (new_inode 2)
-  pub others : OnlyChanges old new fs 1
+  pub others : (x : ℕ) → x ≢ 1 → SameUse old new fs x
 
 -- Bytes that are written
 

@@ -32,7 +32,7 @@ use Rattle.ffs_lib.specs.Edits.{data_of_pointers, edit_at}
 use Rattle.ffs_format.specs.Entries.{entry_of, is_name}
 use Rattle.ffs_lib.specs.Volumes.{IsVolume}
 use Rattle.ffs_lib.specs.declared.volume.Volume.{Volume}
-use Rattle.ffs_lib.specs.Results.{AsBefore, HasMore, IsLowestNumber, MadeEntry, MovedEntry, OnlyChanges, OthersSame, SameInode, TookLink, new_inode}
+use Rattle.ffs_lib.specs.Results.{AsBefore, HasMore, IsLowestNumber, MadeEntry, MovedEntry, OnlyChanges, OthersSame, SameInode, SameOrNew, TookLink, new_inode}
 
 abbrev pub newest : StoreState → ℕ → List ℕ
 newest state = latest state.lives
@@ -159,11 +159,11 @@ pub record Entered (old new : ℕ → List ℕ) (fs d : ℕ) (name : List ℕ) (
 abbrev pub Enters : StoreState → StoreState → ℕ → ℕ → List ℕ → ℕ → ℕ → Type 0
 Enters old new fs d name n entry = Entered (newest old) (newest new) fs d name n × IsTrue (was_given new (Some entry))
 
--- the lowest free inode, and all inodes are as before
+-- the lowest free inode, and all inodes are as before, or free in its new block of inodes
 pub record TakesFree (old new : StoreState) (fs : ℕ) (free : Free) : Type 0 where
   pub is : IsFree new fs free
   pub lowest : IsLowestNumber (newest old) fs free.number
-  pub stays : (d : ℕ) → SameInode (newest old) (newest new) fs d
+  pub stays : (x : ℕ) → SameOrNew (newest old) (newest new) fs free.number x
 
 -- an inode has a link more; then a directory names it
 pub record AddsLink (old new : ℕ → List ℕ) (fs n : ℕ) : Type 0 where
@@ -288,7 +288,7 @@ StopsNew T fs old new d mode n fault =
 abbrev pub StopsMaking : Types → ℕ → StoreState → StoreState → ℕ → ℕ → FfsFault → Type 0
 StopsMaking T fs old new d mode fault =
     StopsGrowing T fs old new fault
-    ⊎ ((middle : StoreState) × (n : ℕ) × AllSame old middle fs × IsLowestNumber (newest old) fs n × StopsNew T fs middle new d mode n fault)
+    ⊎ ((middle : StoreState) × (n : ℕ) × ((x : ℕ) → SameOrNew (newest old) (newest middle) fs n x) × IsLowestNumber (newest old) fs n × StopsNew T fs middle new d mode n fault)
 
 -- The calls
 

@@ -6,4 +6,9 @@ pub mod Walks
 pub mod Rooms
 pub mod Counting
 pub mod Repairing
+pub mod Finds
+pub mod Values
+pub mod ValuePlaces
+pub mod ValueNumbers
+pub mod ValueCalls
 pub mod ForCallers

@@ -3,3 +3,5 @@ pub mod Places
 pub mod Faults
 pub mod Counts
 pub mod Repairs
+pub mod Files
+pub mod FileValues

@@ -3,6 +3,7 @@
 
 mod counts;
 mod fault;
+pub mod law;
 mod library;
 mod places;
 mod repairs;

@@ -1,7 +1,7 @@
-use Rattle.std.proofs.Common.{◌≡◌, ◌∙◌, ap, inl, inr, subst, sym}
+use Rattle.std.proofs.Common.{◌≡◌, ◌∙◌, ℕ, ap, inl, inr, subst, sym}
 use Rattle.ffs_model.specs.Cuts.{latest}
 use Rattle.ffs_lookup.specs.Newest.{create_in}
-use Rattle.ffs_lib.specs.Results.{IsLowestNumber, MadeEntry}
+use Rattle.ffs_lib.specs.Results.{IsLowestNumber, MadeEntry, SameOrNew}
 use Rattle.ffs_lib.specs.Steps.{StopsMaking, StopsNew}
 use Rattle.ffs_lib.specs.Volumes.{edits_of}
 use Rattle.ffs_lib.proofs.Entering.{directory_from, directory_same, stays_made}
@@ -51,10 +51,10 @@ returns-clause-answers g c =
     let dir = c.in_ok-found.ensures.room lib in
     let stays = c.in_ok-free.ensures.leaves.1.stays in
     let lowest = c.in_ok-free.ensures.leaves.1.lowest in
-    let y = named_by (g.S.Store.types_of c.take_free.new.store) T c.take_free.new.self.fs.number fs middle new d name mode number c.name_inode.new.self c.name_inode.result (ap (λ f. f.number) c.take_free.ensures.fs) c.take_free.ensures.types c.name_inode.ensures.leaves (dir.0) (dir.1 ∙ sym (directory_same u v fs d (stays d).0)) (same_room u v fs d dir.0 (stays d) (directory_from u fs d dir.0 dir.1).0 ∙ dir.2) in
+    let y = named_by (g.S.Store.types_of c.take_free.new.store) T c.take_free.new.self.fs.number fs middle new d name mode number c.name_inode.new.self c.name_inode.result (ap (λ f. f.number) c.take_free.ensures.fs) c.take_free.ensures.types c.name_inode.ensures.leaves (dir.0) (dir.1 ∙ sym (directory_same u v fs d (stays d).0)) (same_room u v fs d dir.0 ((stays d).0, (stays d).1) (directory_from u fs d dir.0 dir.1).0 ∙ dir.2) in
     answers_ok (create_in u fs d name) (λ _ n. MadeEntry u w fs d name mode n × IsLowestNumber u fs n) (λ _ fault. StopsMaking T fs old new d mode fault) c.name_inode.result x.0 old new x.1
     (match_then (λ n. MadeEntry v w fs d name mode n × (n ≡ number)) (λ n. MadeEntry u w fs d name mode n × IsLowestNumber u fs n) (StopsNew T fs middle new d mode number) (StopsMaking T fs old new d mode) c.name_inode.result
-    (λ n made. (stays_made u v w fs d name mode n stays made.0, subst (IsLowestNumber u fs) (sym made.1) lowest)) (λ fault r. inr (middle, number, stays, lowest, r)) y.1)
+    (λ n made. (stays_made u v w fs d name mode n (λ e. subst (λ (m : ℕ). SameOrNew u v fs m e) (sym made.1) (stays e)) made.0, subst (IsLowestNumber u fs) (sym made.1) lowest)) (λ fault r. inr (middle, number, stays, lowest, r)) y.1)
 
 pub returns-clause-keeps : goal.returns-clause-keeps
 returns-clause-keeps g c =
@@ -67,5 +67,5 @@ returns-clause-keeps g c =
     let middle = g.S.Store.state_of c.take_free.new.store in
     let new = g.S.Store.state_of c.name_inode.new.store in
     let T = g.S.Store.types_of c.args.store.now in
-    let y = named_by (g.S.Store.types_of c.take_free.new.store) T c.take_free.new.self.fs.number fs middle new d c.args.name.now c.args.mode c.in_ok-free.free.number c.name_inode.new.self c.name_inode.result (ap (λ f. f.number) c.take_free.ensures.fs) c.take_free.ensures.types c.name_inode.ensures.leaves (dir.0) (dir.1 ∙ sym (directory_same u v fs d (stays d).0)) (same_room u v fs d dir.0 (stays d) (directory_from u fs d dir.0 dir.1).0 ∙ dir.2) in
+    let y = named_by (g.S.Store.types_of c.take_free.new.store) T c.take_free.new.self.fs.number fs middle new d c.args.name.now c.args.mode c.in_ok-free.free.number c.name_inode.new.self c.name_inode.result (ap (λ f. f.number) c.take_free.ensures.fs) c.take_free.ensures.types c.name_inode.ensures.leaves (dir.0) (dir.1 ∙ sym (directory_same u v fs d (stays d).0)) (same_room u v fs d dir.0 ((stays d).0, (stays d).1) (directory_from u fs d dir.0 dir.1).0 ∙ dir.2) in
     y.0

@@ -1,4 +1,4 @@
-use Rattle.std.proofs.Common.{Option, refl, subst}
+use Rattle.std.proofs.Common.{Option, inl, refl, subst}
 use Rattle.std.specs.Prelude.{IfSome}
 use Rattle.ffs_model.specs.Cuts.{latest}
 use Rattle.ffs_lookup.specs.declared.places.Free.{Free}
@@ -17,6 +17,6 @@ returns-in-Some-clause-leaves g c =
       record {
         is = subst (λ (o : Option Free). IfSome o (λ free. IsFree old fs free)) c.in-Some.is c.requires.free;
         lowest = subst (IsLowest (latest old.lives) fs) c.in-Some.is c.requires.lowest;
-        stays = λ d. (refl, λ inode i. (refl, λ at low. refl));
+        stays = λ d. (refl, λ inode i. (refl, λ at low. refl), λ some few. inl refl);
       },
     )
