@@ -1,1 +1,3 @@
 pub mod Kept
+pub mod Sessions
+pub mod Stopping

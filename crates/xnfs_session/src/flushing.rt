@@ -1,7 +1,7 @@
 // Stores whose pending entries are written in waves.
 
 ghost use Rattle.std.specs.Prelude.{◌≡◌, IsOk, OnOk};
-ghost use Rattle.xn_model.specs.Calls.{free_of};
+ghost use Rattle.xn_model.specs.Calls.{free_of, tainted_of};
 ghost use Rattle.ffs_lib.specs.Volumes.{NothingPending};
 ghost use Rattle.xnfs_session.specs.Kept.{KeepsVolumes};
 
@@ -20,6 +20,10 @@ pub trait FlushStore: Store {
     /// How many blocks are free.
     fn free(&self) -> u32
         ensures { result ≡ free_of (Self.state_of self.now) };
+
+    /// Whether a block has a pending entry that may not be written yet.
+    fn tainted(&self, block: u32) -> bool
+        ensures { result ≡ tainted_of (Self.state_of self.now) block };
 }
 
 /// What a flush answers. The lanes of blocks that could not be finished are given up.
@@ -51,5 +55,9 @@ impl<L: Lane + Drop> FlushStore for Kernel<L> {
 
     fn free(&self) -> u32 {
         Kernel::free(self)
+    }
+
+    fn tainted(&self, block: u32) -> bool {
+        Kernel::tainted(self, block)
     }
 }

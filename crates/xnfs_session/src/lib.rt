@@ -1,12 +1,14 @@
 //! A volume of the library file system, open over a store that is flushed: what `xnfs` makes its calls of.
 //!
 //! It is proved of each session that the rules of its volume hold, whatever its calls answer: so names are good in every image that a
-//! crash may leave. That a call does what its text says is proved of the volume's own calls (`ffs_lib`) and tested here.
+//! crash may leave; and that each of its calls does what the same call of a volume does (`ffs_lib`).
 #![tactic(auto)]
 
 mod flushing;
 mod session;
+mod stopping;
 
 pub use ffs_lib::{FfsFault, Fs, Repair, Repairs};
 pub use flushing::FlushStore;
-pub use session::{MOST_BYTES, MOST_INODES, Node, Session, Usage};
+pub use session::{MOST_BYTES, MOST_INODES, Node, Owner, Session, Usage};
+pub use stopping::{Stop, StoppingLane};

@@ -1,14 +1,31 @@
 // A store with its open volume.
 
-ghost use Rattle.std.specs.Prelude.{◌≡◌};
+ghost use Rattle.std.specs.Prelude.{◌≡◌, ◌⊎◌, ℕ, length, map, IfOk, IfErr, OnOk, Ok, Err};
+ghost use Rattle.ffs_model.specs.Cuts.{latest};
+ghost use Rattle.ffs_model.specs.Library.{IsLibrary};
+ghost use Rattle.ffs_lookup.specs.Newest.{file_in, inode_in, mapped, named_in, names_in, read_count, read_into};
+ghost use Rattle.ffs_lookup.specs.Repairs.{idle_in, repair_at, repair_in};
+ghost use Rattle.ffs_lib.specs.Reclaiming.{Reclaims};
+ghost use Rattle.ffs_lib.specs.Replacing.{Replaces};
+ghost use Rattle.ffs_lib.specs.Steps.{Creates, Renames, Unlinks, Unmakes, newest};
+ghost use Rattle.ffs_lib.specs.Volumes.{NothingPending};
+ghost use Rattle.ffs_lib.specs.Writes.{Writes};
+ghost use Rattle.xn_model.specs.Calls.{free_of, pending_of, tainted_of};
+ghost use Rattle.xn_model.specs.declared.refusal.Refusal.{Refusal};
+ghost use Rattle.xnfs_session.specs.Kept.{KeepsVolumes};
 
 use crate::flushing::FlushStore;
+use arrayvec::ArrayVec;
 use ffs_format::is_name;
 use ffs_lib::{FfsFault, Fs, Repairs, Volume};
-use ffs_lookup::{DIRECTORY, Found, find_directory, find_entry, find_inode, is_library};
-use std::alloc::Global;
+use ffs_lookup::{
+    DIRECTORY, Found, Room, Slot, find_directory, find_entry, find_free, find_inode, find_room,
+    is_library, read_block,
+};
+use std::alloc::{AllocError, Global};
 use std::marker::Model;
-use xn_kernel::Refusal;
+use udf_run::{Pair, owns};
+use xn_kernel::{Refusal, Store};
 
 /// How many inodes a volume has at most.
 pub const MOST_INODES: u16 = 128;
@@ -27,12 +44,22 @@ pub struct Node {
     pub size: u32,
 }
 
+/// A block, its type, and the blocks that it points to.
+#[derive(Debug, Drop)]
+pub struct Owner {
+    pub block: u32,
+    pub ty: u32,
+    pub owned: Vec<u32>,
+}
+
 /// What is taken and what is left.
 #[derive(Clone, Copy, Debug, PartialEq, Eq)]
 pub struct Usage {
     pub free_blocks: u32,
     pub used_inodes: u16,
 }
+
+ghost use Rattle.xnfs_session.specs.Sessions.{node_from};
 
 /// A store with the open volume of a file system.
 pub struct Session<S: FlushStore> {
@@ -44,10 +71,11 @@ pub struct Session<S: FlushStore> {
 impl<S: FlushStore> Model for Session<S> {
     ghost use Rattle.std.specs.Prelude.{◌≡◌};
     ghost use Rattle.ffs_lib.specs.Volumes.{IsVolume};
+    ghost use Rattle.xnfs_session.specs.Sessions.{SessionValue};
 
-    ghost Value = { S };
+    ghost Value = { SessionValue S };
 
-    ghost view = { λ a. a.store };
+    ghost view = { λ a. record { store = a.store; fs = a.volume.fs.number } };
 
     ghost invariant = { λ a. IsVolume (S.types_of a.store) (S.state_of a.store) a.volume × (a.volume.fs ≡ a.fs) };
 }
@@ -63,7 +91,9 @@ impl<S: FlushStore + Drop> Drop for Session<S> {
 }
 
 /// What was found of an inode.
-fn node_of(number: u16, found: &Found) -> Node {
+fn node_of(number: u16, found: &Found) -> Node
+    ensures { result ≡ node_from number found.now.inode }
+{
     Node {
         number,
         is_directory: found.inode.mode() == DIRECTORY,
@@ -72,11 +102,30 @@ fn node_of(number: u16, found: &Found) -> Node {
     }
 }
 
+/// The entry of a directory that has a name.
+fn named<S: Store>(store: &S, fs: Fs, directory: u16, name: &[u8]) -> Result<Slot, FfsFault>
+    ensures { IsLibrary (S.types_of store.now) → result ≡ named_in (latest (S.state_of store.now).lives) fs.number directory name.now }
+{
+    let found = find_directory(store, fs, directory)?;
+    if !is_name(name) {
+        return Err(FfsFault::BadName);
+    }
+    find_entry(store, fs, &found, directory, name)?.ok_or(FfsFault::NoEntry)
+}
+
+/// The blocks of some pairs.
+fn blocks_of(alloc: Global, pairs: &[Pair]) -> Result<Vec<u32>, AllocError> {
+    pairs.iter().map(|pair| pair.block).collect(alloc)
+}
+
 impl<S: FlushStore + Drop> Session<S> {
     /// Opens the volume of a file system of a store on which nothing is under way. What is pending is written first. `NoEntry` where there
     /// is no volume, also where the store lacks the library's types; `Unsound` where an inode has more names than links; `Kernel` where
     /// the store could not be flushed.
-    pub fn open(alloc: Global, store: S, fs: Fs) -> Result<Session<S>, FfsFault> {
+    pub fn open(alloc: Global, store: S, fs: Fs) -> Result<Session<S>, FfsFault>
+        ensures fs { IfOk result (λ session. session.fs ≡ fs.number) }
+        ensures clean { IfOk result (λ session. NothingPending (S.state_of session.store).lives) }
+    {
         let mut store = store;
         let _waves = store.flush(alloc)?;
         if !is_library(&store) {
@@ -87,7 +136,9 @@ impl<S: FlushStore + Drop> Session<S> {
     }
 
     /// Makes the volume of a file system that has none, with what `open` asks of the store; `Exists` where there is one.
-    pub fn make(alloc: Global, store: S, fs: Fs) -> Result<Session<S>, FfsFault> {
+    pub fn make(alloc: Global, store: S, fs: Fs) -> Result<Session<S>, FfsFault>
+        ensures { IfOk result (λ session. session.fs ≡ fs.number) }
+    {
         let mut store = store;
         let _waves = store.flush(alloc)?;
         if !is_library(&store) {
@@ -99,7 +150,7 @@ impl<S: FlushStore + Drop> Session<S> {
 
     /// The store again.
     pub fn into_store(self) -> S
-        ensures { result ≡ self }
+        ensures { result ≡ self.store }
     {
         let Session {
             store,
@@ -110,51 +161,74 @@ impl<S: FlushStore + Drop> Session<S> {
     }
 
     /// Writes all that is pending, and answers how many waves that took. After a refusal the session is of no more use.
-    pub fn flush(&mut self, alloc: Global) -> Result<u32, Refusal> {
+    pub fn flush(&mut self, alloc: Global) -> Result<u32, Refusal>
+        ensures fs { self.new.fs ≡ self.old.fs }
+        ensures keeps { KeepsVolumes (S.types_of self.old.store) (S.state_of self.old.store) (S.types_of self.new.store) (S.state_of self.new.store) }
+        ensures done { OnOk result (NothingPending (S.state_of self.new.store).lives) }
+    {
         let _few = self.fs.index();
         self.store.flush(alloc)
     }
 
     /// How many entries of its file system are pending.
-    pub fn pending(&self) -> u32 {
+    pub fn pending(&self) -> u32
+        ensures { result ≡ pending_of (S.state_of self.now.store) self.now.fs }
+    {
         self.store.pending(self.fs)
     }
 
     /// What stands at an inode in use.
-    pub fn node(&self, number: u16) -> Result<Node, FfsFault> {
+    pub fn node(&self, number: u16) -> Result<Node, FfsFault>
+        ensures { result ≡ mapped (node_from number) (inode_in (latest (S.state_of self.now.store).lives) self.now.fs number) }
+    {
         let found = find_inode(&self.store, self.fs, number)?;
         Ok(node_of(number, &found))
     }
 
     /// The inode that a name in a directory names.
-    pub fn look_up(&self, directory: u16, name: &[u8]) -> Result<u16, FfsFault> {
-        let found = find_directory(&self.store, self.fs, directory)?;
-        if !is_name(name) {
-            return Err(FfsFault::BadName);
-        }
-        match find_entry(&self.store, self.fs, &found, directory, name)? {
-            Some(slot) => Ok(slot.inode),
-            None => Err(FfsFault::NoEntry),
-        }
+    pub fn look_up(&self, directory: u16, name: &[u8]) -> Result<u16, FfsFault>
+        ensures { result ≡ mapped (λ slot. slot.inode) (named_in (latest (S.state_of self.now.store).lives) self.now.fs directory name.now) }
+    {
+        let slot = named(&self.store, self.fs, directory, name)?;
+        Ok(slot.inode)
     }
 
     /// The names in a directory and their inodes, in the order of its blocks.
-    pub fn list(&self, alloc: Global, directory: u16) -> Result<Vec<(Vec<u8>, u16)>, FfsFault> {
+    pub fn list(&self, alloc: Global, directory: u16) -> Result<Vec<(Vec<u8>, u16)>, FfsFault>
+        ensures names { IfOk result (λ names. Ok (map (λ name. (name.0.items, name.1)) names.items)
+            ≡ names_in (latest (S.state_of self.now.store).lives) self.now.fs directory) }
+        ensures faults { IfErr result (λ fault. (fault ≡ FfsFault.Kernel Refusal.NoMemory)
+            ⊎ (Err fault ≡ names_in (latest (S.state_of self.now.store).lives) self.now.fs directory)) }
+    {
         self.volume.list(alloc, &self.store, directory)
     }
 
     /// Reads a file from an offset on, and answers how many bytes there were.
-    pub fn read(&self, inode: u16, offset: u32, bytes: &mut [u8]) -> Result<usize, FfsFault> {
+    pub fn read(&self, inode: u16, offset: u32, bytes: &mut [u8]) -> Result<usize, FfsFault>
+        ensures exact { result ≡ read_count (length bytes.old) offset (file_in (latest (S.state_of self.now.store).lives) self.now.fs inode) }
+        ensures bytes { bytes.new ≡ read_into (latest (S.state_of self.now.store).lives) bytes.old offset
+            (file_in (latest (S.state_of self.now.store).lives) self.now.fs inode) }
+    {
         self.volume.read(&self.store, inode, offset, bytes)
     }
 
     /// Makes an empty file, and answers its inode.
-    pub fn create(&mut self, alloc: Global, directory: u16, name: &[u8]) -> Result<u16, FfsFault> {
+    pub fn create(&mut self, alloc: Global, directory: u16, name: &[u8]) -> Result<u16, FfsFault>
+        ensures types { S.types_of self.new.store ≡ S.types_of self.old.store }
+        ensures fs { self.new.fs ≡ self.old.fs }
+        ensures answers { Creates (S.types_of self.old.store) self.old.fs directory name.now 1 (S.state_of self.old.store)
+            (S.state_of self.new.store) result }
+    {
         self.volume.create(alloc, &mut self.store, directory, name)
     }
 
     /// Makes an empty directory, and answers its inode.
-    pub fn mkdir(&mut self, alloc: Global, directory: u16, name: &[u8]) -> Result<u16, FfsFault> {
+    pub fn mkdir(&mut self, alloc: Global, directory: u16, name: &[u8]) -> Result<u16, FfsFault>
+        ensures types { S.types_of self.new.store ≡ S.types_of self.old.store }
+        ensures fs { self.new.fs ≡ self.old.fs }
+        ensures answers { Creates (S.types_of self.old.store) self.old.fs directory name.now 2 (S.state_of self.old.store)
+            (S.state_of self.new.store) result }
+    {
         self.volume.mkdir(alloc, &mut self.store, directory, name)
     }
 
@@ -165,18 +239,33 @@ impl<S: FlushStore + Drop> Session<S> {
         inode: u16,
         offset: u32,
         bytes: &[u8],
-    ) -> Result<(), FfsFault> {
+    ) -> Result<(), FfsFault>
+        ensures types { S.types_of self.new.store ≡ S.types_of self.old.store }
+        ensures fs { self.new.fs ≡ self.old.fs }
+        ensures answers { Writes (S.types_of self.old.store) self.old.fs inode offset bytes.now (S.state_of self.old.store)
+            (S.state_of self.new.store) result }
+    {
         self.volume
             .write(alloc, &mut self.store, inode, offset, bytes)
     }
 
     /// Takes a file's name, and gives the file up with its last one.
-    pub fn unlink(&mut self, alloc: Global, directory: u16, name: &[u8]) -> Result<(), FfsFault> {
+    pub fn unlink(&mut self, alloc: Global, directory: u16, name: &[u8]) -> Result<(), FfsFault>
+        ensures types { S.types_of self.new.store ≡ S.types_of self.old.store }
+        ensures fs { self.new.fs ≡ self.old.fs }
+        ensures answers { Unlinks (S.types_of self.old.store) self.old.fs directory name.now (S.state_of self.old.store)
+            (S.state_of self.new.store) result }
+    {
         self.volume.unlink(alloc, &mut self.store, directory, name)
     }
 
     /// Gives an empty directory up.
-    pub fn rmdir(&mut self, alloc: Global, directory: u16, name: &[u8]) -> Result<(), FfsFault> {
+    pub fn rmdir(&mut self, alloc: Global, directory: u16, name: &[u8]) -> Result<(), FfsFault>
+        ensures types { S.types_of self.new.store ≡ S.types_of self.old.store }
+        ensures fs { self.new.fs ≡ self.old.fs }
+        ensures answers { Unmakes (S.types_of self.old.store) self.old.fs directory name.now (S.state_of self.old.store)
+            (S.state_of self.new.store) result }
+    {
         self.volume.rmdir(alloc, &mut self.store, directory, name)
     }
 
@@ -188,7 +277,12 @@ impl<S: FlushStore + Drop> Session<S> {
         name: &[u8],
         other: u16,
         new_name: &[u8],
-    ) -> Result<(), FfsFault> {
+    ) -> Result<(), FfsFault>
+        ensures types { S.types_of self.new.store ≡ S.types_of self.old.store }
+        ensures fs { self.new.fs ≡ self.old.fs }
+        ensures answers { Renames (S.types_of self.old.store) self.old.fs directory name.now other new_name.now
+            (S.state_of self.old.store) (S.state_of self.new.store) result }
+    {
         self.volume
             .rename(alloc, &mut self.store, directory, name, other, new_name)
     }
@@ -201,26 +295,80 @@ impl<S: FlushStore + Drop> Session<S> {
         name: &[u8],
         other: u16,
         other_name: &[u8],
-    ) -> Result<(), FfsFault> {
+    ) -> Result<(), FfsFault>
+        ensures types { S.types_of self.new.store ≡ S.types_of self.old.store }
+        ensures fs { self.new.fs ≡ self.old.fs }
+        ensures answers { Replaces (S.types_of self.old.store) self.old.fs directory name.now other other_name.now
+            (S.state_of self.old.store) (S.state_of self.new.store) result }
+    {
         self.volume
             .replace(alloc, &mut self.store, directory, name, other, other_name)
     }
 
     /// What each inode needs to be in use exactly where it has a name, with as many links as names; `Pending` before what is pending is
     /// written.
-    pub fn reclaimable(&self) -> Result<Repairs, FfsFault> {
+    pub fn reclaimable(&self) -> Result<Repairs, FfsFault>
+        ensures exact { mapped (λ repairs. tt) result ≡ idle_in (S.state_of self.now.store) self.now.fs }
+        ensures each { IfOk result (λ repairs. (n : ℕ) → repair_at repairs.each n ≡ repair_in (newest (S.state_of self.now.store)) self.now.fs n) }
+    {
         self.volume.reclaimable(&self.store)
     }
 
-    /// Does with each inode what it needs, and answers that. What is pending is written first.
-    pub fn reclaim(&mut self, alloc: Global) -> Result<Repairs, FfsFault> {
-        let _waves = self.flush(alloc)?;
+    /// Does with each inode what it needs, and answers that; `Pending` before what is pending is written.
+    pub fn reclaim(&mut self, alloc: Global) -> Result<Repairs, FfsFault>
+        ensures types { S.types_of self.new.store ≡ S.types_of self.old.store }
+        ensures fs { self.new.fs ≡ self.old.fs }
+        ensures answers { Reclaims (S.types_of self.old.store) self.old.fs (S.state_of self.old.store) (S.state_of self.new.store) result }
+    {
         self.volume.reclaim(alloc, &mut self.store)
     }
 
     /// How many blocks of the disk are free.
-    pub fn free(&self) -> u32 {
+    pub fn free(&self) -> u32
+        ensures { result ≡ free_of (S.state_of self.now.store) }
+    {
         self.store.free()
+    }
+
+    /// How many blocks a new name in a directory takes, with `is_new` also the inode that it names: one where the directory's blocks have no
+    /// place left, and one where those of the inodes have none. Faults are `NoEntry` and `NotDir` of the directory, and those by which no
+    /// name can be made.
+    pub fn blocks_for_name(&self, directory: u16, is_new: bool) -> Result<u32, FfsFault> {
+        let found = find_directory(&self.store, self.fs, directory)?;
+        let entry = match find_room(&self.store, self.fs, &found, directory)? {
+            Room::Entry { .. } => 0,
+            Room::Pointer(_) => 1,
+        };
+        let inode = if is_new && find_free(&self.store, self.fs)?.is_none() {
+            1
+        } else {
+            0
+        };
+        Ok(entry + inode)
+    }
+
+    /// The block in the root slot of its file system.
+    pub fn root(&self) -> Option<u32> {
+        self.store.root(self.fs)
+    }
+
+    /// A block of its file system: its type, and the blocks that its newest bytes point to.
+    pub fn owner(&self, alloc: Global, block: u32) -> Result<Owner, FfsFault> {
+        let ty = self.store.kind(self.fs, block)?;
+        let bytes = read_block(&self.store, self.fs, block)?;
+        let mut pairs = ArrayVec::new();
+        if let Some(template) = self.store.template(ty) {
+            owns(template.owns(), bytes, &mut pairs);
+        }
+        let owned = blocks_of(alloc, pairs.as_slice())?;
+        Ok(Owner { block, ty, owned })
+    }
+
+    /// Whether a block has a pending entry that may not be written yet, as another block has to be on the disk first.
+    pub fn tainted(&self, block: u32) -> bool
+        ensures { result ≡ tainted_of (S.state_of self.now.store) block }
+    {
+        self.store.tainted(block)
     }
 
     /// What is taken and what is left.
