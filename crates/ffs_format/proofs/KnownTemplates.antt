@@ -1,6 +1,6 @@
 -- The blocks of the library's file system spell its templates.
 use Rattle.std.proofs.Common.{◌≡◌, ◌-◌, List, [], ◌∷◌, ◌++◌, length, ap, refl, sym, ◌∙◌}
-use Rattle.std.specs.Prelude.{Result, Ok, Some, slice_get}
+use Rattle.std.specs.Prelude.{◌↔◌, Option, Result, Ok, Some, slice_get}
 use Rattle.xn_model.specs.BareDisks.{zeros}
 use Rattle.templates.specs.declared.fault.TemplateFault.{TemplateFault}
 use Rattle.templates.specs.Templates.{TemplateValue}
@@ -34,11 +34,16 @@ three_known items a b c are root inodes pointers =
     cc
 
 -- one template that is read from one of them
-pub root_known : (t : TemplateValue) → template_of_bytes (ROOT ++ zeros (512 - length ROOT)) ≡ Ok t → slice_get file_system_templates 0 ≡ Some t
-root_known t e = ap (λ x. Some x) (same_Ok root_template t (sym root_block ∙ e))
 
-pub inodes_known : (t : TemplateValue) → template_of_bytes (INODES ++ zeros (512 - length INODES)) ≡ Ok t → slice_get file_system_templates 1 ≡ Some t
-inodes_known t e = ap (λ x. Some x) (same_Ok inode_template t (sym inode_block ∙ e))
+same_Some : (s t : TemplateValue) → ◌≡◌ {A = Option TemplateValue} (Some s) (Some t) → s ≡ t
+same_Some s t h = cc
 
-pub pointers_known : (t : TemplateValue) → template_of_bytes (POINTERS ++ zeros (512 - length POINTERS)) ≡ Ok t → slice_get file_system_templates 2 ≡ Some t
-pointers_known t e = ap (λ x. Some x) (same_Ok pointer_template t (sym pointer_block ∙ e))
+pub root_known : (t : TemplateValue) → (template_of_bytes (ROOT ++ zeros (512 - length ROOT)) ≡ Ok t) ↔ (slice_get file_system_templates 0 ≡ Some t)
+root_known t = (λ e. ap (λ x. Some x) (same_Ok root_template t (sym root_block ∙ e)), λ e. root_block ∙ ap (λ x. Ok x) (same_Some root_template t e))
+
+pub inodes_known : (t : TemplateValue) → (template_of_bytes (INODES ++ zeros (512 - length INODES)) ≡ Ok t) ↔ (slice_get file_system_templates 1 ≡ Some t)
+inodes_known t = (λ e. ap (λ x. Some x) (same_Ok inode_template t (sym inode_block ∙ e)), λ e. inode_block ∙ ap (λ x. Ok x) (same_Some inode_template t e))
+
+pub pointers_known : (t : TemplateValue) → (template_of_bytes (POINTERS ++ zeros (512 - length POINTERS)) ≡ Ok t) ↔ (slice_get file_system_templates 2 ≡ Some t)
+pointers_known t =
+    (λ e. ap (λ x. Some x) (same_Ok pointer_template t (sym pointer_block ∙ e)), λ e. pointer_block ∙ ap (λ x. Ok x) (same_Some pointer_template t e))

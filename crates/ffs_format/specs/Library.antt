@@ -1,8 +1,12 @@
 -- The templates of the library's file system, in the order of their types, from 3 on.
-use Rattle.std.specs.Prelude.{ℕ, List, [], ◌∷◌}
+--     file_system_templates    the three
+--     HasAnother T place       a look-up of the type at a place, 0 to 2, tells no template or another one
+use Rattle.std.specs.Prelude.{◌≢◌, ℕ, ◌+◌, List, [], ◌∷◌, Option, slice_get}
+use Rattle.xn_model.specs.Types.{Types}
 use Rattle.udf_code.specs.declared.word.Word.{Word}
 use Rattle.udf_code.specs.declared.word.Word.TheVariants.{Set, Add, Mul, Load4, Emit, IfLess, End, For}
 use Rattle.udf_verify.specs.declared.fault.Role.TheVariants as role
+use Rattle.templates.specs.Tables.{TellsTemplate}
 use Rattle.templates.specs.Templates.{TemplateValue}
 use Rattle.templates.specs.BuiltIns.{fixed_size}
 
@@ -77,3 +81,6 @@ pointer_template = with_size pointer_words 512
 
 abbrev pub file_system_templates : List TemplateValue
 file_system_templates = root_template ∷ inode_template ∷ pointer_template ∷ []
+
+abbrev pub HasAnother : Types → ℕ → Type 0
+HasAnother T place = (found : Option TemplateValue) × TellsTemplate T (3 + place) found × (found ≢ slice_get file_system_templates place)

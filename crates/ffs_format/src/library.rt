@@ -1,13 +1,13 @@
 // The templates of the library's file system: type 3 is a root block, type 4 a block of inodes and type 5 a block of
 // pointers to data.
 
-ghost use Rattle.std.specs.Prelude.{◌≡◌, ◌<◌, ◌≤◌, ◌-◌, ◌++◌, length, slice_get, Some, Ok, IsOk, IfOk, IsTrue};
+ghost use Rattle.std.specs.Prelude.{◌≡◌, ◌↔◌, ◌<◌, ◌≤◌, ◌-◌, ◌++◌, length, slice_get, Some, Ok, IsOk, IfOk, IsTrue};
 ghost use Rattle.xn_model.specs.BareDisks.{zeros};
 ghost use Rattle.templates.specs.Reading.{template_of_bytes};
 ghost use Rattle.ffs_format.specs.Library.{file_system_templates};
 
 use std::alloc::{AllocError, Global};
-use templates::law::templates_are_read;
+use templates::law::{blocks_are_templates, templates_are_read};
 use templates::{Template, TemplateFault, read_block, write_block};
 
 /// The start of the block that spells the template of a root block, which has 16 pointers to blocks of inodes. The other
@@ -95,9 +95,10 @@ fn known_template(alloc: Global, start: &[u8]) -> Result<Template, AllocError>
 /// Whether a template is the one of a block that starts with these bytes.
 fn is_spelled(template: &Template, start: &[u8]) -> bool
     requires { length start.now ≤ 512 }
-    ensures { IsTrue result → template_of_bytes (start.now ++ zeros (512 - length start.now)) ≡ Ok template.now }
+    ensures { IsTrue result ↔ (template_of_bytes (start.now ++ zeros (512 - length start.now)) ≡ Ok template.now) }
 {
     templates_are_read();
+    blocks_are_templates();
     write_block(template) == block_of(start)
 }
 
@@ -105,7 +106,7 @@ fn is_spelled(template: &Template, start: &[u8]) -> bool
 /// takes no memory.
 pub fn is_library_template(template: &Template, place: usize) -> bool
     requires { place < 3 }
-    ensures { IsTrue result → slice_get file_system_templates place ≡ Some template.now }
+    ensures { IsTrue result ↔ (slice_get file_system_templates place ≡ Some template.now) }
 {
     match place {
         0 => is_spelled(template, &ROOT),

@@ -1,4 +1,4 @@
-use Rattle.std.proofs.Common.{◌≡◌, ℕ, zero, suc, ◌+◌}
+use Rattle.std.proofs.Common.{◌≡◌, ℕ, zero, suc, ◌+◌, arith}
 use Rattle.std.specs.Prelude.{Some, slice_get}
 use Rattle.xn_model.specs.Types.{Types}
 use Rattle.templates.specs.Tables.{HasTemplate}
@@ -15,7 +15,10 @@ each T root inodes pointers (suc zero) t e = inodes t e
 each T root inodes pointers (suc (suc zero)) t e = pointers t e
 each T root inodes pointers (suc (suc (suc i))) t e = absurd (cc e)
 
-pub returns : goal.returns
-returns g c = λ same.
+pub returns-clause-has : goal.returns-clause-has
+returns-clause-has g c = λ same.
     c.templates_are_the_librarys.ensures.types (g.S.Store.types_of c.args.store.now)
-    (each (g.S.Store.types_of c.args.store.now) (c.has_template.ensures c.if-not-has_template.false) (c.has_template-2.ensures c.if-not-has_template-2.false) (c.has_template-3.ensures same))
+    (each (g.S.Store.types_of c.args.store.now) (c.has_template.ensures.has c.if-not-has_template.false) (c.has_template-2.ensures.has c.if-not-has_template-2.false) (c.has_template-3.ensures.has same))
+
+pub returns-clause-lacks : goal.returns-clause-lacks
+returns-clause-lacks g c = λ other. (2, omega arith, c.has_template-3.ensures.lacks other)
