@@ -1,21 +1,30 @@
-// Four workers and two flushers at once, over lanes of which one fails.
+// Four workers at once, beside two flushers or before a flush under the lock, over lanes of which one fails.
 
-ghost use Rattle.std.specs.Prelude.{◌≡◌};
+ghost use Rattle.std.specs.Prelude.{◌≡◌, All};
 ghost use Rattle.durable_floor.specs.Rules.{zeros};
 
 use crate::alone::{Ended, How, Told, end_of, mounted, settle};
 use crate::calls::edit_of;
 use disk::{Lane, Lanes};
-use durable_floor::{Floor, Naming, Publisher};
+use durable_floor::{Floor, Naming, Publisher, Reader};
 use shared::{FlushEnd, Flusher, Gate, Hub, Shared};
 use std::alloc::Global;
 use std::marker::Brand;
 use std::sync::{Arc, Wait};
 use std::thread::{Threads, join};
-use xn_kernel::{Fs, Kernel, Refusal, Ticket};
+use xn_kernel::{FlushStop, Fs, Kernel, Refusal, Ticket};
 
 /// How many edits each worker makes.
 const EDITS: u32 = 12;
+
+/// Who writes what the workers leave pending.
+#[derive(Clone, Copy)]
+pub enum Writer {
+    /// Two flushers, while the workers are at work.
+    Flushers,
+    /// A flush of the hub, once they are done.
+    Hub,
+}
 
 /// A gate that lets all pass.
 #[derive(Drop)]
@@ -141,6 +150,46 @@ fn flush<L: Lane + Drop, K: Naming, R: Wait>(rt: &R, shared: &Shared<L, Open, K>
     None
 }
 
+/// Flushes under the lock, and goes on behind a device fault; how many there were.
+fn flush_hub<L: Lane + Drop, K: Naming, R: Wait>(
+    rt: &R,
+    alloc: Global,
+    shared: &Shared<L, Open, K>,
+) -> Option<u32> {
+    for faults in 0..3 {
+        let FlushStop {
+            waves: _,
+            mut tickets,
+            refusal,
+        } = match shared.with(rt, |hub| hub.flush(alloc)) {
+            Ok(_waves) => return Some(faults),
+            Err(stop) => stop,
+        };
+        let mut are_ended = refusal == Refusal::Device;
+        while let Some(ticket) = tickets.pop() {
+            are_ended = is_ended(rt, shared, ticket) && are_ended;
+        }
+        tickets.destroy_empty();
+        if !are_ended {
+            return None;
+        }
+    }
+    None
+}
+
+/// Workers at once, and then a flush under the lock; how many faults this met.
+fn one_after_another<L: Lane + Drop + Send, K: Naming + Send + Sync, R: Threads + Wait + Sync>(
+    rt: &R,
+    alloc: Global,
+    shared: &Shared<L, Open, K>,
+) -> Option<u32> {
+    if four_workers(rt, alloc, shared) {
+        flush_hub(rt, alloc, shared)
+    } else {
+        None
+    }
+}
+
 /// Workers and flushers at once; how many faults these met.
 fn all_at_once<L: Lane + Drop + Send, K: Naming + Send + Sync, R: Threads + Wait + Sync>(
     rt: &R,
@@ -174,34 +223,64 @@ fn share<L: Lane + Drop, K: Naming>(
     Some(Shared::new(hub, floor, Open))
 }
 
-/// Workers and flushers over a kernel, what it ends with, and how many faults were met.
+/// Whether each file system's word is past all entries: each made two and its edits.
+fn are_all_durable<L: Lane + Drop, K: Naming>(
+    shared: &Shared<L, Open, K>,
+    reader: &mut Reader,
+) -> bool
+    requires { reader.old.floor ≡ K.floor }
+{
+    let floor = shared.floor();
+    let words = [
+        floor.read(reader, 0),
+        floor.read(reader, 1),
+        floor.read(reader, 2),
+        floor.read(reader, 3),
+    ];
+    words == [u64::from(4 * (2 + EDITS) + 1); 4]
+}
+
+/// Workers over a kernel and what writes, what it ends with, and how many faults were met.
 fn scene<L: Lane + Drop + Send, K: Naming + Send + Sync, R: Threads + Wait + Sync>(
     rt: &R,
     alloc: Global,
     floor: Floor,
     publisher: Publisher,
+    mut readers: Vec<Reader>,
     kernel: Kernel<L>,
     systems: [Fs; 2],
+    writer: Writer,
 ) -> Option<(Ended, u32)>
     requires floor { floor ≡ K.floor }
     requires publisher { publisher ≡ record { floor = floor; seen = zeros } }
+    requires readers { All (λ reader. reader.floor ≡ K.floor) readers.items }
 {
     let shared: Shared<L, Open, K> = share(alloc, kernel, floor, publisher)?;
-    let faults = all_at_once(rt, alloc, &shared)?;
+    let mut reader = readers.pop()?;
+    let faults = match writer {
+        Writer::Flushers => all_at_once(rt, alloc, &shared)?,
+        Writer::Hub => one_after_another(rt, alloc, &shared)?,
+    };
+    if !are_all_durable(&shared, &mut reader) {
+        return None;
+    }
     let ended = end_of(shared.into_held().into_kernel(), alloc, systems)?;
     Some((ended, faults))
 }
 
-/// Workers and flushers over lanes, from the mount on.
+/// Workers and what writes over lanes, from the mount on.
 pub fn run_at_once<L: Lane + Drop + Send, R: Threads + Wait + Sync>(
     rt: &R,
     alloc: Global,
     lanes: Lanes<L>,
     systems: [Fs; 2],
+    writer: Writer,
 ) -> Option<(Ended, u32)> {
     let kernel = started(rt, alloc, lanes)?;
-    let (floor, publisher, _readers) = Floor::new(alloc, 0).ok()?;
-    scene::<_, Brand, _>(rt, alloc, floor, publisher, kernel, systems)
+    let (floor, publisher, readers) = Floor::new(alloc, 1).ok()?;
+    scene::<_, Brand, _>(
+        rt, alloc, floor, publisher, readers, kernel, systems, writer,
+    )
 }
 
 /// The same calls in one thread, with a drain behind them.

@@ -1,7 +1,8 @@
-// The first reads, writes and syncs of each lane that is written fail in turn, under two flushers with four workers.
+// The first reads, writes and syncs of each lane that is written fail in turn, under two flushers with four workers, and under a flush of the hub
+// behind these.
 
 use crate::alone::Ended;
-use crate::at_once::{run_alone, run_at_once};
+use crate::at_once::{Writer, run_alone, run_at_once};
 use crate::lanes::{counting_lanes, planned_lanes};
 use crate::turns::Failure;
 use std::alloc::Global;
@@ -29,19 +30,20 @@ fn failed<R: Threads + Wait + Sync>(
     systems: [Fs; 2],
     block: u32,
     failure: Failure,
+    writer: Writer,
 ) -> Option<(Ended, u32)> {
     match failure {
         Failure::Read(turn) => {
             let lanes = planned_lanes(alloc, image, block, Some(turn.saturating_add(1)), None)?;
-            run_at_once(rt, alloc, lanes, systems)
+            run_at_once(rt, alloc, lanes, systems, writer)
         }
         Failure::Write(turn, stays) => {
             let lanes = planned_lanes(alloc, image, block, None, Some((turn, stays)))?;
-            run_at_once(rt, alloc, lanes, systems)
+            run_at_once(rt, alloc, lanes, systems, writer)
         }
         Failure::Sync(turn) => {
             let lanes = counting_lanes(alloc, image, block, turn.saturating_add(1))?;
-            run_at_once(rt, alloc, lanes, systems)
+            run_at_once(rt, alloc, lanes, systems, writer)
         }
     }
 }
@@ -67,6 +69,7 @@ pub fn all_flushes<R: Threads + Wait + Sync>(
     alloc: Global,
     image: &[u8],
     systems: [Fs; 2],
+    writer: Writer,
 ) -> Option<Flushes> {
     let right = run_alone(rt, alloc, counting_lanes(alloc, image, 0, 0)?, systems)?;
     let mut flushes = Flushes {
@@ -82,7 +85,7 @@ pub fn all_flushes<R: Threads + Wait + Sync>(
                 Failure::Write(turn, true),
                 Failure::Sync(turn),
             ] {
-                let came = failed(rt, alloc, image, systems, block, failure);
+                let came = failed(rt, alloc, image, systems, block, failure, writer);
                 flushes.take(turn, &right, came);
             }
         }

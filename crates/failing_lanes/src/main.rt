@@ -10,6 +10,7 @@ mod lanes;
 mod turns;
 
 use alone::How;
+use at_once::Writer;
 use flushing::all_flushes;
 use std::alloc::{AllocError, Global};
 use std::io;
@@ -50,18 +51,20 @@ fn print_turns<R: Threads + Print + Sync>(
     println!(rt; "{word}: wrong {}", tally.wrong)
 }
 
-/// Lets lanes fail under flushers, and prints what that comes to.
+/// Lets lanes fail under threads, and prints what that comes to.
 fn print_flushes<R: Threads + Wait + Print + Sync>(
     rt: &R,
     alloc: Global,
     image: &[u8],
     systems: [Fs; 2],
+    writer: Writer,
+    word: &str,
 ) -> io::Result<()> {
-    let Some(flushes) = all_flushes(rt, alloc, image, systems) else {
-        return println!(rt; "flushers: a run without a fault went wrong");
+    let Some(flushes) = all_flushes(rt, alloc, image, systems, writer) else {
+        return println!(rt; "{word}: a run without a fault went wrong");
     };
     let (runs, first, wrong) = (flushes.runs, flushes.first, flushes.wrong);
-    println!(rt; "flushers: runs {runs}, faults of a first turn {first}, wrong {wrong}")
+    println!(rt; "{word}: runs {runs}, faults of a first turn {first}, wrong {wrong}")
 }
 
 fn main(rt: HostRuntime) -> io::Result<()> {
@@ -78,5 +81,8 @@ fn main(rt: HostRuntime) -> io::Result<()> {
         };
         print_turns(&rt, alloc, scene, word)?;
     }
-    print_flushes(&rt, alloc, &image, [first, second])
+    for (word, writer) in [("flushers", Writer::Flushers), ("hub", Writer::Hub)] {
+        print_flushes(&rt, alloc, &image, [first, second], writer, word)?;
+    }
+    Ok(())
 }
