@@ -41,3 +41,8 @@ pub mod Replacing
 pub mod TurnLaws
 pub mod Replaced
 pub mod PairLaws
+pub mod ValueLists
+pub mod ValueSame
+pub mod ValueMade
+pub mod Following
+pub mod ValueWritten

@@ -8,10 +8,10 @@ use Rattle.xn_model.specs.Root.{word_at}
 use Rattle.xn_model.specs.Lives.{StoreState}
 use Rattle.xn_model.specs.Calls.{pending_of, propose_of}
 use Rattle.ffs_model.specs.Cuts.{Under, latest}
-use Rattle.ffs_model.specs.Names.{IsInodes, LeavesRoom, Names}
+use Rattle.ffs_model.specs.Names.{LeavesRoom, Names}
 use Rattle.ffs_model.specs.Edits.{InodeFreed, LinksTaken}
 use Rattle.ffs_model.specs.Volumes.{KeepsNumber}
-use Rattle.ffs_model.specs.Library.{IsLibrary, inode_at, inode_blocks, inode_links, inode_mode, inode_pairs, library_layout, pointed, pointer_word, with_inode, zeros}
+use Rattle.ffs_model.specs.Library.{inode_at, inode_blocks, inode_links, inode_mode, inode_pairs, library_layout, pointed, pointer_word, with_inode, zeros}
 use Rattle.ffs_model.proofs.ForCallers.{inode_unlinked, library_reads, links_read, links_taken, other_number, other_written, pointers_cleared_short, proposed_here, proposed_others, spare_begins, spare_by_freed, spare_by_taken, under_inodes}
 use Rattle.ffs_model.proofs.Rewritten as rewritten
 use Rattle.ffs_format.specs.Fields.{Fields, fields_of}
@@ -20,7 +20,7 @@ use Rattle.ffs_lookup.specs.declared.fault.FfsFault.TheVariants.{Pending}
 use Rattle.ffs_lookup.specs.declared.places.Found.{Found}
 use Rattle.ffs_lookup.specs.declared.repairs.Repair.{Repair}
 use Rattle.ffs_lookup.specs.declared.repairs.Repair.TheVariants.{Keep, GiveUp, SetLinks}
-use Rattle.ffs_lookup.specs.Newest.{and_then, inode_block_in, inode_in}
+use Rattle.ffs_lookup.specs.Newest.{inode_in}
 use Rattle.ffs_lookup.specs.Counts.{names_count}
 use Rattle.ffs_lookup.specs.declared.repairs.Repairs.{Repairs}
 use Rattle.ffs_lookup.specs.Repairs.{idle_in, repair_in}
@@ -39,9 +39,9 @@ use Rattle.ffs_lib.proofs.Fields.{free_blocks, free_mode, same_blocks}
 use Rattle.ffs_lib.proofs.Laws.{can_edit, fails}
 use Rattle.ffs_lib.proofs.Moving.{relinked, same_as}
 use Rattle.ffs_lib.proofs.NameCounts.{names_within}
-use Rattle.ffs_lib.proofs.Owners.{block_from, stands_from}
+use Rattle.ffs_lib.proofs.Owners.{stands_from}
 use Rattle.ffs_lib.proofs.Rooms.{room_by}
-use Rattle.ffs_lib.proofs.Same.{Touches, block_same, edited, inode_bytes, inodes_same, place_same, pointers_touched, same_on}
+use Rattle.ffs_lib.proofs.Same.{edited, inode_bytes, inodes_same, place_same, pointers_touched, same_on}
 use Rattle.ffs_lib.proofs.Short.{free_pairs, freed_short}
 
 -- The places of inodes

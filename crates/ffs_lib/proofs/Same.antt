@@ -22,7 +22,7 @@ use Rattle.ffs_lookup.specs.declared.fault.FfsFault.TheVariants.{NoEntry}
 use Rattle.ffs_lookup.specs.Newest.{and_then, byte_in, file_block, inode_block_in, inode_in, root_in, root_of_type, unless_unused, unless_zero}
 use Rattle.ffs_lookup.specs.Places.{IsPlace}
 use Rattle.ffs_lookup.specs.FileValues.{place_in}
-use Rattle.ffs_lib.specs.Results.{IsNewPlace, SameContents, SameInode, SameOrNew, SamePlace, SameUse}
+use Rattle.ffs_lib.specs.Results.{SameContents, SameInode, SameOrNew, SamePlace, SameUse}
 use Rattle.ffs_lib.specs.Edits.{edit_at}
 use Rattle.ffs_lib.proofs.Edited.{same_root}
 use Rattle.ffs_lookup.proofs.ForCallers.{in_root_block, not_zero, root_again, unused_is, zero_is}

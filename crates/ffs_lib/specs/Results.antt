@@ -12,12 +12,11 @@
 --     IsAs, AsBefore             an inode is as before but for its links
 --     IsLinked, TookLink         it is, with so many links; it lost one, or is free
 --     MovedEntry                 an entry went to another directory, or got another name
-use Rattle.std.specs.Prelude.{◌≡◌, ◌≢◌, ℕ, ◌+◌, ◌-◌, ◌*◌, ◌/◌, ◌%◌, ◌<◌, ◌≤◌, ◌⊎◌, ◌&&◌, List, ◌∷◌, ◌++◌, length, nat_le, nat_lt, get_or, replicate, slice_set, Result, Ok, Err, false, if◌then◌else◌, Some, None}
+use Rattle.std.specs.Prelude.{◌≡◌, ◌≢◌, ℕ, ◌+◌, ◌-◌, ◌*◌, ◌/◌, ◌<◌, ◌≤◌, ◌⊎◌, ◌&&◌, List, ◌∷◌, ◌++◌, length, nat_le, nat_lt, get_or, replicate, slice_set, Ok, Err, false, if◌then◌else◌, Some, None}
 use Rattle.std.specs.List.{list_any}
 use Rattle.std.specs.Int.{w16, to_le_bytes}
 use Rattle.xn_model.specs.Root.{word_at}
 use Rattle.ffs_model.specs.Library.{inode_blocks, inode_links, inode_mode}
-use Rattle.ffs_lookup.specs.declared.fault.FfsFault.{FfsFault}
 use Rattle.ffs_lookup.specs.declared.fault.FfsFault.TheVariants.{NoEntry}
 use Rattle.ffs_lookup.specs.declared.places.Slot.{Slot}
 use Rattle.ffs_lookup.specs.declared.places.Room.TheVariants.{Entry, Pointer}

@@ -18,7 +18,10 @@ ghost use Rattle.ffs_lib.specs.Outcomes.{HasFreePointer, OnlyShort};
 ghost use Rattle.ffs_lib.specs.Replacing.{AreDirect, pair_of};
 ghost use Rattle.ffs_model.specs.Standing.{StayNamed};
 ghost use Rattle.xn_model.specs.Lives.{Lives};
+ghost use Rattle.ffs_lib.specs.Values.{Follows};
 ghost use Rattle.ffs_lib.specs.Writes.{Writes, WritesSome};
+ghost use Rattle.ffs_lookup.specs.FileValues.{files_of};
+ghost use Rattle.ffs_lookup.specs.Files.{created, new_directory, new_file, written};
 ghost use Rattle.ffs_lib.specs.Steps.{Creates, Ends, Leaves, MayLose, NamesAgain, Renames, Stage, StopsGrowing, StopsNaming, StopsNew, StopsUnnaming, TakesFree, Undoes, Unlinks, Unmakes, Unnamed, newest};
 ghost use Rattle.xn_model.specs.Types.{Types};
 ghost use Rattle.xn_model.specs.declared.refusal.Refusal.{Refusal};
@@ -212,6 +215,8 @@ impl Volume {
         requires { IsVolume (S.types_of store.old) (S.state_of store.old) self.old }
         ensures types { S.types_of store.new ≡ S.types_of store.old }
         ensures fs { self.new.fs ≡ self.old.fs }
+        ensures value { Follows (created new_file (files_of (newest (S.state_of store.old)) self.old.fs.number) directory name.now)
+            self.old.fs.number (S.state_of store.old) (S.state_of store.new) result }
         ensures answers { Creates (S.types_of store.old) self.old.fs.number directory name.now FILE (S.state_of store.old) (S.state_of store.new) result }
         ensures keeps { IsVolume (S.types_of store.old) (S.state_of store.new) self.new }
     {
@@ -229,6 +234,8 @@ impl Volume {
         requires { IsVolume (S.types_of store.old) (S.state_of store.old) self.old }
         ensures types { S.types_of store.new ≡ S.types_of store.old }
         ensures fs { self.new.fs ≡ self.old.fs }
+        ensures value { Follows (created new_directory (files_of (newest (S.state_of store.old)) self.old.fs.number) directory name.now)
+            self.old.fs.number (S.state_of store.old) (S.state_of store.new) result }
         ensures answers { Creates (S.types_of store.old) self.old.fs.number directory name.now DIRECTORY (S.state_of store.old)
             (S.state_of store.new) result }
         ensures keeps { IsVolume (S.types_of store.old) (S.state_of store.new) self.new }
@@ -369,6 +376,8 @@ impl Volume {
     ) -> Result<(), FfsFault>
         requires { IsVolume (S.types_of store.old) (S.state_of store.old) self.now }
         ensures types { S.types_of store.new ≡ S.types_of store.old }
+        ensures value { Follows (written (files_of (newest (S.state_of store.old)) self.now.fs.number) inode offset bytes.now)
+            self.now.fs.number (S.state_of store.old) (S.state_of store.new) result }
         ensures answers { Writes (S.types_of store.old) self.now.fs.number inode offset bytes.now (S.state_of store.old) (S.state_of store.new) result }
         ensures keeps { IsVolume (S.types_of store.old) (S.state_of store.new) self.now }
     {

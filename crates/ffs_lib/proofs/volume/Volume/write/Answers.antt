@@ -1,11 +1,12 @@
-use Rattle.std.proofs.Common.{◌≡◌, ◌≢◌, ◌∙◌, ◌+◌, ℕ, List, Err, arith, length, refl, subst, sym, take}
-use Rattle.std.proofs.lemmas.Bool.{eqb-false}
-use Rattle.std.proofs.lemmas.List.{take_all}
+use Rattle.std.proofs.Common.{◌≡◌, ◌≢◌, ◌∙◌, ◌+◌, ℕ, List, Err, Ok, arith, inl, length, refl, rules, subst, sym, take}
+use Rattle.std.proofs.lemmas.Bool.{eqb-false, eqb-true}
+use Rattle.std.proofs.lemmas.List.{nil_from_length, take_all}
 use Rattle.ffs_lib.specs.Outcomes.{IsRaised}
 use Rattle.ffs_model.specs.Cuts.{latest}
 use Rattle.ffs_lookup.specs.Newest.{write_in}
 use Rattle.ffs_lib.specs.Volumes.{edits_of}
 use Rattle.ffs_lib.specs.Writes.{StopsWriting, Wrote}
+use Rattle.ffs_lib.proofs.Following.{written_follows}
 use Rattle.ffs_lib.proofs.Laws.{answers_ok, match_then, staged}
 use Rattle.ffs_lib.proofs.Parting.{end_found, raise_refused, raised_wrote, stops_writing, write_file}
 use Rattle.ffs_lib.proofs.volume.Volume.write.Goals as goal
@@ -81,3 +82,31 @@ returns-in-None-clause-keeps g c =
     let w = p.puts.wrote f.0 is in
     let x = c.raise_size.ensures.ends (g.S.Store.types_of c.args.store.now) (edits_of volume.added) w.after c.write_padded-progress.ensures.types p.stage w.file p.given.1 in
     record { library = v.library; keeps = x.0.keeps }
+
+pub returns-in-Some-clause-value : goal.returns-in-Some-clause-value
+returns-in-Some-clause-value g c =
+    written_follows (g.S.Store.types_of c.args.store.now) c.args.self.now.fs.number c.args.inode c.args.offset c.args.bytes.now (g.S.Store.state_of c.args.store.now) (g.S.Store.state_of c.write_padded-progress.new.store) _
+    (returns-in-Some-clause-answers g c)
+
+pub returns-in_err-end-clause-value : goal.returns-in_err-end-clause-value
+returns-in_err-end-clause-value g c =
+    let old = g.S.Store.state_of c.args.store.now in
+    written_follows (g.S.Store.types_of c.args.store.now) c.args.self.now.fs.number c.args.inode c.args.offset c.args.bytes.now old old c.from_residual.result (search rules)
+
+pub returns-then-is_empty-clause-value : goal.returns-then-is_empty-clause-value
+returns-then-is_empty-clause-value g c =
+    let T = g.S.Store.types_of c.args.store.now in
+    let fs = c.args.self.now.fs.number in
+    let old = g.S.Store.state_of c.args.store.now in
+    let n = c.args.inode in
+    let bytes = c.args.bytes.now in
+    let looked = write_in (latest old.lives) fs n (c.args.offset + length bytes) in
+    let f = end_found looked c.in_ok-end.end (c.in_ok-end.ensures.exact c.requires.library) in
+    let none : length bytes ≡ 0 = eqb-true (length bytes) 0 (sym c.is_empty.ensures ∙ c.if-is_empty.true) in
+    written_follows T fs n c.args.offset bytes old old (Ok tt)
+    (answers_ok looked (λ inode _. Wrote old old fs n inode c.args.offset bytes) (λ inode fault. StopsWriting T fs old old n inode c.args.offset bytes fault) (Ok tt) f.0 old old f.1 (inl (nil_from_length bytes none, refl)))
+
+pub returns-in-None-clause-value : goal.returns-in-None-clause-value
+returns-in-None-clause-value g c =
+    written_follows (g.S.Store.types_of c.args.store.now) c.args.self.now.fs.number c.args.inode c.args.offset c.args.bytes.now (g.S.Store.state_of c.args.store.now) (g.S.Store.state_of c.raise_size.new.store) c.raise_size.result
+    (returns-in-None-clause-answers g c)

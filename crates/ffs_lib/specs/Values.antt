@@ -1,0 +1,18 @@
+-- What a call answers and leaves, by its function of the files.
+--     Leads        the function answers this, and the files are those that it says
+--     Follows      its fault is answered, and nothing changes; or this, or the store is short of something
+use Rattle.std.specs.Prelude.{◌≡◌, ℕ, List, Result, Ok, Err, true, MatchResult}
+use Rattle.xn_model.specs.Lives.{StoreState}
+use Rattle.ffs_lookup.specs.declared.fault.FfsFault.{FfsFault}
+use Rattle.ffs_lookup.specs.Files.{Answer}
+use Rattle.ffs_lookup.specs.FileValues.{files_of}
+use Rattle.ffs_lookup.specs.Newest.{is_short}
+use Rattle.ffs_lib.specs.Steps.{newest}
+
+abbrev pub Leads : {A : Type 0} → Answer A → (ℕ → List ℕ) → ℕ → A → Type 0
+Leads (Err fault) content fs x = ⊥
+Leads (Ok next) content fs x = (x ≡ next.0) × ((n : ℕ) → files_of content fs n ≡ next.1 n)
+
+abbrev pub Follows : {A : Type 0} → Answer A → ℕ → StoreState → StoreState → Result A FfsFault → Type 0
+Follows (Err fault) fs old new result = (result ≡ Err fault) × (new ≡ old)
+Follows (Ok next) fs old new result = MatchResult result (Leads (Ok next) (newest new) fs) (λ fault. is_short fault ≡ true)
