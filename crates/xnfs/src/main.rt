@@ -1,7 +1,7 @@
 // Files in a disk image: made, listed, brought in and out, each line on the disk when it ends.
 #![tactic(auto)]
 
-use std::io::{BufWriter, Write};
+use std::io::{BufReader, BufWriter, Write};
 use std::process::ExitCode;
 use std::thread::Threads;
 use std::{env, io};
@@ -13,12 +13,13 @@ fn run(rt: &HostRuntime, threads: &(impl Threads + Sync)) -> io::Result<u8> {
     let words: Vec<String> = env::args(rt)?.skip(1).collect(alloc)?;
     let mut out = BufWriter::new(alloc, rt.stdout())?;
     let mut err = BufWriter::new(alloc, rt.stderr())?;
+    let mut input = BufReader::new(alloc, rt.stdin())?;
     let status = line(
         rt,
         threads,
         alloc,
         words.as_slice(),
-        &mut rt.stdin(),
+        &mut input,
         &mut out,
         &mut err,
     );

@@ -1,12 +1,15 @@
 // The words that change names: `mkdir`, `rm`, `rmdir`, `mv`, `cp`.
 
 use crate::fault::{Fault, Reason, at};
-use crate::finding::{Place, TOP, fault_at, find, names, place_of, target, there};
+use crate::finding::{Place, TOP, fault_at, find, names, naming_fault, place_of, target, there};
 use crate::looking::bytes_of;
 use crate::putting::{flush, put_bytes};
 use crate::walking::walk;
 use std::alloc::Global;
 use xnfs_session::{FfsFault, FlushStore, Session};
+
+/// How many links a file has at most.
+const MOST_LINKS: u16 = 65_535;
 
 /// Turns the fault of a call at a path into that of the line.
 fn done_at<S: FlushStore + Drop, A: Drop>(
@@ -21,6 +24,23 @@ fn done_at<S: FlushStore + Drop, A: Drop>(
     }
 }
 
+/// Makes the folder of a name.
+fn make_in<S: FlushStore + Drop>(
+    session: &mut Session<S>,
+    alloc: Global,
+    path: &str,
+    place: Place,
+) -> Result<u16, Fault> {
+    let made = session.mkdir(alloc, place.folder, place.name.as_bytes());
+    match made {
+        Ok(inode) => Ok(inode),
+        Err(fault) => {
+            flush(session, alloc)?;
+            Err(naming_fault(session, alloc, path, (place.folder, true, 0), fault))
+        }
+    }
+}
+
 /// Makes the folder of a name, which may be there already.
 fn make_or_find<S: FlushStore + Drop>(
     session: &mut Session<S>,
@@ -31,13 +51,7 @@ fn make_or_find<S: FlushStore + Drop>(
     match there(session, alloc, path, place)? {
         Some(node) if node.is_directory => Ok(node.number),
         Some(_) => Err(at(alloc, path, Reason::NoFolder)),
-        None => {
-            let made = session.mkdir(alloc, place.folder, place.name.as_bytes());
-            match made {
-                Ok(inode) => Ok(inode),
-                Err(fault) => Err(fault_at(session, alloc, path, fault)),
-            }
-        }
+        None => make_in(session, alloc, path, place),
     }
 }
 
@@ -61,8 +75,8 @@ pub fn make_folder<S: FlushStore + Drop>(
     path: &str,
 ) -> Result<(), Fault> {
     let place = place_of(session, alloc, path)?;
-    let made = session.mkdir(alloc, place.folder, place.name.as_bytes());
-    done_at(session, alloc, path, made)
+    let _ = make_in(session, alloc, path, place)?;
+    Ok(())
 }
 
 /// Gives up all that stands below a folder, the last first.
@@ -132,13 +146,18 @@ pub fn rename<S: FlushStore + Drop>(
     let (name, new_name) = (from.name.as_bytes(), place.name.as_bytes());
     if !node.is_directory && onto.is_some_and(|node| !node.is_directory) {
         let replaced = session.replace(alloc, from.folder, name, place.folder, new_name);
+        if replaced == Err(FfsFault::TooLarge) {
+            return Err(at(alloc, path, Reason::Linked));
+        }
         return done_at(session, alloc, to, replaced);
     }
     let moved = session.rename(alloc, from.folder, name, place.folder, new_name);
-    if moved == Err(FfsFault::IsDir) {
-        return Err(at(alloc, path, Reason::Stays));
+    match moved {
+        Ok(()) => Ok(()),
+        Err(FfsFault::IsDir) => Err(at(alloc, path, Reason::Stays)),
+        Err(FfsFault::TooLarge) if node.links == MOST_LINKS => Err(at(alloc, path, Reason::Linked)),
+        Err(fault) => Err(naming_fault(session, alloc, to, (place.folder, false, 0), fault)),
     }
-    done_at(session, alloc, to, moved)
 }
 
 /// `cp`: copies a file; onto itself it does nothing.

@@ -71,6 +71,7 @@ pub fn repair<S: FlushStore + Drop>(
     alloc: Global,
     out: &mut impl Write,
 ) -> Result<(), Fault> {
+    flush(session, alloc)?;
     let repairs = match session.reclaim(alloc) {
         Ok(repairs) => repairs,
         Err(fault) => {

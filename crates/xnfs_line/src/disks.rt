@@ -1,9 +1,9 @@
 // Disks in files: made with an empty volume, and opened.
 
-use crate::fault::{Fault, Reason};
+use crate::fault::{Fault, Reason, reason_of};
 use crate::putting::flush;
 use crash_check::{ImageFault, mount};
-use disk::{MemDisk, MemLane, fresh_lanes};
+use disk::{Lane, Lanes, MemDisk, MemLane, fresh_lanes};
 use ffs_format::templates;
 use file_disk::{FileDisk, FileLane};
 use std::alloc::Global;
@@ -11,7 +11,7 @@ use std::fs::{File, Files};
 use std::thread::Threads;
 use templates::format_image;
 use xn_kernel::Kernel;
-use xnfs_session::{Fs, Session};
+use xnfs_session::{FfsFault, Fs, Session, Stop, StoppingLane};
 
 /// How many bytes the largest disk has.
 const GREATEST: usize = 16_777_216;
@@ -72,6 +72,38 @@ pub fn format<R: Files<File = File>>(
     Ok(())
 }
 
+/// The session of a file system on the disk of these lanes.
+fn open_lanes<L: Lane + Drop>(
+    threads: &(impl Threads + Sync),
+    alloc: Global,
+    lanes: Lanes<L>,
+    fs: Fs,
+) -> Result<Session<Kernel<L>>, Fault> {
+    let kernel = match mount(threads, alloc, lanes, 1) {
+        Ok(kernel) => kernel,
+        Err((fault, _lanes)) => return Err(image_fault(fault)),
+    };
+    match Session::open(alloc, kernel, fs) {
+        Ok(session) => Ok(session),
+        Err(FfsFault::NoEntry) => Err(Fault::Volume(Reason::NoVolume)),
+        Err(fault) => Err(Fault::Volume(reason_of(fault, 0))),
+    }
+}
+
+/// The session of a file system on a disk in a file, which makes no further write of a block once it is stopped.
+pub fn open_stopping<R: Files<File = File>>(
+    rt: &R,
+    threads: &(impl Threads + Sync),
+    alloc: Global,
+    image: &str,
+    fs: Fs,
+    stop: &Stop,
+) -> Result<Session<Kernel<StoppingLane<FileLane>>>, Fault> {
+    let disk = FileDisk::open(rt, alloc, image)?;
+    let lanes = stop.lanes(alloc, disk.into_lanes())?;
+    open_lanes(threads, alloc, lanes, fs)
+}
+
 /// The session of a file system on a disk in a file.
 pub fn open<R: Files<File = File>>(
     rt: &R,
@@ -81,13 +113,5 @@ pub fn open<R: Files<File = File>>(
     fs: Fs,
 ) -> Result<Session<Kernel<FileLane>>, Fault> {
     let disk = FileDisk::open(rt, alloc, image)?;
-    let kernel = match mount(threads, alloc, disk.into_lanes(), 1) {
-        Ok(kernel) => kernel,
-        Err((fault, _lanes)) => return Err(image_fault(fault)),
-    };
-    match Session::open(alloc, kernel, fs) {
-        Ok(session) => Ok(session),
-        Err(xnfs_session::FfsFault::NoEntry) => Err(Fault::Volume(Reason::NoVolume)),
-        Err(fault) => Err(Fault::Volume(crate::fault::reason_of(fault, 0))),
-    }
+    open_lanes(threads, alloc, disk.into_lanes(), fs)
 }

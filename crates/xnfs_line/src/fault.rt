@@ -32,6 +32,8 @@ pub enum Reason {
     NoSpace { needed: u32, free: u32 },
     #[error("no space: {free} blocks free")]
     Full { free: u32 },
+    #[error("no link is left: a file has at most 65535 links")]
+    Linked,
     #[error("inode {0} has more names than links")]
     Unsound(u16),
     #[error("something is pending")]
@@ -50,6 +52,8 @@ pub enum Reason {
     Special,
     #[error("is the name of files that are being made")]
     Kept,
+    #[error("standard input has the lines of the shell")]
+    Lines,
     #[error("the file system has no volume there: `xnfs format` makes one")]
     NoVolume,
 }
@@ -75,6 +79,9 @@ pub enum Fault {
     /// The disk failed in a flush, or there was no memory for it.
     #[error("not on the disk: {0}")]
     Flush(Refusal),
+    /// No further block was to be written, as a test asked.
+    #[error("stopped before another block was written")]
+    Stopped,
     #[error("no memory")]
     NoMemory,
     #[error("a standard stream failed")]

@@ -37,6 +37,27 @@ pub fn fault_at<S: FlushStore + Drop>(
     }
 }
 
+/// The fault of a call that makes a name at a path: of want of blocks how many that name takes, beside so many for what it names.
+pub fn naming_fault<S: FlushStore + Drop>(
+    session: &Session<S>,
+    alloc: Global,
+    path: &str,
+    (folder, is_new, more): (u16, bool, u32),
+    fault: FfsFault,
+) -> Fault {
+    if fault != FfsFault::Kernel(xn_kernel::Refusal::NoSpace) {
+        return fault_at(session, alloc, path, fault);
+    }
+    let free = session.free();
+    match session.blocks_for_name(folder, is_new) {
+        Ok(own) => {
+            let needed = own.saturating_add(more);
+            at(alloc, path, Reason::NoSpace { needed, free })
+        }
+        Err(_) => at(alloc, path, Reason::Full { free }),
+    }
+}
+
 /// The inode at the end of names, from the top folder on.
 fn follow<S: FlushStore + Drop>(session: &Session<S>, names: &[&str]) -> Result<u16, FfsFault> {
     let mut inode = TOP;

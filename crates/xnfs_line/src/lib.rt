@@ -10,9 +10,12 @@ mod disks;
 mod fault;
 mod finding;
 mod getting;
+mod graphing;
 mod lines;
 mod looking;
 mod putting;
+mod shell;
 mod walking;
 
 pub use lines::line;
+pub use shell::{Ended, Shell, shell_line};

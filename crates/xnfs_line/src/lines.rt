@@ -2,26 +2,34 @@
 
 use crate::changing::{copy, make_folder, make_folders, remove, remove_folder, rename};
 use crate::checking::{check, repair};
-use crate::disks::{format, open};
+use crate::disks::{format, open, open_stopping};
 use crate::fault::Fault;
 use crate::getting::{get, put};
+use crate::graphing::graph;
 use crate::looking::{cat, list, stat, tree, usage};
 use crate::putting::flush;
+use crate::shell::{Shell, run_shell};
 use std::alloc::Global;
 use std::fs::{File, Files};
 use std::io::{BufRead, Read, Write};
 use std::thread::Threads;
-use xnfs_session::{FlushStore, Fs, Session};
+use xnfs_session::{FlushStore, Fs, Session, Stop};
 use xnfs_words::{Request, Word, read};
 
 /// The status of a line that was done.
-const DONE: u8 = 0;
+pub const DONE: u8 = 0;
 
 /// That of one that could not be done.
-const FAILED: u8 = 1;
+pub const FAILED: u8 = 1;
 
 /// That of one that can't be read.
-const USAGE: u8 = 2;
+pub const USAGE: u8 = 2;
+
+/// So many entries may be pending before a word that changes something: the calls of a word make fewer than 48 more in a block.
+const FEW_PENDING: u32 = 16;
+
+/// What blocks are given up is free only once that is written. It is, where fewer are free than this.
+const FEW_FREE: u32 = 16;
 
 /// Does what a word that only looks asks for.
 fn look<S: FlushStore + Drop>(
@@ -36,7 +44,8 @@ fn look<S: FlushStore + Drop>(
         Word::Cat { path } => cat(session, alloc, path, out),
         Word::Stat { path } => stat(session, alloc, path, out),
         Word::Usage => usage(session, out),
-        _ => check(session, alloc, out),
+        Word::Graph => graph(session, alloc, out),
+        _ => Ok(()),
     }
 }
 
@@ -63,31 +72,61 @@ fn change<S: FlushStore + Drop>(
     }
 }
 
-/// Does what a word asks for, and writes what is pending then.
-fn run_word<R: Files<File = File> + AllocGlobal + Clone + Drop, S: FlushStore + Drop>(
+/// Writes what is pending where a word that changes something could find no room beside it.
+fn make_room<S: FlushStore + Drop>(session: &mut Session<S>, alloc: Global) -> Result<(), Fault> {
+    let pending = session.pending();
+    if pending > FEW_PENDING || (pending > 0 && session.free() < FEW_FREE) {
+        flush(session, alloc)?;
+    }
+    Ok(())
+}
+
+/// Writes what is pending where what is done is to be on the disk with its line.
+fn settle<S: FlushStore + Drop>(
+    session: &mut Session<S>,
+    alloc: Global,
+    is_lazy: bool,
+    changed: Result<(), Fault>,
+) -> Result<(), Fault> {
+    if !is_lazy {
+        flush(session, alloc)?;
+    }
+    changed
+}
+
+/// Does what a word asks for. What it changed is on the disk then, but where a shell is lazy.
+pub fn run_word<R: Files<File = File> + AllocGlobal + Clone + Drop, S: FlushStore + Drop>(
     rt: &R,
     session: &mut Session<S>,
     alloc: Global,
     word: Word,
+    is_lazy: bool,
     input: &mut impl Read,
     out: &mut impl Write,
 ) -> Result<(), Fault> {
     match word {
-        Word::Put { source, path } => put(rt, session, alloc, source, path, input)?,
-        Word::Check { is_repairing: true } => repair(session, alloc, out)?,
-        Word::Get { path, target } => get(rt, session, alloc, path, target, out)?,
+        Word::Put { source, path } => {
+            let changed = put(rt, session, alloc, source, path, input);
+            settle(session, alloc, is_lazy, changed)
+        }
+        Word::Get { path, target } => get(rt, session, alloc, path, target, out),
         Word::MakeFolder { .. }
         | Word::Remove { .. }
         | Word::RemoveFolder { .. }
         | Word::Move { .. }
         | Word::Copy { .. } => {
+            make_room(session, alloc)?;
             let changed = change(session, alloc, word);
-            flush(session, alloc)?;
-            changed?;
+            settle(session, alloc, is_lazy, changed)
         }
-        _ => look(session, alloc, word, out)?,
+        Word::Check { is_repairing: true } => repair(session, alloc, out),
+        Word::Check { .. } => {
+            flush(session, alloc)?;
+            check(session, alloc, out)
+        }
+        Word::Sync => flush(session, alloc),
+        _ => look(session, alloc, word, out),
     }
-    Ok(())
 }
 
 /// The file system of a number.
@@ -98,27 +137,81 @@ fn file_system(number: u8) -> Result<Fs, Fault> {
     }
 }
 
-/// Does what a line asks for.
+/// Does what a word of a line asks for on an open disk, and answers its status.
+fn run_disk<R: Files<File = File> + AllocGlobal + Clone + Drop, S: FlushStore + Drop>(
+    rt: &R,
+    session: &mut Session<S>,
+    alloc: Global,
+    (image, word): (&str, Word),
+    input: &mut impl BufRead,
+    out: &mut impl Write,
+    err: &mut impl Write,
+) -> Result<u8, Fault> {
+    if let Word::Shell { is_lazy } = word {
+        let shell = Shell { image, is_lazy };
+        return run_shell(rt, session, alloc, shell, input, out, err);
+    }
+    run_word(rt, session, alloc, word, false, input, out)?;
+    Ok(DONE)
+}
+
+/// Does what a line asks for on a disk that makes so many writes of blocks at most, and answers its status.
+fn run_stopping<R: Files<File = File> + AllocGlobal + Clone + Drop>(
+    rt: &R,
+    threads: &(impl Threads + Sync),
+    alloc: Global,
+    (image, fs, word): (&str, Fs, Word),
+    writes: u32,
+    input: &mut impl BufRead,
+    out: &mut impl Write,
+    err: &mut impl Write,
+) -> Result<u8, Fault> {
+    let stop = Stop::after(alloc, u64::from(writes))?;
+    let mut session = open_stopping(rt, threads, alloc, image, fs, &stop)?;
+    let done = run_disk(rt, &mut session, alloc, (image, word), input, out, err);
+    if stop.is_over() {
+        return Err(Fault::Stopped);
+    }
+    done
+}
+
+/// Does what a line asks for, and answers its status where that could be begun.
 fn run<R: Files<File = File> + AllocGlobal + Clone + Drop>(
     rt: &R,
     threads: &(impl Threads + Sync),
     alloc: Global,
     request: Request,
-    input: &mut impl Read,
+    input: &mut impl BufRead,
     out: &mut impl Write,
-) -> Result<(), Fault> {
-    match request {
+    err: &mut impl Write,
+) -> Result<u8, Fault> {
+    let status = match request {
         Request::Format { image, blocks, fs } => {
             format(rt, threads, alloc, image, blocks, file_system(fs)?)?;
             writeln!(out, "{image}: {blocks} blocks")?;
+            DONE
         }
-        Request::Disk { image, fs, word } => {
+        Request::Disk {
+            image,
+            fs,
+            stop: None,
+            word,
+        } => {
             let mut session = open(rt, threads, alloc, image, file_system(fs)?)?;
-            run_word(rt, &mut session, alloc, word, input, out)?;
+            run_disk(rt, &mut session, alloc, (image, word), input, out, err)?
         }
-    }
+        Request::Disk {
+            image,
+            fs,
+            stop: Some(writes),
+            word,
+        } => {
+            let line = (image, file_system(fs)?, word);
+            run_stopping(rt, threads, alloc, line, writes, input, out, err)?
+        }
+    };
     out.flush()?;
-    Ok(())
+    Ok(status)
 }
 
 /// The file of a disk that a line names.
@@ -151,13 +244,13 @@ fn tell_usage(out: &mut impl Write, err: &mut impl Write, error: &clap::Error) -
 }
 
 /// Does what the words behind the program's name ask for, and answers the program's status: 0 where it was done, and then it is on the
-/// disk; 1 where it could not be, which is told in one line; 2 where the words can't be read.
+/// disk; 1 where it could not be, which is told in one line; 2 where the words can't be read. That of a shell is the greatest of its lines.
 pub fn line<R: Files<File = File> + AllocGlobal + Clone + Drop>(
     rt: &R,
     threads: &(impl Threads + Sync),
     alloc: Global,
     words: &[String],
-    input: &mut impl Read,
+    input: &mut impl BufRead,
     out: &mut impl Write,
     err: &mut impl Write,
 ) -> u8 {
@@ -166,9 +259,9 @@ pub fn line<R: Files<File = File> + AllocGlobal + Clone + Drop>(
         Ok(None) => return USAGE,
         Err(error) => return tell_usage(out, err, &error),
     };
-    let done = run(rt, threads, alloc, request, input, out);
+    let done = run(rt, threads, alloc, request, input, out, err);
     match done {
-        Ok(()) => DONE,
+        Ok(status) => status,
         Err(fault) => tell(out, err, image_of(&request), &fault),
     }
 }

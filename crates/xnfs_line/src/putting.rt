@@ -2,7 +2,7 @@
 // moment and after each crash.
 
 use crate::fault::{Fault, Reason, at};
-use crate::finding::{Place, fault_at};
+use crate::finding::{Place, naming_fault};
 use std::alloc::Global;
 use xnfs_session::{FfsFault, FlushStore, MOST_BYTES, Node, Session};
 
@@ -95,24 +95,8 @@ fn name_it<S: FlushStore + Drop>(
     }
 }
 
-/// What is told where a put was refused: of want of blocks how many it needs.
-fn put_fault<S: FlushStore + Drop>(
-    session: &Session<S>,
-    alloc: Global,
-    path: &str,
-    bytes: &[u8],
-    fault: FfsFault,
-) -> Fault {
-    match fault {
-        FfsFault::Kernel(xn_kernel::Refusal::NoSpace) => {
-            let (needed, free) = (blocks_for(bytes.len()), session.free());
-            at(alloc, path, Reason::NoSpace { needed, free })
-        }
-        _ => fault_at(session, alloc, path, fault),
-    }
-}
-
-/// Puts a file of these bytes at a place, also where a file is, which it replaces.
+/// Puts a file of these bytes at a place, also where a file is, which it replaces. What was pending is written first, and so are the
+/// file's bytes; its name is left pending.
 pub fn put_bytes<S: FlushStore + Drop>(
     session: &mut Session<S>,
     alloc: Global,
@@ -127,15 +111,16 @@ pub fn put_bytes<S: FlushStore + Drop>(
     if onto.is_some_and(|node| node.is_directory) {
         return Err(at(alloc, path, Reason::Folder));
     }
+    flush(session, alloc)?;
     let done = match make(session, alloc, place.folder, bytes)? {
         Ok(()) => name_it(session, alloc, place, onto.is_some()),
         Err(fault) => Err(fault),
     };
-    match done {
-        Ok(()) => flush(session, alloc),
-        Err(fault) => {
-            give_up(session, alloc, place.folder)?;
-            Err(put_fault(session, alloc, path, bytes, fault))
-        }
-    }
+    let Err(fault) = done else {
+        return Ok(());
+    };
+    give_up(session, alloc, place.folder)?;
+    flush(session, alloc)?;
+    let goal = (place.folder, true, blocks_for(bytes.len()));
+    Err(naming_fault(session, alloc, path, goal, fault))
 }

@@ -1,7 +1,9 @@
-//! The words of a command line of `xnfs`.
+//! The words of a command line of `xnfs`, and of the lines of its shell.
 #![tactic(auto)]
 
 mod reader;
 mod request;
+mod splitting;
 
-pub use request::{Request, Word, read};
+pub use request::{Request, Word, read, read_shell};
+pub use splitting::split;

@@ -11,6 +11,13 @@ const EXAMPLES: &str = "Examples:
   xnfs disk.img get /notes.txt copy.txt
 A command that ended with status 0 is on the disk. One that was stopped leaves each file whole.";
 
+/// What is told of a shell.
+const SHELL_HELP: &str =
+    "A line has the words of a command, parted by blanks; '..' and \"..\" keep blanks in a word. Empty lines and lines that begin with # are
+passed over. A line that fails is told, and the next one is read. The status is the greatest of all lines.
+
+Example: printf 'mkdir /a\\nput notes.txt /a\\n' | xnfs disk.img shell";
+
 /// A word that has to be there.
 fn wanted<'a>(alloc: Global, id: &'a str, help: &'a str) -> Arg<'a> {
     Arg::new(alloc, id).required(true).help(help)
@@ -33,6 +40,15 @@ fn file_system<'a>(alloc: Global) -> Arg<'a> {
         .value_parser(value_parser!(u8).range(0..=31))
         .default_value("0")
         .help("the file system, 0 to 31")
+}
+
+/// After how many writes of blocks a line is stopped.
+fn stop<'a>(alloc: Global) -> Arg<'a> {
+    Arg::new(alloc, "stop")
+        .long("stop")
+        .value_name("K")
+        .value_parser(value_parser!(u32))
+        .help("for tests: end before block write K + 1, as a kill would")
 }
 
 /// A command of a path, with an example of its use.
@@ -219,7 +235,31 @@ fn check<'a>(alloc: Global) -> Result<Command<'a>, AllocError> {
         .arg(repair)
 }
 
-/// All commands.
+/// `graph`.
+fn graph<'a>(alloc: Global) -> Command<'a> {
+    Command::new(alloc, "graph")
+        .about("print the blocks of the volume and their owners, in DOT")
+        .after_help("Example: xnfs disk.img graph | dot -Tsvg")
+}
+
+/// `shell`.
+fn shell<'a>(alloc: Global) -> Result<Command<'a>, AllocError> {
+    let lazy = Arg::new(alloc, "lazy")
+        .long("lazy")
+        .action(ArgAction::SetTrue)
+        .help("be on the disk at `sync` and at the end, and not with each line");
+    Command::new(alloc, "shell")
+        .about("read these commands from standard input, a line each")
+        .after_help(SHELL_HELP)
+        .arg(lazy)
+}
+
+/// `sync`, of a shell.
+fn sync<'a>(alloc: Global) -> Command<'a> {
+    Command::new(alloc, "sync").about("have all lines so far on the disk")
+}
+
+/// The commands that a line and a shell have.
 fn commands<'a>(alloc: Global) -> Result<Vec<Command<'a>>, AllocError> {
     let mut commands = Vec::new(alloc);
     commands.push(list(alloc)?)?;
@@ -231,6 +271,21 @@ fn commands<'a>(alloc: Global) -> Result<Vec<Command<'a>>, AllocError> {
     commands.push(get(alloc)?)?;
     add_changes(alloc, &mut commands)?;
     commands.push(check(alloc)?)?;
+    commands.push(graph(alloc))?;
+    Ok(commands)
+}
+
+/// The commands of a line.
+fn line_commands<'a>(alloc: Global) -> Result<Vec<Command<'a>>, AllocError> {
+    let mut commands = commands(alloc)?;
+    commands.push(shell(alloc)?)?;
+    Ok(commands)
+}
+
+/// The commands of a shell.
+fn shell_commands<'a>(alloc: Global) -> Result<Vec<Command<'a>>, AllocError> {
+    let mut commands = commands(alloc)?;
+    commands.push(sync(alloc))?;
     Ok(commands)
 }
 
@@ -274,5 +329,15 @@ pub fn disk_reader<'a>(alloc: Global) -> Result<Command<'a>, AllocError> {
         .subcommand_required(true)
         .arg(image)?
         .arg(file_system(alloc))?
-        .subcommands(commands(alloc)?)
+        .arg(stop(alloc))?
+        .subcommands(line_commands(alloc)?)
+}
+
+/// The reader of the lines of a shell.
+pub fn shell_reader<'a>(alloc: Global) -> Result<Command<'a>, AllocError> {
+    Command::new(alloc, "xnfs shell")
+        .about("The commands of a shell, a line each")
+        .no_binary_name(true)
+        .subcommand_required(true)
+        .subcommands(shell_commands(alloc)?)
 }

@@ -1,6 +1,6 @@
 // What a command line asks for.
 
-use crate::reader::{disk_reader, format_reader};
+use crate::reader::{disk_reader, format_reader, shell_reader};
 use clap::{ArgMatches, Error};
 use std::alloc::Global;
 
@@ -33,6 +33,12 @@ pub enum Word<'a> {
     Copy { path: &'a str, to: &'a str },
     /// The disk and its names are checked, and perhaps what a crash has left is repaired.
     Check { is_repairing: bool },
+    /// The blocks of the volume and their owners.
+    Graph,
+    /// These words are read from standard input, a line each; lazily, they are on the disk at `Sync` and at the end.
+    Shell { is_lazy: bool },
+    /// All lines of a shell so far are on the disk.
+    Sync,
 }
 
 /// What a command line asks for.
@@ -48,6 +54,8 @@ pub enum Request<'a> {
     Disk {
         image: &'a str,
         fs: u8,
+        /// After so many writes of blocks no further one is made.
+        stop: Option<u32>,
         word: Word<'a>,
     },
 }
@@ -110,6 +118,11 @@ fn changing_word<'a>(name: &str, path: &'a str, found: &ArgMatches<'a>) -> Optio
         "check" => Word::Check {
             is_repairing: found.get_flag("repair"),
         },
+        "graph" => Word::Graph,
+        "shell" => Word::Shell {
+            is_lazy: found.get_flag("lazy"),
+        },
+        "sync" => Word::Sync,
         _ => return None,
     };
     Some(word)
@@ -138,8 +151,23 @@ fn read_disk<'a>(alloc: Global, words: &'a [String]) -> Result<Option<Request<'a
     let matches = disk_reader(alloc)?.try_get_matches_from(words)?;
     let image = value(&matches, "IMAGE");
     let fs = fs_of(&matches);
+    let stop = matches.get_one::<u32>("stop");
     let Some((name, found)) = matches.subcommand() else {
         return Ok(None);
     };
-    Ok(word_of(name, found).map(|word| Request::Disk { image, fs, word }))
+    Ok(word_of(name, found).map(|word| Request::Disk {
+        image,
+        fs,
+        stop,
+        word,
+    }))
+}
+
+/// Reads the words of a line of a shell. An error has the text that is to be printed, also where help is asked for.
+pub fn read_shell<'a>(alloc: Global, words: &'a [String]) -> Result<Option<Word<'a>>, Error> {
+    let matches = shell_reader(alloc)?.try_get_matches_from(words)?;
+    let Some((name, found)) = matches.subcommand() else {
+        return Ok(None);
+    };
+    Ok(word_of(name, found))
 }

@@ -1,0 +1,77 @@
+// The word `graph`: the blocks of a volume and their owners, as DOT.
+
+use crate::fault::Fault;
+use crate::finding::fault_at;
+use std::alloc::Global;
+use std::io::Write;
+use xnfs_session::{FlushStore, Owner, Session};
+
+/// A volume has fewer blocks.
+const MOST_BLOCKS: u32 = 32_768;
+
+/// What the blocks of a type are.
+fn kind(ty: u32) -> &'static str {
+    match ty {
+        0 => "roots",
+        1 => "template",
+        2 => "data",
+        3 => "volume",
+        4 => "inodes",
+        5 => "pointers",
+        _ => "other",
+    }
+}
+
+/// Prints a block and the arrows to those that it points to. A dashed one has something pending that waits for another block.
+fn print_owner<S: FlushStore + Drop>(
+    session: &Session<S>,
+    owner: &Owner,
+    out: &mut impl Write,
+) -> Result<(), Fault> {
+    let (block, ty) = (owner.block, owner.ty);
+    let style = if session.tainted(block) {
+        " style=dashed"
+    } else {
+        ""
+    };
+    writeln!(out, "  {block} [label=\"{block} {}\"{style}];", kind(ty))?;
+    for owned in owner.owned.iter() {
+        writeln!(out, "  {block} -> {owned};")?;
+    }
+    Ok(())
+}
+
+/// `graph`: the blocks of a volume, as its newest bytes have them, each below its owner.
+pub fn graph<S: FlushStore + Drop>(
+    session: &Session<S>,
+    alloc: Global,
+    out: &mut impl Write,
+) -> Result<(), Fault> {
+    writeln!(out, "digraph volume {{")?;
+    let mut waiting = Vec::new(alloc);
+    let mut first = Owner {
+        block: 0,
+        ty: 0,
+        owned: Vec::new(alloc),
+    };
+    if let Some(root) = session.root() {
+        first.owned.push(root)?;
+        waiting.push(root)?;
+    }
+    print_owner(session, &first, out)?;
+    for _ in 0..MOST_BLOCKS {
+        let Some(block) = waiting.pop() else {
+            break;
+        };
+        let owner = match session.owner(alloc, block) {
+            Ok(owner) => owner,
+            Err(fault) => return Err(fault_at(session, alloc, "/", fault)),
+        };
+        print_owner(session, &owner, out)?;
+        for owned in owner.owned.iter().rev() {
+            waiting.push(*owned)?;
+        }
+    }
+    writeln!(out, "}}")?;
+    Ok(())
+}
