@@ -1,6 +1,6 @@
 -- What is counted of lives, where one place is written.
 use Rattle.std.proofs.Common.{◌≡◌, ℕ, zero, suc, ◌+◌, ◌-◌, ◌*◌, ◌^◌, ◌<◌, ◌≤◌, Bool, true, false, cond, List, [], ◌∷◌, length, replicate, Option, Some, None, refl, sym, ◌∙◌, ap, arith, slice_get, length-drop}
-use Rattle.std.specs.Prelude.{is_some, option_map, slice_set, sum_by, nat_lt, ◌||◌}
+use Rattle.std.specs.Prelude.{IsTrue, is_some, option_map, slice_set, sum_by, nat_lt, ◌||◌}
 use Rattle.std.specs.List.{list_any}
 use Rattle.std.proofs.lemmas.Bool.{lt-ltb}
 use Rattle.std.proofs.lemmas.List.{length-set, length_push}
@@ -16,7 +16,7 @@ use Rattle.block_cache.specs.Cached.{CachedLife}
 use Rattle.block_cache.specs.Undone.{life_of, lives_of}
 use Rattle.block_cache.specs.declared.new_bytes.NewBytes.{NewBytes}
 use Rattle.block_cache.specs.NewBytes.{appended_by}
-use Rattle.block_cache.specs.Kept.{AreKept, place_at, change_place, settled, with_begun, with_status}
+use Rattle.block_cache.specs.Kept.{AreKept, place_at, change_place, settled, started, with_begun, with_status}
 use Rattle.block_cache.specs.Totals.{pending_of, in_flight_of, totals_of, totals_at}
 use Rattle.block_cache.proofs.Changes.{length-pending}
 
@@ -124,6 +124,74 @@ totals_kept places b status = λ i. record {
     in_flight_same : (o : Option CachedLife) → in_flight_of (option_map (with_status status) o) ≡ in_flight_of o
     in_flight_same None = refl
     in_flight_same (Some l) = refl
+
+-- What is counted of a life once it has changed
+
+at_change : (places : List (Option CachedLife)) (b : ℕ) (f : CachedLife → CachedLife) → place_at (change_place places b f) b ≡ option_map f (place_at places b)
+at_change [] b f = refl
+at_change (o ∷ os) zero f = refl
+at_change (o ∷ os) (suc b) f = at_change os b f
+
+at_set : (places : List (Option CachedLife)) (b : ℕ) (x : Option CachedLife) → b < length places → place_at (slice_set places b x) b ≡ x
+at_set [] b x h = absurd (omega (arith, h))
+at_set (o ∷ os) zero x h = refl
+at_set (o ∷ os) (suc b) x h = at_set os b x (omega (arith, h))
+
+-- what is known of the places that are seen is known of those that are kept
+pub alive_in : (places seen : List (Option CachedLife)) (b : ℕ) → places ≡ seen → IsTrue (is_some (place_at seen b)) → IsTrue (is_some (place_at places b))
+alive_in places seen b view alive = ap (λ (xs : List (Option CachedLife)). is_some (place_at xs b)) view ∙ alive
+
+pub within_in : (places seen : List (Option CachedLife)) (b : ℕ) → places ≡ seen → b < length seen → b < length places
+within_in places seen b view within = omega (arith, within, ap (λ (xs : List (Option CachedLife)). length xs) view)
+
+-- what is counted of a place that has the life o now
+abbrev totals_in : Option CachedLife → Totals
+totals_in o = record { pending = pending_of o; in_flight = in_flight_of o }
+
+pub started_totals : (places new : List (Option CachedLife)) (b k : ℕ) (fs : Option ℕ) (ty : ℕ) (bytes : List ℕ) → b < length places →
+    new ≡ slice_set places b (Some (started k fs ty bytes)) → record { pending = 1; in_flight = 0 } ≡ totals_at new b
+started_totals places new b k fs ty bytes within is =
+    sym (ap (λ (xs : List (Option CachedLife)). totals_at xs b) is ∙ ap totals_in (at_set places b (Some (started k fs ty bytes)) within))
+
+pub free_totals : (places new : List (Option CachedLife)) (b : ℕ) → new ≡ slice_set places b None → record { pending = 0; in_flight = 0 } ≡ totals_at new b
+free_totals places new b is = sym (ap (λ (xs : List (Option CachedLife)). totals_at xs b) is ∙ ap totals_in (none places b))
+  where
+    none : (places : List (Option CachedLife)) (b : ℕ) → place_at (slice_set places b None) b ≡ None
+    none [] b = refl
+    none (o ∷ os) zero = refl
+    none (o ∷ os) (suc b) = none os b
+
+pub appended_totals : (places new : List (Option CachedLife)) (b k : ℕ) (bytes : NewBytes) (before after : Totals) → IsTrue (is_some (place_at places b)) →
+    before ≡ totals_at places b → after ≡ record before { pending = before.pending + 1 } → new ≡ change_place places b (appended_by k bytes) → after ≡ totals_at new b
+appended_totals places new b k bytes before after alive was now is =
+    now ∙ (ap (λ (t : Totals). record t { pending = t.pending + 1 }) was ∙ (one (place_at places b) alive
+    ∙ sym (ap (λ (xs : List (Option CachedLife)). totals_at xs b) is ∙ ap totals_in (at_change places b (appended_by k bytes)))))
+  where
+    one : (o : Option CachedLife) → IsTrue (is_some o) → record { pending = pending_of o + 1; in_flight = in_flight_of o } ≡ totals_in (option_map (appended_by k bytes) o)
+    one None h = cc
+    one (Some l) h = ap (λ n. record { pending = n; in_flight = in_flight_of (Some l) }) (sym (length_push l.keys k))
+
+pub settled_totals : (places new : List (Option CachedLife)) (b k : ℕ) (before after : Totals) →
+    before ≡ totals_at places b → after ≡ record { pending = before.pending - k; in_flight = 0 } → new ≡ change_place places b (settled k) → after ≡ totals_at new b
+settled_totals places new b k before after was now is =
+    now ∙ (ap (λ (t : Totals). record { pending = t.pending - k; in_flight = 0 }) was ∙ (less (place_at places b)
+    ∙ sym (ap (λ (xs : List (Option CachedLife)). totals_at xs b) is ∙ ap totals_in (at_change places b (settled k)))))
+  where
+    less : (o : Option CachedLife) → record { pending = pending_of o - k; in_flight = 0 } ≡ totals_in (option_map (settled k) o)
+    less None = ap (λ n. record { pending = n; in_flight = 0 }) (omega arith)
+    less (Some l) = ap (λ n. record { pending = n; in_flight = 0 }) (sym (length-drop k l.keys))
+
+pub begun_totals : (places new : List (Option CachedLife)) (b : ℕ) (begun : Option ℕ) (before after : Totals) → (IsTrue (is_some begun) → IsTrue (is_some (place_at places b))) →
+    before ≡ totals_at places b → after ≡ record before { in_flight = cond (is_some begun) 1 0 } → new ≡ change_place places b (with_begun begun) → after ≡ totals_at new b
+begun_totals places new b begun before after alive was now is =
+    now ∙ (ap (λ (t : Totals). record t { in_flight = cond (is_some begun) 1 0 }) was ∙ (same begun (place_at places b) alive
+    ∙ sym (ap (λ (xs : List (Option CachedLife)). totals_at xs b) is ∙ ap totals_in (at_change places b (with_begun begun)))))
+  where
+    same : (begun : Option ℕ) (o : Option CachedLife) → (IsTrue (is_some begun) → IsTrue (is_some o)) →
+        record { pending = pending_of o; in_flight = cond (is_some begun) 1 0 } ≡ totals_in (option_map (with_begun begun) o)
+    same None None h = refl
+    same (Some n) None h = let no = h refl in cc
+    same begun (Some l) h = refl
 
 -- How many are pending after a change
 

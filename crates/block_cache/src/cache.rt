@@ -228,16 +228,18 @@ impl Cache {
         }
     }
 
-    /// Undoes in the newest bytes of a block in use the pending entries behind the first ones.
-    pub fn roll_back(&self, block: u32, count: u32, bytes: &mut [u8; 512])
+    /// Writes into `bytes` what the first pending entries of a block in use leave.
+    #[inline(always)]
+    pub fn image_into(&self, block: u32, count: u32, bytes: &mut [u8; 512])
+        requires alive { IsTrue (is_some (life_at self.now block)) }
         requires has { IfSome (life_at self.now block) (HasImage count) }
-        requires newest { IfSome (life_at self.now block) (λ l. bytes.old ≡ current l) }
         ensures { IfSome (life_at self.now block) (λ l. bytes.new ≡ image_at count l) }
     {
-        match self.places.life(block) {
-            Some(life) => rollback::roll_back(&self.entries, life.keys(), count as usize, bytes),
-            None => {}
-        }
+        let Some(life) = self.places.life(block) else {
+            unreachable!()
+        };
+        *bytes = *life.current();
+        rollback::roll_back(&self.entries, life.keys(), count as usize, bytes);
     }
 
     /// One more entry of a block in use, which leaves these bytes, and the bytes that it overwrites.

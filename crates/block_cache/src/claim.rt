@@ -1,6 +1,6 @@
 // What an entry says beside the bytes that it leaves.
 
-ghost use Rattle.std.specs.Prelude.{◌≡◌, ◌≤◌, length, IfOk};
+ghost use Rattle.std.specs.Prelude.{◌≡◌, ◌≤◌, ◌&&◌, ◌==◌, length, is_none, IfOk};
 ghost use Rattle.xn_model.specs.Lives.{is_for};
 ghost use Rattle.block_cache.specs.Claims.{first_claim};
 ghost use Rattle.block_cache.specs.Rest.{rest_adds, rest_drops, rest_after};
@@ -144,6 +144,19 @@ impl Claim {
             Rest::Nothing => None,
             Rest::After(entry) => Some(*entry),
             Rest::Lists(lists) => lists.after,
+        }
+    }
+
+    /// Whether it adds and drops no block, and comes after no entry.
+    pub fn claims_nothing(&self) -> bool
+        ensures { result ≡ (length self.now.adds == 0 && (length self.now.drops == 0 && is_none self.now.after)) }
+    {
+        match &self.rest {
+            Rest::Nothing => true,
+            Rest::After(_) => false,
+            Rest::Lists(lists) => {
+                lists.adds.is_empty() && lists.drops.is_empty() && lists.after.is_none()
+            }
         }
     }
 

@@ -225,12 +225,24 @@ impl Life {
         Ok(())
     }
 
+    /// Takes out the first keys, mostly all.
+    fn forget_keys(&mut self, count: usize)
+        requires { count ≤ length self.old.keys }
+        ensures { self.new ≡ record self.old { keys = drop count self.old.keys } }
+    {
+        if count == self.keys.len() {
+            self.keys.clear();
+        } else {
+            drop(self.keys.drain(..count));
+        }
+    }
+
     /// Makes the first entries durable.
     pub fn settle(&mut self, count: usize)
         requires { count ≤ length self.old.keys }
         ensures { self.new ≡ record self.old { is_durable = true; keys = drop count self.old.keys; begun = None } }
     {
-        drop(self.keys.drain(..count));
+        self.forget_keys(count);
         self.is_durable = true;
         self.begun = None;
     }

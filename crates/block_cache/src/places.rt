@@ -100,7 +100,7 @@ impl Places {
     {
         let before = self.lives.totals(block);
         self.lives.start(block, key, fs, ty, bytes)?;
-        self.totals.change(before, self.lives.totals(block));
+        self.totals.change(before, Totals::of_new());
         Ok(())
     }
 
@@ -111,7 +111,7 @@ impl Places {
     {
         let before = self.lives.totals(block);
         self.lives.end(block);
-        self.totals.change(before, self.lives.totals(block));
+        self.totals.change(before, Totals::of_free());
     }
 
     /// Puts one more entry of a block behind the others, which left these bytes.
@@ -124,7 +124,7 @@ impl Places {
     {
         let before = self.lives.totals(block);
         self.lives.append(block, key, bytes)?;
-        self.totals.change(before, self.lives.totals(block));
+        self.totals.change(before, before.appended());
         Ok(())
     }
 
@@ -135,7 +135,7 @@ impl Places {
     {
         let before = self.lives.totals(block);
         self.lives.settle(block, count);
-        self.totals.change(before, self.lives.totals(block));
+        self.totals.change(before, before.settled(count as usize));
     }
 
     /// Sets the status of a block in use; a free one, or one past the end, has none.
@@ -147,10 +147,11 @@ impl Places {
 
     /// Says how many entries the begun write of a block carries, or that none is under way.
     pub fn set_begun(&mut self, block: u32, begun: Option<u32>)
+        requires { IsTrue (is_some begun) → IsTrue (is_some (place_at self.old block)) }
         ensures { self.new ≡ change_place self.old block (with_begun begun) }
     {
         let before = self.lives.totals(block);
         self.lives.set_begun(block, begun);
-        self.totals.change(before, self.lives.totals(block));
+        self.totals.change(before, before.begun(begun));
     }
 }

@@ -1,6 +1,6 @@
 // What is counted of lives.
 
-ghost use Rattle.std.specs.Prelude.{◌≡◌, ◌+◌, ◌-◌, ◌^◌, ◌<◌, ◌≤◌};
+ghost use Rattle.std.specs.Prelude.{◌≡◌, ◌+◌, ◌-◌, ◌^◌, ◌<◌, ◌≤◌, cond, is_some};
 ghost use Rattle.std.specs.Option.{option_copied};
 ghost use Rattle.block_cache.specs.Totals.{pending_of, in_flight_of};
 
@@ -27,6 +27,57 @@ impl Totals {
                 pending: 0,
                 in_flight: 0,
             },
+        }
+    }
+
+    /// Those of a life that has just started.
+    pub fn of_new() -> Totals
+        ensures { result ≡ record { pending = 1; in_flight = 0 } }
+    {
+        Totals {
+            pending: 1,
+            in_flight: 0,
+        }
+    }
+
+    /// Those of a free block.
+    pub fn of_free() -> Totals
+        ensures { result ≡ record { pending = 0; in_flight = 0 } }
+    {
+        Totals {
+            pending: 0,
+            in_flight: 0,
+        }
+    }
+
+    /// Those of a life once it has one more entry.
+    pub fn appended(self) -> Totals
+        requires { self.pending + 1 < 2 ^ 64 }
+        ensures { result ≡ record self { pending = self.pending + 1 } }
+    {
+        Totals {
+            pending: self.pending + 1,
+            in_flight: self.in_flight,
+        }
+    }
+
+    /// Those of a life once its write has ended and so many entries are durable.
+    pub fn settled(self, count: usize) -> Totals
+        ensures { result ≡ record { pending = self.pending - count; in_flight = 0 } }
+    {
+        Totals {
+            pending: self.pending.saturating_sub(count),
+            in_flight: 0,
+        }
+    }
+
+    /// Those of a life once this is the count of its begun write.
+    pub fn begun(self, begun: Option<u32>) -> Totals
+        ensures { result ≡ record self { in_flight = cond (is_some begun) 1 0 } }
+    {
+        Totals {
+            pending: self.pending,
+            in_flight: usize::from(begun.is_some()),
         }
     }
 

@@ -16,3 +16,6 @@ fewer_members old new b least now =
     let counts = sum_by-set {X = Bool} (λ t. cond (is_member t) 1 0) old b false false at.0 in
     let one : cond (get_or old b false) 1 0 ≡ 1 = ap {B = ℕ} (λ (t : Bool). cond t 1 0) at.1 in
     omega (arith, counts, one, ap (count_by is_member) now)
+
+pub no_least : (members : List Bool) (b : ℕ) → count_by is_member members ≡ 0 → position is_member members ≡ Some b → ⊥
+no_least members b none least = absurd (omega (arith, fewer_members members (slice_set members b false) b least refl, none))

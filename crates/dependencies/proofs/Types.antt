@@ -1,6 +1,6 @@
 -- The types of the blocks that an entry adds.
-use Rattle.std.proofs.Common.{◌≡◌, ℕ, zero, suc, ◌≢◌, Bool, true, false, List, [], ◌∷◌, ◌++◌, take, drop, Option, Some, None, refl, sym, ◌∙◌, ap, inl, inr, subst, slice_get}
-use Rattle.std.specs.Prelude.{◌&&◌, ◌||◌, ◌==◌, Contains, option_map}
+use Rattle.std.proofs.Common.{◌≡◌, ℕ, zero, suc, ◌≢◌, Bool, true, false, List, [], ◌∷◌, ◌++◌, length, take, drop, Option, Some, None, refl, sym, ◌∙◌, ap, arith, inl, inr, subst, slice_get}
+use Rattle.std.specs.Prelude.{◌&&◌, ◌||◌, ◌==◌, Contains, is_none, option_map}
 use Rattle.std.specs.List.{list_all, list_any}
 use Rattle.std.proofs.lemmas.Bool.{cases_eq, eq-eqb, ne_eqb}
 use Rattle.std.proofs.lemmas.Option.{none-some, same_Some}
@@ -66,3 +66,23 @@ safe_if_met lives b k claim finds there =
     ap (λ t. (list_all (λ (p : ℕ × ℕ). has_durable lives p.0) claim.adds && t) && (list_all (is_all_durable lives) claim.drops && is_after_met lives (first_pending k o) claim.after))
     (types_met lives b k claim finds (sym there))
     ∙ ap (is_some_safe lives (life_type o) (first_pending k o)) there
+
+-- an entry that claims nothing waits for nothing
+pub nothing_met : (lives : Lives) (b : ℕ) (earlier : List BlockState) (claim : ClaimValue) →
+    true ≡ (length claim.adds == 0 && (length claim.drops == 0 && is_none claim.after)) → true ≡ is_claim_met lives b earlier claim
+nothing_met lives b earlier claim nothing = of_parts claim.adds claim.drops claim.after nothing
+  where
+    either : (t : Bool) → true ≡ (t || true)
+    either true = refl
+    either false = refl
+
+    more : (n : ℕ) → (suc n == 0) ≡ false
+    more n = ne_eqb (suc n) 0 (λ e. absurd (omega (arith, e)))
+
+    of_parts : (adds : List (ℕ × ℕ)) (drops : List ℕ) (after : Option ℕ) → true ≡ (length adds == 0 && (length drops == 0 && is_none after)) →
+        true ≡ ((list_all (λ (p : ℕ × ℕ). has_durable lives p.0) adds && (b == 0 || list_all (λ (p : ℕ × ℕ). has_type (root_on_disk lives) p.1) adds))
+        && (list_all (is_all_durable lives) drops && is_after_met lives earlier after))
+    of_parts [] [] None e = ap (λ t. (true && t) && (true && true)) (either (b == 0))
+    of_parts [] [] (Some n) e = cc
+    of_parts [] (d ∷ ds) after e = let some = more (length ds) in let no = e ∙ ap (λ t. true && (t && is_none after)) some in cc
+    of_parts (p ∷ ps) drops after e = let some = more (length ps) in let no = e ∙ ap (λ t. t && (length drops == 0 && is_none after)) some in cc

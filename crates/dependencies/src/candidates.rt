@@ -54,6 +54,7 @@ impl Candidates {
     }
 
     /// Makes a block a candidate, or takes it out.
+    #[inline(always)]
     pub fn set(&mut self, block: u32, is_candidate: bool)
         ensures { self.new ≡ with_candidate self.old block is_candidate }
     {
@@ -76,6 +77,7 @@ impl Candidates {
     }
 
     /// Makes candidates of the blocks that wait for another one.
+    #[inline(always)]
     pub fn wake(&mut self, other: u32)
         ensures { Wakes self.old self.new other }
     {
@@ -116,7 +118,7 @@ impl Candidates {
     }
 
     /// Takes candidates out, from the least on, as long as their first entries wait for other blocks.
-    pub fn trim(&mut self, cache: &Cache, dirty: &BlockSet, homes: &Homes)
+    fn park_all(&mut self, cache: &Cache, dirty: &BlockSet, homes: &Homes)
         requires dirty { dirty.now ≡ map is_dirty cache.now }
         requires homes { AreHomes cache.now homes.now }
         requires candidates { AreCandidates cache.now self.old }
@@ -124,6 +126,20 @@ impl Candidates {
         ensures trimmed { IsTrimmed cache.now self.new }
     {
         while self.park_least(cache, dirty, homes) {}
+    }
+
+    /// The same, where there is a candidate at all.
+    #[inline(always)]
+    pub fn trim(&mut self, cache: &Cache, dirty: &BlockSet, homes: &Homes)
+        requires dirty { dirty.now ≡ map is_dirty cache.now }
+        requires homes { AreHomes cache.now homes.now }
+        requires candidates { AreCandidates cache.now self.old }
+        ensures kept { AreCandidates cache.now self.new }
+        ensures trimmed { IsTrimmed cache.now self.new }
+    {
+        if self.blocks.count() > 0 {
+            self.park_all(cache, dirty, homes);
+        }
     }
 }
 

@@ -14,6 +14,6 @@ mod waiting;
 pub use candidates::Candidates;
 pub use floors::least_for;
 pub use homes::Homes;
-pub use oldest::{first_system, home_for, move_on, note_number};
+pub use oldest::{home_for, move_on, note_number};
 pub use prefix::{is_tainted, safe_prefix};
 pub use ready::{is_ready, pick};

@@ -1,14 +1,11 @@
 // From which number on the pending entries of a file system lie.
 
 ghost use Rattle.std.specs.Prelude.{◌≡◌, ◌+◌, ◌-◌, ◌^◌, ◌<◌, ◌≤◌, ℕ, length, min, true, false, option_map, slice_get, IfSome, IfNone, IsTrue};
-ghost use Rattle.std.specs.Option.{option_and_then};
 ghost use Rattle.xn_model.specs.Lives.{life_at};
-ghost use Rattle.block_cache.specs.Systems.{system_of};
 ghost use Rattle.block_cache.specs.Claims.{claim_of};
 ghost use Rattle.block_cache.specs.Views.{pending_at};
 ghost use Rattle.dependencies.specs.Homes.{AreHomes, home_of};
 ghost use Rattle.dependencies.specs.Oldest.{AreOldest, MayPend, MovesOn, is_number_for, pends_for, with_entry};
-ghost use Rattle.dependencies.specs.Waiting.{first_of};
 
 use crate::homes::Homes;
 use block_cache::{Cache, Fs};
@@ -101,12 +98,4 @@ pub fn move_on(oldest: &mut [u64; 32], cache: &Cache, homes: &Homes, fs: Option<
         let place = fs.index();
         oldest[place] = next_pending(cache, homes, fs, oldest[place]);
     }
-}
-
-/// The file system of the oldest pending entry of a block: `None` where nothing is pending, or that entry is nobody's.
-pub fn first_system(cache: &Cache, block: u32) -> Option<Fs>
-    ensures { system_of result ≡ option_and_then (λ c. c.fs) (first_of (life_at cache.now block)) }
-{
-    let claim = cache.claim(block, 0)?;
-    claim.fs()
 }

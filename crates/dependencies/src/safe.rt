@@ -65,11 +65,11 @@ fn are_all_durable(cache: &Cache, drops: &[u32]) -> bool
     drops.iter().all(|block| is_all_durable(cache, *block))
 }
 
-/// Whether an entry of a block may be written, behind the first ones of that block. Each block that it adds has to have some
+/// Whether what an entry of a block claims is met, behind the first ones of that block. Each block that it adds has to have some
 /// state on the disk (never point to a structure before it has been initialised) and a type that is installed there, each
 /// block that it drops its newest one (never reuse a resource before all pointers to it are gone), and the entry that it comes
 /// after has to be there or to go with it. These are the rules of soft updates, kept for each entry.
-fn is_claim_safe(
+fn is_claim_met(
     cache: &Cache,
     dirty: &BlockSet,
     homes: &Homes,
@@ -86,7 +86,26 @@ fn is_claim_safe(
         && is_after_met(cache, dirty, homes, block, earlier, claim.after())
 }
 
+/// Whether an entry of a block may be written, behind the first ones of that block: mostly it claims nothing.
+#[inline(always)]
+#[tactic(auto, using(crate::proofs::Types::nothing_met))]
+fn is_claim_safe(
+    cache: &Cache,
+    dirty: &BlockSet,
+    homes: &Homes,
+    block: u32,
+    earlier: usize,
+    claim: &Claim,
+) -> bool
+    requires dirty { dirty.now ≡ map is_dirty cache.now }
+    requires homes { AreHomes cache.now homes.now }
+    ensures { result ≡ is_claim_met cache.now block (first_pending earlier (life_at cache.now block)) claim.now }
+{
+    claim.claims_nothing() || is_claim_met(cache, dirty, homes, block, earlier, claim)
+}
+
 /// Whether the pending entry at a place of a block may be written, once those before it are.
+#[inline(always)]
 pub fn is_safe_at(cache: &Cache, dirty: &BlockSet, homes: &Homes, block: u32, place: usize) -> bool
     requires dirty { dirty.now ≡ map is_dirty cache.now }
     requires homes { AreHomes cache.now homes.now }

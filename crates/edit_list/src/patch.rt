@@ -1,6 +1,6 @@
 // A patch of a block's bytes.
 
-ghost use Rattle.std.specs.Prelude.{◌≡◌, IsTrue};
+ghost use Rattle.std.specs.Prelude.{◌≡◌, ◌≤◌, ◌↔◌, length, IsTrue};
 ghost use Rattle.xn_model.specs.Lists.{put};
 ghost use Rattle.xn_model.specs.Calls.{is_patch};
 ghost use Rattle.edit_list.specs.Undo.{undo_at};
@@ -39,6 +39,13 @@ impl Patch {
     {
         let length = self.bytes.len();
         0 < length && length <= 512 && usize::from(self.offset) + length <= 512
+    }
+
+    /// Whether it has at most 16 bytes.
+    pub(crate) fn is_short(&self) -> bool
+        ensures { IsTrue result ↔ (length self.now.bytes ≤ 16) }
+    {
+        self.bytes.len() <= 16
     }
 
     /// Writes its bytes into a block.

@@ -1,6 +1,6 @@
 -- A state once a template is installed.
 use Rattle.std.proofs.Common.{◌≡◌, ℕ, ◌+◌, ◌<◌, true, List, length, Option, Some, None, Ok, refl, sym, ◌∙◌, ap, arith, slice_set, subst}
-use Rattle.std.specs.Prelude.{IsTrue, is_some}
+use Rattle.std.specs.Prelude.{is_some}
 use Rattle.std.proofs.lemmas.Option.{none-some, same_Some}
 use Rattle.xn_model.specs.Types.{Types}
 use Rattle.xn_model.specs.Languages.{Extends}
@@ -22,7 +22,6 @@ use Rattle.claims.proofs.ForCallers.{accepted_decided, started_decided}
 use Rattle.xn_state.specs.Installs.{install_places, installed_lives, naming}
 use Rattle.xn_state.specs.States.{IsStateOf, own_types}
 use Rattle.xn_state.proofs.Installing.{begun, root_stays}
-use Rattle.xn_state.proofs.Keeping.{state_of}
 use Rattle.xn_state.proofs.Planning.{block_is, good_template, place_is}
 
 -- what decides the owned blocks of living blocks does so under more types

@@ -1,5 +1,5 @@
 -- The lives between the two entries of an installation.
-use Rattle.std.proofs.Common.{◌≡◌, ◌≢◌, ℕ, ◌+◌, ◌<◌, ◌≤◌, false, true, List, length, get_or, Option, Some, None, refl, sym, ◌∙◌, ap, arith, inl, inr, slice_get}
+use Rattle.std.proofs.Common.{◌≡◌, ◌≢◌, ℕ, ◌+◌, ◌≤◌, false, true, List, Some, None, sym, ◌∙◌, ap, arith, inl, inr}
 use Rattle.std.specs.Prelude.{◌||◌, is_some, slice_set, unwrap_or}
 use Rattle.std.proofs.lemmas.Bool.{cases_eq, false≢true, ne_eqb}
 use Rattle.std.proofs.lemmas.Option.{slice_get_within}

@@ -1,6 +1,6 @@
 // What is counted of the entries of a block, and whether there are any.
 
-ghost use Rattle.std.specs.Prelude.{◌≡◌, ℕ, ◌+◌, ◌<◌, ◌≤◌, IfSome, Some, count_by, slice_index, slice_set};
+ghost use Rattle.std.specs.Prelude.{◌≡◌, ℕ, ◌+◌, ◌<◌, ◌≤◌, [], false, IfSome, Some, count_by, slice_index, slice_set};
 ghost use Rattle.std.specs.Option.{option_copied};
 ghost use Rattle.xn_model.specs.Lives.{drops_of, is_for, life_at};
 ghost use Rattle.xn_model.specs.Calls.{first_pending, life_pending};
@@ -14,28 +14,28 @@ use dependencies::note_number;
 use edit_list::Fs;
 use free_map::FreeMap;
 
-/// Takes the first entries of a block out of the counts.
-pub fn discount(pending: &mut [u32; 32], cache: &Cache, block: u32, count: usize)
+/// Takes the first entries of a block out of the counts. Answers for which file system the last of them counted, of which no
+/// contract speaks: only what is looked at next depends on it.
+pub fn discount(pending: &mut [u32; 32], cache: &Cache, block: u32, count: usize) -> Option<Fs>
     requires within { count ≤ life_pending (life_at cache.now block) }
     requires counted { (fs : ℕ) → fs < 32 → count_by (λ s. is_for fs s.fs) (first_pending count (life_at cache.now block)) ≤ slice_index pending.old fs }
     ensures { (fs : ℕ) → fs < 32 → slice_index pending.new fs + count_by (λ s. is_for fs s.fs) (first_pending count (life_at cache.now block)) ≡ slice_index pending.old fs }
 {
+    let mut fs = None;
     for place in 0..count {
-        discount_one(pending, cache.claim(block, place));
+        fs = discount_one(pending, cache.claim(block, place));
     }
+    fs
 }
 
-/// Takes an entry out of the counts.
-fn discount_one(pending: &mut [u32; 32], claim: Option<&Claim>)
+/// Takes an entry out of the counts. Answers for which file system it counted.
+fn discount_one(pending: &mut [u32; 32], claim: Option<&Claim>) -> Option<Fs>
     requires { (fs : ℕ) → fs < 32 → claim_count fs (option_copied claim) ≤ slice_index pending.old fs }
     ensures { (fs : ℕ) → fs < 32 → slice_index pending.new fs + claim_count fs (option_copied claim.entry) ≡ slice_index pending.old fs }
 {
-    let Some(claim) = claim else {
-        return;
-    };
-    if let Some(fs) = claim.fs() {
-        pending[fs.index()] -= 1;
-    }
+    let fs = claim?.fs()?;
+    pending[fs.index()] -= 1;
+    Some(fs)
 }
 
 /// Counts a new entry of this number, where it is a file system's, and notes it.
@@ -60,23 +60,54 @@ pub fn with_pending(pending: &[u32; 32], fs: Option<Fs>) -> Option<Fs> {
     }
 }
 
-/// Frees the blocks that the first entries of a block drop.
-pub fn give_drops(free: &mut FreeMap, cache: &Cache, block: u32, count: usize)
-    requires { count ≤ life_pending (life_at cache.now block) }
-    ensures { free.new ≡ given free.old (drops_of (first_pending count (life_at cache.now block))) }
-{
-    for place in 0..count {
-        give_each(free, cache.claim(block, place));
-    }
+/// What was taken out of the counts: the file system for which the last entry counted, and whether some entry drops a block.
+#[derive(Clone, Copy)]
+pub struct TakenOut {
+    pub fs: Option<Fs>,
+    pub has_drops: bool,
 }
 
-/// Frees the blocks that an entry drops.
-fn give_each(free: &mut FreeMap, claim: Option<&Claim>)
-    ensures { free.new ≡ given free.old (claim_drops (option_copied claim.entry)) }
+/// Takes the first entries of a block out of the counts, and frees the blocks that they drop.
+#[inline(always)]
+pub fn take_out(
+    pending: &mut [u32; 32],
+    free: &mut FreeMap,
+    cache: &Cache,
+    block: u32,
+    count: usize,
+) -> TakenOut
+    requires within { count ≤ life_pending (life_at cache.now block) }
+    requires counted { (fs : ℕ) → fs < 32 → count_by (λ s. is_for fs s.fs) (first_pending count (life_at cache.now block)) ≤ slice_index pending.old fs }
+    ensures pending { (fs : ℕ) → fs < 32 → slice_index pending.new fs + count_by (λ s. is_for fs s.fs) (first_pending count (life_at cache.now block)) ≡ slice_index pending.old fs }
+    ensures free { free.new ≡ given free.old (drops_of (first_pending count (life_at cache.now block))) }
+    ensures drops { result.has_drops ≡ false → drops_of (first_pending count (life_at cache.now block)) ≡ [] }
 {
-    if let Some(claim) = claim {
-        give_blocks(free, claim.drops());
+    let mut taken = TakenOut {
+        fs: None,
+        has_drops: false,
+    };
+    for place in 0..count {
+        let claim = cache.claim(block, place);
+        taken.fs = discount_one(pending, claim);
+        let has_drops = give_each(free, claim);
+        taken.has_drops |= has_drops;
     }
+    taken
+}
+
+/// Frees the blocks that an entry drops. Answers whether there are any.
+fn give_each(free: &mut FreeMap, claim: Option<&Claim>) -> bool
+    ensures free { free.new ≡ given free.old (claim_drops (option_copied claim.entry)) }
+    ensures drops { result ≡ false → claim_drops (option_copied claim.entry) ≡ [] }
+{
+    let Some(claim) = claim else {
+        return false;
+    };
+    if claim.drops().is_empty() {
+        return false;
+    }
+    give_blocks(free, claim.drops());
+    true
 }
 
 /// Frees some blocks.
@@ -89,6 +120,7 @@ fn give_blocks(free: &mut FreeMap, blocks: &[u32])
 }
 
 /// Notes whether something is pending for a block. Past the end there is none.
+#[inline(always)]
 pub fn mark(dirty: &mut BlockSet, block: u32, is_dirty: bool)
     ensures { dirty.new ≡ slice_set dirty.old block is_dirty }
 {

@@ -6,7 +6,7 @@ ghost use Rattle.xn_state.specs.Kept.{IsUnowned};
 
 use crate::counts::{discount, mark, with_pending};
 use crate::lives::Lives;
-use dependencies::{first_system, move_on};
+use dependencies::move_on;
 
 impl Lives {
     /// Ends the life of a block that no other owns, and with it what is pending there: the block is free. One that is free stays so.
@@ -14,9 +14,8 @@ impl Lives {
         requires { IsUnowned (life_at self.old block) }
         ensures { self.new ≡ slice_set self.old block None }
     {
-        let fs = first_system(&self.cache, block);
         let count = self.cache.pending(block);
-        discount(&mut self.pending, &self.cache, block, count);
+        let fs = discount(&mut self.pending, &self.cache, block, count);
         self.cache.end(block);
         self.free.give(block);
         mark(&mut self.dirty, block, false);

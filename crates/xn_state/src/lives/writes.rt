@@ -1,6 +1,6 @@
 // The writes of blocks.
 
-ghost use Rattle.std.specs.Prelude.{◌≡◌, ◌<◌, ◌≤◌, IfOk, IfSome, bytes_eq, length, slice_get};
+ghost use Rattle.std.specs.Prelude.{◌≡◌, ◌≢◌, ◌<◌, ◌≤◌, [], false, All, IfOk, IfSome, bytes_eq, length, slice_get};
 ghost use Rattle.xn_model.specs.Lives.{alive_and, begun_at, drops_of, freed, life_at, settled_at};
 ghost use Rattle.xn_model.specs.Results.{result_map};
 ghost use Rattle.xn_model.specs.Calls.{begun_place, first_pending, is_durable, life_pending, settled_place};
@@ -8,9 +8,10 @@ ghost use Rattle.block_cache.specs.Views.{HasImage, image_at};
 ghost use Rattle.dependencies.specs.Typed.{FindsTypes};
 ghost use Rattle.xn_state.specs.Kept.{MayFree};
 
-use crate::counts::{discount, give_drops, mark, with_pending};
+use crate::counts::{mark, take_out, with_pending};
 use crate::lives::Lives;
-use dependencies::{first_system, move_on, safe_prefix};
+use block_cache::Cache;
+use dependencies::{move_on, safe_prefix};
 use xn_model::Refusal;
 
 impl Lives {
@@ -43,14 +44,11 @@ impl Lives {
         requires within { count ≤ life_pending (life_at self.now block) }
         ensures { IfSome (life_at self.now block) (λ l. bytes.new ≡ image_at count l) }
     {
-        let Some(newest) = self.cache.current(block) else {
-            unreachable!()
-        };
-        *bytes = *newest;
-        self.cache.roll_back(block, count, bytes);
+        self.cache.image_into(block, count, bytes);
     }
 
     /// Whether a block in use has these bytes once only its first pending entries are done.
+    #[inline(always)]
     fn has_image(&self, block: u32, count: u32, bytes: &[u8; 512]) -> bool
         requires { IfSome (life_at self.now block) (HasImage count) }
         ensures { result ≡ alive_and (λ l. bytes_eq bytes.now (image_at count l)) (life_at self.now block) }
@@ -93,6 +91,7 @@ impl Lives {
     }
 
     /// Begins a write of a block that carries its first entries.
+    #[inline(always)]
     pub fn begin(&mut self, block: u32, count: u32)
         requires some { 1 ≤ count }
         requires within { count ≤ life_pending (life_at self.old block) }
@@ -112,17 +111,39 @@ impl Lives {
         ensures lives { self.new ≡ freed (settled_at self.old block count) (drops_of (first_pending count (life_at self.old block))) }
         ensures count { result ≡ length (drops_of (first_pending count (life_at self.old block))) }
     {
-        let fs = first_system(&self.cache, block);
-        discount(&mut self.pending, &self.cache, block, count as usize);
-        give_drops(&mut self.free, &self.cache, block, count as usize);
+        let taken = take_out(
+            &mut self.pending,
+            &mut self.free,
+            &self.cache,
+            block,
+            count as usize,
+        );
         let left = self.cache.pending(block) - count as usize;
         mark(&mut self.dirty, block, left > 0);
         self.candidates.wake(block);
         self.candidates.set(block, left > 0);
-        let freed = self.cache.settle_and_free(block, count);
+        let freed = end_write(&mut self.cache, block, count, taken.has_drops);
         self.candidates.trim(&self.cache, &self.dirty, &self.homes);
-        let fs = with_pending(&self.pending, fs);
+        let fs = with_pending(&self.pending, taken.fs);
         move_on(&mut self.oldest, &self.cache, &self.homes, fs);
         freed
     }
+}
+
+/// Ends a write of a block that made its first entries durable, and the lives of the blocks that these drop, if there are any.
+/// Answers how many these are.
+#[inline(always)]
+fn end_write(cache: &mut Cache, block: u32, count: u32, has_drops: bool) -> u32
+    requires within { count ≤ life_pending (life_at cache.old block) }
+    requires few { count ≤ 64 }
+    requires apart { All (λ c. c ≢ block) (drops_of (first_pending count (life_at cache.old block))) }
+    requires drops { has_drops ≡ false → drops_of (first_pending count (life_at cache.old block)) ≡ [] }
+    ensures freed { result ≡ length (drops_of (first_pending count (life_at cache.old block))) }
+    ensures lives { cache.new ≡ freed (settled_at cache.old block count) (drops_of (first_pending count (life_at cache.old block))) }
+{
+    if has_drops {
+        return cache.settle_and_free(block, count);
+    }
+    cache.settle(block, count);
+    0
 }

@@ -68,7 +68,16 @@ impl State {
     }
 
     /// Whether each of these blocks may be added, and none stands twice.
+    #[inline(always)]
     fn may_add_all(&self, fs: Fs, adds: &[(u32, u32)]) -> bool
+        requires { length adds.now ≤ 128 }
+        ensures { result ≡ (list_all (may_add self.now fs.number) adds.now && distinct (blocks_of adds.now)) }
+    {
+        adds.is_empty() || self.may_add_listed(fs, adds)
+    }
+
+    /// The same, where there are some.
+    fn may_add_listed(&self, fs: Fs, adds: &[(u32, u32)]) -> bool
         requires { length adds.now ≤ 128 }
         ensures { result ≡ (list_all (may_add self.now fs.number) adds.now && distinct (blocks_of adds.now)) }
     {
@@ -90,13 +99,22 @@ impl State {
     }
 
     /// Whether each of these blocks may be dropped, and none stands twice.
+    #[inline(always)]
     fn may_drop_all(&self, owner: u32, drops: &[u32]) -> bool
+        ensures { result ≡ (list_all (may_drop self.now owner) drops.now && distinct drops.now) }
+    {
+        drops.is_empty() || self.may_drop_listed(owner, drops)
+    }
+
+    /// The same, where there are some.
+    fn may_drop_listed(&self, owner: u32, drops: &[u32]) -> bool
         ensures { result ≡ (list_all (may_drop self.now owner) drops.now && distinct drops.now) }
     {
         self.may_drop_each(owner, drops) && are_distinct(drops)
     }
 
     /// Whether each of these blocks is in use and points to no other.
+    #[inline(always)]
     fn are_empty(&self, blocks: &[u32]) -> bool
         ensures { result ≡ list_all (is_empty (own_types self.now) self.now) blocks.now }
     {
@@ -146,6 +164,7 @@ impl State {
 
     /// The chunks that decide what a block owns that an edit leaves, or the first of the last two refusals that applies. A block of data may
     /// have any bytes and owns nothing, so an edit of it that claims nothing takes no look at them, and the chunks stay unknown.
+    #[inline(always)]
     fn left_by(
         &self,
         block: u32,
@@ -165,6 +184,25 @@ impl State {
             self.keeps_rules();
             return Ok(None);
         }
+        self.left_by_run(block, ty, old, edit)
+    }
+
+    /// The same, by runs of the programs.
+    fn left_by_run(
+        &self,
+        block: u32,
+        ty: u32,
+        old: &[u8; 512],
+        edit: &Edit,
+    ) -> Result<Option<ReadSet>, Refusal>
+        requires alive { IsTrue (is_some (life_at self.now.lives block)) }
+        requires installed { IsTrue ((own_types self.now).installed ty) }
+        requires newest { newest_at self.now.lives block ≡ Some (ty, old.now) }
+        requires limits { IsTrue (within_limits edit.now) }
+        ensures plan { result_map (λ reads. patched old.now edit.now.patches) result
+            ≡ unless (first_refusal (last_tests (own_types self.now) self.now block edit.now ty (patched old.now edit.now.patches))) (Ok (patched old.now edit.now.patches)) }
+        ensures reads { IfOk result (λ reads. IfSome reads (λ set. DecidesOwned (own_types self.now) ty (patched old.now edit.now.patches) set.chunks)) }
+    {
         let mut bytes = *old;
         edit.apply(&mut bytes);
         let Some(reads) = self.claimed(block, ty, &bytes, edit) else {

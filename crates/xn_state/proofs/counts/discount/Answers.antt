@@ -5,8 +5,8 @@ use Rattle.dependencies.specs.Pending.{claim_count}
 use Rattle.dependencies.proofs.ForCallers.{counts_more, counts_within}
 use Rattle.xn_state.proofs.counts.discount.Goals as goal
 
-pub discount_one-requires : goal.discount_one-requires
-discount_one-requires c =
+pub discount_one-fs-requires : goal.discount_one-fs-requires
+discount_one-fs-requires c =
     let o = life_at c.args.cache.now c.args.block in
     λ fs few. omega (
       arith,
@@ -25,5 +25,5 @@ loop-place-preserved c =
       ap (claim_count fs) c.claim.ensures,
       counts_more fs c.loop-place.place o within,
       c.loop-place.invariant fs few,
-      c.discount_one.ensures fs few,
+      c.discount_one-fs.ensures fs few,
     )

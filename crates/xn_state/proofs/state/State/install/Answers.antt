@@ -1,4 +1,4 @@
-use Rattle.std.proofs.Common.{◌≡◌, ◌∙◌, ◌+◌, ◌-◌, ◌<◌, ◌^◌, Err, None, Ok, Some, ap, arith, inl, length, refl, slice_set, subst, sym}
+use Rattle.std.proofs.Common.{◌≡◌, ◌∙◌, ◌+◌, ◌-◌, Err, None, Ok, Some, ap, arith, inl, refl, slice_set, subst, sym}
 use Rattle.std.specs.Prelude.{is_some}
 use Rattle.std.proofs.lemmas.Option.{slice_get_within}
 use Rattle.std.proofs.lemmas.Result.{err_from_is_err_and}
@@ -6,12 +6,11 @@ use Rattle.xn_model.specs.Lives.{Lives, StoreState}
 use Rattle.xn_model.specs.declared.refusal.Refusal.TheVariants.{NoMemory}
 use Rattle.xn_model.specs.Results.{Gives}
 use Rattle.xn_model.specs.Root.{with_pointer}
-use Rattle.xn_model.specs.Calls.{install_at, install_of, latest, root_now}
+use Rattle.xn_model.specs.Calls.{install_of, latest, root_now}
 use Rattle.xn_model.proofs.ForCallers as model
 use Rattle.templates.specs.Language.{language}
 use Rattle.templates.proofs.ForCallers.{language_ok, none_there}
-use Rattle.claims.proofs.ForCallers.{alive_place}
-use Rattle.xn_state.specs.Installs.{install_places, installed_lives, installed_of}
+use Rattle.xn_state.specs.Installs.{install_places, installed_lives}
 use Rattle.xn_state.specs.States.{IsStateOf, own_types}
 use Rattle.xn_state.proofs.Counting.{least_is_free}
 use Rattle.xn_state.proofs.Extended.{done, is_state, left}

@@ -1,5 +1,3 @@
-use Rattle.std.proofs.Common.{◌≡◌, inl, inr}
-use Rattle.templates.proofs.ForCallers.{language_ok}
 use Rattle.xn_state.proofs.Planning.{fault_refused}
 use Rattle.xn_state.proofs.state.State.read_template.Goals as goal
 

@@ -1,7 +1,7 @@
 use Rattle.std.proofs.Common.{ℕ, List, ap, arith, length}
 use Rattle.edit_list.proofs.Undoing.{length-there, patch_at}
 use Rattle.edit_list.proofs.Totals.{bytes_in, pieces_fit}
-use Rattle.edit_list.proofs.patches.undo_of.Goals as goal
+use Rattle.edit_list.proofs.patches.undo_of_any.Goals as goal
 
 pub push-requires-clause-short : goal.push-requires-clause-short
 push-requires-clause-short c =

@@ -1,7 +1,7 @@
 use Rattle.std.specs.Prelude.{count_by}
 use Rattle.block_set.specs.Members.{is_member}
 use Rattle.dependencies.specs.Candidates.{AreCandidates}
-use Rattle.dependencies.proofs.candidates.Candidates.trim.Given as goal
+use Rattle.dependencies.proofs.candidates.Candidates.park_all.Given as goal
 
 abbrev pub invariant-loop : goal.invariant-loop
 invariant-loop l = AreCandidates l.cache l.self
