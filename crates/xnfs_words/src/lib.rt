@@ -1,6 +1,7 @@
 //! The words of a command line of `xnfs`, and of the lines of its shell.
 #![tactic(auto)]
 
+mod forms;
 mod reader;
 mod request;
 mod splitting;
