@@ -17,10 +17,6 @@ part_cut xs from cut to low high =
     ∙ (sym (take-append-drop a (take (a + b) ys))
     ∙ (λ i. take-take a (a + b) ys (omega arith) i ++ (drop-take a b ys ∙ ap (take b) (drop-drop a from xs ∙ ap (λ k. drop k xs) at)) i)))
 
--- the last part is all that is left
-pub part_last : {A : Type 0} (xs : List A) (from to : ℕ) → to ≡ length xs → part xs from to ≡ drop from xs
-part_last xs from to e = take_all (to - from) (drop from xs) (let l = length-drop from xs in omega (arith, l, e))
-
 module _ {X A B : Type 0} (view : A → B) (f : X → B) (xs : List X) where
   -- one part behind another
   pub parts_joined : {E Z : Type 0} (from cut to : ℕ) → from ≤ cut → cut ≤ to → (r front back : Result (Vec A Z) E)

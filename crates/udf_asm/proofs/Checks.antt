@@ -114,9 +114,6 @@ line_of_small words count fault h = by_length (nat_lt 127 (length words)) refl h
 pub all_kept : (all words : List Word) → length all ≤ 127 → words ≡ take 127 all → words ≡ all
 all_kept all words h e = e ∙ take_all 127 all h
 
-pub too_long : (all : List Word) → 127 < length all → structure_of all ≡ Err TooLong
-too_long all h = ap (λ t. cond t (Err TooLong) (structure_from 0 all (place [] false))) (lt-ltb 127 (length all) h)
-
 short : (all : List Word) → structure_of all ≡ Ok (tt {0}) → length all ≤ 127
 short all h = by_length (nat_lt 127 (length all)) refl h
   where

@@ -88,11 +88,6 @@ pub line_fault : (text rest line more : List ℕ) (count : ℕ) (words : List Wo
 line_fault text rest line more count words kind r e h =
     sym (sym (ap (after_words r.all) (ap (lines_read (count + 1)) e ∙ next_lines (count + 1) line more ∙ ap (λ w. at_line (count + 1) w >>= (λ x. with_word x (lines_read (count + 1 + 1) (slice_split is_newline more)))) h)) ∙ r.read)
 
--- what is left has no newline
-pub last_fault : (text rest line : List ℕ) (count : ℕ) (words : List Word) → AreRead text rest count words → slice_split is_newline rest ≡ line ∷ [] → 0 < length line → lines_read 1 (slice_split is_newline text) ≡ Err (record { line = count + 1; kind = BadLine })
-last_fault text rest [] count words r e h = absurd (omega arith)
-last_fault text rest (byte ∷ line) count words r e h = sym (sym (ap (λ parts. after_words r.all (lines_read (count + 1) parts)) e) ∙ r.read)
-
 not_empty : (byte : ℕ) (rest : List ℕ) → (length (byte ∷ rest) == 0) ≡ true → ⊥
 not_empty byte rest h = let n = eqb-true (length (byte ∷ rest)) 0 h in absurd (omega arith)
 

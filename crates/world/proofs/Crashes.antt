@@ -51,15 +51,3 @@ rests_left image kept = ext_get_or [] (left (world_with (down_value image)) kept
     never_given [] b = refl
     never_given (m ∷ image) zero = refl
     never_given (m ∷ image) (suc b) = never_given image b
-
--- while a world is down nothing is done
-pub down_stays : (blocks : List (List ℕ)) (e : Event) → IsNoCrash e → model.Step (world_with (down_value blocks)) (event_of e) Down (world_with (down_value blocks))
-down_stays blocks (event.Call fs call) other = inl (refl, refl)
-down_stays blocks (event.Install bytes) other = inl (refl, refl)
-down_stays blocks (event.Begin b) other = inl (refl, refl)
-down_stays blocks (event.Land b) other = inl (refl, refl)
-down_stays blocks (event.Fail b stays) other = inl (refl, refl)
-down_stays blocks (event.Sync b) other = inl (refl, refl)
-down_stays blocks (event.FailSync b) other = inl (refl, refl)
-down_stays blocks (event.Finish b) other = inl (refl, refl)
-down_stays blocks (event.Crash kept) other = absurd (false≢true (sym other))

@@ -25,9 +25,6 @@ pub record CrashedTo (kept : List ℕ) (old new : Lanes) (n : ℕ) : Type 0 wher
   pub before : (c : ℕ) → c < n → lane_at new c ≡ option_map (λ lane. crashed lane (has_number kept c)) (lane_at old c)
   pub behind : (c : ℕ) → n ≤ c → lane_at new c ≡ lane_at old c
 
-pub none_crashed : (kept : List ℕ) (lanes : Lanes) → CrashedTo kept lanes lanes 0
-none_crashed kept lanes = record { count = refl; before = λ c lt. absurd (omega arith); behind = λ c le. refl }
-
 pub one_crashed : (kept : List ℕ) (old mid new : Lanes) (b : ℕ) (test : Bool) → b < length mid → test ≡ has_number kept b → CrashedTo kept old mid b →
     new ≡ slice_set mid b (option_map (λ lane. crashed lane test) (lane_at mid b)) → CrashedTo kept old new (b + 1)
 one_crashed kept old mid new b test within is so next =

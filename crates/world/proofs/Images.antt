@@ -97,11 +97,3 @@ pub block_of-home : (lanes : Lanes) (tickets : Tickets) (b : ℕ) (lane : Memory
 block_of-home lanes tickets b lane at = known_of-here (λ lane. lane.bytes) [] lanes tickets b lane at
 
 -- Blocks one after another
-
-joined-append : (xs ys : List (List ℕ)) → joined (xs ++ ys) ≡ joined xs ++ joined ys
-joined-append [] ys = refl
-joined-append (x ∷ xs) ys = ap (λ zs. x ++ zs) (joined-append xs ys) ∙ sym (append_assoc x (joined xs) (joined ys))
-
-pub joined-more : (blocks : List (List ℕ)) (k : ℕ) → k < length blocks → joined (take (k + 1) blocks) ≡ joined (take k blocks) ++ block_of blocks k
-joined-more blocks k within =
-    ap joined (take_more blocks k [] within) ∙ (joined-append (take k blocks) (block_of blocks k ∷ []) ∙ ap (λ ys. joined (take k blocks) ++ ys) (append-nil (block_of blocks k)))

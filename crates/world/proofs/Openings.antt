@@ -103,19 +103,6 @@ longer n m lt = by (nat_le n m) refl
     by true e = let le = leb-true n m e in absurd (omega arith)
     by false e = refl
 
-no_length : (image : List ℕ) → (length image % 512 ≢ 0) ⊎ (16777216 < length image) → has_length image ≡ false
-unfolding has_length
-no_length image (inl part) = ap (λ t. t && (nat_le 16384 (length image) && nat_le (length image) 16777216)) (ne_eqb (length image % 512) 0 part)
-no_length image (inr long) = and_false (length image % 512 == 0) (nat_le 16384 (length image)) (nat_le (length image) 16777216) (longer (length image) 16777216 long)
-
-pub bad_length : (T : Types) (image : List ℕ) → (length image % 512 ≢ 0) ⊎ (16777216 < length image) → verdict T image ≡ Err BadLength
-unfolding verdict head_fault
-bad_length T image bad =
-    ap (λ t. or_fault (cond (not t) (Some BadLength)
-    (cond (not (bytes_eq (take 4 (block_of (blocks_in image) 0)) (88 ∷ 78 ∷ 57 ∷ 55 ∷ []))) (Some BadMark)
-    (cond (not (word_at (block_of (blocks_in image) 0) 4 == count_of image)) (Some BadCount) None)))
-    (or_fault (catalogue_fault T (count_of image) (block_at_image image)) (walk_all T (count_of image) (block_at_image image)))) (no_length image bad)
-
 -- a sound disk's bytes are a sound image
 pub whole_image : (image : List ℕ) → length image % 512 ≡ 0 → IsSound (types_of_image (blocks_in image)) (length (blocks_in image)) (block_of (blocks_in image)) → IsSoundImage (types_of_image (blocks_in image)) image
 whole_image image whole sound = record { whole = let n = length-blocks image in omega arith; blocks = sound }

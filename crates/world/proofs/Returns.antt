@@ -69,9 +69,6 @@ module _ (lanes : Lanes) (tickets : Tickets) (is : AreWhole lanes tickets) (b : 
       let s = away_at b (lane_at lanes b) ticket (subst (λ t. IsSomewhere b (lane_at lanes b) t) at (is.each b within)) in
       (empty_get lanes b s.0 within, s.1, s.2)
 
-  pub place_empty : (ticket : TicketValue MemoryLane) → ticket_at tickets b ≡ Some ticket → slice_get lanes ticket.block ≡ Some None
-  place_empty ticket at = let s = with_ticket ticket at in ap (slice_get lanes) s.1 ∙ s.0
-
   returned : (ticket : TicketValue MemoryLane) → ticket_at tickets b ≡ Some ticket → IsBack lanes tickets (slice_set lanes b (Some ticket.lane)) (slice_set tickets b None)
   returned ticket at =
       let s = with_ticket ticket at in
@@ -129,11 +126,3 @@ all_empty [] zero e h = refl
 all_empty [] (suc n) e h = absurd (omega arith)
 all_empty (t ∷ tickets) zero e h = absurd (omega arith)
 all_empty (t ∷ tickets) (suc n) e h = λ i. h 0 (omega arith) i ∷ all_empty tickets n (omega arith) (λ c lt. h (suc c) (omega arith)) i
-
--- the places of the tickets, written back
-pub written_back : (lanes : Lanes) (tickets : Tickets) (lanes' : Lanes) (tickets' : Tickets) → length tickets ≡ length lanes → image_of lanes' tickets' ≡ image_of lanes tickets →
-    tickets' ≡ replicate (length lanes') None → (len : ℕ) → len ≡ length tickets → take len (tickets' ++ drop (length tickets') tickets) ≡ tickets'
-written_back lanes tickets lanes' tickets' count image empty len is =
-    let long = ap length empty ∙ length-replicate {A = Option (TicketValue MemoryLane)} (length lanes') None in
-    let same = sym (length-image_of lanes' tickets') ∙ (ap length image ∙ length-image_of lanes tickets) in
-    ap (take len) (ap (λ ts. tickets' ++ ts) (drop_all (length tickets') tickets (omega arith)) ∙ append-nil tickets') ∙ take_all len tickets' (omega arith)

@@ -49,9 +49,6 @@ module _ (L : Language) (state new : StoreState) (h : IsConsistent (types_of L s
   not_root : b ≢ 0
   not_root z = let r = h.lives_sound.root in none-some r.life (sym free ∙ (ap (life_at state.lives) z ∙ r.alive))
 
-  started_turns : Turns T state.next [] None state.lives hs begun.lives hs1
-  started_turns = starts T state hs known b state.next None 1 bytes within free refl
-
   same_life : (c : ℕ) → c ≢ b → life_at begun.lives c ≡ life_at state.lives c
   same_life c ne = set_other state.lives b c (Some start) ne
 
@@ -127,12 +124,6 @@ module _ (L : Language) (state new : StoreState) (h : IsConsistent (types_of L s
       subst (λ (y : StoreState). Turns T (state.next + 1) [] (Some 0) begun.lives hs1 y.lives hs2) x.is
       (subst (λ gs. Turns T (state.next + 1) [] (Some 0) begun.lives hs1 (install_at state bytes x.place b).lives (change_in gs 0 (accepting heard_state))) heard_same
       (accepts_turn T begun.lives hs1 known1 0 s heard_state heard_is [] keeps))
-
-  -- a life after it was one between its entries
-  was_begun : (c : ℕ) (l : Life) → life_at new.lives c ≡ Some l → (m : Life) × (life_at begun.lives c ≡ Some m)
-  was_begun c l at =
-      let r = each_back (accepted 0 s) begun.lives c l (ap (λ xs. life_at xs c) (sym (accepted_is begun.lives 0 s)) ∙ (ap (λ (y : StoreState). life_at y.lives c) x.is ∙ at)) in
-      (r.0, r.1)
 
   pub install_turns : Turns T state.next [] (Some 0) state.lives hs new.lives hs2
   install_turns c l at = elim (cases_eq c b) [

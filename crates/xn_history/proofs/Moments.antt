@@ -159,9 +159,3 @@ moment_after w hs m es rs w' hs' each run = record {
   each = each_both m.events es m.each each;
   run = run_both (mounted m.disk m.lives) (first_histories m.lives) m.events m.replies w hs es rs w' hs' m.run run;
 }
-
-pub run_anything : (Passes : Histories → Event → Reply → Histories → Type 0) (w : World) (hs : Histories) (es : List Event) (rs : List Reply) (w' : World) (hs' : Histories) → RunWhere Passes w hs es rs w' hs' → RunWhere Anything w hs es rs w' hs'
-run_anything Passes w hs [] [] w' hs' run = run
-run_anything Passes w hs [] (r ∷ rs) w' hs' run = absurd run
-run_anything Passes w hs (e ∷ es) [] w' hs' run = absurd run
-run_anything Passes w hs (e ∷ es) (r ∷ rs) w' hs' run = (run.0, run.1, tt, run_anything Passes run.0 (histories_after hs e r run.0.state.lives) es rs w' hs' run.3)

@@ -123,10 +123,6 @@ still_some : (o : Option BlockState) (s : BlockState) (xs : List BlockState) →
 still_some o s [] e = (s, e)
 still_some o s (x ∷ xs) e = still_some (Some x) x xs refl
 
-take_none : {A : Type 0} (k : ℕ) (xs : List A) → xs ≡ [] → take k xs ≡ []
-take_none zero xs e = refl
-take_none (suc k) xs e = ap (take (suc k)) e
-
 drop_none : {A : Type 0} (k : ℕ) (xs : List A) → xs ≡ [] → drop k xs ≡ []
 drop_none zero xs e = e
 drop_none (suc k) xs e = ap (drop (suc k)) e

@@ -98,12 +98,6 @@ pointers_taken o (suc k) [] h = h
 pointers_taken None (suc k) (x ∷ xs) h = pointers_taken (Some x) k xs h
 pointers_taken (Some d) (suc k) (x ∷ xs) h = (h.0, pointers_taken (Some x) k xs h.1)
 
--- the states of a list that has the same bytes, one by one
-pub pointers_bare : (o : Option BlockState) (xs : List BlockState) (d e : BlockState) → o ≡ Some d → e.bytes ≡ d.bytes → PointersStay (option_to_list o ++ xs) → PointersStay (e ∷ xs)
-pointers_bare None xs d e at same h = absurd (none-some d at)
-pointers_bare (Some x) [] d e at same h = tt
-pointers_bare (Some x) (y ∷ ys) d e at same h = (subst (λ m. KeepsPointers m y.bytes) (ap (λ (z : BlockState). z.bytes) (same_Some x d at) ∙ sym same) h.0, h.1)
-
 -- Block 0 on the disk
 
 pub on_disk_is : (lives : Lives) (l : Life) (s : BlockState) → life_at lives 0 ≡ Some l → l.durable ≡ Some s → root_on_disk lives ≡ s.bytes

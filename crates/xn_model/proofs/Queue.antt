@@ -13,9 +13,6 @@ use Rattle.xn_model.proofs.Lists.{Contains-none, Contains-head, Contains-tail, C
 use Rattle.xn_model.proofs.Lives.{each_forth, each_back, free_forth, free_back}
 use Rattle.xn_model.proofs.Carry.{settled_if, settled_types}
 
-abbrev IsAtSome : Option BlockState → Type 0
-IsAtSome o = (s : BlockState) × (o ≡ Some s)
-
 -- A life with fewer pending states, those that left being on the disk
 pub record Shrinks (old new : Life) : Type 0 where
   pub ty : new.ty ≡ old.ty

@@ -100,30 +100,7 @@ step_counts w (model.Crash kept) r w' step other = elim step.2 [
   | inr down ↦ let none = ap writes_of down.0 in omega (arith, none)
 ]
 
--- a write that may not come any more
-pub held_back : (w : World) (e : model.Event) → is_write w e ≡ true → IsHeldBack w e 0 w
-held_back w (model.Client fs c) is = absurd (false≢true is)
-held_back w (model.Install m) is = absurd (false≢true is)
-held_back w (model.Begin b) is = absurd (false≢true is)
-held_back w (model.Land b) is = (is, refl, refl)
-held_back w (model.Fail b stays) is = (is, refl, refl)
-held_back w (model.Sync b) is = absurd (false≢true is)
-held_back w (model.FailSync b) is = absurd (false≢true is)
-held_back w (model.Finish b) is = absurd (false≢true is)
-held_back w (model.Crash kept) is = absurd (false≢true is)
-
 -- Drains that are refused
-
-drain_act : (w : World) (d x : Bool) (go : model.Reply × World) → (d ≡ true) ⊎ (x ≡ true) → writes_of (cond (d && true) (model.Down, w) (cond x (model.Refused InFlight, w) go)).0 ≡ 0
-drain_act w true x go h = refl
-drain_act w false true go h = refl
-drain_act w false false go (inl down) = absurd (false≢true down)
-drain_act w false false go (inr busy) = absurd (false≢true busy)
-
--- while the world is down, or a write is under way, a drain writes nothing
-pub refused_counts : (w : World) (fs : ℕ) (r : model.Reply) (w' : World) → Step w (model.Client fs model.Drain) r w' → (w.down ≡ true) ⊎ (is_any_in_flight w.state ≡ true) → writes_of r ≡ 0
-refused_counts w fs r w' (inl same) why = ap writes_of same.0 ∙ drain_act w w.down (is_any_in_flight w.state) _ why
-refused_counts w fs r w' (inr memory) why = absurd (false≢true memory.0)
 
 -- One round of a drain
 
