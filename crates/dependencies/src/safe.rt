@@ -87,7 +87,6 @@ fn is_claim_met(
 }
 
 /// Whether an entry of a block may be written, behind the first ones of that block: mostly it claims nothing.
-#[inline(always)]
 #[tactic(auto, using(crate::proofs::Types::nothing_met))]
 fn is_claim_safe(
     cache: &Cache,
