@@ -10,5 +10,6 @@ pub mod Finds
 pub mod Values
 pub mod ValuePlaces
 pub mod ValueNumbers
+pub mod ValueNames
 pub mod ValueCalls
 pub mod ForCallers
