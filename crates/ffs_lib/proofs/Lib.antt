@@ -44,5 +44,8 @@ pub mod PairLaws
 pub mod ValueLists
 pub mod ValueSame
 pub mod ValueMade
+pub mod ValueSteps
+pub mod ValueMoved
+pub mod ValueReplaced
 pub mod Following
 pub mod ValueWritten

@@ -25,6 +25,7 @@ use Rattle.ffs_lib.proofs.Replacing.{CanReplace}
 use Rattle.ffs_lib.proofs.Same.{same_on}
 use Rattle.ffs_lib.proofs.StillNamed.{named_to}
 use Rattle.ffs_lib.proofs.TurnLaws.{slot_names}
+use Rattle.ffs_lib.proofs.ValueLists.{find_map}
 use Rattle.ffs_lib.proofs.Writing.{file_from}
 
 -- Entries that name two inodes stand at two places.
@@ -72,14 +73,6 @@ pub another_stops : (T : Types) (fs : ℕ) (old new : StoreState) (d : ℕ) (fro
 another_stops T fs old new d from to apart fault r = record { other = λ z. apart (ap (λ (s : Slot). s.inode) z); same = λ e. absurd (apart e); another = λ ne. r }
 
 -- The first entry with a name, where another one was turned
-
-find_map : {A : Type 0} (test : A → Bool) (f : A → A) → ((x : A) → test (f x) ≡ test x) → (xs : List A) → find test (map f xs) ≡ option_map f (find test xs)
-find_map test f same [] = refl
-find_map {A} test f same (x ∷ xs) = ap (λ t. cond t (Some (f x)) (find test (map f xs))) (same x) ∙ (ap (cond (test x) (Some (f x))) (find_map test f same xs) ∙ one (test x))
-  where
-    one : (t : Bool) → cond t (Some (f x)) (option_map f (find test xs)) ≡ option_map f (cond t (Some x) (find test xs))
-    one true = refl
-    one false = refl
 
 module _ (entry : Slot) (n : ℕ) where
   pub same_name : (p : Slot × List ℕ) → (turned_entry entry n p).1 ≡ p.1
@@ -145,10 +138,10 @@ module _ (u : ℕ → List ℕ) (fs d : ℕ) (name : List ℕ) (other : ℕ) (ot
     same1 : (e : ℕ) (inode : List ℕ) → Ok inode ≡ directory_in u fs e → SameInode u v1 fs e
     same1 e inode i = l.others e (not_moved e inode i)
 
-    there1 : (e : ℕ) (inode : List ℕ) → Ok inode ≡ directory_in u fs e → Ok inode ≡ directory_in v1 fs e
+    pub there1 : (e : ℕ) (inode : List ℕ) → Ok inode ≡ directory_in u fs e → Ok inode ≡ directory_in v1 fs e
     there1 e inode i = i ∙ sym (directory_same u v1 fs e (same1 e inode i).0)
 
-    listing1 : (e : ℕ) (inode : List ℕ) → Ok inode ≡ directory_in u fs e → listing v1 inode ≡ listing u inode
+    pub listing1 : (e : ℕ) (inode : List ℕ) → Ok inode ≡ directory_in u fs e → listing v1 inode ≡ listing u inode
     listing1 e inode i = ((same1 e inode i).1 inode (directory_from u fs e inode i).0).0
 
     -- the second entry is still the first with its name
@@ -157,7 +150,7 @@ module _ (u : ℕ → List ℕ) (fs d : ℕ) (name : List ℕ) (other : ℕ) (ot
         (x.second ∙ (find_listed u other_name (entries_of u x.target) ∙ (ap (named_among other_name) (sym (listing1 other x.target x.is_target)) ∙ sym (find_listed v1 other_name (entries_of v1 x.target)))))
 
     module _ (v2 : ℕ → List ℕ) (t : Turned v1 v2 fs to n) (places : is_at to from ≡ false) where
-      there2 : (e : ℕ) (inode : List ℕ) → Ok inode ≡ directory_in u fs e → Ok inode ≡ directory_in v2 fs e
+      pub there2 : (e : ℕ) (inode : List ℕ) → Ok inode ≡ directory_in u fs e → Ok inode ≡ directory_in v2 fs e
       there2 e inode i = there1 e inode i ∙ sym (directory_same v1 v2 fs e (t.inodes e))
 
       listing2 : (e : ℕ) (inode : List ℕ) → Ok inode ≡ directory_in u fs e → listing v2 inode ≡ map (turned_entry to n) (listing u inode)
@@ -192,7 +185,7 @@ module _ (u : ℕ → List ℕ) (fs d : ℕ) (name : List ℕ) (other : ℕ) (ot
         after_clear : (e : ℕ) → e ≢ d → SameInode v2 g.middle fs e
         after_clear = g.cleared.others d home_removable.own home_removable.is home_removable.has
 
-        rest : (e : ℕ) → e ≢ d → e ≢ other → e ≢ n → SameInode u v4 fs e
+        pub rest : (e : ℕ) → e ≢ d → e ≢ other → e ≢ n → SameInode u v4 fs e
         rest e ne ne' away = same_on u v1 v4 fs e (l.others e away) (same_on v1 v2 v4 fs e (after_turn e ne') (same_on v2 g.middle v4 fs e (after_clear e ne) (g.took.others e away)))
 
         moved_no_home : n ≢ d
@@ -206,6 +199,9 @@ module _ (u : ℕ → List ℕ) (fs d : ℕ) (name : List ℕ) (other : ℕ) (ot
 
         former_no_target : to.inode ≢ other
         former_no_target z = not_former other x.target x.is_target (sym z)
+
+        pub former_same : SameInode u v4 fs to.inode
+        former_same = rest to.inode former_no_home former_no_target (λ z. apart (sym z))
 
         module _ (linked : 1 ≤ inode_links x.own) where
           -- two links at least
@@ -243,7 +239,7 @@ module _ (u : ℕ → List ℕ) (fs d : ℕ) (name : List ℕ) (other : ℕ) (ot
                   );
               moved = moved;
               former = λ inode i.
-                  let s = rest to.inode former_no_home former_no_target (λ z. apart (sym z)) in
+                  let s = former_same in
                   took_on u v4 w fs to.inode inode s i (k.took inode (i ∙ sym s.0));
               others = λ e ne ne' away away'. same_on u v4 w fs e (rest e ne ne' away) (k.others e away');
             }
