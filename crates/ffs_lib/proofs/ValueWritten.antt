@@ -147,6 +147,14 @@ looked content fs n size inode e =
     let t = not_first (nat_lt 71680 size) TooLarge (Ok p.0) inode p.2 in
     (t.1 ∙ p.1, t.0)
 
+-- fewer bytes fit, too
+pub write_less : (content : ℕ → List ℕ) (fs n size fewer : ℕ) (inode : List ℕ) → fewer ≤ size → Ok inode ≡ write_in content fs n size → Ok inode ≡ write_in content fs n fewer
+unfolding write_in
+write_less content fs n size fewer inode le e =
+    let p = looked content fs n size inode e in
+    let low : size ≤ 71680 = elim (cases_lt 71680 size) [ inl lt ↦ absurd (cc (sym (lt-ltb 71680 size lt) ∙ p.1)) | inr ge ↦ ge ] in
+    sym (ap (λ (t : Bool). if t then Err TooLarge else Ok inode) (le-ltb 71680 fewer (omega (arith, le, low)))) ∙ ap (λ r. and_then r (λ i. if nat_lt 71680 fewer then Err TooLarge else Ok i)) p.0
+
 module _ (old new : StoreState) (fs n offset : ℕ) (bytes inode : List ℕ) (e : Ok inode ≡ write_in (latest old.lives) fs n (offset + length bytes)) where
   abbrev v : ℕ → List ℕ
   v = latest old.lives

@@ -18,7 +18,7 @@ ghost use Rattle.ffs_lib.specs.Outcomes.{HasFreePointer, OnlyShort};
 ghost use Rattle.ffs_lib.specs.Replacing.{AreDirect, pair_of};
 ghost use Rattle.ffs_model.specs.Standing.{StayNamed};
 ghost use Rattle.xn_model.specs.Lives.{Lives};
-ghost use Rattle.ffs_lib.specs.Values.{Follows};
+ghost use Rattle.ffs_lib.specs.Values.{ByAnswer, Follows, WritesFirst};
 ghost use Rattle.ffs_lib.specs.Writes.{Writes, WritesSome};
 ghost use Rattle.ffs_lookup.specs.FileValues.{files_of};
 ghost use Rattle.ffs_lookup.specs.Files.{created, listed, new_directory, new_file, read, read_over, removed, renamed, unlinked, written};
@@ -409,6 +409,9 @@ impl Volume {
     ) -> Result<usize, FfsFault>
         requires { IsVolume (S.types_of store.old) (S.state_of store.old) self.now }
         ensures types { S.types_of store.new ≡ S.types_of store.old }
+        ensures value { ByAnswer (written (files_of (newest (S.state_of store.old)) self.now.fs.number) inode offset bytes.now)
+            (WritesFirst (files_of (newest (S.state_of store.old)) self.now.fs.number) (newest (S.state_of store.new)) self.now.fs.number inode offset bytes.now)
+            (S.state_of store.old) (S.state_of store.new) result }
         ensures answers { WritesSome (S.types_of store.old) self.now.fs.number inode offset bytes.now (S.state_of store.old) (S.state_of store.new) result }
         ensures keeps { IsVolume (S.types_of store.old) (S.state_of store.new) self.now }
     {
