@@ -45,6 +45,7 @@ pub mod ValueLists
 pub mod ValueSame
 pub mod ValueMade
 pub mod ValueSteps
+pub mod ValueVolume
 pub mod ValueMoved
 pub mod ValueReplaced
 pub mod Following

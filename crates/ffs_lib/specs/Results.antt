@@ -5,7 +5,6 @@
 --     new_inode                  an inode with one link, size 0 and no block
 --     IsPlaced, IsLowestNumber   an entry stands where it should; an inode is the lowest free one
 --     HasMore, MadeEntry         a directory has one entry more; it names a new inode
---     MadeVolume                 a file system has a top directory
 --     byte_written               the bytes of a file after some are written
 --     SameMarks                  an inode has its mode and its links
 --     WroteBytes                 some bytes are written, and its size is as before
@@ -96,12 +95,6 @@ pub record MadeEntry (old new : ℕ → List ℕ) (fs d : ℕ) (name : List ℕ)
   pub made : inode_in new fs n ≡ Ok (new_inode mode)
   pub entry : (inode : List ℕ) → Ok inode ≡ directory_in old fs d → HasMore old new fs d inode name n
   pub others : (x : ℕ) → x ≢ d → x ≢ n → SameOrNew old new fs n x
-
--- Inode 1, which was free, is a directory without entries, and all others in use are as before.
-pub record MadeVolume (old new : ℕ → List ℕ) (fs : ℕ) : Type 0 where
-  pub free : inode_in old fs 1 ≡ Err NoEntry
-  pub top : inode_in new fs 1 ≡ Ok (new_inode 2)
-  pub others : (x : ℕ) → x ≢ 1 → SameUse old new fs x
 
 -- Bytes that are written
 

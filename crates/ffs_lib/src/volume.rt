@@ -18,15 +18,15 @@ ghost use Rattle.ffs_lib.specs.Outcomes.{HasFreePointer, OnlyShort};
 ghost use Rattle.ffs_lib.specs.Replacing.{AreDirect, pair_of};
 ghost use Rattle.ffs_model.specs.Standing.{StayNamed};
 ghost use Rattle.xn_model.specs.Lives.{Lives};
-ghost use Rattle.ffs_lib.specs.Values.{ByAnswer, Follows, WritesFirst};
+ghost use Rattle.ffs_lib.specs.Values.{ByAnswer, Follows, Leads, WritesFirst};
 ghost use Rattle.ffs_lib.specs.Writes.{Writes, WritesSome};
 ghost use Rattle.ffs_lookup.specs.FileValues.{files_of};
-ghost use Rattle.ffs_lookup.specs.Files.{created, listed, new_directory, new_file, read, read_over, removed, renamed, unlinked, written};
+ghost use Rattle.ffs_lookup.specs.Files.{created, listed, made, new_directory, new_file, read, read_over, removed, renamed, unlinked, written};
 ghost use Rattle.ffs_lib.specs.Steps.{Creates, Ends, Leaves, MayLose, NamesAgain, Renames, Stage, StopsGrowing, StopsNaming, StopsNew, StopsUnnaming, TakesFree, Undoes, Unlinks, Unmakes, Unnamed, newest};
 ghost use Rattle.xn_model.specs.Types.{Types};
 ghost use Rattle.xn_model.specs.declared.refusal.Refusal.{Refusal};
 ghost use Rattle.xn_model.specs.Calls.{was_given};
-ghost use Rattle.ffs_lib.specs.Results.{new_inode, MadeEntry, MadeVolume, MovedEntry, OnlyChanges, OthersSame, TookLink};
+ghost use Rattle.ffs_lib.specs.Results.{new_inode, MadeEntry, MovedEntry, OnlyChanges, OthersSame, TookLink};
 
 mod replace;
 
@@ -169,7 +169,10 @@ impl Volume {
         ensures fs { IfOk result (λ volume. volume.fs ≡ fs) }
         ensures faults { RefusesAs (make_from (S.state_of store.old) fs.number) (S.state_of store.old) (S.state_of store.new) result }
         ensures short { (begun : Bool) → Ok begun ≡ make_from (S.state_of store.old) fs.number → OnlyShort result }
-        ensures made { OnOk result (MadeVolume (latest (S.state_of store.old).lives) (latest (S.state_of store.new).lives) fs.number) }
+        ensures value { (make_from (S.state_of store.old) fs.number ≡ Err FfsFault.Exists) ⊎ IsOk (make_from (S.state_of store.old) fs.number) →
+            ByAnswer (made (files_of (newest (S.state_of store.old)) fs.number))
+            (λ volume. Leads (made (files_of (newest (S.state_of store.old)) fs.number)) (newest (S.state_of store.new)) fs.number tt)
+            (S.state_of store.old) (S.state_of store.new) result }
         ensures err { (begun : Bool) → Ok begun ≡ make_from (S.state_of store.old) fs.number →
             OnErr result (VolumeKeeps (S.types_of store.old) library_layout fs.number no_edits (S.state_of store.new)) }
         ensures forgotten { OnErr result (Undoes (S.types_of store.old) fs.number (S.state_of store.old)

@@ -10,7 +10,8 @@
 --                                                         a link less
 --     Answer                                      a fault, and nothing changes; or what is answered, and the files after it
 --     read, read_over, listed                     what `read` and `list` answer
---     created, written, unlinked, removed, renamed, replaced    the calls
+--     empty_volume, made                          a volume without files; `make`
+--     created, written, unlinked, removed, renamed, replaced    the other calls
 use Rattle.std.specs.Prelude.{ℕ, ◌+◌, ◌-◌, ◌/◌, Bool, true, false, not, ◌&&◌, ◌==◌, nat_lt, nat_le, List, [], ◌++◌, length, take, drop, map, find, replicate, Option, Some, None, Result, Ok, Err, is_some, bytes_eq, option_map, option_and_then, unwrap_or, filter_map, flat_map, slice_index_or, slice_set, if◌then◌else◌}
 use Rattle.std.specs.List.{range_with_len}
 use Rattle.std.specs.Option.{ok_or, option_or}
@@ -167,6 +168,13 @@ new_file = File 1 []
 
 abbrev pub new_directory : InodeValue
 new_directory = Directory 1 (replicate 12 None)
+
+-- inode 1 is a directory without blocks, and the others of its block of inodes are free
+abbrev pub empty_volume : Files
+empty_volume n = if n == 1 then new_directory else if not (n == 0) && nat_le n 8 then Free else Absent
+
+abbrev pub made : Files → Answer (Unit {0})
+made files = if is_absent (files 1) then Ok (tt, empty_volume) else Err Exists
 
 -- a new file or directory, and its name in a directory
 abbrev pub made_at : InodeValue → Files → ℕ → List ℕ → ℕ → ℕ × ℕ → ℕ × Files
