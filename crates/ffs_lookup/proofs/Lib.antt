@@ -12,4 +12,5 @@ pub mod ValuePlaces
 pub mod ValueNumbers
 pub mod ValueNames
 pub mod ValueCalls
+pub mod Single
 pub mod ForCallers
