@@ -35,13 +35,6 @@ begun_there T fs array old new v x ty bytes block number done e =
     let top = v.consistent.lives_sound.root in
     none-some top.life (sym r.free ∙ (ap (life_at old.lives) e ∙ top.alive))
 
--- a new block of a file: begun, attached, and forgotten where that was refused
-pub data_then : (T : Types) (fs : ℕ) → fs < 32 → (ty block number : ℕ) (bytes : List ℕ) (zeroth first second third : StoreState) → Gives (init_of T zeroth fs ty bytes) zeroth first (Ok (block, number)) →
-    Keeps T fs first second → Keeps T fs second third → Keeps T fs zeroth third
-data_then T fs few ty block number bytes zeroth first second third given attached kept lib array v =
-    let done = gives_ok (init_of T zeroth fs ty bytes) zeroth first (block, number) given in
-    kept lib array (attached lib array (started_keeps T library_layout (library_reads T lib) fs few array zeroth first v fs ty bytes (block, number) done))
-
 pub on_ok : {A E : Type 0} (r : Result A E) {P : Type 0} → P → OnOk r P
 on_ok (Ok x) p = p
 on_ok (Err e) p = tt

@@ -32,7 +32,6 @@ pub mod DataLaws
 pub mod Parting
 pub mod MoveLaws
 pub mod MakeLaws
-pub mod Singles
 pub mod NameCounts
 pub mod Opening
 pub mod Reclaiming

@@ -12,7 +12,7 @@ use Rattle.ffs_lookup.specs.declared.places.Slot.{Slot}
 use Rattle.ffs_lookup.specs.Newest.{directory_in, entries_of, inode_in, is_at, listing, named_in, without_entry}
 use Rattle.ffs_lookup.specs.Places.{IsSlot}
 use Rattle.ffs_lookup.proofs.ForCallers.{not_both, same_ok}
-use Rattle.ffs_lib.specs.Replacing.{AreDirect, Replaced, ReplacedEntry, StopsReplacing, StopsTurning, Turned, pair_of, turned_entry}
+use Rattle.ffs_lib.specs.Replacing.{AreDirect, Replaced, ReplacedInodes, StopsReplacing, StopsTurning, Turned, pair_of, turned_entry}
 use Rattle.ffs_lib.specs.Results.{IsLinked, SameInode}
 use Rattle.ffs_lib.specs.Steps.{AddsLink, Removable, Removed, StopsRemoving, TakesLink, Unnamed}
 use Rattle.ffs_lib.proofs.Alone.{are_apart}
@@ -63,7 +63,7 @@ itself_done state fs d other from to a b e =
 pub same_done : (old new : StoreState) (fs d other : ℕ) (from to : Slot) → from ≢ to → from.inode ≡ to.inode → Removed (latest old.lives) (latest new.lives) fs d from → Replaced old new fs d from other to
 same_done old new fs d other from to apart one r = record { itself = λ z. absurd (apart z); same = λ ne e. r; another = λ ne. absurd (ne one) }
 
-pub another_done : (old new : StoreState) (fs d other : ℕ) (from to : Slot) → from.inode ≢ to.inode → ReplacedEntry (latest old.lives) (latest new.lives) fs d from other to → Replaced old new fs d from other to
+pub another_done : (old new : StoreState) (fs d other : ℕ) (from to : Slot) → from.inode ≢ to.inode → ReplacedInodes (latest old.lives) (latest new.lives) fs d from other to → Replaced old new fs d from other to
 another_done old new fs d other from to apart r = record { itself = λ z. absurd (apart (ap (λ (s : Slot). s.inode) z)); same = λ ne e. absurd (apart e); another = λ ne. r }
 
 pub same_stops : (T : Types) (fs : ℕ) (old new : StoreState) (d : ℕ) (from to : Slot) → from ≢ to → from.inode ≡ to.inode → (fault : FfsFault) → StopsRemoving T fs old new d from fault → StopsReplacing T fs old new d from to fault
@@ -226,17 +226,13 @@ module _ (u : ℕ → List ℕ) (fs d : ℕ) (name : List ℕ) (other : ℕ) (ot
                 let down = less.1 a.after y.after at3 (y.found ∙ s5.0) in
                 (y, omega (arith, up, down))
 
-            pub replaced : ReplacedEntry u w fs d from other to
+            pub replaced : ReplacedInodes u w fs d from other to
             replaced = record {
-              lists = λ e inode i.
-                  let s4 = g.took.others e (not_moved e inode i) in
-                  let s5 = k.others e (not_former e inode i) in
+              inodes = λ e inode i.
                   let at = directory_from u fs e inode i in
                   let at3 : Ok inode ≡ inode_in g.middle fs e = (directory_from v2 fs e inode (there2 e inode i)).0 ∙ sym (g.cleared.inodes e) in
-                  let at4 : Ok inode ≡ inode_in v4 fs e = at3 ∙ sym s4.0 in (
-                    directory_to w fs e inode (at4 ∙ sym s5.0) at.1,
-                    (s5.1 inode at4).0 ∙ ((s4.1 inode at3).0 ∙ (g.cleared.entries inode ∙ ap (without_entry from) (listing2 e inode i))),
-                  );
+                  let at4 : Ok inode ≡ inode_in v4 fs e = at3 ∙ sym (g.took.others e (not_moved e inode i)).0 in
+                  directory_to w fs e inode (at4 ∙ sym (k.others e (not_former e inode i)).0) at.1;
               moved = moved;
               former = λ inode i.
                   let s = former_same in

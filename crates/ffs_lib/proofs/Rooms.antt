@@ -107,9 +107,3 @@ placed_before u v first inode after entry room direct size p = elim p [
   | inl x ↦ inl (x.0 ∙ room, x.1 ∙ direct, x.2 ∙ size)
   | inr x ↦ inr (x.0, x.1 ∙ room, x.2, x.3 ∙ ap (λ ws. slice_set ws x.0 entry.block) direct, x.4)
 ]
-
-pub placed_after : (u : ℕ → List ℕ) (inode after last : List ℕ) (entry : Slot) → (fields_of last).direct ≡ (fields_of after).direct → word_at last 4 ≡ word_at after 4 → IsPlaced u inode after entry → IsPlaced u inode last entry
-placed_after u inode after last entry direct size p = elim p [
-  | inl x ↦ inl (x.0, direct ∙ x.1, size ∙ x.2)
-  | inr x ↦ inr (x.0, x.1, x.2, direct ∙ x.3, size ∙ (x.4 ∙ ap (λ (bs : List ℕ). 512 * length bs) (sym (same_blocks after last direct))))
-]

@@ -31,10 +31,6 @@ use Rattle.ffs_lib.proofs.Writing.{get_apart, get_here}
 
 -- Results
 
--- a refusal that is handed on
-pub handed : {A : Type 0} (result : Result A FfsFault) (refusal : Refusal) → IsErrAnd result (λ fault. fault ≡ Kernel refusal) → is_shortage refusal ≡ true → OnlyShort result
-handed {A} result refusal h s = let p = err_from_is_err_and result h in subst (λ (r : Result A FfsFault). OnlyShort r) (sym p.1) (ap is_short p.2 ∙ s)
-
 -- a fault that is handed on
 pub handed_on : {A : Type 0} (result : Result A FfsFault) (fault : FfsFault) → IsErrAnd result (λ other. other ≡ fault) → is_short fault ≡ true → OnlyShort result
 handed_on {A} result fault h s = let p = err_from_is_err_and result h in subst (λ (r : Result A FfsFault). OnlyShort r) (sym p.1) (ap is_short p.2 ∙ s)
@@ -46,9 +42,6 @@ short_fault {A} r fault e h = subst (λ (x : Result A FfsFault). OnlyShort x) e 
 
 abbrev pub ShortEdit : Types → StoreState → ℕ → ℕ → Edit → Type 0
 ShortEdit T state fs block edit = (r : Refusal) → propose_of T state fs block edit ≡ Err r → is_shortage r ≡ true
-
-pub refusal_short : (T : Types) (old new : StoreState) (fs block : ℕ) (edit same : Edit) (refusal : Refusal) → edit ≡ same → Gives (propose_of T old fs block edit) old new (Err refusal) → ShortEdit T old fs block same → is_shortage refusal ≡ true
-refusal_short T old new fs block edit same refusal e h short = gives_short (propose_of T old fs block edit) old new refusal h (λ s k. short s (ap (propose_of T old fs block) (sym e) ∙ k))
 
 -- a block that begins its life may be added
 pub begun_addable : (T : Types) (old new : StoreState) (fs ty block number : ℕ) (bytes : List ℕ) → Gives (init_of T old fs ty bytes) old new (Ok (block, number)) → may_add new fs (block, ty) ≡ true

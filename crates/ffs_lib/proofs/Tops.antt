@@ -267,9 +267,6 @@ module _ (T : Types) (fs : ℕ) (block number : ℕ) (zeroth first second third 
           not_free P None e may = cc
           not_free P (Some l) e may = absurd (none-some l (sym e))
 
-pub was_ready : (T : Types) (state : StoreState) (fs : ℕ) → GetsRoot T fs true state state
-was_ready T state fs lib h e = record { ready = e; kept = λ c l ne alive. refl; addable = λ p may. may }
-
 -- Its edits are refused for want of something alone
 
 own_new : (state : StoreState) (fs b : ℕ) (l : Life) → life_at state.lives b ≡ Some l → is_dropped l.status ≡ false → l.fs ≡ Some fs → own_life state fs b ≡ Ok l

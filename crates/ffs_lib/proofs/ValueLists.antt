@@ -148,9 +148,6 @@ module _ (entry : Slot) (name : List ℕ) (front back all : List Listed) (was : 
       two (inl e) (inr away) = ap (λ t. (entry.block == b) && t) (ne_eqb entry.place p away) ∙ and_false (entry.block == b)
       two (inl e) (inl f) = absurd (ne e f)
 
-  pub none_before : find (stands_there entry.block entry.place) all ≡ None
-  none_before = find_none (stands_there entry.block entry.place) all alone
-
   more_here : there_in entry.block entry.place (front ++ (entry, name) ∷ back) ≡ Some (name, entry.inode)
   more_here =
       ap (option_map value_of_listed)

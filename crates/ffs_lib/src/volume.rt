@@ -26,7 +26,7 @@ ghost use Rattle.ffs_lib.specs.Steps.{Creates, Ends, Leaves, MayLose, NamesAgain
 ghost use Rattle.xn_model.specs.Types.{Types};
 ghost use Rattle.xn_model.specs.declared.refusal.Refusal.{Refusal};
 ghost use Rattle.xn_model.specs.Calls.{was_given};
-ghost use Rattle.ffs_lib.specs.Results.{new_inode, MadeEntry, MovedEntry, OnlyChanges, OthersSame, TookLink};
+ghost use Rattle.ffs_lib.specs.Results.{new_inode, MadeEntry, OnlyChanges, OthersSame, TookLink};
 
 mod replace;
 

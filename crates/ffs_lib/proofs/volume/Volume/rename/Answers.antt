@@ -6,13 +6,13 @@ use Rattle.ffs_lookup.specs.Newest.{rename_in}
 use Rattle.ffs_lookup.specs.Files.{renamed}
 use Rattle.ffs_lookup.specs.FileValues.{files_of}
 use Rattle.ffs_lookup.proofs.ForCallers.{renamed_told}
-use Rattle.ffs_lib.specs.Results.{MovedEntry}
+use Rattle.ffs_lib.specs.Results.{MovedInodes}
 use Rattle.ffs_lib.specs.Steps.{StopsMoving, StopsRemoving, StopsUnnaming, Unnamed}
 use Rattle.ffs_lib.specs.Volumes.{edits_of}
 use Rattle.ffs_lib.proofs.Laws.{answers_ok, match_then, staged, stops_err, stops_removing}
 use Rattle.ffs_lib.proofs.Following.{blocks_once, follows_fault, follows_found}
 use Rattle.ffs_lib.proofs.Linked.{linked_own}
-use Rattle.ffs_lib.proofs.MoveLaws.{moves, still_one, still_there}
+use Rattle.ffs_lib.proofs.MoveLaws.{moved_inodes, still_one, still_there}
 use Rattle.ffs_lib.proofs.Moving.{named_block}
 use Rattle.ffs_lib.proofs.Renaming.{can_move}
 use Rattle.ffs_lib.proofs.Tops.{never}
@@ -37,7 +37,7 @@ returns-in_err-entered-clause-answers g c =
     let s = staged c.requires fs.few in
     let new = g.S.Store.state_of c.name_again.new.store in
     let a = c.in_err-entered.ensures.ends T array x.own x.to refl s x.is_own x.few x.is_to x.room in
-    answers_ok (rename_in u fs.number d name other new_name) (λ entry _. MovedEntry u (latest new.lives) fs.number d entry other new_name) (λ entry fault. StopsMoving T fs.number old new d entry other new_name fault) c.from_residual-in_err-entered.result slot old new exact
+    answers_ok (rename_in u fs.number d name other new_name) (λ entry _. MovedInodes u (latest new.lives) fs.number d other entry.inode) (λ entry fault. StopsMoving T fs.number old new d entry other new_name fault) c.from_residual-in_err-entered.result slot old new exact
     (stops_err _ (StopsMoving T fs.number old new d slot other new_name) c.from_residual-in_err-entered.result _ c.from_residual-in_err-entered.ensures.1 (a.1.0, inl a.1.1))
 
 pub returns-in_err-entered-clause-keeps : goal.returns-in_err-entered-clause-keeps
@@ -128,9 +128,9 @@ returns-clause-answers g c =
     let again = c.in_ok-entry.ensures.exact lib2 in
     let one = still_one u w fs.number d name other new_name slot x a.1.0 entry again in
     let at = named_block w fs.number d name entry again in
-    answers_ok (rename_in u fs.number d name other new_name) (λ e _. MovedEntry u (latest new.lives) fs.number d e other new_name) (λ e fault. StopsMoving T fs.number old new d e other new_name fault) c.remove.result slot old new exact
-    (match_then (λ _. Unnamed w (latest new.lives) fs.number entry) (λ _. MovedEntry u (latest new.lives) fs.number d slot other new_name) (StopsUnnaming T fs.number middle new entry) (StopsMoving T fs.number old new d slot other new_name) c.remove.result
-    (λ _. moves u w fs.number d name other new_name slot x a.1.0 linked (latest new.lives) entry again)
+    answers_ok (rename_in u fs.number d name other new_name) (λ e _. MovedInodes u (latest new.lives) fs.number d other e.inode) (λ e fault. StopsMoving T fs.number old new d e other new_name fault) c.remove.result slot old new exact
+    (match_then (λ _. Unnamed w (latest new.lives) fs.number entry) (λ _. MovedInodes u (latest new.lives) fs.number d other slot.inode) (StopsUnnaming T fs.number middle new entry) (StopsMoving T fs.number old new d slot other new_name) c.remove.result
+    (λ _ r. moved_inodes u w fs.number d name other new_name slot x a.1.0 linked (latest new.lives) (subst (λ (e : Slot). Unnamed w (latest new.lives) fs.number e) one r))
     (λ fault r. inr (middle, a.1.0, subst (λ (e : Slot). StopsRemoving T fs.number middle new d e fault) one (stops_removing T fs.number middle new d entry at.0 at.1 at.2 fault r))) b.1)
 
 pub returns-clause-keeps : goal.returns-clause-keeps
