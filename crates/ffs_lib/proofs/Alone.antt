@@ -1,10 +1,8 @@
 -- An entry that stands where none stood.
-use Rattle.std.proofs.Common.{◌≡◌, ℕ, ◌*◌, Bool, true, false, cond, ◌&&◌, List, [], ◌∷◌, ◌++◌, Some, None, refl, sym, ◌∙◌, ap, inl, inr, eq-eqb}
-use Rattle.std.specs.Prelude.{Contains, ◌==◌, ◌||◌, filter, filter_map, find, flat_map, if◌then◌else◌}
+use Rattle.std.proofs.Common.{◌≡◌, ℕ, ◌*◌, Bool, true, false, ◌&&◌, List, [], ◌∷◌, ◌++◌, Some, None, refl, sym, ◌∙◌, ap, inl, inr, eq-eqb}
+use Rattle.std.specs.Prelude.{Contains, ◌==◌, ◌||◌, filter_map, flat_map, if◌then◌else◌}
 use Rattle.std.specs.List.{cons_option, list_any, range_with_len}
 use Rattle.std.proofs.lemmas.Bool.{cases_eq, ne_eqb}
-use Rattle.std.proofs.lemmas.List.Elements.{filter-append}
-use Rattle.std.proofs.lemmas.Option.{none-some, same_Some}
 use Rattle.xn_model.proofs.ForCallers.{Contains-head, Contains-tail}
 use Rattle.ffs_format.specs.Entries.{name_in}
 use Rattle.ffs_model.specs.Library.{half_at, inode_blocks}

@@ -10,9 +10,9 @@ use Rattle.xn_model.specs.Calls.{forget_of, init_of}
 use Rattle.xn_model.proofs.ForCallers.{gives_exactly_keeps}
 use Rattle.ffs_model.specs.Volumes.{VolumeKeeps}
 use Rattle.ffs_model.specs.Library.{library_layout}
-use Rattle.ffs_model.proofs.ForCallers.{ended_keeps, library_reads, started, started_keeps}
+use Rattle.ffs_model.proofs.ForCallers.{ended_keeps, library_reads, started}
 use Rattle.ffs_lib.specs.Outcomes.{Keeps}
-use Rattle.ffs_lookup.proofs.ForCallers.{gives_err, gives_ok}
+use Rattle.ffs_lookup.proofs.ForCallers.{gives_err}
 
 pub refused : {A : Type 0} (T : Types) (fs : ℕ) (array : ℕ → Option ℕ) (r : Result (A × StoreState) Refusal) (old new : StoreState) (refusal : Refusal) → Gives r old new (Err refusal) →
     VolumeKeeps T library_layout fs array old → VolumeKeeps T library_layout fs array new

@@ -1,7 +1,7 @@
 -- What is left of names and files where a name is moved.
-use Rattle.std.proofs.Common.{◌≡◌, ◌≢◌, ℕ, ◌+◌, ◌*◌, ◌/◌, ◌%◌, ◌<◌, Bool, true, false, cond, List, [], ◌∷◌, ◌++◌, length, map, get_or, replicate, Option, Some, None, Ok, refl, sym, ◌∙◌, ap, inl, inr, arith, subst}
-use Rattle.std.specs.Prelude.{Contains, Result, Err, ◌==◌, filter_map, find, bytes_eq, option_map, flat_map, if◌then◌else◌, not}
-use Rattle.std.specs.List.{cons_option, list_any, range_with_len}
+use Rattle.std.proofs.Common.{◌≡◌, ◌≢◌, ℕ, ◌*◌, ◌/◌, ◌%◌, ◌<◌, Bool, true, false, cond, List, [], ◌∷◌, length, map, get_or, replicate, Option, Some, None, Ok, refl, sym, ◌∙◌, ap, inl, inr, arith, subst}
+use Rattle.std.specs.Prelude.{Contains, Result, Err, ◌==◌, filter_map, find, flat_map, if◌then◌else◌}
+use Rattle.std.specs.List.{cons_option, range_with_len}
 use Rattle.std.specs.Option.{ok_or, option_or}
 use Rattle.std.proofs.lemmas.Bool.{cases_eq}
 use Rattle.std.proofs.lemmas.List.Folds.{find-append}
@@ -13,7 +13,7 @@ use Rattle.xn_model.specs.Calls.{propose_of}
 use Rattle.xn_model.specs.Rules.{IsConsistent}
 use Rattle.xn_model.proofs.ForCallers.{Contains-head, Contains-tail}
 use Rattle.ffs_model.specs.Cuts.{Under, latest}
-use Rattle.ffs_model.specs.Library.{IsLibrary, half_at, inode_blocks, inode_links, inode_mode, library_layout}
+use Rattle.ffs_model.specs.Library.{IsLibrary, half_at, inode_blocks, inode_mode, library_layout}
 use Rattle.ffs_model.proofs.ForCallers.{direct_where, library_reads, proposed_here, proposed_others, under_direct, under_inodes}
 use Rattle.ffs_format.specs.Fields.{fields_of}
 use Rattle.ffs_format.specs.Entries.{is_name}
@@ -22,18 +22,17 @@ use Rattle.ffs_lookup.specs.declared.fault.FfsFault.TheVariants.{BadName, NoEntr
 use Rattle.ffs_lookup.specs.declared.places.Found.{Found}
 use Rattle.ffs_lookup.specs.declared.places.Slot.{Slot}
 use Rattle.ffs_lib.specs.Edits.{edit_at}
-use Rattle.ffs_lookup.specs.Newest.{byte_in, byte_of, directory_in, file_block, entries_in, entry_at, entry_named, is_at, named_in, used_entry, entries_of, first_named, has_name, inode_in, listing, name_at, without_entry}
+use Rattle.ffs_lookup.specs.Newest.{byte_in, byte_of, directory_in, file_block, entries_in, entry_at, entry_named, named_in, used_entry, first_named, has_name, inode_in, listing, name_at, without_entry}
 use Rattle.ffs_lookup.specs.Places.{IsFound, IsSlot}
 use Rattle.ffs_lib.specs.Results.{AsBefore, IsAs, SameInode}
-use Rattle.ffs_lib.proofs.Entering.{directory_from, directory_same, inode_put}
+use Rattle.ffs_lib.proofs.Entering.{directory_from, inode_put}
 use Rattle.ffs_lib.proofs.Fields.{direct_get, same_blocks}
-use Rattle.ffs_lib.proofs.Firsts.{find_listed, find_skip, first_more, named_among, same_bytes}
 use Rattle.ffs_lib.proofs.Frames.{listing_same, listing_without}
 use Rattle.ffs_lookup.proofs.ForCallers.{directory_is, in_directory, same_ok}
 use Rattle.ffs_lib.proofs.Owners.{Stands, block_at, direct_block, passed, pointers_at, stands_from}
 use Rattle.ffs_lib.proofs.Renaming.{is_some_ok}
 use Rattle.ffs_lib.proofs.Rooms.{room_by}
-use Rattle.ffs_lib.proofs.Same.{data_touched, edited, file_block_by, inodes_same, same_on}
+use Rattle.ffs_lib.proofs.Same.{data_touched, edited, file_block_by, inodes_same}
 use Rattle.ffs_lib.proofs.Writing.{blocks_agree, byte_same}
 
 -- As before, in every way

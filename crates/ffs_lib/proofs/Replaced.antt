@@ -1,5 +1,5 @@
 -- What is left of two files after each edit by which the name of one goes to the other.
-use Rattle.std.proofs.Common.{◌≡◌, ◌≢◌, ℕ, ◌<◌, ◌≤◌, Bool, true, false, cond, List, [], ◌∷◌, map, Option, Some, None, Ok, refl, sym, ◌∙◌, ap, arith, subst, eq-eqb}
+use Rattle.std.proofs.Common.{◌≡◌, ◌≢◌, ℕ, ◌<◌, ◌≤◌, Bool, true, false, List, map, Option, Some, None, Ok, refl, sym, ◌∙◌, ap, arith, subst, eq-eqb}
 use Rattle.std.specs.Prelude.{Contains, bytes_eq, find, option_map, ◌==◌, ◌&&◌, if◌then◌else◌}
 use Rattle.std.proofs.lemmas.Bool.{and_parts, eqb-true}
 use Rattle.std.proofs.lemmas.Option.{same_Some}
@@ -9,7 +9,7 @@ use Rattle.ffs_model.specs.Cuts.{latest}
 use Rattle.ffs_model.specs.Library.{inode_blocks, inode_links, library_layout}
 use Rattle.ffs_lookup.specs.declared.fault.FfsFault.{FfsFault}
 use Rattle.ffs_lookup.specs.declared.places.Slot.{Slot}
-use Rattle.ffs_lookup.specs.Newest.{directory_in, entries_of, inode_in, is_at, listing, named_in, without_entry}
+use Rattle.ffs_lookup.specs.Newest.{directory_in, entries_of, inode_in, is_at, listing, named_in}
 use Rattle.ffs_lookup.specs.Places.{IsSlot}
 use Rattle.ffs_lookup.proofs.ForCallers.{not_both, same_ok}
 use Rattle.ffs_lib.specs.Replacing.{AreDirect, Replaced, ReplacedInodes, StopsReplacing, StopsTurning, Turned, pair_of, turned_entry}

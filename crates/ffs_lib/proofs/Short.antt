@@ -15,10 +15,9 @@ use Rattle.ffs_model.specs.Cuts.{Under, latest, root}
 use Rattle.ffs_model.specs.Names.{IsRoot}
 use Rattle.ffs_model.specs.Library.{inode_at, inode_pairs, library_layout, pointer_word}
 use Rattle.ffs_model.specs.Shortages.{is_shortage}
-use Rattle.ffs_model.proofs.ForCallers.{Replaces, data_short, direct_set, gives_short, inode_add_short, inode_freed_short, inode_short, inode_words, library_reads, root_set_short, started, under_direct, under_inodes}
+use Rattle.ffs_model.proofs.ForCallers.{Replaces, data_short, direct_set, inode_add_short, inode_freed_short, inode_short, inode_words, library_reads, root_set_short, started, under_direct, under_inodes}
 use Rattle.ffs_format.specs.Fields.{direct_in, fields_of}
 use Rattle.ffs_lookup.specs.declared.fault.FfsFault.{FfsFault}
-use Rattle.ffs_lookup.specs.declared.fault.FfsFault.TheVariants.{Kernel}
 use Rattle.ffs_lookup.specs.declared.places.Slot.{Slot}
 use Rattle.ffs_lookup.specs.Newest.{is_short}
 use Rattle.ffs_lookup.specs.Places.{IsEmptyPointer, IsPlace, IsSlot}

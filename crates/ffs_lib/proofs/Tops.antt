@@ -1,6 +1,6 @@
 -- What a file system has before its volume is made, and after.
-use Rattle.std.proofs.Common.{◌≡◌, ◌≢◌, ℕ, zero, suc, ◌+◌, ◌-◌, ◌*◌, ◌/◌, ◌%◌, ◌^◌, ◌<◌, ◌≤◌, ◌⊎◌, Bool, true, false, List, [], ◌∷◌, length, Option, Some, None, Result, Ok, Err, refl, sym, ◌∙◌, ap, inl, inr, arith, subst, eq-eqb, replicate}
-use Rattle.std.specs.Prelude.{Contains, not, ◌==◌, ◌&&◌, ◌||◌, nat_lt, if◌then◌else◌, option_map, option_to_list, ◌++◌, IfErr, OnOk}
+use Rattle.std.proofs.Common.{◌≡◌, ◌≢◌, ℕ, zero, suc, ◌+◌, ◌-◌, ◌*◌, ◌%◌, ◌^◌, ◌<◌, ◌≤◌, ◌⊎◌, Bool, true, false, List, [], ◌∷◌, length, Option, Some, None, Result, Ok, Err, refl, sym, ◌∙◌, ap, inl, inr, arith, subst, eq-eqb, replicate}
+use Rattle.std.specs.Prelude.{Contains, not, ◌==◌, ◌&&◌, nat_lt, if◌then◌else◌, option_map, option_to_list, ◌++◌, IfErr, OnOk}
 use Rattle.std.specs.Int.{w32, to_le_bytes}
 use Rattle.std.specs.List.{range_with_len}
 use Rattle.std.proofs.lemmas.Bool.{cases_eq, cases_lt, eqb-false, eqb-true, false≢true, le-ltb, ne_eqb}
@@ -19,12 +19,12 @@ use Rattle.xn_model.proofs.ForCallers.{Contains-cons, Contains-head, Contains-no
 use Rattle.ffs_model.specs.Cuts.{Under, latest, root}
 use Rattle.ffs_model.specs.Names.{IsInodes, IsRoot}
 use Rattle.ffs_model.specs.Shortages.{is_shortage}
-use Rattle.ffs_model.specs.Library.{IsLibrary, direct_word, half_at, inode_at, inode_mode, inode_pairs, library_layout, pointer_word, zeros}
-use Rattle.ffs_model.proofs.ForCallers.{bytes_apart, gives_short, mode_read, pointed_none, proposed_others, rooted, rooted_here, rooted_others, started, started_here, started_others, word_apart, zero_word, zeros_mode, zeros_pointer}
+use Rattle.ffs_model.specs.Library.{IsLibrary, direct_word, inode_at, inode_pairs, library_layout, pointer_word, zeros}
+use Rattle.ffs_model.proofs.ForCallers.{bytes_apart, gives_short, pointed_none, rooted, rooted_here, rooted_others, started, started_here, started_others, word_apart, zero_word, zeros_pointer}
 use Rattle.ffs_lookup.specs.declared.fault.FfsFault.{FfsFault}
 use Rattle.ffs_lookup.specs.declared.fault.FfsFault.TheVariants.{BadName, DirNotEmpty, Exists, IsDir, Kernel, NoEntry, NoInode, NotDir, Pending, TooLarge, Unsound}
-use Rattle.ffs_lookup.specs.Newest.{has_pointer, if_bare, if_makeable, inode_block_in, inode_in, is_own, is_short, make_in, root_in, unless_unused}
-use Rattle.ffs_lookup.proofs.ForCallers.{gives_ok, in_inode_block, in_root_block, kind_known, no_inode_block, no_number, no_root_block, pointer_is, root_again, used_is, zero_is}
+use Rattle.ffs_lookup.specs.Newest.{has_pointer, if_bare, if_makeable, inode_block_in, is_own, is_short, make_in, root_in}
+use Rattle.ffs_lookup.proofs.ForCallers.{gives_ok, in_root_block, kind_known, no_root_block, pointer_is, root_again, zero_is}
 use Rattle.ffs_lib.specs.Edits.{edit_at}
 use Rattle.ffs_lib.specs.Outcomes.{FirstInodes, GetsRoot, IsReady, MakesTop, OnlyShort, SetsRoot}
 use Rattle.ffs_lib.specs.Results.{new_inode}

@@ -10,7 +10,7 @@ use Rattle.ffs_model.specs.Library.{half_at, inode_blocks}
 use Rattle.ffs_format.specs.Entries.{name_in}
 use Rattle.ffs_lookup.specs.declared.places.Slot.{Slot}
 use Rattle.ffs_lookup.specs.Newest.{is_at, listing, name_of_place, without_entry}
-use Rattle.ffs_lookup.proofs.ForCallers.{find_first, find_none, found_holds}
+use Rattle.ffs_lookup.proofs.ForCallers.{find_first, found_holds}
 use Rattle.ffs_lib.specs.Replacing.{turned_entry}
 use Rattle.ffs_lib.proofs.Firsts.{find_skip}
 use Rattle.ffs_lib.proofs.Frames.{listed_at, listed_blocks, listed_in}

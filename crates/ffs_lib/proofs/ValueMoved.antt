@@ -5,7 +5,7 @@ use Rattle.ffs_model.specs.Library.{inode_links}
 use Rattle.ffs_format.specs.Fields.{direct_in}
 use Rattle.ffs_lookup.specs.declared.places.Slot.{Slot}
 use Rattle.ffs_lookup.specs.Newest.{directory_in, inode_in, rename_in}
-use Rattle.ffs_lookup.specs.Files.{Answer, Files, links_of, moved, renamed, room, with_entry, without_link}
+use Rattle.ffs_lookup.specs.Files.{Files, links_of, moved, renamed, room, with_entry, without_link}
 use Rattle.ffs_lookup.specs.FileValues.{AreBlocksOnce, HasBlocksOnce, blocks_value, files_of}
 use Rattle.ffs_lookup.proofs.ForCallers.{EntryAt, IsPlaceOf, first_value, renamed_ok, same_ok}
 use Rattle.ffs_lib.specs.Results.{HasMore, IsAs}

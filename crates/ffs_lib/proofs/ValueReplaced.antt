@@ -7,17 +7,16 @@ use Rattle.ffs_model.specs.Library.{inode_links}
 use Rattle.ffs_format.specs.Entries.{is_name}
 use Rattle.ffs_format.specs.Fields.{direct_in}
 use Rattle.ffs_lookup.specs.declared.fault.FfsFault.{FfsFault}
-use Rattle.ffs_lookup.specs.declared.fault.FfsFault.TheVariants.{BadName, NoEntry, NotDir, TooLarge}
+use Rattle.ffs_lookup.specs.declared.fault.FfsFault.TheVariants.{BadName, NoEntry, TooLarge}
 use Rattle.ffs_lookup.specs.declared.places.Slot.{Slot}
-use Rattle.ffs_lookup.specs.Newest.{and_then, directory_in, file_in, first_named, inode_in, is_at, listing, mapped}
+use Rattle.ffs_lookup.specs.Newest.{and_then, directory_in, file_in, first_named, inode_in, is_at, mapped}
 use Rattle.ffs_lookup.specs.Files.{Answer, Blocks, Directory, Files, both_directories, cleared, directories, file_of, in_use, is_same, links_of, look_up, replaced, replaced_in, told, turned, with_entry, without_link}
 use Rattle.ffs_lookup.specs.FileValues.{AreBlocksOnce, blocks_value, files_of}
-use Rattle.ffs_lookup.proofs.ForCallers.{EntryAt, IsPlaceOf, both_found, both_parts, file_found, file_parts, first_value, if_both, named_told, same_ok}
+use Rattle.ffs_lookup.proofs.ForCallers.{EntryAt, both_found, both_parts, file_found, file_parts, if_both, named_told, same_ok}
 use Rattle.ffs_lib.specs.Replacing.{Turned, directories_in, files_in, is_full_for, replace_in}
 use Rattle.ffs_lib.specs.Steps.{AddsLink, TakesLink, Unnamed}
-use Rattle.ffs_lib.specs.Values.{Leads}
 use Rattle.ffs_lib.proofs.Replaced.{former_same, is_moved, listing1, there1, there2}
-use Rattle.ffs_lib.proofs.Replacing.{CanReplace, can_replace}
+use Rattle.ffs_lib.proofs.Replacing.{CanReplace}
 use Rattle.ffs_lib.proofs.ValueLists.{there_in}
 use Rattle.ffs_lib.proofs.ValueMade.{directory_value}
 use Rattle.ffs_lib.proofs.ValueSteps.{adds_value, clearing_value, entry_after_link, inode_linked, link_and_less, links_of_entry, stands_listed, takes_value, turned_value, with_link}

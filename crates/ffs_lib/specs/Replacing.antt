@@ -18,7 +18,7 @@ use Rattle.ffs_format.specs.Entries.{is_name}
 use Rattle.ffs_lookup.specs.declared.fault.FfsFault.{FfsFault}
 use Rattle.ffs_lookup.specs.declared.fault.FfsFault.TheVariants.{BadName, NoEntry, NotDir, TooLarge}
 use Rattle.ffs_lookup.specs.declared.places.Slot.{Slot}
-use Rattle.ffs_lookup.specs.Newest.{and_then, directory_in, file_in, first_named, inode_in, is_at, listing, without_entry}
+use Rattle.ffs_lookup.specs.Newest.{and_then, directory_in, file_in, first_named, inode_in, is_at, listing}
 use Rattle.ffs_lib.specs.Results.{IsLinked, SameInode, TookLink}
 use Rattle.ffs_lib.specs.Steps.{AddsLink, Answers, Removed, StopsAtHome, StopsRemoving, StopsTaking, Wants, newest}
 

@@ -21,7 +21,7 @@ use Rattle.ffs_lookup.specs.declared.places.Slot.{Slot}
 use Rattle.ffs_lookup.specs.declared.places.Room.TheVariants.{Entry, Pointer}
 use Rattle.ffs_format.specs.Fields.{fields_of}
 use Rattle.ffs_lookup.specs.FileValues.{place_in}
-use Rattle.ffs_lookup.specs.Newest.{byte_of, directory_in, file_in, first_named, has_room, inode_in, is_at, listing, number_in, room_in, root_in, without_entry}
+use Rattle.ffs_lookup.specs.Newest.{byte_of, directory_in, file_in, first_named, has_room, inode_in, is_at, listing, number_in, room_in, root_in}
 
 -- Inodes that stay
 
