@@ -69,8 +69,8 @@ IsPlaced old inode after entry =
     ⊎ ((index : ℕ) × (Some (Pointer index) ≡ room_in old inode) × (entry.place ≡ 0)
     × ((fields_of after).direct ≡ slice_set (fields_of inode).direct index entry.block) × (word_at after 4 ≡ 512 * length (inode_blocks after)))
 
--- The directory with a number, whose inode was this one, has its old entries in their order and one more, at a place where none stood, which
--- is the first with its name where none had it before. It has as many links.
+-- The directory with a number, whose inode was this one, has its old entries in their order and one more, at a place where none stood. It has
+-- as many links.
 pub record HasMore (old new : ℕ → List ℕ) (fs d : ℕ) (inode name : List ℕ) (n : ℕ) : Type 0 where
   pub after : List ℕ
   pub directory : Ok after ≡ directory_in new fs d
@@ -83,7 +83,6 @@ pub record HasMore (old new : ℕ → List ℕ) (fs d : ℕ) (inode name : List 
   pub is : listing new after ≡ front ++ (entry, name) ∷ back
   pub alone : list_any (λ p. is_at entry p.0) (listing old inode) ≡ false
   pub placed : IsPlaced old inode after entry
-  pub first : None ≡ first_named old inode name → Some entry ≡ first_named new after name
 
 -- the number of the lowest free inode
 abbrev pub IsLowestNumber : (ℕ → List ℕ) → ℕ → ℕ → Type 0
@@ -136,7 +135,6 @@ IsLinked old new fs d inode links = (is : IsAs old new fs d inode) × (inode_lin
 -- The inode with number n lost a link: where it had more it is as before but for that, and else it is free, which is 64 zeros.
 pub record TookLink (old new : ℕ → List ℕ) (fs n : ℕ) (inode : List ℕ) : Type 0 where
   pub kept : 1 < inode_links inode → IsLinked old new fs n inode (inode_links inode - 1)
-  pub freed : inode_links inode ≤ 1 → inode_in new fs n ≡ Err NoEntry
   pub zeroed : inode_links inode ≤ 1 → place_in new fs n ≡ Ok (replicate 64 0)
 
 -- An entry that is moved
