@@ -1,10 +1,8 @@
 -- An entry that stands where none stood.
-use Rattle.std.proofs.Common.{◌≡◌, ℕ, ◌*◌, Bool, true, false, cond, ◌&&◌, List, [], ◌∷◌, ◌++◌, Some, None, refl, sym, ◌∙◌, ap, inl, inr, eq-eqb}
-use Rattle.std.specs.Prelude.{Contains, ◌==◌, ◌||◌, filter, filter_map, find, flat_map, if◌then◌else◌}
+use Rattle.std.proofs.Common.{◌≡◌, ℕ, ◌*◌, Bool, true, false, ◌&&◌, List, [], ◌∷◌, ◌++◌, Some, None, refl, sym, ◌∙◌, ap, inl, inr, eq-eqb}
+use Rattle.std.specs.Prelude.{Contains, ◌==◌, ◌||◌, filter_map, flat_map, if◌then◌else◌}
 use Rattle.std.specs.List.{cons_option, list_any, range_with_len}
 use Rattle.std.proofs.lemmas.Bool.{cases_eq, ne_eqb}
-use Rattle.std.proofs.lemmas.List.Elements.{filter-append}
-use Rattle.std.proofs.lemmas.Option.{none-some, same_Some}
 use Rattle.xn_model.proofs.ForCallers.{Contains-head, Contains-tail}
 use Rattle.ffs_format.specs.Entries.{name_in}
 use Rattle.ffs_model.specs.Library.{half_at, inode_blocks}
@@ -34,17 +32,6 @@ are_apart entry other ne = elim (cases_eq other.block entry.block) [
   ]
 ]
 
-pub turned_apart : (entry other : Slot) → is_at entry other ≡ false → is_at other entry ≡ false
-turned_apart entry other e = are_apart other entry (λ f g. true_false ((eq-eqb other.block entry.block (sym f), eq-eqb other.place entry.place (sym g))))
-  where
-    both : (s t : Bool) → s ≡ true → t ≡ true → s && t ≡ false → ⊥
-    both true true f g h = cc h
-    both true false f g h = cc g
-    both false t f g h = cc f
-
-    true_false : (other.block == entry.block ≡ true) × (other.place == entry.place ≡ true) → ⊥
-    true_false p = both (other.block == entry.block) (other.place == entry.place) p.0 p.1 e
-
 module _ (entry : Slot) where
   abbrev at : Slot × List ℕ → Bool
   at p = is_at entry p.0
@@ -72,17 +59,3 @@ module _ (entry : Slot) where
 
 pub none_listed : (v : ℕ → List ℕ) (entry : Slot) (inode : List ℕ) → ((b : ℕ) → Contains (inode_blocks inode) b → b ≡ entry.block → half_at (v b) (32 * entry.place) ≡ 0) → list_any (λ (p : Slot × List ℕ). is_at entry p.0) (listing v inode) ≡ false
 none_listed v entry inode empty = ap (list_any (λ (p : Slot × List ℕ). is_at entry p.0)) (listed_blocks v (inode_blocks inode)) ∙ none_in entry v (inode_blocks inode) empty
-
--- one of a list in which none is
-pub none_found : {A : Type 0} (q p : A → Bool) (xs : List A) (x : A) → list_any q xs ≡ false → Some x ≡ find p xs → q x ≡ false
-none_found q p [] x e f = absurd (none-some x (sym f))
-none_found {A} q p (y ∷ ys) x e f = go (q y) refl (p y) e f (none_found q p ys x)
-  where
-    go : (t : Bool) → q y ≡ t → (s : Bool) → t || list_any q ys ≡ false → Some x ≡ cond s (Some y) (find p ys) → (list_any q ys ≡ false → Some x ≡ find p ys → q x ≡ false) → q x ≡ false
-    go true a s g h rest = absurd (cc g)
-    go false a true g h rest = ap q (same_Some x y h) ∙ a
-    go false a false g h rest = rest g h
-
--- what stays where another one is taken out
-pub kept_between : {A : Type 0} (keep : A → Bool) (front back : List A) (y : A) → keep y ≡ true → filter keep (front ++ y ∷ back) ≡ filter keep front ++ y ∷ filter keep back
-kept_between keep front back y e = filter-append keep front (y ∷ back) ∙ ap (λ t. filter keep front ++ cond t (y ∷ filter keep back) (filter keep back)) e

@@ -51,16 +51,6 @@ module _ (word : ℕ → ℕ) (ty : ℕ) where
 inode_more : (inode : List ℕ) → data_of_inode inode ≡ blocks_of (pointed (direct_in inode) 12 2) ++ blocks_of (option_to_list (unless_empty (word_at inode 56, 5)))
 inode_more inode = map-append (λ (p : ℕ × ℕ). p.0) (pointed (direct_in inode) 12 2) (option_to_list (unless_empty (word_at inode 56, 5)))
 
-pub inode_without : (inode : List ℕ) → word_at inode 56 ≡ 0 → data_of_inode inode ≡ blocks_of (pointed (direct_in inode) 12 2)
-inode_without inode none = inode_more inode ∙ (ap (λ w. blocks_of (pointed (direct_in inode) 12 2) ++ blocks_of (option_to_list (unless_empty (w, 5)))) none ∙ append_none (blocks_of (pointed (direct_in inode) 12 2)))
-  where
-    append_none : (xs : List ℕ) → xs ++ [] ≡ xs
-    append_none [] = refl
-    append_none (x ∷ xs) = ap (λ r. x ∷ r) (append_none xs)
-
-pub inode_with : (inode : List ℕ) → word_at inode 56 ≢ 0 → data_of_inode inode ≡ blocks_of (pointed (direct_in inode) 12 2) ++ word_at inode 56 ∷ []
-inode_with inode some = inode_more inode ∙ ap (λ o. blocks_of (pointed (direct_in inode) 12 2) ++ blocks_of (option_to_list o)) (is_not_empty (word_at inode 56, 5) some)
-
 pub no_pairs : (ps : List (ℕ × ℕ)) → length (blocks_of ps) ≡ 0 → ps ≡ []
 no_pairs [] e = refl
 no_pairs (p ∷ ps) e = absurd (omega (arith, e))

@@ -27,7 +27,6 @@ use Rattle.ffs_lookup.specs.Places.{IsFree, IsPlace}
 use Rattle.ffs_lookup.specs.FileValues.{place_in}
 use Rattle.ffs_lib.specs.Results.{HasMore, MadeEntry, SameContents, SameInode, SameOrNew, new_inode}
 use Rattle.ffs_lib.proofs.Fields.{blocks_are, get_mapped, set_words}
-use Rattle.ffs_lib.proofs.Firsts.{first_more}
 use Rattle.ffs_lib.proofs.Alone.{none_listed}
 use Rattle.ffs_lib.proofs.Frames.{listed_at, listed_blocks, listed_in, listing_same}
 use Rattle.ffs_lib.proofs.Listed.{fits_newest}
@@ -151,7 +150,6 @@ module _ (T : Types) (lib : IsLibrary T) (state new : StoreState) (h : IsConsist
           is = listed_blocks w (inode_blocks inode) ∙ all.is;
           alone = none_listed v one inode (λ c i e. ap (λ x. half_at (v x) (32 * p)) e ∙ empty);
           placed = inl (first, refl, refl);
-          first = first_more v w inode inode name one all.front all.back (listed_blocks v (inode_blocks inode) ∙ all.was) (listed_blocks w (inode_blocks inode) ∙ all.is);
         },
         data_touched T lib state h fs few w b 2 t refl d inode own x.0 (omega (arith, lt)) block x.3,
       )
@@ -223,7 +221,6 @@ module _ (T : Types) (lib : IsLibrary T) (zeroth first second : StoreState) (h :
         is = listed_blocks v2 (inode_blocks g.after) ∙ all.is;
         alone = none_listed v0 entry inode0 (λ c i e. absurd (apart_before c i e));
         placed = inr (index, empty, refl, g.direct ∙ ap (λ (i : List ℕ). slice_set (fields_of i).direct index b) one, g.size);
-        first = first_more v0 v2 inode0 g.after name entry all.front all.back (sym before ∙ (listed_blocks v2 (inode_blocks inode) ∙ all.was)) (listed_blocks v2 (inode_blocks g.after) ∙ all.is);
       }
 
 -- A block of inodes: begun and attached
@@ -242,7 +239,7 @@ free_none state fs free is =
 
 module _ (u v w : ℕ → List ℕ) (fs d : ℕ) (name : List ℕ) (mode n : ℕ) where
   more_before : (inode : List ℕ) → SameContents u v inode → HasMore v w fs d inode name n → HasMore u w fs d inode name n
-  more_before inode same m = record { after = m.after; directory = m.directory; links = m.links; entry = m.entry; inode_named = m.inode_named; front = m.front; back = m.back; was = sym same.0 ∙ m.was; is = m.is; alone = ap (list_any (λ (p : Slot × List ℕ). is_at m.entry p.0)) (sym same.0) ∙ m.alone; placed = placed_before u v inode inode m.after m.entry (place_by u v inode inode refl same.1) refl refl m.placed; first = first_more u w inode m.after name m.entry m.front m.back (sym same.0 ∙ m.was) m.is }
+  more_before inode same m = record { after = m.after; directory = m.directory; links = m.links; entry = m.entry; inode_named = m.inode_named; front = m.front; back = m.back; was = sym same.0 ∙ m.was; is = m.is; alone = ap (list_any (λ (p : Slot × List ℕ). is_at m.entry p.0)) (sym same.0) ∙ m.alone; placed = placed_before u v inode inode m.after m.entry (place_by u v inode inode refl same.1) refl refl m.placed }
 
   pub made_then : inode_in u fs n ≡ Err NoEntry → inode_in v fs n ≡ Ok (new_inode mode) → ((e : ℕ) → e ≢ n → SameInode u v fs e) →
       ((inode : List ℕ) → Ok inode ≡ directory_in v fs d → HasMore v w fs d inode name n) × ((e : ℕ) → e ≢ d → SameInode v w fs e) → (inode : List ℕ) → Ok inode ≡ directory_in u fs d → MadeEntry u w fs d name mode n

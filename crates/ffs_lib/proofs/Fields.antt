@@ -1,11 +1,12 @@
 -- The blocks of an inode whose fields were set.
-use Rattle.std.proofs.Common.{◌≡◌, ℕ, zero, suc, ◌+◌, ◌<◌, ◌^◌, ◌⊎◌, Bool, true, false, cond, List, [], ◌∷◌, Some, None, refl, sym, ◌∙◌, ap, inl, inr, subst, replicate, arith, get_or}
+use Rattle.std.proofs.Common.{◌≡◌, ℕ, zero, suc, ◌+◌, ◌-◌, ◌*◌, ◌<◌, ◌^◌, ◌⊎◌, Bool, true, false, cond, List, [], ◌∷◌, Some, None, refl, sym, ◌∙◌, ap, inl, inr, subst, replicate, arith, get_or, take}
 use Rattle.std.specs.Prelude.{Contains, filter_map, map, slice_set, ◌==◌}
 use Rattle.std.specs.List.{range_with_len, cons_option}
+use Rattle.std.proofs.lemmas.List.{drop-replicate, take-replicate}
 use Rattle.xn_model.specs.Lists.{blocks_of}
 use Rattle.xn_model.specs.Root.{word_at, unless_empty}
 use Rattle.xn_model.proofs.ForCallers.{Contains-cons, Contains-head, Contains-tail}
-use Rattle.ffs_model.specs.Library.{half_at, inode_blocks, inode_mode}
+use Rattle.ffs_model.specs.Library.{half_at, inode_at, inode_blocks, inode_mode, zeros}
 use Rattle.std.proofs.lemmas.Nat.{from_le_bytes-to_le_bytes_2}
 use Rattle.ffs_format.specs.Entries.{entry_of}
 use Rattle.ffs_format.specs.Fields.{fields_of, direct_in}
@@ -64,6 +65,10 @@ free_blocks = refl
 pub free_mode : inode_mode (replicate 64 0) ≡ 0
 unfolding half_at
 free_mode = refl
+
+-- the inodes of a block of zeros
+pub zeros_inode : (p : ℕ) → p < 8 → inode_at zeros p ≡ replicate 64 0
+zeros_inode p few = ap (take 64) (drop-replicate (64 * p) 512 0) ∙ take-replicate 64 (512 - 64 * p) 0 (omega (arith, few))
 
 -- the inode of an entry
 pub entry_names : (inode : ℕ) (name : List ℕ) → inode < 2 ^ 16 → half_at (entry_of inode name) 0 ≡ inode

@@ -26,25 +26,3 @@ find_skip p (x ∷ front) back y e = ap (cond (p x) (Some x)) (find_skip p front
 
 pub same_bytes : (a b : List ℕ) → bytes_eq a b ≡ true → a ≡ b
 same_bytes a b e = (bytes_eq-Decides a b).0 e
-
--- one that was added is the first with its name
-
-pub none_mapped : (o : Option (Slot × List ℕ)) → None ≡ option_map (λ (p : Slot × List ℕ). p.0) o → o ≡ None
-none_mapped None e = refl
-none_mapped (Some x) e = absurd (cc e)
-
-find_added : {A : Type 0} (p : A → Bool) (front back : List A) (y : A) → find p (front ++ back) ≡ None → p y ≡ true → find p (front ++ y ∷ back) ≡ Some y
-find_added p [] back y none e = ap (λ t. cond t (Some y) (find p back)) e
-find_added {A} p (x ∷ front) back y none e = go (p x) none (find_added p front back y)
-  where
-    go : (t : Bool) → cond t (Some x) (find p (front ++ back)) ≡ None → (find p (front ++ back) ≡ None → p y ≡ true → find p (front ++ y ∷ back) ≡ Some y) → cond t (Some x) (find p (front ++ y ∷ back)) ≡ Some y
-    go true f later = absurd (cc f)
-    go false f later = later f e
-
-pub first_more : (old new : ℕ → List ℕ) (inode after name : List ℕ) (entry : Slot) (front back : List (Slot × List ℕ)) → listing old inode ≡ front ++ back → listing new after ≡ front ++ (entry, name) ∷ back →
-    None ≡ first_named old inode name → Some entry ≡ first_named new after name
-first_more old new inode after name entry front back was is none =
-    let test = λ (p : Slot × List ℕ). bytes_eq p.1 name in
-    let before : find test (front ++ back) ≡ None = none_mapped (find test (front ++ back)) (none ∙ (find_listed old name (entries_of old inode) ∙ ap (named_among name) was)) in
-    let here = find_added test front back (entry, name) before ((bytes_eq-Decides name name).1 refl) in
-    sym (find_listed new name (entries_of new after) ∙ (ap (named_among name) is ∙ ap (option_map (λ (p : Slot × List ℕ). p.0)) here))

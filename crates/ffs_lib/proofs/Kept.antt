@@ -10,9 +10,9 @@ use Rattle.xn_model.specs.Calls.{forget_of, init_of}
 use Rattle.xn_model.proofs.ForCallers.{gives_exactly_keeps}
 use Rattle.ffs_model.specs.Volumes.{VolumeKeeps}
 use Rattle.ffs_model.specs.Library.{library_layout}
-use Rattle.ffs_model.proofs.ForCallers.{ended_keeps, library_reads, started, started_keeps}
+use Rattle.ffs_model.proofs.ForCallers.{ended_keeps, library_reads, started}
 use Rattle.ffs_lib.specs.Outcomes.{Keeps}
-use Rattle.ffs_lookup.proofs.ForCallers.{gives_err, gives_ok}
+use Rattle.ffs_lookup.proofs.ForCallers.{gives_err}
 
 pub refused : {A : Type 0} (T : Types) (fs : ℕ) (array : ℕ → Option ℕ) (r : Result (A × StoreState) Refusal) (old new : StoreState) (refusal : Refusal) → Gives r old new (Err refusal) →
     VolumeKeeps T library_layout fs array old → VolumeKeeps T library_layout fs array new
@@ -34,13 +34,6 @@ begun_there T fs array old new v x ty bytes block number done e =
     let r = started T old new x ty bytes (block, number) done in
     let top = v.consistent.lives_sound.root in
     none-some top.life (sym r.free ∙ (ap (life_at old.lives) e ∙ top.alive))
-
--- a new block of a file: begun, attached, and forgotten where that was refused
-pub data_then : (T : Types) (fs : ℕ) → fs < 32 → (ty block number : ℕ) (bytes : List ℕ) (zeroth first second third : StoreState) → Gives (init_of T zeroth fs ty bytes) zeroth first (Ok (block, number)) →
-    Keeps T fs first second → Keeps T fs second third → Keeps T fs zeroth third
-data_then T fs few ty block number bytes zeroth first second third given attached kept lib array v =
-    let done = gives_ok (init_of T zeroth fs ty bytes) zeroth first (block, number) given in
-    kept lib array (attached lib array (started_keeps T library_layout (library_reads T lib) fs few array zeroth first v fs ty bytes (block, number) done))
 
 pub on_ok : {A E : Type 0} (r : Result A E) {P : Type 0} → P → OnOk r P
 on_ok (Ok x) p = p

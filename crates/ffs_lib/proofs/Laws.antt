@@ -190,7 +190,7 @@ module _ (T : Types) (fs : ℕ) (array : ℕ → Option ℕ) (old : StoreState) 
                   let was : inode_links inode ≡ inode_links found.inode = ap inode_links same in
                   let x = kept inode i in
                   let now : inode_links x.after ≡ links = ap inode_links (same_ok x.after bytes (x.found ∙ p.0)) ∙ ap (λ (f : Fields). f.links) set in
-                  record { kept = λ lt. (x, omega (arith, now, one, was)); freed = λ le. absurd (omega (arith, le, more, was)); zeroed = λ le. absurd (omega (arith, le, more, was)) };
+                  record { kept = λ lt. (x, omega (arith, now, one, was)); zeroed = λ le. absurd (omega (arith, le, more, was)) };
             },
           )
 
@@ -203,11 +203,10 @@ module _ (T : Types) (fs : ℕ) (array : ℕ → Option ℕ) (old : StoreState) 
           (subst (λ (i : List ℕ). HasNoData T (latest old.lives) i) is.bytes none))
 
       pub frees : (new : StoreState) → inode_links found.inode ≡ 1 → (drops : List ℕ) (entry : ℕ) → propose_of T old fs found.block (edit_at (64 * found.place) bytes [] drops (Some e)) ≡ Ok (entry, new) →
-          Stage T fs array new × ((d : ℕ) → d ≢ n → SameInode (latest old.lives) (latest new.lives) fs d) × (inode_in (latest new.lives) fs n ≡ Err NoEntry) × (place_in (latest new.lives) fs n ≡ Ok (replicate 64 0))
+          Stage T fs array new × ((d : ℕ) → d ≢ n → SameInode (latest old.lives) (latest new.lives) fs d) × (place_in (latest new.lives) fs n ≡ Ok (replicate 64 0))
       frees new one drops entry done =
           let h = s.keeps.consistent in
-          let whole : length bytes ≡ 64 = ap length free in
-          let low = (stands_from (latest old.lives) fs n found.inode exact).low in (
+          let whole : length bytes ≡ 64 = ap length free in (
             record {
               library = s.library;
               few = s.few;
@@ -215,7 +214,6 @@ module _ (T : Types) (fs : ℕ) (array : ℕ → Option ℕ) (old : StoreState) 
                   (ap inode_links (sym is.bytes) ∙ one) e can refl;
             },
             others_put T s.library old new h fs s.few n found.block found.place is.stands bytes whole [] drops (Some e) entry done,
-            inode_gone T s.library old new h fs s.few n found.block found.place is.stands bytes whole [] drops (Some e) entry done low (ap inode_mode free ∙ free_mode),
             place_put T s.library old new h fs s.few n found.block found.place is.stands bytes whole [] drops (Some e) entry done ∙ ap (λ (b : List ℕ). Ok b) free,
           )
 
@@ -305,12 +303,12 @@ dropped_put T fs block after old new (Err fault) items there long is p = (p.0, t
 
 -- Both
 
-pub given_up : (u v w : ℕ → List ℕ) (fs n : ℕ) (found : List ℕ) → Ok found ≡ inode_in u fs n → inode_links found ≤ 1 → ((d : ℕ) → d ≢ n → SameInode u v fs d) → ((d : ℕ) → d ≢ n → SameInode v w fs d) → inode_in w fs n ≡ Err NoEntry → place_in w fs n ≡ Ok (replicate 64 0) → TakesLink u w fs n
-given_up u v w fs n found exact few first second gone bare = record {
+pub given_up : (u v w : ℕ → List ℕ) (fs n : ℕ) (found : List ℕ) → Ok found ≡ inode_in u fs n → inode_links found ≤ 1 → ((d : ℕ) → d ≢ n → SameInode u v fs d) → ((d : ℕ) → d ≢ n → SameInode v w fs d) → place_in w fs n ≡ Ok (replicate 64 0) → TakesLink u w fs n
+given_up u v w fs n found exact few first second bare = record {
   others = λ d ne. same_on u v w fs d (first d ne) (second d ne);
   took = λ inode i.
       let was : inode_links inode ≡ inode_links found = ap inode_links (same_ok inode found (i ∙ sym exact)) in
-      record { kept = λ lt. absurd (omega (arith, lt, few, was)); freed = λ le. gone; zeroed = λ le. bare };
+      record { kept = λ lt. absurd (omega (arith, lt, few, was)); zeroed = λ le. bare };
 }
 
 pub may_lose : {T : Types} {fs : ℕ} {array : ℕ → Option ℕ} {old new : StoreState} {slot : Slot} {entry : ℕ} → Stage T fs array old → IsSlot old fs slot → Cleared T fs array old new slot entry → MayLose new fs slot.inode entry
@@ -332,7 +330,6 @@ took_on u v w fs n inode same i k = record {
       let y = k.kept lt in
       let x = same.1 inode i in
       (record { after = y.0.after; found = y.0.found; mode = y.0.mode; size = y.0.size; entries = y.0.entries ∙ x.0; each = λ at low. y.0.each at low ∙ x.1 at low; direct = y.0.direct; room = y.0.room ∙ room_by u v inode inode refl x.1 }, y.1);
-  freed = k.freed;
   zeroed = k.zeroed;
 }
 

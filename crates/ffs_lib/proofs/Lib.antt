@@ -32,7 +32,6 @@ pub mod DataLaws
 pub mod Parting
 pub mod MoveLaws
 pub mod MakeLaws
-pub mod Singles
 pub mod NameCounts
 pub mod Opening
 pub mod Reclaiming
@@ -44,5 +43,9 @@ pub mod PairLaws
 pub mod ValueLists
 pub mod ValueSame
 pub mod ValueMade
+pub mod ValueSteps
+pub mod ValueVolume
+pub mod ValueMoved
+pub mod ValueReplaced
 pub mod Following
 pub mod ValueWritten

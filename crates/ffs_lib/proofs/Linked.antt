@@ -13,7 +13,7 @@ use Rattle.ffs_model.proofs.ForCallers.{everything, everything_cut, everything_s
 use Rattle.ffs_lookup.specs.declared.places.Slot.{Slot}
 use Rattle.ffs_lookup.specs.Newest.{has_empty_pointer, has_room, inode_in, root_in}
 use Rattle.ffs_lookup.specs.Places.{IsSlot}
-use Rattle.ffs_lookup.proofs.ForCallers.{block_again, root_again}
+use Rattle.ffs_lookup.proofs.ForCallers.{block_again, root_again, same_ok}
 use Rattle.ffs_lib.specs.Outcomes.{HasFreePointer}
 use Rattle.ffs_lib.specs.Results.{SameUse}
 use Rattle.ffs_lib.proofs.Owners.{Stands, stands_from, stands_to}
@@ -53,6 +53,13 @@ linked_inode T fs array state v entry is =
     let many = named_linked T fs array state v n y is.some is.names in
     let same : library_layout.links m p ≡ inode_links own = links_read m p low in
     record { own = own; found = stands_to content fs n own stands; linked = omega (arith, many, same) }
+
+pub linked_own : (T : Types) (fs : ℕ) (array : ℕ → Option ℕ) (state : StoreState) → VolumeKeeps T library_layout fs array state → (entry : Slot) → IsSlot state fs entry → (own : List ℕ) → Ok own ≡ inode_in (latest state.lives) fs entry.inode → 1 ≤ inode_links own
+linked_own T fs array state v entry is own e =
+    let named = linked_inode T fs array state v entry is in
+    let same : inode_links own ≡ inode_links named.own = ap inode_links (same_ok own named.own (e ∙ sym named.found)) in
+    let low = named.linked in
+    omega (arith, same, low)
 
 -- where there is a block of inodes there is a first one
 pub first_there : (T : Types) (fs : ℕ) (array : ℕ → Option ℕ) (state : StoreState) → VolumeKeeps T library_layout fs array state → (i c : ℕ) → IsInodes library_layout (latest state.lives) fs i c → (b : ℕ) × IsInodes library_layout (latest state.lives) fs 0 b

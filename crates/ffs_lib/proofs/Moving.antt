@@ -1,7 +1,7 @@
 -- What is left of names and files where a name is moved.
-use Rattle.std.proofs.Common.{◌≡◌, ◌≢◌, ℕ, ◌+◌, ◌*◌, ◌/◌, ◌%◌, ◌<◌, Bool, true, false, cond, List, [], ◌∷◌, ◌++◌, length, map, get_or, replicate, Option, Some, None, Ok, refl, sym, ◌∙◌, ap, inl, inr, arith, subst}
-use Rattle.std.specs.Prelude.{Contains, Result, Err, ◌==◌, filter_map, find, bytes_eq, option_map, flat_map, if◌then◌else◌, not}
-use Rattle.std.specs.List.{cons_option, list_any, range_with_len}
+use Rattle.std.proofs.Common.{◌≡◌, ◌≢◌, ℕ, ◌*◌, ◌/◌, ◌%◌, ◌<◌, Bool, true, false, cond, List, [], ◌∷◌, length, map, get_or, replicate, Option, Some, None, Ok, refl, sym, ◌∙◌, ap, inl, inr, arith, subst}
+use Rattle.std.specs.Prelude.{Contains, Result, Err, ◌==◌, filter_map, find, flat_map, if◌then◌else◌}
+use Rattle.std.specs.List.{cons_option, range_with_len}
 use Rattle.std.specs.Option.{ok_or, option_or}
 use Rattle.std.proofs.lemmas.Bool.{cases_eq}
 use Rattle.std.proofs.lemmas.List.Folds.{find-append}
@@ -13,7 +13,7 @@ use Rattle.xn_model.specs.Calls.{propose_of}
 use Rattle.xn_model.specs.Rules.{IsConsistent}
 use Rattle.xn_model.proofs.ForCallers.{Contains-head, Contains-tail}
 use Rattle.ffs_model.specs.Cuts.{Under, latest}
-use Rattle.ffs_model.specs.Library.{IsLibrary, half_at, inode_blocks, inode_links, inode_mode, library_layout}
+use Rattle.ffs_model.specs.Library.{IsLibrary, half_at, inode_blocks, inode_mode, library_layout}
 use Rattle.ffs_model.proofs.ForCallers.{direct_where, library_reads, proposed_here, proposed_others, under_direct, under_inodes}
 use Rattle.ffs_format.specs.Fields.{fields_of}
 use Rattle.ffs_format.specs.Entries.{is_name}
@@ -22,19 +22,17 @@ use Rattle.ffs_lookup.specs.declared.fault.FfsFault.TheVariants.{BadName, NoEntr
 use Rattle.ffs_lookup.specs.declared.places.Found.{Found}
 use Rattle.ffs_lookup.specs.declared.places.Slot.{Slot}
 use Rattle.ffs_lib.specs.Edits.{edit_at}
-use Rattle.ffs_lookup.specs.Newest.{byte_in, byte_of, directory_in, file_block, entries_in, entry_at, entry_named, is_at, named_in, used_entry, entries_of, first_named, has_name, inode_in, listing, name_at, without_entry}
+use Rattle.ffs_lookup.specs.Newest.{byte_in, byte_of, directory_in, file_block, entries_in, entry_at, entry_named, named_in, used_entry, first_named, has_name, inode_in, listing, name_at, without_entry}
 use Rattle.ffs_lookup.specs.Places.{IsFound, IsSlot}
-use Rattle.ffs_lib.specs.Results.{AsBefore, HasLost, HasMore, HasRenamed, IsAs, IsPlaced, IsLinked, MovedEntry, SameInode}
-use Rattle.ffs_lib.proofs.Alone.{kept_between, none_found, turned_apart}
-use Rattle.ffs_lib.proofs.Entering.{directory_from, directory_same, inode_put}
+use Rattle.ffs_lib.specs.Results.{AsBefore, IsAs, SameInode}
+use Rattle.ffs_lib.proofs.Entering.{directory_from, inode_put}
 use Rattle.ffs_lib.proofs.Fields.{direct_get, same_blocks}
-use Rattle.ffs_lib.proofs.Firsts.{find_listed, find_skip, first_more, named_among, same_bytes}
 use Rattle.ffs_lib.proofs.Frames.{listing_same, listing_without}
 use Rattle.ffs_lookup.proofs.ForCallers.{directory_is, in_directory, same_ok}
 use Rattle.ffs_lib.proofs.Owners.{Stands, block_at, direct_block, passed, pointers_at, stands_from}
 use Rattle.ffs_lib.proofs.Renaming.{is_some_ok}
-use Rattle.ffs_lib.proofs.Rooms.{place_by, placed_after, placed_before, room_by}
-use Rattle.ffs_lib.proofs.Same.{data_touched, edited, file_block_by, inodes_same, same_on}
+use Rattle.ffs_lib.proofs.Rooms.{room_by}
+use Rattle.ffs_lib.proofs.Same.{data_touched, edited, file_block_by, inodes_same}
 use Rattle.ffs_lib.proofs.Writing.{blocks_agree, byte_same}
 
 -- As before, in every way
@@ -171,184 +169,3 @@ named_block content fs d name entry e =
 
 pub directory_to : (content : ℕ → List ℕ) (fs d : ℕ) (inode : List ℕ) → Ok inode ≡ inode_in content fs d → inode_mode inode ≡ 2 → Ok inode ≡ directory_in content fs d
 directory_to content fs d inode e mode = directory_is inode mode ∙ in_directory content fs d (Ok inode) e
-
--- All of it
-
-module _ (u0 u1 u2 u3 u4 : ℕ → List ℕ) (fs d : ℕ) (name : List ℕ) (other : ℕ) (new_name : List ℕ) (from to : List ℕ) (is_from : Ok from ≡ directory_in u0 fs d) (is_to : Ok to ≡ directory_in u0 fs other)
-    (slot : Slot) (first : Some slot ≡ first_named u0 from name) (free : None ≡ first_named u0 to new_name) (linked : (x : ℕ) → AsBefore u0 u1 fs x)
-    (enters : ((inode : List ℕ) → Ok inode ≡ directory_in u1 fs other → HasMore u1 u2 fs other inode new_name slot.inode) × ((e : ℕ) → e ≢ other → SameInode u1 u2 fs e))
-    (slot2 : Slot) (again : Ok slot2 ≡ named_in u2 fs d name)
-    (lost : ((x : ℕ) → inode_in u3 fs x ≡ inode_in u2 fs x) × ((inode : List ℕ) → listing u3 inode ≡ without_entry slot2 (listing u2 inode))
-    × ((n : ℕ) (own : List ℕ) → Ok own ≡ inode_in u2 fs n → Contains (inode_blocks own) slot2.block → (x : ℕ) → x ≢ n → SameInode u2 u3 fs x))
-    (less : (x : ℕ) → AsBefore u3 u4 fs x)
-    (stays : (x : ℕ) → x ≢ slot.inode → SameInode u0 u1 fs x) (rest : (x : ℕ) → x ≢ slot2.inode → SameInode u3 u4 fs x)
-    (one_more : (x after : List ℕ) → Ok x ≡ inode_in u0 fs slot.inode → Ok after ≡ inode_in u1 fs slot.inode → inode_links after ≡ inode_links x + 1)
-    (one_less : (x after : List ℕ) → Ok x ≡ inode_in u3 fs slot2.inode → Ok after ≡ inode_in u4 fs slot2.inode → inode_links after + 1 ≡ inode_links x) where
-  x_from : IsAs u0 u1 fs d from
-  x_from = linked d from (directory_from u0 fs d from is_from).0
-
-  x_to : IsAs u0 u1 fs other to
-  x_to = linked other to (directory_from u0 fs other to is_to).0
-
-  from1 : Ok x_from.after ≡ directory_in u1 fs d
-  from1 = directory_to u1 fs d x_from.after x_from.found (x_from.mode ∙ (directory_from u0 fs d from is_from).1)
-
-  more1 : HasMore u1 u2 fs other x_to.after new_name slot.inode
-  more1 = enters.0 x_to.after (directory_to u1 fs other x_to.after x_to.found (x_to.mode ∙ (directory_from u0 fs other to is_to).1))
-
-  held : (inode2 : List ℕ) × (Ok inode2 ≡ directory_in u2 fs d) × (Some slot2 ≡ first_named u2 inode2 name)
-  held = named_from u2 fs d name slot2 again
-
-  own : (x : ℕ) → x ≢ d → SameInode u2 u3 fs x
-  own = lost.2 d held.0 (directory_from u2 fs d held.0 held.1).0 (block_stands u2 (has_name u2 name) slot2 (inode_blocks held.0) held.2)
-
-  by_listing : listing u2 held.0 ≡ listing u0 from → slot2 ≡ slot
-  by_listing e = same_Some slot2 slot (held.2 ∙ (find_listed u2 name (entries_of u2 held.0) ∙ (ap (named_among name) e ∙ (sym (find_listed u0 name (entries_of u0 from)) ∙ sym first))))
-
-  -- an inode whose links stay between the two edits has as many
-  links_again : slot2 ≡ slot → (x : ℕ) (i0 i1 i3 i4 : List ℕ) → Ok i0 ≡ inode_in u0 fs x → Ok i1 ≡ inode_in u1 fs x → Ok i3 ≡ inode_in u3 fs x → Ok i4 ≡ inode_in u4 fs x → inode_links i3 ≡ inode_links i1 → inode_links i4 ≡ inode_links i0
-  links_again one x i0 i1 i3 i4 e0 e1 e3 e4 between =
-      let number : slot2.inode ≡ slot.inode = ap (λ (s : Slot). s.inode) one in
-      elim (cases_eq x slot.inode) [
-        | inl e ↦
-            let f : x ≡ slot2.inode = e ∙ sym number in
-            let up = one_more i0 i1 (e0 ∙ ap (inode_in u0 fs) e) (e1 ∙ ap (inode_in u1 fs) e) in
-            let down = one_less i3 i4 (e3 ∙ ap (inode_in u3 fs) f) (e4 ∙ ap (inode_in u4 fs) f) in
-            omega (arith, up, down, between)
-        | inr ne ↦
-            let first : i1 ≡ i0 = same_ok i1 i0 (e1 ∙ ((stays x ne).0 ∙ sym e0)) in
-            let last : i4 ≡ i3 = same_ok i4 i3 (e4 ∙ ((rest x (λ z. ne (z ∙ number))).0 ∙ sym e3)) in
-            ap inode_links last ∙ (between ∙ ap inode_links first)
-      ]
-
-  -- to another directory
-  module _ (ne : d ≢ other) where
-    same_inode : x_from.after ≡ held.0
-    same_inode = same_ok x_from.after held.0 (from1 ∙ (sym (directory_same u1 u2 fs d (enters.1 d ne).0) ∙ sym held.1))
-
-    same_listing : listing u2 held.0 ≡ listing u0 from
-    same_listing = ap (listing u2) (sym same_inode) ∙ (((enters.1 d ne).1 x_from.after x_from.found).0 ∙ x_from.entries)
-
-    pub went : HasLost u0 u4 fs d from slot
-    went =
-        let at3 : Ok held.0 ≡ inode_in u3 fs d = (directory_from u2 fs d held.0 held.1).0 ∙ sym (lost.0 d) in
-        let y = less d held.0 at3 in
-        record {
-          after = y.after;
-          directory = directory_to u4 fs d y.after y.found (y.mode ∙ (directory_from u2 fs d held.0 held.1).1);
-          links = links_again (by_listing same_listing) d from x_from.after held.0 y.after (directory_from u0 fs d from is_from).0 x_from.found at3 y.found (ap inode_links (sym same_inode));
-          direct = y.direct ∙ (ap (λ (i : List ℕ). (fields_of i).direct) (sym same_inode) ∙ x_from.direct);
-          size = y.size ∙ (ap (λ (i : List ℕ). word_at i 4) (sym same_inode) ∙ x_from.size);
-          is = y.entries ∙ (lost.1 held.0 ∙ (ap (λ s. without_entry s (listing u2 held.0)) (by_listing same_listing) ∙ ap (without_entry slot) same_listing));
-        }
-
-    pub came : HasMore u0 u4 fs other to new_name slot.inode
-    came =
-        let at2 = directory_from u2 fs other more1.after more1.directory in
-        let s = own other (λ e. ne (sym e)) in
-        let kept = s.1 more1.after at2.0 in
-        let y = less other more1.after (at2.0 ∙ sym s.0) in
-        record {
-          after = y.after;
-          directory = directory_to u4 fs other y.after y.found (y.mode ∙ at2.1);
-          links = links_again (by_listing same_listing) other to x_to.after more1.after y.after (directory_from u0 fs other to is_to).0 x_to.found (at2.0 ∙ sym s.0) y.found more1.links;
-          entry = more1.entry;
-          inode_named = more1.inode_named;
-          front = more1.front;
-          back = more1.back;
-          was = sym x_to.entries ∙ more1.was;
-          is = y.entries ∙ (kept.0 ∙ more1.is);
-          alone = ap (list_any (λ (p : Slot × List ℕ). is_at more1.entry p.0)) (sym x_to.entries) ∙ more1.alone;
-          placed = placed_after u0 to more1.after y.after more1.entry y.direct y.size (placed_before u0 u1 to x_to.after more1.after more1.entry (place_by u0 u1 to x_to.after x_to.direct x_to.each) x_to.direct x_to.size more1.placed);
-          first = first_more u0 u4 to y.after new_name more1.entry more1.front more1.back (sym x_to.entries ∙ more1.was) (y.entries ∙ (kept.0 ∙ more1.is));
-        }
-
-  -- within one
-  module _ (e : d ≡ other) where
-    one_directory : from ≡ to
-    one_directory = same_ok from to (is_from ∙ (ap (directory_in u0 fs) e ∙ sym is_to))
-
-    other_name : bytes_eq new_name name ≡ false
-    other_name = go (bytes_eq new_name name) refl
-      where
-        go : (t : Bool) → bytes_eq new_name name ≡ t → t ≡ false
-        go false f = refl
-        go true f = absurd (none-some slot (sym (first ∙ (ap (first_named u0 from) (sym (same_bytes new_name name f)) ∙ (ap (λ m. first_named u0 m new_name) one_directory ∙ sym free)))))
-
-    after_same : more1.after ≡ held.0
-    after_same = same_ok more1.after held.0 (more1.directory ∙ (ap (directory_in u2 fs) (sym e) ∙ sym held.1))
-
-    old_listing : listing u0 from ≡ more1.front ++ more1.back
-    old_listing = ap (listing u0) one_directory ∙ (sym x_to.entries ∙ more1.was)
-
-    same_slot : slot2 ≡ slot
-    same_slot = same_Some slot2 slot (held.2 ∙ (find_listed u2 name (entries_of u2 held.0)
-        ∙ (ap (named_among name) (ap (listing u2) (sym after_same) ∙ more1.is)
-        ∙ (ap (option_map (λ (p : Slot × List ℕ). p.0)) (find_skip (λ (p : Slot × List ℕ). bytes_eq p.1 name) more1.front more1.back (more1.entry, new_name) other_name)
-        ∙ (ap (named_among name) (sym old_listing) ∙ (sym (find_listed u0 name (entries_of u0 from)) ∙ sym first))))))
-
-    -- the new entry is another one
-    stands : is_at slot more1.entry ≡ false
-    stands =
-        let among : Some slot ≡ named_among name (listing u0 from) = first ∙ find_listed u0 name (entries_of u0 from) in
-        let alone : list_any (λ (p : Slot × List ℕ). is_at more1.entry p.0) (listing u0 from) ≡ false = ap (list_any (λ (p : Slot × List ℕ). is_at more1.entry p.0)) (ap (listing u0) one_directory ∙ sym x_to.entries) ∙ more1.alone in
-        turned_apart more1.entry slot (found_apart (find (λ (p : Slot × List ℕ). bytes_eq p.1 name) (listing u0 from)) refl among alone)
-      where
-        found_apart : (o : Option (Slot × List ℕ)) → o ≡ find (λ (p : Slot × List ℕ). bytes_eq p.1 name) (listing u0 from) → Some slot ≡ option_map (λ (p : Slot × List ℕ). p.0) o →
-            list_any (λ (p : Slot × List ℕ). is_at more1.entry p.0) (listing u0 from) ≡ false → is_at more1.entry slot ≡ false
-        found_apart None e f g = absurd (none-some slot (sym f))
-        found_apart (Some x) e f g =
-            ap (is_at more1.entry) (same_Some slot x.0 f)
-            ∙ none_found (λ (p : Slot × List ℕ). is_at more1.entry p.0) (λ (p : Slot × List ℕ). bytes_eq p.1 name) (listing u0 from) x g e
-
-    pub turned : HasRenamed u0 u4 fs d from slot new_name
-    turned =
-        let at2 = directory_from u2 fs d held.0 held.1 in
-        let y = less d held.0 (at2.0 ∙ sym (lost.0 d)) in
-        record {
-          after = y.after;
-          directory = directory_to u4 fs d y.after y.found (y.mode ∙ at2.1);
-          links = links_again same_slot d from x_from.after held.0 y.after (directory_from u0 fs d from is_from).0 x_from.found (at2.0 ∙ sym (lost.0 d)) y.found
-              (ap inode_links (sym after_same) ∙ (more1.links ∙ ap inode_links (same_ok x_to.after x_from.after (x_to.found ∙ (ap (inode_in u1 fs) (sym e) ∙ sym x_from.found)))));
-          place = more1.entry;
-          inode_named = more1.inode_named;
-          front = more1.front;
-          back = more1.back;
-          was = old_listing;
-          is = y.entries ∙ (lost.1 held.0 ∙ (ap (λ s. without_entry s (listing u2 held.0)) same_slot ∙ (ap (without_entry slot) (ap (listing u2) (sym after_same) ∙ more1.is)
-              ∙ kept_between (λ (p : Slot × List ℕ). not (is_at slot p.0)) more1.front more1.back (more1.entry, new_name) (ap not stands))));
-          placed = placed_after u0 from more1.after y.after more1.entry (y.direct ∙ ap (λ (i : List ℕ). (fields_of i).direct) (sym after_same)) (y.size ∙ ap (λ (i : List ℕ). word_at i 4) (sym after_same))
-              (subst (λ (i : List ℕ). IsPlaced u0 i more1.after more1.entry) (sym one_directory)
-              (placed_before u0 u1 to x_to.after more1.after more1.entry (place_by u0 u1 to x_to.after x_to.direct x_to.each) x_to.direct x_to.size more1.placed));
-        }
-
-  one_slot : slot2 ≡ slot
-  one_slot = elim (cases_eq d other) [ inl e ↦ same_slot e | inr ne ↦ by_listing (same_listing ne) ]
-
-  same_after : (x : ℕ) → x ≢ slot.inode → SameInode u3 u4 fs x
-  same_after x ne = rest x (λ e. ne (e ∙ ap (λ (s : Slot). s.inode) one_slot))
-
-  other_inodes : (x : ℕ) → x ≢ d → x ≢ other → AsBefore u0 u4 fs x
-  other_inodes x ne ne' = as_on u0 u1 u4 fs x (linked x) (as_on u1 u2 u4 fs x (same_as u1 u2 fs x (enters.1 x ne')) (as_on u2 u3 u4 fs x (same_as u2 u3 fs x (own x ne)) (less x)))
-
-  linked_again : slot.inode ≢ d → slot.inode ≢ other → (inode : List ℕ) → Ok inode ≡ inode_in u0 fs slot.inode → IsLinked u0 u4 fs slot.inode inode (inode_links inode)
-  linked_again ne ne' inode at =
-      let n = slot.inode in
-      let a = linked n inode at in
-      let y = other_inodes n ne ne' inode at in
-      let between : Ok a.after ≡ inode_in u3 fs n = a.found ∙ (sym (enters.1 n ne').0 ∙ sym (own n ne).0) in
-      let number : slot2.inode ≡ n = ap (λ (s : Slot). s.inode) one_slot in
-      let up = one_more inode a.after at a.found in
-      let down = one_less a.after y.after (between ∙ sym (ap (inode_in u3 fs) number)) (y.found ∙ sym (ap (inode_in u4 fs) number)) in
-      (y, omega (arith, up, down))
-
-  pub moved : MovedEntry u0 u4 fs d slot other new_name
-  moved = record {
-    lost = λ ne inode i. subst (λ x. HasLost u0 u4 fs d x slot) (same_ok from inode (is_from ∙ sym i)) (went ne);
-    more = λ ne inode i. subst (λ x. HasMore u0 u4 fs other x new_name slot.inode) (same_ok to inode (is_to ∙ sym i)) (came ne);
-    renamed = λ e inode i. subst (λ x. HasRenamed u0 u4 fs d x slot new_name) (same_ok from inode (is_from ∙ sym i)) (turned e);
-    others = other_inodes;
-    same = λ x ne ne' away. same_on u0 u1 u4 fs x (stays x away) (same_on u1 u2 u4 fs x (enters.1 x ne') (same_on u2 u3 u4 fs x (own x ne) (same_after x away)));
-    linked = linked_again;
-    kept = λ ne away. (same_after d away).0 ∙ (lost.0 d ∙ ((enters.1 d ne).0 ∙ (stays d away).0));
-  }

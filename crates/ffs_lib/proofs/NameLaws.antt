@@ -1,7 +1,6 @@
 -- What the edits leave by which a name is made.
-use Rattle.std.proofs.Common.{◌≡◌, ◌≢◌, ℕ, ◌+◌, ◌-◌, ◌*◌, ◌/◌, ◌%◌, ◌^◌, ◌<◌, List, [], ◌∷◌, length, replicate, take, Option, None, Some, Ok, Err, refl, sym, ◌∙◌, ap, arith, subst, inl, inr}
+use Rattle.std.proofs.Common.{◌≡◌, ◌≢◌, ℕ, ◌+◌, ◌-◌, ◌*◌, ◌/◌, ◌%◌, ◌^◌, ◌<◌, List, [], ◌∷◌, length, replicate, Option, None, Some, Ok, Err, refl, sym, ◌∙◌, ap, arith, subst, inl, inr}
 use Rattle.std.specs.Prelude.{Contains, IsTrue, find, option_map, slice_set, ◌==◌}
-use Rattle.std.proofs.lemmas.List.{drop-replicate, take-replicate}
 use Rattle.std.proofs.lemmas.Bool.{cases_eq}
 use Rattle.std.specs.Int.{w32, to_le_bytes}
 use Rattle.std.specs.List.{list_any, range_with_len}
@@ -30,7 +29,7 @@ use Rattle.ffs_lib.specs.Results.{HasMore, IsLowestNumber, SameInode, SameOrNew,
 use Rattle.ffs_lib.specs.Steps.{Entered, IsEntry, IsHome, MayName, ShortEdit, Stage, StopsEntering, StopsGrowing, Tells, Wants, left_by}
 use Rattle.ffs_lib.proofs.Edited.{attached, entered, grown, made, same_root}
 use Rattle.ffs_lib.proofs.Entering.{begun_same, block_entered, directory_from, directory_same, gap_entered, inode_put}
-use Rattle.ffs_lib.proofs.Fields.{free_blocks, one_more, same_blocks}
+use Rattle.ffs_lib.proofs.Fields.{free_blocks, one_more, same_blocks, zeros_inode}
 use Rattle.ffs_lib.proofs.Laws.{can_edit, gives_of, home_of}
 use Rattle.ffs_lib.proofs.Linked.{same_room}
 use Rattle.ffs_lib.proofs.Tops.{never}
@@ -218,9 +217,6 @@ not_added T fs old new free same fault told = record {
 
 no_mode : (p : ℕ) → p < 8 → inode_mode (inode_at zeros p) ≡ 0
 no_mode p lt = sym (mode_read zeros p lt) ∙ zeros_mode p
-
-zeros_inode : (p : ℕ) → p < 8 → inode_at zeros p ≡ replicate 64 0
-zeros_inode p few = ap (take 64) (drop-replicate (64 * p) 512 0) ∙ take-replicate 64 (512 - 64 * p) 0 (omega (arith, few))
 
 module _ (T : Types) (fs : ℕ) (array : ℕ → Option ℕ) (zeroth first : StoreState) (s : Stage T fs array zeroth) (free : HasFreePointer (latest zeroth.lives) fs) (block number : ℕ) (done : init_of T zeroth fs 4 zeros ≡ Ok ((block, number), first)) where
   pub point_stage : Stage T fs array first

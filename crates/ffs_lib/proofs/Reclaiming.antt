@@ -254,14 +254,6 @@ repaired_then u v w fs n (SetLinks links) x same place = λ inode i.
 -- All inodes, one after another
 
 module _ (T : Types) (fs : ℕ) (array : ℕ → Option ℕ) (old : StoreState) (s : Stage T fs array old) (idle : pending_of old fs ≡ 0) where
-  pub begins_middle : InMiddle T fs array old old 0
-  begins_middle = record {
-    stage = s;
-    before = λ i some low. absurd (some (omega (arith, low)));
-    later = λ i of. (refl, λ inode e. (refl, λ at low. refl), λ some few. refl);
-    spares = λ i m high x. x;
-  }
-
   -- an inode's links beside its names are to spare
   spare_of : (n : ℕ) (inode : List ℕ) → Ok inode ≡ inode_in (latest old.lives) fs n → KeepsNumber library_layout old.lives fs None (inode_links inode - names_count (latest old.lives) fs n) n
   spare_of n inode e =
@@ -369,12 +361,6 @@ idle_ok state fs e = elim (cases_eq (pending_of state fs) 0) [
   where
     never : ◌≡◌ {A = Result (Unit {0}) FfsFault} (Ok tt) (Err Pending) → ⊥
     never z = cc
-
-pub busy_err : (T : Types) (fs : ℕ) (state : StoreState) (fault : FfsFault) → Err fault ≡ idle_in state fs → (result : Result Repairs FfsFault) → IsErrAnd result (λ other. other ≡ fault) → Reclaims T fs state state result
-busy_err T fs state fault e result from =
-    let q = err_from_is_err_and result from in
-    subst (λ (r : Result (Unit {0}) FfsFault). Answers r (λ _ repairs. ReclaimedAll (latest state.lives) (latest state.lives) fs repairs) (λ _ fault. StopsReclaiming T fs state state fault) state state result) e
-    (q.1 ∙ ap (λ (x : FfsFault). Err x) q.2, refl)
 
 pub idle_then : (T : Types) (fs : ℕ) (old new : StoreState) (result : Result Repairs FfsFault) → Ok tt ≡ idle_in old fs → MatchResult result (λ repairs. ReclaimedAll (latest old.lives) (latest new.lives) fs repairs) (Stops (StopsReclaiming T fs old new)) →
     Reclaims T fs old new result

@@ -1,5 +1,5 @@
 -- What is left of two files after each edit by which the name of one goes to the other.
-use Rattle.std.proofs.Common.{◌≡◌, ◌≢◌, ℕ, ◌<◌, ◌≤◌, Bool, true, false, cond, List, [], ◌∷◌, map, Option, Some, None, Ok, refl, sym, ◌∙◌, ap, arith, subst, eq-eqb}
+use Rattle.std.proofs.Common.{◌≡◌, ◌≢◌, ℕ, ◌<◌, ◌≤◌, Bool, true, false, List, map, Option, Some, None, Ok, refl, sym, ◌∙◌, ap, arith, subst, eq-eqb}
 use Rattle.std.specs.Prelude.{Contains, bytes_eq, find, option_map, ◌==◌, ◌&&◌, if◌then◌else◌}
 use Rattle.std.proofs.lemmas.Bool.{and_parts, eqb-true}
 use Rattle.std.proofs.lemmas.Option.{same_Some}
@@ -9,10 +9,10 @@ use Rattle.ffs_model.specs.Cuts.{latest}
 use Rattle.ffs_model.specs.Library.{inode_blocks, inode_links, library_layout}
 use Rattle.ffs_lookup.specs.declared.fault.FfsFault.{FfsFault}
 use Rattle.ffs_lookup.specs.declared.places.Slot.{Slot}
-use Rattle.ffs_lookup.specs.Newest.{directory_in, entries_of, inode_in, is_at, listing, named_in, without_entry}
+use Rattle.ffs_lookup.specs.Newest.{directory_in, entries_of, inode_in, is_at, listing, named_in}
 use Rattle.ffs_lookup.specs.Places.{IsSlot}
 use Rattle.ffs_lookup.proofs.ForCallers.{not_both, same_ok}
-use Rattle.ffs_lib.specs.Replacing.{AreDirect, Replaced, ReplacedEntry, StopsReplacing, StopsTurning, Turned, pair_of, turned_entry}
+use Rattle.ffs_lib.specs.Replacing.{AreDirect, Replaced, ReplacedInodes, StopsReplacing, StopsTurning, Turned, pair_of, turned_entry}
 use Rattle.ffs_lib.specs.Results.{IsLinked, SameInode}
 use Rattle.ffs_lib.specs.Steps.{AddsLink, Removable, Removed, StopsRemoving, TakesLink, Unnamed}
 use Rattle.ffs_lib.proofs.Alone.{are_apart}
@@ -25,6 +25,7 @@ use Rattle.ffs_lib.proofs.Replacing.{CanReplace}
 use Rattle.ffs_lib.proofs.Same.{same_on}
 use Rattle.ffs_lib.proofs.StillNamed.{named_to}
 use Rattle.ffs_lib.proofs.TurnLaws.{slot_names}
+use Rattle.ffs_lib.proofs.ValueLists.{find_map}
 use Rattle.ffs_lib.proofs.Writing.{file_from}
 
 -- Entries that name two inodes stand at two places.
@@ -62,7 +63,7 @@ itself_done state fs d other from to a b e =
 pub same_done : (old new : StoreState) (fs d other : ℕ) (from to : Slot) → from ≢ to → from.inode ≡ to.inode → Removed (latest old.lives) (latest new.lives) fs d from → Replaced old new fs d from other to
 same_done old new fs d other from to apart one r = record { itself = λ z. absurd (apart z); same = λ ne e. r; another = λ ne. absurd (ne one) }
 
-pub another_done : (old new : StoreState) (fs d other : ℕ) (from to : Slot) → from.inode ≢ to.inode → ReplacedEntry (latest old.lives) (latest new.lives) fs d from other to → Replaced old new fs d from other to
+pub another_done : (old new : StoreState) (fs d other : ℕ) (from to : Slot) → from.inode ≢ to.inode → ReplacedInodes (latest old.lives) (latest new.lives) fs d from other to → Replaced old new fs d from other to
 another_done old new fs d other from to apart r = record { itself = λ z. absurd (apart (ap (λ (s : Slot). s.inode) z)); same = λ ne e. absurd (apart e); another = λ ne. r }
 
 pub same_stops : (T : Types) (fs : ℕ) (old new : StoreState) (d : ℕ) (from to : Slot) → from ≢ to → from.inode ≡ to.inode → (fault : FfsFault) → StopsRemoving T fs old new d from fault → StopsReplacing T fs old new d from to fault
@@ -72,14 +73,6 @@ pub another_stops : (T : Types) (fs : ℕ) (old new : StoreState) (d : ℕ) (fro
 another_stops T fs old new d from to apart fault r = record { other = λ z. apart (ap (λ (s : Slot). s.inode) z); same = λ e. absurd (apart e); another = λ ne. r }
 
 -- The first entry with a name, where another one was turned
-
-find_map : {A : Type 0} (test : A → Bool) (f : A → A) → ((x : A) → test (f x) ≡ test x) → (xs : List A) → find test (map f xs) ≡ option_map f (find test xs)
-find_map test f same [] = refl
-find_map {A} test f same (x ∷ xs) = ap (λ t. cond t (Some (f x)) (find test (map f xs))) (same x) ∙ (ap (cond (test x) (Some (f x))) (find_map test f same xs) ∙ one (test x))
-  where
-    one : (t : Bool) → cond t (Some (f x)) (option_map f (find test xs)) ≡ option_map f (cond t (Some x) (find test xs))
-    one true = refl
-    one false = refl
 
 module _ (entry : Slot) (n : ℕ) where
   pub same_name : (p : Slot × List ℕ) → (turned_entry entry n p).1 ≡ p.1
@@ -145,10 +138,10 @@ module _ (u : ℕ → List ℕ) (fs d : ℕ) (name : List ℕ) (other : ℕ) (ot
     same1 : (e : ℕ) (inode : List ℕ) → Ok inode ≡ directory_in u fs e → SameInode u v1 fs e
     same1 e inode i = l.others e (not_moved e inode i)
 
-    there1 : (e : ℕ) (inode : List ℕ) → Ok inode ≡ directory_in u fs e → Ok inode ≡ directory_in v1 fs e
+    pub there1 : (e : ℕ) (inode : List ℕ) → Ok inode ≡ directory_in u fs e → Ok inode ≡ directory_in v1 fs e
     there1 e inode i = i ∙ sym (directory_same u v1 fs e (same1 e inode i).0)
 
-    listing1 : (e : ℕ) (inode : List ℕ) → Ok inode ≡ directory_in u fs e → listing v1 inode ≡ listing u inode
+    pub listing1 : (e : ℕ) (inode : List ℕ) → Ok inode ≡ directory_in u fs e → listing v1 inode ≡ listing u inode
     listing1 e inode i = ((same1 e inode i).1 inode (directory_from u fs e inode i).0).0
 
     -- the second entry is still the first with its name
@@ -157,7 +150,7 @@ module _ (u : ℕ → List ℕ) (fs d : ℕ) (name : List ℕ) (other : ℕ) (ot
         (x.second ∙ (find_listed u other_name (entries_of u x.target) ∙ (ap (named_among other_name) (sym (listing1 other x.target x.is_target)) ∙ sym (find_listed v1 other_name (entries_of v1 x.target)))))
 
     module _ (v2 : ℕ → List ℕ) (t : Turned v1 v2 fs to n) (places : is_at to from ≡ false) where
-      there2 : (e : ℕ) (inode : List ℕ) → Ok inode ≡ directory_in u fs e → Ok inode ≡ directory_in v2 fs e
+      pub there2 : (e : ℕ) (inode : List ℕ) → Ok inode ≡ directory_in u fs e → Ok inode ≡ directory_in v2 fs e
       there2 e inode i = there1 e inode i ∙ sym (directory_same v1 v2 fs e (t.inodes e))
 
       listing2 : (e : ℕ) (inode : List ℕ) → Ok inode ≡ directory_in u fs e → listing v2 inode ≡ map (turned_entry to n) (listing u inode)
@@ -192,7 +185,7 @@ module _ (u : ℕ → List ℕ) (fs d : ℕ) (name : List ℕ) (other : ℕ) (ot
         after_clear : (e : ℕ) → e ≢ d → SameInode v2 g.middle fs e
         after_clear = g.cleared.others d home_removable.own home_removable.is home_removable.has
 
-        rest : (e : ℕ) → e ≢ d → e ≢ other → e ≢ n → SameInode u v4 fs e
+        pub rest : (e : ℕ) → e ≢ d → e ≢ other → e ≢ n → SameInode u v4 fs e
         rest e ne ne' away = same_on u v1 v4 fs e (l.others e away) (same_on v1 v2 v4 fs e (after_turn e ne') (same_on v2 g.middle v4 fs e (after_clear e ne) (g.took.others e away)))
 
         moved_no_home : n ≢ d
@@ -206,6 +199,9 @@ module _ (u : ℕ → List ℕ) (fs d : ℕ) (name : List ℕ) (other : ℕ) (ot
 
         former_no_target : to.inode ≢ other
         former_no_target z = not_former other x.target x.is_target (sym z)
+
+        pub former_same : SameInode u v4 fs to.inode
+        former_same = rest to.inode former_no_home former_no_target (λ z. apart (sym z))
 
         module _ (linked : 1 ≤ inode_links x.own) where
           -- two links at least
@@ -230,20 +226,16 @@ module _ (u : ℕ → List ℕ) (fs d : ℕ) (name : List ℕ) (other : ℕ) (ot
                 let down = less.1 a.after y.after at3 (y.found ∙ s5.0) in
                 (y, omega (arith, up, down))
 
-            pub replaced : ReplacedEntry u w fs d from other to
+            pub replaced : ReplacedInodes u w fs d from other to
             replaced = record {
-              lists = λ e inode i.
-                  let s4 = g.took.others e (not_moved e inode i) in
-                  let s5 = k.others e (not_former e inode i) in
+              inodes = λ e inode i.
                   let at = directory_from u fs e inode i in
                   let at3 : Ok inode ≡ inode_in g.middle fs e = (directory_from v2 fs e inode (there2 e inode i)).0 ∙ sym (g.cleared.inodes e) in
-                  let at4 : Ok inode ≡ inode_in v4 fs e = at3 ∙ sym s4.0 in (
-                    directory_to w fs e inode (at4 ∙ sym s5.0) at.1,
-                    (s5.1 inode at4).0 ∙ ((s4.1 inode at3).0 ∙ (g.cleared.entries inode ∙ ap (without_entry from) (listing2 e inode i))),
-                  );
+                  let at4 : Ok inode ≡ inode_in v4 fs e = at3 ∙ sym (g.took.others e (not_moved e inode i)).0 in
+                  directory_to w fs e inode (at4 ∙ sym (k.others e (not_former e inode i)).0) at.1;
               moved = moved;
               former = λ inode i.
-                  let s = rest to.inode former_no_home former_no_target (λ z. apart (sym z)) in
+                  let s = former_same in
                   took_on u v4 w fs to.inode inode s i (k.took inode (i ∙ sym s.0));
               others = λ e ne ne' away away'. same_on u v4 w fs e (rest e ne ne' away) (k.others e away');
             }

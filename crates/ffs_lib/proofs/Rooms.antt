@@ -1,5 +1,5 @@
 -- Whether a directory has room, by what is read of its blocks.
-use Rattle.std.proofs.Common.{◌≡◌, ◌≢◌, ℕ, zero, suc, ◌+◌, ◌*◌, ◌/◌, ◌%◌, ◌<◌, Bool, true, false, cond, List, [], ◌∷◌, Some, length, inl, inr, take, drop, get_or, refl, sym, ◌∙◌, ap, arith, get_or-take, get_or-drop}
+use Rattle.std.proofs.Common.{◌≡◌, ◌≢◌, ℕ, zero, suc, ◌+◌, ◌*◌, ◌/◌, ◌%◌, ◌<◌, Bool, true, false, cond, List, [], ◌∷◌, Some, inl, inr, take, drop, get_or, refl, sym, ◌∙◌, ap, arith, get_or-take, get_or-drop}
 use Rattle.std.specs.Prelude.{Contains, ◌==◌, ◌||◌, find, if◌then◌else◌, option_map, slice_set}
 use Rattle.std.specs.Int.{w16, from_le_bytes}
 use Rattle.std.specs.List.{list_any, range_with_len}
@@ -106,10 +106,4 @@ pub placed_before : (u v : ℕ → List ℕ) (first inode after : List ℕ) (ent
 placed_before u v first inode after entry room direct size p = elim p [
   | inl x ↦ inl (x.0 ∙ room, x.1 ∙ direct, x.2 ∙ size)
   | inr x ↦ inr (x.0, x.1 ∙ room, x.2, x.3 ∙ ap (λ ws. slice_set ws x.0 entry.block) direct, x.4)
-]
-
-pub placed_after : (u : ℕ → List ℕ) (inode after last : List ℕ) (entry : Slot) → (fields_of last).direct ≡ (fields_of after).direct → word_at last 4 ≡ word_at after 4 → IsPlaced u inode after entry → IsPlaced u inode last entry
-placed_after u inode after last entry direct size p = elim p [
-  | inl x ↦ inl (x.0, direct ∙ x.1, size ∙ x.2)
-  | inr x ↦ inr (x.0, x.1, x.2, direct ∙ x.3, size ∙ (x.4 ∙ ap (λ (bs : List ℕ). 512 * length bs) (sym (same_blocks after last direct))))
 ]

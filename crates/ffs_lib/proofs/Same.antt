@@ -356,9 +356,6 @@ begun_some T state new h fs ty bytes made done e =
 pub contents_on : (u v w : ℕ → List ℕ) (inode : List ℕ) → SameContents u v inode → SameContents v w inode → SameContents u w inode
 contents_on u v w inode a b = (b.0 ∙ a.0, λ at low. b.1 at low ∙ a.1 at low)
 
-pub use_on : (u v w : ℕ → List ℕ) (fs d : ℕ) → SameUse u v fs d → SameUse v w fs d → SameUse u w fs d
-use_on u v w fs d a b = (b.0 ∙ a.0, λ inode e. contents_on u v w inode (a.1 inode e) (b.1 inode (e ∙ sym a.0)))
-
 pub same_on : (u v w : ℕ → List ℕ) (fs d : ℕ) → SameInode u v fs d → SameInode v w fs d → SameInode u w fs d
 same_on u v w fs d a b = (b.0 ∙ a.0, λ inode e. contents_on u v w inode (a.1 inode e) (b.1 inode (e ∙ sym a.0)), λ some low. b.2 some low ∙ a.2 some low)
 

@@ -15,10 +15,9 @@ use Rattle.ffs_model.specs.Cuts.{Under, latest, root}
 use Rattle.ffs_model.specs.Names.{IsRoot}
 use Rattle.ffs_model.specs.Library.{inode_at, inode_pairs, library_layout, pointer_word}
 use Rattle.ffs_model.specs.Shortages.{is_shortage}
-use Rattle.ffs_model.proofs.ForCallers.{Replaces, data_short, direct_set, gives_short, inode_add_short, inode_freed_short, inode_short, inode_words, library_reads, root_set_short, started, under_direct, under_inodes}
+use Rattle.ffs_model.proofs.ForCallers.{Replaces, data_short, direct_set, inode_add_short, inode_freed_short, inode_short, inode_words, library_reads, root_set_short, started, under_direct, under_inodes}
 use Rattle.ffs_format.specs.Fields.{direct_in, fields_of}
 use Rattle.ffs_lookup.specs.declared.fault.FfsFault.{FfsFault}
-use Rattle.ffs_lookup.specs.declared.fault.FfsFault.TheVariants.{Kernel}
 use Rattle.ffs_lookup.specs.declared.places.Slot.{Slot}
 use Rattle.ffs_lookup.specs.Newest.{is_short}
 use Rattle.ffs_lookup.specs.Places.{IsEmptyPointer, IsPlace, IsSlot}
@@ -31,10 +30,6 @@ use Rattle.ffs_lib.proofs.Writing.{get_apart, get_here}
 
 -- Results
 
--- a refusal that is handed on
-pub handed : {A : Type 0} (result : Result A FfsFault) (refusal : Refusal) → IsErrAnd result (λ fault. fault ≡ Kernel refusal) → is_shortage refusal ≡ true → OnlyShort result
-handed {A} result refusal h s = let p = err_from_is_err_and result h in subst (λ (r : Result A FfsFault). OnlyShort r) (sym p.1) (ap is_short p.2 ∙ s)
-
 -- a fault that is handed on
 pub handed_on : {A : Type 0} (result : Result A FfsFault) (fault : FfsFault) → IsErrAnd result (λ other. other ≡ fault) → is_short fault ≡ true → OnlyShort result
 handed_on {A} result fault h s = let p = err_from_is_err_and result h in subst (λ (r : Result A FfsFault). OnlyShort r) (sym p.1) (ap is_short p.2 ∙ s)
@@ -46,9 +41,6 @@ short_fault {A} r fault e h = subst (λ (x : Result A FfsFault). OnlyShort x) e 
 
 abbrev pub ShortEdit : Types → StoreState → ℕ → ℕ → Edit → Type 0
 ShortEdit T state fs block edit = (r : Refusal) → propose_of T state fs block edit ≡ Err r → is_shortage r ≡ true
-
-pub refusal_short : (T : Types) (old new : StoreState) (fs block : ℕ) (edit same : Edit) (refusal : Refusal) → edit ≡ same → Gives (propose_of T old fs block edit) old new (Err refusal) → ShortEdit T old fs block same → is_shortage refusal ≡ true
-refusal_short T old new fs block edit same refusal e h short = gives_short (propose_of T old fs block edit) old new refusal h (λ s k. short s (ap (propose_of T old fs block) (sym e) ∙ k))
 
 -- a block that begins its life may be added
 pub begun_addable : (T : Types) (old new : StoreState) (fs ty block number : ℕ) (bytes : List ℕ) → Gives (init_of T old fs ty bytes) old new (Ok (block, number)) → may_add new fs (block, ty) ≡ true

@@ -1,6 +1,6 @@
 -- What a file system has before its volume is made, and after.
-use Rattle.std.proofs.Common.{◌≡◌, ◌≢◌, ℕ, zero, suc, ◌+◌, ◌-◌, ◌*◌, ◌/◌, ◌%◌, ◌^◌, ◌<◌, ◌≤◌, ◌⊎◌, Bool, true, false, List, [], ◌∷◌, length, Option, Some, None, Result, Ok, Err, refl, sym, ◌∙◌, ap, inl, inr, arith, subst, eq-eqb}
-use Rattle.std.specs.Prelude.{Contains, not, ◌==◌, ◌&&◌, ◌||◌, nat_lt, if◌then◌else◌, option_map, option_to_list, ◌++◌, IfErr, OnOk}
+use Rattle.std.proofs.Common.{◌≡◌, ◌≢◌, ℕ, zero, suc, ◌+◌, ◌-◌, ◌*◌, ◌%◌, ◌^◌, ◌<◌, ◌≤◌, ◌⊎◌, Bool, true, false, List, [], ◌∷◌, length, Option, Some, None, Result, Ok, Err, refl, sym, ◌∙◌, ap, inl, inr, arith, subst, eq-eqb, replicate}
+use Rattle.std.specs.Prelude.{Contains, not, ◌==◌, ◌&&◌, nat_lt, if◌then◌else◌, option_map, option_to_list, ◌++◌, IfErr, OnOk}
 use Rattle.std.specs.Int.{w32, to_le_bytes}
 use Rattle.std.specs.List.{range_with_len}
 use Rattle.std.proofs.lemmas.Bool.{cases_eq, cases_lt, eqb-false, eqb-true, false≢true, le-ltb, ne_eqb}
@@ -19,17 +19,17 @@ use Rattle.xn_model.proofs.ForCallers.{Contains-cons, Contains-head, Contains-no
 use Rattle.ffs_model.specs.Cuts.{Under, latest, root}
 use Rattle.ffs_model.specs.Names.{IsInodes, IsRoot}
 use Rattle.ffs_model.specs.Shortages.{is_shortage}
-use Rattle.ffs_model.specs.Library.{IsLibrary, direct_word, half_at, inode_at, inode_mode, inode_pairs, library_layout, pointer_word, zeros}
-use Rattle.ffs_model.proofs.ForCallers.{bytes_apart, gives_short, mode_read, pointed_none, proposed_others, rooted, rooted_here, rooted_others, started, started_here, started_others, word_apart, zero_word, zeros_mode, zeros_pointer}
+use Rattle.ffs_model.specs.Library.{IsLibrary, direct_word, inode_at, inode_pairs, library_layout, pointer_word, zeros}
+use Rattle.ffs_model.proofs.ForCallers.{bytes_apart, gives_short, pointed_none, rooted, rooted_here, rooted_others, started, started_here, started_others, word_apart, zero_word, zeros_pointer}
 use Rattle.ffs_lookup.specs.declared.fault.FfsFault.{FfsFault}
 use Rattle.ffs_lookup.specs.declared.fault.FfsFault.TheVariants.{BadName, DirNotEmpty, Exists, IsDir, Kernel, NoEntry, NoInode, NotDir, Pending, TooLarge, Unsound}
-use Rattle.ffs_lookup.specs.Newest.{has_pointer, if_bare, if_makeable, inode_block_in, inode_in, is_own, is_short, make_in, root_in, unless_unused}
-use Rattle.ffs_lookup.proofs.ForCallers.{gives_ok, in_inode_block, in_root_block, kind_known, no_inode_block, no_number, no_root_block, pointer_is, root_again, used_is, zero_is}
+use Rattle.ffs_lookup.specs.Newest.{has_pointer, if_bare, if_makeable, inode_block_in, is_own, is_short, make_in, root_in}
+use Rattle.ffs_lookup.proofs.ForCallers.{gives_ok, in_root_block, kind_known, no_root_block, pointer_is, root_again, zero_is}
 use Rattle.ffs_lib.specs.Edits.{edit_at}
-use Rattle.ffs_lib.specs.Outcomes.{GetsRoot, IsReady, MakesTop, OnlyShort, SetsRoot}
-use Rattle.ffs_lib.specs.Results.{MadeVolume, SameInode, SameUse, new_inode}
-use Rattle.ffs_lib.proofs.Owners.{number_from}
-use Rattle.ffs_lib.proofs.Same.{Touches, begun, begun_some, none_touched, now_pointed, none_pointed, pointer_touched, use_on}
+use Rattle.ffs_lib.specs.Outcomes.{FirstInodes, GetsRoot, IsReady, MakesTop, OnlyShort, SetsRoot}
+use Rattle.ffs_lib.specs.Results.{new_inode}
+use Rattle.ffs_lib.proofs.Fields.{zeros_inode}
+use Rattle.ffs_lib.proofs.Same.{Touches, begun, begun_some, place_added, place_kept}
 
 -- What `make` finds
 
@@ -162,13 +162,25 @@ module _ (content : ℕ → List ℕ) (fs : ℕ) where
   rootless_slot e = let s = slot (content 0) fs in eqb-true s.0 0 (false_first (s.0 == 0) (s.1 == 3) (content s.0) e)
 
   -- a bare root block points to nothing
+  bare_pointer : (bare : BareRoot content fs) (j : ℕ) → j < 16 → pointer_word (content bare.block) j ≡ 0
+  bare_pointer bare j low = elim (cases_eq (pointer_word (content bare.block) j) 0) [
+    | inl e ↦ e
+    | inr ne ↦
+        absurd (false≢true (sym bare.none ∙ any_from (λ i. not (pointer_word (content bare.block) i == 0)) (range_with_len 0 16) j (among 16 0 j (omega arith) (omega (arith, low))) (ap not (ne_eqb (pointer_word (content bare.block) j) 0 ne))))
+  ]
+    where
+      among : (n a i : ℕ) → a ≤ i → i < a + n → Contains (range_with_len a n) i
+      among zero a i low high = absurd (omega (arith, low, high))
+      among (suc n) a i low high = elim (cases_lt a i) [
+        | inl lt ↦ Contains-tail a (range_with_len (a + 1) n) i (among n (a + 1) i (omega (arith, lt)) (omega (arith, high)))
+        | inr ge ↦ let e : a ≡ i = omega (arith, low, ge) in subst (λ z. Contains (range_with_len a (suc n)) z) e (Contains-head a (range_with_len (a + 1) n))
+      ]
+
   pub no_pointers : BareRoot content fs → (j b : ℕ) → IsInodes library_layout content fs j b → ⊥
   no_pointers bare j b x =
       let same : x.root ≡ bare.block = ap (λ (p : ℕ × ℕ). p.0) (sym x.is_root.at ∙ bare.is_root.at) in
       let read = under (nat_lt j 16) (pointer_word (content x.root) j) x.points in
-      false≢true (sym bare.none ∙
-      any_from (λ i. not (pointer_word (content bare.block) i == 0)) (range_with_len 0 16) j (among 16 0 j (omega arith) (is_lower read.0))
-      (ap not (ne_eqb (pointer_word (content bare.block) j) 0 (λ z. x.there (sym read.1 ∙ (ap (λ c. pointer_word (content c) j) same ∙ z))))))
+      x.there (sym read.1 ∙ (ap (λ c. pointer_word (content c) j) same ∙ bare_pointer bare j (is_lower read.0)))
     where
       under : (t : Bool) (v : ℕ) → (if t then v else 0) ≡ b → (t ≡ true) × (v ≡ b)
       under true v e = (refl, e)
@@ -177,26 +189,12 @@ module _ (content : ℕ → List ℕ) (fs : ℕ) where
       is_lower : nat_lt j 16 ≡ true → j < 16
       is_lower e = elim (cases_lt j 16) [ inl lt ↦ lt | inr ge ↦ absurd (false≢true (sym (le-ltb j 16 ge) ∙ e)) ]
 
-      among : (n a i : ℕ) → a ≤ i → i < a + n → Contains (range_with_len a n) i
-      among zero a i low high = absurd (omega (arith, low, high))
-      among (suc n) a i low high = elim (cases_lt a i) [
-        | inl lt ↦ Contains-tail a (range_with_len (a + 1) n) i (among n (a + 1) i (omega (arith, lt)) (omega (arith, high)))
-        | inr ge ↦ let e : a ≡ i = omega (arith, low, ge) in subst (λ z. Contains (range_with_len a (suc n)) z) e (Contains-head a (range_with_len (a + 1) n))
-      ]
-
-  -- where there is no block of inodes, no inode is in use
-  pub no_inodes : ((j : ℕ) → j < 16 → Err NoEntry ≡ inode_block_in content fs j) → (d : ℕ) → Err NoEntry ≡ inode_in content fs d
-  no_inodes none d = go ((d == 0) || nat_lt 128 d) refl
-    where
-      go : (t : Bool) → ((d == 0) || nat_lt 128 d) ≡ t → Err NoEntry ≡ inode_in content fs d
-      go true e = no_number content fs d e
-      go false e = let n = number_from d e in let low = n.1 in no_inode_block content fs d e ((d - 1) / 8) NoEntry refl (none ((d - 1) / 8) (omega (arith, low)))
-
-pub neither : (v w : ℕ → List ℕ) (fs d : ℕ) → Err NoEntry ≡ inode_in v fs d → Err NoEntry ≡ inode_in w fs d → SameUse v w fs d
-neither v w fs d old new = (sym new ∙ old, λ inode e. absurd (not_both inode (e ∙ sym old)))
-  where
-    not_both : (x : List ℕ) → ◌≡◌ {A = Result (List ℕ) FfsFault} (Ok x) (Err NoEntry) → ⊥
-    not_both x e = cc
+  -- where `make` goes on there is no block of inodes
+  pub no_blocks : (begun : Bool) → Ok begun ≡ make_in content fs → (j : ℕ) → j < 16 → Err NoEntry ≡ inode_block_in content fs j
+  no_blocks false e j low = no_root_block content fs j NoEntry (rootless e)
+  no_blocks true e j low =
+      let bare = bare_from e in
+      zero_is (pointer_word (content bare.block) j) (bare_pointer bare j low) ∙ in_root_block content fs j bare.block (content bare.block) (root_again content fs bare.block bare.is_root) refl
 
 -- A root block is made
 
@@ -256,10 +254,6 @@ module _ (T : Types) (fs : ℕ) (block number : ℕ) (zeroth first second third 
       ready : IsConsistent T zeroth → Ok false ≡ make_in (latest zeroth.lives) fs → IsReady zeroth second fs
       ready h none = record {
         ready = bare_to (latest second.lives) fs block (is_root h) (no_pointer h 0 (omega arith)) (none_set (latest second.lives block) (no_pointer h));
-        stays = λ d. neither (latest zeroth.lives) (latest second.lives) fs d
-            (no_inodes (latest zeroth.lives) fs (λ j low. no_root_block (latest zeroth.lives) fs j NoEntry (rootless (latest zeroth.lives) fs none)) d)
-            (no_inodes (latest second.lives) fs (λ j low.
-            zero_is (pointer_word (latest second.lives block) j) (no_pointer h j low) ∙ in_root_block (latest second.lives) fs j block (latest second.lives block) (root_again (latest second.lives) fs block (is_root h)) refl) d);
         kept = λ c l ne alive.
             let r = started T zeroth first fs 3 zeros (block, number) done in
             set.1 c ne ∙ started_others T zeroth first fs 3 zeros (block, number) done c (λ z. none-some l (sym r.free ∙ (ap (life_at zeroth.lives) (sym z) ∙ alive)));
@@ -272,9 +266,6 @@ module _ (T : Types) (fs : ℕ) (block number : ℕ) (zeroth first second third 
           not_free : (P : Life → Bool) (o : Option Life) → o ≡ None → alive_and P o ≡ true → ⊥
           not_free P None e may = cc
           not_free P (Some l) e may = absurd (none-some l (sym e))
-
-pub was_ready : (T : Types) (state : StoreState) (fs : ℕ) → GetsRoot T fs true state state
-was_ready T state fs lib h e = record { ready = e; stays = λ d. (refl, λ inode is. (refl, λ at low. refl)); kept = λ c l ne alive. refl; addable = λ p may. may }
 
 -- Its edits are refused for want of something alone
 
@@ -316,16 +307,11 @@ refused_short T old new fs b edit same refusal e given short = gives_short (prop
 
 -- The first block of inodes is attached
 
-top_there : inode_at (put zeros 0 (new_inode 2)) 0 ≡ new_inode 2
+pub top_there : inode_at (put zeros 0 (new_inode 2)) 0 ≡ new_inode 2
 top_there = refl
 
-none_beside : (p : ℕ) → p ≢ 0 → p < 8 → inode_mode (inode_at (put zeros 0 (new_inode 2)) p) ≡ 0
-none_beside p some low =
-    ap inode_mode (bytes_apart zeros 0 (new_inode 2) (omega arith) 64 (64 * p) (inr (omega (arith, some)))) ∙ (sym (mode_read zeros p low) ∙ zeros_mode p)
-
-top_mode : inode_mode (new_inode 2) ≡ 2
-unfolding half_at
-top_mode = refl
+pub free_beside : (p : ℕ) → p ≢ 0 → p < 8 → inode_at (put zeros 0 (new_inode 2)) p ≡ replicate 64 0
+free_beside p some low = bytes_apart zeros 0 (new_inode 2) (omega arith) 64 (64 * p) (inr (omega (arith, some))) ∙ zeros_inode p low
 
 -- a mode stands at the start
 some_word : pointer_word (put zeros 0 (new_inode 2)) 0 ≡ 0 → ⊥
@@ -343,28 +329,17 @@ top_bare m is p low = λ i. pointed_none (direct_word m p) 12 2 (λ k lt. word (
     word k past fits = ap (λ b. word_at b k) (is ∙ start) ∙ (word_apart zeros 0 (2 ∷ 0 ∷ 1 ∷ 0 ∷ []) (omega arith) k (inr (omega (arith, past))) ∙ zero_word k)
 
 pub makes_top : (T : Types) (lib : IsLibrary T) (old new : StoreState) (h : IsConsistent T old) (fs : ℕ) (few : fs < 32) (top b entry : ℕ) → IsRoot (latest old.lives) fs top → pointer_word (latest old.lives top) 0 ≡ 0 → length (latest old.lives top) ≡ 512 →
-    b < 2 ^ 32 → b ≢ 0 → latest old.lives b ≡ put zeros 0 (new_inode 2) → propose_of T old fs top (edit_at 0 (to_le_bytes w32 b) ((b, 4) ∷ []) [] None) ≡ Ok (entry, new) → MadeVolume (latest old.lives) (latest new.lives) fs
+    b < 2 ^ 32 → b ≢ 0 → latest old.lives b ≡ put zeros 0 (new_inode 2) → propose_of T old fs top (edit_at 0 (to_le_bytes w32 b) ((b, 4) ∷ []) [] None) ≡ Ok (entry, new) →
+    FirstInodes (latest old.lives) (latest new.lives) fs (put zeros 0 (new_inode 2))
 makes_top T lib old new h fs few top b entry is_root empty long small there bytes done =
     record {
-      free = sym (no_inode_block v fs 1 refl 0 NoEntry refl (sym (none_pointed T lib old new h fs few top 0 b entry is_root (omega arith) empty long small there done)));
-      top = sym (used_is (new_inode 2) (λ z. let two = top_mode in omega (arith, z, two)) ∙ (ap unless_unused (sym top_there ∙ ap (λ m. inode_at m 0) (sym bytes ∙ sym same))
-          ∙ in_inode_block w fs 1 refl 0 0 b (w b) refl refl (sym (now_pointed T lib old new h fs few top 0 b entry is_root (omega arith) empty long small there done)) refl));
-      others = λ d ne. pointer_touched T lib old new h fs few top 0 b entry is_root (omega arith) empty long small there done apart d
-          (λ some e. ap (λ m. inode_mode (inode_at m ((d - 1) % 8))) bytes ∙ none_beside ((d - 1) % 8) (omega (arith, some, ne, e)) (omega arith));
+      first = λ n low index. (place_added T lib old new h fs few top 0 b entry is_root (omega arith) empty long small there done apart n index).1 ∙ ap (λ (m : List ℕ). Ok (inode_at m ((n - 1) % 8))) bytes;
+      rest = λ n low ne. place_kept T lib old new h fs few top 0 b entry is_root (omega arith) empty long small there done n low ne;
     }
   where
-    v : ℕ → List ℕ
-    v = latest old.lives
-
-    w : ℕ → List ℕ
-    w = latest new.lives
-
     -- a root block has no pointer at its start, this block has a mode there
     apart : b ≢ top
-    apart e = some_word (sym (ap (λ m. pointer_word m 0) bytes) ∙ (ap (λ c. pointer_word (v c) 0) e ∙ empty))
-
-    same : w b ≡ v b
-    same = proposed_others T old new h fs top (edit_at 0 (to_le_bytes w32 b) ((b, 4) ∷ []) [] None) entry done b apart
+    apart e = some_word (sym (ap (λ m. pointer_word m 0) bytes) ∙ (ap (λ c. pointer_word (latest old.lives c) 0) e ∙ empty))
 
 -- One after another
 
@@ -398,21 +373,11 @@ module _ (T : Types) (lib : IsLibrary T) (fs : ℕ) (few : fs < 32) (block numbe
   done : init_of T zeroth fs 4 bytes ≡ Ok ((block, number), first)
   done = gives_ok (init_of T zeroth fs 4 bytes) zeroth first (block, number) given
 
-  -- a type of which no block is reached
-  touched : Touches T (latest zeroth.lives) (latest first.lives) fs block 6
-  touched = begun T zeroth first h fs few 4 6 bytes (block, number) done
-
   there : block ≢ 0
   there = begun_some T zeroth first h fs 4 bytes (block, number) done
 
   ready : IsReady first second fs
   ready = prepared lib h1 (found ∙ sym (found_still T fs few block number 4 zeroth first h bytes given))
-
-  stays : (d : ℕ) → SameUse (latest zeroth.lives) (latest second.lives) fs d
-  stays d =
-      let begins : SameInode (latest zeroth.lives) (latest first.lives) fs d =
-      none_touched T lib zeroth h fs few (latest first.lives) block 6 touched (λ z. omega (arith, z)) (λ z. omega (arith, z)) (λ z. omega (arith, z)) (λ z. omega (arith, z)) d in
-      use_on (latest zeroth.lives) (latest first.lives) (latest second.lives) fs d (begins.0, begins.1) (ready.stays d)
 
   holds : latest second.lives block ≡ put zeros 0 (new_inode 2)
   holds =
@@ -420,16 +385,12 @@ module _ (T : Types) (lib : IsLibrary T) (fs : ℕ) (few : fs < 32) (block numbe
       ready.kept block (new_life zeroth.next (Some fs) 4 bytes) there (ap (λ xs. life_at xs block) r.lives ∙ set_same zeroth.lives block (Some (new_life zeroth.next (Some fs) 4 bytes)) r.within)
       ∙ (started_here T zeroth first fs 4 bytes (block, number) done ∙ is)
 
-  pub made_volume : {A : Type 0} (third fourth : StoreState) (attached : Result A FfsFault) (x : A) → Ok x ≡ attached → OnOk attached (MakesTop T fs block second third) → fourth ≡ third → MadeVolume (latest zeroth.lives) (latest fourth.lives) fs
+  -- so there is a volume
+  pub made_volume : {A : Type 0} (third fourth : StoreState) (attached : Result A FfsFault) (x : A) → Ok x ≡ attached → OnOk attached (MakesTop T fs block second third) → fourth ≡ third →
+      (Ok true ≡ make_in (latest second.lives) fs) × FirstInodes (latest second.lives) (latest fourth.lives) fs (put zeros 0 (new_inode 2))
   made_volume {A} third fourth attached x is_ok tops same =
       let top : MakesTop T fs block second third = subst (λ (r : Result A FfsFault). OnOk r (MakesTop T fs block second third)) (sym is_ok) tops in
-      let m = top lib h2 holds there in
-      subst (λ (s : StoreState). MadeVolume (latest zeroth.lives) (latest s.lives) fs) (sym same)
-      (record {
-        free = sym (stays 1).0 ∙ m.free;
-        top = m.top;
-        others = λ d ne. use_on (latest zeroth.lives) (latest second.lives) (latest third.lives) fs d (stays d) (m.others d ne);
-      })
+      (ready.ready, subst (λ (s : StoreState). FirstInodes (latest second.lives) (latest s.lives) fs (put zeros 0 (new_inode 2))) (sym same) (top lib h2 holds there))
 
   pub attached_short : {A : Type 0} (result : Result A FfsFault) → (IsLibrary T → IsConsistent T second → Ok true ≡ make_in (latest second.lives) fs → may_add second fs (block, 4) ≡ true → OnlyShort result) → OnlyShort result
   attached_short result short = short lib h2 ready.ready (ready.addable (block, 4) (new_addable T fs zeroth first h few 4 block number bytes given))

@@ -1,5 +1,5 @@
 -- The places of a directory's value, by its listing.
-use Rattle.std.proofs.Common.{◌≡◌, ◌≢◌, ℕ, zero, suc, ◌+◌, ◌*◌, ◌<◌, ◌≤◌, ◌⊎◌, Bool, true, false, cond, List, [], ◌∷◌, ◌++◌, Option, Some, None, refl, sym, ◌∙◌, ap, inl, inr, arith, eq-eqb, subst}
+use Rattle.std.proofs.Common.{◌≡◌, ◌≢◌, ℕ, zero, suc, ◌+◌, ◌*◌, ◌<◌, ◌≤◌, ◌⊎◌, Bool, true, false, cond, List, [], ◌∷◌, ◌++◌, map, Option, Some, None, refl, sym, ◌∙◌, ap, inl, inr, arith, eq-eqb, subst}
 use Rattle.std.specs.Prelude.{Contains, ◌==◌, ◌&&◌, ◌||◌, not, filter, filter_map, find, flat_map, option_map, if◌then◌else◌}
 use Rattle.std.specs.List.{cons_option, list_any, range_with_len}
 use Rattle.std.specs.Option.{option_or}
@@ -10,7 +10,8 @@ use Rattle.ffs_model.specs.Library.{half_at, inode_blocks}
 use Rattle.ffs_format.specs.Entries.{name_in}
 use Rattle.ffs_lookup.specs.declared.places.Slot.{Slot}
 use Rattle.ffs_lookup.specs.Newest.{is_at, listing, name_of_place, without_entry}
-use Rattle.ffs_lookup.proofs.ForCallers.{find_first, find_none}
+use Rattle.ffs_lookup.proofs.ForCallers.{find_first, found_holds}
+use Rattle.ffs_lib.specs.Replacing.{turned_entry}
 use Rattle.ffs_lib.proofs.Firsts.{find_skip}
 use Rattle.ffs_lib.proofs.Frames.{listed_at, listed_blocks, listed_in}
 
@@ -21,7 +22,7 @@ Listed = Slot × List ℕ
 abbrev pub value_of_listed : Listed → List ℕ × ℕ
 value_of_listed e = (e.1, e.0.inode)
 
-both_true : (s t : Bool) → s ≡ true → t ≡ true → s && t ≡ true
+pub both_true : (s t : Bool) → s ≡ true → t ≡ true → s && t ≡ true
 both_true true true f g = refl
 both_true true false f g = absurd (cc g)
 both_true false t f g = absurd (cc f)
@@ -147,9 +148,6 @@ module _ (entry : Slot) (name : List ℕ) (front back all : List Listed) (was : 
       two (inl e) (inr away) = ap (λ t. (entry.block == b) && t) (ne_eqb entry.place p away) ∙ and_false (entry.block == b)
       two (inl e) (inl f) = absurd (ne e f)
 
-  pub none_before : find (stands_there entry.block entry.place) all ≡ None
-  none_before = find_none (stands_there entry.block entry.place) all alone
-
   more_here : there_in entry.block entry.place (front ++ (entry, name) ∷ back) ≡ Some (name, entry.inode)
   more_here =
       ap (option_map value_of_listed)
@@ -210,3 +208,54 @@ there_without entry b p all = go ((entry.block == b) && (entry.place == p)) refl
         let k = parts_true (entry.block == b) (entry.place == p) e in
         ap (option_map value_of_listed) (gone (eqb-true entry.block b k.0) (eqb-true entry.place p k.1) all)
     go false e = ap (option_map value_of_listed) (kept e all)
+
+-- One that names another inode
+
+pub find_map : {A : Type 0} (test : A → Bool) (f : A → A) → ((x : A) → test (f x) ≡ test x) → (xs : List A) → find test (map f xs) ≡ option_map f (find test xs)
+find_map test f same [] = refl
+find_map {A} test f same (x ∷ xs) = ap (λ t. cond t (Some (f x)) (find test (map f xs))) (same x) ∙ (ap (cond (test x) (Some (f x))) (find_map test f same xs) ∙ one (test x))
+  where
+    one : (t : Bool) → cond t (Some (f x)) (option_map f (find test xs)) ≡ option_map f (cond t (Some x) (find test xs))
+    one true = refl
+    one false = refl
+
+abbrev pub naming : ℕ → List ℕ × ℕ → List ℕ × ℕ
+naming n e = (e.0, n)
+
+pub there_turned : (entry : Slot) (n b p : ℕ) (all : List Listed) → there_in b p (map (turned_entry entry n) all) ≡ (if (entry.block == b) && (entry.place == p) then option_map (naming n) (there_in b p all) else there_in b p all)
+there_turned entry n b p all = ap (option_map value_of_listed) (find_map (stands_there b p) (turned_entry entry n) place all) ∙ go (find (stands_there b p) all) (λ e is. found_holds (stands_there b p) all e is)
+  where
+    place : (e : Listed) → stands_there b p (turned_entry entry n e) ≡ stands_there b p e
+    place e = at (is_at entry e.0)
+      where
+        at : (t : Bool) → stands_there b p (if t then (record e.0 { inode = n }, e.1) else e) ≡ stands_there b p e
+        at true = refl
+        at false = refl
+
+    both_ways : (x y : ℕ) → (x == y) ≡ (y == x)
+    both_ways x y = elim (cases_eq x y) [ inl e ↦ eq-eqb x y e ∙ sym (eq-eqb y x (sym e)) | inr ne ↦ ne_eqb x y ne ∙ sym (ne_eqb y x (λ z. ne (sym z))) ]
+
+    same_test : (e : Listed) → stands_there b p e ≡ true → is_at entry e.0 ≡ (entry.block == b) && (entry.place == p)
+    same_test e is =
+        let k = parts_true (e.0.block == b) (e.0.place == p) is in
+        ap (λ x. (x == entry.block) && (e.0.place == entry.place)) (eqb-true e.0.block b k.0)
+        ∙ (ap (λ x. (b == entry.block) && (x == entry.place)) (eqb-true e.0.place p k.1) ∙ (ap (λ t. t && (p == entry.place)) (both_ways b entry.block) ∙ ap (λ t. (entry.block == b) && t) (both_ways p entry.place)))
+
+    one : (e : Listed) (t : Bool) → value_of_listed (if t then (record e.0 { inode = n }, e.1) else e) ≡ (if t then (e.1, n) else value_of_listed e)
+    one e true = refl
+    one e false = refl
+
+    some : (x y : List ℕ × ℕ) (t : Bool) → ◌≡◌ {A = Option (List ℕ × ℕ)} (Some (if t then x else y)) (if t then Some x else Some y)
+    some x y true = refl
+    some x y false = refl
+
+    neither : (t : Bool) → ◌≡◌ {A = Option (List ℕ × ℕ)} None (if t then None else None)
+    neither true = refl
+    neither false = refl
+
+    go : (o : Option Listed) → ((e : Listed) → o ≡ Some e → stands_there b p e ≡ true) →
+        option_map value_of_listed (option_map (turned_entry entry n) o) ≡ (if (entry.block == b) && (entry.place == p) then option_map (naming n) (option_map value_of_listed o) else option_map value_of_listed o)
+    go None h = neither ((entry.block == b) && (entry.place == p))
+    go (Some e) h =
+        ap (λ t. Some (value_of_listed (if t then (record e.0 { inode = n }, e.1) else e))) (same_test e (h e refl))
+        ∙ (ap (λ x. Some x) (one e ((entry.block == b) && (entry.place == p))) ∙ some (e.1, n) (value_of_listed e) ((entry.block == b) && (entry.place == p)))

@@ -143,6 +143,25 @@ module _ (v w : ℕ → List ℕ) (fs d n : ℕ) (name inode : List ℕ) (m : Ha
           put_at at.0 at.1 known.0 known.1 (direct_get m.after at.0 known.0 ∙ (ap (λ xs. get_or xs at.0 0) set' ∙ get_or-set_same (fields_of inode).direct at.0 block 0 known.0)) (zero ∙ sym (known.2 none))
           (λ i lt ne. direct_get m.after i lt ∙ (ap (λ xs. get_or xs i 0) set' ∙ (get_or-set_other (fields_of inode).direct at.0 i block 0 ne ∙ sym (direct_get inode i lt)))) (inr none)
 
+  -- a pointer that was there stays
+  pub pointer_kept : (at : ℕ × ℕ) → Some at ≡ room (blocks_value v inode) → (i : ℕ) → i < 12 → direct_in inode i ≢ 0 → direct_in m.after i ≡ direct_in inode i
+  pointer_kept at e i lt some =
+      let found : room_in v inode ≡ Some (room_of v inode at) = room_is v inode ∙ ap (option_map (room_of v inode)) (sym e) in
+      elim m.placed [
+        | inl p ↦ direct_get m.after i lt ∙ (ap (λ xs. get_or xs i 0) p.1 ∙ sym (direct_get inode i lt))
+        | inr p ↦
+            let same : Pointer p.0 ≡ room_of v inode at = same_Some (Pointer p.0) (room_of v inode at) (p.1 ∙ found) in
+            new_one (direct_in inode at.0 == 0) refl p.0 same p.3
+      ]
+    where
+      new_one : (t : Bool) → (direct_in inode at.0 == 0) ≡ t → (index : ℕ) → Pointer index ≡ (if t then Pointer at.0 else InBlock (direct_in inode at.0) at.1) → (fields_of m.after).direct ≡ slice_set (fields_of inode).direct index block →
+          direct_in m.after i ≡ direct_in inode i
+      new_one false z index same set = absurd (cc same)
+      new_one true z index same set =
+          let k : index ≡ at.0 = cc same in
+          let apart : i ≢ index = λ y. some (ap (direct_in inode) (y ∙ k) ∙ eqb-true (direct_in inode at.0) 0 z) in
+          direct_get m.after i lt ∙ (ap (λ xs. get_or xs i 0) set ∙ (get_or-set_other (fields_of inode).direct index i block 0 apart ∙ sym (direct_get inode i lt)))
+
 -- All inodes
 
 pub directory_value : (content : ℕ → List ℕ) (fs d : ℕ) (inode : List ℕ) → Ok inode ≡ directory_in content fs d → files_of content fs d ≡ Directory (inode_links inode) (blocks_value content inode)

@@ -1,13 +1,14 @@
 -- An inode that is as before has its value, and what a new block of inodes is in the files.
 use Rattle.std.proofs.Common.{◌≡◌, ◌≢◌, ℕ, ◌-◌, ◌/◌, ◌%◌, ◌<◌, ◌≤◌, Bool, true, false, List, map, Some, None, Ok, Err, refl, sym, ◌∙◌, ap, inl, inr, arith, eq-eqb}
-use Rattle.std.specs.Prelude.{Contains, Result, ◌==◌, ◌&&◌, ◌||◌, not, nat_lt, if◌then◌else◌}
+use Rattle.std.specs.Prelude.{Contains, Result, ◌==◌, ◌&&◌, ◌||◌, not, min, nat_lt, if◌then◌else◌}
 use Rattle.std.specs.List.{range_with_len}
 use Rattle.std.proofs.lemmas.Bool.{cases_eq, eqb-false, eqb-true, ne_eqb}
+use Rattle.xn_model.specs.Root.{word_at}
 use Rattle.ffs_model.specs.Library.{inode_at, inode_blocks, inode_links, inode_mode}
 use Rattle.ffs_format.specs.Fields.{direct_in}
 use Rattle.ffs_lookup.specs.declared.fault.FfsFault.{FfsFault}
 use Rattle.ffs_lookup.specs.declared.fault.FfsFault.TheVariants.{NoEntry}
-use Rattle.ffs_lookup.specs.Newest.{and_then, byte_of, file_end, inode_block_in, inode_in, is_free_inode, name_of_place, unless_unused}
+use Rattle.ffs_lookup.specs.Newest.{and_then, byte_of, file_end, inode_block_in, inode_in, is_free_inode, listing, name_of_place, unless_unused}
 use Rattle.ffs_lookup.specs.Files.{Free, Unusable, File, Directory, is_absent, with_block}
 use Rattle.ffs_lookup.specs.FileValues.{block_value, blocks_value, bytes_value, files_of, inode_value, place_in, value_in}
 use Rattle.ffs_lookup.proofs.ForCallers.{direct_has, good_number, map_on, used_is, value_by_place, value_outside, value_there}
@@ -15,28 +16,34 @@ use Rattle.ffs_lib.specs.Results.{SameContents, SameInode}
 use Rattle.ffs_lib.proofs.Owners.{number_from}
 use Rattle.ffs_lib.proofs.ValueLists.{place_listed, there_in}
 
-module _ (v w : ℕ → List ℕ) (inode : List ℕ) (same : SameContents v w inode) where
-  blocks_same : blocks_value w inode ≡ blocks_value v inode
-  blocks_same = map_on (λ i. block_value w (direct_in inode i)) (λ i. block_value v (direct_in inode i)) 0 12 (λ i low high. one i (omega (arith, high)) (direct_in inode i == 0) refl)
+-- one in use, whose pointers, size, entries and bytes are as before
+module _ (v w : ℕ → List ℕ) (inode after : List ℕ) (direct : (i : ℕ) → i < 12 → direct_in after i ≡ direct_in inode i) (entries : listing w after ≡ listing v inode) (size : word_at after 4 ≡ word_at inode 4)
+    (each : (at : ℕ) → at < 71680 → byte_of w after at ≡ byte_of v inode at) where
+  pub blocks_same : blocks_value w after ≡ blocks_value v inode
+  blocks_same = map_on (λ i. block_value w (direct_in after i)) (λ i. block_value v (direct_in inode i)) 0 12 (λ i low high. ap (block_value w) (direct i (omega (arith, high))) ∙ one i (omega (arith, high)) (direct_in inode i == 0) refl)
     where
       one : (i : ℕ) → i < 12 → (t : Bool) → (direct_in inode i == 0) ≡ t →
           (if t then None else Some (map (name_of_place (w (direct_in inode i))) (range_with_len 0 16))) ≡ (if t then None else Some (map (name_of_place (v (direct_in inode i))) (range_with_len 0 16)))
       one i lt true e = refl
       one i lt false e =
           let b = direct_in inode i in
-          let has : Contains (inode_blocks inode) b = direct_has inode i b lt refl (λ z. eqb-false b 0 e z) in
+          let some : b ≢ 0 = λ z. eqb-false b 0 e z in
+          let has : Contains (inode_blocks inode) b = direct_has inode i b lt refl some in
+          let has' : Contains (inode_blocks after) b = direct_has after i b lt (direct i lt) some in
           ap (λ ps. Some ps) (map_on (name_of_place (w b)) (name_of_place (v b)) 0 16 (λ p low high.
           let few : p < 16 = omega (arith, high) in
-          place_listed b p w few inode has ∙ (ap (there_in b p) same.0 ∙ sym (place_listed b p v few inode has))))
+          place_listed b p w few after has' ∙ (ap (there_in b p) entries ∙ sym (place_listed b p v few inode has))))
 
-  bytes_same : bytes_value w inode ≡ bytes_value v inode
-  bytes_same = map_on (byte_of w inode) (byte_of v inode) 0 (file_end inode) (λ at low high. same.1 at (omega (arith, high)))
+  pub bytes_same : bytes_value w after ≡ bytes_value v inode
+  bytes_same = ap (λ e. map (byte_of w after) (range_with_len 0 (min e 71680))) size ∙ map_on (byte_of w after) (byte_of v inode) 0 (file_end inode) (λ at low high. each at (omega (arith, high)))
 
-  -- one in use, whose entries and bytes are as before
-  pub value_same : inode_value w inode ≡ inode_value v inode
-  value_same =
-      ap (λ bs. if is_free_inode inode then Free else if inode_mode inode == 0 then Unusable else if inode_mode inode == 2 then Directory (inode_links inode) bs else File (inode_links inode) (bytes_value w inode)) blocks_same
-      ∙ ap (λ m. if is_free_inode inode then Free else if inode_mode inode == 0 then Unusable else if inode_mode inode == 2 then Directory (inode_links inode) (blocks_value v inode) else File (inode_links inode) m) bytes_same
+-- one whose entries and bytes are as before
+value_same : (v w : ℕ → List ℕ) (inode : List ℕ) → SameContents v w inode → inode_value w inode ≡ inode_value v inode
+value_same v w inode same =
+    let bs = blocks_same v w inode inode (λ i lt. refl) same.0 refl same.1 in
+    let m = bytes_same v w inode inode (λ i lt. refl) same.0 refl same.1 in
+    ap (λ bs. if is_free_inode inode then Free else if inode_mode inode == 0 then Unusable else if inode_mode inode == 2 then Directory (inode_links inode) bs else File (inode_links inode) (bytes_value w inode)) bs
+    ∙ ap (λ m. if is_free_inode inode then Free else if inode_mode inode == 0 then Unusable else if inode_mode inode == 2 then Directory (inode_links inode) (blocks_value v inode) else File (inode_links inode) m) m
 
 -- one that is not in use has one value in all bytes
 unused_value : (v w : ℕ → List ℕ) (m : List ℕ) → inode_mode m ≡ 0 → inode_value w m ≡ inode_value v m

@@ -1,22 +1,21 @@
 -- What `write` leaves is what its function of the files says.
-use Rattle.std.proofs.Common.{◌≡◌, ◌≢◌, ℕ, ◌+◌, ◌-◌, ◌*◌, ◌/◌, ◌%◌, ◌<◌, ◌≤◌, ◌⊎◌, Bool, true, false, List, [], ◌∷◌, ◌++◌, length, map, take, drop, replicate, get_or, Ok, Err, refl, sym, ◌∙◌, ap, inl, inr, arith, eq-eqb, subst, length-append}
-use Rattle.std.specs.Prelude.{Result, ◌==◌, ◌&&◌, nat_le, nat_lt, max, min, if◌then◌else◌}
+use Rattle.std.proofs.Common.{◌≡◌, ℕ, ◌+◌, ◌-◌, ◌<◌, ◌≤◌, Bool, false, List, ◌++◌, length, map, take, drop, replicate, get_or, Ok, Err, refl, sym, ◌∙◌, ap, inl, inr, arith, eq-eqb, subst, length-append}
+use Rattle.std.specs.Prelude.{◌==◌, ◌&&◌, nat_lt, max, min, if◌then◌else◌}
 use Rattle.std.specs.List.{range_with_len}
 use Rattle.std.proofs.lemmas.Bool.{cases_eq, cases_lt, le-leb, le-ltb, lt-leb, lt-ltb, ne_eqb}
 use Rattle.std.proofs.lemmas.List.{get_or-append_right, get_or-drop, get_or-replicate, get_or-take, get_or_append_left, get_or_default, length-drop, length-replicate, length-take, nil_from_length, same_lists}
 use Rattle.std.proofs.lemmas.List.FromFn.{get_or-map-range_with_len, length-map-range_with_len}
 use Rattle.xn_model.specs.Lives.{StoreState}
 use Rattle.ffs_model.specs.Cuts.{latest}
-use Rattle.ffs_model.specs.Library.{inode_links, inode_mode}
-use Rattle.ffs_lookup.specs.declared.fault.FfsFault.{FfsFault}
+use Rattle.ffs_model.specs.Library.{inode_links}
 use Rattle.ffs_lookup.specs.declared.fault.FfsFault.TheVariants.{TooLarge}
-use Rattle.ffs_lookup.specs.Newest.{and_then, byte_of, file_end, file_in, inode_in, mapped, write_in}
+use Rattle.ffs_lookup.specs.Newest.{and_then, byte_of, file_end, file_in, mapped, write_in}
 use Rattle.ffs_lookup.specs.Files.{Absent, Answer, Directory, File, Files, Free, InodeValue, Unusable, file_of, with_value, written, written_bytes, written_in}
-use Rattle.ffs_lookup.specs.FileValues.{blocks_value, bytes_value, files_of, inode_value}
+use Rattle.ffs_lookup.specs.FileValues.{bytes_value, files_of}
 use Rattle.ffs_lookup.proofs.ForCallers.{file_found, file_parts, same_ok}
 use Rattle.ffs_lib.specs.Results.{byte_written}
 use Rattle.ffs_lib.specs.Values.{Leads}
-use Rattle.ffs_lib.specs.Writes.{IsWritten, Wrote, padded, padded_from}
+use Rattle.ffs_lib.specs.Writes.{IsWritten, Wrote}
 use Rattle.ffs_lib.proofs.Owners.{not_first, passed}
 use Rattle.ffs_lib.proofs.ValueSame.{same_value}
 
@@ -146,6 +145,14 @@ looked content fs n size inode e =
     let p = passed (file_in content fs n) (λ i. if nat_lt 71680 size then Err TooLarge else Ok i) inode e in
     let t = not_first (nat_lt 71680 size) TooLarge (Ok p.0) inode p.2 in
     (t.1 ∙ p.1, t.0)
+
+-- fewer bytes fit, too
+pub write_less : (content : ℕ → List ℕ) (fs n size fewer : ℕ) (inode : List ℕ) → fewer ≤ size → Ok inode ≡ write_in content fs n size → Ok inode ≡ write_in content fs n fewer
+unfolding write_in
+write_less content fs n size fewer inode le e =
+    let p = looked content fs n size inode e in
+    let low : size ≤ 71680 = elim (cases_lt 71680 size) [ inl lt ↦ absurd (cc (sym (lt-ltb 71680 size lt) ∙ p.1)) | inr ge ↦ ge ] in
+    sym (ap (λ (t : Bool). if t then Err TooLarge else Ok inode) (le-ltb 71680 fewer (omega (arith, le, low)))) ∙ ap (λ r. and_then r (λ i. if nat_lt 71680 fewer then Err TooLarge else Ok i)) p.0
 
 module _ (old new : StoreState) (fs n offset : ℕ) (bytes inode : List ℕ) (e : Ok inode ≡ write_in (latest old.lives) fs n (offset + length bytes)) where
   abbrev v : ℕ → List ℕ

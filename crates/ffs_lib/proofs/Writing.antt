@@ -423,13 +423,6 @@ data_attached T lib state new h fs few n inode is last place block entry points 
 pub wrote_none : (v : ℕ → List ℕ) (fs n start : ℕ) (inode : List ℕ) → Ok inode ≡ file_in v fs n → WroteBytes v v fs n inode start []
 wrote_none v fs n start inode is = record { after = inode; file = is; size = refl; marks = (refl, refl); each = λ x low. written_none (byte_of v inode) start x }
 
--- a file whose bytes stay after some were written
-pub wrote_still : (T : Types) (fs n start : ℕ) (old first second : StoreState) (inode bytes : List ℕ) → WroteBytes (latest old.lives) (latest first.lives) fs n inode start bytes →
-    ((after : List ℕ) → Ok after ≡ file_in (latest first.lives) fs n → WroteBytes (latest first.lives) (latest second.lives) fs n after 0 []) → WroteBytes (latest old.lives) (latest second.lives) fs n inode start bytes
-wrote_still T fs n start old first second inode bytes a next =
-    let b = next a.after a.file in
-    record { after = b.after; file = b.file; size = b.size ∙ a.size; marks = (b.marks.0 ∙ a.marks.0, b.marks.1 ∙ a.marks.1); each = λ at low. b.each at low ∙ (sym (written_none (byte_of (latest first.lives) a.after) 0 at) ∙ a.each at low) }
-
 pub wrote_on : (u v w : ℕ → List ℕ) (fs n start : ℕ) (inode bs cs : List ℕ) → WroteBytes u v fs n inode start bs → ((after : List ℕ) → Ok after ≡ file_in v fs n → WroteBytes v w fs n after (start + length bs) cs) → WroteBytes u w fs n inode start (bs ++ cs)
 wrote_on u v w fs n start inode bs cs a next =
     let b = next a.after a.file in

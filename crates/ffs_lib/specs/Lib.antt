@@ -3,7 +3,6 @@ pub mod Results
 pub mod Outcomes
 pub mod Volumes
 pub mod Steps
-pub mod Once
 pub mod Writes
 pub mod Reclaiming
 pub mod Replacing

@@ -1,7 +1,7 @@
 -- What the edits of a volume leave, each for every array of numbers for which a volume's rules held before.
 --     Keeps T fs old new      a volume's rules hold on
 --     IsMade, ..              and what may come next
-use Rattle.std.specs.Prelude.{◌≡◌, ◌≢◌, ℕ, ◌-◌, ◌*◌, ◌/◌, ◌<◌, List, [], Option, None, Ok, Contains, length, max, slice_set, Some, Bool, true, IfErr, IsTrue, Result}
+use Rattle.std.specs.Prelude.{◌≡◌, ◌≢◌, ℕ, ◌-◌, ◌*◌, ◌/◌, ◌%◌, ◌<◌, ◌≤◌, List, [], Option, None, Ok, Contains, length, max, slice_set, Some, Bool, true, IfErr, IsTrue, Result}
 use Rattle.xn_model.specs.Types.{Types}
 use Rattle.xn_model.specs.Lists.{put}
 use Rattle.xn_model.specs.Root.{slot, word_at}
@@ -11,12 +11,13 @@ use Rattle.ffs_model.specs.Cuts.{Under, latest}
 use Rattle.ffs_model.specs.Names.{IsInodes}
 use Rattle.ffs_model.specs.Edits.{HoldsOnly}
 use Rattle.ffs_model.specs.Volumes.{VolumeKeeps, CanName, with_edit, without_edit}
-use Rattle.ffs_model.specs.Library.{inode_blocks, inode_links, library_layout, IsLibrary, zeros}
+use Rattle.ffs_model.specs.Library.{inode_at, inode_blocks, inode_links, library_layout, IsLibrary, zeros}
 use Rattle.xn_model.specs.Rules.{IsConsistent}
 use Rattle.ffs_lookup.specs.declared.fault.FfsFault.{FfsFault}
 use Rattle.ffs_format.specs.Fields.{fields_of}
+use Rattle.ffs_lookup.specs.FileValues.{place_in}
 use Rattle.ffs_lookup.specs.Newest.{byte_of, directory_in, file_block, file_in, is_short, make_in, has_empty_pointer, inode_block_in, root_in}
-use Rattle.ffs_lib.specs.Results.{MadeVolume, SameInode, SameMarks, SameUse, new_inode}
+use Rattle.ffs_lib.specs.Results.{SameInode, SameMarks, new_inode}
 
 abbrev pub Keeps : Types → ℕ → StoreState → StoreState → Type 0
 Keeps T fs old new = IsLibrary T → (array : ℕ → Option ℕ) → VolumeKeeps T library_layout fs array old → VolumeKeeps T library_layout fs array new
@@ -99,8 +100,9 @@ pub record IsRaised (old new : ℕ → List ℕ) (fs n : ℕ) (inode : List ℕ)
 
 -- What stands after the edits that make a volume
 --     SetsRoot          the root slot names a block, and no other changes
---     IsReady           a root block without a first block of inodes is there, and all inodes are as before
---     GetsRoot, MakesTop    there was none before; inode 1 is that of a block that was attached
+--     IsReady           a root block without a first block of inodes is there
+--     FirstInodes       these bytes are the first block of inodes, and the inodes of others are as before
+--     GetsRoot, MakesTop    there was no root block; the first block of inodes has a directory without blocks, and else free inodes
 
 abbrev pub SetsRoot : Types → ℕ → ℕ → StoreState → StoreState → Type 0
 SetsRoot T fs block old new = IsConsistent T old → (l : Life) → life_at old.lives block ≡ Some l →
@@ -108,15 +110,19 @@ SetsRoot T fs block old new = IsConsistent T old → (l : Life) → life_at old.
 
 pub record IsReady (old new : StoreState) (fs : ℕ) : Type 0 where
   pub ready : Ok true ≡ make_in (latest new.lives) fs
-  pub stays : (d : ℕ) → SameUse (latest old.lives) (latest new.lives) fs d
   pub kept : (c : ℕ) (l : Life) → c ≢ 0 → life_at old.lives c ≡ Some l → latest new.lives c ≡ latest old.lives c
   pub addable : (p : ℕ × ℕ) → may_add old fs p ≡ true → may_add new fs p ≡ true
+
+pub record FirstInodes (old new : ℕ → List ℕ) (fs : ℕ) (bytes : List ℕ) : Type 0 where
+  pub first : (n : ℕ) → n ≤ 128 → (n - 1) / 8 ≡ 0 → place_in new fs n ≡ Ok (inode_at bytes ((n - 1) % 8))
+  pub rest : (n : ℕ) → n ≤ 128 → (n - 1) / 8 ≢ 0 → place_in new fs n ≡ place_in old fs n
 
 abbrev pub GetsRoot : Types → ℕ → Bool → StoreState → StoreState → Type 0
 GetsRoot T fs begun old new = IsLibrary T → IsConsistent T old → Ok begun ≡ make_in (latest old.lives) fs → IsReady old new fs
 
 abbrev pub MakesTop : Types → ℕ → ℕ → StoreState → StoreState → Type 0
-MakesTop T fs block old new = IsLibrary T → IsConsistent T old → latest old.lives block ≡ put zeros 0 (new_inode 2) → block ≢ 0 → MadeVolume (latest old.lives) (latest new.lives) fs
+MakesTop T fs block old new = IsLibrary T → IsConsistent T old → latest old.lives block ≡ put zeros 0 (new_inode 2) → block ≢ 0 →
+    FirstInodes (latest old.lives) (latest new.lives) fs (put zeros 0 (new_inode 2))
 
 -- Which edits are refused for want of something alone
 --     CanEdit     a call may propose an edit that comes after this one

@@ -2,7 +2,7 @@
 --     replace_in            what it looks up: the entry that is moved, and the one that is replaced
 --     turned_entry          an entry of a list, with another inode where it stands at a place
 --     Turned                all lists have it so, and inodes are as before
---     ReplacedEntry         the moved file stands at the replaced entry alone, and the former file lost a link
+--     ReplacedInodes        the inodes of the two directories and the two files, of which the former lost a link
 --     pair_of, IsDirect, AreDirect, KeepsPairs    the two entries as slots; that inodes point to their blocks; that what they name in the cuts stays
 --     NamesStand            what the two entries name in the cuts
 --     Replaced              what the call leaves
@@ -18,7 +18,7 @@ use Rattle.ffs_format.specs.Entries.{is_name}
 use Rattle.ffs_lookup.specs.declared.fault.FfsFault.{FfsFault}
 use Rattle.ffs_lookup.specs.declared.fault.FfsFault.TheVariants.{BadName, NoEntry, NotDir, TooLarge}
 use Rattle.ffs_lookup.specs.declared.places.Slot.{Slot}
-use Rattle.ffs_lookup.specs.Newest.{and_then, directory_in, file_in, first_named, inode_in, is_at, listing, without_entry}
+use Rattle.ffs_lookup.specs.Newest.{and_then, directory_in, file_in, first_named, inode_in, is_at, listing}
 use Rattle.ffs_lib.specs.Results.{IsLinked, SameInode, TookLink}
 use Rattle.ffs_lib.specs.Steps.{AddsLink, Answers, Removed, StopsAtHome, StopsRemoving, StopsTaking, Wants, newest}
 
@@ -57,11 +57,10 @@ pub record Turned (old new : ℕ → List ℕ) (fs : ℕ) (entry : Slot) (n : �
   pub entries : (inode : List ℕ) → listing new inode ≡ map (turned_entry entry n) (listing old inode)
   pub others : (d : ℕ) (own : List ℕ) → Ok own ≡ inode_in old fs d → Contains (inode_blocks own) entry.block → (x : ℕ) → x ≢ d → SameInode old new fs x
 
--- Each directory has its 64 bytes, and its list without the moved entry and with the moved inode at the replaced one. The moved inode is as before,
--- with as many links; the former one lost a link, or is free; all but these two and the two directories are as before.
-pub record ReplacedEntry (old new : ℕ → List ℕ) (fs d : ℕ) (from : Slot) (other : ℕ) (to : Slot) : Type 0 where
-  pub lists : (x : ℕ) (inode : List ℕ) → Ok inode ≡ directory_in old fs x →
-      (Ok inode ≡ directory_in new fs x) × (listing new inode ≡ without_entry from (map (turned_entry to from.inode) (listing old inode)))
+-- Each directory has its 64 bytes. The moved inode is as before, with as many links; the former one lost a link, or is free; all but these two and the
+-- two directories are as before.
+pub record ReplacedInodes (old new : ℕ → List ℕ) (fs d : ℕ) (from : Slot) (other : ℕ) (to : Slot) : Type 0 where
+  pub inodes : (x : ℕ) (inode : List ℕ) → Ok inode ≡ directory_in old fs x → Ok inode ≡ directory_in new fs x
   pub moved : (inode : List ℕ) → Ok inode ≡ inode_in old fs from.inode → IsLinked old new fs from.inode inode (inode_links inode)
   pub former : (inode : List ℕ) → Ok inode ≡ inode_in old fs to.inode → TookLink old new fs to.inode inode
   pub others : (x : ℕ) → x ≢ d → x ≢ other → x ≢ from.inode → x ≢ to.inode → SameInode old new fs x
@@ -99,7 +98,7 @@ NamesStand old new from to = AreNamed library_layout old.lives new.lives (pair_o
 pub record Replaced (old new : StoreState) (fs d : ℕ) (from : Slot) (other : ℕ) (to : Slot) : Type 0 where
   pub itself : from ≡ to → new ≡ old
   pub same : from ≢ to → from.inode ≡ to.inode → Removed (newest old) (newest new) fs d from
-  pub another : from.inode ≢ to.inode → ReplacedEntry (newest old) (newest new) fs d from other to
+  pub another : from.inode ≢ to.inode → ReplacedInodes (newest old) (newest new) fs d from other to
 
 -- A stage: nothing; a link more of the moved inode; the entry turned, too; the old one cleared, too, then the link taken; then the former inode is as
 -- before but for what its block of pointers owned.

@@ -5,13 +5,12 @@
 --     new_inode                  an inode with one link, size 0 and no block
 --     IsPlaced, IsLowestNumber   an entry stands where it should; an inode is the lowest free one
 --     HasMore, MadeEntry         a directory has one entry more; it names a new inode
---     MadeVolume                 a file system has a top directory
 --     byte_written               the bytes of a file after some are written
 --     SameMarks                  an inode has its mode and its links
 --     WroteBytes                 some bytes are written, and its size is as before
 --     IsAs, AsBefore             an inode is as before but for its links
 --     IsLinked, TookLink         it is, with so many links; it lost one, or is free
---     MovedEntry                 an entry went to another directory, or got another name
+--     IsSized, MovedInodes       a directory's pointers and size; the inodes where an entry went to another directory, or got another name
 use Rattle.std.specs.Prelude.{◌≡◌, ◌≢◌, ℕ, ◌+◌, ◌-◌, ◌*◌, ◌/◌, ◌<◌, ◌≤◌, ◌⊎◌, ◌&&◌, List, ◌∷◌, ◌++◌, length, nat_le, nat_lt, get_or, replicate, slice_set, Ok, Err, false, if◌then◌else◌, Some, None}
 use Rattle.std.specs.List.{list_any}
 use Rattle.std.specs.Int.{w16, to_le_bytes}
@@ -22,7 +21,7 @@ use Rattle.ffs_lookup.specs.declared.places.Slot.{Slot}
 use Rattle.ffs_lookup.specs.declared.places.Room.TheVariants.{Entry, Pointer}
 use Rattle.ffs_format.specs.Fields.{fields_of}
 use Rattle.ffs_lookup.specs.FileValues.{place_in}
-use Rattle.ffs_lookup.specs.Newest.{byte_of, directory_in, file_in, first_named, has_room, inode_in, is_at, listing, number_in, room_in, root_in, without_entry}
+use Rattle.ffs_lookup.specs.Newest.{byte_of, directory_in, file_in, first_named, has_room, inode_in, is_at, listing, number_in, room_in, root_in}
 
 -- Inodes that stay
 
@@ -70,8 +69,8 @@ IsPlaced old inode after entry =
     ⊎ ((index : ℕ) × (Some (Pointer index) ≡ room_in old inode) × (entry.place ≡ 0)
     × ((fields_of after).direct ≡ slice_set (fields_of inode).direct index entry.block) × (word_at after 4 ≡ 512 * length (inode_blocks after)))
 
--- The directory with a number, whose inode was this one, has its old entries in their order and one more, at a place where none stood, which
--- is the first with its name where none had it before. It has as many links.
+-- The directory with a number, whose inode was this one, has its old entries in their order and one more, at a place where none stood. It has
+-- as many links.
 pub record HasMore (old new : ℕ → List ℕ) (fs d : ℕ) (inode name : List ℕ) (n : ℕ) : Type 0 where
   pub after : List ℕ
   pub directory : Ok after ≡ directory_in new fs d
@@ -84,7 +83,6 @@ pub record HasMore (old new : ℕ → List ℕ) (fs d : ℕ) (inode name : List 
   pub is : listing new after ≡ front ++ (entry, name) ∷ back
   pub alone : list_any (λ p. is_at entry p.0) (listing old inode) ≡ false
   pub placed : IsPlaced old inode after entry
-  pub first : None ≡ first_named old inode name → Some entry ≡ first_named new after name
 
 -- the number of the lowest free inode
 abbrev pub IsLowestNumber : (ℕ → List ℕ) → ℕ → ℕ → Type 0
@@ -96,12 +94,6 @@ pub record MadeEntry (old new : ℕ → List ℕ) (fs d : ℕ) (name : List ℕ)
   pub made : inode_in new fs n ≡ Ok (new_inode mode)
   pub entry : (inode : List ℕ) → Ok inode ≡ directory_in old fs d → HasMore old new fs d inode name n
   pub others : (x : ℕ) → x ≢ d → x ≢ n → SameOrNew old new fs n x
-
--- Inode 1, which was free, is a directory without entries, and all others in use are as before.
-pub record MadeVolume (old new : ℕ → List ℕ) (fs : ℕ) : Type 0 where
-  pub free : inode_in old fs 1 ≡ Err NoEntry
-  pub top : inode_in new fs 1 ≡ Ok (new_inode 2)
-  pub others : (x : ℕ) → x ≢ 1 → SameUse old new fs x
 
 -- Bytes that are written
 
@@ -143,42 +135,20 @@ IsLinked old new fs d inode links = (is : IsAs old new fs d inode) × (inode_lin
 -- The inode with number n lost a link: where it had more it is as before but for that, and else it is free, which is 64 zeros.
 pub record TookLink (old new : ℕ → List ℕ) (fs n : ℕ) (inode : List ℕ) : Type 0 where
   pub kept : 1 < inode_links inode → IsLinked old new fs n inode (inode_links inode - 1)
-  pub freed : inode_links inode ≤ 1 → inode_in new fs n ≡ Err NoEntry
   pub zeroed : inode_links inode ≤ 1 → place_in new fs n ≡ Ok (replicate 64 0)
 
 -- An entry that is moved
 
--- the directory with a number has lost an entry, and has its links, its blocks and its size
-pub record HasLost (old new : ℕ → List ℕ) (fs d : ℕ) (inode : List ℕ) (entry : Slot) : Type 0 where
-  pub after : List ℕ
-  pub directory : Ok after ≡ directory_in new fs d
-  pub links : inode_links after ≡ inode_links inode
-  pub direct : (fields_of after).direct ≡ (fields_of inode).direct
-  pub size : word_at after 4 ≡ word_at inode 4
-  pub is : listing new after ≡ without_entry entry (listing old inode)
+-- a directory has the pointers and the size that it had; or one pointer is another, and the size is 512 times the blocks
+abbrev pub IsSized : List ℕ → List ℕ → Type 0
+IsSized inode after =
+    (((fields_of after).direct ≡ (fields_of inode).direct) × (word_at after 4 ≡ word_at inode 4))
+    ⊎ ((index block : ℕ) × ((fields_of after).direct ≡ slice_set (fields_of inode).direct index block) × (word_at after 4 ≡ 512 * length (inode_blocks after)))
 
--- it has lost one and got another, with a new name for the same inode, which stands there; it has as many links
-pub record HasRenamed (old new : ℕ → List ℕ) (fs d : ℕ) (inode : List ℕ) (entry : Slot) (name : List ℕ) : Type 0 where
-  pub after : List ℕ
-  pub directory : Ok after ≡ directory_in new fs d
-  pub links : inode_links after ≡ inode_links inode
-  pub place : Slot
-  pub inode_named : place.inode ≡ entry.inode
-  pub front : List (Slot × List ℕ)
-  pub back : List (Slot × List ℕ)
-  pub was : listing old inode ≡ front ++ back
-  pub is : listing new after ≡ without_entry entry front ++ (place, name) ∷ without_entry entry back
-  pub placed : IsPlaced old inode after place
-
--- An entry went from the directory with a number to that with another, which may be the same. All inodes but those two and the one that
--- it names are as before; that one is too, with as many links, where it is neither of the two. The first keeps its inode where it is
--- another than both.
-pub record MovedEntry (old new : ℕ → List ℕ) (fs d : ℕ) (entry : Slot) (other : ℕ) (name : List ℕ) : Type 0 where
-  pub lost : d ≢ other → (inode : List ℕ) → Ok inode ≡ directory_in old fs d → HasLost old new fs d inode entry
-  pub more : d ≢ other → (inode : List ℕ) → Ok inode ≡ directory_in old fs other → HasMore old new fs other inode name entry.inode
-  pub renamed : d ≡ other → (inode : List ℕ) → Ok inode ≡ directory_in old fs d → HasRenamed old new fs d inode entry name
+-- An entry went from the directory with a number to that with another, which may be the same. All inodes but those two and the one that it names are as
+-- before; that one is too, but for its links, where it is neither of the two. The first keeps its 64 bytes where it is another than both.
+pub record MovedInodes (old new : ℕ → List ℕ) (fs d other n : ℕ) : Type 0 where
   pub others : (x : ℕ) → x ≢ d → x ≢ other → AsBefore old new fs x
-  pub same : (x : ℕ) → x ≢ d → x ≢ other → x ≢ entry.inode → SameInode old new fs x
-  pub linked : entry.inode ≢ d → entry.inode ≢ other → (inode : List ℕ) → Ok inode ≡ inode_in old fs entry.inode →
-      IsLinked old new fs entry.inode inode (inode_links inode)
-  pub kept : d ≢ other → d ≢ entry.inode → inode_in new fs d ≡ inode_in old fs d
+  pub same : (x : ℕ) → x ≢ d → x ≢ other → x ≢ n → SameInode old new fs x
+  pub kept : d ≢ other → d ≢ n → inode_in new fs d ≡ inode_in old fs d
+  pub sized : (inode after : List ℕ) → Ok inode ≡ directory_in old fs other → Ok after ≡ directory_in new fs other → IsSized inode after

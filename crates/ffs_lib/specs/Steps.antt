@@ -32,7 +32,7 @@ use Rattle.ffs_lib.specs.Edits.{data_of_pointers, edit_at}
 use Rattle.ffs_format.specs.Entries.{entry_of, is_name}
 use Rattle.ffs_lib.specs.Volumes.{IsVolume}
 use Rattle.ffs_lib.specs.declared.volume.Volume.{Volume}
-use Rattle.ffs_lib.specs.Results.{AsBefore, HasMore, IsLowestNumber, MadeEntry, MovedEntry, OnlyChanges, OthersSame, SameInode, SameOrNew, TookLink, new_inode}
+use Rattle.ffs_lib.specs.Results.{AsBefore, HasMore, IsLowestNumber, MadeEntry, MovedInodes, OnlyChanges, OthersSame, SameInode, SameOrNew, TookLink, new_inode}
 
 abbrev pub newest : StoreState → ℕ → List ℕ
 newest state = latest state.lives
@@ -309,5 +309,5 @@ Unmakes T fs d name old new result =
 
 abbrev pub Renames : Types → ℕ → ℕ → List ℕ → ℕ → List ℕ → StoreState → StoreState → Result (Unit {0}) FfsFault → Type 0
 Renames T fs d name other new_name old new result =
-    Answers (rename_in (newest old) fs d name other new_name) (λ entry _. MovedEntry (newest old) (newest new) fs d entry other new_name)
+    Answers (rename_in (newest old) fs d name other new_name) (λ entry _. MovedInodes (newest old) (newest new) fs d other entry.inode)
     (λ entry fault. StopsMoving T fs old new d entry other new_name fault) old new result

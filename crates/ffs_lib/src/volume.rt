@@ -6,7 +6,7 @@ ghost use Rattle.ffs_format.specs.Entries.{is_name};
 ghost use Rattle.ffs_model.specs.Cuts.{latest};
 ghost use Rattle.ffs_model.specs.Library.{library_layout, inode_mode, IsLibrary, inode_blocks, inode_links, zeros};
 ghost use Rattle.xn_model.specs.Lists.{put};
-ghost use Rattle.ffs_lookup.specs.Newest.{IsLowest, RefusesAs, TakesEntry, create_in, directory_in, first_named, has_empty_pointer, has_inode, has_room, is_at, mapped, root_in, file_in, listing, named_in, names_at, names_in, read_count, read_into, rename_in, rmdir_in, unlink_in, without_entry, inode_in};
+ghost use Rattle.ffs_lookup.specs.Newest.{IsLowest, RefusesAs, TakesEntry, create_in, directory_in, first_named, has_empty_pointer, has_inode, has_room, is_at, mapped, root_in, file_in, listing, named_in, names_at, rename_in, rmdir_in, unlink_in, without_entry, inode_in};
 ghost use Rattle.ffs_lookup.specs.Counts.{make_from, open_in};
 ghost use Rattle.ffs_lookup.specs.Repairs.{idle_in, repair_at, repair_in};
 ghost use Rattle.ffs_lib.specs.Reclaiming.{Reclaims};
@@ -18,15 +18,15 @@ ghost use Rattle.ffs_lib.specs.Outcomes.{HasFreePointer, OnlyShort};
 ghost use Rattle.ffs_lib.specs.Replacing.{AreDirect, pair_of};
 ghost use Rattle.ffs_model.specs.Standing.{StayNamed};
 ghost use Rattle.xn_model.specs.Lives.{Lives};
-ghost use Rattle.ffs_lib.specs.Values.{Follows};
+ghost use Rattle.ffs_lib.specs.Values.{ByAnswer, Follows, Leads, WritesFirst};
 ghost use Rattle.ffs_lib.specs.Writes.{Writes, WritesSome};
 ghost use Rattle.ffs_lookup.specs.FileValues.{files_of};
-ghost use Rattle.ffs_lookup.specs.Files.{created, new_directory, new_file, written};
+ghost use Rattle.ffs_lookup.specs.Files.{created, listed, made, new_directory, new_file, read, read_over, removed, renamed, unlinked, written};
 ghost use Rattle.ffs_lib.specs.Steps.{Creates, Ends, Leaves, MayLose, NamesAgain, Renames, Stage, StopsGrowing, StopsNaming, StopsNew, StopsUnnaming, TakesFree, Undoes, Unlinks, Unmakes, Unnamed, newest};
 ghost use Rattle.xn_model.specs.Types.{Types};
 ghost use Rattle.xn_model.specs.declared.refusal.Refusal.{Refusal};
 ghost use Rattle.xn_model.specs.Calls.{was_given};
-ghost use Rattle.ffs_lib.specs.Results.{new_inode, MadeEntry, MadeVolume, MovedEntry, OnlyChanges, OthersSame, TookLink};
+ghost use Rattle.ffs_lib.specs.Results.{new_inode, MadeEntry, OnlyChanges, OthersSame, TookLink};
 
 mod replace;
 
@@ -169,7 +169,10 @@ impl Volume {
         ensures fs { IfOk result (λ volume. volume.fs ≡ fs) }
         ensures faults { RefusesAs (make_from (S.state_of store.old) fs.number) (S.state_of store.old) (S.state_of store.new) result }
         ensures short { (begun : Bool) → Ok begun ≡ make_from (S.state_of store.old) fs.number → OnlyShort result }
-        ensures made { OnOk result (MadeVolume (latest (S.state_of store.old).lives) (latest (S.state_of store.new).lives) fs.number) }
+        ensures value { (make_from (S.state_of store.old) fs.number ≡ Err FfsFault.Exists) ⊎ IsOk (make_from (S.state_of store.old) fs.number) →
+            ByAnswer (made (files_of (newest (S.state_of store.old)) fs.number))
+            (λ volume. Leads (made (files_of (newest (S.state_of store.old)) fs.number)) (newest (S.state_of store.new)) fs.number tt)
+            (S.state_of store.old) (S.state_of store.new) result }
         ensures err { (begun : Bool) → Ok begun ≡ make_from (S.state_of store.old) fs.number →
             OnErr result (VolumeKeeps (S.types_of store.old) library_layout fs.number no_edits (S.state_of store.new)) }
         ensures forgotten { OnErr result (Undoes (S.types_of store.old) fs.number (S.state_of store.old)
@@ -409,6 +412,9 @@ impl Volume {
     ) -> Result<usize, FfsFault>
         requires { IsVolume (S.types_of store.old) (S.state_of store.old) self.now }
         ensures types { S.types_of store.new ≡ S.types_of store.old }
+        ensures value { ByAnswer (written (files_of (newest (S.state_of store.old)) self.now.fs.number) inode offset bytes.now)
+            (WritesFirst (files_of (newest (S.state_of store.old)) self.now.fs.number) (newest (S.state_of store.new)) self.now.fs.number inode offset bytes.now)
+            (S.state_of store.old) (S.state_of store.new) result }
         ensures answers { WritesSome (S.types_of store.old) self.now.fs.number inode offset bytes.now (S.state_of store.old) (S.state_of store.new) result }
         ensures keeps { IsVolume (S.types_of store.old) (S.state_of store.new) self.now }
     {
@@ -437,11 +443,10 @@ impl Volume {
         offset: u32,
         bytes: &mut [u8],
     ) -> Result<usize, FfsFault>
-        ensures exact { IsLibrary (S.types_of store.now) →
-            result ≡ read_count (length bytes.old) offset (file_in (latest (S.state_of store.now).lives) self.now.fs.number inode) }
+        ensures value { IsLibrary (S.types_of store.now) →
+            result ≡ mapped length (read (files_of (newest (S.state_of store.now)) self.now.fs.number) inode offset (length bytes.old)) }
         ensures bytes { IsLibrary (S.types_of store.now) →
-            bytes.new ≡ read_into (latest (S.state_of store.now).lives) bytes.old offset
-            (file_in (latest (S.state_of store.now).lives) self.now.fs.number inode) }
+            bytes.new ≡ read_over bytes.old (read (files_of (newest (S.state_of store.now)) self.now.fs.number) inode offset (length bytes.old)) }
     {
         let file = find_file(store, self.fs, inode)?;
         let end = (file.inode.size() as usize).min(MOST_BYTES);
@@ -523,6 +528,8 @@ impl Volume {
     ) -> Result<(), FfsFault>
         requires { IsVolume (S.types_of store.old) (S.state_of store.old) self.now }
         ensures types { S.types_of store.new ≡ S.types_of store.old }
+        ensures value { Follows (unlinked (files_of (newest (S.state_of store.old)) self.now.fs.number) directory name.now)
+            self.now.fs.number (S.state_of store.old) (S.state_of store.new) result }
         ensures answers { Unlinks (S.types_of store.old) self.now.fs.number directory name.now (S.state_of store.old) (S.state_of store.new) result }
         ensures keeps { IsVolume (S.types_of store.old) (S.state_of store.new) self.now }
     {
@@ -541,6 +548,8 @@ impl Volume {
     ) -> Result<(), FfsFault>
         requires { IsVolume (S.types_of store.old) (S.state_of store.old) self.now }
         ensures types { S.types_of store.new ≡ S.types_of store.old }
+        ensures value { Follows (removed (files_of (newest (S.state_of store.old)) self.now.fs.number) directory name.now)
+            self.now.fs.number (S.state_of store.old) (S.state_of store.new) result }
         ensures answers { Unmakes (S.types_of store.old) self.now.fs.number directory name.now (S.state_of store.old) (S.state_of store.new) result }
         ensures keeps { IsVolume (S.types_of store.old) (S.state_of store.new) self.now }
     {
@@ -663,6 +672,8 @@ impl Volume {
     ) -> Result<(), FfsFault>
         requires { IsVolume (S.types_of store.old) (S.state_of store.old) self.now }
         ensures types { S.types_of store.new ≡ S.types_of store.old }
+        ensures value { Follows (renamed (files_of (newest (S.state_of store.old)) self.now.fs.number) directory name.now other new_name.now)
+            self.now.fs.number (S.state_of store.old) (S.state_of store.new) result }
         ensures answers { Renames (S.types_of store.old) self.now.fs.number directory name.now other new_name.now (S.state_of store.old)
             (S.state_of store.new) result }
         ensures keeps { IsVolume (S.types_of store.old) (S.state_of store.new) self.now }
@@ -703,10 +714,10 @@ impl Volume {
         store: &S,
         directory: u16,
     ) -> Result<Vec<(Vec<u8>, u16)>, FfsFault>
-        ensures names { IsLibrary (S.types_of store.now) → IfOk result (λ names.
-            Ok (map (λ name. (name.0.items, name.1)) names.items) ≡ names_in (latest (S.state_of store.now).lives) self.now.fs.number directory) }
-        ensures faults { IsLibrary (S.types_of store.now) → IfErr result (λ fault. (fault ≡ FfsFault.Kernel Refusal.NoMemory)
-            ⊎ (Err fault ≡ names_in (latest (S.state_of store.now).lives) self.now.fs.number directory)) }
+        ensures value { IsLibrary (S.types_of store.now) → MatchResult result
+            (λ names. Ok (map (λ name. (name.0.items, name.1)) names.items) ≡ listed (files_of (newest (S.state_of store.now)) self.now.fs.number) directory)
+            (λ fault. (fault ≡ FfsFault.Kernel Refusal.NoMemory)
+            ⊎ (Err fault ≡ listed (files_of (newest (S.state_of store.now)) self.now.fs.number) directory)) }
     {
         let found = find_directory(store, self.fs, directory)?;
         let mut names = Vec::new(alloc);

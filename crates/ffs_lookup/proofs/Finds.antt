@@ -76,6 +76,15 @@ first_found {A} h gap a (suc n) e = step (h a) (gap a) refl (first_agrees (λ i.
     step None true is s r = absurd (cc s)
     step None false is s r = r
 
+-- where it is found
+pub first_within : {A : Type 0} (h : ℕ → Option A) (a n : ℕ) (y : A) → first_of h (range_with_len a n) ≡ Some y → (i : ℕ) × (i < a + n) × (h i ≡ Some y)
+first_within h a zero y e = absurd (none-some y e)
+first_within {A} h a (suc n) y e = step (h a) refl e (first_within h (a + 1) n y)
+  where
+    step : (o : Option A) → h a ≡ o → option_or o (first_of h (range_with_len (a + 1) n)) ≡ Some y → (first_of h (range_with_len (a + 1) n) ≡ Some y → (i : ℕ) × (i < a + 1 + n) × (h i ≡ Some y)) → (i : ℕ) × (i < a + suc n) × (h i ≡ Some y)
+    step (Some x) is f rest = (a, omega arith, is ∙ f)
+    step None is f rest = let r = rest f in let high = r.1 in (r.0, omega (arith, high), r.2)
+
 pub first_test : {A : Type 0} (f : ℕ → A) (t : ℕ → Bool) (xs : List ℕ) → first_of (λ i. if t i then Some (f i) else None) xs ≡ option_map f (find t xs)
 first_test f t [] = refl
 first_test {A} f t (x ∷ xs) = step (t x) (first_test f t xs)

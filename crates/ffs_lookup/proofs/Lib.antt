@@ -10,5 +10,7 @@ pub mod Finds
 pub mod Values
 pub mod ValuePlaces
 pub mod ValueNumbers
+pub mod ValueNames
 pub mod ValueCalls
+pub mod Single
 pub mod ForCallers

@@ -5,6 +5,7 @@ use Rattle.std.specs.List.{cons_option, list_any, range_with_len}
 use Rattle.std.specs.Option.{option_or}
 use Rattle.std.proofs.lemmas.Bool.{cases_eq, eqb-false, ne_eqb}
 use Rattle.std.proofs.lemmas.Option.{none-some, same_Some}
+use Rattle.std.proofs.lemmas.Slice.Eq.{bytes_eq-Decides}
 use Rattle.std.proofs.lemmas.List.FromFn.{get_or-map-range_with_len}
 use Rattle.ffs_model.specs.Library.{half_at, inode_blocks}
 use Rattle.ffs_format.specs.Entries.{name_in}
@@ -15,8 +16,23 @@ use Rattle.ffs_lookup.specs.declared.places.Room.TheVariants.{Entry as InBlock, 
 use Rattle.ffs_lookup.specs.Newest.{entries_in, entry_at as slot_in, first_named, has_gap, has_name, has_room, name_at, name_of_place, names_of, room_from, room_in, used_entry}
 use Rattle.ffs_lookup.specs.Files.{Blocks, Entry, block_at, entry_at, is_named, look_up, positions, positions_in, put_entry, room}
 use Rattle.ffs_lookup.specs.FileValues.{block_value, blocks_value}
-use Rattle.ffs_lookup.proofs.Finds.{filter_map_flat, filter_map_map, filter_map_on, map_flat, map_on, any_is_found, find_flat, find_map, find_on, find_pointed, first_found, first_map, first_of, first_on, flat_map_on, flat_pointed, found_holds, found_within, is_some_mapped, map_twice}
+use Rattle.ffs_lookup.proofs.Finds.{filter_map_flat, filter_map_map, filter_map_on, map_flat, map_on, any_is_found, find_flat, find_map, find_on, find_pointed, first_found, first_map, first_of, first_on, flat_map_on, flat_pointed, first_within, found_holds, found_within, is_some_mapped, map_twice}
 use Rattle.ffs_lookup.proofs.Walks.{found_in, is_named as is_named_at}
+
+-- a place of a directory with an inode: in the block at an index
+pub record IsPlaceOf (inode : List ℕ) (slot : Slot) (at : ℕ × ℕ) : Type 0 where
+  pub low : at.0 < 12
+  pub few : at.1 < 16
+  pub block : direct_in inode at.0 ≡ slot.block
+  pub there : slot.block ≢ 0
+  pub place : at.1 ≡ slot.place
+
+-- the first entry with a name
+pub record EntryAt (content : ℕ → List ℕ) (inode name : List ℕ) (slot : Slot) : Type 0 where
+  pub at : ℕ × ℕ
+  pub is : IsPlaceOf inode slot at
+  pub looked : look_up name (blocks_value content inode) ≡ Some (at, slot.inode)
+  pub stands : name_of_place (content slot.block) slot.place ≡ Some (name, slot.inode)
 
 module _ (content : ℕ → List ℕ) (inode : List ℕ) where
   abbrev pub blocks : Blocks
@@ -107,6 +123,66 @@ module _ (content : ℕ → List ℕ) (inode : List ℕ) where
     look_up_is =
         ap is_some first_is
         ∙ (is_some_mapped slot_of (find (λ at. is_named name (entry_at blocks at)) (positions blocks)) ∙ sym (found_entry (find (λ at. is_named name (entry_at blocks at)) (positions blocks)) refl))
+
+    -- where it stands
+    found_place : (at : ℕ × ℕ) → find (λ x. is_named name (entry_at blocks x)) (positions blocks) ≡ Some at → (at.0 < 12) × (at.1 < 16) × (word at.0 ≢ 0)
+    found_place at e =
+        let r = first_within (found_at (is_named name)) 0 12 at (sym (find_value (is_named name)) ∙ e) in
+        here r.0 r.1 (word r.0 == 0) refl (find (λ p. is_named name (name_of_place (content (word r.0)) p)) (range_with_len 0 16)) refl r.2
+      where
+        here : (i : ℕ) → i < 0 + 12 → (t : Bool) → (word i == 0) ≡ t → (o : Option ℕ) → find (λ p. is_named name (name_of_place (content (word i)) p)) (range_with_len 0 16) ≡ o →
+            ◌≡◌ {A = Option (ℕ × ℕ)} (if t then None else option_map (λ p. (i, p)) o) (Some at) → (at.0 < 12) × (at.1 < 16) × (word at.0 ≢ 0)
+        here i low true z o h f = absurd (none-some at f)
+        here i low false z None h f = absurd (none-some at f)
+        here i low false z (Some p) h f =
+            let same : (i, p) ≡ at = same_Some (i, p) at f in
+            let few = (found_within (λ q. is_named name (name_of_place (content (word i)) q)) 0 16 p h).1 in
+            let index : i ≡ at.0 = ap (λ x. x.0) same in
+            let place : p ≡ at.1 = ap (λ x. x.1) same in
+            (omega (arith, low, index), omega (arith, few, place), λ none. eqb-false (word i) 0 z (ap word index ∙ none))
+
+    -- the same entry is found in the value, at the index that has its block
+    pub first_value : (slot : Slot) → Some slot ≡ first_named content inode name → EntryAt content inode name slot
+    first_value slot e = go (find (λ x. is_named name (entry_at blocks x)) (positions blocks)) refl (e ∙ first_is)
+      where
+        named : (at : ℕ × ℕ) → find (λ x. is_named name (entry_at blocks x)) (positions blocks) ≡ Some at → (at.0 < 12) × (at.1 < 16) × (word at.0 ≢ 0) → slot ≡ slot_of at → (t : Bool) → (half_at (content (word at.0)) (32 * at.1) == 0) ≡ t →
+            is_named name (if t then None else Some (name_in (content (word at.0)) (32 * at.1), half_at (content (word at.0)) (32 * at.1))) ≡ true → EntryAt content inode name slot
+        named at e k same true z h = absurd (cc h)
+        named at e k same false z h =
+            let m = content (word at.0) in
+            let number : slot.inode ≡ half_at m (32 * at.1) = ap (λ (s : Slot). s.inode) same in
+            let block : slot.block ≡ word at.0 = ap (λ (s : Slot). s.block) same in
+            let place : slot.place ≡ at.1 = ap (λ (s : Slot). s.place) same in
+            let spelled : name_in m (32 * at.1) ≡ name = (bytes_eq-Decides (name_in m (32 * at.1)) name).0 h in
+            let stands : name_of_place m at.1 ≡ Some (name, slot.inode) =
+            ap (λ (t : Bool). if t then None else Some (name_in m (32 * at.1), half_at m (32 * at.1))) z
+            ∙ (ap (λ (x : List ℕ). Some (x, half_at m (32 * at.1))) spelled ∙ ap (λ (x : ℕ). Some (name, x)) (sym number)) in
+            let is : entry_at blocks at ≡ Some (name, slot.inode) =
+            entry_here at.0 at.1 k.0 k.1 ∙ (ap (λ (t : Bool). if t then None else name_of_place m at.1) (ne_eqb (word at.0) 0 k.2) ∙ stands) in
+            record {
+              at = at;
+              is = record { low = k.0; few = k.1; block = sym block; there = λ z. k.2 (sym block ∙ z); place = sym place };
+              looked =
+                  ap (option_and_then (λ (x : ℕ × ℕ). option_map (λ (entry : Entry). (x, entry.1)) (entry_at blocks x))) e ∙ ap (option_map (λ (entry : Entry). (at, entry.1))) is;
+              stands = ap (λ (b : ℕ). name_of_place (content b) slot.place) block ∙ (ap (name_of_place m) place ∙ stands);
+            }
+
+        go : (o : Option (ℕ × ℕ)) → find (λ x. is_named name (entry_at blocks x)) (positions blocks) ≡ o → Some slot ≡ option_map slot_of o → EntryAt content inode name slot
+        go None e f = absurd (none-some slot (sym f))
+        go (Some at) e f =
+            let k = found_place at e in
+            let held : is_named name (entry_at blocks at) ≡ true = found_holds (λ x. is_named name (entry_at blocks x)) (positions blocks) at e in
+            let here : entry_at blocks at ≡ name_of_place (content (word at.0)) at.1 =
+            entry_here at.0 at.1 k.0 k.1 ∙ ap (λ (t : Bool). if t then None else name_of_place (content (word at.0)) at.1) (ne_eqb (word at.0) 0 k.2) in
+            let half = half_at (content (word at.0)) (32 * at.1) == 0 in
+            named at e k (same_Some slot (slot_of at) f) half refl (sym (ap (is_named name) here) ∙ held)
+
+    pub none_value : None ≡ first_named content inode name → look_up name blocks ≡ None
+    none_value e = go (look_up name blocks) refl
+      where
+        go : (o : Option ((ℕ × ℕ) × ℕ)) → look_up name blocks ≡ o → look_up name blocks ≡ None
+        go None f = f
+        go (Some x) f = let z : false ≡ true = ap is_some e ∙ (look_up_is ∙ ap is_some f) in absurd (cc z)
 
   -- Room for one more
 

@@ -10,8 +10,10 @@
 --                                                         a link less
 --     Answer                                      a fault, and nothing changes; or what is answered, and the files after it
 --     read, read_over, listed                     what `read` and `list` answer
---     created, written, unlinked, removed, renamed, replaced    the calls
-use Rattle.std.specs.Prelude.{ℕ, ◌+◌, ◌-◌, ◌/◌, Bool, true, false, not, ◌&&◌, ◌==◌, nat_lt, nat_le, List, [], ◌++◌, length, take, drop, map, find, replicate, Option, Some, None, Result, Ok, Err, is_some, bytes_eq, option_map, option_and_then, unwrap_or, filter_map, flat_map, slice_index_or, slice_set, if◌then◌else◌}
+--     empty_volume, made                          a volume without files; `make`
+--     created, written, unlinked, removed, renamed, replaced    the other calls
+--     IsSingle, AreSingle                         no name stands twice in a directory; in each one
+use Rattle.std.specs.Prelude.{◌≡◌, ℕ, ◌+◌, ◌-◌, ◌/◌, ◌<◌, Bool, true, false, not, ◌&&◌, ◌==◌, nat_lt, nat_le, List, [], ◌++◌, length, take, drop, map, find, replicate, Option, Some, None, Result, Ok, Err, is_some, bytes_eq, option_map, option_and_then, unwrap_or, filter_map, flat_map, slice_index_or, slice_set, if◌then◌else◌}
 use Rattle.std.specs.List.{range_with_len}
 use Rattle.std.specs.Option.{ok_or, option_or}
 use Rattle.ffs_format.specs.Entries.{is_name}
@@ -168,6 +170,13 @@ new_file = File 1 []
 abbrev pub new_directory : InodeValue
 new_directory = Directory 1 (replicate 12 None)
 
+-- inode 1 is a directory without blocks, and the others of its block of inodes are free
+abbrev pub empty_volume : Files
+empty_volume n = if n == 1 then new_directory else if not (n == 0) && nat_le n 8 then Free else Absent
+
+abbrev pub made : Files → Answer (Unit {0})
+made files = if is_absent (files 1) then Ok (tt, empty_volume) else Err Exists
+
 -- a new file or directory, and its name in a directory
 abbrev pub made_at : InodeValue → Files → ℕ → List ℕ → ℕ → ℕ × ℕ → ℕ × Files
 made_at value files d name n at = (n, with_entry (with_value (with_block files n) n value) d at (Some (name, n)))
@@ -263,3 +272,15 @@ replaced files d name other other_name =
     and_then (both_directories files d name other other_name) (λ both.
     and_then (ok_or (look_up name both.0.1) NoEntry) (λ from. and_then (ok_or (look_up other_name both.1.1) NoEntry) (λ to.
     and_then (file_of (files from.1)) (λ file. and_then (file_of (files to.1)) (λ former. replaced_in files d name from other other_name to)))))
+
+-- Names that stand once
+
+abbrev pub IsPlace : ℕ × ℕ → Type 0
+IsPlace at = (at.0 < 12) × (at.1 < 16)
+
+-- two entries with one name stand at one place
+abbrev pub IsSingle : Blocks → Type 0
+IsSingle blocks = (a b : ℕ × ℕ) (e f : Entry) → IsPlace a → IsPlace b → entry_at blocks a ≡ Some e → entry_at blocks b ≡ Some f → e.0 ≡ f.0 → a ≡ b
+
+abbrev pub AreSingle : Files → Type 0
+AreSingle files = (d : ℕ) (directory : ℕ × Blocks) → Ok directory ≡ directory_of (files d) → IsSingle directory.1

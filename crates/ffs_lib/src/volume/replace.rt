@@ -6,7 +6,10 @@ ghost use Rattle.ffs_model.specs.Standing.{StayNamed};
 ghost use Rattle.ffs_lookup.specs.Newest.{first_named, mapped, named_in};
 ghost use Rattle.ffs_lookup.specs.Places.{IsDirectory, IsSlot};
 ghost use Rattle.ffs_lookup.specs.declared.places.Slot.{Slot};
-ghost use Rattle.ffs_lib.specs.Replacing.{NamesStand, Replaces, ReplacedEntry, StopsTurning, Turned, directories_in, files_in, pair_of, replace_in};
+ghost use Rattle.ffs_lib.specs.Replacing.{NamesStand, Replaces, ReplacedInodes, StopsTurning, Turned, directories_in, files_in, pair_of, replace_in};
+ghost use Rattle.ffs_lookup.specs.Files.{replaced};
+ghost use Rattle.ffs_lookup.specs.FileValues.{files_of};
+ghost use Rattle.ffs_lib.specs.Values.{Follows, Leads};
 ghost use Rattle.ffs_lib.specs.Steps.{Ends, Leaves, MayLose, MayName, Stage, Wants, newest};
 ghost use Rattle.xn_model.specs.Lives.{Lives};
 ghost use Rattle.xn_model.specs.Types.{Types};
@@ -112,6 +115,8 @@ impl Volume {
     ) -> Result<(), FfsFault>
         requires { IsVolume (S.types_of store.old) (S.state_of store.old) self.now }
         ensures types { S.types_of store.new ≡ S.types_of store.old }
+        ensures value { Follows (replaced (files_of (newest (S.state_of store.old)) self.now.fs.number) directory name.now other other_name.now)
+            self.now.fs.number (S.state_of store.old) (S.state_of store.new) result }
         ensures answers { Replaces (S.types_of store.old) self.now.fs.number directory name.now other other_name.now (S.state_of store.old)
             (S.state_of store.new) result }
         ensures keeps { IsVolume (S.types_of store.old) (S.state_of store.new) self.now }
@@ -148,7 +153,9 @@ impl Volume {
         requires apart { from.inode ≢ to.inode }
         ensures types { S.types_of store.new ≡ S.types_of store.old }
         ensures leaves { Leaves (S.types_of store.old) self.now (S.state_of store.new) result
-            (λ _. ReplacedEntry (newest (S.state_of store.old)) (newest (S.state_of store.new)) self.now.fs.number directory from other to)
+            (λ done. ReplacedInodes (newest (S.state_of store.old)) (newest (S.state_of store.new)) self.now.fs.number directory from other to
+            × Leads (replaced (files_of (newest (S.state_of store.old)) self.now.fs.number) directory name.now other other_name.now)
+            (newest (S.state_of store.new)) self.now.fs.number done)
             (StopsTurning (S.types_of store.old) self.now.fs.number (S.state_of store.old) (S.state_of store.new) directory from to) }
         ensures stands { NamesStand (S.state_of store.old) (S.state_of store.new) from to }
     {

@@ -107,7 +107,7 @@ returns-clause-ends g c = λ T array e s m.
     (subst (λ (ds : List ℕ). ShortEdit T first fs again.block (edit_at (64 * again.place) bytes [] ds (Some dropped))) (sym (c.deref.ensures.value ∙ c.in_ok-drops.ensures)) (free_short T fs array first k.stage n dropped again c.in_ok-found.ensures.found exact2 k.can k.given none bytes c.free.ensures))
     (λ entry done.
     let x = frees T fs array first k.stage n dropped again c.in_ok-found.ensures.found exact2 k.can k.given none bytes c.free.ensures new (ap inode_links same ∙ one) items entry done in
-    (x.0, given_up (latest old.lives) (latest first.lives) (latest new.lives) fs n found.inode exact (omega (arith, one)) k.others x.1 x.2 x.3))
+    (x.0, given_up (latest old.lives) (latest first.lives) (latest new.lives) fs n found.inode exact (omega (arith, one)) k.others x.1 x.2))
     (λ fault left told. data_taken T fs array old first new n found.inode dropped exact (omega (arith, links, few)) k left again.block again.place c.in_ok-found.ensures.found.stands fault (edit, told))
 
 pub returns-then-links-gt1-clause-waits : goal.returns-then-links-gt1-clause-waits

@@ -5,30 +5,36 @@ use Rattle.ffs_model.specs.Cuts.{latest}
 use Rattle.ffs_model.specs.Library.{library_layout}
 use Rattle.ffs_model.proofs.ForCallers.{library_reads, under_direct}
 use Rattle.ffs_lookup.specs.Newest.{names_at}
-use Rattle.ffs_lookup.proofs.ForCallers.{found_has, names_are, names_more, names_past, no_names, not_ok}
+use Rattle.ffs_lookup.proofs.ForCallers.{found_has, listed_told, names_are, names_more, names_past, no_names, not_ok}
 use Rattle.ffs_lib.proofs.volume.Volume.list.Goals as goal
 
-pub returns-in_err-found-clause-faults : goal.returns-in_err-found-clause-faults
-returns-in_err-found-clause-faults g c = λ lib.
-    let p = err_from_is_err_and c.from_residual.result c.from_residual.ensures.1 in
-    rw (p.1, p.2) (inr (no_names (latest (g.S.Store.state_of c.args.store.now).lives) c.args.self.now.fs.number c.args.directory _ (c.in_err-found.ensures.exact lib)))
+pub returns-in_err-found : goal.returns-in_err-found
+returns-in_err-found g c = record {
+  value = λ lib.
+      let p = err_from_is_err_and c.from_residual.result c.from_residual.ensures.1 in
+      rw (p.1, p.2) (inr (no_names (latest (g.S.Store.state_of c.args.store.now).lives) c.args.self.now.fs.number c.args.directory _ (c.in_err-found.ensures.exact lib) ∙ listed_told (latest (g.S.Store.state_of c.args.store.now).lives) c.args.self.now.fs.number c.args.directory));
+}
 
-pub returns-in_err-read_block-clause-faults : goal.returns-in_err-read_block-clause-faults
-returns-in_err-read_block-clause-faults g c = λ lib.
-    let T = g.S.Store.types_of c.args.store.now in
-    let state = g.S.Store.state_of c.args.store.now in
-    let fs = c.args.self.now.fs.number in
-    let found = c.in_ok-found.found in
-    let is = c.in_ok-found.ensures.found.is in
-    let block = c.direct-block in
-    absurd (not_ok (c.in_err-read_block.ensures.reached 2
-    (under_direct T library_layout (library_reads T lib) (latest state.lives) fs _ found.block found.place block.result is.stands.inodes
-    (found_has state fs c.args.directory found is c.loop-i.i block.result (omega arith) (sym block.ensures) c.if-block-eq0.false))))
+pub returns-in_err-read_block : goal.returns-in_err-read_block
+returns-in_err-read_block g c = record {
+  value = λ lib.
+      let T = g.S.Store.types_of c.args.store.now in
+      let state = g.S.Store.state_of c.args.store.now in
+      let fs = c.args.self.now.fs.number in
+      let found = c.in_ok-found.found in
+      let is = c.in_ok-found.ensures.found.is in
+      let block = c.direct-block in
+      absurd (not_ok (c.in_err-read_block.ensures.reached 2
+      (under_direct T library_layout (library_reads T lib) (latest state.lives) fs _ found.block found.place block.result is.stands.inodes
+      (found_has state fs c.args.directory found is c.loop-i.i block.result (omega arith) (sym block.ensures) c.if-block-eq0.false))));
+}
 
-pub returns-in_err-add_names-clause-faults : goal.returns-in_err-add_names-clause-faults
-returns-in_err-add_names-clause-faults g c = λ lib.
-    let p = err_from_is_err_and c.from_residual-in_err-add_names.result c.from_residual-in_err-add_names.ensures.1 in
-    rw p.1 (inl p.2)
+pub returns-in_err-add_names : goal.returns-in_err-add_names
+returns-in_err-add_names g c = record {
+  value = λ lib.
+      let p = err_from_is_err_and c.from_residual-in_err-add_names.result c.from_residual-in_err-add_names.ensures.1 in
+      rw p.1 (inl p.2);
+}
 
 pub loop-i-preserved-then-block-eq0 : goal.loop-i-preserved-then-block-eq0
 loop-i-preserved-then-block-eq0 g c =
@@ -43,6 +49,9 @@ loop-i-preserved g c =
     ∙ names_more (latest (g.S.Store.state_of c.args.store.now).lives) c.in_ok-found.found.inode c.loop-i.i (c.loop-i.i + 1) refl c.direct-block.result bytes (sym c.direct-block.ensures) c.if-block-eq0.false
     c.in_ok-read_block.ensures.bytes)
 
-pub returns-clause-names : goal.returns-clause-names
-returns-clause-names g c = λ lib.
-    names_are (latest (g.S.Store.state_of c.args.store.now).lives) c.args.self.now.fs.number c.args.directory c.loop-i.i c.in_ok-found.found.inode _ (c.in_ok-found.ensures.exact lib) (omega arith) c.loop-i.invariant
+pub returns : goal.returns
+returns g c = record {
+  value = λ lib.
+      names_are (latest (g.S.Store.state_of c.args.store.now).lives) c.args.self.now.fs.number c.args.directory c.loop-i.i c.in_ok-found.found.inode _ (c.in_ok-found.ensures.exact lib) (omega arith) c.loop-i.invariant
+      ∙ listed_told (latest (g.S.Store.state_of c.args.store.now).lives) c.args.self.now.fs.number c.args.directory;
+}

@@ -1,4 +1,4 @@
-use Rattle.std.proofs.Common.{◌≡◌, ℕ, Option, Ok, true, length, ap, ◌∙◌, inl, refl, subst, sym}
+use Rattle.std.proofs.Common.{◌≡◌, ℕ, Option, Ok, Err, inr, true, length, ap, ◌∙◌, inl, refl, subst, sym}
 use Rattle.std.specs.Prelude.{OnOk}
 use Rattle.xn_model.specs.Calls.{init_of, may_add}
 use Rattle.ffs_model.specs.Library.{IsLibrary, library_layout, zeros}
@@ -9,17 +9,22 @@ use Rattle.ffs_lookup.proofs.ForCallers.{gives_err}
 use Rattle.ffs_lib.specs.Results.{new_inode}
 use Rattle.ffs_lib.specs.Steps.{LastForgets}
 use Rattle.ffs_lib.proofs.Kept.{on_err, refused}
-use Rattle.ffs_lib.proofs.Laws.{undoes}
+use Rattle.ffs_lib.proofs.Laws.{is_ok_one, undoes}
 use Rattle.ffs_lib.proofs.Tops.{attached_short, found_still, made_volume, never, not_own, short_fault, top_bare}
 use Rattle.std.proofs.lemmas.Result.{err_from_is_err_and}
 use Rattle.ffs_model.specs.Cuts.{latest}
 use Rattle.ffs_model.proofs.ForCallers.{gives_short, inodes_begun}
 use Rattle.ffs_lookup.specs.Newest.{make_in}
 use Rattle.ffs_lookup.specs.Counts.{make_from}
+use Rattle.ffs_lookup.specs.Files.{made}
+use Rattle.ffs_lookup.specs.FileValues.{files_of}
+use Rattle.ffs_lookup.specs.declared.fault.FfsFault.TheVariants.{Exists}
+use Rattle.ffs_lib.specs.Values.{Leads}
 use Rattle.ffs_lib.proofs.Refusals.{goes_on}
 use Rattle.xn_model.specs.Rules.{IsConsistent}
 use Rattle.ffs_lib.proofs.Making.{made_keeps, no_numbers, prepared_keeps}
 use Rattle.ffs_lib.proofs.Opening.{make_found, makeable}
+use Rattle.ffs_lib.proofs.ValueVolume.{empty_there, make_done, make_refused, make_stands}
 use Rattle.ffs_lib.proofs.volume.Volume.make.Goals as goal
 
 pub returns-in_err-block-clause-err : goal.returns-in_err-block-clause-err
@@ -124,8 +129,8 @@ returns-clause-ok g c =
           (subst (λ t. Keeps t fs third fourth) before c.in_ok-forgotten.ensures.keeps));
     }
 
-pub returns-clause-made : goal.returns-clause-made
-returns-clause-made g c =
+pub returns-clause-value : goal.returns-clause-value
+returns-clause-value g c = λ may.
     let fs = c.args.fs.number in
     let T = g.S.Store.types_of c.args.store.now in
     let zeroth = g.S.Store.state_of c.args.store.now in
@@ -141,10 +146,12 @@ returns-clause-made g c =
     let v = ready in
     let v2 = prepared_keeps T fs c.args.fs.few c.requires.library begun.block begun.field-0-1 c.first_inodes.result c.first_inodes.ensures.bare zeroth first second v begun.ensures.state
     (subst (λ t. Keeps t fs first second) c.init.ensures.types prepared.keeps) in
-    made_volume T c.requires.library fs c.args.fs.few begun.block begun.field-0-1 zeroth first second v.consistent (subst (λ t. IsConsistent t first) c.init.ensures.types c.init.ensures.rules) v2.consistent
-    c.first_inodes.result c.first_inodes.ensures.exact begun.ensures.state c.in_ok-begun.begun (make_found zeroth fs c.in_ok-begun.begun found_ok).1 (subst (λ t. GetsRoot t fs c.in_ok-begun.begun first second) c.init.ensures.types prepared.ready)
+    let found = make_found zeroth fs c.in_ok-begun.begun found_ok in
+    let there = made_volume T c.requires.library fs c.args.fs.few begun.block begun.field-0-1 zeroth first second v.consistent (subst (λ t. IsConsistent t first) c.init.ensures.types c.init.ensures.rules) v2.consistent
+    c.first_inodes.result c.first_inodes.ensures.exact begun.ensures.state c.in_ok-begun.begun found.1 (subst (λ t. GetsRoot t fs c.in_ok-begun.begun first second) c.init.ensures.types prepared.ready)
     third fourth attached.result _ c.in_ok-forgotten.ensures.same (subst (λ t. OnOk attached.result (MakesTop t fs begun.block second third)) (prepared.types ∙ c.init.ensures.types) attached.ensures.top)
-    c.in_ok-forgotten.ensures.ok
+    c.in_ok-forgotten.ensures.ok in
+    make_done zeroth fourth fs c.in_ok-begun.begun found.1 (empty_there (latest second.lives) (latest fourth.lives) fs there.0 there.1) _
 
 pub returns-in_err-block-clause-short : goal.returns-in_err-block-clause-short
 returns-in_err-block-clause-short g c = λ begins is_ok.
@@ -207,3 +214,55 @@ returns-in_err-forgotten-clause-faults g c =
 
 pub returns-in_err-begun-clause-short : goal.returns-in_err-begun-clause-short
 returns-in_err-begun-clause-short g c = λ begins is_ok. absurd (never begins _ (is_ok ∙ sym c.in_err-begun.ensures.exact))
+
+pub returns-in_err-begun-clause-value : goal.returns-in_err-begun-clause-value
+returns-in_err-begun-clause-value g c = λ may.
+    let fs = c.args.fs.number in
+    let zeroth = g.S.Store.state_of c.args.store.now in
+    let exact = c.in_err-begun.ensures.exact in
+    let p = err_from_is_err_and c.from_residual.result c.from_residual.ensures.1 in
+    elim may [
+      | inl e ↦
+          let same : Err c.in_err-begun.field-0.0 ≡ Err Exists = exact ∙ e in
+          make_stands zeroth fs e (λ volume. Leads (made (files_of (latest zeroth.lives) fs)) (latest zeroth.lives) fs tt) c.from_residual.result (p.1 ∙ cc)
+      | inr ok ↦ let x = is_ok_one (make_from zeroth fs) ok in absurd (never x.0 _ (x.1 ∙ sym exact))
+    ]
+
+pub returns-in_err-block-clause-value : goal.returns-in_err-block-clause-value
+returns-in_err-block-clause-value g c = λ may.
+    let fs = c.args.fs.number in
+    let zeroth = g.S.Store.state_of c.args.store.now in
+    let found_ok = c.in_ok-begun.ensures.exact in
+    let p = err_from_is_err_and c.from_residual-in_err-block.result c.from_residual-in_err-block.ensures.1 in
+    elim may [
+      | inl e ↦ absurd (never c.in_ok-begun.begun _ (found_ok ∙ e))
+      | inr ok ↦
+          make_refused zeroth (g.S.Store.state_of c.init.new.self) fs c.in_ok-begun.begun (make_found zeroth fs c.in_ok-begun.begun found_ok).1 (λ volume. Leads (made (files_of (latest zeroth.lives) fs)) (latest (g.S.Store.state_of c.init.new.self).lives) fs tt)
+          c.from_residual-in_err-block.result _ p.1 (returns-in_err-block-clause-short g c c.in_ok-begun.begun found_ok)
+    ]
+
+pub returns-in_err-prepare_root-clause-value : goal.returns-in_err-prepare_root-clause-value
+returns-in_err-prepare_root-clause-value g c = λ may.
+    let fs = c.args.fs.number in
+    let zeroth = g.S.Store.state_of c.args.store.now in
+    let found_ok = c.in_ok-begun.ensures.exact in
+    let p = err_from_is_err_and c.from_residual-in_err-prepare_root.result c.from_residual-in_err-prepare_root.ensures.1 in
+    elim may [
+      | inl e ↦ absurd (never c.in_ok-begun.begun _ (found_ok ∙ e))
+      | inr ok ↦
+          make_refused zeroth (g.S.Store.state_of c.prepare_root.new.store) fs c.in_ok-begun.begun (make_found zeroth fs c.in_ok-begun.begun found_ok).1 (λ volume. Leads (made (files_of (latest zeroth.lives) fs)) (latest (g.S.Store.state_of c.prepare_root.new.store).lives) fs tt)
+          c.from_residual-in_err-prepare_root.result _ p.1 (returns-in_err-prepare_root-clause-short g c c.in_ok-begun.begun found_ok)
+    ]
+
+pub returns-in_err-forgotten-clause-value : goal.returns-in_err-forgotten-clause-value
+returns-in_err-forgotten-clause-value g c = λ may.
+    let fs = c.args.fs.number in
+    let zeroth = g.S.Store.state_of c.args.store.now in
+    let found_ok = c.in_ok-begun.ensures.exact in
+    let p = err_from_is_err_and c.from_residual-in_err-forgotten.result c.from_residual-in_err-forgotten.ensures.1 in
+    elim may [
+      | inl e ↦ absurd (never c.in_ok-begun.begun _ (found_ok ∙ e))
+      | inr ok ↦
+          make_refused zeroth (g.S.Store.state_of c.forgotten.new.store) fs c.in_ok-begun.begun (make_found zeroth fs c.in_ok-begun.begun found_ok).1 (λ volume. Leads (made (files_of (latest zeroth.lives) fs)) (latest (g.S.Store.state_of c.forgotten.new.store).lives) fs tt)
+          c.from_residual-in_err-forgotten.result _ p.1 (returns-in_err-forgotten-clause-short g c c.in_ok-begun.begun found_ok)
+    ]

@@ -9,6 +9,7 @@ use Rattle.ffs_lookup.proofs.ForCallers.{same_ok}
 use Rattle.ffs_lib.specs.Replacing.{AreDirect, pair_of}
 use Rattle.ffs_lib.specs.Steps.{StopsUnnaming, Unnamed}
 use Rattle.ffs_lib.specs.Volumes.{edits_of}
+use Rattle.ffs_lib.proofs.Following.{another_leads}
 use Rattle.ffs_lib.proofs.Laws.{staged, stops_err, stops_removing}
 use Rattle.ffs_lib.proofs.Linked.{linked_inode}
 use Rattle.ffs_lib.proofs.Replaced.{direct_before, direct_turned, direct_unnamed, home_named, home_removable, home_removed, is_moved, replaced, slots_apart, target_named}
@@ -201,7 +202,15 @@ returns-clause-leaves g c =
     let same : inode_links x.own ≡ inode_links named_own.own = ap inode_links (same_ok x.own named_own.own (own ∙ sym named_own.found)) in
     let low = named_own.linked in
     let at_least : 1 ≤ inode_links x.own = omega (arith, same, low) in
-    (record { library = lib; keeps = k.0.keeps }, replaced u fs.number d c.args.name.now c.args.other c.args.other_name.now from to x c.requires.apart v1 a.1.1 v2 b.1.0 places (latest third.lives) gone at_least (latest (g.S.Store.state_of c.take_link.new.store).lives) k.1)
+    let name = c.args.name.now in
+    let other_name = c.args.other_name.now in
+    let w = latest (g.S.Store.state_of c.take_link.new.store).lives in (
+      record { library = lib; keeps = k.0.keeps },
+      (
+        replaced u fs.number d name c.args.other other_name from to x c.requires.apart v1 a.1.1 v2 b.1.0 places (latest third.lives) gone at_least w k.1,
+        another_leads T lib old s.keeps.consistent fs.number fs.few d name c.args.other other_name from to x c.requires.apart v1 a.1.1 v2 b.1.0 places (latest third.lives) gone at_least w k.1,
+      ),
+    )
 
 pub returns-in_err-linked-clause-stands : goal.returns-in_err-linked-clause-stands
 returns-in_err-linked-clause-stands g c =

@@ -1,6 +1,8 @@
-use Rattle.std.proofs.Common.{◌≡◌, ◌+◌, ◌-◌, ◌∙◌, ap, arith, length, min}
+use Rattle.std.proofs.Common.{◌≡◌, ◌+◌, ◌-◌, ◌∙◌, ℕ, Ok, ap, arith, length, min}
+use Rattle.std.proofs.lemmas.Result.{err_from_is_err_and}
 use Rattle.ffs_model.specs.Cuts.{latest}
-use Rattle.ffs_lookup.specs.Newest.{byte_of, file_end, read_into}
+use Rattle.ffs_lookup.specs.Newest.{byte_of, file_end, read_count, read_into}
+use Rattle.ffs_lookup.proofs.ForCallers.{count_told, into_told}
 use Rattle.ffs_lib.proofs.Parts.{read_done, read_step}
 use Rattle.ffs_lib.proofs.volume.Volume.read.Goals as goal
 
@@ -15,6 +17,27 @@ loop-done-preserved g c =
       bytes = read_step (byte_of content c.in_ok-file.file.inode) c.args.offset done n (done + n - done) c.loop-done.bytes c.args.bytes.now c.read_part.new.bytes k (omega arith) c.loop-done.invariant.bytes c.in_ok-read_part.ensures.bytes;
     }
 
+pub returns-clause-value : goal.returns-clause-value
+returns-clause-value g c = λ lib.
+    let content = latest (g.S.Store.state_of c.args.store.now).lives in
+    let fs = c.args.self.now.fs.number in
+    let old = c.args.bytes.now in
+    let file = c.in_ok-file.ensures.exact lib in
+    let e : c.min-count.result ≡ min (length old) (file_end c.in_ok-file.file.inode - c.args.offset) = omega arith in
+    ap (λ (k : ℕ). Ok k) e ∙ (ap (read_count (length old) c.args.offset) file ∙ count_told content fs c.args.inode c.args.offset (length old))
+
+pub returns-in_err-file-clause-value : goal.returns-in_err-file-clause-value
+returns-in_err-file-clause-value g c = λ lib.
+    let content = latest (g.S.Store.state_of c.args.store.now).lives in
+    let p = err_from_is_err_and c.from_residual.result c.from_residual.ensures.1 in
+    rw (p.1, p.2)
+    (ap (read_count (length c.args.bytes.now) c.args.offset) (c.in_err-file.ensures.exact lib) ∙ count_told content c.args.self.now.fs.number c.args.inode c.args.offset (length c.args.bytes.now))
+
+pub returns-in_err-file-clause-bytes : goal.returns-in_err-file-clause-bytes
+returns-in_err-file-clause-bytes g c = λ lib.
+    let content = latest (g.S.Store.state_of c.args.store.now).lives in
+    ap (read_into content c.args.bytes.now c.args.offset) (c.in_err-file.ensures.exact lib) ∙ into_told content c.args.self.now.fs.number c.args.inode c.args.offset c.args.bytes.now
+
 pub returns-clause-bytes : goal.returns-clause-bytes
 returns-clause-bytes g c = λ lib.
     let content = latest (g.S.Store.state_of c.args.store.now).lives in
@@ -23,4 +46,4 @@ returns-clause-bytes g c = λ lib.
     let e : c.loop-done.done ≡ min (length old) (file_end inode - c.args.offset) = omega arith in
     c.loop-done.invariant.bytes
     ∙ (read_done content inode c.args.offset c.loop-done.done old e
-    ∙ ap (read_into content old c.args.offset) (c.in_ok-file.ensures.exact lib))
+    ∙ (ap (read_into content old c.args.offset) (c.in_ok-file.ensures.exact lib) ∙ into_told content c.args.self.now.fs.number c.args.inode c.args.offset old))

@@ -1,8 +1,9 @@
-use Rattle.std.proofs.Common.{refl}
+use Rattle.std.proofs.Common.{refl, rules}
 use Rattle.ffs_model.specs.Cuts.{latest}
 use Rattle.ffs_lookup.specs.Newest.{rmdir_in}
 use Rattle.ffs_lib.specs.Steps.{Removed, StopsRemoving, StopsUnnaming, Unnamed}
 use Rattle.ffs_lib.specs.Volumes.{edits_of}
+use Rattle.ffs_lib.proofs.Following.{removed_follows}
 use Rattle.ffs_lib.proofs.Laws.{answers_ok, match_then, removed, staged, stops_removing}
 use Rattle.ffs_lib.proofs.Removal.{rmdir_finds}
 use Rattle.ffs_lib.proofs.volume.Volume.rmdir.Goals as goal
@@ -28,3 +29,15 @@ pub returns-clause-keeps : goal.returns-clause-keeps
 returns-clause-keeps g c =
     let x = c.remove.ensures.ends (g.S.Store.types_of c.args.store.now) (edits_of c.args.self.now.added) refl (staged c.requires c.args.self.now.fs.few) refl in
     record { library = c.requires.library; keeps = x.0.keeps }
+
+pub returns-clause-value : goal.returns-clause-value
+returns-clause-value g c =
+    let volume = c.args.self.now in
+    removed_follows (g.S.Store.types_of c.args.store.now) c.requires.library volume.fs.number volume.fs.few c.args.directory c.args.name.now (g.S.Store.state_of c.args.store.now) (g.S.Store.state_of c.remove.new.store) c.remove.result
+    c.requires.keeps.consistent (returns-clause-answers g c)
+
+pub returns-in_err-slot-clause-value : goal.returns-in_err-slot-clause-value
+returns-in_err-slot-clause-value g c =
+    let volume = c.args.self.now in
+    let old = g.S.Store.state_of c.args.store.now in
+    removed_follows (g.S.Store.types_of c.args.store.now) c.requires.library volume.fs.number volume.fs.few c.args.directory c.args.name.now old old c.from_residual.result c.requires.keeps.consistent (search rules)

@@ -1,5 +1,6 @@
-use Rattle.std.proofs.Common.{◌≡◌, ◌≢◌, ◌∙◌, ◌+◌, ℕ, Some, None, Ok, Option, true, arith, length, refl, subst, sym}
-use Rattle.std.proofs.lemmas.Bool.{eqb-false}
+use Rattle.std.proofs.Common.{◌≡◌, ◌≢◌, ◌∙◌, ◌+◌, ℕ, Some, None, Ok, Option, true, arith, length, refl, subst, sym, rules, inl}
+use Rattle.std.proofs.lemmas.Bool.{eqb-false, eqb-true}
+use Rattle.std.proofs.lemmas.List.{nil_from_length}
 use Rattle.ffs_model.specs.Cuts.{latest}
 use Rattle.ffs_lookup.specs.declared.fault.FfsFault.{FfsFault}
 use Rattle.ffs_lookup.specs.Newest.{is_short, write_in}
@@ -10,6 +11,7 @@ use Rattle.ffs_lib.specs.Results.{OnlyChanges}
 use Rattle.ffs_lib.specs.Steps.{Stops, StopsAtHome}
 use Rattle.ffs_lib.specs.Volumes.{edits_of}
 use Rattle.ffs_lib.specs.Writes.{StopsSome, WroteSome}
+use Rattle.ffs_lib.proofs.Following.{some_follows}
 use Rattle.ffs_lib.proofs.Laws.{answers_ok, staged}
 use Rattle.ffs_lib.proofs.Parting.{end_found, none_by, raise_refused, raised_wrote, some_wrote, stops_writing, whole_stop, write_file}
 use Rattle.ffs_lib.proofs.volume.Volume.write_some.Goals as goal
@@ -146,3 +148,50 @@ returns-in-Err-clause-answers g c =
 
     same_fault : (x y : FfsFault) → ◌≡◌ {A = Option FfsFault} (Some x) (Some y) → x ≡ y
     same_fault x y e = cc
+
+pub returns-in_err-end-clause-value : goal.returns-in_err-end-clause-value
+returns-in_err-end-clause-value g c =
+    let T = g.S.Store.types_of c.args.store.now in
+    let fs = c.args.self.now.fs.number in
+    let old = g.S.Store.state_of c.args.store.now in
+    some_follows T fs c.args.inode c.args.offset c.args.bytes.now old old c.from_residual.result (search rules)
+
+pub returns-then-is_empty-clause-value : goal.returns-then-is_empty-clause-value
+returns-then-is_empty-clause-value g c =
+    let T = g.S.Store.types_of c.args.store.now in
+    let fs = c.args.self.now.fs.number in
+    let old = g.S.Store.state_of c.args.store.now in
+    let n = c.args.inode in
+    let offset = c.args.offset in
+    let bytes = c.args.bytes.now in
+    let looked = write_in (latest old.lives) fs n (offset + length bytes) in
+    let f = end_found looked c.in_ok-end.end (c.in_ok-end.ensures.exact c.requires.library) in
+    let none : length bytes ≡ 0 = eqb-true (length bytes) 0 (sym c.is_empty.ensures ∙ c.if-is_empty.true) in
+    some_follows T fs n offset bytes old old (Ok 0)
+    (answers_ok looked (λ inode count. WroteSome T fs old old n inode offset bytes count) (λ inode fault. (fault ≢ Kernel TooManyPending) × StopsSome T fs old old n inode offset bytes fault) (Ok 0) f.0 old old f.1 (record {
+      few = omega arith;
+      some = λ ne. absurd (ne refl);
+      stopped = λ ne. absurd (ne refl);
+      none = λ z. inl (nil_from_length bytes none, refl);
+    }))
+
+pub returns-then-progress-eq0-clause-value : goal.returns-then-progress-eq0-clause-value
+returns-then-progress-eq0-clause-value g c =
+    let T = g.S.Store.types_of c.args.store.now in
+    let fs = c.args.self.now.fs.number in
+    let old = g.S.Store.state_of c.args.store.now in
+    some_follows T fs c.args.inode c.args.offset c.args.bytes.now old (g.S.Store.state_of c.write_padded-progress.new.store) c.none_taken.result (returns-then-progress-eq0-clause-answers g c)
+
+pub returns-in-Ok-clause-value : goal.returns-in-Ok-clause-value
+returns-in-Ok-clause-value g c =
+    let T = g.S.Store.types_of c.args.store.now in
+    let fs = c.args.self.now.fs.number in
+    let old = g.S.Store.state_of c.args.store.now in
+    some_follows T fs c.args.inode c.args.offset c.args.bytes.now old (g.S.Store.state_of c.raise_size.new.store) (Ok c.write_padded-progress.result.taken) (returns-in-Ok-clause-answers g c)
+
+pub returns-in-Err-clause-value : goal.returns-in-Err-clause-value
+returns-in-Err-clause-value g c =
+    let T = g.S.Store.types_of c.args.store.now in
+    let fs = c.args.self.now.fs.number in
+    let old = g.S.Store.state_of c.args.store.now in
+    some_follows T fs c.args.inode c.args.offset c.args.bytes.now old (g.S.Store.state_of c.raise_size.new.store) c.none_taken-in-Err.result (returns-in-Err-clause-answers g c)
