@@ -20,19 +20,25 @@ enum OpenWrite {
     Unread,
 }
 
-/// A block in memory that holds writes until they are synced. A test may tell its next read, write or sync to fail.
-///
-/// A lane goes from hand to hand with each write, so its bytes stand behind a pointer and stay where they are. A write goes into the lot of
-/// bytes that is not settled, so that nothing is copied but what it was given.
+/// What a block in memory has: its bytes, whether some are not settled, how often it failed, and what it was told to let fail.
 #[derive(Drop)]
-pub struct MemLane {
-    number: u32,
-    blocks: Box<Blocks>,
+struct Held {
+    blocks: Blocks,
     open_write: OpenWrite,
     faults: u64,
     write_fault: Option<bool>,
     read_fault: bool,
     sync_fault: bool,
+}
+
+/// A block in memory that holds writes until they are synced. A test may tell its next read, write or sync to fail.
+///
+/// A lane goes from hand to hand with each write, so what it has stands behind a pointer and stays where it is. A write goes into the lot
+/// of bytes that is not settled, so that nothing is copied but what it was given.
+#[derive(Drop)]
+pub struct MemLane {
+    number: u32,
+    held: Box<Held>,
 }
 
 impl Model for MemLane {
@@ -43,13 +49,13 @@ impl Model for MemLane {
 
     ghost view = { λ a. record {
       number = a.number;
-      bytes = a.blocks.value.bytes;
-      settled = settled_by a.open_write a.blocks.value.bytes a.blocks.value.other;
-      given = given_by a.open_write a.blocks.value.bytes a.blocks.value.other;
-      faults = a.faults;
-      write_fault = a.write_fault;
-      read_fault = a.read_fault;
-      sync_fault = a.sync_fault;
+      bytes = a.held.value.blocks.bytes;
+      settled = settled_by a.held.value.open_write a.held.value.blocks.bytes a.held.value.blocks.other;
+      given = given_by a.held.value.open_write a.held.value.blocks.bytes a.held.value.blocks.other;
+      faults = a.held.value.faults;
+      write_fault = a.held.value.write_fault;
+      read_fault = a.held.value.read_fault;
+      sync_fault = a.held.value.sync_fault;
     } };
 }
 
@@ -57,15 +63,17 @@ impl MemLane {
     fn new(alloc: Global, number: u32, bytes: &[u8; BLOCK_LEN]) -> Result<MemLane, AllocError>
         ensures { IfOk result (λ lane. lane ≡ fresh_lane number bytes.now) }
     {
-        let blocks = Box::new(alloc, Blocks::new(bytes))?;
-        Ok(MemLane {
-            number,
-            blocks,
+        let held = Held {
+            blocks: Blocks::new(bytes),
             open_write: OpenWrite::Absent,
             faults: 0,
             write_fault: None,
             read_fault: false,
             sync_fault: false,
+        };
+        Ok(MemLane {
+            number,
+            held: Box::new(alloc, held)?,
         })
     }
 
@@ -73,7 +81,7 @@ impl MemLane {
     pub fn bytes(&self) -> &[u8; BLOCK_LEN]
         ensures { result.now ≡ self.now.bytes }
     {
-        self.blocks.bytes()
+        self.held.blocks.bytes()
     }
 
     /// Lets the next write fail, and that one alone. The block then holds the new bytes or keeps the old ones, as asked
@@ -81,21 +89,21 @@ impl MemLane {
     pub fn fail_write(&mut self, new_bytes_stay: bool)
         ensures { self.new ≡ record self.old { write_fault = Some new_bytes_stay } }
     {
-        self.write_fault = Some(new_bytes_stay);
+        self.held.write_fault = Some(new_bytes_stay);
     }
 
     /// Lets the next read fail, and that one alone.
     pub fn fail_read(&mut self)
         ensures { self.new ≡ record self.old { read_fault = true } }
     {
-        self.read_fault = true;
+        self.held.read_fault = true;
     }
 
     /// Lets the next sync fail, and that one alone.
     pub fn fail_sync(&mut self)
         ensures { self.new ≡ record self.old { sync_fault = true } }
     {
-        self.sync_fault = true;
+        self.held.sync_fault = true;
     }
 
     /// Crashes: the block then has the last bytes that were given to a write since its last good sync, where there are such
@@ -103,25 +111,25 @@ impl MemLane {
     pub fn crash(&mut self, kept: bool)
         ensures { self.new ≡ crashed self.old kept }
     {
-        match self.open_write {
+        match self.held.open_write {
             OpenWrite::Absent => {}
             OpenWrite::Newest if kept => {}
             OpenWrite::Unread if !kept => {}
-            OpenWrite::Newest | OpenWrite::Unread => self.blocks.turn(),
+            OpenWrite::Newest | OpenWrite::Unread => self.held.blocks.turn(),
         }
-        self.open_write = OpenWrite::Absent;
+        self.held.open_write = OpenWrite::Absent;
     }
 
     /// A write was given these bytes, and a read finds them.
     fn put(&mut self, from: &[u8; BLOCK_LEN])
         ensures { self.new ≡ record self.old { bytes = from.now; given = Some from.now } }
     {
-        match self.open_write {
+        match self.held.open_write {
             OpenWrite::Newest => {}
-            OpenWrite::Absent | OpenWrite::Unread => self.blocks.turn(),
+            OpenWrite::Absent | OpenWrite::Unread => self.held.blocks.turn(),
         }
-        self.blocks.set_bytes(from);
-        self.open_write = OpenWrite::Newest;
+        self.held.blocks.set_bytes(from);
+        self.held.open_write = OpenWrite::Newest;
     }
 
     /// A write was given these bytes, and a read finds the ones before. Where those are an open write's, they stay what a
@@ -130,14 +138,14 @@ impl MemLane {
         ensures rest { self.new ≡ record self.old { given = self.new.given } }
         ensures given { IsGivenAfterFault (Some false) self.old from.now self.new.given }
     {
-        let is_newest = match self.open_write {
+        let is_newest = match self.held.open_write {
             OpenWrite::Absent => false,
             OpenWrite::Newest => true,
-            OpenWrite::Unread => self.blocks.other() == self.blocks.bytes(),
+            OpenWrite::Unread => self.held.blocks.other() == self.held.blocks.bytes(),
         };
         if !is_newest {
-            self.blocks.set_other(from);
-            self.open_write = OpenWrite::Unread;
+            self.held.blocks.set_other(from);
+            self.held.open_write = OpenWrite::Unread;
         }
     }
 }
@@ -162,7 +170,7 @@ impl Lane for MemLane {
     }
 
     fn faults(&self) -> u64 {
-        self.faults
+        self.held.faults
     }
 
     /// Fails exactly where it was told to, and then counts one fault and forgets what it was told.
@@ -174,12 +182,12 @@ impl Lane for MemLane {
         ensures kept { OnErr result (into.new ≡ into.old) }
         ensures counts { OnErr result (CountsOne self.old.faults self.new.faults) }
     {
-        if self.read_fault {
-            self.read_fault = false;
-            self.faults = self.faults.wrapping_add(1);
+        if self.held.read_fault {
+            self.held.read_fault = false;
+            self.held.faults = self.held.faults.wrapping_add(1);
             return Err(DeviceFault);
         }
-        *into = *self.blocks.bytes();
+        *into = *self.held.blocks.bytes();
         Ok(())
     }
 
@@ -192,14 +200,14 @@ impl Lane for MemLane {
         ensures given { OnErr result (IsGivenAfterFault self.old.write_fault self.old from.now self.new.given) }
         ensures counts { OnErr result (CountsOne self.old.faults self.new.faults) }
     {
-        match self.write_fault {
+        match self.held.write_fault {
             None => {
                 self.put(from);
                 Ok(())
             }
             Some(new_bytes_stay) => {
-                self.write_fault = None;
-                self.faults = self.faults.wrapping_add(1);
+                self.held.write_fault = None;
+                self.held.faults = self.held.faults.wrapping_add(1);
                 if new_bytes_stay {
                     self.put(from);
                 } else {
@@ -217,12 +225,12 @@ impl Lane for MemLane {
         ensures err { OnErr result (self.new ≡ sync_failed self.old) }
         ensures counts { OnErr result (CountsOne self.old.faults self.new.faults) }
     {
-        if self.sync_fault {
-            self.sync_fault = false;
-            self.faults = self.faults.wrapping_add(1);
+        if self.held.sync_fault {
+            self.held.sync_fault = false;
+            self.held.faults = self.held.faults.wrapping_add(1);
             return Err(DeviceFault);
         }
-        self.open_write = OpenWrite::Absent;
+        self.held.open_write = OpenWrite::Absent;
         Ok(())
     }
 }
