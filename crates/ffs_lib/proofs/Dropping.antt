@@ -47,10 +47,6 @@ module _ (word : ℕ → ℕ) (ty : ℕ) where
   pub counted_more : (k next : ℕ) → next ≡ k + 1 → word k ≢ 0 → length (blocks_of (pointed word next ty)) ≡ length (blocks_of (pointed word k ty)) + 1
   counted_more k next e some = ap (λ (bs : List ℕ). length bs) (words_more k next e some) ∙ length-append (blocks_of (pointed word k ty)) (word k ∷ [])
 
--- and the block of pointers
-inode_more : (inode : List ℕ) → data_of_inode inode ≡ blocks_of (pointed (direct_in inode) 12 2) ++ blocks_of (option_to_list (unless_empty (word_at inode 56, 5)))
-inode_more inode = map-append (λ (p : ℕ × ℕ). p.0) (pointed (direct_in inode) 12 2) (option_to_list (unless_empty (word_at inode 56, 5)))
-
 pub no_pairs : (ps : List (ℕ × ℕ)) → length (blocks_of ps) ≡ 0 → ps ≡ []
 no_pairs [] e = refl
 no_pairs (p ∷ ps) e = absurd (omega (arith, e))

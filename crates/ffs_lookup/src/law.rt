@@ -24,8 +24,8 @@ pub fn look_ups_are_of_files()
         read_into content old offset (file_in content fs n) ≡ read_over old (read (files_of content fs) n offset (length old)) }
 {}
 
-/// What each call leaves has no name twice in a directory, where that was so before. A crash may end that: of two edits in two blocks of a
-/// directory the later may be the one that is on the disk.
+/// What each call makes of the files has no name twice in a directory, where that was so before. A crash may end that: of two edits in two
+/// blocks of a directory the later may be the one that is on the disk.
 pub fn names_stand_once()
     ensures made { AreSingle empty_volume }
     ensures created { (files : Files) (d : ℕ) (name : List ℕ) (value : InodeValue) (next : ℕ × Files) → (value ≡ new_file) ⊎ (value ≡ new_directory) →

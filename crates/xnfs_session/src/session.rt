@@ -1,13 +1,16 @@
 // A store with its open volume.
 
-ghost use Rattle.std.specs.Prelude.{◌≡◌, ◌⊎◌, ℕ, length, map, IfOk, IfErr, OnOk, Ok, Err};
+ghost use Rattle.std.specs.Prelude.{◌≡◌, ◌⊎◌, ℕ, length, map, IfOk, IfErr, MatchResult, OnOk, Ok, Err};
 ghost use Rattle.ffs_model.specs.Cuts.{latest};
 ghost use Rattle.ffs_model.specs.Library.{IsLibrary};
-ghost use Rattle.ffs_lookup.specs.Newest.{file_in, inode_in, mapped, named_in, names_in, read_count, read_into};
+ghost use Rattle.ffs_lookup.specs.Newest.{inode_in, mapped, named_in};
+ghost use Rattle.ffs_lookup.specs.Files.{created, listed, new_directory, new_file, read, read_over, removed, renamed, replaced, unlinked, written};
+ghost use Rattle.ffs_lookup.specs.FileValues.{files_of};
 ghost use Rattle.ffs_lookup.specs.Repairs.{idle_in, repair_at, repair_in};
 ghost use Rattle.ffs_lib.specs.Reclaiming.{Reclaims};
 ghost use Rattle.ffs_lib.specs.Replacing.{Replaces};
 ghost use Rattle.ffs_lib.specs.Steps.{Creates, Renames, Unlinks, Unmakes, newest};
+ghost use Rattle.ffs_lib.specs.Values.{Follows};
 ghost use Rattle.ffs_lib.specs.Volumes.{NothingPending};
 ghost use Rattle.ffs_lib.specs.Writes.{Writes};
 ghost use Rattle.xn_model.specs.Calls.{free_of, pending_of, tainted_of};
@@ -195,19 +198,18 @@ impl<S: FlushStore + Drop> Session<S> {
 
     /// The names in a directory and their inodes, in the order of its blocks.
     pub fn list(&self, alloc: Global, directory: u16) -> Result<Vec<(Vec<u8>, u16)>, FfsFault>
-        ensures names { IfOk result (λ names. Ok (map (λ name. (name.0.items, name.1)) names.items)
-            ≡ names_in (latest (S.state_of self.now.store).lives) self.now.fs directory) }
-        ensures faults { IfErr result (λ fault. (fault ≡ FfsFault.Kernel Refusal.NoMemory)
-            ⊎ (Err fault ≡ names_in (latest (S.state_of self.now.store).lives) self.now.fs directory)) }
+        ensures value { MatchResult result
+            (λ names. Ok (map (λ name. (name.0.items, name.1)) names.items) ≡ listed (files_of (newest (S.state_of self.now.store)) self.now.fs) directory)
+            (λ fault. (fault ≡ FfsFault.Kernel Refusal.NoMemory)
+            ⊎ (Err fault ≡ listed (files_of (newest (S.state_of self.now.store)) self.now.fs) directory)) }
     {
         self.volume.list(alloc, &self.store, directory)
     }
 
     /// Reads a file from an offset on, and answers how many bytes there were.
     pub fn read(&self, inode: u16, offset: u32, bytes: &mut [u8]) -> Result<usize, FfsFault>
-        ensures exact { result ≡ read_count (length bytes.old) offset (file_in (latest (S.state_of self.now.store).lives) self.now.fs inode) }
-        ensures bytes { bytes.new ≡ read_into (latest (S.state_of self.now.store).lives) bytes.old offset
-            (file_in (latest (S.state_of self.now.store).lives) self.now.fs inode) }
+        ensures value { result ≡ mapped length (read (files_of (newest (S.state_of self.now.store)) self.now.fs) inode offset (length bytes.old)) }
+        ensures bytes { bytes.new ≡ read_over bytes.old (read (files_of (newest (S.state_of self.now.store)) self.now.fs) inode offset (length bytes.old)) }
     {
         self.volume.read(&self.store, inode, offset, bytes)
     }
@@ -216,6 +218,8 @@ impl<S: FlushStore + Drop> Session<S> {
     pub fn create(&mut self, alloc: Global, directory: u16, name: &[u8]) -> Result<u16, FfsFault>
         ensures types { S.types_of self.new.store ≡ S.types_of self.old.store }
         ensures fs { self.new.fs ≡ self.old.fs }
+        ensures value { Follows (created new_file (files_of (newest (S.state_of self.old.store)) self.old.fs) directory name.now)
+            self.old.fs (S.state_of self.old.store) (S.state_of self.new.store) result }
         ensures answers { Creates (S.types_of self.old.store) self.old.fs directory name.now 1 (S.state_of self.old.store)
             (S.state_of self.new.store) result }
     {
@@ -226,6 +230,8 @@ impl<S: FlushStore + Drop> Session<S> {
     pub fn mkdir(&mut self, alloc: Global, directory: u16, name: &[u8]) -> Result<u16, FfsFault>
         ensures types { S.types_of self.new.store ≡ S.types_of self.old.store }
         ensures fs { self.new.fs ≡ self.old.fs }
+        ensures value { Follows (created new_directory (files_of (newest (S.state_of self.old.store)) self.old.fs) directory name.now)
+            self.old.fs (S.state_of self.old.store) (S.state_of self.new.store) result }
         ensures answers { Creates (S.types_of self.old.store) self.old.fs directory name.now 2 (S.state_of self.old.store)
             (S.state_of self.new.store) result }
     {
@@ -242,6 +248,8 @@ impl<S: FlushStore + Drop> Session<S> {
     ) -> Result<(), FfsFault>
         ensures types { S.types_of self.new.store ≡ S.types_of self.old.store }
         ensures fs { self.new.fs ≡ self.old.fs }
+        ensures value { Follows (written (files_of (newest (S.state_of self.old.store)) self.old.fs) inode offset bytes.now)
+            self.old.fs (S.state_of self.old.store) (S.state_of self.new.store) result }
         ensures answers { Writes (S.types_of self.old.store) self.old.fs inode offset bytes.now (S.state_of self.old.store)
             (S.state_of self.new.store) result }
     {
@@ -253,6 +261,8 @@ impl<S: FlushStore + Drop> Session<S> {
     pub fn unlink(&mut self, alloc: Global, directory: u16, name: &[u8]) -> Result<(), FfsFault>
         ensures types { S.types_of self.new.store ≡ S.types_of self.old.store }
         ensures fs { self.new.fs ≡ self.old.fs }
+        ensures value { Follows (unlinked (files_of (newest (S.state_of self.old.store)) self.old.fs) directory name.now)
+            self.old.fs (S.state_of self.old.store) (S.state_of self.new.store) result }
         ensures answers { Unlinks (S.types_of self.old.store) self.old.fs directory name.now (S.state_of self.old.store)
             (S.state_of self.new.store) result }
     {
@@ -263,6 +273,8 @@ impl<S: FlushStore + Drop> Session<S> {
     pub fn rmdir(&mut self, alloc: Global, directory: u16, name: &[u8]) -> Result<(), FfsFault>
         ensures types { S.types_of self.new.store ≡ S.types_of self.old.store }
         ensures fs { self.new.fs ≡ self.old.fs }
+        ensures value { Follows (removed (files_of (newest (S.state_of self.old.store)) self.old.fs) directory name.now)
+            self.old.fs (S.state_of self.old.store) (S.state_of self.new.store) result }
         ensures answers { Unmakes (S.types_of self.old.store) self.old.fs directory name.now (S.state_of self.old.store)
             (S.state_of self.new.store) result }
     {
@@ -280,6 +292,8 @@ impl<S: FlushStore + Drop> Session<S> {
     ) -> Result<(), FfsFault>
         ensures types { S.types_of self.new.store ≡ S.types_of self.old.store }
         ensures fs { self.new.fs ≡ self.old.fs }
+        ensures value { Follows (renamed (files_of (newest (S.state_of self.old.store)) self.old.fs) directory name.now other new_name.now)
+            self.old.fs (S.state_of self.old.store) (S.state_of self.new.store) result }
         ensures answers { Renames (S.types_of self.old.store) self.old.fs directory name.now other new_name.now
             (S.state_of self.old.store) (S.state_of self.new.store) result }
     {
@@ -298,6 +312,8 @@ impl<S: FlushStore + Drop> Session<S> {
     ) -> Result<(), FfsFault>
         ensures types { S.types_of self.new.store ≡ S.types_of self.old.store }
         ensures fs { self.new.fs ≡ self.old.fs }
+        ensures value { Follows (replaced (files_of (newest (S.state_of self.old.store)) self.old.fs) directory name.now other other_name.now)
+            self.old.fs (S.state_of self.old.store) (S.state_of self.new.store) result }
         ensures answers { Replaces (S.types_of self.old.store) self.old.fs directory name.now other other_name.now
             (S.state_of self.old.store) (S.state_of self.new.store) result }
     {

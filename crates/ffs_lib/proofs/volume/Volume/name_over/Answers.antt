@@ -11,7 +11,7 @@ use Rattle.ffs_lib.specs.Steps.{StopsUnnaming, Unnamed}
 use Rattle.ffs_lib.specs.Volumes.{edits_of}
 use Rattle.ffs_lib.proofs.Following.{another_leads}
 use Rattle.ffs_lib.proofs.Laws.{staged, stops_err, stops_removing}
-use Rattle.ffs_lib.proofs.Linked.{linked_inode}
+use Rattle.ffs_lib.proofs.Linked.{linked_own}
 use Rattle.ffs_lib.proofs.Replaced.{direct_before, direct_turned, direct_unnamed, home_named, home_removable, home_removed, is_moved, replaced, slots_apart, target_named}
 use Rattle.ffs_lib.proofs.Replacing.{can_replace}
 use Rattle.ffs_lib.proofs.Tops.{never}
@@ -198,10 +198,7 @@ returns-clause-leaves g c =
     let apart : to.inode ≢ entry.inode = λ z. other (z ∙ ap (λ (y : Slot). y.inode) one) in
     let may = c.in_ok-remove.ensures.waits T array to.inode c.in_ok-turned.turned types2 b.0 b.1.1.given apart b.1.1 in
     let k = c.in_ok-take_link.ensures.ends T array (c.remove.ensures.types ∙ types2) e.0 may in
-    let named_own = linked_inode T fs.number array old s.keeps from c.requires.first in
-    let same : inode_links x.own ≡ inode_links named_own.own = ap inode_links (same_ok x.own named_own.own (own ∙ sym named_own.found)) in
-    let low = named_own.linked in
-    let at_least : 1 ≤ inode_links x.own = omega (arith, same, low) in
+    let at_least = linked_own T fs.number array old s.keeps from c.requires.first x.own own in
     let name = c.args.name.now in
     let other_name = c.args.other_name.now in
     let w = latest (g.S.Store.state_of c.take_link.new.store).lives in (
