@@ -5,11 +5,9 @@ use Rattle.std.specs.List.{range_with_len, cons_option}
 use Rattle.std.proofs.lemmas.List.{append-nil, drop_all, length-append, map-append}
 use Rattle.xn_model.specs.Types.{Types}
 use Rattle.xn_model.specs.Lists.{blocks_of, put}
-use Rattle.xn_model.specs.Root.{word_at, unless_empty}
+use Rattle.xn_model.specs.Root.{unless_empty}
 use Rattle.ffs_model.specs.Library.{IsLibrary, pointed, pointer_word, zeros}
 use Rattle.ffs_model.proofs.ForCallers.{is_not_empty, pointed_none, word_within, zero_word}
-use Rattle.ffs_format.specs.Fields.{direct_in}
-use Rattle.ffs_lib.specs.Edits.{data_of_inode}
 
 cons_append : (o : Option (ℕ × ℕ)) (xs ys : List (ℕ × ℕ)) → cons_option o (xs ++ ys) ≡ cons_option o xs ++ ys
 cons_append None xs ys = refl

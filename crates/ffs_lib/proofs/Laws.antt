@@ -17,7 +17,7 @@ use Rattle.ffs_model.specs.Volumes.{CanUnlink}
 use Rattle.ffs_model.proofs.ForCallers.{pointers_cleared_short, proposed_given, proposed_here, proposed_others}
 use Rattle.ffs_format.specs.Fields.{Fields, fields_of}
 use Rattle.ffs_lookup.specs.declared.fault.FfsFault.{FfsFault}
-use Rattle.ffs_lookup.specs.declared.fault.FfsFault.TheVariants.{Kernel, NoEntry}
+use Rattle.ffs_lookup.specs.declared.fault.FfsFault.TheVariants.{Kernel}
 use Rattle.ffs_lookup.specs.declared.places.Found.{Found}
 use Rattle.ffs_lookup.specs.declared.places.Slot.{Slot}
 use Rattle.ffs_lookup.specs.Newest.{inode_in, is_short}
@@ -32,7 +32,7 @@ use Rattle.ffs_lib.specs.Volumes.{IsVolume, edits_of}
 use Rattle.ffs_lib.specs.declared.volume.Volume.{Volume}
 use Rattle.ffs_lib.proofs.Dropping.{cleared_owns, no_pairs, put_whole}
 use Rattle.ffs_lib.proofs.Edited.{cleared, dropped, freed, less, more, pointers_reached}
-use Rattle.ffs_lib.proofs.Entering.{directory_from, directory_same, inode_gone, inode_put, others_put, place_put}
+use Rattle.ffs_lib.proofs.Entering.{directory_from, directory_same, inode_put, others_put, place_put}
 use Rattle.ffs_lib.proofs.Fields.{free_blocks, free_mode, same_blocks}
 use Rattle.ffs_lib.proofs.Kept.{forgets}
 use Rattle.ffs_lib.proofs.Linked.{linked_inode}

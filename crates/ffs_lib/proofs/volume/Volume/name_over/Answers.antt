@@ -1,6 +1,6 @@
-use Rattle.std.proofs.Common.{◌≡◌, ◌≢◌, ◌∙◌, refl, sym, ap, subst, None, Some, false, inl, inr, ◌≤◌, arith}
+use Rattle.std.proofs.Common.{◌≡◌, ◌≢◌, ◌∙◌, refl, sym, ap, subst, None, Some, false, inl, inr}
 use Rattle.ffs_model.specs.Cuts.{latest}
-use Rattle.ffs_model.specs.Library.{IsLibrary, inode_links, library_layout}
+use Rattle.ffs_model.specs.Library.{IsLibrary, library_layout}
 use Rattle.ffs_model.specs.Standing.{StayNamed}
 use Rattle.ffs_model.proofs.ForCallers.{stands_first}
 use Rattle.ffs_lookup.specs.declared.places.Slot.{Slot}
