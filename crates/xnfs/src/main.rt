@@ -23,7 +23,9 @@ fn run(rt: &HostRuntime, threads: &(impl Threads + Sync)) -> io::Result<u8> {
         &mut out,
         &mut err,
     );
-    out.flush()?;
+    if status == 0 {
+        out.flush()?;
+    }
     Ok(status)
 }
 

@@ -3,7 +3,7 @@
 use crate::fault::{Fault, Reason, at};
 use crate::finding::{Place, TOP, fault_at, find, names, naming_fault, place_of, target, there};
 use crate::looking::bytes_of;
-use crate::putting::{flush, put_bytes};
+use crate::putting::{flush, is_hidden, put_bytes};
 use crate::walking::walk;
 use std::alloc::Global;
 use xnfs_session::{FfsFault, FlushStore, Session};
@@ -24,13 +24,16 @@ fn done_at<S: FlushStore + Drop, A: Drop>(
     }
 }
 
-/// Makes the folder of a name.
+/// Makes the folder of a name, which is not that of files that are being made.
 fn make_in<S: FlushStore + Drop>(
     session: &mut Session<S>,
     alloc: Global,
     path: &str,
     place: Place,
 ) -> Result<u16, Fault> {
+    if is_hidden(place.name.as_bytes()) {
+        return Err(at(alloc, path, Reason::Kept));
+    }
     let made = session.mkdir(alloc, place.folder, place.name.as_bytes());
     match made {
         Ok(inode) => Ok(inode),

@@ -159,6 +159,30 @@ pub fn put<R: Files<File = File> + AllocGlobal + Clone + Drop, S: FlushStore + D
     }
 }
 
+/// Whether something of the system is neither a file nor a folder, but a device, a pipe or the like.
+fn is_special<R: Files<File = File>>(rt: &R, path: &str) -> bool {
+    match fs::metadata(rt, path) {
+        Ok(kind) => !kind.is_file() && !kind.is_dir(),
+        Err(_) => false,
+    }
+}
+
+/// Writes bytes to a path of the system: into a device or a pipe that is there, elsewhere as a file.
+fn write_target<R: Files<File = File>>(
+    rt: &R,
+    alloc: Global,
+    target: &str,
+    bytes: &[u8],
+) -> Result<(), Fault> {
+    if !is_special(rt, target) {
+        return replace_file(rt, alloc, target, bytes);
+    }
+    match fs::write(rt, target, bytes) {
+        Ok(()) => Ok(()),
+        Err(error) => Err(system(alloc, target, error)),
+    }
+}
+
 /// Writes a new file of the system beside its name, and then gives it that.
 fn replace_file<R: Files<File = File>>(
     rt: &R,
@@ -251,5 +275,5 @@ pub fn get<R: Files<File = File> + AllocGlobal, S: FlushStore + Drop>(
         out.write_all(&bytes)?;
         return Ok(());
     }
-    replace_file(rt, alloc, target, &bytes)
+    write_target(rt, alloc, target, &bytes)
 }

@@ -41,13 +41,26 @@ fn print_owner<S: FlushStore + Drop>(
     Ok(())
 }
 
-/// `graph`: the blocks of a volume, as its newest bytes have them, each below its owner.
+/// Prints how many entries are pending, where some are.
+fn print_pending<S: FlushStore + Drop>(
+    session: &Session<S>,
+    out: &mut impl Write,
+) -> Result<(), Fault> {
+    let pending = session.pending();
+    if pending > 0 {
+        writeln!(out, "  label=\"{pending} entries pending\";")?;
+    }
+    Ok(())
+}
+
+/// `graph`: the blocks of a volume, as its newest bytes have them, each below its owner, and how many entries are pending.
 pub fn graph<S: FlushStore + Drop>(
     session: &Session<S>,
     alloc: Global,
     out: &mut impl Write,
 ) -> Result<(), Fault> {
     writeln!(out, "digraph volume {{")?;
+    print_pending(session, out)?;
     let mut waiting = Vec::new(alloc);
     let mut first = Owner {
         block: 0,
