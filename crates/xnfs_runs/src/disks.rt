@@ -1,0 +1,85 @@
+// Volumes on disks in memory.
+
+use crash_check::mount;
+use disk::{Lanes, MemDisk, MemLane};
+use ffs_format::templates;
+use std::alloc::{AllocError, Global};
+use std::io;
+use std::thread::Threads;
+use templates::format_image;
+use xn_kernel::Kernel;
+use xnfs_session::{Fs, Session};
+
+/// A session over a disk in memory.
+pub type MemSession = Session<Kernel<MemLane>>;
+
+/// How many blocks it has: enough for 127 files of 20,000 bytes.
+const BLOCKS: u32 = 6000;
+
+/// How many bytes the largest disk has.
+const GREATEST: usize = 16_777_216;
+
+/// What is answered where a disk can't be had.
+fn no_disk() -> io::Error {
+    io::Error::from(io::ErrorKind::Other)
+}
+
+/// The lanes of a fresh disk.
+fn fresh_lanes(alloc: Global) -> io::Result<Lanes<MemLane>> {
+    let templates = templates(alloc)?;
+    let Ok(image) = format_image(alloc, BLOCKS, &templates) else {
+        return Err(no_disk());
+    };
+    if image.len() % 512 != 0 || image.len() > GREATEST {
+        return Err(no_disk());
+    }
+    match MemDisk::new(alloc, &image)?.split(alloc) {
+        Ok(lanes) => Ok(lanes),
+        Err(_) => Err(no_disk()),
+    }
+}
+
+/// The file system whose volume is used.
+fn file_system() -> io::Result<Fs> {
+    match Fs::new(0) {
+        Some(fs) => Ok(fs),
+        None => Err(no_disk()),
+    }
+}
+
+/// The kernel of a disk.
+fn mounted(
+    threads: &(impl Threads + Sync),
+    alloc: Global,
+    lanes: Lanes<MemLane>,
+) -> io::Result<Kernel<MemLane>> {
+    match mount(threads, alloc, lanes, 1) {
+        Ok(kernel) => Ok(kernel),
+        Err(_) => Err(no_disk()),
+    }
+}
+
+/// A session of file system 0 over a fresh disk.
+pub fn fresh(threads: &(impl Threads + Sync), alloc: Global) -> io::Result<MemSession> {
+    let kernel = mounted(threads, alloc, fresh_lanes(alloc)?)?;
+    match Session::make(alloc, kernel, file_system()?) {
+        Ok(session) => Ok(session),
+        Err(_) => Err(no_disk()),
+    }
+}
+
+/// The session over the same disk, once all is written and the disk is mounted anew.
+pub fn mounted_anew(
+    threads: &(impl Threads + Sync),
+    alloc: Global,
+    mut session: MemSession,
+) -> io::Result<MemSession> {
+    if session.flush(alloc).is_err() {
+        return Err(no_disk());
+    }
+    let kernel = mounted(threads, alloc, session.into_store().into_lanes())?;
+    match Session::open(alloc, kernel, file_system()?) {
+        Ok(session) => Ok(session),
+        Err(_) => Err(no_disk()),
+    }
+}

@@ -1,0 +1,56 @@
+// Plays pseudo-random lines of the shell of `xnfs`, and compares each answer with that of a plain tree of files and folders. Most of them go
+// to a disk in memory, which is mounted anew again and again; then all that stands on it is compared, and so it is before. The last ones go
+// to a disk in a file, as one shell. Prints how many lines of each kind were played, how many of them were done, and how many answers were
+// others than the tree's. The same lines are played in each run. An argument says how many.
+#![tactic(auto)]
+
+mod answers;
+mod disks;
+mod lines;
+mod names;
+mod run;
+mod sources;
+mod tally;
+mod tree;
+
+use run::{play_file, play_memory};
+use sources::Sources;
+use std::process::ExitCode;
+use std::thread::Threads;
+use std::{env, io};
+use tally::Tally;
+
+/// How many lines are played where no argument says so.
+const LINES: u32 = 20_000;
+
+/// Of how many lines one goes to the disk in a file.
+const IN_FILE: u32 = 20;
+
+/// Plays the lines, and answers how many of the answers were wrong. Threads are started by the second handle alone.
+fn play(rt: &HostRuntime, threads: &(impl Threads + Sync)) -> io::Result<u32> {
+    let alloc = rt.alloc();
+    let words: Vec<String> = env::args(rt)?.skip(1).collect(alloc)?;
+    let lines = match words.first() {
+        Some(word) => word.as_str().parse::<u32>().unwrap_or(LINES),
+        None => LINES,
+    };
+    let sources = Sources::write(rt, alloc)?;
+    let mut tally = Tally::new();
+    let in_file = lines / IN_FILE;
+    play_memory(
+        rt,
+        threads,
+        alloc,
+        &sources,
+        lines.saturating_sub(in_file),
+        &mut tally,
+    )?;
+    play_file(rt, threads, alloc, &sources, in_file, &mut tally)?;
+    println!(rt; "{tally}")?;
+    Ok(tally.wrong)
+}
+
+fn main(rt: HostRuntime) -> io::Result<ExitCode> {
+    let wrong = play(&rt, &rt)?;
+    Ok(ExitCode::from(if wrong == 0 { 0 } else { 1 }))
+}
