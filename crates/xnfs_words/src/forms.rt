@@ -165,14 +165,18 @@ pub const WORD_FORMS: [Form; 14] = [
     },
 ];
 
+/// What is told of a shell.
+const SHELL_HELP: &str =
+    "A line has the words of a command, parted by blanks; '..' and \"..\" keep blanks in a word. Empty lines and lines that begin with # are
+passed over. A line that fails is told, and the next one is read. The status is the greatest of all lines.
+
+Example: printf 'mkdir /a\\nput notes.txt /a\\n' | xnfs disk.img shell";
+
 /// The command that only a line has.
 pub const LINE_FORMS: [Form; 1] = [Form {
     name: "shell",
     about: "read these commands from standard input, a line each",
-    after: Some("A line has the words of a command, parted by blanks; '..' and \"..\" keep blanks in a word. Empty lines and lines that begin with # are
-passed over. A line that fails is told, and the next one is read. The status is the greatest of all lines.
-
-Example: printf 'mkdir /a\\nput notes.txt /a\\n' | xnfs disk.img shell"),
+    after: Some(SHELL_HELP),
     parts: &[Part::Flag {
         name: "lazy",
         short: None,
