@@ -11,7 +11,7 @@ use Rattle.script.specs.Told.{IsSpelledOut, Tells}
 -- any but a fresh block and a template
 pub told_event : (words : List (List ℕ)) (told : LineEvent) → ((fs : _) (ty : _) (text : _) → told ≡ line.Init fs ty text → ⊥) → ((text : _) → told ≡ line.Install text → ⊥) → Tells words told → (e : Event) × Spells words e
 told_event words (line.Init fs ty text) other more tells = absurd (other fs ty text refl)
-told_event words (line.Edit fs block edit) other more tells = (event.Call fs (Propose block edit), tells)
+told_event words (line.Edit fs block edit) other more tells = (event.Call fs (Propose block edit.value), tells)
 told_event words (line.MakeRoot fs block) other more tells = (event.Call fs (MakeRoot block), tells)
 told_event words (line.DropRoot fs) other more tells = (event.Call fs DropRoot, tells)
 told_event words (line.Forget fs block) other more tells = (event.Call fs (Forget block), tells)

@@ -14,7 +14,7 @@ abbrev pub Tells : List (List ℕ) → LineEvent → Type 0
 Tells words (line.Init fs ty text) =
     ((bytes : List ℕ) → IsBlockText text.now → SpellsBlock text.now bytes → Spells words (event.Call fs (Init ty bytes)))
     × (¬ IsBlockText text.now → SpellNothing words)
-Tells words (line.Edit fs block edit) = Spells words (event.Call fs (Propose block edit))
+Tells words (line.Edit fs block edit) = Spells words (event.Call fs (Propose block edit.value))
 Tells words (line.MakeRoot fs block) = Spells words (event.Call fs (MakeRoot block))
 Tells words (line.DropRoot fs) = Spells words (event.Call fs DropRoot)
 Tells words (line.Forget fs block) = Spells words (event.Call fs (Forget block))

@@ -94,7 +94,10 @@ fn told_event(told: LineEvent) -> Event
             };
             Event::Call(fs, Call::Init { ty, bytes })
         }
-        LineEvent::Edit(fs, block, edit) => Event::Call(fs, Call::Propose { block, edit }),
+        LineEvent::Edit(fs, block, edit) => {
+            let edit = Box::into_inner(edit);
+            Event::Call(fs, Call::Propose { block, edit })
+        }
         LineEvent::MakeRoot(fs, block) => Event::Call(fs, Call::MakeRoot { block }),
         LineEvent::DropRoot(fs) => Event::Call(fs, Call::DropRoot),
         LineEvent::Forget(fs, block) => Event::Call(fs, Call::Forget { block }),

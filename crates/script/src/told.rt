@@ -2,11 +2,11 @@ use edit_list::Edit;
 use xn_state::Fs;
 
 /// An event as its line tells it: the bytes of a fresh block or of a template are still the text that spells them, or that spells none. It takes few
-/// bytes, where an `Event` has room for a block and is long to copy.
+/// bytes, where an `Event` has room for a block and is long to copy; an edit stands behind a pointer, since other lines are more and need no room for it.
 #[derive(Drop)]
 pub enum LineEvent<'a> {
     Init(Fs, u32, &'a str),
-    Edit(Fs, u32, Edit),
+    Edit(Fs, u32, Box<Edit>),
     MakeRoot(Fs, u32),
     DropRoot(Fs),
     Forget(Fs, u32),

@@ -48,7 +48,7 @@ fn parse_edit_event<'a>(
     let Some(edit) = parse_edit(alloc, words)? else {
         return Ok(None);
     };
-    Ok(Some(LineEvent::Edit(fs, block, edit)))
+    Ok(Some(LineEvent::Edit(fs, block, Box::new(alloc, edit)?)))
 }
 
 /// The event of a name and two words behind it, a file system and a block.
