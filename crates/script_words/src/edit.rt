@@ -14,7 +14,7 @@ fn parse_patches(alloc: Global, words: &[&str]) -> Result<Option<Vec<Patch>>, Al
     ensures some { IfOk result (λ read. IfSome read (λ patches. AllZip SpellsPatch (map (λ word. word.now) words.now) patches.items)) }
     ensures none { IfOk result (λ read. IfNone read ((patches : List model.Patch) → ¬ AllZip SpellsPatch (map (λ word. word.now) words.now) patches)) }
 {
-    let mut patches = Vec::new(alloc);
+    let mut patches = Vec::with_capacity(alloc, words.len())?;
     for word in words {
         let Some(patch) = parse_patch(alloc, word)? else {
             return Ok(None);
@@ -29,7 +29,7 @@ fn parse_adds(alloc: Global, words: &[&str]) -> Result<Option<Vec<(u32, u32)>>, 
     ensures some { IfOk result (λ read. IfSome read (λ adds. AllZip SpellsAdd (map (λ word. word.now) words.now) adds.items)) }
     ensures none { IfOk result (λ read. IfNone read ((adds : List (ℕ × ℕ)) → ¬ AllZip SpellsAdd (map (λ word. word.now) words.now) adds)) }
 {
-    let mut adds = Vec::new(alloc);
+    let mut adds = Vec::with_capacity(alloc, words.len())?;
     for word in words {
         let Some(add) = parse_add(word) else {
             return Ok(None);
@@ -44,7 +44,7 @@ fn parse_drops(alloc: Global, words: &[&str]) -> Result<Option<Vec<u32>>, AllocE
     ensures some { IfOk result (λ read. IfSome read (λ drops. AllZip SpellsDrop (map (λ word. word.now) words.now) drops.items)) }
     ensures none { IfOk result (λ read. IfNone read ((drops : List ℕ) → ¬ AllZip SpellsDrop (map (λ word. word.now) words.now) drops)) }
 {
-    let mut drops = Vec::new(alloc);
+    let mut drops = Vec::with_capacity(alloc, words.len())?;
     for word in words {
         let Some(block) = parse_drop(word) else {
             return Ok(None);
