@@ -55,7 +55,7 @@ fn fill<S: FlushStore + Drop>(
 }
 
 /// Gives up the file that is being made, if it is there.
-fn give_up<S: FlushStore + Drop>(
+pub fn give_up<S: FlushStore + Drop>(
     session: &mut Session<S>,
     alloc: Global,
     folder: u16,
