@@ -1,6 +1,6 @@
 -- Templates that are read from blocks, one after another.
-use Rattle.std.proofs.Common.{◌≡◌, ◌<◌, ◌+◌, ◌⊎◌, ℕ, List, [], ◌∷◌, ◌++◌, length, map, take, drop, get_or, refl, sym, ◌∙◌, ap, subst, arith, add-one}
-use Rattle.std.specs.Prelude.{All, Contains, Err}
+use Rattle.std.proofs.Common.{◌≡◌, ◌<◌, ◌+◌, ◌⊎◌, ℕ, List, [], ◌∷◌, ◌++◌, length, map, take, drop, get_or, refl, sym, ◌∙◌, ap, subst, arith, add-one, inl, inr, ⊎_elim}
+use Rattle.std.specs.Prelude.{All, Contains, Err, IsOk}
 use Rattle.std.proofs.Math.Seq.{split_at}
 use Rattle.std.proofs.lemmas.List.{take_more, map-append, length-map, length-take-le, get_or-map}
 use Rattle.std.proofs.lemmas.List.Elements.{All-push, Contains-get_or}
@@ -26,8 +26,9 @@ split_here blocks place d within = rw add-one (split_at blocks place d within)
 
 -- at the first block that is no template
 pub first_fault : (blocks : List (List ℕ)) (place : ℕ) (d : List ℕ) (templates : List TemplateValue) (found : TemplateFault) → place < length blocks →
-    (found ≡ NoMemory) ⊎ (template_of_bytes (get_or blocks place d) ≡ Err found) → AreTemplates (take place blocks) templates → IsFirstFault blocks place found
-first_fault blocks place d templates found within bad so_far =
+    (found ≡ NoMemory) ⊎ (template_of_bytes (get_or blocks place d) ≡ Err found) → (found ≡ NoMemory → IsOk (template_of_bytes (get_or blocks place d))) →
+    AreTemplates (take place blocks) templates → IsFirstFault blocks place found
+first_fault blocks place d templates found within bad last so_far =
     let mapped : length (map template_bytes templates) ≡ length templates = rw length-map refl in
     let counted : length templates ≡ place = sym mapped ∙ (sym (ap length so_far.spelled) ∙ length-take-le place blocks (omega arith)) in
     record {
@@ -37,7 +38,7 @@ first_fault blocks place d templates found within bad so_far =
       placed = sym counted;
       split = split_here blocks place d within ∙ ap (λ front. front ++ get_or blocks place d ∷ drop (place + 1) blocks) so_far.spelled;
       good = so_far.all;
-      bad = bad;
+      bad = ⊎_elim (λ wanting. inl (wanting, last wanting)) (λ told. inr told) bad;
     }
 
 -- the text of an element

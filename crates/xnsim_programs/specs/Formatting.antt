@@ -1,5 +1,5 @@
 -- Images that are made with the templates of files.
-use Rattle.std.specs.Prelude.{◌≡◌, ◌⊎◌, ◌<◌, ◌≤◌, ℕ, ◌+◌, Bool, if◌then◌else◌, List, [], ◌∷◌, ◌++◌, map, length, Option, Err, codes, All, Contains}
+use Rattle.std.specs.Prelude.{◌≡◌, ◌⊎◌, ◌<◌, ◌≤◌, ℕ, ◌+◌, Bool, if◌then◌else◌, List, [], ◌∷◌, ◌++◌, map, length, Option, Err, IsOk, codes, All, Contains}
 use Rattle.std.specs.Fmt.{decimal}
 use Rattle.std.specs.Io.KnownBytes.{Appends}
 use Rattle.templates.specs.declared.fault.TemplateFault.{TemplateFault}
@@ -47,7 +47,7 @@ abbrev pub IsFileFault : List (List ℕ) → Fault → Type 0
 IsFileFault names (fault.CannotRead name) = Contains names name.now
 IsFileFault names given = given ≡ fault.NoMemory
 
--- the blocks before this place are templates, and the one there has this fault, or there is no memory for its template
+-- the blocks before this place are templates, and the one there has this fault, or is a template for which there is no memory
 pub record IsFirstFault (blocks : List (List ℕ)) (place : ℕ) (found : TemplateFault) : Type 0 where
   pub before : List TemplateValue
   pub block : List ℕ
@@ -55,17 +55,17 @@ pub record IsFirstFault (blocks : List (List ℕ)) (place : ℕ) (found : Templa
   pub placed : place ≡ length before
   pub split : blocks ≡ map template_bytes before ++ block ∷ after
   pub good : All IsTemplate before
-  pub bad : (found ≡ template.NoMemory) ⊎ (template_of_bytes block ≡ Err found)
+  pub bad : ((found ≡ template.NoMemory) × IsOk (template_of_bytes block)) ⊎ (template_of_bytes block ≡ Err found)
 
 -- why blocks give no templates
 abbrev pub IsBlockFault : List (List ℕ) → Fault → Type 0
 IsBlockFault blocks (fault.Template place found) = IsFirstFault blocks place found
 IsBlockFault blocks given = given ≡ fault.NoMemory
 
--- why no image is made with so many templates
+-- why no image is made with so many templates: they are too many, or else want of memory
 abbrev pub IsImageFault : ℕ → Fault → Type 0
 IsImageFault count fault.TooManyTemplates = 16 < count
-IsImageFault count given = given ≡ fault.NoMemory
+IsImageFault count given = (given ≡ fault.NoMemory) × (count ≤ 16)
 
 -- some files, so many, have this fault
 pub record IsSomeFault (count : ℕ) (place : ℕ) (found : TemplateFault) : Type 0 where

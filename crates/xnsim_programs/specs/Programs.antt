@@ -1,5 +1,5 @@
 -- Programs that are verified.
-use Rattle.std.specs.Prelude.{◌≡◌, ◌⊎◌, ℕ, List, [], ◌∷◌, ◌++◌, length, Option, Err, codes}
+use Rattle.std.specs.Prelude.{◌≡◌, ◌⊎◌, ℕ, List, [], ◌∷◌, ◌++◌, length, Option, Err, IsOk, codes}
 use Rattle.std.specs.Fmt.{decimal}
 use Rattle.std.specs.Io.KnownBytes.{Appends}
 use Rattle.udf_code.specs.declared.word.Word.{Word}
@@ -32,9 +32,9 @@ pub record PrintsAccepted (text : List ℕ) (role : Role) (old new : Option (Lis
   pub accepted : IsAccepted role (tree_of words)
   pub printed : Appends old new (accepted_line (cost (tree_of words)) (emits (tree_of words)))
 
--- what is wrong with the text, else with its program, else want of memory
+-- what is wrong with the text, else with its program; or want of memory, where the text is a program's, or the program is accepted
 abbrev pub IsProgramFault : List ℕ → Role → ProgramFault → Type 0
-IsProgramFault text role (Text fault) = (fault ≡ no_memory) ⊎ (assembled text ≡ Err fault)
+IsProgramFault text role (Text fault) = ((fault ≡ no_memory) × IsOk (assembled text)) ⊎ (assembled text ≡ Err fault)
 IsProgramFault text role (Rule fault) = (words : List Word) × IsText words text
     × ((verdict role (tree_of words) ≡ Err fault) ⊎ ((fault ≡ record { at = length words; kind = kind.NoMemory }) × IsAccepted role (tree_of words)))
 

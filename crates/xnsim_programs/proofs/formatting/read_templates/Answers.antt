@@ -4,7 +4,7 @@ use Rattle.xnsim_programs.proofs.formatting.read_templates.Goals as goal
 
 pub returns-in-Err-clause-fault : goal.returns-in-Err-clause-fault
 returns-in-Err-clause-fault c =
-    first_fault c.args.blocks.now c.loop-place.place _ c.loop-place.templates.items c.in-Err.fault c.loop-place-test.true c.in-Err.ensures.exact c.loop-place.invariant
+    first_fault c.args.blocks.now c.loop-place.place _ c.loop-place.templates.items c.in-Err.fault c.loop-place-test.true c.in-Err.ensures.exact c.in-Err.ensures.memory_last c.loop-place.invariant
 
 pub loop-place-preserved : goal.loop-place-preserved
 loop-place-preserved c =
