@@ -35,6 +35,15 @@ pub fn fresh_kernel(rt: &(impl Threads + Sync), alloc: Global) -> Option<Kernel<
     mount(rt, alloc, lanes, 1).ok()
 }
 
+/// A kernel that is mounted on the lanes of another one.
+pub fn mounted_again(
+    rt: &(impl Threads + Sync),
+    alloc: Global,
+    kernel: Kernel<MemLane>,
+) -> Option<Kernel<MemLane>> {
+    mount(rt, alloc, kernel.into_lanes(), 2).ok()
+}
+
 /// A kernel as threads may share it, with the words of a floor that nobody has raised, and the floor. `None`: there was no memory.
 pub fn hub_of<K: Naming>(
     alloc: Global,

@@ -48,7 +48,7 @@ fn print_programs(rt: &impl Print, programs: Programs) -> io::Result<()> {
 fn print_kernel(rt: &impl Print, alone: Blocks) -> io::Result<()> {
     let looks = alone.looks();
     let changes = alone.changes();
-    println!(rt; "of a kernel: looks {looks} of 5, changes {changes} of 4")
+    println!(rt; "of a kernel: looks {looks} of 5, changes {changes} of 5")
 }
 
 /// Tries the calls of a shared kernel, and prints how many do what they should.
@@ -89,6 +89,7 @@ fn print_calls<K: Naming>(
     } = spare;
     let Blocks {
         kernel,
+        lanes: _,
         first,
         second,
     } = shared;

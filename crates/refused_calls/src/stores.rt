@@ -2,9 +2,9 @@
 
 ghost use Rattle.std.specs.Prelude.{◌≡◌};
 
-use crate::clients::fresh_kernel;
+use crate::clients::{fresh_kernel, mounted_again};
 use crate::tally::count;
-use disk::MemLane;
+use disk::{Lanes, MemLane, fresh_lanes};
 use durable_floor::{Floor, Naming, Reader};
 use shared::Hub;
 use std::alloc::Global;
@@ -12,10 +12,12 @@ use std::thread::Threads;
 use xn_kernel::{DrainStop, Fs, Kernel, Landed, Refusal, Ticket};
 
 /// A kernel in which file system 0 has a durable block, 1, in its root slot and a fresh one, 2, and file system 1 has two fresh ones, 3
-/// and 4.
+/// and 4. It was mounted before the fresh blocks were started, so each other call of it is its first: none has memory of an earlier one.
+/// Beside it are lanes of which none was taken out yet.
 #[derive(Drop)]
 pub struct Blocks {
     pub kernel: Kernel<MemLane>,
+    pub lanes: Lanes<MemLane>,
     pub first: Fs,
     pub second: Fs,
 }
@@ -30,11 +32,13 @@ impl Blocks {
         if !is_drained(kernel.drain(), 2) {
             return None;
         }
+        let mut kernel = mounted_again(rt, alloc, kernel)?;
         let _ = kernel.init(first, 2, &[2; 512]).ok()?;
         let _ = kernel.init(second, 2, &[3; 512]).ok()?;
         let _ = kernel.init(second, 2, &[4; 512]).ok()?;
         Some(Blocks {
             kernel,
+            lanes: fresh_lanes(alloc, &[5; 1024]).ok()?,
             first,
             second,
         })
@@ -44,6 +48,7 @@ impl Blocks {
     pub fn looks(&self) -> u32 {
         let Blocks {
             kernel,
+            lanes: _,
             first,
             second,
         } = self;
@@ -51,15 +56,16 @@ impl Blocks {
             kernel.read(*first, 1) == Ok(&[1; 512]) && kernel.root(*first) == Some(1),
             kernel.kind(*first, 1) == Ok(2) && !kernel.tainted(1),
             kernel.template(1).is_some() && kernel.template(3).is_none(),
-            kernel.pending(*second) == 2 && kernel.floor(*second) == 4,
+            kernel.pending(*second) == 2 && kernel.floor(*second) == 2,
             kernel.free() == 27 && kernel.pick() == Some(2) && kernel.lane(1).is_some(),
         ])
     }
 
-    /// How many of 4 changes do what they should.
+    /// How many of 5 changes do what they should.
     pub fn changes(self) -> u32 {
         let Blocks {
             mut kernel,
+            lanes,
             first,
             ..
         } = self;
@@ -69,13 +75,21 @@ impl Blocks {
             Err(_) => false,
         };
         let is_drained = is_drained(kernel.drain(), 1);
-        let mut lanes = kernel.into_lanes();
-        let is_home = lanes.blocks() == 32
-            && match lanes.take(3) {
-                Some(lane) => lane.bytes() == &[3; 512] && lanes.give(lane).is_ok(),
-                None => false,
-            };
-        count(&[is_forgotten, is_written, is_drained, is_home])
+        let is_home = is_given_back(kernel.into_lanes(), 32, 3);
+        let is_given = is_given_back(lanes, 2, 1);
+        count(&[is_forgotten, is_written, is_drained, is_home, is_given])
+    }
+}
+
+/// Whether there are so many lanes, and that of a block is taken out and put back. Its block ends with a byte that is no 0.
+fn is_given_back(lanes: Lanes<MemLane>, blocks: usize, block: u32) -> bool {
+    let mut lanes = lanes;
+    if lanes.blocks() != blocks || block as usize >= blocks {
+        return false;
+    }
+    match lanes.take(block) {
+        Some(lane) => lane.bytes()[511] > 0 && lanes.give(lane).is_ok(),
+        None => false,
     }
 }
 
@@ -85,7 +99,7 @@ pub fn hub_looks<K: Naming>(hub: &Hub<MemLane, K>, first: Fs, second: Fs) -> u32
         hub.read(first, 1) == Ok(&[1; 512]) && hub.root(first) == Some(1),
         hub.kind(first, 1) == Ok(2) && !hub.tainted(1),
         hub.template(1).is_some() && hub.template(3).is_none(),
-        hub.pending(second) == 2 && hub.floor(second) == 4,
+        hub.pending(second) == 2 && hub.floor(second) == 2,
         hub.free() == 27 && hub.pick() == Some(2) && hub.lane(1).is_some(),
     ])
 }
@@ -108,9 +122,9 @@ pub fn hub_changes<K: Naming>(
         Ok(ticket) => is_finished(hub.finish(landed(ticket))),
         Err(_) => false,
     };
-    let is_met = hub.meet(second, &mut reader) == 5;
+    let is_met = hub.meet(second, &mut reader) == 3;
     let is_drained = is_drained(hub.drain(), 1);
-    let is_read = floor.read(&mut reader, 1) == 6;
+    let is_read = floor.read(&mut reader, 1) == 4;
     count(&[is_forgotten, is_written, is_met, is_drained, is_read])
 }
 
