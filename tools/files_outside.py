@@ -27,18 +27,16 @@ def run(program, words, folder, given=b""):
 
 
 class Tree:
-    """The files and folders of a volume, by their paths: bytes of a file, None of a folder. Each file that is made has a number of its own.
-    Some folder may have an unfinished file, which a stop has left: then no `rmdir` is known to be done, since that folder is not empty."""
+    """The files and folders of a volume, by their paths: bytes of a file, None of a folder. Each file that is made has a number of its own."""
 
     made = 0
 
-    def __init__(self, paths=None, numbers=None, has_unfinished=False):
+    def __init__(self, paths=None, numbers=None):
         self.paths = dict(paths or {})
         self.numbers = dict(numbers or {})
-        self.has_unfinished = has_unfinished
 
     def copy(self):
-        return Tree(self.paths, self.numbers, self.has_unfinished)
+        return Tree(self.paths, self.numbers)
 
     def below(self, path):
         return [other for other in self.paths if other.startswith(path + "/")]
@@ -117,7 +115,7 @@ class Tree:
                     self.take(other)
             case ["rm", path] if self.is_file(path):
                 self.take(path)
-            case ["rmdir", path] if path in self.paths and self.is_folder(path) and not self.below(path) and not self.has_unfinished:
+            case ["rmdir", path] if path in self.paths and self.is_folder(path) and not self.below(path):
                 self.take(path)
             case ["mv", path, to]:
                 return self.move(path, to)
@@ -281,7 +279,7 @@ def found(folder, image):
     shutil.rmtree(out, ignore_errors=True)
     if run(XNFS, [image, "get", "/", "found"], folder)[0] != 0:
         return None
-    tree = Tree(has_unfinished=b"unfinished" in run(XNFS, [image, "check"], folder)[1])
+    tree = Tree()
     for above, folders, files in os.walk(out):
         path = above[len(out) :]
         tree.paths.update({f"{path}/{name}": None for name in folders})

@@ -18,7 +18,7 @@ use Rattle.xn_kernel.specs.Drains.{Reads, WritesTo, Writes, with_home, IsBusy}
 
 -- how many blocks a wave takes at most
 abbrev pub wave_room : ℕ
-wave_room = 32
+wave_room = 256
 
 -- the kernel once the write of a block is begun
 abbrev pub with_begun : {L : Type 0} → KernelValue L → ℕ → StoreState → KernelValue L

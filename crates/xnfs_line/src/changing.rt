@@ -3,7 +3,7 @@
 use crate::fault::{Fault, Reason, at};
 use crate::finding::{Place, TOP, fault_at, find, names, naming_fault, place_of, target, there};
 use crate::looking::bytes_of;
-use crate::putting::{flush, is_hidden, put_bytes};
+use crate::putting::{flush, give_up, is_hidden, put_bytes};
 use crate::walking::walk;
 use std::alloc::Global;
 use xnfs_session::{FfsFault, FlushStore, Session};
@@ -122,13 +122,18 @@ pub fn remove<S: FlushStore + Drop>(
     done_at(session, alloc, path, removed)
 }
 
-/// `rmdir`: gives an empty folder up.
+/// `rmdir`: gives an empty folder up, with the file in it that a stop has left unfinished.
 pub fn remove_folder<S: FlushStore + Drop>(
     session: &mut Session<S>,
     alloc: Global,
     path: &str,
 ) -> Result<(), Fault> {
     let place = place_of(session, alloc, path)?;
+    if let Some(node) = there(session, alloc, path, place)?
+        && node.is_directory
+    {
+        give_up(session, alloc, node.number)?;
+    }
     let removed = session.rmdir(alloc, place.folder, place.name.as_bytes());
     done_at(session, alloc, path, removed)
 }

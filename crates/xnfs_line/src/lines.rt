@@ -81,16 +81,18 @@ fn make_room<S: FlushStore + Drop>(session: &mut Session<S>, alloc: Global) -> R
     Ok(())
 }
 
-/// Writes what is pending where what is done is to be on the disk with its line.
+/// Writes what is pending where what is done is to be on the disk with its line. After a flush that failed there is no further one, so that its
+/// fault is the one that is told.
 fn settle<S: FlushStore + Drop>(
     session: &mut Session<S>,
     alloc: Global,
     is_lazy: bool,
     changed: Result<(), Fault>,
 ) -> Result<(), Fault> {
-    if !is_lazy {
-        flush(session, alloc)?;
+    if is_lazy || matches!(&changed, Err(Fault::Flush(_))) {
+        return changed;
     }
+    flush(session, alloc)?;
     changed
 }
 

@@ -1,16 +1,14 @@
-// Files that are brought into a volume. A file is made whole beside its place, and then gets its name: so what a name names is whole at each
-// moment and after each crash.
+// Files that are brought into a volume. A file is made whole beside its place, and then gets its name, which is on the disk only once all of the
+// file is: so what a name names is whole at each moment and after each crash.
 
 use crate::fault::{Fault, Reason, at};
 use crate::finding::{Place, naming_fault};
 use std::alloc::Global;
+use xn_kernel::Refusal;
 use xnfs_session::{FfsFault, FlushStore, MOST_BYTES, Node, Session};
 
 /// The name of a file that is being made. One that a stop has left is given up by the next one in its folder.
 pub const MADE: &str = ".xnfs-put";
-
-/// How many bytes are written before they are flushed: 48 blocks, so that never more edits of a block are pending than may be.
-const PIECE: usize = 48 * 512;
 
 /// Whether `ls` leaves a name out.
 pub fn is_hidden(name: &[u8]) -> bool {
@@ -33,29 +31,33 @@ fn blocks_for(bytes: usize) -> u32 {
     if data > 12 { data + 1 } else { data }
 }
 
-/// Writes the bytes of a new file, and flushes each piece of them.
+/// Writes the bytes of a new file, each time as many as the store takes, which are flushed before the next. So little is pending before that each
+/// time some are taken. The last ones are left pending.
 fn fill<S: FlushStore + Drop>(
     session: &mut Session<S>,
     alloc: Global,
     inode: u16,
     bytes: &[u8],
 ) -> Result<Result<(), FfsFault>, Fault> {
-    let mut at = 0;
+    let mut at = 0u32;
     let mut rest = bytes;
     while !rest.is_empty() {
-        let (piece, more) = rest.split_at(rest.len().min(PIECE));
-        if let Err(fault) = session.write(alloc, inode, at, piece) {
-            return Ok(Err(fault));
+        if at > 0 {
+            flush(session, alloc)?;
         }
-        flush(session, alloc)?;
-        at = at.saturating_add(piece.len() as u32);
-        rest = more;
+        let taken = match session.write_some(alloc, inode, at, rest) {
+            Ok(0) => return Ok(Err(FfsFault::Kernel(Refusal::TooManyPending))),
+            Ok(taken) => taken,
+            Err(fault) => return Ok(Err(fault)),
+        };
+        at = at.saturating_add(taken as u32);
+        rest = &rest[taken..];
     }
     Ok(Ok(()))
 }
 
 /// Gives up the file that is being made, if it is there.
-fn give_up<S: FlushStore + Drop>(
+pub fn give_up<S: FlushStore + Drop>(
     session: &mut Session<S>,
     alloc: Global,
     folder: u16,
@@ -95,8 +97,8 @@ fn name_it<S: FlushStore + Drop>(
     }
 }
 
-/// Puts a file of these bytes at a place, also where a file is, which it replaces. What was pending is written first, and so are the
-/// file's bytes; its name is left pending.
+/// Puts a file of these bytes at a place, also where a file is, which it replaces. What was pending is written first. The last bytes and the name
+/// are left pending; the name comes after a link of the file, and that stands behind its bytes.
 pub fn put_bytes<S: FlushStore + Drop>(
     session: &mut Session<S>,
     alloc: Global,
@@ -119,8 +121,8 @@ pub fn put_bytes<S: FlushStore + Drop>(
     let Err(fault) = done else {
         return Ok(());
     };
-    give_up(session, alloc, place.folder)?;
     flush(session, alloc)?;
+    give_up(session, alloc, place.folder)?;
     let goal = (place.folder, true, blocks_for(bytes.len()));
     Err(naming_fault(session, alloc, path, goal, fault))
 }

@@ -1,5 +1,5 @@
 -- The rules of volumes hold on over the waves of a flush.
-use Rattle.std.proofs.Common.{◌∙◌, ◌≡◌, ap, arith, ℕ, zero, suc, List, true, false, Bool, Option, Some, None, Result, Ok, Err, sym, inl, inr, subst}
+use Rattle.std.proofs.Common.{◌∙◌, ◌≡◌, ap, arith, ℕ, zero, suc, List, true, false, Bool, Some, Result, Ok, Err, sym, inl, inr, subst}
 use Rattle.std.specs.Prelude.{[], ◌∷◌, IfOk, IfErr, IsOk, OnOk}
 use Rattle.xn_model.specs.declared.refusal.Refusal.{Refusal}
 use Rattle.std.proofs.lemmas.List.{nil_from_length}
@@ -13,7 +13,7 @@ use Rattle.xn_model.proofs.ForCallers.{begun_keeps, settled_keeps}
 use Rattle.xn_state.specs.States.{own_types}
 use Rattle.xn_kernel.specs.Kernels.{KernelValue, TicketValue}
 use Rattle.xn_kernel.specs.Drains.{Reads, WritesTo}
-use Rattle.xn_kernel.specs.Flushes.{Ends, FlushRefuses, Halts, Wave, Waves, WholeWave, wave_room, with_begun}
+use Rattle.xn_kernel.specs.Flushes.{Ends, FlushRefuses, Wave, Waves, wave_room, with_begun}
 use Rattle.disk.specs.declared.lane.DeviceFault.{DeviceFault}
 use Rattle.ffs_model.specs.Library.{library_layout, IsLibrary}
 use Rattle.ffs_model.specs.Volumes.{VolumeKeeps}

@@ -1,6 +1,6 @@
 // A store with its open volume.
 
-ghost use Rattle.std.specs.Prelude.{◌≡◌, ◌⊎◌, ℕ, length, map, IfOk, IfErr, MatchResult, OnOk, Ok, Err};
+ghost use Rattle.std.specs.Prelude.{◌≡◌, ◌≤◌, ◌⊎◌, ℕ, length, map, IfOk, IfErr, MatchResult, OnOk, Ok, Err};
 ghost use Rattle.ffs_model.specs.Cuts.{latest};
 ghost use Rattle.ffs_model.specs.Library.{IsLibrary};
 ghost use Rattle.ffs_lookup.specs.Newest.{inode_in, mapped, named_in};
@@ -10,9 +10,9 @@ ghost use Rattle.ffs_lookup.specs.Repairs.{idle_in, repair_at, repair_in};
 ghost use Rattle.ffs_lib.specs.Reclaiming.{Reclaims};
 ghost use Rattle.ffs_lib.specs.Replacing.{Replaces};
 ghost use Rattle.ffs_lib.specs.Steps.{Creates, Renames, Unlinks, Unmakes, newest};
-ghost use Rattle.ffs_lib.specs.Values.{Follows};
+ghost use Rattle.ffs_lib.specs.Values.{ByAnswer, Follows, WritesFirst};
 ghost use Rattle.ffs_lib.specs.Volumes.{NothingPending};
-ghost use Rattle.ffs_lib.specs.Writes.{Writes};
+ghost use Rattle.ffs_lib.specs.Writes.{WritesSome};
 ghost use Rattle.xn_model.specs.Calls.{free_of, pending_of, tainted_of};
 ghost use Rattle.xn_model.specs.declared.refusal.Refusal.{Refusal};
 ghost use Rattle.xnfs_session.specs.Kept.{KeepsVolumes};
@@ -238,23 +238,26 @@ impl<S: FlushStore + Drop> Session<S> {
         self.volume.mkdir(alloc, &mut self.store, directory, name)
     }
 
-    /// Writes bytes into a file from an offset on.
-    pub fn write(
+    /// Writes the first of some bytes into a file from an offset on, as many as the store takes now, and answers how many. It answers 0 where too
+    /// much is pending: once that is flushed the call can be made again.
+    pub fn write_some(
         &mut self,
         alloc: Global,
         inode: u16,
         offset: u32,
         bytes: &[u8],
-    ) -> Result<(), FfsFault>
+    ) -> Result<usize, FfsFault>
         ensures types { S.types_of self.new.store ≡ S.types_of self.old.store }
         ensures fs { self.new.fs ≡ self.old.fs }
-        ensures value { Follows (written (files_of (newest (S.state_of self.old.store)) self.old.fs) inode offset bytes.now)
-            self.old.fs (S.state_of self.old.store) (S.state_of self.new.store) result }
-        ensures answers { Writes (S.types_of self.old.store) self.old.fs inode offset bytes.now (S.state_of self.old.store)
+        ensures value { ByAnswer (written (files_of (newest (S.state_of self.old.store)) self.old.fs) inode offset bytes.now)
+            (WritesFirst (files_of (newest (S.state_of self.old.store)) self.old.fs) (newest (S.state_of self.new.store)) self.old.fs inode offset bytes.now)
+            (S.state_of self.old.store) (S.state_of self.new.store) result }
+        ensures answers { WritesSome (S.types_of self.old.store) self.old.fs inode offset bytes.now (S.state_of self.old.store)
             (S.state_of self.new.store) result }
+        ensures few { IfOk result (λ count. count ≤ length bytes.now) }
     {
         self.volume
-            .write(alloc, &mut self.store, inode, offset, bytes)
+            .write_some(alloc, &mut self.store, inode, offset, bytes)
     }
 
     /// Takes a file's name, and gives the file up with its last one.

@@ -13,7 +13,7 @@ use std::alloc::Global;
 use xn_state::Refusal;
 
 /// The most blocks of a wave.
-const WAVE_ROOM: u32 = 32;
+const WAVE_ROOM: u32 = 256;
 
 /// A flush that stopped: how many waves it finished, why it stopped, and the tickets of blocks that could not be synced or read back.
 pub struct FlushStop<L: Lane> {
@@ -97,7 +97,7 @@ impl<L: Lane> Kernel<L> {
         }
     }
 
-    /// Writes all that is pending in waves: begins and writes up to 32 blocks, each as `pick` answers it, then syncs each and reads
+    /// Writes all that is pending in waves: begins and writes up to 256 blocks, each as `pick` answers it, then syncs each and reads
     /// it back, again and again, until nothing is pending. Answers how many waves that took, at most as many as entries were pending.
     /// With a write under way it is refused (`InFlight`), and so it is where there is no memory for the tickets of a wave that might
     /// fail (`NoMemory`); both do nothing. A wave in which a lane fails is the last one (`Device`): its other blocks end as they would

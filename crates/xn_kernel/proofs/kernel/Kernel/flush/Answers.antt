@@ -28,7 +28,7 @@ loop-waves-init g c =
 pub returns-then-end-eq0-clause-done : goal.returns-then-end-eq0-clause-done
 returns-then-end-eq0-clause-done g c =
     let old = c.loop-waves.self in
-    let none = none_begun g.L.Lane.bytes_of g.L.Lane.faults_of g.L.Lane.write_gives g.L.Lane.sync_gives g.L.Lane.read_gives c.wave-end.result.blocks 32 c.wave-end.result.durable old c.loop-waves.failed.items c.wave-end.new.self c.wave-end.new.failed.items
+    let none = none_begun g.L.Lane.bytes_of g.L.Lane.faults_of g.L.Lane.write_gives g.L.Lane.sync_gives g.L.Lane.read_gives c.wave-end.result.blocks 256 c.wave-end.result.durable old c.loop-waves.failed.items c.wave-end.new.self c.wave-end.new.failed.items
     c.if-end-eq0.true (omega arith) c.wave-end.ensures.wave in
     ap (λ (k : KernelValue g.row.L.Denot). all_pending k.state.lives) none.0 ∙ none_pending (own_types old.state) old.state c.rules.ensures.rules c.loop-waves.invariant.idle none.1
 

@@ -12,5 +12,5 @@ invariant-loop-waves g l = record {
   few : all_pending l.self.state.lives + l.waves ≤ all_pending l.fn.self.state.lives;
   none_failed : l.failed.items ≡ [];
   empty : vec_len l.failed ≡ 0;
-  room : 32 ≤ vec_capacity l.failed;
+  room : 256 ≤ vec_capacity l.failed;
 }
