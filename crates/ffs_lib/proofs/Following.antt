@@ -13,18 +13,15 @@ use Rattle.ffs_format.specs.Fields.{direct_in}
 use Rattle.ffs_lookup.specs.declared.fault.FfsFault.{FfsFault}
 use Rattle.ffs_lookup.specs.declared.fault.FfsFault.TheVariants.{Kernel}
 use Rattle.ffs_lookup.specs.declared.places.Slot.{Slot}
-use Rattle.ffs_lookup.specs.Newest.{create_in, directory_in, is_at, rmdir_in, unlink_in, write_in}
-use Rattle.ffs_lookup.specs.Files.{Answer, Files, InodeValue, cleared, created, removed, replaced, told, unlinked, written}
-use Rattle.ffs_lookup.specs.FileValues.{AreBlocksOnce, HasBlocksOnce, files_of, inode_value}
-use Rattle.ffs_lookup.proofs.ForCallers.{EntryAt, created_told, first_value, not_both, removed_ok, removed_told, unlinked_ok, unlinked_told, written_told}
+use Rattle.ffs_lookup.specs.Newest.{directory_in, is_at, write_in}
+use Rattle.ffs_lookup.specs.Files.{Answer, Files, cleared, replaced, told, written}
+use Rattle.ffs_lookup.specs.FileValues.{AreBlocksOnce, files_of}
+use Rattle.ffs_lookup.proofs.ForCallers.{EntryAt, first_value, not_both, written_told}
 use Rattle.ffs_lib.specs.Replacing.{Turned}
-use Rattle.ffs_lib.specs.Results.{IsLowestNumber, MadeEntry, new_inode}
-use Rattle.ffs_lib.specs.Steps.{AddsLink, Answers, Creates, Removed, Stops, StopsMaking, StopsRemoving, TakesLink, Unlinks, Unmakes, Unnamed}
+use Rattle.ffs_lib.specs.Steps.{AddsLink, Answers, Removed, Stops, TakesLink, Unnamed}
 use Rattle.ffs_lib.specs.Values.{ByAnswer, Follows, Leads, WritesFirst}
 use Rattle.ffs_lib.proofs.Entering.{directory_from}
 use Rattle.ffs_lib.proofs.Owners.{direct_block, stands_from, two_blocks}
-use Rattle.ffs_lib.proofs.Removal.{FindsEntry, rmdir_value, unlink_value}
-use Rattle.ffs_lib.proofs.ValueMade.{created_leads, directory_value}
 use Rattle.ffs_lib.proofs.Replacing.{CanReplace}
 use Rattle.ffs_lib.proofs.ValueReplaced.{by_tests, replaced_files, replaced_ok, same_is}
 use Rattle.ffs_lib.proofs.ValueSteps.{removed_value}
@@ -65,43 +62,10 @@ pub follows_fault : {A B : Type 0} (looked : Result B FfsFault) (answer : Answer
     Follows answer fs old new result
 follows_fault looked answer R fs old new result e h = follows_by looked answer (λ x y. ⊥) R fs old new result e (λ x is y none. absurd none) h
 
--- an entry that is cleared, and a link less
-leads_to : (v w : ℕ → List ℕ) (fs d : ℕ) (name : List ℕ) (slot : Slot) (f : FindsEntry v fs d name slot) → HasBlocksOnce f.own → Removed v w fs d slot → (x : Unit {0}) → Leads (Ok (tt, cleared (files_of v fs) d (f.entry.at, slot.inode))) w fs x
-leads_to v w fs d name slot f once r x = (refl, λ n. ap (λ (g : Files). g n) (removed_value v w fs d f.own f.target slot f.entry.at f.is once f.entry.is f.at f.apart r))
-
-pub created_follows : (T : Types) (lib : IsLibrary T) (fs : ℕ) → fs < 32 → (d : ℕ) (name : List ℕ) (mode : ℕ) (old new : StoreState) (result : Result ℕ FfsFault) → IsConsistent T new → (value : InodeValue) → inode_value (latest new.lives) (new_inode mode) ≡ value →
-    Creates T fs d name mode old new result → Follows (created value (files_of (latest old.lives) fs) d name) fs old new result
-created_follows T lib fs few d name mode old new result h value is answers =
-    let v = latest old.lives in
-    let w = latest new.lives in
-    follows_by (create_in v fs d name) (created value (files_of v fs) d name) (λ _ n. MadeEntry v w fs d name mode n × IsLowestNumber v fs n) (λ _ fault. StopsMaking T fs old new d mode fault) fs old new result
-    (created_told v fs value d name) (λ inode e n made. created_leads v w fs d n mode name inode e made.0 made.1 (blocks_once T lib new h fs few) value is) answers
-
 pub written_follows : (T : Types) (fs n offset : ℕ) (bytes : List ℕ) (old new : StoreState) (result : Result (Unit {0}) FfsFault) → Writes T fs n offset bytes old new result → Follows (written (files_of (latest old.lives) fs) n offset bytes) fs old new result
 written_follows T fs n offset bytes old new result answers =
     follows_by (write_in (latest old.lives) fs n (offset + length bytes)) (written (files_of (latest old.lives) fs) n offset bytes) (λ inode _. Wrote old new fs n inode offset bytes) (λ inode fault. StopsWriting T fs old new n inode offset bytes fault)
     fs old new result (written_told (latest old.lives) fs n offset bytes) (λ inode e x wrote. written_leads old new fs n offset bytes inode e wrote x) answers
-
--- `unlink` and `rmdir`
-pub unlinked_follows : (T : Types) (lib : IsLibrary T) (fs : ℕ) → fs < 32 → (d : ℕ) (name : List ℕ) (old new : StoreState) (result : Result (Unit {0}) FfsFault) → IsConsistent T old →
-    Unlinks T fs d name old new result → Follows (unlinked (files_of (latest old.lives) fs) d name) fs old new result
-unlinked_follows T lib fs few d name old new result h answers =
-    let v = latest old.lives in
-    let w = latest new.lives in
-    follows_by (unlink_in v fs d name) (unlinked (files_of v fs) d name) (λ entry _. Removed v w fs d entry) (λ entry fault. StopsRemoving T fs old new d entry fault) fs old new result (unlinked_told v fs d name)
-    (λ slot e x r.
-    let f = unlink_value v fs d name slot e in
-    subst (λ (a : Answer (Unit {0})). Leads a w fs x) (sym (unlinked_ok v fs d name f.own slot (directory_value v fs d f.own f.is) f.entry e)) (leads_to v w fs d name slot f (blocks_once T lib old h fs few d f.own f.is) r x)) answers
-
-pub removed_follows : (T : Types) (lib : IsLibrary T) (fs : ℕ) → fs < 32 → (d : ℕ) (name : List ℕ) (old new : StoreState) (result : Result (Unit {0}) FfsFault) → IsConsistent T old →
-    Unmakes T fs d name old new result → Follows (removed (files_of (latest old.lives) fs) d name) fs old new result
-removed_follows T lib fs few d name old new result h answers =
-    let v = latest old.lives in
-    let w = latest new.lives in
-    follows_by (rmdir_in v fs d name) (removed (files_of v fs) d name) (λ entry _. Removed v w fs d entry) (λ entry fault. StopsRemoving T fs old new d entry fault) fs old new result (removed_told v fs d name)
-    (λ slot e x r.
-    let f = rmdir_value v fs d name slot e in
-    subst (λ (a : Answer (Unit {0})). Leads a w fs x) (sym (removed_ok v fs d name f.own slot (directory_value v fs d f.own f.is) f.entry e)) (leads_to v w fs d name slot f (blocks_once T lib old h fs few d f.own f.is) r x)) answers
 
 -- two directories point to no block
 pub blocks_apart : (T : Types) (lib : IsLibrary T) (state : StoreState) (h : IsConsistent T state) (fs : ℕ) → fs < 32 → (d e : ℕ) (a b : List ℕ) (i j : ℕ) → Ok a ≡ directory_in (latest state.lives) fs d → Ok b ≡ directory_in (latest state.lives) fs e → i < 12 → j < 12 →

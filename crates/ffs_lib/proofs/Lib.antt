@@ -49,3 +49,5 @@ pub mod ValueMoved
 pub mod ValueReplaced
 pub mod Following
 pub mod ValueWritten
+pub mod Staged
+pub mod StagedNew

@@ -1,22 +1,26 @@
 -- What the look-ups of `unlink` and `rmdir` find: an entry in a block of its directory, which is another inode.
-use Rattle.std.proofs.Common.{◌≡◌, ◌≢◌, ℕ, List, Ok, Err, refl, sym, ◌∙◌, ap, subst}
+use Rattle.std.proofs.Common.{◌≡◌, ◌≢◌, ℕ, true, List, Ok, Err, refl, sym, ◌∙◌, ap, subst}
 use Rattle.std.specs.Prelude.{Result, ◌==◌, length}
+use Rattle.std.specs.Option.{ok_or}
+use Rattle.ffs_format.specs.Entries.{is_name}
 use Rattle.ffs_lookup.specs.declared.fault.FfsFault.{FfsFault}
-use Rattle.ffs_lookup.specs.declared.fault.FfsFault.TheVariants.{DirNotEmpty}
+use Rattle.ffs_lookup.specs.declared.fault.FfsFault.TheVariants.{BadName, DirNotEmpty, NoEntry}
 use Rattle.ffs_lookup.specs.declared.places.Slot.{Slot}
-use Rattle.ffs_lookup.specs.Newest.{and_then, directory_in, entries_of, file_in, if_empty, inode_in, mapped, named_in, rmdir_in, unlink_in}
+use Rattle.ffs_lookup.specs.Newest.{and_then, directory_in, entries_of, entry_named, file_in, first_named, if_empty, inode_in, mapped, named_in, rmdir_in, unlink_in}
 use Rattle.ffs_lookup.proofs.ForCallers.{EntryAt, first_value, not_both}
 use Rattle.ffs_lib.specs.Steps.{Removable}
 use Rattle.ffs_lib.proofs.Entering.{directory_from}
 use Rattle.ffs_lib.proofs.Moving.{named_block, named_from}
 use Rattle.ffs_lib.proofs.Owners.{only_first, passed}
 use Rattle.ffs_lib.proofs.Refusals.{not_bare}
+use Rattle.ffs_lib.proofs.Renaming.{then_first}
 use Rattle.ffs_lib.proofs.Writing.{file_from}
 
 pub record FindsEntry (content : ℕ → List ℕ) (fs d : ℕ) (name : List ℕ) (slot : Slot) : Type 0 where
   pub own : List ℕ
   pub is : Ok own ≡ directory_in content fs d
   pub entry : EntryAt content own name slot
+  pub good : is_name name ≡ true
   pub target : List ℕ
   pub at : Ok target ≡ inode_in content fs slot.inode
   pub apart : d ≢ slot.inode
@@ -47,11 +51,17 @@ module _ (content : ℕ → List ℕ) (fs d : ℕ) (name : List ℕ) (entry : Sl
       let b = only_first (length (entries_of content f.0) == 0) r.0 entry DirNotEmpty f.2 in
       from_named r.0 r.1 b.1 (λ z. not_bare content fs d name f.0 r.0 (f.1 ∙ sym (ap (directory_in content fs) z)) r.1 b.0)
 
+  good_name : (other : Slot) → Ok other ≡ named_in content fs d name → is_name name ≡ true
+  unfolding named_in
+  good_name other e =
+      let r = passed (directory_in content fs d) (entry_named content name) other e in
+      (then_first (is_name name) (ok_or (first_named content r.0 name) NoEntry) BadName other r.2).0
+
   -- the same by the value of the directory
   value_of : (other : Slot) → Ok other ≡ named_in content fs d name → other ≡ entry → (target : List ℕ) → Ok target ≡ inode_in content fs other.inode → d ≢ other.inode → FindsEntry content fs d name entry
   value_of other e same target at apart =
       let x = named_from content fs d name other e in
-      subst (FindsEntry content fs d name) same (record { own = x.0; is = x.1; entry = first_value content x.0 name other x.2; target = target; at = at; apart = apart })
+      subst (FindsEntry content fs d name) same (record { own = x.0; is = x.1; entry = first_value content x.0 name other x.2; good = good_name other e; target = target; at = at; apart = apart })
 
   pub unlink_value : Ok entry ≡ unlink_in content fs d name → FindsEntry content fs d name entry
   unfolding unlink_in

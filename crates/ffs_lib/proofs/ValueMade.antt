@@ -162,6 +162,22 @@ module _ (v w : ℕ → List ℕ) (fs d n : ℕ) (name inode : List ℕ) (m : Ha
           let apart : i ≢ index = λ y. some (ap (direct_in inode) (y ∙ k) ∙ eqb-true (direct_in inode at.0) 0 z) in
           direct_get m.after i lt ∙ (ap (λ xs. get_or xs i 0) set ∙ (get_or-set_other (fields_of inode).direct index i block 0 apart ∙ sym (direct_get inode i lt)))
 
+  -- and where it has a new block its pointers are others
+  pub pointer_new : (at : ℕ × ℕ) → Some at ≡ room (blocks_value v inode) → (index : ℕ) → Some (Pointer index) ≡ room_in v inode → (fields_of m.after).direct ≡ slice_set (fields_of inode).direct index block →
+      (fields_of m.after).direct ≡ (fields_of inode).direct → ⊥
+  pointer_new at e index points set equal =
+      let found : room_in v inode ≡ Some (room_of v inode at) = room_is v inode ∙ ap (option_map (room_of v inode)) (sym e) in
+      let known = room_known v inode at e in
+      new_one (direct_in inode at.0 == 0) refl known.0 (same_Some (Pointer index) (room_of v inode at) (points ∙ found))
+    where
+      new_one : (t : Bool) → (direct_in inode at.0 == 0) ≡ t → at.0 < 12 → Pointer index ≡ (if t then Pointer at.0 else InBlock (direct_in inode at.0) at.1) → ⊥
+      new_one false z low same = cc same
+      new_one true z low same =
+          let k : index ≡ at.0 = cc same in
+          there (sym (get_or-set_same (fields_of inode).direct at.0 block 0 low)
+          ∙ (ap (λ j. get_or (slice_set (fields_of inode).direct j block) at.0 0) (sym k)
+          ∙ (ap (λ xs. get_or xs at.0 0) (sym set ∙ equal) ∙ (sym (direct_get inode at.0 low) ∙ eqb-true (direct_in inode at.0) 0 z))))
+
 -- All inodes
 
 pub directory_value : (content : ℕ → List ℕ) (fs d : ℕ) (inode : List ℕ) → Ok inode ≡ directory_in content fs d → files_of content fs d ≡ Directory (inode_links inode) (blocks_value content inode)
@@ -254,7 +270,7 @@ pub directory_made : (content : ℕ → List ℕ) → inode_value content (new_i
 unfolding half_at word_at
 directory_made content = refl
 
-create_found : (content : ℕ → List ℕ) (fs d : ℕ) (name inode : List ℕ) → Ok inode ≡ create_in content fs d name → (own : List ℕ) × (Ok own ≡ directory_in content fs d)
+pub create_found : (content : ℕ → List ℕ) (fs d : ℕ) (name inode : List ℕ) → Ok inode ≡ create_in content fs d name → (own : List ℕ) × (Ok own ≡ directory_in content fs d)
 unfolding create_in
 create_found content fs d name inode e = let p = passed (directory_in content fs d) (if_new content fs name) inode e in (p.0, p.1)
 

@@ -10,13 +10,14 @@ use Rattle.ffs_lookup.specs.FileValues.{AreBlocksOnce, HasBlocksOnce, blocks_val
 use Rattle.ffs_lookup.proofs.ForCallers.{EntryAt, IsPlaceOf, first_value, renamed_ok, same_ok}
 use Rattle.ffs_lib.specs.Results.{HasMore, IsAs}
 use Rattle.ffs_lib.specs.Steps.{NamedAgain, Unnamed}
+use Rattle.ffs_lib.specs.Stages.{with_link}
 use Rattle.ffs_lib.specs.Values.{Leads}
 use Rattle.ffs_lib.proofs.Entering.{directory_from, directory_same}
 use Rattle.ffs_lib.proofs.Moving.{directory_to}
 use Rattle.ffs_lib.proofs.Renaming.{CanMove}
 use Rattle.ffs_lib.proofs.ValueMade.{blocks_more, directory_value, pointer_kept}
 use Rattle.ffs_lib.proofs.ValueSame.{blocks_same}
-use Rattle.ffs_lib.proofs.ValueSteps.{adds_value, as_direct, clearing_value, entry_after_link, entry_value, inode_linked, link_and_less, links_of_entry, takes_value, with_link}
+use Rattle.ffs_lib.proofs.ValueSteps.{adds_value, as_direct, clearing_value, entry_after_link, entry_value, inode_linked, link_and_less, links_of_entry, takes_value}
 
 module _ (u w : ℕ → List ℕ) (fs d : ℕ) (name : List ℕ) (other : ℕ) (new_name : List ℕ) (slot : Slot) (x : CanMove u fs d name other new_name slot) (z : NamedAgain u w fs other new_name slot.inode) (once : AreBlocksOnce w fs) where
   abbrev files : Files

@@ -14,12 +14,13 @@ use Rattle.ffs_lookup.specs.Files.{Answer, Blocks, Directory, Files, both_direct
 use Rattle.ffs_lookup.specs.FileValues.{AreBlocksOnce, blocks_value, files_of}
 use Rattle.ffs_lookup.proofs.ForCallers.{EntryAt, both_found, both_parts, file_found, file_parts, if_both, named_told, same_ok}
 use Rattle.ffs_lib.specs.Replacing.{Turned, directories_in, files_in, is_full_for, replace_in}
+use Rattle.ffs_lib.specs.Stages.{with_link}
 use Rattle.ffs_lib.specs.Steps.{AddsLink, TakesLink, Unnamed}
 use Rattle.ffs_lib.proofs.Replaced.{former_same, is_moved, listing1, there1, there2}
 use Rattle.ffs_lib.proofs.Replacing.{CanReplace}
 use Rattle.ffs_lib.proofs.ValueLists.{there_in}
 use Rattle.ffs_lib.proofs.ValueMade.{directory_value}
-use Rattle.ffs_lib.proofs.ValueSteps.{adds_value, clearing_value, entry_after_link, inode_linked, link_and_less, links_of_entry, stands_listed, takes_value, turned_value, with_link}
+use Rattle.ffs_lib.proofs.ValueSteps.{adds_value, clearing_value, entry_after_link, inode_linked, link_and_less, links_of_entry, stands_listed, takes_value, turned_value}
 use Rattle.ffs_lib.proofs.Writing.{file_from}
 
 module _ (u : ℕ → List ℕ) (fs d : ℕ) (name : List ℕ) (other : ℕ) (other_name : List ℕ) where

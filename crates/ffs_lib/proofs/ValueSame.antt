@@ -85,12 +85,12 @@ same_value v w fs x s = stays_value v w fs x s.2 s.1
 
 -- Blocks of inodes
 
-abbrev no_block : Result ℕ FfsFault → Bool
+abbrev pub no_block : Result ℕ FfsFault → Bool
 no_block (Ok b) = false
 no_block (Err fault) = true
 
 module _ (content : ℕ → List ℕ) (fs : ℕ) where
-  absent_is : (y : ℕ) → (y == 0) || nat_lt 128 y ≡ false → is_absent (files_of content fs y) ≡ no_block (inode_block_in content fs ((y - 1) / 8))
+  pub absent_is : (y : ℕ) → (y == 0) || nat_lt 128 y ≡ false → is_absent (files_of content fs y) ≡ no_block (inode_block_in content fs ((y - 1) / 8))
   absent_is y e = ap is_absent (value_by_place content fs y e) ∙ go (inode_block_in content fs ((y - 1) / 8))
     where
       go : (r : Result ℕ FfsFault) → is_absent (value_in content (and_then r (λ b. Ok (inode_at (content b) ((y - 1) % 8))))) ≡ no_block r

@@ -11,6 +11,7 @@ use Rattle.ffs_lookup.specs.FileValues.{HasBlocksOnce, blocks_value, bytes_value
 use Rattle.ffs_lookup.proofs.ForCallers.{IsPlaceOf, direct_has, good_number, put_is, value_by_place, value_found, value_used}
 use Rattle.ffs_lib.specs.Replacing.{Turned}
 use Rattle.ffs_lib.specs.Results.{IsAs, SameInode, TookLink}
+use Rattle.ffs_lib.specs.Stages.{more_a_link, with_link}
 use Rattle.ffs_lib.specs.Steps.{AddsLink, Clearing, Removed, TakesLink}
 use Rattle.ffs_lib.proofs.Entering.{directory_from, directory_same}
 use Rattle.ffs_lib.proofs.Fields.{direct_get}
@@ -111,19 +112,11 @@ with_links l (File links bytes) = File l bytes
 with_links l (Directory links blocks) = Directory l blocks
 with_links l other = other
 
-abbrev pub more_a_link : InodeValue → InodeValue
-more_a_link (File links bytes) = File (links + 1) bytes
-more_a_link (Directory links blocks) = Directory (links + 1) blocks
-more_a_link other = other
-
-abbrev pub with_link : Files → ℕ → Files
-with_link files n = with_value files n (more_a_link (files n))
-
 module _ (v w : ℕ → List ℕ) (fs n : ℕ) (inode : List ℕ) (is : Ok inode ≡ inode_in v fs n) where
-  abbrev kind : (ℕ → List ℕ) → List ℕ → Bool → InodeValue
+  abbrev pub kind : (ℕ → List ℕ) → List ℕ → Bool → InodeValue
   kind content m t = if t then Directory (inode_links m) (blocks_value content m) else File (inode_links m) (bytes_value content m)
 
-  kind_is : (content : ℕ → List ℕ) (m : List ℕ) → Ok m ≡ inode_in content fs n → files_of content fs n ≡ kind content m (inode_mode m == 2)
+  pub kind_is : (content : ℕ → List ℕ) (m : List ℕ) → Ok m ≡ inode_in content fs n → files_of content fs n ≡ kind content m (inode_mode m == 2)
   kind_is content m e = value_found content fs n m e ∙ value_used content m (ne_eqb (inode_mode m) 0 (stands_from content fs n m e).used)
 
   -- an inode that is as before but for its links
@@ -168,7 +161,7 @@ inode_linked v fs n inode is = ap links_of (kind_is v v fs n inode is v inode is
     go false = refl
 
 -- one inode is another, and all others are as before
-value_at : (v w : ℕ → List ℕ) (fs n : ℕ) (value : InodeValue) → files_of w fs n ≡ value → ((x : ℕ) → x ≢ n → SameInode v w fs x) → files_of w fs ≡ with_value (files_of v fs) n value
+pub value_at : (v w : ℕ → List ℕ) (fs n : ℕ) (value : InodeValue) → files_of w fs n ≡ value → ((x : ℕ) → x ≢ n → SameInode v w fs x) → files_of w fs ≡ with_value (files_of v fs) n value
 value_at v w fs n value e others = files_equal (λ x. elim (cases_eq x n) [
   | inl z ↦ ap (files_of w fs) z ∙ (e ∙ sym (ap (λ t. if t then value else files_of v fs x) (eq-eqb x n z)))
   | inr ne ↦ same_value v w fs x (others x ne) ∙ sym (ap (λ t. if t then value else files_of v fs x) (ne_eqb x n ne))

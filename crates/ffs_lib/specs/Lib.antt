@@ -7,3 +7,4 @@ pub mod Writes
 pub mod Reclaiming
 pub mod Replacing
 pub mod Values
+pub mod Stages

@@ -10,7 +10,7 @@
 --     Answers             what a call answers where its look-ups fail, and where they pass
 --     TakesLink, Removed  an inode lost a link; a directory lost an entry, and the inode that it named a link
 --     StopsAt, ..         what is left where a part of a call is refused, and of what the fault tells
---     Creates, Unlinks, Unmakes, Renames    the calls
+--     Creates, Renames    the calls
 use Rattle.std.specs.Prelude.{◌≡◌, ◌≢◌, ℕ, ◌+◌, ◌-◌, ◌/◌, ◌<◌, ◌≤◌, ◌⊎◌, List, [], length, Contains, Option, Some, Result, Ok, Err, true, MatchResult, IsTrue}
 use Rattle.xn_model.specs.declared.refusal.Refusal.{Refusal}
 use Rattle.xn_model.specs.declared.refusal.Refusal.TheVariants.{NoMemory}
@@ -27,7 +27,7 @@ use Rattle.ffs_lookup.specs.declared.fault.FfsFault.TheVariants.{Kernel, NoEntry
 use Rattle.ffs_lookup.specs.declared.places.Slot.{Slot}
 use Rattle.ffs_lookup.specs.declared.places.Free.{Free}
 use Rattle.ffs_lookup.specs.Places.{IsFree}
-use Rattle.ffs_lookup.specs.Newest.{TakesEntry, create_in, directory_in, inode_block_in, inode_in, is_short, listing, rename_in, rmdir_in, root_in, unlink_in, without_entry}
+use Rattle.ffs_lookup.specs.Newest.{TakesEntry, create_in, directory_in, inode_block_in, inode_in, is_short, listing, rename_in, root_in, without_entry}
 use Rattle.ffs_lib.specs.Edits.{data_of_pointers, edit_at}
 use Rattle.ffs_format.specs.Entries.{entry_of, is_name}
 use Rattle.ffs_lib.specs.Volumes.{IsVolume}
@@ -288,7 +288,7 @@ StopsNew T fs old new d mode n fault =
 abbrev pub StopsMaking : Types → ℕ → StoreState → StoreState → ℕ → ℕ → FfsFault → Type 0
 StopsMaking T fs old new d mode fault =
     StopsGrowing T fs old new fault
-    ⊎ ((middle : StoreState) × (n : ℕ) × ((x : ℕ) → SameOrNew (newest old) (newest middle) fs n x) × IsLowestNumber (newest old) fs n × StopsNew T fs middle new d mode n fault)
+    ⊎ ((middle : StoreState) × (free : Free) × TakesFree old middle fs free × StopsNew T fs middle new d mode free.number fault)
 
 -- The calls
 
@@ -296,16 +296,6 @@ abbrev pub Creates : Types → ℕ → ℕ → List ℕ → ℕ → StoreState �
 Creates T fs d name mode old new result =
     Answers (create_in (newest old) fs d name) (λ _ n. MadeEntry (newest old) (newest new) fs d name mode n × IsLowestNumber (newest old) fs n)
     (λ _ fault. StopsMaking T fs old new d mode fault) old new result
-
-abbrev pub Unlinks : Types → ℕ → ℕ → List ℕ → StoreState → StoreState → Result (Unit {0}) FfsFault → Type 0
-Unlinks T fs d name old new result =
-    Answers (unlink_in (newest old) fs d name) (λ entry _. Removed (newest old) (newest new) fs d entry)
-    (λ entry fault. StopsRemoving T fs old new d entry fault) old new result
-
-abbrev pub Unmakes : Types → ℕ → ℕ → List ℕ → StoreState → StoreState → Result (Unit {0}) FfsFault → Type 0
-Unmakes T fs d name old new result =
-    Answers (rmdir_in (newest old) fs d name) (λ entry _. Removed (newest old) (newest new) fs d entry)
-    (λ entry fault. StopsRemoving T fs old new d entry fault) old new result
 
 abbrev pub Renames : Types → ℕ → ℕ → List ℕ → ℕ → List ℕ → StoreState → StoreState → Result (Unit {0}) FfsFault → Type 0
 Renames T fs d name other new_name old new result =

@@ -21,8 +21,9 @@ ghost use Rattle.xn_model.specs.Lives.{Lives};
 ghost use Rattle.ffs_lib.specs.Values.{ByAnswer, Follows, Leads, WritesFirst};
 ghost use Rattle.ffs_lib.specs.Writes.{Writes, WritesSome};
 ghost use Rattle.ffs_lookup.specs.FileValues.{files_of};
-ghost use Rattle.ffs_lookup.specs.Files.{created, listed, made, new_directory, new_file, read, read_over, removed, renamed, unlinked, written};
-ghost use Rattle.ffs_lib.specs.Steps.{Creates, Ends, Leaves, MayLose, NamesAgain, Renames, Stage, StopsGrowing, StopsNaming, StopsNew, StopsUnnaming, TakesFree, Undoes, Unlinks, Unmakes, Unnamed, newest};
+ghost use Rattle.ffs_lookup.specs.Files.{Files, created, listed, made, new_directory, new_file, read, read_over, removed, renamed, unlinked, written};
+ghost use Rattle.ffs_lib.specs.Stages.{Does, Makes, Unnames, created_stages, removed_stages};
+ghost use Rattle.ffs_lib.specs.Steps.{Creates, Ends, Leaves, MayLose, NamesAgain, Renames, Stage, StopsGrowing, StopsNaming, StopsNew, StopsUnnaming, TakesFree, Undoes, Unnamed, newest};
 ghost use Rattle.xn_model.specs.Types.{Types};
 ghost use Rattle.xn_model.specs.declared.refusal.Refusal.{Refusal};
 ghost use Rattle.xn_model.specs.Calls.{was_given};
@@ -218,9 +219,11 @@ impl Volume {
         requires { IsVolume (S.types_of store.old) (S.state_of store.old) self.old }
         ensures types { S.types_of store.new ≡ S.types_of store.old }
         ensures fs { self.new.fs ≡ self.old.fs }
-        ensures value { Follows (created new_file (files_of (newest (S.state_of store.old)) self.old.fs.number) directory name.now)
-            self.old.fs.number (S.state_of store.old) (S.state_of store.new) result }
-        ensures answers { Creates (S.types_of store.old) self.old.fs.number directory name.now FILE (S.state_of store.old) (S.state_of store.new) result }
+        ensures answers { let files = files_of (newest (S.state_of store.old)) self.old.fs.number in
+            Does (S.types_of store.old) self.old.fs.number (created new_file files directory name.now) (created_stages new_file files directory name.now)
+            (S.state_of store.old) (S.state_of store.new) result }
+        ensures inodes { let old = newest (S.state_of store.old) in let new = newest (S.state_of store.new) in let fs = self.old.fs.number in
+            (next : ℕ × Files) → created new_file (files_of old fs) directory name.now ≡ Ok next → Makes old new fs directory FILE next.0 }
         ensures keeps { IsVolume (S.types_of store.old) (S.state_of store.new) self.new }
     {
         self.make_entry(alloc, store, directory, name, FILE)
@@ -237,10 +240,11 @@ impl Volume {
         requires { IsVolume (S.types_of store.old) (S.state_of store.old) self.old }
         ensures types { S.types_of store.new ≡ S.types_of store.old }
         ensures fs { self.new.fs ≡ self.old.fs }
-        ensures value { Follows (created new_directory (files_of (newest (S.state_of store.old)) self.old.fs.number) directory name.now)
-            self.old.fs.number (S.state_of store.old) (S.state_of store.new) result }
-        ensures answers { Creates (S.types_of store.old) self.old.fs.number directory name.now DIRECTORY (S.state_of store.old)
-            (S.state_of store.new) result }
+        ensures answers { let files = files_of (newest (S.state_of store.old)) self.old.fs.number in
+            Does (S.types_of store.old) self.old.fs.number (created new_directory files directory name.now) (created_stages new_directory files directory name.now)
+            (S.state_of store.old) (S.state_of store.new) result }
+        ensures inodes { let old = newest (S.state_of store.old) in let new = newest (S.state_of store.new) in let fs = self.old.fs.number in
+            (next : ℕ × Files) → created new_directory (files_of old fs) directory name.now ≡ Ok next → Makes old new fs directory DIRECTORY next.0 }
         ensures keeps { IsVolume (S.types_of store.old) (S.state_of store.new) self.new }
     {
         self.make_entry(alloc, store, directory, name, DIRECTORY)
@@ -528,9 +532,12 @@ impl Volume {
     ) -> Result<(), FfsFault>
         requires { IsVolume (S.types_of store.old) (S.state_of store.old) self.now }
         ensures types { S.types_of store.new ≡ S.types_of store.old }
-        ensures value { Follows (unlinked (files_of (newest (S.state_of store.old)) self.now.fs.number) directory name.now)
-            self.now.fs.number (S.state_of store.old) (S.state_of store.new) result }
-        ensures answers { Unlinks (S.types_of store.old) self.now.fs.number directory name.now (S.state_of store.old) (S.state_of store.new) result }
+        ensures answers { let files = files_of (newest (S.state_of store.old)) self.now.fs.number in
+            Does (S.types_of store.old) self.now.fs.number (unlinked files directory name.now) (removed_stages files directory name.now)
+            (S.state_of store.old) (S.state_of store.new) result }
+        ensures inodes { let old = newest (S.state_of store.old) in let new = newest (S.state_of store.new) in let fs = self.now.fs.number in
+            (slot : Slot) → Ok slot ≡ unlink_in old fs directory name.now →
+            Unnames old new fs directory slot.inode × OnErr result (inode_in new fs slot.inode ≡ inode_in old fs slot.inode) }
         ensures keeps { IsVolume (S.types_of store.old) (S.state_of store.new) self.now }
     {
         let slot = self.look_up_file(store, directory, name)?;
@@ -548,9 +555,12 @@ impl Volume {
     ) -> Result<(), FfsFault>
         requires { IsVolume (S.types_of store.old) (S.state_of store.old) self.now }
         ensures types { S.types_of store.new ≡ S.types_of store.old }
-        ensures value { Follows (removed (files_of (newest (S.state_of store.old)) self.now.fs.number) directory name.now)
-            self.now.fs.number (S.state_of store.old) (S.state_of store.new) result }
-        ensures answers { Unmakes (S.types_of store.old) self.now.fs.number directory name.now (S.state_of store.old) (S.state_of store.new) result }
+        ensures answers { let files = files_of (newest (S.state_of store.old)) self.now.fs.number in
+            Does (S.types_of store.old) self.now.fs.number (removed files directory name.now) (removed_stages files directory name.now)
+            (S.state_of store.old) (S.state_of store.new) result }
+        ensures inodes { let old = newest (S.state_of store.old) in let new = newest (S.state_of store.new) in let fs = self.now.fs.number in
+            (slot : Slot) → Ok slot ≡ rmdir_in old fs directory name.now →
+            Unnames old new fs directory slot.inode × OnErr result (inode_in new fs slot.inode ≡ inode_in old fs slot.inode) }
         ensures keeps { IsVolume (S.types_of store.old) (S.state_of store.new) self.now }
     {
         let slot = self.look_up_empty(store, directory, name)?;

@@ -1,15 +1,17 @@
 // A store with its open volume.
 
-ghost use Rattle.std.specs.Prelude.{◌≡◌, ◌≤◌, ◌⊎◌, ℕ, length, map, IfOk, IfErr, MatchResult, OnOk, Ok, Err};
+ghost use Rattle.std.specs.Prelude.{◌≡◌, ◌≤◌, ◌⊎◌, ℕ, length, map, IfOk, IfErr, MatchResult, OnErr, OnOk, Ok, Err};
 ghost use Rattle.ffs_model.specs.Cuts.{latest};
 ghost use Rattle.ffs_model.specs.Library.{IsLibrary};
-ghost use Rattle.ffs_lookup.specs.Newest.{inode_in, mapped, named_in};
-ghost use Rattle.ffs_lookup.specs.Files.{created, listed, new_directory, new_file, read, read_over, removed, renamed, replaced, unlinked, written};
+ghost use Rattle.ffs_lookup.specs.Newest.{inode_in, mapped, named_in, rmdir_in, unlink_in};
+ghost use Rattle.ffs_lookup.specs.declared.places.Slot.{Slot};
+ghost use Rattle.ffs_lookup.specs.Files.{Files, created, listed, new_directory, new_file, read, read_over, removed, renamed, replaced, unlinked, written};
 ghost use Rattle.ffs_lookup.specs.FileValues.{files_of};
 ghost use Rattle.ffs_lookup.specs.Repairs.{idle_in, repair_at, repair_in};
 ghost use Rattle.ffs_lib.specs.Reclaiming.{Reclaims};
 ghost use Rattle.ffs_lib.specs.Replacing.{Replaces};
-ghost use Rattle.ffs_lib.specs.Steps.{Creates, Renames, Unlinks, Unmakes, newest};
+ghost use Rattle.ffs_lib.specs.Stages.{Does, Makes, Unnames, created_stages, removed_stages};
+ghost use Rattle.ffs_lib.specs.Steps.{Renames, newest};
 ghost use Rattle.ffs_lib.specs.Values.{ByAnswer, Follows, WritesFirst};
 ghost use Rattle.ffs_lib.specs.Volumes.{NothingPending};
 ghost use Rattle.ffs_lib.specs.Writes.{WritesSome};
@@ -218,10 +220,11 @@ impl<S: FlushStore + Drop> Session<S> {
     pub fn create(&mut self, alloc: Global, directory: u16, name: &[u8]) -> Result<u16, FfsFault>
         ensures types { S.types_of self.new.store ≡ S.types_of self.old.store }
         ensures fs { self.new.fs ≡ self.old.fs }
-        ensures value { Follows (created new_file (files_of (newest (S.state_of self.old.store)) self.old.fs) directory name.now)
-            self.old.fs (S.state_of self.old.store) (S.state_of self.new.store) result }
-        ensures answers { Creates (S.types_of self.old.store) self.old.fs directory name.now 1 (S.state_of self.old.store)
-            (S.state_of self.new.store) result }
+        ensures answers { let files = files_of (newest (S.state_of self.old.store)) self.old.fs in
+            Does (S.types_of self.old.store) self.old.fs (created new_file files directory name.now) (created_stages new_file files directory name.now)
+            (S.state_of self.old.store) (S.state_of self.new.store) result }
+        ensures inodes { let old = newest (S.state_of self.old.store) in let new = newest (S.state_of self.new.store) in
+            (next : ℕ × Files) → created new_file (files_of old self.old.fs) directory name.now ≡ Ok next → Makes old new self.old.fs directory 1 next.0 }
     {
         self.volume.create(alloc, &mut self.store, directory, name)
     }
@@ -230,10 +233,11 @@ impl<S: FlushStore + Drop> Session<S> {
     pub fn mkdir(&mut self, alloc: Global, directory: u16, name: &[u8]) -> Result<u16, FfsFault>
         ensures types { S.types_of self.new.store ≡ S.types_of self.old.store }
         ensures fs { self.new.fs ≡ self.old.fs }
-        ensures value { Follows (created new_directory (files_of (newest (S.state_of self.old.store)) self.old.fs) directory name.now)
-            self.old.fs (S.state_of self.old.store) (S.state_of self.new.store) result }
-        ensures answers { Creates (S.types_of self.old.store) self.old.fs directory name.now 2 (S.state_of self.old.store)
-            (S.state_of self.new.store) result }
+        ensures answers { let files = files_of (newest (S.state_of self.old.store)) self.old.fs in
+            Does (S.types_of self.old.store) self.old.fs (created new_directory files directory name.now) (created_stages new_directory files directory name.now)
+            (S.state_of self.old.store) (S.state_of self.new.store) result }
+        ensures inodes { let old = newest (S.state_of self.old.store) in let new = newest (S.state_of self.new.store) in
+            (next : ℕ × Files) → created new_directory (files_of old self.old.fs) directory name.now ≡ Ok next → Makes old new self.old.fs directory 2 next.0 }
     {
         self.volume.mkdir(alloc, &mut self.store, directory, name)
     }
@@ -264,10 +268,12 @@ impl<S: FlushStore + Drop> Session<S> {
     pub fn unlink(&mut self, alloc: Global, directory: u16, name: &[u8]) -> Result<(), FfsFault>
         ensures types { S.types_of self.new.store ≡ S.types_of self.old.store }
         ensures fs { self.new.fs ≡ self.old.fs }
-        ensures value { Follows (unlinked (files_of (newest (S.state_of self.old.store)) self.old.fs) directory name.now)
-            self.old.fs (S.state_of self.old.store) (S.state_of self.new.store) result }
-        ensures answers { Unlinks (S.types_of self.old.store) self.old.fs directory name.now (S.state_of self.old.store)
-            (S.state_of self.new.store) result }
+        ensures answers { let files = files_of (newest (S.state_of self.old.store)) self.old.fs in
+            Does (S.types_of self.old.store) self.old.fs (unlinked files directory name.now) (removed_stages files directory name.now)
+            (S.state_of self.old.store) (S.state_of self.new.store) result }
+        ensures inodes { let old = newest (S.state_of self.old.store) in let new = newest (S.state_of self.new.store) in let fs = self.old.fs in
+            (slot : Slot) → Ok slot ≡ unlink_in old fs directory name.now →
+            Unnames old new fs directory slot.inode × OnErr result (inode_in new fs slot.inode ≡ inode_in old fs slot.inode) }
     {
         self.volume.unlink(alloc, &mut self.store, directory, name)
     }
@@ -276,10 +282,12 @@ impl<S: FlushStore + Drop> Session<S> {
     pub fn rmdir(&mut self, alloc: Global, directory: u16, name: &[u8]) -> Result<(), FfsFault>
         ensures types { S.types_of self.new.store ≡ S.types_of self.old.store }
         ensures fs { self.new.fs ≡ self.old.fs }
-        ensures value { Follows (removed (files_of (newest (S.state_of self.old.store)) self.old.fs) directory name.now)
-            self.old.fs (S.state_of self.old.store) (S.state_of self.new.store) result }
-        ensures answers { Unmakes (S.types_of self.old.store) self.old.fs directory name.now (S.state_of self.old.store)
-            (S.state_of self.new.store) result }
+        ensures answers { let files = files_of (newest (S.state_of self.old.store)) self.old.fs in
+            Does (S.types_of self.old.store) self.old.fs (removed files directory name.now) (removed_stages files directory name.now)
+            (S.state_of self.old.store) (S.state_of self.new.store) result }
+        ensures inodes { let old = newest (S.state_of self.old.store) in let new = newest (S.state_of self.new.store) in let fs = self.old.fs in
+            (slot : Slot) → Ok slot ≡ rmdir_in old fs directory name.now →
+            Unnames old new fs directory slot.inode × OnErr result (inode_in new fs slot.inode ≡ inode_in old fs slot.inode) }
     {
         self.volume.rmdir(alloc, &mut self.store, directory, name)
     }

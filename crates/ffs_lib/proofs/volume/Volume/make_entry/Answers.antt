@@ -54,7 +54,7 @@ returns-clause-answers g c =
     let y = named_by (g.S.Store.types_of c.take_free.new.store) T c.take_free.new.self.fs.number fs middle new d name mode number c.name_inode.new.self c.name_inode.result (ap (λ f. f.number) c.take_free.ensures.fs) c.take_free.ensures.types c.name_inode.ensures.leaves (dir.0) (dir.1 ∙ sym (directory_same u v fs d (stays d).0)) (same_room u v fs d dir.0 ((stays d).0, (stays d).1) (directory_from u fs d dir.0 dir.1).0 ∙ dir.2) in
     answers_ok (create_in u fs d name) (λ _ n. MadeEntry u w fs d name mode n × IsLowestNumber u fs n) (λ _ fault. StopsMaking T fs old new d mode fault) c.name_inode.result x.0 old new x.1
     (match_then (λ n. MadeEntry v w fs d name mode n × (n ≡ number)) (λ n. MadeEntry u w fs d name mode n × IsLowestNumber u fs n) (StopsNew T fs middle new d mode number) (StopsMaking T fs old new d mode) c.name_inode.result
-    (λ n made. (stays_made u v w fs d name mode n (λ e. subst (λ (m : ℕ). SameOrNew u v fs m e) (sym made.1) (stays e)) made.0, subst (IsLowestNumber u fs) (sym made.1) lowest)) (λ fault r. inr (middle, number, stays, lowest, r)) y.1)
+    (λ n made. (stays_made u v w fs d name mode n (λ e. subst (λ (m : ℕ). SameOrNew u v fs m e) (sym made.1) (stays e)) made.0, subst (IsLowestNumber u fs) (sym made.1) lowest)) (λ fault r. inr (middle, c.in_ok-free.free, c.in_ok-free.ensures.leaves.1, r)) y.1)
 
 pub returns-clause-keeps : goal.returns-clause-keeps
 returns-clause-keeps g c =

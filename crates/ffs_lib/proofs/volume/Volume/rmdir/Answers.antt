@@ -1,43 +1,59 @@
-use Rattle.std.proofs.Common.{refl, rules}
+use Rattle.std.proofs.Common.{refl, rules, sym, ◌∙◌}
 use Rattle.ffs_model.specs.Cuts.{latest}
 use Rattle.ffs_lookup.specs.Newest.{rmdir_in}
-use Rattle.ffs_lib.specs.Steps.{Removed, StopsRemoving, StopsUnnaming, Unnamed}
+use Rattle.ffs_lookup.specs.Files.{removed}
+use Rattle.ffs_lookup.specs.FileValues.{files_of}
+use Rattle.ffs_lookup.proofs.ForCallers.{same_ok, removed_ok, removed_told}
+use Rattle.ffs_lib.specs.Stages.{removed_stages}
 use Rattle.ffs_lib.specs.Volumes.{edits_of}
-use Rattle.ffs_lib.proofs.Following.{removed_follows}
-use Rattle.ffs_lib.proofs.Laws.{answers_ok, match_then, removed, staged, stops_removing}
-use Rattle.ffs_lib.proofs.Removal.{rmdir_finds}
+use Rattle.ffs_lib.proofs.Laws.{staged}
+use Rattle.ffs_lib.proofs.Removal.{rmdir_value}
+use Rattle.ffs_lib.proofs.Staged.{does_fault, removed_does, unnames}
+use Rattle.ffs_lib.proofs.Tops.{never}
+use Rattle.ffs_lib.proofs.ValueMade.{directory_value}
 use Rattle.ffs_lib.proofs.volume.Volume.rmdir.Goals as goal
 
 pub returns-clause-answers : goal.returns-clause-answers
 returns-clause-answers g c =
+    let T = g.S.Store.types_of c.args.store.now in
     let old = g.S.Store.state_of c.args.store.now in
     let new = g.S.Store.state_of c.remove.new.store in
     let u = latest old.lives in
-    let w = latest new.lives in
-    let fs = c.args.self.now.fs in
+    let volume = c.args.self.now in
+    let fs = volume.fs.number in
     let d = c.args.directory in
+    let name = c.args.name.now in
     let slot = c.in_ok-slot.slot in
     let exact = c.in_ok-slot.ensures.exact c.requires.library in
-    let x = c.remove.ensures.ends (g.S.Store.types_of c.args.store.now) (edits_of c.args.self.now.added) refl (staged c.requires fs.few) refl in
+    let f = rmdir_value u fs d name slot exact in
+    let x = c.remove.ensures.ends T (edits_of volume.added) refl (staged c.requires volume.fs.few) refl in
+    removed_does T c.requires.library fs volume.fs.few d name slot old new f c.requires.keeps.consistent x.0.keeps.consistent (removed (files_of u fs) d name)
+    (removed_ok u fs d name f.own slot (directory_value u fs d f.own f.is) f.entry exact) c.remove.result x.1
+
+pub returns-clause-inodes : goal.returns-clause-inodes
+returns-clause-inodes g c = λ entry e.
     let T = g.S.Store.types_of c.args.store.now in
-    let found = rmdir_finds u fs.number d c.args.name.now slot exact in
-    answers_ok (rmdir_in u fs.number d c.args.name.now) (λ entry _. Removed u w fs.number d entry) (λ entry fault. StopsRemoving T fs.number old new d entry fault) c.remove.result slot old new exact
-    (match_then (λ _. Unnamed u w fs.number slot) (λ _. Removed u w fs.number d slot) (StopsUnnaming T fs.number old new slot) (StopsRemoving T fs.number old new d slot) c.remove.result
-    (λ _ y. removed u y.middle fs.number d slot found y.cleared w y.took) (stops_removing T fs.number old new d slot found.own found.is found.has) x.1)
+    let old = g.S.Store.state_of c.args.store.now in
+    let volume = c.args.self.now in
+    let d = c.args.directory in
+    let f = rmdir_value (latest old.lives) volume.fs.number d c.args.name.now entry e in
+    let x = c.remove.ensures.ends T (edits_of volume.added) refl (staged c.requires volume.fs.few) refl in
+    let same = same_ok c.in_ok-slot.slot entry (c.in_ok-slot.ensures.exact c.requires.library ∙ sym e) in
+    unnames T c.requires.library volume.fs.number volume.fs.few d c.args.name.now entry old (g.S.Store.state_of c.remove.new.store) f c.remove.result (rw same at x.1)
 
 pub returns-clause-keeps : goal.returns-clause-keeps
 returns-clause-keeps g c =
     let x = c.remove.ensures.ends (g.S.Store.types_of c.args.store.now) (edits_of c.args.self.now.added) refl (staged c.requires c.args.self.now.fs.few) refl in
     record { library = c.requires.library; keeps = x.0.keeps }
 
-pub returns-clause-value : goal.returns-clause-value
-returns-clause-value g c =
-    let volume = c.args.self.now in
-    removed_follows (g.S.Store.types_of c.args.store.now) c.requires.library volume.fs.number volume.fs.few c.args.directory c.args.name.now (g.S.Store.state_of c.args.store.now) (g.S.Store.state_of c.remove.new.store) c.remove.result
-    c.requires.keeps.consistent (returns-clause-answers g c)
-
-pub returns-in_err-slot-clause-value : goal.returns-in_err-slot-clause-value
-returns-in_err-slot-clause-value g c =
-    let volume = c.args.self.now in
+pub returns-in_err-slot-clause-answers : goal.returns-in_err-slot-clause-answers
+returns-in_err-slot-clause-answers g c =
     let old = g.S.Store.state_of c.args.store.now in
-    removed_follows (g.S.Store.types_of c.args.store.now) c.requires.library volume.fs.number volume.fs.few c.args.directory c.args.name.now old old c.from_residual.result c.requires.keeps.consistent (search rules)
+    let fs = c.args.self.now.fs.number in
+    let u = latest old.lives in
+    let d = c.args.directory in
+    let name = c.args.name.now in
+    does_fault (g.S.Store.types_of c.args.store.now) fs (rmdir_in u fs d name) (removed (files_of u fs) d name) (removed_stages (files_of u fs) d name) old old c.from_residual.result (removed_told u fs d name) (search rules)
+
+pub returns-in_err-slot-clause-inodes : goal.returns-in_err-slot-clause-inodes
+returns-in_err-slot-clause-inodes g c = λ entry e. absurd (never entry _ (e ∙ sym (c.in_err-slot.ensures.exact c.requires.library)))

@@ -1,0 +1,244 @@
+-- A call does what its function of the files says, or leaves one of its stages.
+use Rattle.std.proofs.Common.{◌≡◌, ◌≢◌, ℕ, ◌-◌, ◌*◌, ◌/◌, ◌%◌, ◌<◌, ◌≤◌, ◌⊎◌, Bool, true, false, List, ◌++◌, length, map, take, replicate, get_or, Some, None, Result, Ok, Err, refl, sym, ◌∙◌, ap, inl, inr, arith, subst, length-append}
+use Rattle.std.specs.Prelude.{Contains, MatchResult, OnErr, ◌==◌, min, if◌then◌else◌}
+use Rattle.std.specs.List.{range_with_len}
+use Rattle.std.specs.Option.{ok_or}
+use Rattle.std.proofs.lemmas.Bool.{cases_lt, eqb-false, le-leb, le-ltb}
+use Rattle.std.proofs.lemmas.List.{get_or-append_right, get_or-replicate, get_or-take, get_or_append_left, length-replicate, length-take, same_lists}
+use Rattle.std.proofs.lemmas.List.FromFn.{get_or-map-range_with_len, length-map-range_with_len}
+use Rattle.xn_model.specs.Root.{word_at}
+use Rattle.xn_model.specs.Types.{Types}
+use Rattle.xn_model.specs.Lives.{StoreState}
+use Rattle.xn_model.specs.Rules.{IsConsistent}
+use Rattle.ffs_model.specs.Cuts.{latest}
+use Rattle.ffs_model.specs.Library.{IsLibrary, inode_blocks, inode_links, inode_mode, pointer_word}
+use Rattle.ffs_model.proofs.ForCallers.{zero_word}
+use Rattle.ffs_format.specs.Entries.{is_name}
+use Rattle.ffs_format.specs.Fields.{direct_in}
+use Rattle.ffs_lookup.specs.declared.fault.FfsFault.{FfsFault}
+use Rattle.ffs_lookup.specs.declared.fault.FfsFault.TheVariants.{BadName, NoEntry}
+use Rattle.ffs_lookup.specs.declared.places.Slot.{Slot}
+use Rattle.ffs_lookup.specs.Newest.{and_then, byte_in, byte_of, directory_in, file_block, file_end, inode_in, name_of_place}
+use Rattle.ffs_lookup.specs.Files.{Answer, Blocks, Directory, File, Files, cleared, directory_of, entry_named, look_up, told, with_entry, without_link}
+use Rattle.ffs_lookup.specs.FileValues.{blocks_value, bytes_value, files_of}
+use Rattle.ffs_lookup.proofs.ForCallers.{IsPlaceOf, direct_has, map_on, same_ok}
+use Rattle.ffs_lib.specs.Results.{OnlyChanges, SameInode}
+use Rattle.ffs_lib.specs.Stages.{Asks, Does, IsStage, OfEntry, OfLink, Stages, Unnames, cleared_stages, emptied, link_stages, removed_stages, stages_of, with_emptied}
+use Rattle.ffs_lib.specs.Steps.{Answers, ClearedPointers, Clearing, IsHome, Stops, StopsTaking, StopsUnnaming, Unnamed, Wants}
+use Rattle.ffs_lib.proofs.Entering.{directory_from}
+use Rattle.ffs_lib.proofs.Following.{blocks_once}
+use Rattle.ffs_lib.proofs.Laws.{removed, unlisted}
+use Rattle.ffs_lib.proofs.Moving.{same_as}
+use Rattle.ffs_lib.proofs.Owners.{direct_block, pointers_apart, stands_from}
+use Rattle.ffs_lib.proofs.Removal.{FindsEntry}
+use Rattle.ffs_lib.proofs.Same.{same_on}
+use Rattle.ffs_lib.proofs.ValueMade.{directory_value}
+use Rattle.ffs_lib.proofs.ValueSteps.{clearing_value, kind, kind_is, takes_value, value_at}
+
+same_here : (v : ℕ → List ℕ) (fs x : ℕ) → SameInode v v fs x
+same_here v fs x = (refl, λ inode i. (refl, λ at low. refl), λ some low. refl)
+
+-- a call whose look-ups fail has the fault that its function has
+pub does_fault : {A B : Type 0} (T : Types) (fs : ℕ) (looked : Result B FfsFault) (answer : Answer A) (stages : Stages) (old new : StoreState) (result : Result A FfsFault) → told looked ≡ told answer →
+    Answers looked (λ x y. ⊥) (λ x fault. ⊥) old new result → Does T fs answer stages old new result
+does_fault T fs (Err fault) (Err other) stages old new result e h = let same : fault ≡ other = cc e in (h.0 ∙ ap (λ (f : FfsFault). Err f) same, h.1)
+does_fault T fs (Err fault) (Ok next) stages old new result e h = absurd (cc e)
+does_fault T fs (Ok x) answer stages old new (Ok y) e h = absurd h
+does_fault T fs (Ok x) answer stages old new (Err fault) e h = absurd h.1
+
+-- The block of pointers of an inode with its last link was emptied
+module _ (T : Types) (lib : IsLibrary T) (fs : ℕ) (few : fs < 32) (v : ℕ → List ℕ) (new : StoreState) (h : IsConsistent T new) (n : ℕ) (inode : List ℕ) (was : Ok inode ≡ inode_in v fs n) (is : Ok inode ≡ inode_in (latest new.lives) fs n)
+    (c : ClearedPointers v (latest new.lives) inode) where
+  abbrev w : ℕ → List ℕ
+  w = latest new.lives
+
+  abbrev pointers : ℕ
+  pointers = word_at inode 56
+
+  -- the blocks that the inode points to itself are others
+  direct_apart : (i : ℕ) → i < 12 → direct_in inode i ≢ 0 → w (direct_in inode i) ≡ v (direct_in inode i)
+  direct_apart i low some =
+      let s = stands_from w fs n inode is in
+      c.others (direct_in inode i) (λ e. pointers_apart T lib new h fs few n n inode inode s s i (direct_in inode i) (omega (arith, low)) (direct_block w inode i low) (sym e) some)
+
+  same_blocks : blocks_value w inode ≡ blocks_value v inode
+  same_blocks = map_on _ _ 0 12 (λ i low high. one i (omega (arith, high)) (direct_in inode i == 0) refl)
+    where
+      one : (i : ℕ) → i < 12 → (t : Bool) → (direct_in inode i == 0) ≡ t →
+          (if t then None else Some (map (name_of_place (w (direct_in inode i))) (range_with_len 0 16))) ≡ (if t then None else Some (map (name_of_place (v (direct_in inode i))) (range_with_len 0 16)))
+      one i low true e = refl
+      one i low false e = ap (λ m. Some (map (name_of_place m) (range_with_len 0 16))) (direct_apart i low (eqb-false (direct_in inode i) 0 e))
+
+  in_block : (b at : ℕ) → (b ≢ 0 → w b ≡ v b) → byte_in w b at ≡ byte_in v b at
+  in_block b at same = go (b == 0) refl
+    where
+      go : (t : Bool) → (b == 0) ≡ t → (if t then 0 else get_or (w b) at 0) ≡ (if t then 0 else get_or (v b) at 0)
+      go true e = refl
+      go false e = ap (λ m. get_or m at 0) (same (eqb-false b 0 e))
+
+  first_bytes : (at : ℕ) → at < 6144 → byte_of w inode at ≡ byte_of v inode at
+  first_bytes at low =
+      let few : at / 512 < 12 = omega (arith, low) in
+      ap (λ b. byte_in w b (at % 512)) (direct_block w inode (at / 512) few) ∙ (in_block (direct_in inode (at / 512)) (at % 512) (direct_apart (at / 512) few) ∙ ap (λ b. byte_in v b (at % 512)) (sym (direct_block v inode (at / 512) few)))
+
+  last_bytes : (at : ℕ) → 6144 ≤ at → byte_of w inode at ≡ 0
+  last_bytes at high =
+      let far : 12 ≤ at / 512 = omega (arith, high) in
+      let hole : file_block w inode (at / 512) ≡ 0 =
+      ap (λ (t : Bool). if t then direct_in inode (at / 512) else (if pointers == 0 then 0 else pointer_word (w pointers) (at / 512 - 12))) (le-ltb (at / 512) 12 far) ∙ none (pointers == 0) (at / 512 - 12) in
+      ap (λ b. byte_in w b (at % 512)) hole
+    where
+      none : (t : Bool) (i : ℕ) → (if t then 0 else pointer_word (w pointers) i) ≡ 0
+      none true i = refl
+      none false i = ap (λ m. pointer_word m i) c.cleared ∙ zero_word (4 * i)
+
+  abbrev end : ℕ
+  end = file_end inode
+
+  abbrev bytes : List ℕ
+  bytes = bytes_value v inode
+
+  long : length bytes ≡ end
+  long = length-map-range_with_len (byte_of v inode) 0 end
+
+  emptied_bytes : bytes_value w inode ≡ take 6144 bytes ++ replicate (length bytes - 6144) 0
+  emptied_bytes =
+      same_lists (bytes_value w inode) (take 6144 bytes ++ replicate (length bytes - 6144) 0) (length-map-range_with_len (byte_of w inode) 0 end ∙ sym whole) (λ k d low.
+      let small : k < end = subst (λ (m : ℕ). k < m) (length-map-range_with_len (byte_of w inode) 0 end) low in
+      get_or-map-range_with_len (byte_of w inode) 0 end k k d small (omega arith) ∙ part k d small)
+    where
+      long_first : length (take 6144 bytes) ≡ min 6144 end
+      long_first = length-take 6144 bytes ∙ ap (min 6144) long
+
+      whole : length (take 6144 bytes ++ replicate (length bytes - 6144) 0) ≡ end
+      whole =
+          let a = long_first in
+          let b = length-replicate {A = ℕ} (length bytes - 6144) 0 in
+          let l = long in
+          let x = length-append (take 6144 bytes) (replicate (length bytes - 6144) 0) in
+          omega (arith, a, b, l, x)
+
+      part : (k d : ℕ) → k < end → byte_of w inode k ≡ get_or (take 6144 bytes ++ replicate (length bytes - 6144) 0) k d
+      part k d small = elim (cases_lt k 6144) [
+        | inl lt ↦
+            let a = long_first in
+            first_bytes k lt
+            ∙ sym (get_or_append_left (take 6144 bytes) (replicate (length bytes - 6144) 0) d k (omega (arith, lt, small, a))
+            ∙ (get_or-take 6144 bytes k d lt ∙ get_or-map-range_with_len (byte_of v inode) 0 end k k d small (omega arith)))
+        | inr ge ↦
+            let a = long_first in
+            let l = long in
+            last_bytes k ge
+            ∙ sym (get_or-append_right (take 6144 bytes) (replicate (length bytes - 6144) 0) 6144 k d (omega (arith, a, ge, small)) ge ∙ get_or-replicate (length bytes - 6144) (k - 6144) 0 d (omega (arith, l, ge, small)))
+      ]
+
+  emptied_at : files_of w fs n ≡ emptied (files_of v fs n)
+  emptied_at = kind_is v w fs n inode was w inode is ∙ (go (inode_mode inode == 2) ∙ ap emptied (sym (kind_is v w fs n inode was v inode was)))
+    where
+      go : (t : Bool) → kind v w fs n inode was w inode t ≡ emptied (kind v w fs n inode was v inode t)
+      go true = ap (Directory (inode_links inode)) same_blocks
+      go false = ap (File (inode_links inode)) emptied_bytes ∙ sym (ap (λ (t : Bool). if t then File (inode_links inode) (take 6144 bytes ++ replicate (length bytes - 6144) 0) else File (inode_links inode) bytes) (le-leb (inode_links inode) 1 c.last))
+
+  pub emptied_value : OnlyChanges v w fs n → files_of w fs ≡ with_emptied (files_of v fs) n
+  emptied_value others = value_at v w fs n (emptied (files_of v fs n)) emptied_at others
+
+-- What is asked
+
+pub asks_entry : (T : Types) (fs d : ℕ) (old new : StoreState) (own : List ℕ) (slot : Slot) (at : ℕ × ℕ) → Ok own ≡ directory_in (latest old.lives) fs d → IsPlaceOf own slot at → (fault : FfsFault) → new ≡ old → Wants T old fs slot.block fault →
+    Asks T fs (OfEntry d at.0) old new fault
+asks_entry T fs d old new own slot at is k fault same wants = (
+  same,
+  λ inode i. subst (λ (b : ℕ). Wants T old fs b fault) (sym k.block ∙ ap (λ (m : List ℕ). direct_in m at.0) (same_ok own inode (is ∙ sym i))) wants,
+)
+
+asks_link : (T : Types) (fs n : ℕ) (new : StoreState) (inode : List ℕ) → Ok inode ≡ inode_in (latest new.lives) fs n → (block : ℕ) (fault : FfsFault) → IsHome (latest new.lives) fs n block ⊎ (block ≡ word_at inode 56) → Wants T new fs block fault →
+    Asks T fs (OfLink n) new new fault
+asks_link T fs n new inode is block fault (inl home) wants = (refl, inl (λ b other. subst (λ (x : ℕ). Wants T new fs x fault) (same_ok block b (home ∙ sym other)) wants))
+asks_link T fs n new inode is block fault (inr e) wants = (refl, inr (λ m i. subst (λ (x : ℕ). Wants T new fs x fault) (e ∙ ap (λ (y : List ℕ). word_at y 56) (same_ok inode m (is ∙ sym i))) wants))
+
+-- where a link could not be taken
+pub link_stage : (T : Types) (lib : IsLibrary T) (fs : ℕ) → fs < 32 → (middle new : StoreState) → IsConsistent T new → (n : ℕ) (files : Files) → files_of (latest middle.lives) fs ≡ files → (fault : FfsFault) → StopsTaking T fs middle new n fault →
+    IsStage T fs new fault (link_stages files n)
+link_stage T lib fs few middle new h n files e fault s =
+    let asks = asks_link T fs n new s.inode s.is s.block fault s.of_inode s.wants in
+    elim s.stage [
+      | inl same ↦ inl (new, ap (λ (z : StoreState). files_of (latest z.lives) fs) same ∙ e, asks)
+      | inr c ↦ inr (inl (new, emptied_value T lib fs few (latest middle.lives) new h n s.inode s.was s.is c s.others ∙ ap (λ (f : Files). with_emptied f n) e, asks))
+    ]
+
+-- `unlink` and `rmdir`
+
+cleared_stages_are : (files : Files) (d links : ℕ) (blocks : Blocks) (name : List ℕ) (found : (ℕ × ℕ) × ℕ) → files d ≡ Directory links blocks → look_up name blocks ≡ Some found → is_name name ≡ true → removed_stages files d name ≡ cleared_stages files d found
+cleared_stages_are files d links blocks name found is looked good =
+    ap (λ v. stages_of (and_then (directory_of v) (entry_named name)) (cleared_stages files d)) is
+    ∙ (ap (λ (t : Bool). stages_of (if t then ok_or (look_up name blocks) NoEntry else Err BadName) (cleared_stages files d)) good ∙ ap (λ o. stages_of (ok_or o NoEntry) (cleared_stages files d)) looked)
+
+module _ (T : Types) (lib : IsLibrary T) (fs : ℕ) (few : fs < 32) (d : ℕ) (name : List ℕ) (slot : Slot) (old new : StoreState) (f : FindsEntry (latest old.lives) fs d name slot) where
+  abbrev u : ℕ → List ℕ
+  u = latest old.lives
+
+  abbrev z : ℕ → List ℕ
+  z = latest new.lives
+
+  abbrev found : (ℕ × ℕ) × ℕ
+  found = (f.entry.at, slot.inode)
+
+  pub removed_does : IsConsistent T old → IsConsistent T new → (answer : Answer (Unit {0})) → answer ≡ Ok (tt, cleared (files_of u fs) d found) → (result : Result (Unit {0}) FfsFault) →
+      MatchResult result (λ _. Unnamed u z fs slot) (Stops (StopsUnnaming T fs old new slot)) → Does T fs answer (removed_stages (files_of u fs) d name) old new result
+  removed_does before after answer is result ends =
+      subst (λ (a : Answer (Unit {0})). Does T fs a (removed_stages (files_of u fs) d name) old new result) (sym is)
+      (subst (λ (s : Stages). Does T fs (Ok (tt, cleared (files_of u fs) d found)) s old new result) (sym (cleared_stages_are (files_of u fs) d _ _ name found (directory_value u fs d f.own f.is) f.entry.looked f.good)) (go result ends))
+    where
+      gone : (m : ℕ → List ℕ) → Clearing u m fs slot → files_of m fs ≡ with_entry (files_of u fs) d f.entry.at None
+      gone m c = clearing_value u m fs d f.own f.is (blocks_once T lib old before fs few d f.own f.is) slot f.entry.at f.entry.is c
+
+      go : (r : Result (Unit {0}) FfsFault) → MatchResult r (λ _. Unnamed u z fs slot) (Stops (StopsUnnaming T fs old new slot)) → Does T fs (Ok (tt, cleared (files_of u fs) d found)) (cleared_stages (files_of u fs) d found) old new r
+      go (Ok x) y =
+          (refl, λ n. ap (λ (g : Files). g n) (takes_value y.middle z fs slot.inode f.target (f.at ∙ sym (y.cleared.inodes slot.inode)) y.took ∙ ap (λ (g : Files). without_link g slot.inode) (gone y.middle y.cleared)))
+      go (Err fault) stop = (
+        stop.0,
+        elim stop.1 [
+          | inl p ↦ inl (asks_entry T fs d old new f.own slot f.entry.at f.is f.entry.is fault p.0 p.1)
+          | inr q ↦ inr (link_stage T lib fs few q.0 new after slot.inode (with_entry (files_of u fs) d f.entry.at None) (gone (latest q.0.lives) q.1) fault q.2)
+        ],
+      )
+
+  -- what the files don't say of the inodes
+  own_is : Ok f.own ≡ inode_in u fs d
+  own_is = (directory_from u fs d f.own f.is).0
+
+  has : Contains (inode_blocks f.own) slot.block
+  has = let k = f.entry.is in direct_has f.own f.entry.at.0 slot.block k.low k.block k.there
+
+  nothing : Unnames u u fs d slot.inode
+  nothing = record { home = refl; others = λ x ne ne'. same_here u fs x; kept = λ inode i lt. same_as u u fs slot.inode (same_here u fs slot.inode) inode i }
+
+  in_middle : (middle : StoreState) → Clearing u (latest middle.lives) fs slot → (fault : FfsFault) → StopsTaking T fs middle new slot.inode fault → Unnames u z fs d slot.inode
+  in_middle middle c fault s =
+      let m = latest middle.lives in
+      let lost = unlisted u m fs d slot f.own own_is has c in
+      let named = lost.others slot.inode (λ e. f.apart (sym e)) in
+      record {
+        home = (s.others d f.apart).0 ∙ c.inodes d;
+        others = λ x ne ne'. same_on u m z fs x (lost.others x ne) (s.others x ne');
+        kept = λ inode i lt. elim s.stage [
+          | inl same ↦ same_as u z fs slot.inode (subst (λ (y : StoreState). SameInode u (latest y.lives) fs slot.inode) (sym same) named) inode i
+          | inr e ↦
+              let one : inode_links inode ≡ inode_links s.inode = ap inode_links (same_ok inode s.inode (i ∙ (sym (c.inodes slot.inode) ∙ sym s.was))) in
+              let low = e.last in
+              absurd (omega (arith, one, low, lt))
+        ];
+      }
+
+  pub unnames : (result : Result (Unit {0}) FfsFault) → MatchResult result (λ _. Unnamed u z fs slot) (Stops (StopsUnnaming T fs old new slot)) →
+      Unnames u z fs d slot.inode × OnErr result (inode_in z fs slot.inode ≡ inode_in u fs slot.inode)
+  unnames (Ok x) y =
+      let r = removed u y.middle fs d slot (record { own = f.own; is = own_is; has = has; apart = f.apart }) y.cleared z y.took in (
+        record { home = sym (directory_from z fs d f.own (r.gone f.own f.is).0).0 ∙ own_is; others = r.others; kept = λ inode i lt. ((r.unlinked inode i).kept lt).0 },
+        tt,
+      )
+  unnames (Err fault) stop = elim stop.1 [
+    | inl p ↦
+        subst (λ (s : StoreState). Unnames u (latest s.lives) fs d slot.inode × (inode_in (latest s.lives) fs slot.inode ≡ inode_in u fs slot.inode)) (sym p.0) (nothing, refl)
+    | inr q ↦ let s = q.2 in (in_middle q.0 q.1 fault s, sym s.is ∙ (s.was ∙ q.1.inodes slot.inode))
+  ]

@@ -1,0 +1,130 @@
+-- A call by its function of the files, and what it leaves where the store refuses one of its edits.
+--     more_a_link, with_link     an inode with a link more; the files with one so
+--     emptied, with_emptied      a file whose block of pointers was emptied for its last link: its bytes are 0 there; the files with one so
+--     Ask, Asks                  what a call asks of the store next; the store refuses that, and nothing changes but what forgetting leaves
+--     Stages, IsStage            files, and what is asked there, in the order of a call; one of them
+--     stages_of                  the stages of a call whose look-ups pass
+--     Does                       what a call answers and leaves
+--     link_stages                where a link is taken
+--     removed_stages, created_stages    of `unlink` and `rmdir`; of `create` and `mkdir`
+--     IsExtended                 a directory's pointers and size, where it may have a block more
+--     Unnames, Makes             what the files don't say of the inodes where a name is taken, and where one is made
+use Rattle.std.specs.Prelude.{◌≡◌, ◌≢◌, ℕ, ◌+◌, ◌-◌, ◌*◌, ◌<◌, ◌⊎◌, nat_le, List, [], ◌∷◌, ◌++◌, length, take, replicate, None, Result, Ok, Err, true, MatchResult, if◌then◌else◌}
+use Rattle.xn_model.specs.Root.{word_at}
+use Rattle.xn_model.specs.Types.{Types}
+use Rattle.xn_model.specs.Lives.{StoreState}
+use Rattle.ffs_model.specs.Library.{inode_blocks, inode_links}
+use Rattle.ffs_format.specs.Fields.{direct_in, fields_of}
+use Rattle.ffs_lookup.specs.declared.fault.FfsFault.{FfsFault}
+use Rattle.ffs_lookup.specs.Files.{Answer, Directory, File, Files, InodeValue, created, directory_of, entry_named, with_block, with_entry, with_value}
+use Rattle.ffs_lookup.specs.FileValues.{files_of, place_in}
+use Rattle.ffs_lookup.specs.Newest.{and_then, directory_in, inode_in, is_short}
+use Rattle.ffs_lib.specs.Results.{IsAs, OthersSame, SameOrNew, new_inode}
+use Rattle.ffs_lib.specs.Steps.{IsHome, StopsEntering, StopsGrowing, Wants, newest}
+use Rattle.ffs_lib.specs.Values.{Leads}
+
+abbrev pub more_a_link : InodeValue → InodeValue
+more_a_link (File links bytes) = File (links + 1) bytes
+more_a_link (Directory links blocks) = Directory (links + 1) blocks
+more_a_link other = other
+
+abbrev pub with_link : Files → ℕ → Files
+with_link files n = with_value files n (more_a_link (files n))
+
+-- behind the 12 blocks to which the inode points itself
+abbrev pub emptied : InodeValue → InodeValue
+emptied (File links bytes) = if nat_le links 1 then File links (take 6144 bytes ++ replicate (length bytes - 6144) 0) else File links bytes
+emptied other = other
+
+abbrev pub with_emptied : Files → ℕ → Files
+with_emptied files n = with_value files n (emptied (files n))
+
+-- What is asked: an edit of a directory's block at an index; of the block that has an inode; of that, or of the inode's block of pointers; what an entry more in
+-- a directory needs; what a block of inodes more does.
+pub data Ask : Type 0 where
+  OfEntry : (d index : ℕ) → Ask
+  OfInode : (n : ℕ) → Ask
+  OfLink : (n : ℕ) → Ask
+  ForEntry : (d : ℕ) → Ask
+  ForInodes : Ask
+
+abbrev pub OfHome : Types → ℕ → ℕ → StoreState → FfsFault → Type 0
+OfHome T fs n state fault = (block : ℕ) → IsHome (newest state) fs n block → Wants T state fs block fault
+
+abbrev pub OfPointers : Types → ℕ → ℕ → StoreState → FfsFault → Type 0
+OfPointers T fs n state fault = (inode : List ℕ) → Ok inode ≡ inode_in (newest state) fs n → Wants T state fs (word_at inode 56) fault
+
+abbrev pub Asks : Types → ℕ → Ask → StoreState → StoreState → FfsFault → Type 0
+Asks T fs (OfEntry d index) before new fault =
+    (new ≡ before) × ((inode : List ℕ) → Ok inode ≡ directory_in (newest before) fs d → Wants T before fs (direct_in inode index) fault)
+Asks T fs (OfInode n) before new fault = (new ≡ before) × OfHome T fs n before fault
+Asks T fs (OfLink n) before new fault = (new ≡ before) × (OfHome T fs n before fault ⊎ OfPointers T fs n before fault)
+Asks T fs (ForEntry d) before new fault = StopsEntering T fs before new d fault
+Asks T fs ForInodes before new fault = StopsGrowing T fs before new fault
+
+abbrev pub Stages : Type 0
+Stages = List (Files × Ask)
+
+abbrev pub IsStage : Types → ℕ → StoreState → FfsFault → Stages → Type 0
+IsStage T fs new fault [] = ⊥
+IsStage T fs new fault ((files, ask) ∷ rest) =
+    ((before : StoreState) × (files_of (newest before) fs ≡ files) × Asks T fs ask before new fault) ⊎ IsStage T fs new fault rest
+
+abbrev pub stages_of : {A : Type 0} → Result A FfsFault → (A → Stages) → Stages
+stages_of (Ok x) f = f x
+stages_of (Err fault) f = []
+
+-- at the first of them nothing was done
+abbrev pub IsRefused : Types → ℕ → StoreState → StoreState → FfsFault → Stages → Type 0
+IsRefused T fs old new fault [] = ⊥
+IsRefused T fs old new fault ((files, ask) ∷ rest) = Asks T fs ask old new fault ⊎ IsStage T fs new fault rest
+
+-- The function's fault is answered, and nothing changes. Or else what it answers is answered, and the files are those that it says; or the store is short of
+-- something for what is asked at one of the stages.
+abbrev pub Does : {A : Type 0} → Types → ℕ → Answer A → Stages → StoreState → StoreState → Result A FfsFault → Type 0
+Does T fs (Err fault) stages old new result = (result ≡ Err fault) × (new ≡ old)
+Does T fs (Ok next) stages old new result =
+    MatchResult result (Leads (Ok next) (newest new) fs) (λ fault. (is_short fault ≡ true) × IsRefused T fs old new fault stages)
+
+-- Stages of the calls
+
+abbrev pub link_stages : Files → ℕ → Stages
+link_stages files n = (files, OfLink n) ∷ (with_emptied files n, OfLink n) ∷ []
+
+abbrev pub cleared_stages : Files → ℕ → (ℕ × ℕ) × ℕ → Stages
+cleared_stages files d found = (files, OfEntry d found.0.0) ∷ link_stages (with_entry files d found.0 None) found.1
+
+-- `unlink` and `rmdir`
+abbrev pub removed_stages : Files → ℕ → List ℕ → Stages
+removed_stages files d name = stages_of (and_then (directory_of (files d)) (entry_named name)) (cleared_stages files d)
+
+abbrev pub made_stages : InodeValue → Files → ℕ → ℕ → Stages
+made_stages value files d n =
+    (files, ForInodes) ∷ (with_block files n, OfInode n) ∷ (with_value (with_block files n) n value, ForEntry d) ∷ []
+
+-- `create` and `mkdir`, for the number that they would answer
+abbrev pub created_stages : InodeValue → Files → ℕ → List ℕ → Stages
+created_stages value files d name = stages_of (created value files d name) (λ next. made_stages value files d next.0)
+
+-- What the files don't say of the inodes
+
+-- pointers that lead to a block stay, and the size, where there are no others; else this is 512 times the blocks
+abbrev pub IsExtended : List ℕ → List ℕ → Type 0
+IsExtended inode after =
+    ((i : ℕ) → i < 12 → direct_in inode i ≢ 0 → direct_in after i ≡ direct_in inode i)
+    × ((((fields_of after).direct ≡ (fields_of inode).direct) × (word_at after 4 ≡ word_at inode 4))
+    ⊎ (((fields_of after).direct ≢ (fields_of inode).direct) × (word_at after 4 ≡ 512 * length (inode_blocks after))))
+
+-- A name was taken from a directory, or not: its inode has its 64 bytes, and so have all others, in use or not, and their entries and their bytes, but that
+-- which was named. If it had more links than one it is as before but for these.
+pub record Unnames (old new : ℕ → List ℕ) (fs d n : ℕ) : Type 0 where
+  pub home : inode_in new fs d ≡ inode_in old fs d
+  pub others : OthersSame old new fs d n
+  pub kept : (inode : List ℕ) → Ok inode ≡ inode_in old fs n → 1 < inode_links inode → IsAs old new fs n inode
+
+-- A new inode was made for a directory, or not: it has these 64 bytes, or is as before, or free in a new block of inodes. The directory keeps its pointers and
+-- has its size, or 512 times its blocks. All others have their 64 bytes, in use or not, and their entries and their bytes, or are free in that block.
+pub record Makes (old new : ℕ → List ℕ) (fs d mode n : ℕ) : Type 0 where
+  pub made : (place_in new fs n ≡ Ok (new_inode mode)) ⊎ SameOrNew old new fs n n
+  pub directory : (inode after : List ℕ) → Ok inode ≡ directory_in old fs d → Ok after ≡ directory_in new fs d → IsExtended inode after
+  pub others : (x : ℕ) → x ≢ d → x ≢ n → SameOrNew old new fs n x
