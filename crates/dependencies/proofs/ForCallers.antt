@@ -4,3 +4,4 @@ pub use Rattle.dependencies.proofs.HomeChanges.{accepted_homes, begun_homes, cle
 pub use Rattle.dependencies.proofs.LifeChanges.{accepted_accounts, begun_accounts, clean_accounts, forgotten_accounts, settled_accounts, started_accounts}
 pub use Rattle.dependencies.proofs.OldestChanges.{accepted_nobody, accepted_oldest, begun_oldest, first_oldest, forgotten_oldest, settled_oldest, started_nobody, started_oldest}
 pub use Rattle.dependencies.proofs.OldestEntries.{oldest_is_least}
+pub use Rattle.dependencies.proofs.Waits.{root_has}

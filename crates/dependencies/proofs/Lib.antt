@@ -10,5 +10,6 @@ pub mod OldestEntries
 pub mod OldestChanges
 pub mod Early
 pub mod Trimming
+pub mod Waits
 pub mod ForCallers
 pub mod Types

@@ -6,3 +6,4 @@ pub mod Waiting
 pub mod Candidates
 pub mod Homes
 pub mod Oldest
+pub mod Unmet

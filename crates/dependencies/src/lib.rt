@@ -5,6 +5,7 @@ mod after;
 mod candidates;
 mod floors;
 mod homes;
+pub mod law;
 mod oldest;
 mod prefix;
 mod ready;

@@ -12,7 +12,7 @@ ghost use Rattle.block_cache.specs.Claims.{state_of};
 ghost use Rattle.block_cache.specs.NewBytes.{MayLeave, new_bytes};
 ghost use Rattle.block_cache.specs.Views.{facts_of};
 ghost use Rattle.xn_model.specs.Mounts.{found_status};
-ghost use Rattle.owner_records.specs.Owners.{is_claimed, owned_count};
+ghost use Rattle.claims.specs.Owners.{is_claimed, owned_count};
 ghost use Rattle.claims.specs.Owned.{MayClaim};
 ghost use Rattle.dependencies.specs.Pending.{pends};
 ghost use Rattle.dependencies.specs.Typed.{FindsTypes};
