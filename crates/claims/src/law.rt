@@ -23,7 +23,8 @@ pub fn empty_blocks()
 
 /// And whether each pair of some new bytes is one of the old that is not dropped, or an add, is read off the statuses.
 pub fn allowed_pairs()
-    ensures { (T : Types) (state : StoreState) (b : ℕ) (l : Life) (new adds : List (ℕ × ℕ)) (drops : List ℕ) → IsConsistent T state → life_at state.lives b ≡ Some l →
+    ensures { (T : Types) (state : StoreState) (b : ℕ) (l : Life) (new adds : List (ℕ × ℕ)) (drops : List ℕ) → IsConsistent T state →
+        life_at state.lives b ≡ Some l →
         are_allowed state.lives b adds drops new ≡ inside new (without (T.owned l.ty (current l)) drops ++ adds) }
 {}
 
@@ -36,7 +37,8 @@ pub fn owned_counts()
 /// And where the adds and the drops are such as may be, a claim on new bytes that name no block twice is read off the
 /// statuses and that count.
 pub fn claims_by_status()
-    ensures { (T : Types) (state : StoreState) (b fs : ℕ) (l : Life) (new : List ℕ) (adds : List (ℕ × ℕ)) (drops : List ℕ) → IsConsistent T state → life_at state.lives b ≡ Some l →
+    ensures { (T : Types) (state : StoreState) (b fs : ℕ) (l : Life) (new : List ℕ) (adds : List (ℕ × ℕ)) (drops : List ℕ) → IsConsistent T state →
+        life_at state.lives b ≡ Some l →
         IsTrue (list_all (may_add state fs) adds && distinct (blocks_of adds)) → IsTrue (list_all (may_drop state b) drops && distinct drops) →
         (claims T l.ty (current l) new adds drops && named_once T l.ty new)
         ≡ (is_claimed state.lives b (owned_count state.lives b) (T.owned l.ty new) adds drops && named_once T l.ty new) }
