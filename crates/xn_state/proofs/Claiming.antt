@@ -20,7 +20,7 @@ use Rattle.claims.proofs.ForCallers.{claimed_is, owned_counted, pair_owned}
 use Rattle.block_cache.specs.declared.life.Facts.{Facts}
 use Rattle.block_cache.specs.Views.{facts_of}
 use Rattle.claims.specs.Owned.{MayClaim}
-use Rattle.xn_state.specs.Kept.{IsUnowned}
+use Rattle.dependencies.specs.Index.{IsUnowned}
 use Rattle.xn_state.specs.Forgets.{forget_plan, forget_plan_at}
 use Rattle.xn_state.specs.Plans.{make_root_plan, make_root_plan_at}
 use Rattle.xn_state.specs.Proposals.{drop_root_plan, edited_with, proposed_at, proposed_of}
