@@ -1,5 +1,6 @@
 -- What is kept beside the bytes and the entries.
-use Rattle.std.specs.Prelude.{◌≡◌, ◌≢◌, ◌⊎◌, ℕ, ◌^◌, ◌<◌, ◌≤◌, Bool, List, [], ◌∷◌, ◌++◌, length, take, drop, true, false, Option, Some, None, slice_get, slice_index_or, slice_set, unwrap_or, option_map, IsTrue, ◌||◌, nat_lt}
+use Rattle.std.specs.Prelude.{◌≡◌, ◌≢◌, ◌⊎◌, ℕ, ◌^◌, ◌<◌, ◌≤◌, Bool, List, [], ◌∷◌, ◌++◌, length, take, drop, true, false, Option, Some, None, slice_get}
+use Rattle.std.specs.Prelude.{slice_index_or, slice_set, unwrap_or, option_map, IsTrue, ◌||◌, nat_lt}
 use Rattle.slab.specs.Slab.{Slab, get}
 use Rattle.xn_model.specs.declared.status.Status.{Status}
 use Rattle.xn_model.specs.declared.status.Status.TheVariants.{Fresh}

@@ -1,11 +1,13 @@
 // What each block has been since it was last free.
 
-ghost use Rattle.std.specs.Prelude.{◌≡◌, ℕ, ◌+◌, ◌*◌, ◌^◌, ◌<◌, ◌≤◌, [], ◌∷◌, length, map, Option, Some, None, IsTrue, IfOk, IfSome, OnOk, OnErr, bytes_eq, is_some, option_map, slice_get, slice_set};
+ghost use Rattle.std.specs.Prelude.{◌≡◌, ℕ, ◌+◌, ◌*◌, ◌^◌, ◌<◌, ◌≤◌, [], ◌∷◌, length, map, Option, Some, None, IsTrue, IfOk, IfSome, OnOk, OnErr, bytes_eq};
+ghost use Rattle.std.specs.Prelude.{is_some, option_map, slice_get, slice_set};
 ghost use Rattle.std.specs.List.{list_any, range_with_len};
 ghost use Rattle.std.specs.Option.{option_copied, option_and_then};
 ghost use Rattle.slab.specs.Slab.{get};
 ghost use Rattle.xn_model.specs.Root.{has_type};
-ghost use Rattle.xn_model.specs.Lives.{durable_bytes, root_on_disk, life_at, change_at, with_state, with_status, settled_at, begun_at, current, alive_and, is_for};
+ghost use Rattle.xn_model.specs.Lives.{durable_bytes, root_on_disk, life_at, change_at, with_state, with_status, settled_at, begun_at, current, alive_and};
+ghost use Rattle.xn_model.specs.Lives.{is_for};
 ghost use Rattle.xn_model.specs.Calls.{new_life, life_bytes, life_pending, patched};
 ghost use Rattle.xn_model.specs.Rules.{IsCount};
 ghost use Rattle.xn_model.specs.Worlds.{all_pending};
@@ -254,7 +256,8 @@ impl Cache {
         requires room { life_pending (life_at self.old block) < 64 }
         requires leaves { MayLeave bytes }
         requires undoes { patched (new_bytes bytes (life_bytes (life_at self.old block))) undo ≡ life_bytes (life_at self.old block) }
-        ensures ok { OnOk result (self.new ≡ change_at self.old block (with_state (state_of claim (new_bytes bytes.entry (life_bytes (life_at self.old block)))))) }
+        ensures ok { OnOk result (self.new ≡
+            change_at self.old block (with_state (state_of claim (new_bytes bytes.entry (life_bytes (life_at self.old block)))))) }
         ensures err { OnErr result (self.new ≡ self.old) }
     {
         self.entries.reserve(1)?;

@@ -1,6 +1,7 @@
 // A set of block numbers.
 
-ghost use Rattle.std.specs.Prelude.{◌≡◌, ℕ, ◌<◌, ◌≤◌, ◌^◌, Bool, true, false, length, replicate, count_by, position, unwrap_or, slice_get, slice_set, IfOk, IfSome, IfNone};
+ghost use Rattle.std.specs.Prelude.{◌≡◌, ℕ, ◌<◌, ◌≤◌, ◌^◌, Bool, true, false, length, replicate, count_by, position, unwrap_or, slice_get, slice_set, IfOk};
+ghost use Rattle.std.specs.Prelude.{IfSome, IfNone};
 ghost use Rattle.block_set.specs.Members.{is_member, IsLeastFrom, HasNoneFrom};
 
 use crate::words::Words;

@@ -9,7 +9,7 @@ use Rattle.xn_model.specs.declared.status.Status.{Status}
 use Rattle.xn_model.specs.declared.status.Status.TheVariants.{Fresh, Owned, Dropped}
 use Rattle.xn_model.specs.Lives.{BlockState, Life, Lives, life_at, is_owned_by, settle, settled_at, begun_at, accepted_at, freed, owner_of}
 use Rattle.xn_model.specs.Calls.{new_life}
-use Rattle.owner_records.specs.Owners.{owned_count}
+use Rattle.claims.specs.Owners.{owned_count}
 use Rattle.block_cache.specs.Views.{facts_of}
 use Rattle.claims.specs.Owned.{AreOwnedCounts, MayClaim, one_more, owner_in}
 use Rattle.claims.proofs.Owners.{is_owned, count_same, count_kept, status_kept, accepted_count, drops_within, freed_count, length_accepted, length_freed}

@@ -12,8 +12,9 @@ use Rattle.xn_model.specs.declared.status.Status.TheVariants.{Fresh, Owned, Drop
 use Rattle.xn_model.specs.Lists.{blocks_of, distinct, has_number}
 use Rattle.xn_model.specs.Lives.{BlockState, Life, Lives, life_at, alive_and, change_at, with_state, with_status, is_fresh, is_owned_by, owned_after, dropped_after, accepted_at, freed}
 use Rattle.xn_model.proofs.ForCallers.{Contains-head, Contains-tail, has_number_from, change_same, place_from, set_other}
-use Rattle.owner_records.specs.Owners.{owned_count}
-use Rattle.owner_records.proofs.ForCallers.{owned_by_is, passes}
+use Rattle.claims.specs.Owners.{owned_count}
+use Rattle.claims.proofs.Claimed.{passes}
+use Rattle.claims.proofs.OwnedPairs.{owned_by_is}
 use Rattle.claims.specs.Owned.{MayClaim}
 
 -- a block that block b owns

@@ -20,7 +20,8 @@ newest_at lives b = newest_of (life_at lives b)
 
 pub record AreDecided (T : Types) (sets : List (Option ReadSet)) (lives : Lives) : Type 0 where
   pub long : length sets ≡ length lives
-  pub each : (b t : ℕ) (m : List ℕ) (reads : ReadSet) → newest_at lives b ≡ Some (t, m) → slice_index_or sets b None ≡ Some reads → DecidesOwned T t m reads.chunks
+  pub each : (b t : ℕ) (m : List ℕ) (reads : ReadSet) → newest_at lives b ≡ Some (t, m) → slice_index_or sets b None ≡ Some reads →
+      DecidesOwned T t m reads.chunks
 
 abbrev pub Decides : Types → Lives → ℕ → List ℕ → Option ReadSet → Type 0
 Decides T lives b bytes set = (l : Life) (reads : ReadSet) → life_at lives b ≡ Some l → set ≡ Some reads → DecidesOwned T l.ty bytes reads.chunks

@@ -5,7 +5,7 @@
 use Rattle.std.specs.Prelude.{◌≡◌, ℕ, ◌+◌, ◌<◌, List, length, Option, Some, None, Contains, true, slice_index, slice_set}
 use Rattle.xn_model.specs.Lists.{blocks_of, distinct}
 use Rattle.xn_model.specs.Lives.{Lives, life_at, alive_and, is_fresh, is_owned_by, owner_of}
-use Rattle.owner_records.specs.Owners.{owned_count}
+use Rattle.claims.specs.Owners.{owned_count}
 use Rattle.block_cache.specs.declared.life.Facts.{Facts}
 
 pub record AreOwnedCounts (counts : List ℕ) (lives : Lives) : Type 0 where

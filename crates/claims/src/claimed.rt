@@ -2,7 +2,7 @@
 
 ghost use Rattle.std.specs.Prelude.{◌≡◌, ◌&&◌, ◌||◌, not};
 ghost use Rattle.xn_model.specs.Lists.{has_number, has_pair};
-ghost use Rattle.owner_records.specs.Owners.{are_allowed, is_claimed, is_owned_pair};
+ghost use Rattle.claims.specs.Owners.{are_allowed, is_claimed, is_owned_pair};
 
 use crate::distinct::has_number;
 use crate::pairs::{has_pair, is_inside};

@@ -5,6 +5,7 @@ mod chains;
 mod claimed;
 mod counts;
 mod distinct;
+pub mod law;
 mod pairs;
 mod read_sets;
 

@@ -10,5 +10,12 @@ pub mod OldestEntries
 pub mod OldestChanges
 pub mod Early
 pub mod Trimming
+pub mod Waits
+pub mod Counting
+pub mod Freed
+pub mod DirtyChanges
+pub mod FirstDrops
+pub mod Ended
+pub mod IndexChanges
 pub mod ForCallers
 pub mod Types

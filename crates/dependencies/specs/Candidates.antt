@@ -1,5 +1,6 @@
 -- Blocks of which a write may begin, and what other ones wait for.
-use Rattle.std.specs.Prelude.{◌≡◌, ℕ, ◌<◌, ◌≤◌, Bool, true, false, not, ◌&&◌, ◌⊎◌, List, Option, Some, IsTrue, is_none, is_some, length, position, slice_index_or, slice_set}
+use Rattle.std.specs.Prelude.{◌≡◌, ℕ, ◌<◌, ◌≤◌, Bool, true, false, not, ◌&&◌, ◌⊎◌, List, Option, Some, IsTrue, is_none, is_some, length, position}
+use Rattle.std.specs.Prelude.{slice_index_or, slice_set}
 use Rattle.xn_model.specs.Lives.{Life, Lives, alive_and, life_at, no_states}
 use Rattle.block_set.specs.Members.{is_member}
 use Rattle.wait_lists.specs.Waiting.{at}

@@ -6,3 +6,6 @@ pub mod Waiting
 pub mod Candidates
 pub mod Homes
 pub mod Oldest
+pub mod Counts
+pub mod Index
+pub mod Unmet

@@ -2,7 +2,8 @@
 --     pends_for fs n o            the entry n of the file system is pending in this life
 --     AreOldest lives oldest      none of a file system's pending entries is below its number
 --     MovesOn .. fs old new       the number of a file system has moved on, as far as entries are known to be pending no longer
-use Rattle.std.specs.Prelude.{◌≡◌, ◌≢◌, ℕ, ◌+◌, ◌-◌, ◌^◌, ◌<◌, ◌≤◌, ◌&&◌, ◌==◌, Bool, true, false, cond, min, List, length, Option, Some, None, slice_index, slice_set}
+use Rattle.std.specs.Prelude.{◌≡◌, ◌≢◌, ℕ, ◌+◌, ◌-◌, ◌^◌, ◌<◌, ◌≤◌, ◌&&◌, ◌==◌, Bool, true, false, cond, min, List, length, Option, Some, None, slice_index}
+use Rattle.std.specs.Prelude.{slice_set}
 use Rattle.std.specs.List.{list_any}
 use Rattle.xn_model.specs.Lives.{BlockState, Life, Lives, alive_and, is_for, life_at}
 use Rattle.block_cache.specs.Claims.{ClaimValue}

@@ -3,17 +3,14 @@
 
 mod after;
 mod candidates;
+mod counts;
 mod floors;
 mod homes;
+mod index;
+pub mod law;
 mod oldest;
-mod prefix;
-mod ready;
 mod safe;
 mod waiting;
 
-pub use candidates::Candidates;
-pub use floors::least_for;
-pub use homes::Homes;
-pub use oldest::{home_for, move_on, note_number};
-pub use prefix::{is_tainted, safe_prefix};
-pub use ready::{is_ready, pick};
+pub use counts::TakenOut;
+pub use index::Index;

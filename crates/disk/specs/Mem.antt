@@ -1,4 +1,5 @@
-use Rattle.std.specs.Prelude.{◌≡◌, ◌≢◌, ℕ, ◌+◌, ◌*◌, ◌%◌, ◌^◌, ◌<◌, List, length, Option, Some, None, Bool, true, false, Result, Ok, Err, IsSome, slice_get, unwrap_or, cond, ◌⊎◌}
+use Rattle.std.specs.Prelude.{◌≡◌, ◌≢◌, ℕ, ◌+◌, ◌*◌, ◌%◌, ◌^◌, ◌<◌, List, length, Option, Some, None, Bool, true, false, Result, Ok, Err, IsSome, slice_get}
+use Rattle.std.specs.Prelude.{unwrap_or, cond, ◌⊎◌}
 use Rattle.disk.specs.Images.{block_at}
 
 -- A lane in memory, as contracts see it. `write_fault` is what the next write is to do: fail, and keep the new bytes or not.
@@ -16,7 +17,16 @@ pub record MemoryLane : Type 0 where
 
 -- a lane over these bytes that has never failed, holds no write and is told no failure
 abbrev pub fresh_lane : ℕ → List ℕ → MemoryLane
-fresh_lane block bytes = record { number = block; bytes = bytes; settled = bytes; given = None; faults = 0; write_fault = None; read_fault = false; sync_fault = false }
+fresh_lane block bytes = record {
+  number = block;
+  bytes = bytes;
+  settled = bytes;
+  given = None;
+  faults = 0;
+  write_fault = None;
+  read_fault = false;
+  sync_fault = false;
+}
 
 -- what a crash may leave in its block
 abbrev pub memory_leaves : MemoryLane → List ℕ → Type 0
@@ -45,7 +55,12 @@ read_failed lane = record lane { faults = next_count lane.faults; read_fault = f
 
 -- the lane after the write that it was told to fail, with what was given to an open write
 abbrev pub write_failed : MemoryLane → List ℕ → Option (List ℕ) → MemoryLane
-write_failed lane new given = record lane { given = given; bytes = bytes_after_fault lane.write_fault lane.bytes new; faults = next_count lane.faults; write_fault = None }
+write_failed lane new given = record lane {
+  given = given;
+  bytes = bytes_after_fault lane.write_fault lane.bytes new;
+  faults = next_count lane.faults;
+  write_fault = None;
+}
 
 -- What was given to an open write, after one that failed: its bytes. Where the old bytes stay and an open write was given those, they stay
 -- that too, as a lane has room for its newest bytes, for the settled ones, and for no third ones.
@@ -73,7 +88,8 @@ memory_read old (Err fault) new = (old.read_fault ≡ true) × (new ≡ read_fai
 
 abbrev pub memory_write : {E : Type 0} → MemoryLane → List ℕ → Result (Unit {0}) E → MemoryLane → Type 0
 memory_write old bytes (Ok done) new = (old.write_fault ≡ None) × (new ≡ record old { bytes = bytes; given = Some bytes })
-memory_write old bytes (Err fault) new = IsSome old.write_fault × (new ≡ write_failed old bytes new.given) × IsGivenAfterFault old.write_fault old bytes new.given
+memory_write old bytes (Err fault) new = IsSome old.write_fault × (new ≡ write_failed old bytes new.given) ×
+    IsGivenAfterFault old.write_fault old bytes new.given
 
 abbrev pub memory_sync : {E : Type 0} → MemoryLane → Result (Unit {0}) E → MemoryLane → Type 0
 memory_sync old (Ok done) new = (old.sync_fault ≡ false) × (new ≡ synced old)

@@ -1,4 +1,5 @@
-ghost use Rattle.std.specs.Prelude.{◌≡◌, ◌≢◌, ℕ, ◌+◌, ◌^◌, ◌<◌, ◌≤◌, List, length, replicate, Option, Some, None, IfOk, OnOk, OnErr, IfErr, IsOk, ◌↔◌, slice_get, slice_set, IfSome, option_copied};
+ghost use Rattle.std.specs.Prelude.{◌≡◌, ◌≢◌, ℕ, ◌+◌, ◌^◌, ◌<◌, ◌≤◌, List, length, replicate, Option, Some, None, IfOk, OnOk, OnErr, IfErr, IsOk, ◌↔◌};
+ghost use Rattle.std.specs.Prelude.{slice_get, slice_set, IfSome, option_copied};
 ghost use Rattle.disk.specs.Lanes.{AreLanes};
 
 use crate::lane::Lane;

@@ -46,7 +46,11 @@ impl PlanLane {
 
     /// Tells the lane of a read that is to fail now, and counts it.
     fn plan_read(&mut self)
-        ensures { self.new ≡ record { lane = told_read self.old.fail_read self.old.lane; fail_read = later_read self.old.fail_read; fail_write = self.old.fail_write } }
+        ensures { self.new ≡ record {
+          lane = told_read self.old.fail_read self.old.lane;
+          fail_read = later_read self.old.fail_read;
+          fail_write = self.old.fail_write;
+        } }
     {
         match self.fail_read {
             Some(1) => {
@@ -60,7 +64,11 @@ impl PlanLane {
 
     /// Tells the lane of a write that is to fail now, and counts it.
     fn plan_write(&mut self)
-        ensures { self.new ≡ record { lane = told_write self.old.fail_write self.old.lane; fail_read = self.old.fail_read; fail_write = later_write self.old.fail_write } }
+        ensures { self.new ≡ record {
+          lane = told_write self.old.fail_write self.old.lane;
+          fail_read = self.old.fail_read;
+          fail_write = later_write self.old.fail_write;
+        } }
     {
         match self.fail_write {
             Some((1, new_bytes_stay)) => {

@@ -12,5 +12,6 @@ pub fn undone_is_as_before()
 
 /// Where an edit is within the limits, so is one of the patches that undo it.
 pub fn undo_is_within_limits()
-    ensures { (m : List ℕ) (edit : Edit) → length m ≡ 512 → IsTrue (within_limits edit) → IsTrue (within_limits (record edit { patches = undo_of m edit.patches })) }
+    ensures { (m : List ℕ) (edit : Edit) → length m ≡ 512 → IsTrue (within_limits edit) →
+        IsTrue (within_limits (record edit { patches = undo_of m edit.patches })) }
 {}

@@ -35,15 +35,18 @@ pub fn spares_may_go()
 
 /// What another inode has to spare it keeps over such an edit, and over one of a block of another type, as an indirect one.
 pub fn spares_stay()
-    ensures links { (T : Types) (L : Layout) (fs : ℕ) (array : ℕ → Option ℕ) (state new : StoreState) (block : ℕ) (edit : Edit) (entry n q i m : ℕ) (g : Option ℕ) →
+    ensures links { (T : Types) (L : Layout) (fs : ℕ) (array : ℕ → Option ℕ) (state new : StoreState) (block : ℕ) (edit : Edit) (entry n q i m : ℕ)
+        (g : Option ℕ) →
         Proposes T L fs array state block edit entry new → n ≢ 0 → IsInodes L (latest state.lives) fs (L.home n).0 block →
         LinksTaken L (latest state.lives block) (written state.lives block edit) (L.home n).1 q → i ≢ 0 → i ≢ n →
         KeepsNumber L state.lives fs g m i → KeepsNumber L new.lives fs g m i }
-    ensures inode { (T : Types) (L : Layout) (fs : ℕ) (array : ℕ → Option ℕ) (state new : StoreState) (block : ℕ) (edit : Edit) (entry n i m : ℕ) (g : Option ℕ) →
+    ensures inode { (T : Types) (L : Layout) (fs : ℕ) (array : ℕ → Option ℕ) (state new : StoreState) (block : ℕ) (edit : Edit) (entry n i m : ℕ)
+        (g : Option ℕ) →
         Proposes T L fs array state block edit entry new → n ≢ 0 → IsInodes L (latest state.lives) fs (L.home n).0 block →
         InodeFreed L (latest state.lives block) (written state.lives block edit) (L.home n).1 → i ≢ 0 → i ≢ n →
         KeepsNumber L state.lives fs g m i → KeepsNumber L new.lives fs g m i }
-    ensures indirect { (T : Types) (L : Layout) (fs : ℕ) (array : ℕ → Option ℕ) (state new : StoreState) (block : ℕ) (edit : Edit) (entry ty i m : ℕ) (g : Option ℕ) →
+    ensures indirect { (T : Types) (L : Layout) (fs : ℕ) (array : ℕ → Option ℕ) (state new : StoreState) (block : ℕ) (edit : Edit) (entry ty i m : ℕ)
+        (g : Option ℕ) →
         Proposes T L fs array state block edit entry new → ty ≢ 2 → ty ≢ 3 → ty ≢ 4 → Under T (latest state.lives) fs block ty → i ≢ 0 →
         KeepsNumber L state.lives fs g m i → KeepsNumber L new.lives fs g m i }
 {}

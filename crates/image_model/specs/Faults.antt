@@ -2,7 +2,8 @@
 use Rattle.std.specs.Prelude.{ℕ, List, ◌++◌, codes}
 use Rattle.std.specs.Fmt.{decimal}
 use Rattle.image_model.specs.declared.fault.ImageFault.{ImageFault}
-use Rattle.image_model.specs.declared.fault.ImageFault.TheVariants.{NoMemory, BadLength, BadMark, BadCount, BadTemplate, UnknownType, OutOfRange, TwoOwners, SizeWrong, Device}
+use Rattle.image_model.specs.declared.fault.ImageFault.TheVariants.{NoMemory, BadLength, BadMark, BadCount, BadTemplate, UnknownType, OutOfRange, TwoOwners}
+use Rattle.image_model.specs.declared.fault.ImageFault.TheVariants.{SizeWrong, Device}
 
 abbrev pub fault_text : ImageFault → List ℕ
 fault_text NoMemory = codes "1 NoMemory"

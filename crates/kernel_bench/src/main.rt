@@ -1,106 +1,48 @@
-// Times the calls of a kernel on disks of 32 and of 32,768 blocks. What was done goes to standard output, and how long it took, in
-// nanoseconds, to standard error.
+// Times what its words name, one after another: runs of metadata programs, calls of a kernel, checks of an image, edits that threads share.
+// What was done goes to standard output, and how long it took, in nanoseconds, to standard error.
 #![tactic(auto)]
 
-mod blocks;
 mod calls;
-mod disks;
-mod writes;
+mod checks;
+mod programs;
+mod sharing;
 
-use blocks::{full_inodes, rooted_data};
-use calls::Work;
-use disk::MemLane;
-use disks::fresh_kernel;
+use anyhow::{Result, bail};
+use calls::time_calls;
+use checks::time_checks;
+use programs::time_programs;
+use sharing::time_shared;
 use std::alloc::Global;
-use std::io;
+use std::env;
+use std::sync::Wait;
 use std::thread::Threads;
-use std::time::{Clock, Instant};
-use xn_kernel::{Fs, Kernel};
+use std::time::Clock;
 
-/// How often the calls of a kind are made.
-const COUNT: u32 = 20_000;
-
-/// Makes calls, and prints how long they took.
-fn time<R: Threads + Clock + Print + Eprint + Sync>(
-    rt: &R,
+/// Times what a word names. Threads are started by the second handle alone.
+fn time<R: Threads + Wait + Clock + Print + Eprint + Sync>(
+    rt: &HostRuntime,
+    threads: &R,
     alloc: Global,
-    kernel: &mut Kernel<MemLane>,
-    fs: Fs,
-    place: &str,
-    work: Work,
-) -> io::Result<()> {
-    let start = Instant::now(rt)?;
-    let done = work.run(alloc, kernel, fs, COUNT)?;
-    let time = start.elapsed(rt)?.as_nanos();
-    let name = work.name();
-    println!(rt; "{place} {name} {done}")?;
-    eprintln!(rt; "{place} {name} {COUNT} {time}")
-}
-
-/// Times the calls that any disk has.
-fn time_all<R: Threads + Clock + Print + Eprint + Sync>(
-    rt: &R,
-    alloc: Global,
-    kernel: &mut Kernel<MemLane>,
-    fs: Fs,
-    place: &str,
-) -> io::Result<()> {
-    let Some(block) = rooted_data(kernel, fs) else {
-        return println!(rt; "{place}: no block");
-    };
-    let works = [
-        Work::Floor,
-        Work::Pending,
-        Work::Init,
-        Work::Cycle(block),
-        Work::PickedCycle(block),
-        Work::Drain(block),
-    ];
-    for work in works {
-        time(rt, alloc, kernel, fs, place, work)?;
-    }
-    Ok(())
-}
-
-/// Times edits of a full block of inodes.
-fn time_inodes<R: Threads + Clock + Print + Eprint + Sync>(
-    rt: &R,
-    alloc: Global,
-    kernel: &mut Kernel<MemLane>,
-    fs: Fs,
-    place: &str,
-) -> io::Result<()> {
-    let Some(block) = full_inodes(alloc, kernel, fs)? else {
-        return println!(rt; "{place}: no block");
-    };
-    for work in [Work::Cycle(block), Work::Drain(block)] {
-        time(rt, alloc, kernel, fs, place, work)?;
-    }
-    Ok(())
-}
-
-/// Times calls on a fresh disk of so many blocks.
-fn time_disk<R: Threads + Clock + Print + Eprint + Sync>(
-    rt: &R,
-    alloc: Global,
-    blocks: u32,
-    place: &str,
-    inodes: bool,
-) -> io::Result<()> {
-    let Some(fs) = Fs::new(0) else {
-        return Ok(());
-    };
-    let mut kernel = fresh_kernel(rt, alloc, blocks)?;
-    if inodes {
-        time_inodes(rt, alloc, &mut kernel, fs, place)
-    } else {
-        time_all(rt, alloc, &mut kernel, fs, place)
+    word: &str,
+) -> Result<()> {
+    match word {
+        "programs" => time_programs(threads, alloc, rt.stdin()),
+        "kernel" => Ok(time_calls(threads, alloc)?),
+        "check" => Ok(time_checks(threads, alloc)?),
+        "shared" => Ok(time_shared(threads, alloc, *rt)?),
+        _ => bail!("the words are programs, kernel, check and shared"),
     }
 }
 
-fn main(rt: HostRuntime) -> io::Result<()> {
+/// Without a word the calls of a kernel are timed.
+fn main(rt: HostRuntime) -> Result<()> {
     let alloc = rt.alloc();
-    time_disk(&rt, alloc, 32, "32", false)?;
-    time_disk(&rt, alloc, 32_768, "32768", false)?;
-    time_disk(&rt, alloc, 32_768, "inodes", true)
+    let words: Vec<String> = env::args(&rt)?.skip(1).collect(alloc)?;
+    if words.is_empty() {
+        return time(&rt, &rt, alloc, "kernel");
+    }
+    for word in words.iter() {
+        time(&rt, &rt, alloc, word.as_str())?;
+    }
+    Ok(())
 }

@@ -1,5 +1,6 @@
 -- A table has the templates of all types. Types 0 to 2 are built in, and type 3 + i stands at place i of the catalogue.
-use Rattle.std.specs.Prelude.{◌≡◌, ℕ, ◌-◌, ◌==◌, nat_lt, if◌then◌else◌, IsTrue, false, List, [], map, length, slice_index_or, replicate, Option, Some, None, is_some, is_ok}
+use Rattle.std.specs.Prelude.{◌≡◌, ℕ, ◌-◌, ◌==◌, nat_lt, if◌then◌else◌, IsTrue, false, List, [], map, length, slice_index_or, replicate, Option, Some, None}
+use Rattle.std.specs.Prelude.{is_some, is_ok}
 use Rattle.std.specs.Option.{ForSome}
 use Rattle.std.specs.Result.{result_ok}
 use Rattle.std.specs.List.{range_with_len}

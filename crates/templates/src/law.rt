@@ -21,7 +21,8 @@ pub fn templates_are_read()
 
 /// A block from which a template is read is that template's one block.
 pub fn blocks_are_templates()
-    ensures { (m : List ℕ) (t : TemplateValue) → length m ≡ 512 → All (λ byte. byte < 256) m → template_of_bytes m ≡ Ok t → (m ≡ template_bytes t) × IsTemplate t }
+    ensures { (m : List ℕ) (t : TemplateValue) → length m ≡ 512 → All (λ byte. byte < 256) m → template_of_bytes m ≡ Ok t → (m ≡ template_bytes t) ×
+        IsTemplate t }
 {}
 
 /// Want of memory is no fault that a block has.

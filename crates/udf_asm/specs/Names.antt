@@ -2,7 +2,8 @@
 use Rattle.std.specs.Prelude.{ℕ, List, codes, if◌then◌else◌, Option, Some, None}
 use Rattle.std.specs.Str.{bytes_eq}
 use Rattle.udf_code.specs.declared.op.Op.{Op}
-use Rattle.udf_code.specs.declared.op.Op.TheVariants.{Set, Mov, Add, Sub, Mul, Div, Rem, And, Shr, Load1, Load2, Load4, Emit, IfLess, IfEqual, Else, End, For, Keep}
+use Rattle.udf_code.specs.declared.op.Op.TheVariants.{Set, Mov, Add, Sub, Mul, Div, Rem, And, Shr, Load1, Load2, Load4, Emit, IfLess, IfEqual, Else, End, For}
+use Rattle.udf_code.specs.declared.op.Op.TheVariants.{Keep}
 
 abbrev pub name_of : Op → List ℕ
 name_of Set = codes "SET"

@@ -3,7 +3,8 @@ use Rattle.std.specs.Prelude.{ℕ, ◌&&◌, nat_lt, nat_le, List, [], ◌∷◌
 use Rattle.udf_code.specs.declared.op.Op.{Op}
 use Rattle.udf_code.specs.declared.op.Op.TheVariants as op
 use Rattle.udf_code.specs.declared.word.Word.{Word}
-use Rattle.udf_code.specs.declared.word.Word.TheVariants.{Set, Mov, Add, Sub, Mul, Div, Rem, And, Shr, Load1, Load2, Load4, Emit, IfLess, IfEqual, Else, End, For, Keep}
+use Rattle.udf_code.specs.declared.word.Word.TheVariants.{Set, Mov, Add, Sub, Mul, Div, Rem, And, Shr, Load1, Load2, Load4, Emit, IfLess, IfEqual, Else, End}
+use Rattle.udf_code.specs.declared.word.Word.TheVariants.{For, Keep}
 use Rattle.udf_code.specs.Decoding.{when, is_register}
 
 -- how many operands

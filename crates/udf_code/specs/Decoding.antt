@@ -1,11 +1,13 @@
 -- The words that bytes are, or the first place at which the bytes are no program.
-use Rattle.std.specs.Prelude.{ℕ, ◌+◌, ◌-◌, ◌*◌, ◌/◌, ◌%◌, ◌==◌, ◌&&◌, nat_lt, nat_le, Bool, false, if◌then◌else◌, List, [], ◌∷◌, length, Option, Some, None, Result, Err}
+use Rattle.std.specs.Prelude.{ℕ, ◌+◌, ◌-◌, ◌*◌, ◌/◌, ◌%◌, ◌==◌, ◌&&◌, nat_lt, nat_le, Bool, false, if◌then◌else◌, List, [], ◌∷◌, length, Option, Some, None}
+use Rattle.std.specs.Prelude.{Result, Err}
 use Rattle.std.specs.Option.{ok_or}
 use Rattle.std.specs.Result.{result_map_both}
 use Rattle.udf_code.specs.declared.op.Op.{Op}
 use Rattle.udf_code.specs.declared.op.Op.TheVariants as op
 use Rattle.udf_code.specs.declared.word.Word.{Word}
-use Rattle.udf_code.specs.declared.word.Word.TheVariants.{Set, Mov, Add, Sub, Mul, Div, Rem, And, Shr, Load1, Load2, Load4, Emit, IfLess, IfEqual, Else, End, For, Keep}
+use Rattle.udf_code.specs.declared.word.Word.TheVariants.{Set, Mov, Add, Sub, Mul, Div, Rem, And, Shr, Load1, Load2, Load4, Emit, IfLess, IfEqual, Else, End}
+use Rattle.udf_code.specs.declared.word.Word.TheVariants.{For, Keep}
 use Rattle.udf_code.specs.declared.fault.CodeFault.{CodeFault}
 use Rattle.udf_code.specs.declared.fault.CodeFault.TheVariants.{OddLength, BadOp, BadOperand, TooLong}
 use Rattle.udf_code.specs.Codes.{op_of_code}
@@ -68,7 +70,8 @@ word_at at code x y z = ok_or (op_of_code code) (BadOp at) >>= λ o. ok_or (word
 abbrev pub decoded_from : ℕ → List ℕ → Place → Result (List Word) CodeFault
 decoded_from at [] p = result_map_both (λ _. []) (λ fault. fault) (all_closed at p.blocks)
 decoded_from at (code ∷ x ∷ y ∷ z ∷ bytes) p =
-    word_at at code x y z >>= λ word. after_word at word p >>= λ next. result_map_both (λ words. word ∷ words) (λ fault. fault) (decoded_from (at + 1) bytes next)
+    word_at at code x y z >>= λ word. after_word at word p >>= λ next. result_map_both (λ words. word ∷
+    words) (λ fault. fault) (decoded_from (at + 1) bytes next)
 decoded_from at bytes p = Err (OddLength (4 * at))
 
 -- the words that bytes are, or the first fault: of the length, then word by word, last of what is still open

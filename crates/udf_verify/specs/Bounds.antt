@@ -1,5 +1,6 @@
 -- The intervals of the registers after each part of a program, or the first fault.
-use Rattle.std.specs.Prelude.{ℕ, ◌+◌, ◌-◌, ◌*◌, ◌/◌, ◌^◌, min, Bool, nat_le, ◌==◌, ◌||◌, ◌&&◌, true, false, not, if◌then◌else◌, List, [], ◌∷◌, length, Result, Ok, Err, Option, Some, None, slice_set, slice_index_or, replicate}
+use Rattle.std.specs.Prelude.{ℕ, ◌+◌, ◌-◌, ◌*◌, ◌/◌, ◌^◌, min, Bool, nat_le, ◌==◌, ◌||◌, ◌&&◌, true, false, not, if◌then◌else◌, List, [], ◌∷◌, length, Result}
+use Rattle.std.specs.Prelude.{Ok, Err, Option, Some, None, slice_set, slice_index_or, replicate}
 use Rattle.udf_code.specs.declared.word.Word.{Word}
 use Rattle.udf_code.specs.declared.word.Word.TheVariants.{Set, Mov, Add, Sub, Mul, Div, Rem, And, Shr, Load1, Load2, Load4, Emit}
 use Rattle.udf_code.specs.Words.{destination}
@@ -34,10 +35,14 @@ emits_allowed role.Size = false
 abbrev pub plain_row : Role → Word → List Interval → Result (List Interval) FaultKind
 plain_row role (Set a n) ivs = Ok (slice_set ivs a (between n n))
 plain_row role (Mov a b) ivs = Ok (slice_set ivs a (interval_of ivs b))
-plain_row role (Add a b c) ivs = demand (nat_le (high_of ivs b + high_of ivs c) largest) kind.Sum (slice_set ivs a (between (low_of ivs b + low_of ivs c) (high_of ivs b + high_of ivs c)))
-plain_row role (Sub a b c) ivs = demand (nat_le (high_of ivs c) (low_of ivs b)) kind.Difference (slice_set ivs a (between (low_of ivs b - high_of ivs c) (high_of ivs b - low_of ivs c)))
-plain_row role (Mul a b c) ivs = demand (nat_le (high_of ivs b * high_of ivs c) largest) kind.Product (slice_set ivs a (between (low_of ivs b * low_of ivs c) (high_of ivs b * high_of ivs c)))
-plain_row role (Div a b c) ivs = demand (nat_le 1 (low_of ivs c)) kind.Divisor (slice_set ivs a (between (low_of ivs b / high_of ivs c) (high_of ivs b / low_of ivs c)))
+plain_row role (Add a b c) ivs = demand (nat_le (high_of ivs b + high_of ivs c) largest) kind.Sum
+    (slice_set ivs a (between (low_of ivs b + low_of ivs c) (high_of ivs b + high_of ivs c)))
+plain_row role (Sub a b c) ivs = demand (nat_le (high_of ivs c) (low_of ivs b)) kind.Difference
+    (slice_set ivs a (between (low_of ivs b - high_of ivs c) (high_of ivs b - low_of ivs c)))
+plain_row role (Mul a b c) ivs = demand (nat_le (high_of ivs b * high_of ivs c) largest) kind.Product
+    (slice_set ivs a (between (low_of ivs b * low_of ivs c) (high_of ivs b * high_of ivs c)))
+plain_row role (Div a b c) ivs = demand (nat_le 1 (low_of ivs c)) kind.Divisor
+    (slice_set ivs a (between (low_of ivs b / high_of ivs c) (high_of ivs b / low_of ivs c)))
 plain_row role (Rem a b c) ivs = demand (nat_le 1 (low_of ivs c)) kind.Divisor (slice_set ivs a (between 0 (min (high_of ivs b) (high_of ivs c - 1))))
 plain_row role (And a b c) ivs = Ok (slice_set ivs a (between 0 (min (high_of ivs b) (high_of ivs c))))
 plain_row role (Shr a b k) ivs = Ok (slice_set ivs a (between (low_of ivs b / 2 ^ k) (high_of ivs b / 2 ^ k)))

@@ -3,7 +3,8 @@ use Rattle.std.specs.Prelude.{ℕ, List, ◌++◌, codes}
 use Rattle.std.specs.Fmt.{decimal}
 use Rattle.udf_verify.specs.declared.fault.VerifyFault.{VerifyFault}
 use Rattle.udf_verify.specs.declared.fault.FaultKind.{FaultKind}
-use Rattle.udf_verify.specs.declared.fault.FaultKind.TheVariants.{NoMemory, Load, Sum, Difference, Product, Divisor, Counter, SameRegister, DeadBranch, Keep, Emits, Cost, SizeAnswer}
+use Rattle.udf_verify.specs.declared.fault.FaultKind.TheVariants.{NoMemory, Load, Sum, Difference, Product, Divisor, Counter, SameRegister, DeadBranch, Keep}
+use Rattle.udf_verify.specs.declared.fault.FaultKind.TheVariants.{Emits, Cost, SizeAnswer}
 
 abbrev pub name_of : FaultKind → List ℕ
 name_of NoMemory = codes "NoMemory"

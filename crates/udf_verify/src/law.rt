@@ -11,7 +11,8 @@ ghost use Rattle.udf_verify.specs.Verdict.{IsAccepted, emits};
 
 /// The programs without a fault of structure whose verdict is good are the words that spell an accepted tree.
 pub fn accepted_are_trees()
-    ensures { (role : Role) (words : List Word) → (IsOk (structure_of words) × IsAccepted role (tree_of words)) ↔ ((tree : Tree) × Spells tree words × IsAccepted role tree) }
+    ensures { (role : Role) (words : List Word) → (IsOk (structure_of words) × IsAccepted role (tree_of words)) ↔
+        ((tree : Tree) × Spells tree words × IsAccepted role tree) }
 {}
 
 /// A size program emits nothing.

@@ -7,12 +7,14 @@ ghost use Rattle.xn_model.specs.Images.{IsSound, block_of};
 ghost use Rattle.xn_model.specs.Lives.{Lives};
 ghost use Rattle.xn_model.specs.Calls.{floor_of};
 ghost use Rattle.xn_model.specs.Mounts.{IsRecovered};
-ghost use Rattle.xn_model.specs.Worlds.{World, types_now, types_there, Event, Client, Init, Read, Floor, Drain, Finish, Crash, Reply, Started, Bytes, FloorIs, Drained, Finished, IsEvent, Step, Run, MayLeave, mounted, left, is_crash};
+ghost use Rattle.xn_model.specs.Worlds.{World, types_now, types_there, Event, Client, Init, Read, Floor, Drain, Finish, Crash, Reply, Started, Bytes, FloorIs};
+ghost use Rattle.xn_model.specs.Worlds.{Drained, Finished, IsEvent, Step, Run, MayLeave, mounted, left, is_crash};
 ghost use Rattle.xn_model.specs.Rules.{Holds, IsInFileSystem};
 ghost use Rattle.xn_model.specs.Rows.{first_row, dropped_row, landed_row, lost_row, installed_row};
 ghost use Rattle.xn_history.specs.Histories.{History, Histories, newest_bytes, histories_after};
 ghost use Rattle.xn_history.specs.Moments.{RunWhere, Anything, IsMoment, AreHistoriesOf};
-ghost use Rattle.xn_history.specs.Promises.{IsReached, EveryImageHas, HoldsAccepted, ImageHolds, StaysTold, LivesOn, IsForgotten, IsDropped, IsLost, IsChain, Spares, LeavesAlone, IsNoEditBy, IsTold, GoesOn, AreToldBelow};
+ghost use Rattle.xn_history.specs.Promises.{IsReached, EveryImageHas, HoldsAccepted, ImageHolds, StaysTold, LivesOn, IsForgotten, IsDropped, IsLost, IsChain};
+ghost use Rattle.xn_history.specs.Promises.{Spares, LeavesAlone, IsNoEditBy, IsTold, GoesOn, AreToldBelow};
 ghost use Rattle.xn_history.specs.Rows.{left_by};
 
 /// Every run from a mount of a sound image has its histories, and so has every run from there on, and
@@ -23,7 +25,8 @@ pub fn runs_have_histories()
         Run (mounted disk lives) es rs w → (hs : Histories) × IsMoment w hs }
     ensures run { (w after : World) (hs : Histories) (es : List Event) (rs : List Reply) → IsMoment w hs → AllByRecursion IsEvent es → Run w es rs after →
         (hs' : Histories) × RunWhere Anything w hs es rs after hs' × IsMoment after hs' }
-    ensures step { (w after : World) (hs : Histories) (e : Event) (r : Reply) → IsMoment w hs → IsEvent e → Step w e r after → IsMoment after (histories_after hs e r after.state.lives) }
+    ensures step { (w after : World) (hs : Histories) (e : Event) (r : Reply) → IsMoment w hs → IsEvent e → Step w e r after →
+        IsMoment after (histories_after hs e r after.state.lives) }
 {}
 
 /// At every moment the rules hold, and the histories are those of the lives: what isn't told durable
@@ -35,7 +38,8 @@ pub fn histories_fit()
 
 /// A life begins on a block that has no history.
 pub fn lives_begin_anew()
-    ensures { (w after : World) (hs : Histories) (fs ty b entry : ℕ) (bytes : List ℕ) → IsMoment w hs → Step w (Client fs (Init ty bytes)) (Started b entry) after → hs b ≡ None }
+    ensures { (w after : World) (hs : Histories) (fs ty b entry : ℕ) (bytes : List ℕ) → IsMoment w hs →
+        Step w (Client fs (Init ty bytes)) (Started b entry) after → hs b ≡ None }
 {}
 
 /// At every moment, also after crashes, each block that the roots reach in an image that a crash may
@@ -50,7 +54,8 @@ pub fn images_hold_what_was_told()
 /// system forgets it, when a state that drops it is told durable, or at a crash that leaves an image
 /// which doesn't reach it.
 pub fn told_stays_told()
-    ensures step { (w after : World) (hs : Histories) (e : Event) (r : Reply) (c : ℕ) (h : History) → IsMoment w hs → IsEvent e → Step w e r after → hs c ≡ Some h →
+    ensures step { (w after : World) (hs : Histories) (e : Event) (r : Reply) (c : ℕ) (h : History) → IsMoment w hs → IsEvent e → Step w e r after →
+        hs c ≡ Some h →
         StaysTold h (histories_after hs e r after.state.lives c)
         ⊎ ((histories_after hs e r after.state.lives c ≡ None) × (IsForgotten c e r ⊎ (IsDropped hs c e r ⊎ IsLost w c e))) }
     ensures run { (w after : World) (hs hs' : Histories) (es : List Event) (rs : List Reply) (c : ℕ) (h : History) → IsMoment w hs → AllByRecursion IsEvent es →
@@ -60,10 +65,12 @@ pub fn told_stays_told()
 /// A crash ends no life of a block that is reached in the image that it leaves, and no other life goes
 /// on. What that image holds is told durable, and what was accepted after it is lost.
 pub fn crashes_keep_what_is_reached()
-    ensures goes_on { (w after : World) (hs : Histories) (kept : List ℕ) (r : Reply) (c u : ℕ) → IsMoment w hs → Step w (Crash kept) r after → IsReached w (left w kept) c u →
+    ensures goes_on { (w after : World) (hs : Histories) (kept : List ℕ) (r : Reply) (c u : ℕ) → IsMoment w hs → Step w (Crash kept) r after →
+        IsReached w (left w kept) c u →
         (h : History) × (hs c ≡ Some h) × StaysTold h (histories_after hs (Crash kept) r after.state.lives c) }
     ensures found { (w after : World) (hs : Histories) (kept : List ℕ) (r : Reply) (c : ℕ) (h : History) → IsMoment w hs → Step w (Crash kept) r after →
-        histories_after hs (Crash kept) r after.state.lives c ≡ Some h → IsTold (histories_after hs (Crash kept) r after.state.lives) c h.ty (block_of (left w kept) c) }
+        histories_after hs (Crash kept) r after.state.lives c ≡ Some h →
+        IsTold (histories_after hs (Crash kept) r after.state.lives) c h.ty (block_of (left w kept) c) }
     ensures reached { (w after : World) (hs : Histories) (kept : List ℕ) (r : Reply) (c : ℕ) (h : History) → IsMoment w hs → Step w (Crash kept) r after →
         histories_after hs (Crash kept) r after.state.lives c ≡ Some h → IsReached w (left w kept) c h.ty }
 {}
@@ -71,7 +78,8 @@ pub fn crashes_keep_what_is_reached()
 /// Until the next crash, a state that isn't told durable has no number below a floor that was
 /// answered, and floors never fall.
 pub fn floors_tell()
-    ensures told { (w after : World) (hs hs' : Histories) (fs n : ℕ) (es : List Event) (rs : List Reply) → IsMoment w hs → AllByRecursion IsEvent (Client fs Floor ∷ es) →
+    ensures told { (w after : World) (hs hs' : Histories) (fs n : ℕ) (es : List Event) (rs : List Reply) → IsMoment w hs →
+        AllByRecursion IsEvent (Client fs Floor ∷ es) →
         RunWhere GoesOn w hs (Client fs Floor ∷ es) (FloorIs n ∷ rs) after hs' → AreToldBelow fs n hs' }
     ensures rises { (w after : World) (hs : Histories) (e : Event) (r : Reply) (fs : ℕ) → IsMoment w hs → IsEvent e → is_crash e ≡ false → Step w e r after →
         floor_of w.state fs ≤ floor_of after.state fs }
@@ -83,10 +91,12 @@ pub fn floors_tell()
 pub fn attached_lives_go_on()
     ensures reached { (w : World) (hs : Histories) (image : List (List ℕ)) (c : ℕ) (blocks : List ℕ) (h : History) → IsMoment w hs → MayLeave w image →
         IsChain (types_now w) hs (c ∷ blocks) → hs c ≡ Some h → IsReached w image c h.ty }
-    ensures goes_on { (w after : World) (hs hs' : Histories) (es : List Event) (rs : List Reply) (c : ℕ) (blocks : List ℕ) (h : History) → IsMoment w hs → AllByRecursion IsEvent es →
+    ensures goes_on { (w after : World) (hs hs' : Histories) (es : List Event) (rs : List Reply) (c : ℕ) (blocks : List ℕ) (h : History) → IsMoment w hs →
+        AllByRecursion IsEvent es →
         IsChain (types_now w) hs (c ∷ blocks) → hs c ≡ Some h → RunWhere (Spares (c ∷ blocks)) w hs es rs after hs' →
         StaysTold h (hs' c) × IsChain (types_now after) hs' (c ∷ blocks) }
-    ensures held { (w after : World) (hs hs' : Histories) (es : List Event) (rs : List Reply) (c : ℕ) (blocks : List ℕ) (h : History) → IsMoment w hs → AllByRecursion IsEvent es →
+    ensures held { (w after : World) (hs hs' : Histories) (es : List Event) (rs : List Reply) (c : ℕ) (blocks : List ℕ) (h : History) → IsMoment w hs →
+        AllByRecursion IsEvent es →
         IsChain (types_now w) hs (c ∷ blocks) → hs c ≡ Some h → RunWhere (Spares (c ∷ blocks)) w hs es rs after hs' →
         (image : List (List ℕ)) → MayLeave after image → IsReached after image c h.ty × HoldsAccepted (block_of image) hs' c h.ty }
 {}
@@ -95,8 +105,10 @@ pub fn attached_lives_go_on()
 /// every image that a crash may leave later holds exactly the bytes that it had accepted last, whatever writes fail and
 /// whenever it crashes, while no call edits the block or drops it or one of its owners.
 pub fn finished_edits_survive()
-    ensures { (w mid after : World) (hs hs' : Histories) (es : List Event) (rs : List Reply) (b durable freed : ℕ) (h : History) (owners : List ℕ) → IsMoment w hs →
-        hs b ≡ Some h → IsChain (types_now w) hs (b ∷ owners) → Step w (Finish b) (Finished durable freed) mid → length h.untold ≤ durable → AllByRecursion IsEvent es →
+    ensures { (w mid after : World) (hs hs' : Histories) (es : List Event) (rs : List Reply) (b durable freed : ℕ) (h : History) (owners : List ℕ) →
+        IsMoment w hs →
+        hs b ≡ Some h → IsChain (types_now w) hs (b ∷ owners) → Step w (Finish b) (Finished durable freed) mid → length h.untold ≤ durable →
+        AllByRecursion IsEvent es →
         RunWhere (LeavesAlone b (b ∷ owners)) mid (histories_after hs (Finish b) (Finished durable freed) mid.state.lives) es rs after hs' →
         EveryImageHas after b h.ty (newest_bytes h) }
 {}
@@ -105,7 +117,8 @@ pub fn finished_edits_survive()
 /// leave later holds exactly its bytes, whatever writes fail and whenever it crashes, while no call edits the block or
 /// drops it or one of its owners.
 pub fn told_edits_survive()
-    ensures { (w after : World) (hs hs' : Histories) (es : List Event) (rs : List Reply) (b u : ℕ) (owners bytes : List ℕ) → IsMoment w hs → AllByRecursion IsEvent es →
+    ensures { (w after : World) (hs hs' : Histories) (es : List Event) (rs : List Reply) (b u : ℕ) (owners bytes : List ℕ) → IsMoment w hs →
+        AllByRecursion IsEvent es →
         IsChain (types_now w) hs (b ∷ owners) → IsTold hs b u bytes → RunWhere (LeavesAlone b (b ∷ owners)) w hs es rs after hs' →
         EveryImageHas after b u bytes }
 {}
@@ -114,7 +127,8 @@ pub fn told_edits_survive()
 /// nothing, whatever the others do.
 pub fn others_leave_alone()
     ensures { (w after : World) (hs : Histories) (es : List Event) (rs : List Reply) (fs b u : ℕ) (owners bytes : List ℕ) (h : History) → IsMoment w hs →
-        AllByRecursion IsEvent es → AllByRecursion (IsNoEditBy fs) es → IsChain (types_now w) hs (b ∷ owners) → IsTold hs b u bytes → hs b ≡ Some h → h.fs ≡ Some fs → Run w es rs after →
+        AllByRecursion IsEvent es → AllByRecursion (IsNoEditBy fs) es → IsChain (types_now w) hs (b ∷ owners) → IsTold hs b u bytes → hs b ≡ Some h →
+        h.fs ≡ Some fs → Run w es rs after →
         EveryImageHas after b u bytes }
 {}
 

@@ -36,4 +36,11 @@ bare_disk count = bare_root count ∷ replicate (count - 1) (zeros 512)
 
 -- a disk, mounted in a language
 abbrev pub mounted_disk : Language → List (List ℕ) → World
-mounted_disk L image = record { language = L; image = image; settled = image; given = none_given image; state = mounted_state (recovered (types_in L (block_of image)) image); down = false }
+mounted_disk L image = record {
+  language = L;
+  image = image;
+  settled = image;
+  given = none_given image;
+  state = mounted_state (recovered (types_in L (block_of image)) image);
+  down = false;
+}

@@ -3,14 +3,18 @@
 --     install_of    a template's
 --     read_of, kind_of, root_of, tainted_of, pending_of, floor_of, free_of, pick_of    answers that change nothing
 --     begun_of, settled_of    a write begins; its bytes are read back
-use Rattle.std.specs.Prelude.{ℕ, ◌+◌, ◌-◌, ◌^◌, Bool, true, false, not, ◌&&◌, ◌||◌, List, [], ◌∷◌, length, take, Option, Some, None, is_some, is_none, unwrap_or, find, Result, Ok, Err, slice_get, slice_set, ◌==◌, nat_le, nat_lt, count_by, sum_by, bytes_eq, position, if◌then◌else◌}
+use Rattle.std.specs.Prelude.{ℕ, ◌+◌, ◌-◌, ◌^◌, Bool, true, false, not, ◌&&◌, ◌||◌, List, [], ◌∷◌, length, take, Option, Some, None, is_some, is_none}
+use Rattle.std.specs.Prelude.{unwrap_or, find, Result, Ok, Err, slice_get, slice_set, ◌==◌, nat_le, nat_lt, count_by, sum_by, bytes_eq, position, if◌then◌else◌}
 use Rattle.std.specs.List.{list_all, last_or, range_with_len}
 use Rattle.xn_model.specs.Lists.{blocks_of, distinct, has_number, put}
 use Rattle.xn_model.specs.Types.{Types, claims, named_once, within_size}
 use Rattle.xn_model.specs.Root.{pointer, with_pointer, slot, with_slot}
 use Rattle.xn_model.specs.Languages.{Language, types_in}
-use Rattle.xn_model.specs.Lives.{BlockState, Fresh, Life, Lives, StoreState, life_at, bytes_of, current, is_fresh, is_dropped, is_owned_by, alive_and, chain_end, no_states, prefix_of, accepted_at, begun_at, settled_at, freed, drops_of, lowest_free, is_for, floor}
-use Rattle.xn_model.specs.Results.{Refusal, NoSuchBlock, NotInUse, NotYours, BadPatch, BadAfter, NotFresh, NotOwned, NotEmpty, ClaimWrong, SizeWrong, TooManyPending, NoSpace, BadType, InFlight, NotMine, RootTaken, NothingSafe, Exhausted, Cycle, NoSlot, BadTemplate, first_refusal, unless, result_map, result_and_then}
+use Rattle.xn_model.specs.Lives.{BlockState, Fresh, Life, Lives, StoreState, life_at, bytes_of, current, is_fresh, is_dropped, is_owned_by, alive_and}
+use Rattle.xn_model.specs.Lives.{chain_end, no_states, prefix_of, accepted_at, begun_at, settled_at, freed, drops_of, lowest_free, is_for, floor}
+use Rattle.xn_model.specs.Results.{Refusal, NoSuchBlock, NotInUse, NotYours, BadPatch, BadAfter, NotFresh, NotOwned, NotEmpty, ClaimWrong, SizeWrong}
+use Rattle.xn_model.specs.Results.{TooManyPending, NoSpace, BadType, InFlight, NotMine, RootTaken, NothingSafe, Exhausted, Cycle, NoSlot, BadTemplate}
+use Rattle.xn_model.specs.Results.{first_refusal, unless, result_map, result_and_then}
 
 -- A file system's own block
 
@@ -171,7 +175,14 @@ slot_now state fs = slot (root_now state) fs
 
 -- block 0 with slot fs changed
 abbrev pub root_state : StoreState → ℕ → ℕ × ℕ → List (ℕ × ℕ) → List ℕ → BlockState
-root_state state fs p adds drops = record { bytes = with_slot (root_now state) fs p; entry = state.next; adds = adds; drops = drops; after = None; fs = Some fs }
+root_state state fs p adds drops = record {
+  bytes = with_slot (root_now state) fs p;
+  entry = state.next;
+  adds = adds;
+  drops = drops;
+  after = None;
+  fs = Some fs;
+}
 
 abbrev pub make_root_refusal : StoreState → ℕ → Life → Option Refusal
 make_root_refusal state fs l = first_refusal (
@@ -226,7 +237,8 @@ install_at state bytes i b = let begun = started state None 1 bytes b in (accept
 -- the type, the block, and the first entry
 abbrev pub install_of : Language → StoreState → List ℕ → Result ((ℕ × ℕ × ℕ) × StoreState) Refusal
 install_of L state bytes = unless (install_refusal L state bytes)
-    (let i = unwrap_or (empty_place (root_now state)) 0 in let b = unwrap_or (lowest_free state.lives) 0 in Ok ((3 + i, b, state.next), install_at state bytes i b))
+    (let i = unwrap_or (empty_place (root_now state)) 0 in let b = unwrap_or (lowest_free state.lives) 0 in
+    Ok ((3 + i, b, state.next), install_at state bytes i b))
 
 -- forget
 

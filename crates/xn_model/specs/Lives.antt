@@ -4,7 +4,8 @@
 --     newest l, current l  the last state; its bytes
 --     safe, prefix         which pending states may go to the disk
 --     chain_end            where the owners of a block's owners end
-use Rattle.std.specs.Prelude.{ℕ, zero, suc, Bool, true, false, cond, not, ◌&&◌, ◌||◌, List, [], ◌∷◌, ◌++◌, length, take, drop, fold, Option, Some, None, is_some, is_none, unwrap_or, slice_get, slice_set, ◌==◌, option_to_list, option_map, min, flat_map, position}
+use Rattle.std.specs.Prelude.{ℕ, zero, suc, Bool, true, false, cond, not, ◌&&◌, ◌||◌, List, [], ◌∷◌, ◌++◌, length, take, drop, fold, Option, Some, None}
+use Rattle.std.specs.Prelude.{is_some, is_none, unwrap_or, slice_get, slice_set, ◌==◌, option_to_list, option_map, min, flat_map, position}
 use Rattle.std.specs.List.{list_any, list_all, last_or}
 use Rattle.xn_model.specs.Lists.{blocks_of, types_of_pairs}
 use Rattle.xn_model.specs.Root.{has_type}

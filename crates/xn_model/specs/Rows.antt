@@ -1,12 +1,16 @@
 -- Rows of commands on small disks, with their replies.
-use Rattle.std.specs.Prelude.{ℕ, zero, suc, map, length, filter_map, flat_map, ◌==◌, ◌*◌, ◌+◌, ◌-◌, true, false, cond, List, [], ◌∷◌, ◌++◌, replicate, Option, Some, None, bytes_eq}
+use Rattle.std.specs.Prelude.{ℕ, zero, suc, map, length, filter_map, flat_map, ◌==◌, ◌*◌, ◌+◌, ◌-◌, true, false, cond, List, [], ◌∷◌, ◌++◌, replicate, Option}
+use Rattle.std.specs.Prelude.{Some, None, bytes_eq}
 use Rattle.std.specs.Int.{w32, to_le_bytes}
 use Rattle.xn_model.specs.Root.{word_at, unless_empty}
 use Rattle.xn_model.specs.Languages.{Language, Template}
-use Rattle.xn_model.specs.Results.{NotSynced, NothingSafe, NotYours, NotInUse, NoSuchBlock, RootTaken, ClaimWrong, NotOwned, BadAfter, TooManyPending, NotFresh, NotEmpty, Cycle, NoSlot, BadType, BadTemplate}
+use Rattle.xn_model.specs.Results.{NotSynced, NothingSafe, NotYours, NotInUse, NoSuchBlock, RootTaken, ClaimWrong, NotOwned, BadAfter, TooManyPending, NotFresh}
+use Rattle.xn_model.specs.Results.{NotEmpty, Cycle, NoSlot, BadType, BadTemplate}
 use Rattle.xn_model.specs.Calls.{Edit}
 use Rattle.xn_model.specs.BareDisks.{zeros}
-use Rattle.xn_model.specs.Worlds.{Event, Client, Install, Begin, Land, Fail, Sync, FailSync, Finish, Crash, Init, Propose, MakeRoot, DropRoot, Forget, Read, Floor, Pending, Drain, Reply, Started, Installed, Edited, Bytes, Begun, Landed, Synced, Finished, FloorIs, Refused, Mounted, Drained, Fault, Forgotten, PendingIs, NoTicket}
+use Rattle.xn_model.specs.Worlds.{Event, Client, Install, Begin, Land, Fail, Sync, FailSync, Finish, Crash, Init, Propose, MakeRoot, DropRoot, Forget, Read}
+use Rattle.xn_model.specs.Worlds.{Floor, Pending, Drain, Reply, Started, Installed, Edited, Bytes, Begun, Landed, Synced, Finished, FloorIs, Refused, Mounted}
+use Rattle.xn_model.specs.Worlds.{Drained, Fault, Forgotten, PendingIs, NoTicket}
 use Rattle.std.specs.List.{range_with_len}
 
 -- bytes with zeros up to a block's end
@@ -296,7 +300,8 @@ attached_row =
 
 -- the one of a pointer to a block of type t, as its programs are spelled
 abbrev pub chain_bytes : ℕ → List ℕ
-chain_bytes t = block ((88 ∷ 84 ∷ 5 ∷ 1 ∷ []) ++ ((12 ∷ 1 ∷ 0 ∷ 0 ∷ []) ++ ((14 ∷ 0 ∷ 1 ∷ 0 ∷ []) ++ ((1 ∷ 2 ∷ t ∷ 0 ∷ []) ++ ((13 ∷ 1 ∷ 2 ∷ 0 ∷ []) ++ ((17 ∷ 0 ∷ 0 ∷ 0 ∷ []) ++ (1 ∷ 0 ∷ 4 ∷ 0 ∷ [])))))))
+chain_bytes t = block ((88 ∷ 84 ∷ 5 ∷ 1 ∷ []) ++ ((12 ∷ 1 ∷ 0 ∷ 0 ∷ []) ++
+    ((14 ∷ 0 ∷ 1 ∷ 0 ∷ []) ++ ((1 ∷ 2 ∷ t ∷ 0 ∷ []) ++ ((13 ∷ 1 ∷ 2 ∷ 0 ∷ []) ++ ((17 ∷ 0 ∷ 0 ∷ 0 ∷ []) ++ (1 ∷ 0 ∷ 4 ∷ 0 ∷ [])))))))
 
 abbrev pub chain_to : ℕ → Template
 chain_to t = record { owned = λ x. words_from 0 1 x t; size = λ x. 4 }

@@ -9,7 +9,8 @@ use Rattle.xn_model.specs.Types.{Types, fits}
 use Rattle.xn_model.specs.Root.{HasBuiltIns, has_type, KeepsPointers, marked, slot, templates_of, owned_by_root}
 use Rattle.xn_model.specs.Languages.{Language, Extends}
 use Rattle.xn_model.specs.Images.{block_of, Reach, HasOneOwner, IsDiskSize}
-use Rattle.xn_model.specs.Lives.{BlockState, Status, Fresh, Owned, Dropped, Life, Lives, StoreState, life_at, states, carried, newest, is_dropped, chain_end, root_on_disk}
+use Rattle.xn_model.specs.Lives.{BlockState, Status, Fresh, Owned, Dropped, Life, Lives, StoreState, life_at, states, carried, newest, is_dropped, chain_end}
+use Rattle.xn_model.specs.Lives.{root_on_disk}
 use Rattle.xn_model.specs.Calls.{types_of}
 use Rattle.xn_model.specs.Flights.{flight_of}
 use Rattle.xn_model.specs.Worlds.{World, MayLeave, given_at, types_now}
@@ -109,7 +110,8 @@ pub record IsOlder (lives : Lives) (c n : ℕ) : Type 0 where
 pub record IsOlderType (lives : Lives) (u n : ℕ) : Type 0 where
   pub life : Life
   pub alive : life_at lives 0 ≡ Some life
-  pub older : ((s : BlockState) × (life.durable ≡ Some s) × IsTrue (has_type s.bytes u)) ⊎ ((t : BlockState) × Contains life.pending t × (t.entry < n) × IsTrue (has_type t.bytes u))
+  pub older : ((s : BlockState) × (life.durable ≡ Some s) × IsTrue (has_type s.bytes u)) ⊎
+      ((t : BlockState) × Contains life.pending t × (t.entry < n) × IsTrue (has_type t.bytes u))
 
 -- What the states of a life name
 
@@ -161,7 +163,8 @@ pub record IsSoundLife (T : Types) (lives : Lives) (b : ℕ) (l : Life) : Type 0
   -- what the durable state or a begun one names has a state on the disk
   pub ready : (s : BlockState) (c u : ℕ) → Contains (option_to_list l.durable ++ carried l) s → Contains (T.owned l.ty s.bytes) (c, u) → IsOnDisk lives c
   -- and its type stands in block 0 on the disk, unless this is block 0
-  pub typed : (s : BlockState) (c u : ℕ) → b ≢ 0 → Contains (option_to_list l.durable ++ carried l) s → Contains (T.owned l.ty s.bytes) (c, u) → IsTrue (has_type (root_on_disk lives) u)
+  pub typed : (s : BlockState) (c u : ℕ) → b ≢ 0 → Contains (option_to_list l.durable ++ carried l) s → Contains (T.owned l.ty s.bytes) (c, u) →
+      IsTrue (has_type (root_on_disk lives) u)
   -- entry numbers rise
   pub rising : Rises (states l)
 
@@ -195,7 +198,8 @@ NamedIn T t (Some s) p = Contains (T.owned t s.bytes) p
 -- Each state names no more than the one before it and what it adds.
 abbrev pub Grows : Types → ℕ → Option BlockState → List BlockState → Type 0
 Grows T t before [] = ⊤
-Grows T t before (s ∷ states) = ((c u : ℕ) → Contains (T.owned t s.bytes) (c, u) → NamedIn T t before (c, u) ⊎ Contains s.adds (c, u)) × Grows T t (Some s) states
+Grows T t before (s ∷ states) = ((c u : ℕ) → Contains (T.owned t s.bytes) (c, u) → NamedIn T t before (c, u) ⊎ Contains s.adds (c, u)) ×
+    Grows T t (Some s) states
 
 -- A begun write carries at least one pending state, and no more than there are.
 abbrev pub IsCount : Option ℕ → ℕ → Type 0
@@ -245,7 +249,8 @@ pub record WaitsForOlder (T : Types) (lives : Lives) : Type 0 where
   pub adds : (b : ℕ) (l : Life) (s : BlockState) (c u : ℕ) → life_at lives b ≡ Some l → Contains l.pending s → Contains s.adds (c, u) →
       Contains (T.owned l.ty s.bytes) (c, u) × IsOlder lives c s.entry
   -- and its type stands in block 0 on the disk or in an older pending state
-  pub types : (b : ℕ) (l : Life) (s : BlockState) (c u : ℕ) → life_at lives b ≡ Some l → Contains l.pending s → Contains s.adds (c, u) → IsOlderType lives u s.entry
+  pub types : (b : ℕ) (l : Life) (s : BlockState) (c u : ℕ) → life_at lives b ≡ Some l → Contains l.pending s → Contains s.adds (c, u) →
+      IsOlderType lives u s.entry
   -- what a state drops has older pending states only
   pub drops : (b : ℕ) (l : Life) (s : BlockState) (c : ℕ) (m : Life) (t : BlockState) → life_at lives b ≡ Some l → Contains l.pending s → Contains s.drops c →
       life_at lives c ≡ Some m → Contains m.pending t → t.entry < s.entry
@@ -257,10 +262,12 @@ pub record WaitsForOlder (T : Types) (lives : Lives) : Type 0 where
 -- What entry numbers say of pending states.
 pub record AreOrdered (lives : Lives) : Type 0 where
   -- an entry number is pending at most once: at one block, as one state
-  pub pending_once : (b c : ℕ) (l m : Life) (s t : BlockState) → life_at lives b ≡ Some l → life_at lives c ≡ Some m → Contains l.pending s → Contains m.pending t →
+  pub pending_once : (b c : ℕ) (l m : Life) (s t : BlockState) → life_at lives b ≡ Some l → life_at lives c ≡ Some m → Contains l.pending s →
+      Contains m.pending t →
       s.entry ≡ t.entry → (b ≡ c) × (s ≡ t)
   -- what a begun state comes after is pending nowhere, or begun in the same block
-  pub begun_together : (b : ℕ) (l : Life) (s : BlockState) (n c : ℕ) (m : Life) (t : BlockState) → life_at lives b ≡ Some l → Contains (carried l) s → s.after ≡ Some n →
+  pub begun_together : (b : ℕ) (l : Life) (s : BlockState) (n c : ℕ) (m : Life) (t : BlockState) → life_at lives b ≡ Some l → Contains (carried l) s →
+      s.after ≡ Some n →
       life_at lives c ≡ Some m → Contains m.pending t → t.entry ≡ n → (c ≡ b) × Contains (carried l) t
 
 -- What a status says

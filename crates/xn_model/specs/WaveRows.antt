@@ -1,7 +1,8 @@
 -- A disk with several blocks pending, and the waves that write them.
 use Rattle.std.specs.Prelude.{false, ℕ, ◌==◌, cond, List, [], ◌∷◌, ◌++◌, None}
 use Rattle.xn_model.specs.BareDisks.{no_templates, bare_disk, mounted_disk}
-use Rattle.xn_model.specs.Worlds.{World, Event, Reply, Client, Install, MakeRoot, Drain, Begin, Sync, Finish, Started, Edited, Installed, Drained, Begun, Landed, Synced, Fault, Finished, world_after}
+use Rattle.xn_model.specs.Worlds.{World, Event, Reply, Client, Install, MakeRoot, Drain, Begin, Sync, Finish, Started, Edited, Installed, Drained, Begun}
+use Rattle.xn_model.specs.Worlds.{Landed, Synced, Fault, Finished, world_after}
 use Rattle.xn_model.specs.Waves.{Outcome, Done, EndsAnyway, SyncFails, wave_with}
 use Rattle.xn_model.specs.Rows.{Row, sent, start, edit, patch, chains, chain_disk, chain_bytes}
 

@@ -6,14 +6,16 @@
 --     waves limit w          the waves of a flush, each by its blocks, at most so many a wave
 --     flush limit w          its events
 --     wave_with outcome blocks, IsAfterWave w outcome blocks after    a wave in which writes and syncs may fail, and the world after it
-use Rattle.std.specs.Prelude.{⊤, ◌≡◌, ◌≢◌, ◌<◌, ◌≤◌, ℕ, zero, suc, Bool, ◌==◌, true, false, cond, List, [], ◌∷◌, ◌++◌, map, length, take, filter, flat_map, Option, Some, None, bytes_eq, Contains, IsTrue, option_map}
+use Rattle.std.specs.Prelude.{⊤, ◌≡◌, ◌≢◌, ◌<◌, ◌≤◌, ℕ, zero, suc, Bool, ◌==◌, true, false, cond, List, [], ◌∷◌, ◌++◌, map, length, take, filter, flat_map}
+use Rattle.std.specs.Prelude.{Option, Some, None, bytes_eq, Contains, IsTrue, option_map}
 use Rattle.std.specs.List.{range_with_len, AllZip, list_any}
 use Rattle.xn_model.specs.Lists.{has_number, distinct}
 use Rattle.xn_model.specs.Root.{has_type}
 use Rattle.xn_model.specs.Images.{block_of}
 use Rattle.xn_model.specs.Lives.{BlockState, Life, Lives, life_at, root_on_disk, prefix, drops_of, settle}
 use Rattle.xn_model.specs.Calls.{first_pending, is_ready}
-use Rattle.xn_model.specs.Worlds.{World, Event, Client, Install, Crash, Begin, Land, Fail, Sync, FailSync, Finish, Reply, Begun, Landed, Synced, Fault, Finished, begun_bytes, given_at, world_after, all_pending}
+use Rattle.xn_model.specs.Worlds.{World, Event, Client, Install, Crash, Begin, Land, Fail, Sync, FailSync, Finish, Reply, Begun, Landed, Synced, Fault}
+use Rattle.xn_model.specs.Worlds.{Finished, begun_bytes, given_at, world_after, all_pending}
 
 -- Which blocks
 

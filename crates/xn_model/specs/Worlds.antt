@@ -3,7 +3,8 @@
 --     Step w e r after   what may happen: that, or want of memory where the event asks for memory
 --     Run w es rs after  a list of events
 --     MayLeave w image   an image that a crash may leave
-use Rattle.std.specs.Prelude.{◌≡◌, ◌<◌, ◌⊎◌, ⊤, ℕ, zero, suc, ◌+◌, ◌-◌, Bool, true, false, cond, not, ◌&&◌, List, [], ◌∷◌, length, map, Option, Some, None, is_some, unwrap_or, Result, Ok, Err, slice_set, slice_index_or, IsTrue}
+use Rattle.std.specs.Prelude.{◌≡◌, ◌<◌, ◌⊎◌, ⊤, ℕ, zero, suc, ◌+◌, ◌-◌, Bool, true, false, cond, not, ◌&&◌, List, [], ◌∷◌, length, map, Option, Some, None}
+use Rattle.std.specs.Prelude.{is_some, unwrap_or, Result, Ok, Err, slice_set, slice_index_or, IsTrue}
 use Rattle.std.specs.List.{list_any, range_with_len}
 use Rattle.xn_model.specs.Lists.{has_number}
 use Rattle.xn_model.specs.Types.{Types}
@@ -11,7 +12,8 @@ use Rattle.xn_model.specs.Languages.{Language, types_in}
 use Rattle.xn_model.specs.Images.{block_of}
 use Rattle.xn_model.specs.Lives.{Life, Lives, StoreState, life_at, alive_and}
 use Rattle.xn_model.specs.Results.{Refusal, NoMemory, InFlight, NotSynced}
-use Rattle.xn_model.specs.Calls.{Edit, init_of, propose_of, make_root_of, drop_root_of, install_of, types_of, forget_of, read_of, root_of, kind_of, tainted_of, pending_of, floor_of, free_of, pick_of, begun_of, settled_of, life_pending, bytes_at}
+use Rattle.xn_model.specs.Calls.{Edit, init_of, propose_of, make_root_of, drop_root_of, install_of, types_of, forget_of, read_of, root_of, kind_of, tainted_of}
+use Rattle.xn_model.specs.Calls.{pending_of, floor_of, free_of, pick_of, begun_of, settled_of, life_pending, bytes_at}
 use Rattle.xn_model.specs.Mounts.{recovered, IsRecovered}
 
 pub record World : Type 0 where

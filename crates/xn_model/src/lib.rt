@@ -1,24 +1,32 @@
 //! The abstract model of a block store with soft updates, and its laws.
 #![tactic(auto)]
 
-ghost use Rattle.std.specs.Prelude.{◌≡◌, ◌≢◌, ◌≤◌, ◌<◌, ◌⊎◌, ◌+◌, ◌*◌, ℕ, List, [], ◌∷◌, Option, length, take, slice_get, slice_set, Some, None, Ok, All, Contains, IsSome, IsTrue, true, false};
+ghost use Rattle.std.specs.Prelude.{◌≡◌, ◌≢◌, ◌≤◌, ◌<◌, ◌⊎◌, ◌+◌, ◌*◌, ℕ, List, [], ◌∷◌, Option, length, take, slice_get, slice_set, Some, None, Ok, All};
+ghost use Rattle.std.specs.Prelude.{Contains, IsSome, IsTrue, true, false};
 ghost use Rattle.std.specs.List.{AllByRecursion};
 ghost use Rattle.xn_model.specs.Lists.{has_number};
 ghost use Rattle.xn_model.specs.Types.{Types};
 ghost use Rattle.xn_model.specs.Languages.{Language, Extends, types_in, template_of};
 ghost use Rattle.xn_model.specs.Root.{HasBuiltIns, has_type};
 ghost use Rattle.xn_model.specs.Images.{IsSound, IsDiskSize, Reach, block_of, blocks_in, joined};
-ghost use Rattle.xn_model.specs.Lives.{Lives, Life, StoreState, BlockState, life_at, prefix, begun_at, settled_at, freed, drops_of, floor, entries_of, root_on_disk};
-ghost use Rattle.xn_model.specs.Calls.{Edit, init_of, propose_of, make_root_of, drop_root_of, install_of, latest, types_of, forget_of, begun_of, settled_of, pick_of, pending_of, bytes_at};
+ghost use Rattle.xn_model.specs.Lives.{Lives, Life, StoreState, BlockState, life_at, prefix, begun_at, settled_at, freed, drops_of, floor, entries_of};
+ghost use Rattle.xn_model.specs.Lives.{root_on_disk};
+ghost use Rattle.xn_model.specs.Calls.{Edit, init_of, propose_of, make_root_of, drop_root_of, install_of, latest, types_of, forget_of, begun_of, settled_of};
+ghost use Rattle.xn_model.specs.Calls.{pick_of, pending_of, bytes_at};
 ghost use Rattle.xn_model.specs.Mounts.{recovered, IsRecovered};
-ghost use Rattle.xn_model.specs.Worlds.{World, types_now, types_on, types_there, Event, Reply, Drained, Crash, act, replies, world_after, mounted, none_given, drain, all_pending, is_crash, IsEvent, Step, Run, MayLeave, given_at, left};
+ghost use Rattle.xn_model.specs.Worlds.{World, types_now, types_on, types_there, Event, Reply, Drained, Crash, act, replies, world_after, mounted, none_given};
+ghost use Rattle.xn_model.specs.Worlds.{drain, all_pending, is_crash, IsEvent, Step, Run, MayLeave, given_at, left};
 ghost use Rattle.xn_model.specs.Lanes.{FitLives, HoldImage};
 ghost use Rattle.xn_model.specs.Flights.{flight_of, HaveSameFlights, HaveSameFlightsBut};
-ghost use Rattle.xn_model.specs.Waves.{can_begin, ready_blocks, IsWave, wave, wave_bytes, wave_replies, is_success, IsStepOf, in_turns, steps_after, HaveTurns, AreStepsDone, IsChain, IsRanking, waves, flush, Outcome, all_done, is_done, wave_with, replies_with, IsAfterWave};
+ghost use Rattle.xn_model.specs.Waves.{can_begin, ready_blocks, IsWave, wave, wave_bytes, wave_replies, is_success, IsStepOf, in_turns, steps_after, HaveTurns};
+ghost use Rattle.xn_model.specs.Waves.{AreStepsDone, IsChain, IsRanking, waves, flush, Outcome, all_done, is_done, wave_with, replies_with, IsAfterWave};
 ghost use Rattle.xn_model.specs.WaveRows.{pending_world, typed_world, flush_replies, failed_events, failed_replies, old_events, old_replies};
 ghost use Rattle.xn_model.specs.BareDisks.{no_templates, bare_disk, mounted_disk};
 ghost use Rattle.xn_model.specs.Rules.{IsConsistent, IsKeptType, KeepsType, Keeps, Installs, Holds, IsIdle, IsPlaced, ArePlaced, Agrees};
-ghost use Rattle.xn_model.specs.Rows.{sent, answered, library, library_disk, first_row, dropped_row, landed_row, lost_row, open_lost_row, open_kept_row, synced_row, failed_sync_row, failed_kept_row, failed_new_row, failed_old_row, many_row, refused_row, after_row, drained_row, rolled_back_row, claimed_row, attached_row, chains, chain_disk, cycle_row, installed_row, used_row, gone_row, full_row, subtree_kept_row, subtree_lost_row};
+ghost use Rattle.xn_model.specs.Rows.{sent, answered, library, library_disk, first_row, dropped_row, landed_row, lost_row, open_lost_row, open_kept_row};
+ghost use Rattle.xn_model.specs.Rows.{synced_row, failed_sync_row, failed_kept_row, failed_new_row, failed_old_row, many_row, refused_row, after_row};
+ghost use Rattle.xn_model.specs.Rows.{drained_row, rolled_back_row, claimed_row, attached_row, chains, chain_disk, cycle_row, installed_row, used_row};
+ghost use Rattle.xn_model.specs.Rows.{gone_row, full_row, subtree_kept_row, subtree_lost_row};
 
 mod refusal;
 mod status;
@@ -36,9 +44,11 @@ pub fn agreement()
 
 /// The same blocks are reached under the types of the lives, which may be more.
 pub fn same_reach()
-    ensures now { (L : Language) (state : StoreState) (content : ℕ → List ℕ) (c u : ℕ) → IsConsistent (types_of L state.lives) state → ArePlaced content state.lives →
+    ensures now { (L : Language) (state : StoreState) (content : ℕ → List ℕ) (c u : ℕ) → IsConsistent (types_of L state.lives) state →
+        ArePlaced content state.lives →
         Reach (types_in L content) (length state.lives) content c u → Reach (types_of L state.lives) (length state.lives) content c u }
-    ensures there { (L : Language) (state : StoreState) (content : ℕ → List ℕ) (c u : ℕ) → IsConsistent (types_of L state.lives) state → ArePlaced content state.lives →
+    ensures there { (L : Language) (state : StoreState) (content : ℕ → List ℕ) (c u : ℕ) → IsConsistent (types_of L state.lives) state →
+        ArePlaced content state.lives →
         Reach (types_of L state.lives) (length state.lives) content c u → Reach (types_in L content) (length state.lives) content c u }
 {}
 
@@ -51,23 +61,28 @@ pub fn soundness()
 /// A client's call that is done keeps the state consistent and its types as they are, and a disk that
 /// fitted it fits on; so does the begin of a write.
 pub fn init_keeps()
-    ensures { (T : Types) (state new : StoreState) (fs ty : ℕ) (bytes : List ℕ) (made : ℕ × ℕ) → IsConsistent T state → init_of T state fs ty bytes ≡ Ok (made, new) → Keeps T state new }
+    ensures { (T : Types) (state new : StoreState) (fs ty : ℕ) (bytes : List ℕ) (made : ℕ × ℕ) → IsConsistent T state →
+        init_of T state fs ty bytes ≡ Ok (made, new) → Keeps T state new }
 {}
 
 pub fn propose_keeps()
-    ensures { (T : Types) (state new : StoreState) (fs block : ℕ) (edit : Edit) (entry : ℕ) → IsConsistent T state → propose_of T state fs block edit ≡ Ok (entry, new) → Keeps T state new }
+    ensures { (T : Types) (state new : StoreState) (fs block : ℕ) (edit : Edit) (entry : ℕ) → IsConsistent T state →
+        propose_of T state fs block edit ≡ Ok (entry, new) → Keeps T state new }
 {}
 
 pub fn make_root_keeps()
-    ensures { (T : Types) (state new : StoreState) (fs block entry : ℕ) → IsConsistent T state → fs < 32 → make_root_of state fs block ≡ Ok (entry, new) → Keeps T state new }
+    ensures { (T : Types) (state new : StoreState) (fs block entry : ℕ) → IsConsistent T state → fs < 32 → make_root_of state fs block ≡ Ok (entry, new) →
+        Keeps T state new }
 {}
 
 pub fn drop_root_keeps()
-    ensures { (T : Types) (state new : StoreState) (fs entry : ℕ) → IsConsistent T state → fs < 32 → drop_root_of T state fs ≡ Ok (entry, new) → Keeps T state new }
+    ensures { (T : Types) (state new : StoreState) (fs entry : ℕ) → IsConsistent T state → fs < 32 → drop_root_of T state fs ≡ Ok (entry, new) →
+        Keeps T state new }
 {}
 
 pub fn forget_keeps()
-    ensures { (T : Types) (state new : StoreState) (fs block : ℕ) (done : Unit {0}) → IsConsistent T state → forget_of T state fs block ≡ Ok (done, new) → Keeps T state new }
+    ensures { (T : Types) (state new : StoreState) (fs block : ℕ) (done : Unit {0}) → IsConsistent T state → forget_of T state fs block ≡ Ok (done, new) →
+        Keeps T state new }
 {}
 
 /// An installed template keeps the state consistent under the types that it has then, which are the
@@ -79,14 +94,17 @@ pub fn install_keeps()
 
 /// The new type means what its template says, and every other type what it meant, or nothing still.
 pub fn installed_types()
-    ensures own { (L : Language) (state new : StoreState) (bytes : List ℕ) (made : ℕ × ℕ × ℕ) → IsConsistent (types_of L state.lives) state → length bytes ≡ 512 →
+    ensures own { (L : Language) (state new : StoreState) (bytes : List ℕ) (made : ℕ × ℕ × ℕ) → IsConsistent (types_of L state.lives) state →
+        length bytes ≡ 512 →
         install_of L state bytes ≡ Ok (made, new) → template_of L (latest new.lives) made.0 ≡ L bytes }
-    ensures others { (L : Language) (state new : StoreState) (bytes : List ℕ) (made : ℕ × ℕ × ℕ) (t : ℕ) → IsConsistent (types_of L state.lives) state → length bytes ≡ 512 →
+    ensures others { (L : Language) (state new : StoreState) (bytes : List ℕ) (made : ℕ × ℕ × ℕ) (t : ℕ) → IsConsistent (types_of L state.lives) state →
+        length bytes ≡ 512 →
         install_of L state bytes ≡ Ok (made, new) → t ≢ made.0 → template_of L (latest new.lives) t ≡ template_of L (latest state.lives) t }
 {}
 
 pub fn begun_keeps()
-    ensures { (T : Types) (state new : StoreState) (block : ℕ) (begun : List ℕ × ℕ) → IsConsistent T state → begun_of state block ≡ Ok (begun, new) → Keeps T state new }
+    ensures { (T : Types) (state new : StoreState) (block : ℕ) (begun : List ℕ × ℕ) → IsConsistent T state → begun_of state block ≡ Ok (begun, new) →
+        Keeps T state new }
 {}
 
 /// So does a write whose block is read back, with what is read there.
@@ -155,7 +173,8 @@ pub fn flights_kept()
         make_root_of state fs block ≡ Ok (entry, new) → HaveSameFlights state.lives new.lives }
     ensures drop_root { (T : Types) (state new : StoreState) (fs entry : ℕ) → IsConsistent T state →
         drop_root_of T state fs ≡ Ok (entry, new) → HaveSameFlights state.lives new.lives }
-    ensures install { (L : Language) (state new : StoreState) (bytes : List ℕ) (made : ℕ × ℕ × ℕ) → IsConsistent (types_of L state.lives) state → length bytes ≡ 512 →
+    ensures install { (L : Language) (state new : StoreState) (bytes : List ℕ) (made : ℕ × ℕ × ℕ) → IsConsistent (types_of L state.lives) state →
+        length bytes ≡ 512 →
         install_of L state bytes ≡ Ok (made, new) → HaveSameFlights state.lives new.lives }
     ensures forget { (T : Types) (state new : StoreState) (fs block : ℕ) (done : Unit {0}) →
         forget_of T state fs block ≡ Ok (done, new) → HaveSameFlights state.lives new.lives }
@@ -182,7 +201,8 @@ pub fn step_keeps()
 
 /// Until the next crash all types stay as they are, and more may come. A mount has those of the image.
 pub fn types_grow()
-    ensures step { (w : World) (e : Event) (r : Reply) (after : World) → IsEvent e → is_crash e ≡ false → Holds w → Step w e r after → Extends (types_now w) (types_now after) }
+    ensures step { (w : World) (e : Event) (r : Reply) (after : World) → IsEvent e → is_crash e ≡ false → Holds w → Step w e r after →
+        Extends (types_now w) (types_now after) }
     ensures mount { (w : World) (lives : Lives) → IsSound (types_there w) (length w.image) (block_of w.image) → IsRecovered (types_there w) w.image lives →
         types_now (mounted w lives) ≡ types_there w }
 {}
@@ -204,7 +224,8 @@ pub fn blocks_are_read()
 /// of them, and so is what a crash leaves that keeps some open writes and no others. A block whose write isn't
 /// under way has no open write, and its settled bytes are its newest.
 pub fn left_images()
-    ensures agrees { (w : World) (image : List (List ℕ)) → Holds w → MayLeave w image → Agrees (types_on w image) (length image) (block_of image) w.state.lives }
+    ensures agrees { (w : World) (image : List (List ℕ)) → Holds w → MayLeave w image →
+        Agrees (types_on w image) (length image) (block_of image) w.state.lives }
     ensures sound { (w : World) (image : List (List ℕ)) → Holds w → MayLeave w image → IsSound (types_on w image) (length image) (block_of image) }
     ensures newest { (w : World) → Holds w → MayLeave w w.image }
     ensures kept { (w : World) (kept : List ℕ) → Holds w → MayLeave w (left w kept) }
@@ -232,7 +253,8 @@ pub fn every_run()
         Run (mounted w lives) es rs after → Holds after }
     ensures agrees { (w : World) (lives : Lives) (es : List Event) (rs : List Reply) (after : World) →
         IsSound (types_there w) (length w.image) (block_of w.image) → IsRecovered (types_there w) w.image lives → AllByRecursion IsEvent es →
-        Run (mounted w lives) es rs after → (image : List (List ℕ)) → MayLeave after image → Agrees (types_on after image) (length image) (block_of image) after.state.lives }
+        Run (mounted w lives) es rs after → (image : List (List ℕ)) → MayLeave after image →
+        Agrees (types_on after image) (length image) (block_of image) after.state.lives }
     ensures sound { (w : World) (lives : Lives) (es : List Event) (rs : List Reply) (after : World) →
         IsSound (types_there w) (length w.image) (block_of w.image) → IsRecovered (types_there w) w.image lives → AllByRecursion IsEvent es →
         Run (mounted w lives) es rs after → (image : List (List ℕ)) → MayLeave after image → IsSound (types_on after image) (length image) (block_of image) }

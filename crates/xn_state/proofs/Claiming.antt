@@ -15,12 +15,12 @@ use Rattle.xn_model.specs.Results.{first_refusal, unless, result_map, result_and
 use Rattle.xn_model.specs.Calls.{Edit, own_life, too_many, exhausted, within_limits, was_given, may_add, may_drop, is_empty, is_untouched, owns_nothing, patched, life_bytes, life_pending, root_now, slot_now, edit_tests}
 use Rattle.xn_model.specs.Rules.{IsConsistent}
 use Rattle.xn_model.proofs.ForCallers.{Contains-cons, Contains-none, all_at, blocks_of_at, fresh_from, own_then, roots_from, same_ok, unless_ok}
-use Rattle.owner_records.specs.Owners.{is_claimed, owned_count}
-use Rattle.owner_records.proofs.ForCallers.{claimed_is, owned_counted, pair_owned}
+use Rattle.claims.specs.Owners.{is_claimed, owned_count}
+use Rattle.claims.proofs.ForCallers.{claimed_is, owned_counted, pair_owned}
 use Rattle.block_cache.specs.declared.life.Facts.{Facts}
 use Rattle.block_cache.specs.Views.{facts_of}
 use Rattle.claims.specs.Owned.{MayClaim}
-use Rattle.xn_state.specs.Kept.{IsUnowned}
+use Rattle.dependencies.specs.Index.{IsUnowned}
 use Rattle.xn_state.specs.Forgets.{forget_plan, forget_plan_at}
 use Rattle.xn_state.specs.Plans.{make_root_plan, make_root_plan_at}
 use Rattle.xn_state.specs.Proposals.{drop_root_plan, edited_with, proposed_at, proposed_of}

@@ -6,7 +6,7 @@ use Rattle.std.specs.Simd.{first_chunks}
 use Rattle.std.proofs.lemmas.Bool.{cases_eq, eq-eqb, ne_eqb, cond-true, cond-false, and_parts, false≢true}
 use Rattle.std.proofs.lemmas.List.{get_or-map, get_or-replicate, get_or-set_same, get_or-set_other, length-map, length-set, length-replicate, take_more}
 use Rattle.std.proofs.lemmas.Simd.{map-map}
-use Rattle.std.proofs.lemmas.List.FromFn.{fill_by_all, get_or-map-range_with_len, length-map-range_with_len}
+use Rattle.std.proofs.lemmas.List.FromFn.{fill_by_all, length-range_with_len, get_or-map-range_with_len, length-map-range_with_len}
 use Rattle.std.proofs.lemmas.List.Sums.{fold-append, sum_by-cons}
 use Rattle.xn_model.specs.Lists.{has_number, distinct}
 use Rattle.xn_model.specs.Images.{blocks_in}
@@ -15,11 +15,11 @@ use Rattle.xn_model.specs.Mounts as model
 use Rattle.xn_model.specs.Mounts.{found_life, life_found, lives_found, life_at_rest}
 use Rattle.xn_model.specs.Calls.{pending_in}
 use Rattle.xn_state.specs.declared.found.Found.{Found}
-use Rattle.xn_state.specs.Kept.{IsCounted}
+use Rattle.dependencies.specs.Pending.{is_dirty}
 use Rattle.block_cache.specs.declared.life.FoundLife.{FoundLife}
 use Rattle.block_cache.specs.Views.{rest_at, rest_in}
 use Rattle.xn_state.specs.Mounts.{found_of, life_of, lives_in}
-use Rattle.xn_state.proofs.Counting.{counted, marks}
+use Rattle.dependencies.proofs.ForCallers.{counted, marks}
 
 pub length-blocks : (image : List ℕ) → length (blocks_in image) ≡ length image / 512
 length-blocks image = go (length image / 512) image
@@ -142,12 +142,21 @@ none_pending image found fs (b ∷ bs) =
     let rest = none_pending image found fs bs in
     omega (arith, first, here, rest)
 
-pub found_counted : (image : List (List ℕ)) (found : List model.Found) (lives : Lives) (free : List Bool) (pending : List ℕ) → lives ≡ lives_found image found → free ≡ marks lives →
-    pending ≡ replicate 32 0 → IsCounted lives free pending
-found_counted image found lives free pending e marked zeros = record {
-  marked = marked;
-  counts = λ fs few. ap (λ ps. slice_index ps fs) zeros ∙ (get_or-replicate 32 fs 0 0 few ∙ sym (ap (counted fs) e ∙ none_pending image found fs (range_with_len 0 (length image))));
-}
+pub found_uncounted : (image : List (List ℕ)) (found : List model.Found) (lives : Lives) → lives ≡ lives_found image found → (fs : ℕ) → counted fs lives ≡ 0
+found_uncounted image found lives e fs = ap (counted fs) e ∙ none_pending image found fs (range_with_len 0 (length image))
+
+clean_at : (image : List (List ℕ)) (b : ℕ) (o : Option model.Found) → is_dirty (found_life image b o) ≡ false
+clean_at image b None = refl
+clean_at image b (Some f) = refl
+
+none_dirty : (image : List (List ℕ)) (found : List model.Found) (bs : List ℕ) → map is_dirty (map (life_found image found) bs) ≡ replicate (length bs) false
+none_dirty image found [] = refl
+none_dirty image found (b ∷ bs) = λ i. clean_at image b (find (λ f. f.block == b) found) i ∷ none_dirty image found bs i
+
+pub found_clean : (image : List (List ℕ)) (found : List model.Found) (lives : Lives) (n : ℕ) → lives ≡ lives_found image found → n ≡ length image → replicate n false ≡ map is_dirty lives
+found_clean image found lives n e long =
+    ap (λ m. replicate m false) (long ∙ sym (length-range_with_len 0 (length image)))
+    ∙ sym (ap (map is_dirty) e ∙ none_dirty image found (range_with_len 0 (length image)))
 
 -- one more is found
 pub found_more : (places : List (Option FoundLife)) (found : List Found) (i : ℕ) (f : Found) → i < length found → f ≡ get_or found i f →

@@ -9,8 +9,8 @@ use Rattle.xn_model.specs.Calls.{new_life}
 use Rattle.xn_model.proofs.ForCallers.{set_other, set_same}
 use Rattle.dependencies.specs.Pending.{pends}
 use Rattle.dependencies.proofs.ForCallers.{place_is}
-use Rattle.xn_state.specs.Kept.{IsUnowned}
-use Rattle.xn_state.proofs.Counting.{least_is_free}
+use Rattle.dependencies.specs.Index.{IsUnowned}
+use Rattle.dependencies.proofs.ForCallers.{least_is_free}
 
 module _ (lives : Lives) (b n : ℕ) (m : List ℕ) (free : lowest_free lives ≡ Some b) where
   abbrev pub begun : Lives

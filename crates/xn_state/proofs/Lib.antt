@@ -1,8 +1,6 @@
 pub mod Lasts
-pub mod FirstEntries
 pub mod Keeping
 pub mod Typing
-pub mod Counting
 pub mod Installing
 pub mod Planning
 pub mod Extended
@@ -15,7 +13,6 @@ pub mod Answering
 pub mod Writing
 pub mod Slots
 pub mod Claiming
-pub mod Dirty
 pub mod Unclaimed
 pub mod Newest
 pub mod ForCallers

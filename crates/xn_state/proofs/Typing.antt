@@ -2,7 +2,7 @@
 use Rattle.xn_model.specs.Types.{Types}
 use Rattle.xn_model.specs.Lives.{StoreState}
 use Rattle.xn_model.specs.Rules.{IsConsistent}
-use Rattle.dependency_counts.proofs.ForCallers.{root_has}
+use Rattle.dependencies.proofs.ForCallers.{root_has}
 use Rattle.dependencies.specs.Typed.{FindsTypes}
 use Rattle.std.proofs.Common.{refl}
 

@@ -13,8 +13,8 @@ use Rattle.xn_state.specs.Proposals.{last_tests}
 use Rattle.xn_model.specs.Lives.{Life, Lives, StoreState, current, life_at}
 use Rattle.xn_model.specs.Calls.{Edit, Patch, is_patch, owns_nothing, patched, within_limits}
 use Rattle.xn_model.specs.Rules.{IsConsistent}
-use Rattle.owner_records.specs.Owners.{is_claimed, owned_count}
-use Rattle.owner_records.proofs.ForCallers.{claimed_is, inside_from, newest_once, owned_counted}
+use Rattle.claims.specs.Owners.{is_claimed, owned_count}
+use Rattle.claims.proofs.ForCallers.{claimed_is, inside_from, newest_once, owned_counted}
 use Rattle.udf_run.specs.ReadSets.{AgreeOn}
 use Rattle.udf_run.specs.Safe.{IsBlock}
 use Rattle.templates.specs.Decided.{DecidesOwned}

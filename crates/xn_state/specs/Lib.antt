@@ -1,5 +1,3 @@
-pub mod Kept
-pub mod Counts
 pub mod Plans
 pub mod Forgets
 pub mod States

@@ -8,7 +8,7 @@ use Rattle.xn_model.specs.Lives.{BlockState, Life, StoreState, chain_end, curren
 use Rattle.xn_model.specs.declared.refusal.Refusal.{Refusal}
 use Rattle.xn_model.specs.declared.refusal.Refusal.TheVariants.{BadPatch, BadAfter, NotFresh, NotOwned, NotEmpty, ClaimWrong, SizeWrong, TooManyPending, Exhausted, Cycle}
 use Rattle.xn_model.specs.Results.{first_refusal, unless, result_and_then}
-use Rattle.owner_records.specs.Owners.{is_claimed, owned_count}
+use Rattle.claims.specs.Owners.{is_claimed, owned_count}
 use Rattle.block_cache.specs.declared.life.Facts.{Facts}
 use Rattle.xn_model.specs.Calls.{Edit, own_life, too_many, exhausted, within_limits, was_given, may_add, may_drop, is_empty, patched, propose_refusal, drop_root_refusal, root_now, slot_now}
 

@@ -3,7 +3,6 @@
 
 mod answer;
 mod call;
-mod counts;
 mod found;
 mod installed;
 pub mod law;

@@ -12,18 +12,16 @@ ghost use Rattle.block_cache.specs.Claims.{state_of};
 ghost use Rattle.block_cache.specs.NewBytes.{MayLeave, new_bytes};
 ghost use Rattle.block_cache.specs.Views.{facts_of};
 ghost use Rattle.xn_model.specs.Mounts.{found_status};
-ghost use Rattle.owner_records.specs.Owners.{is_claimed, owned_count};
+ghost use Rattle.claims.specs.Owners.{is_claimed, owned_count};
 ghost use Rattle.claims.specs.Owned.{MayClaim};
 ghost use Rattle.dependencies.specs.Pending.{pends};
 ghost use Rattle.dependencies.specs.Typed.{FindsTypes};
 ghost use Rattle.xn_state.specs.Mounts.{life_of, lives_in};
 
-use crate::counts::{count_entry, mark};
 use crate::found::Found;
 use block_cache::{Cache, Claim, Facts, FoundLife, NewBytes};
-use block_set::BlockSet;
 use claims::OwnedCounts;
-use dependencies::{Candidates, Homes, home_for, least_for};
+use dependencies::Index;
 use edit_list::{EditId, Fs, Undo};
 use free_map::FreeMap;
 use std::alloc::{AllocError, Global};
@@ -35,34 +33,25 @@ mod idle;
 mod install;
 mod writes;
 
-/// The lives of all blocks, by block number. Which blocks are free, for which something is pending, of which a write may begin,
-/// in which block the newest entries are pending, how many pending entries count for a file system and from which number on they
-/// lie, and how many blocks each block owns, is kept beside them, so that no call walks all lives for it.
+/// The lives of all blocks, by block number. What is known of their pending entries, of the free blocks, and of how many blocks each
+/// block owns is kept beside them, so that no call walks all lives for it.
 pub struct Lives {
     cache: Cache,
-    free: FreeMap,
-    pending: [u32; 32],
     owned: OwnedCounts,
-    dirty: BlockSet,
-    candidates: Candidates,
-    homes: Homes,
-    oldest: [u64; 32],
+    index: Index,
 }
 
 impl Model for Lives {
-    ghost use Rattle.std.specs.Prelude.{◌≡◌, List, Option, map};
+    ghost use Rattle.std.specs.Prelude.{List, Option};
     ghost use Rattle.xn_model.specs.Lives.{Life as LifeValue};
     ghost use Rattle.claims.specs.Owned.{AreOwnedCounts};
-    ghost use Rattle.dependencies.specs.Candidates.{AreCandidates};
-    ghost use Rattle.dependencies.specs.Homes.{AreHomes};
-    ghost use Rattle.dependencies.specs.Oldest.{AreOldest};
-    ghost use Rattle.xn_state.specs.Kept.{IsCounted, is_dirty};
+    ghost use Rattle.dependencies.specs.Index.{IsIndex};
 
     ghost Value = { List (Option LifeValue) };
 
     ghost view = { λ a. a.cache };
 
-    ghost invariant = { λ a. IsCounted a.cache a.free a.pending × AreOwnedCounts a.owned a.cache × (a.dirty ≡ map is_dirty a.cache) × AreCandidates a.cache a.candidates × AreHomes a.cache a.homes × AreOldest a.cache a.oldest };
+    ghost invariant = { λ a. AreOwnedCounts a.owned a.cache × IsIndex a.cache a.index };
 }
 
 /// Written by hand, so that a function that drops one calls this: a derived drop is proved anew in each such function.
@@ -70,13 +59,8 @@ impl Drop for Lives {
     fn drop(self) {
         let Lives {
             cache: _,
-            free: _,
-            pending: _,
             owned: _,
-            dirty: _,
-            candidates: _,
-            homes: _,
-            oldest: _,
+            index: _,
         } = self;
     }
 }
@@ -100,18 +84,11 @@ impl Lives {
         let cache = Cache::found(alloc, &places, blocks)?;
         drop(places);
         let owned = OwnedCounts::of(alloc, &cache)?;
-        let dirty = BlockSet::new(alloc, count)?;
-        let candidates = Candidates::new(alloc, count)?;
-        let homes = Homes::new(alloc, count)?;
+        let index = Index::at_rest(alloc, free, count)?;
         Ok(Lives {
             cache,
-            free,
-            pending: [0; 32],
             owned,
-            dirty,
-            candidates,
-            homes,
-            oldest: [0; 32],
+            index,
         })
     }
 
@@ -174,35 +151,28 @@ impl Lives {
     pub fn pending_for(&self, fs: Fs) -> u32
         ensures { result ≡ sum_by (pending_in fs.number) self.now }
     {
-        self.pending[fs.index()]
+        self.index.pending_for(fs)
     }
 
     /// The least of a number and the pending entries that count for a file system.
     pub fn least_for(&self, fs: Fs, most: u64) -> u64
         ensures { result ≡ least_to most (entries_of fs.number self.now) }
     {
-        let pending = self.pending[fs.index()];
-        if pending > 0 {
-            let oldest = self.oldest[fs.index()];
-            if let Some(_block) = home_for(&self.cache, &self.homes, fs, oldest) {
-                return oldest.min(most);
-            }
-        }
-        least_for(&self.cache, &self.dirty, fs, most, pending)
+        self.index.least_for(&self.cache, fs, most)
     }
 
     /// The least free block.
     pub fn lowest_free(&self) -> Option<u32>
         ensures { result ≡ lowest_free self.now }
     {
-        self.free.lowest()
+        self.index.lowest_free()
     }
 
     /// How many blocks are free.
     pub fn free(&self) -> u32
         ensures { result ≡ count_by is_none self.now }
     {
-        self.free.count()
+        self.index.free()
     }
 
     /// Whether a block is in use and owns no other.
@@ -239,7 +209,7 @@ impl Lives {
         requires { FindsTypes self.now }
         ensures { result ≡ is_tainted self.now (life_at self.now block) }
     {
-        dependencies::is_tainted(&self.cache, &self.dirty, &self.homes, block)
+        self.index.is_tainted(&self.cache, block)
     }
 
     /// The least block of which a write may begin.
@@ -247,7 +217,7 @@ impl Lives {
         requires { FindsTypes self.now }
         ensures { result ≡ position (is_ready self.now) self.now }
     {
-        dependencies::pick(&self.cache, &self.dirty, &self.homes, &self.candidates)
+        self.index.pick(&self.cache)
     }
 
     /// Starts a life on the least free block, a file system's or nobody's.
@@ -267,11 +237,7 @@ impl Lives {
         ensures err { OnErr result (self.new ≡ self.old) }
     {
         self.cache.start(alloc, block, number, fs, ty, bytes)?;
-        self.free.take(block);
-        mark(&mut self.dirty, block, true);
-        self.candidates.set(block, true);
-        self.homes.put(number.number(), block);
-        count_entry(&mut self.pending, &mut self.oldest, fs, number.number());
+        self.index.start(block, number.number(), fs);
         Ok(())
     }
 
@@ -309,10 +275,7 @@ impl Lives {
         set_owned(&mut self.cache, block, adds);
         self.owned
             .change(block, drops.len() as u32, adds.len() as u32);
-        mark(&mut self.dirty, block, true);
-        self.candidates.note_entry(block, is_first);
-        self.homes.put(number, block);
-        count_entry(&mut self.pending, &mut self.oldest, fs, number);
+        self.index.accept(block, number, fs, is_first);
         Ok(())
     }
 }

@@ -6,12 +6,10 @@ ghost use Rattle.xn_model.specs.Results.{result_map};
 ghost use Rattle.xn_model.specs.Calls.{begun_place, first_pending, is_durable, life_pending, settled_place};
 ghost use Rattle.block_cache.specs.Views.{HasImage, image_at};
 ghost use Rattle.dependencies.specs.Typed.{FindsTypes};
-ghost use Rattle.xn_state.specs.Kept.{MayFree};
+ghost use Rattle.dependencies.specs.Index.{MayFree};
 
-use crate::counts::{mark, take_out, with_pending};
 use crate::lives::Lives;
 use block_cache::Cache;
-use dependencies::{move_on, safe_prefix};
 use xn_model::Refusal;
 
 impl Lives {
@@ -30,7 +28,7 @@ impl Lives {
         if facts.is_in_flight() {
             return Err(Refusal::InFlight);
         }
-        let count = safe_prefix(&self.cache, &self.dirty, &self.homes, block);
+        let count = self.index.safe_prefix(&self.cache, block);
         if count == 0 {
             return Err(Refusal::NothingSafe);
         }
@@ -98,8 +96,7 @@ impl Lives {
         ensures { self.new ≡ begun_at self.old block count }
     {
         self.cache.begin(block, count);
-        self.candidates.set(block, false);
-        self.candidates.trim(&self.cache, &self.dirty, &self.homes);
+        self.index.begin(&self.cache, block);
     }
 
     /// Ends a write of a block that made its first entries durable: the blocks that they drop are free. Answers how many
@@ -111,21 +108,9 @@ impl Lives {
         ensures lives { self.new ≡ freed (settled_at self.old block count) (drops_of (first_pending count (life_at self.old block))) }
         ensures count { result ≡ length (drops_of (first_pending count (life_at self.old block))) }
     {
-        let taken = take_out(
-            &mut self.pending,
-            &mut self.free,
-            &self.cache,
-            block,
-            count as usize,
-        );
-        let left = self.cache.pending(block) - count as usize;
-        mark(&mut self.dirty, block, left > 0);
-        self.candidates.wake(block);
-        self.candidates.set(block, left > 0);
+        let taken = self.index.take_out(&self.cache, block, count as usize);
         let freed = end_write(&mut self.cache, block, count, taken.has_drops);
-        self.candidates.trim(&self.cache, &self.dirty, &self.homes);
-        let fs = with_pending(&self.pending, taken.fs);
-        move_on(&mut self.oldest, &self.cache, &self.homes, fs);
+        self.index.settle(&self.cache, taken);
         freed
     }
 }

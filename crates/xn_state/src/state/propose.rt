@@ -8,7 +8,7 @@ ghost use Rattle.xn_model.specs.Lives.{Life, chain_end, current, life_at};
 ghost use Rattle.xn_model.specs.Results.{Gives, first_refusal, result_map, unless};
 ghost use Rattle.xn_model.specs.Calls.{is_empty, life_bytes, life_pending, may_add, may_drop, patched, pending_of, propose_of, was_given, within_limits};
 ghost use Rattle.xn_model.specs.Rules.{IsConsistent};
-ghost use Rattle.owner_records.specs.Owners.{is_claimed, owned_count};
+ghost use Rattle.claims.specs.Owners.{is_claimed, owned_count};
 ghost use Rattle.templates.specs.Decided.{DecidesOwned};
 ghost use Rattle.claims.specs.Decided.{Decides, Leaves, newest_at};
 ghost use Rattle.xn_state.specs.Proposals.{edited_with, last_tests, proposed_of};

@@ -5,11 +5,9 @@ use Rattle.block_cache.specs.Views.{rest_at}
 use Rattle.std.proofs.lemmas.List.{take_all}
 use Rattle.xn_model.specs.Images.{blocks_in}
 use Rattle.xn_model.specs.Lives.{Lives}
-use Rattle.dependencies.proofs.ForCallers.{clean_accounts, clean_homes, first_oldest}
+use Rattle.dependencies.proofs.ForCallers.{marks}
 use Rattle.xn_state.specs.Mounts.{found_of}
-use Rattle.xn_state.proofs.Counting.{marks}
-use Rattle.xn_state.proofs.Dirty.{found_dirty}
-use Rattle.xn_state.proofs.Finding.{all_found, all_marked, all_put, found_counted, found_more, marks_more, no_marks, put_found}
+use Rattle.xn_state.proofs.Finding.{all_found, all_marked, all_put, found_clean, found_more, found_uncounted, marks_more, no_marks, put_found}
 use Rattle.xn_state.proofs.lives.Lives.found.Goals as goal
 
 pub loop-block-init : goal.loop-block-init
@@ -44,13 +42,10 @@ invariant_of-result c =
     let are = all_are c in
     let places = c.deref.result.now in
     let free = c.loop-block.invariant.1 ∙ (ap (map is_none) (sym c.deref.ensures.value) ∙ (all_marked c.as_chunks.result.0.now places ∙ ap (λ (ls : Lives). marks ls) (sym c.in_ok-cache.ensures))) in
-    let dirty = found_dirty (blocks_in c.args.image.now) (map found_of c.args.found.now) c.in_ok-cache.cache c.in_ok-dirty.dirty count are (ap length c.as_chunks.ensures.front) c.in_ok-dirty.ensures in (
-      found_counted (blocks_in c.args.image.now) (map found_of c.args.found.now) c.in_ok-cache.cache c.loop-block.free _ are free refl,
+    let blocks = blocks_in c.args.image.now in
+    let found = map found_of c.args.found.now in (
       c.in_ok-owned.ensures,
-      dirty,
-      clean_accounts c.in_ok-cache.cache c.in_ok-dirty.dirty c.in_ok-candidates.candidates count dirty c.in_ok-dirty.ensures c.in_ok-candidates.ensures,
-      clean_homes c.in_ok-cache.cache c.in_ok-dirty.dirty c.in_ok-homes.homes count dirty c.in_ok-dirty.ensures,
-      first_oldest c.in_ok-cache.cache 32,
+      c.in_ok-index.ensures c.in_ok-cache.cache free (found_clean blocks found c.in_ok-cache.cache count are (ap length c.as_chunks.ensures.front)) (found_uncounted blocks found c.in_ok-cache.cache are),
     )
 
 pub returns : goal.returns

@@ -3,7 +3,7 @@ use Rattle.xn_model.specs.Lives.{Lives, life_at}
 use Rattle.xn_model.specs.Calls.{life_bytes}
 use Rattle.block_cache.specs.Claims.{ClaimValue}
 use Rattle.dependencies.specs.Pending.{pends}
-use Rattle.xn_state.specs.Kept.{IsUnowned}
+use Rattle.dependencies.specs.Index.{IsUnowned}
 use Rattle.xn_state.proofs.Installing.{begun, begun_undone, begun_unowned, root_stays, second_fresh}
 use Rattle.xn_state.proofs.lives.Lives.install.Goals as goal
 

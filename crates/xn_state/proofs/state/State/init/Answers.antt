@@ -3,7 +3,7 @@ use Rattle.std.proofs.lemmas.Option.{slice_get_within}
 use Rattle.xn_model.specs.Lives.{StoreState}
 use Rattle.xn_model.specs.Calls.{init_refusal, new_life}
 use Rattle.xn_state.specs.States.{own_types}
-use Rattle.xn_state.proofs.Counting.{least_is_free}
+use Rattle.dependencies.proofs.ForCallers.{least_is_free}
 use Rattle.claims.proofs.ForCallers.{started_decided}
 use Rattle.xn_state.proofs.Keeping.{continues, goes_on, started_keeps, state_of}
 use Rattle.xn_state.proofs.Newest.{none_next}

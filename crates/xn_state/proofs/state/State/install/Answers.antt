@@ -12,7 +12,7 @@ use Rattle.templates.specs.Language.{language}
 use Rattle.templates.proofs.ForCallers.{language_ok, none_there}
 use Rattle.xn_state.specs.Installs.{install_places, installed_lives}
 use Rattle.xn_state.specs.States.{IsStateOf, own_types}
-use Rattle.xn_state.proofs.Counting.{least_is_free}
+use Rattle.dependencies.proofs.ForCallers.{least_is_free}
 use Rattle.xn_state.proofs.Extended.{done, is_state, left}
 use Rattle.xn_state.proofs.Keeping.{state_of}
 use Rattle.xn_state.proofs.Newest.{none_from}

@@ -1,0 +1,5 @@
+use Rattle.claims.proofs.OwnedCounts.{owned_counted}
+use Rattle.claims.proofs.law.owned_counts.Goals as goal
+
+pub returns : goal.returns
+returns c = λ T state b l ok alive. owned_counted T state b l ok alive

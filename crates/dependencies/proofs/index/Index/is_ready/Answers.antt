@@ -1,0 +1,15 @@
+use Rattle.std.proofs.Common.{◌∙◌, subst, sym}
+use Rattle.xn_model.specs.Lives.{life_at}
+use Rattle.dependencies.proofs.Accounts.{ready_at}
+use Rattle.dependencies.specs.Index.{IsIndex}
+use Rattle.dependencies.proofs.index.Index.is_ready.Goals as goal
+
+pub is_safe_at-requires-clause-homes : goal.is_safe_at-requires-clause-homes
+is_safe_at-requires-clause-homes c =
+    let mine = subst (IsIndex c.args.cache.now) (sym c.self.view_is) c.requires.index in
+    mine.homes
+
+pub returns-then-not-is_in_flight : goal.returns-then-not-is_in_flight
+returns-then-not-is_in_flight c =
+    c.is_safe_at.ensures
+    ∙ ready_at c.args.cache.now (life_at c.args.cache.now c.args.block) c.in-Some.facts c.in-Some.ensures.facts (sym c.is_in_flight.ensures ∙ c.if-not-is_in_flight.true)

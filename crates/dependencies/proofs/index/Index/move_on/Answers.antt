@@ -1,0 +1,18 @@
+use Rattle.std.proofs.Common.{subst, sym}
+use Rattle.dependencies.specs.Index.{IsIndex}
+use Rattle.dependencies.proofs.index.Index.move_on.Goals as goal
+
+pub move_on-requires-clause-homes : goal.move_on-requires-clause-homes
+move_on-requires-clause-homes c =
+    let mine = subst (IsIndex c.args.cache.now) (sym c.self.view_is) c.requires in
+    mine.homes
+
+pub move_on-requires-clause-oldest : goal.move_on-requires-clause-oldest
+move_on-requires-clause-oldest c =
+    let mine = subst (IsIndex c.args.cache.now) (sym c.self.view_is) c.requires in
+    mine.oldest
+
+pub returns : goal.returns
+returns c =
+    let mine = subst (IsIndex c.args.cache.now) (sym c.self.view_is) c.requires in
+    record { counted = mine.counted; oldest = c.move_on.ensures.oldest; dirty = mine.dirty; candidates = mine.candidates; homes = mine.homes }
