@@ -18,4 +18,6 @@ pub mod Claiming
 pub mod Dirty
 pub mod Unclaimed
 pub mod Newest
+pub mod Numbers
+pub mod Awaiting
 pub mod ForCallers
