@@ -5,3 +5,4 @@ pub mod Mounts
 pub mod Proposals
 pub mod Answers
 pub mod Installs
+pub mod Awaits

@@ -28,6 +28,7 @@ use std::alloc::{AllocError, Global};
 use std::marker::Model;
 use xn_model::{Refusal, Status};
 
+mod awaited;
 mod forget;
 mod idle;
 mod install;

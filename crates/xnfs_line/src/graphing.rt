@@ -22,14 +22,16 @@ fn kind(ty: u32) -> &'static str {
     }
 }
 
-/// Prints a block and the arrows to those that it points to. A dashed one has something pending that waits for another block.
+/// Prints a block, the arrows to those that it points to, and a dotted one to the block that something pending in it waits for; it is dashed
+/// then.
 fn print_owner<S: FlushStore + Drop>(
     session: &Session<S>,
     owner: &Owner,
     out: &mut impl Write,
 ) -> Result<(), Fault> {
     let (block, ty) = (owner.block, owner.ty);
-    let style = if session.tainted(block) {
+    let awaited = session.awaited(block);
+    let style = if awaited.is_some() {
         " style=dashed"
     } else {
         ""
@@ -37,6 +39,9 @@ fn print_owner<S: FlushStore + Drop>(
     writeln!(out, "  {block} [label=\"{block} {}\"{style}];", kind(ty))?;
     for owned in owner.owned.iter() {
         writeln!(out, "  {block} -> {owned};")?;
+    }
+    if let Some(awaited) = awaited {
+        writeln!(out, "  {block} -> {awaited} [style=dotted];")?;
     }
     Ok(())
 }

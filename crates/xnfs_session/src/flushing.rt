@@ -1,7 +1,8 @@
 // Stores whose pending entries are written in waves.
 
-ghost use Rattle.std.specs.Prelude.{◌≡◌, IsOk, OnOk};
+ghost use Rattle.std.specs.Prelude.{◌≡◌, IsOk, OnOk, is_some};
 ghost use Rattle.xn_model.specs.Calls.{free_of, tainted_of};
+ghost use Rattle.xn_state.specs.Awaits.{awaited_of};
 ghost use Rattle.ffs_lib.specs.Volumes.{NothingPending};
 ghost use Rattle.xnfs_session.specs.Kept.{KeepsVolumes};
 
@@ -21,9 +22,10 @@ pub trait FlushStore: Store {
     fn free(&self) -> u32
         ensures { result ≡ free_of (Self.state_of self.now) };
 
-    /// Whether a block has a pending entry that may not be written yet.
-    fn tainted(&self, block: u32) -> bool
-        ensures { result ≡ tainted_of (Self.state_of self.now) block };
+    /// The block that the first entry of a block waits for that may not be written yet; `None` where none waits.
+    fn awaited(&self, block: u32) -> Option<u32>
+        ensures block { result ≡ awaited_of (Self.state_of self.now) block }
+        ensures waits { is_some result ≡ tainted_of (Self.state_of self.now) block };
 }
 
 /// What a flush answers. The lanes of blocks that could not be finished are given up.
@@ -57,7 +59,7 @@ impl<L: Lane + Drop> FlushStore for Kernel<L> {
         Kernel::free(self)
     }
 
-    fn tainted(&self, block: u32) -> bool {
-        Kernel::tainted(self, block)
+    fn awaited(&self, block: u32) -> Option<u32> {
+        Kernel::awaited(self, block)
     }
 }

@@ -1,6 +1,6 @@
 // A store with its open volume.
 
-ghost use Rattle.std.specs.Prelude.{◌≡◌, ◌≤◌, ◌⊎◌, ℕ, length, map, IfOk, IfErr, MatchResult, OnErr, OnOk, Ok, Err};
+ghost use Rattle.std.specs.Prelude.{◌≡◌, ◌≤◌, ◌⊎◌, ℕ, is_some, length, map, IfOk, MatchResult, OnErr, OnOk, Ok, Err};
 ghost use Rattle.ffs_model.specs.Cuts.{latest};
 ghost use Rattle.ffs_model.specs.Library.{IsLibrary};
 ghost use Rattle.ffs_lookup.specs.Newest.{inode_in, mapped, named_in, rmdir_in, unlink_in};
@@ -17,6 +17,7 @@ ghost use Rattle.ffs_lib.specs.Volumes.{NothingPending};
 ghost use Rattle.ffs_lib.specs.Writes.{WritesSome};
 ghost use Rattle.xn_model.specs.Calls.{free_of, pending_of, tainted_of};
 ghost use Rattle.xn_model.specs.declared.refusal.Refusal.{Refusal};
+ghost use Rattle.xn_state.specs.Awaits.{awaited_of};
 ghost use Rattle.xnfs_session.specs.Kept.{KeepsVolumes};
 
 use crate::flushing::FlushStore;
@@ -391,11 +392,12 @@ impl<S: FlushStore + Drop> Session<S> {
         Ok(Owner { block, ty, owned })
     }
 
-    /// Whether a block has a pending entry that may not be written yet, as another block has to be on the disk first.
-    pub fn tainted(&self, block: u32) -> bool
-        ensures { result ≡ tainted_of (S.state_of self.now.store) block }
+    /// The block that the first entry of a block waits for that may not be written yet; `None` where none waits.
+    pub fn awaited(&self, block: u32) -> Option<u32>
+        ensures block { result ≡ awaited_of (S.state_of self.now.store) block }
+        ensures waits { is_some result ≡ tainted_of (S.state_of self.now.store) block }
     {
-        self.store.tainted(block)
+        self.store.awaited(block)
     }
 
     /// What is taken and what is left.

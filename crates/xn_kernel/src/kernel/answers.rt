@@ -1,10 +1,11 @@
 // The answers of a kernel that change nothing.
 
-ghost use Rattle.std.specs.Prelude.{◌≡◌};
+ghost use Rattle.std.specs.Prelude.{◌≡◌, is_some};
 ghost use Rattle.xn_model.specs.Results.{Lends};
 ghost use Rattle.std.specs.Option.{option_copied};
 ghost use Rattle.xn_model.specs.Calls.{read_of, kind_of, root_of, pending_of, tainted_of, free_of, pick_of};
 ghost use Rattle.templates.specs.Tables.{TellsTemplate};
+ghost use Rattle.xn_state.specs.Awaits.{awaited_of};
 ghost use Rattle.xn_state.specs.States.{own_types};
 
 use crate::kernel::Kernel;
@@ -55,6 +56,16 @@ impl<L: Lane> Kernel<L> {
         ensures { result ≡ tainted_of self.now.state block }
     {
         self.state.tainted(block)
+    }
+
+    /// The block that the first entry of a block waits for that isn't safe: the first added one that has no state on the disk, or else the
+    /// first dropped one whose newest state is not there, or else the one in which the entry is pending that it comes after, or else block 0,
+    /// which lacks the type of an added one there. `None` where each entry is safe.
+    pub fn awaited(&self, block: u32) -> Option<u32>
+        ensures block { result ≡ awaited_of self.now.state block }
+        ensures waits { is_some result ≡ tainted_of self.now.state block }
+    {
+        self.state.awaited(block)
     }
 
     /// How many blocks are free.

@@ -1,7 +1,8 @@
 // Which blocks may be written, and how many are free.
 
-ghost use Rattle.std.specs.Prelude.{◌≡◌};
+ghost use Rattle.std.specs.Prelude.{◌≡◌, is_some};
 ghost use Rattle.xn_model.specs.Calls.{free_of, pick_of, tainted_of};
+ghost use Rattle.xn_state.specs.Awaits.{awaited_of};
 
 use crate::state::State;
 
@@ -11,6 +12,16 @@ impl State {
         ensures { result ≡ tainted_of self.now block }
     {
         self.lives.is_tainted(block)
+    }
+
+    /// The block that the first entry of a block waits for that isn't safe: the first added one that has no state on the disk, or else the
+    /// first dropped one whose newest state is not there, or else the one in which the entry is pending that it comes after, or else block 0,
+    /// which lacks the type of an added one there. `None` where each entry is safe.
+    pub fn awaited(&self, block: u32) -> Option<u32>
+        ensures block { result ≡ awaited_of self.now block }
+        ensures waits { is_some result ≡ tainted_of self.now block }
+    {
+        self.lives.awaited(block)
     }
 
     /// How many blocks are free.
