@@ -17,5 +17,6 @@ pub mod DirtyChanges
 pub mod FirstDrops
 pub mod Ended
 pub mod IndexChanges
+pub mod Awaiting
 pub mod ForCallers
 pub mod Types

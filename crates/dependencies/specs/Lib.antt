@@ -9,3 +9,4 @@ pub mod Oldest
 pub mod Counts
 pub mod Index
 pub mod Unmet
+pub mod Awaits

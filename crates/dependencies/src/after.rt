@@ -24,7 +24,7 @@ fn is_number_at(cache: &Cache, block: u32, place: usize, number: u64) -> bool
 }
 
 /// Whether one of the first pending entries of a block has this number.
-fn has_number(cache: &Cache, block: u32, count: usize, number: u64) -> bool
+pub fn has_number(cache: &Cache, block: u32, count: usize, number: u64) -> bool
     ensures { result ≡ has_entry (first_pending count (life_at cache.now block)) number }
 {
     for place in 0..count {
@@ -36,7 +36,7 @@ fn has_number(cache: &Cache, block: u32, count: usize, number: u64) -> bool
 }
 
 /// Whether the entry of this number is pending in a block.
-fn is_pending_in(cache: &Cache, block: u32, number: u64) -> bool
+pub fn is_pending_in(cache: &Cache, block: u32, number: u64) -> bool
     ensures { result ≡ alive_and (λ l. has_entry l.pending number) (life_at cache.now block) }
 {
     has_number(cache, block, cache.pending(block), number)

@@ -14,6 +14,7 @@ use std::alloc::{AllocError, Global};
 use std::marker::Model;
 
 mod answers;
+mod awaited;
 mod changes;
 
 /// Which blocks are free, how many pending entries count for each file system and from which number on they lie, for which blocks

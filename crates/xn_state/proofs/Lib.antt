@@ -15,6 +15,4 @@ pub mod Slots
 pub mod Claiming
 pub mod Unclaimed
 pub mod Newest
-pub mod Numbers
-pub mod Awaiting
 pub mod ForCallers

@@ -14,6 +14,7 @@ ghost use Rattle.block_cache.specs.Views.{facts_of};
 ghost use Rattle.xn_model.specs.Mounts.{found_status};
 ghost use Rattle.claims.specs.Owners.{is_claimed, owned_count};
 ghost use Rattle.claims.specs.Owned.{MayClaim};
+ghost use Rattle.dependencies.specs.Awaits.{awaited_in};
 ghost use Rattle.dependencies.specs.Pending.{pends};
 ghost use Rattle.dependencies.specs.Typed.{FindsTypes};
 ghost use Rattle.xn_state.specs.Mounts.{life_of, lives_in};
@@ -28,7 +29,6 @@ use std::alloc::{AllocError, Global};
 use std::marker::Model;
 use xn_model::{Refusal, Status};
 
-mod awaited;
 mod forget;
 mod idle;
 mod install;
@@ -211,6 +211,15 @@ impl Lives {
         ensures { result ≡ is_tainted self.now (life_at self.now block) }
     {
         self.index.is_tainted(&self.cache, block)
+    }
+
+    /// The block that the first entry of a block waits for which may not be written yet.
+    pub fn awaited(&self, block: u32) -> Option<u32>
+        requires { FindsTypes self.now }
+        ensures block { result ≡ awaited_in self.now (life_at self.now block) }
+        ensures waits { is_some result ≡ is_tainted self.now (life_at self.now block) }
+    {
+        self.index.awaited(&self.cache, block)
     }
 
     /// The least block of which a write may begin.

@@ -1,5 +1,4 @@
 use Rattle.xn_state.specs.States.{own_types}
-use Rattle.xn_state.proofs.Awaiting.{waits}
 use Rattle.xn_state.proofs.Keeping.{state_of}
 use Rattle.xn_state.proofs.Typing.{finds_types}
 use Rattle.xn_state.proofs.state.State.awaited.Goals as goal

@@ -5,7 +5,7 @@ use Rattle.std.proofs.lemmas.Bool.{lt-ltb, le-ltb}
 use Rattle.std.proofs.lemmas.Option.{slice_get_cases}
 use Rattle.xn_model.specs.Lives.{Life, Lives, prefix_of}
 use Rattle.xn_model.specs.Calls.{is_tainted}
-use Rattle.xn_state.specs.Awaits.{awaited_in}
+use Rattle.dependencies.specs.Awaits.{awaited_in}
 
 there : {X Y : Type 0} (f : X → Y) (xs : List X) (k : ℕ) → is_some (option_map f (slice_get xs k)) ≡ nat_lt k (length xs)
 there f xs k = elim (slice_get_cases xs k).1 [
