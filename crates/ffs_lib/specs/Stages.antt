@@ -40,8 +40,8 @@ emptied other = other
 abbrev pub with_emptied : Files → ℕ → Files
 with_emptied files n = with_value files n (emptied (files n))
 
--- What is asked: an edit of a directory's block at an index; of the block that has an inode; of that, or of the inode's block of pointers; what an entry more in
--- a directory needs; what a block of inodes more does.
+-- What is asked: an edit of a directory's block at an index; of the block that has an inode; of that, or of the inode's block of pointers; what an entry
+-- more in a directory needs; what a block of inodes more does.
 pub data Ask : Type 0 where
   OfEntry : (d index : ℕ) → Ask
   OfInode : (n : ℕ) → Ask

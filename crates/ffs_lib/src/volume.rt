@@ -241,8 +241,8 @@ impl Volume {
         ensures types { S.types_of store.new ≡ S.types_of store.old }
         ensures fs { self.new.fs ≡ self.old.fs }
         ensures answers { let files = files_of (newest (S.state_of store.old)) self.old.fs.number in
-            Does (S.types_of store.old) self.old.fs.number (created new_directory files directory name.now) (created_stages new_directory files directory name.now)
-            (S.state_of store.old) (S.state_of store.new) result }
+            Does (S.types_of store.old) self.old.fs.number (created new_directory files directory name.now)
+            (created_stages new_directory files directory name.now) (S.state_of store.old) (S.state_of store.new) result }
         ensures inodes { let old = newest (S.state_of store.old) in let new = newest (S.state_of store.new) in let fs = self.old.fs.number in
             (next : ℕ × Files) → created new_directory (files_of old fs) directory name.now ≡ Ok next → Makes old new fs directory DIRECTORY next.0 }
         ensures keeps { IsVolume (S.types_of store.old) (S.state_of store.new) self.new }

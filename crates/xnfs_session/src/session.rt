@@ -235,8 +235,8 @@ impl<S: FlushStore + Drop> Session<S> {
         ensures types { S.types_of self.new.store ≡ S.types_of self.old.store }
         ensures fs { self.new.fs ≡ self.old.fs }
         ensures answers { let files = files_of (newest (S.state_of self.old.store)) self.old.fs in
-            Does (S.types_of self.old.store) self.old.fs (created new_directory files directory name.now) (created_stages new_directory files directory name.now)
-            (S.state_of self.old.store) (S.state_of self.new.store) result }
+            Does (S.types_of self.old.store) self.old.fs (created new_directory files directory name.now)
+            (created_stages new_directory files directory name.now) (S.state_of self.old.store) (S.state_of self.new.store) result }
         ensures inodes { let old = newest (S.state_of self.old.store) in let new = newest (S.state_of self.new.store) in
             (next : ℕ × Files) → created new_directory (files_of old self.old.fs) directory name.now ≡ Ok next → Makes old new self.old.fs directory 2 next.0 }
     {
