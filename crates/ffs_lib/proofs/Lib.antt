@@ -51,3 +51,4 @@ pub mod Following
 pub mod ValueWritten
 pub mod Staged
 pub mod StagedNew
+pub mod StagedMoves

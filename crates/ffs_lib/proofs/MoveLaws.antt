@@ -1,20 +1,30 @@
 -- What is left of a name that is moved, after its inode was named again and the old name taken.
-use Rattle.std.proofs.Common.{◌≡◌, ◌≢◌, ◌∙◌, ℕ, ◌*◌, ◌<◌, ◌≤◌, List, Ok, ap, arith, inl, inr, length, subst, sym}
-use Rattle.std.specs.Prelude.{slice_set}
+use Rattle.std.proofs.Common.{◌≡◌, ◌≢◌, ◌∙◌, ℕ, ◌*◌, ◌<◌, ◌≤◌, List, Ok, Some, ap, arith, inl, inr, length, refl, subst, sym}
 use Rattle.std.proofs.lemmas.Bool.{cases_eq}
+use Rattle.xn_model.specs.Types.{Types}
+use Rattle.xn_model.specs.Lives.{StoreState}
+use Rattle.ffs_model.specs.Cuts.{latest}
 use Rattle.ffs_model.specs.Library.{inode_links}
+use Rattle.ffs_format.specs.Fields.{direct_in}
+use Rattle.ffs_lookup.specs.declared.fault.FfsFault.{FfsFault}
 use Rattle.ffs_lookup.specs.declared.places.Slot.{Slot}
 use Rattle.ffs_lookup.specs.Newest.{directory_in, inode_in, named_in}
 use Rattle.ffs_lookup.proofs.ForCallers.{same_ok}
-use Rattle.ffs_lib.specs.Results.{AsBefore, IsSized, MovedInodes, SameInode}
-use Rattle.ffs_lib.specs.Steps.{NamedAgain, Unnamed}
-use Rattle.ffs_lib.proofs.Entering.{directory_from}
+use Rattle.ffs_lookup.specs.Files.{room}
+use Rattle.ffs_lookup.specs.FileValues.{AreBlocksOnce, blocks_value}
+use Rattle.ffs_lib.specs.Results.{AsBefore, IsAs, IsExtended, MovedInodes, SameInode}
+use Rattle.ffs_lib.specs.Steps.{Clearing, NamedAgain, StopsNaming, StopsTaking, StopsUnnaming, Unnamed}
+use Rattle.ffs_lib.proofs.Entering.{directory_from, directory_same}
 use Rattle.ffs_lib.proofs.Fields.{same_blocks}
 use Rattle.ffs_lib.proofs.Laws.{less_of}
 use Rattle.ffs_lib.proofs.Moving.{as_on, directory_to, named_block, same_as}
 use Rattle.ffs_lib.proofs.Renaming.{CanMove}
 use Rattle.ffs_lib.proofs.Same.{same_on}
+use Rattle.ffs_lib.proofs.Staged.{same_here}
 use Rattle.ffs_lib.proofs.StillNamed.{still_named}
+use Rattle.ffs_lib.proofs.ValueMade.{pointer_kept, pointer_new}
+use Rattle.ffs_lib.proofs.ValueSame.{blocks_same}
+use Rattle.ffs_lib.proofs.ValueSteps.{as_direct}
 
 module _ (u w : ℕ → List ℕ) (fs d : ℕ) (name : List ℕ) (other : ℕ) (new_name : List ℕ) (slot : Slot) (x : CanMove u fs d name other new_name slot) (z : NamedAgain u w fs other new_name slot.inode) where
   pub still_there : Ok slot ≡ named_in w fs d name
@@ -40,32 +50,126 @@ module _ (u w : ℕ → List ℕ) (fs d : ℕ) (name : List ℕ) (other : ℕ) (
             omega (arith, one, linked, same, kept)
       ]
 
-  -- the directory that is entered has its size
-  sized : (last : ℕ → List ℕ) (middle : ℕ → List ℕ) → ((e : ℕ) → inode_in middle fs e ≡ inode_in w fs e) → AsBefore middle last fs other → (inode after : List ℕ) → Ok inode ≡ directory_in u fs other → Ok after ≡ directory_in last fs other → IsSized inode after
-  sized last middle inodes less inode after i now =
-      let at = directory_from u fs other inode i in
-      let to1 = z.linked.before other inode at.0 in
-      let more = z.entered.more to1.after (directory_to z.middle fs other to1.after to1.found (to1.mode ∙ at.1)) in
-      let y = less more.after ((directory_from w fs other more.after more.directory).0 ∙ sym (inodes other)) in
-      let same : y.after ≡ after = same_ok y.after after (y.found ∙ sym (directory_from last fs other after now).0) in
-      subst (IsSized inode) same (elim more.placed [
-        | inl p ↦ inl (y.direct ∙ (p.1 ∙ to1.direct), y.size ∙ (p.2 ∙ to1.size))
-        | inr p ↦ inr (
-          p.0,
-          more.entry.block,
-          y.direct ∙ (p.3 ∙ ap (λ ds. slice_set ds p.0 more.entry.block) to1.direct),
-          y.size ∙ (p.4 ∙ ap (λ (bs : List ℕ). 512 * length bs) (sym (same_blocks more.after y.after y.direct))),
-        )
-      ])
+  -- two inodes of which one is as the other but for its links
+  extended_as : (inode before : List ℕ) → (y : (v : ℕ → List ℕ) × (last : ℕ → List ℕ) × IsAs v last fs other before) → IsExtended inode before → IsExtended inode y.2.after
+  extended_as inode before y e = (
+    λ i lt some. as_direct y.0 y.1 fs other before y.2 i lt ∙ e.0 i lt some,
+    elim e.1 [
+      | inl p ↦ inl (y.2.direct ∙ p.0, y.2.size ∙ p.1)
+      | inr p ↦ inr (λ same. p.0 (sym y.2.direct ∙ same), y.2.size ∙ (p.1 ∙ ap (λ (bs : List ℕ). 512 * length bs) (sym (same_blocks before y.2.after y.2.direct))))
+    ],
+  )
 
-  pub moved_inodes : 1 ≤ inode_links x.own → (last : ℕ → List ℕ) → Unnamed w last fs slot → MovedInodes u last fs d other slot.inode
-  moved_inodes linked last g =
-      let less = less_of g.middle last fs slot.inode g.took (λ inode i. many linked inode (i ∙ g.cleared.inodes slot.inode)) in
-      let at = named_block w fs d name slot still_there in
-      let own : (e : ℕ) → e ≢ d → SameInode w g.middle fs e = g.cleared.others d at.0 at.1 at.2 in
+  module _ (once : AreBlocksOnce w fs) (at : ℕ × ℕ) (room_at : Some at ≡ room (blocks_value u x.to)) where
+    -- the directory that is entered
+    extended : (inode after : List ℕ) → Ok inode ≡ directory_in u fs other → Ok after ≡ directory_in w fs other → IsExtended inode after
+    extended inode after i now =
+        let v = z.middle in
+        let dir = directory_from u fs other inode i in
+        let to1 = z.linked.before other inode dir.0 in
+        let more = z.entered.more to1.after (directory_to v fs other to1.after to1.found (to1.mode ∙ dir.1)) in
+        let one : more.after ≡ after = same_ok more.after after (more.directory ∙ sym now) in
+        let direct : (i : ℕ) → i < 12 → direct_in to1.after i ≡ direct_in inode i = λ i lt. as_direct u v fs other inode to1 i lt in
+        let mine : x.to ≡ inode = same_ok x.to inode (x.is_to ∙ sym i) in
+        let place : Some at ≡ room (blocks_value v to1.after) =
+        room_at ∙ (ap (λ (m : List ℕ). room (blocks_value u m)) mine ∙ ap room (sym (blocks_same u v inode to1.after direct to1.entries to1.size to1.each))) in
+        let singly = once other more.after more.directory in
+        subst (IsExtended inode) one (
+          λ i lt some. pointer_kept v w fs other slot.inode new_name to1.after more singly at place i lt (λ none. some (sym (direct i lt) ∙ none)) ∙ direct i lt,
+          elim more.placed [
+            | inl p ↦ inl (p.1 ∙ to1.direct, p.2 ∙ to1.size)
+            | inr p ↦ inr (λ same. pointer_new v w fs other slot.inode new_name to1.after more singly at place p.0 p.1 p.3 (same ∙ sym to1.direct), p.4)
+          ],
+        )
+
+    -- it is named again
+    named_inodes : MovedInodes u w fs d other slot.inode
+    named_inodes = record {
+      others = λ e ne ne'. as_on u z.middle w fs e (z.linked.before e) (same_as z.middle w fs e (z.entered.others e ne'));
+      same = λ e ne ne' away. same_on u z.middle w fs e (z.linked.others e away) (z.entered.others e ne');
+      kept = λ ne away. (z.entered.others d ne).0 ∙ (z.linked.others d away).0;
+      sized = extended;
+    }
+
+    -- and the old entry is gone, or an edit after that was refused
+    pub refused_inodes : 1 ≤ inode_links x.own → (T : Types) (middle new : StoreState) → latest middle.lives ≡ w → (fault : FfsFault) → StopsUnnaming T fs middle new slot fault → MovedInodes u (latest new.lives) fs d other slot.inode
+    refused_inodes linked T middle new is fault stop = elim stop [
+      | inl p ↦ subst (λ (c : ℕ → List ℕ). MovedInodes u c fs d other slot.inode) (sym (ap (λ (y : StoreState). latest y.lives) p.0 ∙ is)) named_inodes
+      | inr q ↦ taking q.0 (subst (λ (c : ℕ → List ℕ). Clearing c (latest q.0.lives) fs slot) is q.1) q.2
+    ]
+      where
+        taking : (m : StoreState) → Clearing w (latest m.lives) fs slot → StopsTaking T fs m new slot.inode fault → MovedInodes u (latest new.lives) fs d other slot.inode
+        taking m c s =
+            let n = slot.inode in
+            let v = latest m.lives in
+            let last = latest new.lives in
+            let at = named_block w fs d name slot still_there in
+            let own : (e : ℕ) → e ≢ d → SameInode w v fs e = c.others d at.0 at.1 at.2 in
+            let named = named_inodes in
+            let inodes : (e : ℕ) → inode_in last fs e ≡ inode_in w fs e = λ e. elim (cases_eq e n) [
+              | inl same ↦ ap (inode_in last fs) same ∙ (sym s.is ∙ (s.was ∙ (c.inodes n ∙ ap (inode_in w fs) (sym same))))
+              | inr ne ↦ (s.others e ne).0 ∙ c.inodes e
+            ] in
+            let mine : n ≢ d → AsBefore w last fs n = λ away inode i. elim s.stage [
+              | inl same ↦ same_as w last fs n (subst (λ (y : StoreState). SameInode w (latest y.lives) fs n) (sym same) (own n away)) inode i
+              | inr e ↦
+                  let more = many linked inode i in
+                  let one : inode_links inode ≡ inode_links s.inode = ap inode_links (same_ok inode s.inode (i ∙ (sym (c.inodes n) ∙ sym s.was))) in
+                  let low = e.last in
+                  absurd (omega (arith, one, more, low))
+            ] in
+            record {
+              others = λ e ne ne'. elim (cases_eq e n) [
+                | inl same ↦ subst (λ (k : ℕ). AsBefore u last fs k) (sym same) (as_on u w last fs n (named.others n (λ z. ne (same ∙ z)) (λ z. ne' (same ∙ z))) (mine (λ z. ne (same ∙ z))))
+                | inr away ↦ as_on u w last fs e (named.others e ne ne') (same_as w last fs e (same_on w v last fs e (own e ne) (s.others e away)))
+              ];
+              same = λ e ne ne' away. same_on u w last fs e (named.same e ne ne' away) (same_on w v last fs e (own e ne) (s.others e away));
+              kept = λ ne away. inodes d ∙ named.kept ne away;
+              sized = λ inode after i now. extended inode after i (now ∙ directory_same w last fs other (inodes other));
+            }
+
+    pub moved_inodes : 1 ≤ inode_links x.own → (last : ℕ → List ℕ) → Unnamed w last fs slot → MovedInodes u last fs d other slot.inode
+    moved_inodes linked last g =
+        let less = less_of g.middle last fs slot.inode g.took (λ inode i. many linked inode (i ∙ g.cleared.inodes slot.inode)) in
+        let at = named_block w fs d name slot still_there in
+        let own : (e : ℕ) → e ≢ d → SameInode w g.middle fs e = g.cleared.others d at.0 at.1 at.2 in
+        let named = named_inodes in
+        record {
+          others = λ e ne ne'. as_on u w last fs e (named.others e ne ne') (as_on w g.middle last fs e (same_as w g.middle fs e (own e ne)) (less.0 e));
+          same = λ e ne ne' away. same_on u w last fs e (named.same e ne ne' away) (same_on w g.middle last fs e (own e ne) (g.took.others e away));
+          kept = λ ne away. (g.took.others d away).0 ∙ (g.cleared.inodes d ∙ named.kept ne away);
+          sized = λ inode after i now.
+              let dir = directory_from u fs other inode i in
+              let to1 = z.linked.before other inode dir.0 in
+              let more = z.entered.more to1.after (directory_to z.middle fs other to1.after to1.found (to1.mode ∙ dir.1)) in
+              let y = less.0 other more.after ((directory_from w fs other more.after more.directory).0 ∙ sym (g.cleared.inodes other)) in
+              subst (IsExtended inode) (same_ok y.after after (y.found ∙ sym (directory_from last fs other after now).0)) (extended_as inode more.after (g.middle, last, y) (extended inode more.after i more.directory));
+        }
+
+-- no name is entered yet
+pub naming_inodes : (T : Types) (fs d other n : ℕ) (old new : StoreState) (fault : FfsFault) → StopsNaming T fs old new other n fault → MovedInodes (latest old.lives) (latest new.lives) fs d other n
+naming_inodes T fs d other n old new fault stop = let u = latest old.lives in elim stop [
+  | inl home ↦ subst (λ (y : StoreState). MovedInodes u (latest y.lives) fs d other n) (sym home.0) nothing
+  | inr q ↦
+      let m = latest q.0.lives in
+      let w = latest new.lives in
+      let l = q.1 in
+      let same = q.2.same in
       record {
-        others = λ e ne ne'. as_on u z.middle last fs e (z.linked.before e) (as_on z.middle w last fs e (same_as z.middle w fs e (z.entered.others e ne')) (as_on w g.middle last fs e (same_as w g.middle fs e (own e ne)) (less.0 e)));
-        same = λ e ne ne' away. same_on u z.middle last fs e (z.linked.others e away) (same_on z.middle w last fs e (z.entered.others e ne') (same_on w g.middle last fs e (own e ne) (g.took.others e away)));
-        kept = λ ne away. (g.took.others d away).0 ∙ (g.cleared.inodes d ∙ ((z.entered.others d ne).0 ∙ (z.linked.others d away).0));
-        sized = sized last g.middle g.cleared.inodes (less.0 other);
+        others = λ e ne ne'. as_on u m w fs e (l.before e) (same_as m w fs e (same e));
+        same = λ e ne ne' away. same_on u m w fs e (l.others e away) (same e);
+        kept = λ ne away. (same d).0 ∙ (l.others d away).0;
+        sized = λ inode after i now.
+            let to1 = l.before other inode (directory_from u fs other inode i).0 in
+            let one : to1.after ≡ after = same_ok to1.after after (to1.found ∙ (sym (same other).0 ∙ sym (directory_from w fs other after now).0)) in
+            subst (IsExtended inode) one (λ k lt some. as_direct u m fs other inode to1 k lt, inl (to1.direct, to1.size));
       }
+]
+  where
+    nothing : MovedInodes (latest old.lives) (latest old.lives) fs d other n
+    nothing = record {
+      others = λ e ne ne'. same_as (latest old.lives) (latest old.lives) fs e (same_here (latest old.lives) fs e);
+      same = λ e ne ne' away. same_here (latest old.lives) fs e;
+      kept = λ ne away. refl;
+      sized = λ inode after i now. subst (IsExtended inode) (same_ok inode after (i ∙ sym now)) (λ k lt some. refl, inl (refl, refl));
+    }

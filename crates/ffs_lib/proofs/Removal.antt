@@ -8,9 +8,8 @@ use Rattle.ffs_lookup.specs.declared.fault.FfsFault.TheVariants.{BadName, DirNot
 use Rattle.ffs_lookup.specs.declared.places.Slot.{Slot}
 use Rattle.ffs_lookup.specs.Newest.{and_then, directory_in, entries_of, entry_named, file_in, first_named, if_empty, inode_in, mapped, named_in, rmdir_in, unlink_in}
 use Rattle.ffs_lookup.proofs.ForCallers.{EntryAt, first_value, not_both}
-use Rattle.ffs_lib.specs.Steps.{Removable}
 use Rattle.ffs_lib.proofs.Entering.{directory_from}
-use Rattle.ffs_lib.proofs.Moving.{named_block, named_from}
+use Rattle.ffs_lib.proofs.Moving.{named_from}
 use Rattle.ffs_lib.proofs.Owners.{only_first, passed}
 use Rattle.ffs_lib.proofs.Refusals.{not_bare}
 use Rattle.ffs_lib.proofs.Renaming.{then_first}
@@ -26,30 +25,9 @@ pub record FindsEntry (content : ℕ → List ℕ) (fs d : ℕ) (name : List ℕ
   pub apart : d ≢ slot.inode
 
 module _ (content : ℕ → List ℕ) (fs d : ℕ) (name : List ℕ) (entry : Slot) where
-  from_named : (other : Slot) → Ok other ≡ named_in content fs d name → other ≡ entry → d ≢ other.inode → Removable content fs d entry
-  from_named other e same apart =
-      let b = named_block content fs d name other e in
-      subst (λ x. Removable content fs d x) same (record { own = b.0; is = b.1; has = b.2; apart = apart })
-
   of_file : (x : Slot) (f : Result (List ℕ) FfsFault) → Ok entry ≡ mapped (λ inode. x) f → (inode : List ℕ) × (entry ≡ x) × (Ok inode ≡ f)
   of_file x (Ok inode) e = (inode, cc, refl)
   of_file x (Err fault) e = absurd (cc e)
-
-  pub unlink_finds : Ok entry ≡ unlink_in content fs d name → Removable content fs d entry
-  unfolding unlink_in
-  unlink_finds e =
-      let r = passed (named_in content fs d name) (λ x. mapped (λ inode. x) (file_in content fs x.inode)) entry e in
-      let m = of_file r.0 (file_in content fs r.0.inode) r.2 in
-      let x = named_from content fs d name r.0 r.1 in
-      from_named r.0 r.1 (sym m.1) (λ z. not_both content fs r.0.inode x.0 m.0 (x.1 ∙ ap (directory_in content fs) z) m.2)
-
-  pub rmdir_finds : Ok entry ≡ rmdir_in content fs d name → Removable content fs d entry
-  unfolding rmdir_in
-  rmdir_finds e =
-      let r = passed (named_in content fs d name) (λ x. and_then (directory_in content fs x.inode) (if_empty content x)) entry e in
-      let f = passed (directory_in content fs r.0.inode) (if_empty content r.0) entry r.2 in
-      let b = only_first (length (entries_of content f.0) == 0) r.0 entry DirNotEmpty f.2 in
-      from_named r.0 r.1 b.1 (λ z. not_bare content fs d name f.0 r.0 (f.1 ∙ sym (ap (directory_in content fs) z)) r.1 b.0)
 
   good_name : (other : Slot) → Ok other ≡ named_in content fs d name → is_name name ≡ true
   unfolding named_in

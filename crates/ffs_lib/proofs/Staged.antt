@@ -23,8 +23,9 @@ use Rattle.ffs_lookup.specs.Files.{Answer, Blocks, Directory, File, Files, clear
 use Rattle.ffs_lookup.specs.FileValues.{blocks_value, bytes_value, files_of}
 use Rattle.ffs_lookup.proofs.ForCallers.{IsPlaceOf, direct_has, map_on, same_ok}
 use Rattle.ffs_lib.specs.Results.{OnlyChanges, SameInode}
-use Rattle.ffs_lib.specs.Stages.{Asks, Does, IsStage, OfEntry, OfLink, Stages, Unnames, cleared_stages, emptied, link_stages, removed_stages, stages_of, with_emptied}
+use Rattle.ffs_lib.specs.Stages.{Asks, Does, IsRefused, IsStage, OfEntry, OfLink, Stages, Unnames, cleared_stages, emptied, link_stages, removed_stages, stages_of, with_emptied}
 use Rattle.ffs_lib.specs.Steps.{Answers, ClearedPointers, Clearing, IsHome, Stops, StopsTaking, StopsUnnaming, Unnamed, Wants}
+use Rattle.ffs_lib.specs.Values.{Leads}
 use Rattle.ffs_lib.proofs.Entering.{directory_from}
 use Rattle.ffs_lib.proofs.Following.{blocks_once}
 use Rattle.ffs_lib.proofs.Laws.{removed, unlisted}
@@ -35,7 +36,7 @@ use Rattle.ffs_lib.proofs.Same.{same_on}
 use Rattle.ffs_lib.proofs.ValueMade.{directory_value}
 use Rattle.ffs_lib.proofs.ValueSteps.{clearing_value, kind, kind_is, takes_value, value_at}
 
-same_here : (v : ℕ → List ℕ) (fs x : ℕ) → SameInode v v fs x
+pub same_here : (v : ℕ → List ℕ) (fs x : ℕ) → SameInode v v fs x
 same_here v fs x = (refl, λ inode i. (refl, λ at low. refl), λ some low. refl)
 
 -- a call whose look-ups fail has the fault that its function has
@@ -45,6 +46,16 @@ does_fault T fs (Err fault) (Err other) stages old new result e h = let same : f
 does_fault T fs (Err fault) (Ok next) stages old new result e h = absurd (cc e)
 does_fault T fs (Ok x) answer stages old new (Ok y) e h = absurd h
 does_fault T fs (Ok x) answer stages old new (Err fault) e h = absurd h.1
+
+-- one whose look-ups pass does what its function says, or leaves one of its stages
+pub does_found : {A : Type 0} (T : Types) (fs : ℕ) (answer : Answer A) (next : A × Files) (stages list : Stages) (P : A → Type 0) (R : FfsFault → Type 0) (old new : StoreState) (result : Result A FfsFault) → answer ≡ Ok next → stages ≡ list →
+    ((y : A) → P y → Leads (Ok next) (latest new.lives) fs y) → ((fault : FfsFault) → R fault → IsRefused T fs old new fault list) → MatchResult result P (Stops R) → Does T fs answer stages old new result
+does_found {A} T fs answer next stages list P R old new result is are leads refused ends =
+    subst (λ (a : Answer A). Does T fs a stages old new result) (sym is) (subst (λ (s : Stages). Does T fs (Ok next) s old new result) (sym are) (go result ends))
+  where
+    go : (r : Result A FfsFault) → MatchResult r P (Stops R) → Does T fs (Ok next) list old new r
+    go (Ok y) h = leads y h
+    go (Err fault) h = (h.0, refused fault h.1)
 
 -- The block of pointers of an inode with its last link was emptied
 module _ (T : Types) (lib : IsLibrary T) (fs : ℕ) (few : fs < 32) (v : ℕ → List ℕ) (new : StoreState) (h : IsConsistent T new) (n : ℕ) (inode : List ℕ) (was : Ok inode ≡ inode_in v fs n) (is : Ok inode ≡ inode_in (latest new.lives) fs n)

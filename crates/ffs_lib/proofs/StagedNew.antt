@@ -13,8 +13,8 @@ use Rattle.ffs_lookup.specs.Newest.{and_then, create_in, directory_in, inode_in}
 use Rattle.ffs_lookup.specs.Files.{Answer, Files, InodeValue, created, is_absent, made_at, room, told, with_block, with_value}
 use Rattle.ffs_lookup.specs.FileValues.{AreBlocksOnce, blocks_value, files_of, inode_value, place_in, value_in}
 use Rattle.ffs_lookup.proofs.ForCallers.{block_again, created_ok, created_told, good_number, has_root, same_ok, value_by_place, value_found, value_outside}
-use Rattle.ffs_lib.specs.Results.{IsLowestNumber, MadeEntry, SameOrNew, new_inode}
-use Rattle.ffs_lib.specs.Stages.{Asks, Does, ForEntry, IsExtended, IsRefused, IsStage, Makes, OfInode, created_stages, made_stages, stages_of}
+use Rattle.ffs_lib.specs.Results.{IsExtended, IsLowestNumber, MadeEntry, SameOrNew, new_inode}
+use Rattle.ffs_lib.specs.Stages.{Asks, Does, ForEntry, IsRefused, IsStage, Makes, OfInode, created_stages, made_stages, stages_of}
 use Rattle.ffs_lib.specs.Steps.{Answers, Creates, MadeInode, StopsAtHome, StopsMaking, StopsNew, TakesFree, Wants}
 use Rattle.ffs_lib.specs.Values.{Leads}
 use Rattle.ffs_lib.proofs.Entering.{directory_from, free_none}

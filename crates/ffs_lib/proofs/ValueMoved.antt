@@ -4,18 +4,18 @@ use Rattle.std.proofs.lemmas.Bool.{cases_eq}
 use Rattle.ffs_model.specs.Library.{inode_links}
 use Rattle.ffs_format.specs.Fields.{direct_in}
 use Rattle.ffs_lookup.specs.declared.places.Slot.{Slot}
-use Rattle.ffs_lookup.specs.Newest.{directory_in, inode_in, rename_in}
-use Rattle.ffs_lookup.specs.Files.{Files, links_of, moved, renamed, room, with_entry, without_link}
+use Rattle.ffs_lookup.specs.Newest.{directory_in, inode_in}
+use Rattle.ffs_lookup.specs.Files.{Files, links_of, moved, room, with_entry, without_link}
 use Rattle.ffs_lookup.specs.FileValues.{AreBlocksOnce, HasBlocksOnce, blocks_value, files_of}
-use Rattle.ffs_lookup.proofs.ForCallers.{EntryAt, IsPlaceOf, first_value, renamed_ok, same_ok}
+use Rattle.ffs_lookup.proofs.ForCallers.{EntryAt, IsPlaceOf, same_ok}
 use Rattle.ffs_lib.specs.Results.{HasMore, IsAs}
-use Rattle.ffs_lib.specs.Steps.{NamedAgain, Unnamed}
+use Rattle.ffs_lib.specs.Steps.{Clearing, NamedAgain, Unnamed}
 use Rattle.ffs_lib.specs.Stages.{with_link}
 use Rattle.ffs_lib.specs.Values.{Leads}
 use Rattle.ffs_lib.proofs.Entering.{directory_from, directory_same}
 use Rattle.ffs_lib.proofs.Moving.{directory_to}
 use Rattle.ffs_lib.proofs.Renaming.{CanMove}
-use Rattle.ffs_lib.proofs.ValueMade.{blocks_more, directory_value, pointer_kept}
+use Rattle.ffs_lib.proofs.ValueMade.{blocks_more, pointer_kept}
 use Rattle.ffs_lib.proofs.ValueSame.{blocks_same}
 use Rattle.ffs_lib.proofs.ValueSteps.{adds_value, as_direct, clearing_value, entry_after_link, entry_value, inode_linked, link_and_less, links_of_entry, takes_value}
 
@@ -53,7 +53,7 @@ module _ (u w : ℕ → List ℕ) (fs d : ℕ) (name : List ℕ) (other : ℕ) (
     entered = entry_value m w fs other to1.after more.after at (Some (new_name, slot.inode)) to1_is more.directory more.links (blocks_more m w fs other slot.inode new_name to1.after more once_more at room_then) z.entered.others
 
     -- the first directory then has the pointers that it had
-    home : (own : List ℕ) × (Ok own ≡ directory_in w fs d) × ((i : ℕ) → i < 12 → direct_in x.from i ≢ 0 → direct_in own i ≡ direct_in x.from i)
+    pub home : (own : List ℕ) × (Ok own ≡ directory_in w fs d) × ((i : ℕ) → i < 12 → direct_in x.from i ≢ 0 → direct_in own i ≡ direct_in x.from i)
     home = elim (cases_eq d other) [
       | inl e ↦
           let same : x.from ≡ x.to = same_ok x.from x.to (x.is_from ∙ (ap (directory_in u fs) e ∙ sym x.is_to)) in (
@@ -70,7 +70,7 @@ module _ (u w : ℕ → List ℕ) (fs d : ℕ) (name : List ℕ) (other : ℕ) (
           (from1.after, then ∙ sym (directory_same m w fs d (z.entered.others d ne).0), λ i lt some. as_direct u m fs d x.from from1 i lt)
     ]
 
-    home_place : IsPlaceOf home.0 slot entry.at
+    pub home_place : IsPlaceOf home.0 slot entry.at
     home_place =
         let k = entry.is in
         record { low = k.low; few = k.few; block = home.2 entry.at.0 k.low (λ none. k.there (sym k.block ∙ none)) ∙ k.block; there = k.there; place = k.place }
@@ -92,27 +92,24 @@ module _ (u w : ℕ → List ℕ) (fs d : ℕ) (name : List ℕ) (other : ℕ) (
         ∙ (links_of_entry files slot.inode other at (Some (new_name, slot.inode)) ∙ inode_linked u fs slot.inode x.own x.is_own) in
         subst (λ (l : ℕ). 1 ≤ l) (sym same) linked
 
+    -- the inode has a link more, and both names
+    pub named_value : files_of w fs ≡ with_entry (with_link files slot.inode) other at (Some (new_name, slot.inode))
+    named_value = entered ∙ ap (λ (f : Files). with_entry f other at (Some (new_name, slot.inode))) (adds_value u m fs slot.inode x.own x.is_own z.linked)
+
+    pub cleared_value : (v : ℕ → List ℕ) → Clearing w v fs slot → files_of v fs ≡ with_entry (with_entry (with_link files slot.inode) other at (Some (new_name, slot.inode))) d entry.at None
+    cleared_value v c =
+        let there = home in
+        clearing_value w v fs d there.0 there.1 (once d there.0 there.1) slot entry.at home_place c ∙ ap (λ (f : Files). with_entry f d entry.at None) named_value
+
     moved_value : 1 ≤ inode_links x.own → (last : ℕ → List ℕ) → Unnamed w last fs slot → files_of last fs ≡ both
     moved_value linked last g =
         let own = used in
-        let there = home in
-        let added = adds_value u m fs slot.inode x.own x.is_own z.linked in
-        let cleared = clearing_value w g.middle fs d there.0 there.1 (once d there.0 there.1) slot entry.at home_place g.cleared in
         let taken = takes_value g.middle last fs slot.inode own.0 (own.1 ∙ sym (g.cleared.inodes slot.inode)) g.took in
-        let named : files_of w fs ≡ with_link (with_entry files other at (Some (new_name, slot.inode))) slot.inode =
-        entered ∙ (ap (λ (f : Files). with_entry f other at (Some (new_name, slot.inode))) added ∙ entry_after_link files slot.inode other at (Some (new_name, slot.inode))) in
         let gone : files_of g.middle fs ≡ with_link both slot.inode =
-        cleared ∙ (ap (λ (f : Files). with_entry f d entry.at None) named ∙ entry_after_link (with_entry files other at (Some (new_name, slot.inode))) slot.inode d entry.at None) in
+        cleared_value g.middle g.cleared
+        ∙ (ap (λ (f : Files). with_entry f d entry.at None) (entry_after_link files slot.inode other at (Some (new_name, slot.inode)))
+        ∙ entry_after_link (with_entry files other at (Some (new_name, slot.inode))) slot.inode d entry.at None) in
         taken ∙ (ap (λ (f : Files). without_link f slot.inode) gone ∙ link_and_less both slot.inode (linked_both linked))
 
--- what its function answers, and that it is there
-pub moved_next : (u : ℕ → List ℕ) (fs d : ℕ) (name : List ℕ) (other : ℕ) (new_name : List ℕ) (slot : Slot) (x : CanMove u fs d name other new_name slot) → Ok slot ≡ rename_in u fs d name other new_name →
-    (next : Unit {0} × Files) × (renamed (files_of u fs) d name other new_name ≡ Ok next)
-    × ((w : ℕ → List ℕ) → NamedAgain u w fs other new_name slot.inode → AreBlocksOnce w fs → 1 ≤ inode_links x.own → (last : ℕ → List ℕ) → Unnamed w last fs slot → (y : Unit {0}) → Leads (Ok next) last fs y)
-moved_next u fs d name other new_name slot x e =
-    let entry = first_value u x.from name slot x.first in
-    let k = renamed_ok u fs d name other new_name x.from x.to slot (directory_value u fs d x.from x.is_from) (directory_value u fs other x.to x.is_to) entry e in (
-      moved (files_of u fs) d (entry.at, slot.inode) other new_name k.0,
-      k.2,
-      λ w z once linked last g y. (refl, λ i. ap (λ (f : Files). f i) (moved_value u w fs d name other new_name slot x z once entry k.0 k.1 linked last g)),
-    )
+    pub moved_leads : 1 ≤ inode_links x.own → (last : ℕ → List ℕ) → Unnamed w last fs slot → (y : Unit {0}) → Leads (Ok (moved files d (entry.at, slot.inode) other new_name at)) last fs y
+    moved_leads linked last g y = (refl, λ i. ap (λ (f : Files). f i) (moved_value linked last g))

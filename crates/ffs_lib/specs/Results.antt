@@ -10,7 +10,8 @@
 --     WroteBytes                 some bytes are written, and its size is as before
 --     IsAs, AsBefore             an inode is as before but for its links
 --     IsLinked, TookLink         it is, with so many links; it lost one, or is free
---     IsSized, MovedInodes       a directory's pointers and size; the inodes where an entry went to another directory, or got another name
+--     IsExtended, MovedInodes    a directory's pointers and size, where it may have a block more; the inodes where an entry goes to another directory, or
+--                                gets another name, or where that is refused
 use Rattle.std.specs.Prelude.{◌≡◌, ◌≢◌, ℕ, ◌+◌, ◌-◌, ◌*◌, ◌/◌, ◌<◌, ◌≤◌, ◌⊎◌, ◌&&◌, List, ◌∷◌, ◌++◌, length, nat_le, nat_lt, get_or, replicate, slice_set, Ok, Err, false, if◌then◌else◌, Some}
 use Rattle.std.specs.List.{list_any}
 use Rattle.std.specs.Int.{w16, to_le_bytes}
@@ -19,7 +20,7 @@ use Rattle.ffs_model.specs.Library.{inode_blocks, inode_links, inode_mode}
 use Rattle.ffs_lookup.specs.declared.fault.FfsFault.TheVariants.{NoEntry}
 use Rattle.ffs_lookup.specs.declared.places.Slot.{Slot}
 use Rattle.ffs_lookup.specs.declared.places.Room.TheVariants.{Entry, Pointer}
-use Rattle.ffs_format.specs.Fields.{fields_of}
+use Rattle.ffs_format.specs.Fields.{direct_in, fields_of}
 use Rattle.ffs_lookup.specs.FileValues.{place_in}
 use Rattle.ffs_lookup.specs.Newest.{byte_of, directory_in, file_in, has_room, inode_in, is_at, listing, number_in, room_in, root_in}
 
@@ -139,11 +140,12 @@ pub record TookLink (old new : ℕ → List ℕ) (fs n : ℕ) (inode : List ℕ)
 
 -- An entry that is moved
 
--- a directory has the pointers and the size that it had; or one pointer is another, and the size is 512 times the blocks
-abbrev pub IsSized : List ℕ → List ℕ → Type 0
-IsSized inode after =
-    (((fields_of after).direct ≡ (fields_of inode).direct) × (word_at after 4 ≡ word_at inode 4))
-    ⊎ ((index block : ℕ) × ((fields_of after).direct ≡ slice_set (fields_of inode).direct index block) × (word_at after 4 ≡ 512 * length (inode_blocks after)))
+-- pointers that lead to a block stay, and the size, where there are no others; else this is 512 times the blocks
+abbrev pub IsExtended : List ℕ → List ℕ → Type 0
+IsExtended inode after =
+    ((i : ℕ) → i < 12 → direct_in inode i ≢ 0 → direct_in after i ≡ direct_in inode i)
+    × ((((fields_of after).direct ≡ (fields_of inode).direct) × (word_at after 4 ≡ word_at inode 4))
+    ⊎ (((fields_of after).direct ≢ (fields_of inode).direct) × (word_at after 4 ≡ 512 * length (inode_blocks after))))
 
 -- An entry went from the directory with a number to that with another, which may be the same. All inodes but those two and the one that it names are as
 -- before; that one is too, but for its links, where it is neither of the two. The first keeps its 64 bytes where it is another than both.
@@ -151,4 +153,4 @@ pub record MovedInodes (old new : ℕ → List ℕ) (fs d other n : ℕ) : Type 
   pub others : (x : ℕ) → x ≢ d → x ≢ other → AsBefore old new fs x
   pub same : (x : ℕ) → x ≢ d → x ≢ other → x ≢ n → SameInode old new fs x
   pub kept : d ≢ other → d ≢ n → inode_in new fs d ≡ inode_in old fs d
-  pub sized : (inode after : List ℕ) → Ok inode ≡ directory_in old fs other → Ok after ≡ directory_in new fs other → IsSized inode after
+  pub sized : (inode after : List ℕ) → Ok inode ≡ directory_in old fs other → Ok after ≡ directory_in new fs other → IsExtended inode after

@@ -6,20 +6,21 @@
 --     stages_of                  the stages of a call whose look-ups pass
 --     Does                       what a call answers and leaves
 --     link_stages                where a link is taken
---     removed_stages, created_stages    of `unlink` and `rmdir`; of `create` and `mkdir`
---     IsExtended                 a directory's pointers and size, where it may have a block more
+--     removed_stages, created_stages, renamed_stages    of `unlink` and `rmdir`; of `create` and `mkdir`; of `rename`
 --     Unnames, Makes             what the files don't say of the inodes where a name is taken, and where one is made
-use Rattle.std.specs.Prelude.{◌≡◌, ◌≢◌, ℕ, ◌+◌, ◌-◌, ◌*◌, ◌<◌, ◌⊎◌, nat_le, List, [], ◌∷◌, ◌++◌, length, take, replicate, None, Result, Ok, Err, true, MatchResult, if◌then◌else◌}
+use Rattle.std.specs.Prelude.{◌≡◌, ◌≢◌, ℕ, ◌+◌, ◌-◌, ◌<◌, ◌⊎◌, nat_le, List, [], ◌∷◌, ◌++◌, length, take, replicate, None, Some, Result, Ok, Err, true, MatchResult, if◌then◌else◌}
+use Rattle.std.specs.Option.{ok_or}
 use Rattle.xn_model.specs.Root.{word_at}
 use Rattle.xn_model.specs.Types.{Types}
 use Rattle.xn_model.specs.Lives.{StoreState}
-use Rattle.ffs_model.specs.Library.{inode_blocks, inode_links}
-use Rattle.ffs_format.specs.Fields.{direct_in, fields_of}
+use Rattle.ffs_model.specs.Library.{inode_links}
+use Rattle.ffs_format.specs.Fields.{direct_in}
 use Rattle.ffs_lookup.specs.declared.fault.FfsFault.{FfsFault}
-use Rattle.ffs_lookup.specs.Files.{Answer, Directory, File, Files, InodeValue, created, directory_of, entry_named, with_block, with_entry, with_value}
+use Rattle.ffs_lookup.specs.declared.fault.FfsFault.TheVariants.{NoEntry, TooLarge}
+use Rattle.ffs_lookup.specs.Files.{Answer, Blocks, Directory, File, Files, InodeValue, both_directories, created, directory_of, entry_named, look_up, room, with_block, with_entry, with_value}
 use Rattle.ffs_lookup.specs.FileValues.{files_of, place_in}
 use Rattle.ffs_lookup.specs.Newest.{and_then, directory_in, inode_in, is_short}
-use Rattle.ffs_lib.specs.Results.{IsAs, OthersSame, SameOrNew, new_inode}
+use Rattle.ffs_lib.specs.Results.{IsAs, IsExtended, OthersSame, SameOrNew, new_inode}
 use Rattle.ffs_lib.specs.Steps.{IsHome, StopsEntering, StopsGrowing, Wants, newest}
 use Rattle.ffs_lib.specs.Values.{Leads}
 
@@ -39,8 +40,8 @@ emptied other = other
 abbrev pub with_emptied : Files → ℕ → Files
 with_emptied files n = with_value files n (emptied (files n))
 
--- What is asked: an edit of a directory's block at an index; of the block that has an inode; of that, or of the inode's block of pointers; what an entry more in
--- a directory needs; what a block of inodes more does.
+-- What is asked: an edit of a directory's block at an index; of the block that has an inode; of that, or of the inode's block of pointers; what an entry
+-- more in a directory needs; what a block of inodes more does.
 pub data Ask : Type 0 where
   OfEntry : (d index : ℕ) → Ask
   OfInode : (n : ℕ) → Ask
@@ -106,14 +107,20 @@ made_stages value files d n =
 abbrev pub created_stages : InodeValue → Files → ℕ → List ℕ → Stages
 created_stages value files d name = stages_of (created value files d name) (λ next. made_stages value files d next.0)
 
--- What the files don't say of the inodes
+abbrev pub moved_stages : Files → ℕ → (ℕ × ℕ) × ℕ → ℕ → List ℕ → ℕ × ℕ → Stages
+moved_stages files d found other new_name at =
+    let named = with_entry (with_link files found.1) other at (Some (new_name, found.1)) in
+    (files, OfInode found.1) ∷ (with_link files found.1, ForEntry other) ∷ (named, OfEntry d found.0.0) ∷ link_stages (with_entry named d found.0 None) found.1
 
--- pointers that lead to a block stay, and the size, where there are no others; else this is 512 times the blocks
-abbrev pub IsExtended : List ℕ → List ℕ → Type 0
-IsExtended inode after =
-    ((i : ℕ) → i < 12 → direct_in inode i ≢ 0 → direct_in after i ≡ direct_in inode i)
-    × ((((fields_of after).direct ≡ (fields_of inode).direct) × (word_at after 4 ≡ word_at inode 4))
-    ⊎ (((fields_of after).direct ≢ (fields_of inode).direct) × (word_at after 4 ≡ 512 * length (inode_blocks after))))
+abbrev pub found_stages : Files → ℕ → List ℕ → ℕ → List ℕ → (ℕ × Blocks) × (ℕ × Blocks) → Stages
+found_stages files d name other new_name both =
+    stages_of (ok_or (look_up name both.0.1) NoEntry) (λ found. stages_of (ok_or (room both.1.1) TooLarge) (moved_stages files d found other new_name))
+
+-- `rename`
+abbrev pub renamed_stages : Files → ℕ → List ℕ → ℕ → List ℕ → Stages
+renamed_stages files d name other new_name = stages_of (both_directories files d name other new_name) (found_stages files d name other new_name)
+
+-- What the files don't say of the inodes
 
 -- A name was taken from a directory, or not: its inode has its 64 bytes, and so have all others, in use or not, and their entries and their bytes, but that
 -- which was named. If it had more links than one it is as before but for these.

@@ -10,7 +10,7 @@
 --     Answers             what a call answers where its look-ups fail, and where they pass
 --     TakesLink, Removed  an inode lost a link; a directory lost an entry, and the inode that it named a link
 --     StopsAt, ..         what is left where a part of a call is refused, and of what the fault tells
---     Creates, Renames    the calls
+--     Creates    the calls
 use Rattle.std.specs.Prelude.{◌≡◌, ◌≢◌, ℕ, ◌+◌, ◌-◌, ◌/◌, ◌<◌, ◌≤◌, ◌⊎◌, List, [], length, Contains, Option, Some, Result, Ok, Err, true, MatchResult, IsTrue}
 use Rattle.xn_model.specs.declared.refusal.Refusal.{Refusal}
 use Rattle.xn_model.specs.declared.refusal.Refusal.TheVariants.{NoMemory}
@@ -27,12 +27,12 @@ use Rattle.ffs_lookup.specs.declared.fault.FfsFault.TheVariants.{Kernel, NoEntry
 use Rattle.ffs_lookup.specs.declared.places.Slot.{Slot}
 use Rattle.ffs_lookup.specs.declared.places.Free.{Free}
 use Rattle.ffs_lookup.specs.Places.{IsFree}
-use Rattle.ffs_lookup.specs.Newest.{TakesEntry, create_in, directory_in, inode_block_in, inode_in, is_short, listing, rename_in, root_in, without_entry}
+use Rattle.ffs_lookup.specs.Newest.{TakesEntry, create_in, directory_in, inode_block_in, inode_in, is_short, listing, root_in, without_entry}
 use Rattle.ffs_lib.specs.Edits.{data_of_pointers, edit_at}
 use Rattle.ffs_format.specs.Entries.{entry_of, is_name}
 use Rattle.ffs_lib.specs.Volumes.{IsVolume}
 use Rattle.ffs_lib.specs.declared.volume.Volume.{Volume}
-use Rattle.ffs_lib.specs.Results.{AsBefore, HasMore, IsLowestNumber, MadeEntry, MovedInodes, OnlyChanges, OthersSame, SameInode, SameOrNew, TookLink, new_inode}
+use Rattle.ffs_lib.specs.Results.{AsBefore, HasMore, IsLowestNumber, MadeEntry, OnlyChanges, OthersSame, SameInode, SameOrNew, TookLink, new_inode}
 
 abbrev pub newest : StoreState → ℕ → List ℕ
 newest state = latest state.lives
@@ -273,12 +273,6 @@ abbrev pub StopsNaming : Types → ℕ → StoreState → StoreState → ℕ →
 StopsNaming T fs old new d n fault =
     StopsAtHome T fs old new n fault ⊎ ((middle : StoreState) × AddsLink (newest old) (newest middle) fs n × StopsEntering T fs middle new d fault)
 
--- then the old entry was to be cleared, and a link taken
-abbrev pub StopsMoving : Types → ℕ → StoreState → StoreState → ℕ → Slot → ℕ → List ℕ → FfsFault → Type 0
-StopsMoving T fs old new d entry other name fault =
-    StopsNaming T fs old new other entry.inode fault
-    ⊎ ((middle : StoreState) × NamedAgain (newest old) (newest middle) fs other name entry.inode × StopsRemoving T fs middle new d entry fault)
-
 -- an inode was to be taken into use, and then an entry written
 abbrev pub StopsNew : Types → ℕ → StoreState → StoreState → ℕ → ℕ → ℕ → FfsFault → Type 0
 StopsNew T fs old new d mode n fault =
@@ -296,8 +290,3 @@ abbrev pub Creates : Types → ℕ → ℕ → List ℕ → ℕ → StoreState �
 Creates T fs d name mode old new result =
     Answers (create_in (newest old) fs d name) (λ _ n. MadeEntry (newest old) (newest new) fs d name mode n × IsLowestNumber (newest old) fs n)
     (λ _ fault. StopsMaking T fs old new d mode fault) old new result
-
-abbrev pub Renames : Types → ℕ → ℕ → List ℕ → ℕ → List ℕ → StoreState → StoreState → Result (Unit {0}) FfsFault → Type 0
-Renames T fs d name other new_name old new result =
-    Answers (rename_in (newest old) fs d name other new_name) (λ entry _. MovedInodes (newest old) (newest new) fs d other entry.inode)
-    (λ entry fault. StopsMoving T fs old new d entry other new_name fault) old new result

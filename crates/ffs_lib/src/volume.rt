@@ -22,12 +22,12 @@ ghost use Rattle.ffs_lib.specs.Values.{ByAnswer, Follows, Leads, WritesFirst};
 ghost use Rattle.ffs_lib.specs.Writes.{Writes, WritesSome};
 ghost use Rattle.ffs_lookup.specs.FileValues.{files_of};
 ghost use Rattle.ffs_lookup.specs.Files.{Files, created, listed, made, new_directory, new_file, read, read_over, removed, renamed, unlinked, written};
-ghost use Rattle.ffs_lib.specs.Stages.{Does, Makes, Unnames, created_stages, removed_stages};
-ghost use Rattle.ffs_lib.specs.Steps.{Creates, Ends, Leaves, MayLose, NamesAgain, Renames, Stage, StopsGrowing, StopsNaming, StopsNew, StopsUnnaming, TakesFree, Undoes, Unnamed, newest};
+ghost use Rattle.ffs_lib.specs.Stages.{Does, Makes, Unnames, created_stages, removed_stages, renamed_stages};
+ghost use Rattle.ffs_lib.specs.Steps.{Creates, Ends, Leaves, MayLose, NamesAgain, Stage, StopsGrowing, StopsNaming, StopsNew, StopsUnnaming, TakesFree, Undoes, Unnamed, newest};
 ghost use Rattle.xn_model.specs.Types.{Types};
 ghost use Rattle.xn_model.specs.declared.refusal.Refusal.{Refusal};
 ghost use Rattle.xn_model.specs.Calls.{was_given};
-ghost use Rattle.ffs_lib.specs.Results.{new_inode, MadeEntry, OnlyChanges, OthersSame, TookLink};
+ghost use Rattle.ffs_lib.specs.Results.{new_inode, MadeEntry, MovedInodes, OnlyChanges, OthersSame, TookLink};
 
 mod replace;
 
@@ -241,8 +241,8 @@ impl Volume {
         ensures types { S.types_of store.new ≡ S.types_of store.old }
         ensures fs { self.new.fs ≡ self.old.fs }
         ensures answers { let files = files_of (newest (S.state_of store.old)) self.old.fs.number in
-            Does (S.types_of store.old) self.old.fs.number (created new_directory files directory name.now) (created_stages new_directory files directory name.now)
-            (S.state_of store.old) (S.state_of store.new) result }
+            Does (S.types_of store.old) self.old.fs.number (created new_directory files directory name.now)
+            (created_stages new_directory files directory name.now) (S.state_of store.old) (S.state_of store.new) result }
         ensures inodes { let old = newest (S.state_of store.old) in let new = newest (S.state_of store.new) in let fs = self.old.fs.number in
             (next : ℕ × Files) → created new_directory (files_of old fs) directory name.now ≡ Ok next → Makes old new fs directory DIRECTORY next.0 }
         ensures keeps { IsVolume (S.types_of store.old) (S.state_of store.new) self.new }
@@ -682,10 +682,11 @@ impl Volume {
     ) -> Result<(), FfsFault>
         requires { IsVolume (S.types_of store.old) (S.state_of store.old) self.now }
         ensures types { S.types_of store.new ≡ S.types_of store.old }
-        ensures value { Follows (renamed (files_of (newest (S.state_of store.old)) self.now.fs.number) directory name.now other new_name.now)
-            self.now.fs.number (S.state_of store.old) (S.state_of store.new) result }
-        ensures answers { Renames (S.types_of store.old) self.now.fs.number directory name.now other new_name.now (S.state_of store.old)
-            (S.state_of store.new) result }
+        ensures answers { let files = files_of (newest (S.state_of store.old)) self.now.fs.number in
+            Does (S.types_of store.old) self.now.fs.number (renamed files directory name.now other new_name.now)
+            (renamed_stages files directory name.now other new_name.now) (S.state_of store.old) (S.state_of store.new) result }
+        ensures inodes { let old = newest (S.state_of store.old) in let new = newest (S.state_of store.new) in let fs = self.now.fs.number in
+            (slot : Slot) → Ok slot ≡ rename_in old fs directory name.now other new_name.now → MovedInodes old new fs directory other slot.inode }
         ensures keeps { IsVolume (S.types_of store.old) (S.state_of store.new) self.now }
     {
         let slot = self.look_up_move(store, directory, name, other, new_name)?;

@@ -3,15 +3,16 @@
 ghost use Rattle.std.specs.Prelude.{◌≡◌, ◌≤◌, ◌⊎◌, ℕ, is_some, length, map, IfOk, MatchResult, OnErr, OnOk, Ok, Err};
 ghost use Rattle.ffs_model.specs.Cuts.{latest};
 ghost use Rattle.ffs_model.specs.Library.{IsLibrary};
-ghost use Rattle.ffs_lookup.specs.Newest.{inode_in, mapped, named_in, rmdir_in, unlink_in};
+ghost use Rattle.ffs_lookup.specs.Newest.{inode_in, mapped, named_in, rename_in, rmdir_in, unlink_in};
 ghost use Rattle.ffs_lookup.specs.declared.places.Slot.{Slot};
 ghost use Rattle.ffs_lookup.specs.Files.{Files, created, listed, new_directory, new_file, read, read_over, removed, renamed, replaced, unlinked, written};
 ghost use Rattle.ffs_lookup.specs.FileValues.{files_of};
 ghost use Rattle.ffs_lookup.specs.Repairs.{idle_in, repair_at, repair_in};
 ghost use Rattle.ffs_lib.specs.Reclaiming.{Reclaims};
 ghost use Rattle.ffs_lib.specs.Replacing.{Replaces};
-ghost use Rattle.ffs_lib.specs.Stages.{Does, Makes, Unnames, created_stages, removed_stages};
-ghost use Rattle.ffs_lib.specs.Steps.{Renames, newest};
+ghost use Rattle.ffs_lib.specs.Results.{MovedInodes};
+ghost use Rattle.ffs_lib.specs.Stages.{Does, Makes, Unnames, created_stages, removed_stages, renamed_stages};
+ghost use Rattle.ffs_lib.specs.Steps.{newest};
 ghost use Rattle.ffs_lib.specs.Values.{ByAnswer, Follows, WritesFirst};
 ghost use Rattle.ffs_lib.specs.Volumes.{NothingPending};
 ghost use Rattle.ffs_lib.specs.Writes.{WritesSome};
@@ -235,8 +236,8 @@ impl<S: FlushStore + Drop> Session<S> {
         ensures types { S.types_of self.new.store ≡ S.types_of self.old.store }
         ensures fs { self.new.fs ≡ self.old.fs }
         ensures answers { let files = files_of (newest (S.state_of self.old.store)) self.old.fs in
-            Does (S.types_of self.old.store) self.old.fs (created new_directory files directory name.now) (created_stages new_directory files directory name.now)
-            (S.state_of self.old.store) (S.state_of self.new.store) result }
+            Does (S.types_of self.old.store) self.old.fs (created new_directory files directory name.now)
+            (created_stages new_directory files directory name.now) (S.state_of self.old.store) (S.state_of self.new.store) result }
         ensures inodes { let old = newest (S.state_of self.old.store) in let new = newest (S.state_of self.new.store) in
             (next : ℕ × Files) → created new_directory (files_of old self.old.fs) directory name.now ≡ Ok next → Makes old new self.old.fs directory 2 next.0 }
     {
@@ -304,10 +305,12 @@ impl<S: FlushStore + Drop> Session<S> {
     ) -> Result<(), FfsFault>
         ensures types { S.types_of self.new.store ≡ S.types_of self.old.store }
         ensures fs { self.new.fs ≡ self.old.fs }
-        ensures value { Follows (renamed (files_of (newest (S.state_of self.old.store)) self.old.fs) directory name.now other new_name.now)
-            self.old.fs (S.state_of self.old.store) (S.state_of self.new.store) result }
-        ensures answers { Renames (S.types_of self.old.store) self.old.fs directory name.now other new_name.now
-            (S.state_of self.old.store) (S.state_of self.new.store) result }
+        ensures answers { let files = files_of (newest (S.state_of self.old.store)) self.old.fs in
+            Does (S.types_of self.old.store) self.old.fs (renamed files directory name.now other new_name.now)
+            (renamed_stages files directory name.now other new_name.now) (S.state_of self.old.store) (S.state_of self.new.store) result }
+        ensures inodes { let old = newest (S.state_of self.old.store) in let new = newest (S.state_of self.new.store) in
+            (slot : Slot) → Ok slot ≡ rename_in old self.old.fs directory name.now other new_name.now →
+            MovedInodes old new self.old.fs directory other slot.inode }
     {
         self.volume
             .rename(alloc, &mut self.store, directory, name, other, new_name)
