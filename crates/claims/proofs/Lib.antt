@@ -1,7 +1,7 @@
 pub mod OwnedPairs
-pub mod Counts
-pub mod Claimed
-pub mod OwnedCounts
+pub mod ListCounts
+pub mod ClaimsByStatus
+pub mod CountedPairs
 pub mod Owners
 pub mod Climbing
 pub mod Counted

@@ -5,7 +5,7 @@ use Rattle.std.proofs.lemmas.Bool.{and_parts, cases_Bool, cases_eq, false≢true
 use Rattle.std.proofs.lemmas.List.{drop_more, get_or-set_other, get_or-set_same, get_or-take, get_or_default, length-take-le, take-append-drop, take_more}
 use Rattle.xn_model.specs.Lists.{blocks_of, distinct, has_number}
 use Rattle.xn_model.proofs.ForCallers.{Contains-cons, Contains-head, Contains-none, Contains-tail, has_number_at, has_number_from}
-use Rattle.claims.proofs.Counts.{distinct-append, distinct-cons}
+use Rattle.claims.proofs.ListCounts.{distinct-append, distinct-cons}
 
 -- one number more that is not among those before it
 pub distinct_more : (xs : List ℕ) (i x : ℕ) → i < length xs → x ≡ get_or xs i x → distinct (take i xs) ≡ true → has_number (take i xs) x ≡ false → distinct (take (i + 1) xs) ≡ true

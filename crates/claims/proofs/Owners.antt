@@ -13,7 +13,7 @@ use Rattle.xn_model.specs.Lists.{blocks_of, distinct, has_number}
 use Rattle.xn_model.specs.Lives.{BlockState, Life, Lives, life_at, alive_and, change_at, with_state, with_status, is_fresh, is_owned_by, owned_after, dropped_after, accepted_at, freed}
 use Rattle.xn_model.proofs.ForCallers.{Contains-head, Contains-tail, has_number_from, change_same, place_from, set_other}
 use Rattle.claims.specs.Owners.{owned_count}
-use Rattle.claims.proofs.Claimed.{passes}
+use Rattle.claims.proofs.ClaimsByStatus.{passes}
 use Rattle.claims.proofs.OwnedPairs.{owned_by_is}
 use Rattle.claims.specs.Owned.{MayClaim}
 

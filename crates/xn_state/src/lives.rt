@@ -247,7 +247,7 @@ impl Lives {
         ensures err { OnErr result (self.new ≡ self.old) }
     {
         self.cache.start(alloc, block, number, fs, ty, bytes)?;
-        self.index.start(block, number.number(), fs);
+        self.index.note_start(block, number.number(), fs);
         Ok(())
     }
 
@@ -285,7 +285,7 @@ impl Lives {
         set_owned(&mut self.cache, block, adds);
         self.owned
             .change(block, drops.len() as u32, adds.len() as u32);
-        self.index.accept(block, number, fs, is_first);
+        self.index.note_entry(block, number, fs, is_first);
         Ok(())
     }
 }

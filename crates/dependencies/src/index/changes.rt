@@ -14,7 +14,7 @@ use block_cache::{Cache, Fs};
 
 impl Index {
     /// Notes a life that starts on a free block, with its first entry of this number.
-    pub fn start(&mut self, block: u32, number: u64, fs: Option<Fs>)
+    pub fn note_start(&mut self, block: u32, number: u64, fs: Option<Fs>)
         requires { IfSome fs (λ f. slice_index self.old.pending f.number < 4096) }
         ensures { (lives : Lives) (ty : ℕ) (bytes : List ℕ) → IsIndex lives self.old → slice_get lives block ≡ Some None →
             ((b : ℕ) → pends number (life_at lives b) ≡ false) →
@@ -28,7 +28,7 @@ impl Index {
     }
 
     /// Notes one more entry of a block, of this number.
-    pub fn accept(&mut self, block: u32, number: u64, fs: Option<Fs>, is_first: bool)
+    pub fn note_entry(&mut self, block: u32, number: u64, fs: Option<Fs>, is_first: bool)
         requires { IfSome fs (λ f. slice_index self.old.pending f.number < 4096) }
         ensures { (lives : Lives) (s : BlockState) → IsIndex lives self.old → IsTrue (is_some (life_at lives block)) →
             is_first ≡ (life_pending (life_at lives block) == 0) → s.entry ≡ number → s.fs ≡ system_of fs →
@@ -42,7 +42,7 @@ impl Index {
 
     /// Follows a write of a block that has begun.
     #[inline(always)]
-    pub fn begin(&mut self, cache: &Cache, block: u32)
+    pub fn note_begin(&mut self, cache: &Cache, block: u32)
         requires { (lives : Lives) × (count : ℕ) × (cache.now ≡ begun_at lives block count) × IsIndex lives self.old }
         ensures { IsIndex cache.now self.new }
     {
@@ -69,7 +69,7 @@ impl Index {
 
     /// Looks on from where entries were taken out: at the least candidate, and at what is the oldest now.
     #[inline(always)]
-    pub fn settle(&mut self, cache: &Cache, taken: TakenOut)
+    pub fn note_settle(&mut self, cache: &Cache, taken: TakenOut)
         requires { IsIndex cache.now self.old }
         ensures { IsIndex cache.now self.new }
     {
@@ -78,7 +78,7 @@ impl Index {
     }
 
     /// Takes out all entries of a block whose life ends, and frees it. Answers for which file system the last of them counted.
-    pub fn end(&mut self, cache: &Cache, block: u32) -> Option<Fs>
+    pub fn note_end(&mut self, cache: &Cache, block: u32) -> Option<Fs>
         requires { IsIndex cache.now self.old }
         ensures { IsIndex (slice_set cache.now block None) self.new }
     {

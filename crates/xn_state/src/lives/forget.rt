@@ -12,7 +12,7 @@ impl Lives {
         requires { IsUnowned (life_at self.old block) }
         ensures { self.new ≡ slice_set self.old block None }
     {
-        let fs = self.index.end(&self.cache, block);
+        let fs = self.index.note_end(&self.cache, block);
         self.cache.end(block);
         self.index.move_on(&self.cache, fs);
     }

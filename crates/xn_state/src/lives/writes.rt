@@ -96,7 +96,7 @@ impl Lives {
         ensures { self.new ≡ begun_at self.old block count }
     {
         self.cache.begin(block, count);
-        self.index.begin(&self.cache, block);
+        self.index.note_begin(&self.cache, block);
     }
 
     /// Ends a write of a block that made its first entries durable: the blocks that they drop are free. Answers how many
@@ -110,7 +110,7 @@ impl Lives {
     {
         let taken = self.index.take_out(&self.cache, block, count as usize);
         let freed = end_write(&mut self.cache, block, count, taken.has_drops);
-        self.index.settle(&self.cache, taken);
+        self.index.note_settle(&self.cache, taken);
         freed
     }
 }

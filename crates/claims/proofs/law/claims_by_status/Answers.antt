@@ -6,8 +6,8 @@ use Rattle.xn_model.specs.Types.{named_once}
 use Rattle.xn_model.specs.Lists.{distinct, blocks_of}
 use Rattle.xn_model.specs.Calls.{may_add, may_drop}
 use Rattle.claims.specs.Owners.{is_claimed}
-use Rattle.claims.proofs.OwnedCounts.{owned_counted}
-use Rattle.claims.proofs.Claimed.{claimed_is}
+use Rattle.claims.proofs.CountedPairs.{owned_counted}
+use Rattle.claims.proofs.ClaimsByStatus.{claimed_is}
 use Rattle.claims.proofs.law.claims_by_status.Goals as goal
 
 pub returns : goal.returns

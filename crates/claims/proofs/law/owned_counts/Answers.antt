@@ -1,4 +1,4 @@
-use Rattle.claims.proofs.OwnedCounts.{owned_counted}
+use Rattle.claims.proofs.CountedPairs.{owned_counted}
 use Rattle.claims.proofs.law.owned_counts.Goals as goal
 
 pub returns : goal.returns

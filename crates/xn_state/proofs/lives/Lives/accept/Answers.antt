@@ -29,8 +29,8 @@ change-requires-clause-few c =
     let owned = c.self.invariant.0.each c.args.block (alive_place c.self.inside.cache c.args.block alive) in
     omega (arith, long, owned, few_owned c.self.inside.cache c.args.block, c.requires.few_adds)
 
-pub accept-requires : goal.accept-requires
-accept-requires c = few_counted c.self.inside.cache c.self.inside.index.pending c.args.fs c.self.invariant.1.counted.counts
+pub note_entry-requires : goal.note_entry-requires
+note_entry-requires c = few_counted c.self.inside.cache c.self.inside.index.pending c.args.fs c.self.invariant.1.counted.counts
     (subst (λ (xs : Lives). FewFor xs c.args.fs) (sym c.self.view_is) c.requires.few)
 
 pub invariant_of-self-2 : goal.invariant_of-self-2
@@ -52,5 +52,5 @@ invariant_of-self-2 c =
     let fresh = λ (x : ℕ). (λ i. pends (number i) (life_at (c.self.view_is i) x)) ∙ c.requires.fresh x in
     rw (lives, counts) (
       accepted_counts owned cache block state c.self.invariant.0 (alive_place cache block alive) claimed,
-      c.accept.ensures cache state c.self.invariant.1 alive first (sym number) c.requires.fs fresh,
+      c.note_entry.ensures cache state c.self.invariant.1 alive first (sym number) c.requires.fs fresh,
     )

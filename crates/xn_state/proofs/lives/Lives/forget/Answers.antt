@@ -5,7 +5,7 @@ use Rattle.dependencies.specs.Index.{IsIndex, IsUnowned}
 use Rattle.xn_state.proofs.lives.Lives.forget.Goals as goal
 
 pub move_on-requires : goal.move_on-requires
-move_on-requires c = rw c.end.ensures c.end-fs.ensures
+move_on-requires c = rw c.end.ensures c.note_end-fs.ensures
 
 pub invariant_of-self : goal.invariant_of-self
 invariant_of-self c =

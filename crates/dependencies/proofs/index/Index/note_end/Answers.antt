@@ -2,7 +2,7 @@ use Rattle.std.proofs.Common.{arith, subst, sym}
 use Rattle.dependencies.specs.Index.{IndexValue, IsIndex}
 use Rattle.dependencies.proofs.Ended.{few_forgotten}
 use Rattle.dependencies.proofs.IndexChanges.{ended_index}
-use Rattle.dependencies.proofs.index.Index.end.Goals as goal
+use Rattle.dependencies.proofs.index.Index.note_end.Goals as goal
 
 pub discount-fs-requires-clause-counted : goal.discount-fs-requires-clause-counted
 discount-fs-requires-clause-counted c =

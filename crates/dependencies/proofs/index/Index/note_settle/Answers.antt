@@ -1,6 +1,6 @@
 use Rattle.std.proofs.Common.{subst, sym}
 use Rattle.dependencies.specs.Index.{IsIndex}
-use Rattle.dependencies.proofs.index.Index.settle.Goals as goal
+use Rattle.dependencies.proofs.index.Index.note_settle.Goals as goal
 
 pub trim-requires-clause-dirty : goal.trim-requires-clause-dirty
 trim-requires-clause-dirty c =

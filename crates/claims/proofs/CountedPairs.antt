@@ -10,8 +10,8 @@ use Rattle.xn_model.specs.Rules.{IsConsistent}
 use Rattle.xn_model.proofs.ForCallers.{Contains-none, Contains-head, Contains-tail, Contains-cons, blocks_of_has, blocks_of_at}
 use Rattle.claims.specs.Owners.{owned_count}
 use Rattle.claims.proofs.OwnedPairs.{pair_owned, owned_pair, owned_by_is}
-use Rattle.claims.proofs.Counts.{numbers_within, distinct-cons, length-blocks_of}
-use Rattle.claims.proofs.Claimed.{passes, newest_once}
+use Rattle.claims.proofs.ListCounts.{numbers_within, distinct-cons, length-blocks_of}
+use Rattle.claims.proofs.ClaimsByStatus.{passes, newest_once}
 
 module _ (test : Option Life → Bool) where
   -- the places that pass, where the first place has this number

@@ -3,7 +3,7 @@ use Rattle.xn_model.specs.Lives.{Lives}
 use Rattle.dependencies.specs.Candidates.{with_candidate}
 use Rattle.dependencies.specs.Index.{IndexValue, IsIndex}
 use Rattle.dependencies.proofs.IndexChanges.{begun_index}
-use Rattle.dependencies.proofs.index.Index.begin.Goals as goal
+use Rattle.dependencies.proofs.index.Index.note_begin.Goals as goal
 
 pub trim-requires-clause-dirty : goal.trim-requires-clause-dirty
 trim-requires-clause-dirty c =

@@ -9,7 +9,7 @@ use Rattle.dependencies.specs.Index.{IndexValue, IsIndex}
 use Rattle.dependencies.specs.Pending.{pends}
 use Rattle.dependencies.proofs.Counting.{system_few, system_within}
 use Rattle.dependencies.proofs.IndexChanges.{accepted_index}
-use Rattle.dependencies.proofs.index.Index.accept.Goals as goal
+use Rattle.dependencies.proofs.index.Index.note_entry.Goals as goal
 
 pub count_entry-requires : goal.count_entry-requires
 count_entry-requires c = subst (λ (index : IndexValue). IfSome c.args.fs (λ f. slice_index index.pending f.number < 4096)) (sym c.self.view_is) c.requires

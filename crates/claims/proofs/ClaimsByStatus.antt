@@ -15,7 +15,7 @@ use Rattle.xn_model.specs.Rules.{IsConsistent}
 use Rattle.xn_model.proofs.ForCallers.{last_of, all_at, blocks_of_has, blocks_of_at}
 use Rattle.claims.specs.Owners.{are_allowed, is_claimed}
 use Rattle.claims.proofs.OwnedPairs.{pair_owned, owned_pair, allowed_is, same_tests, owned_by_is}
-use Rattle.claims.proofs.Counts.{distinct-append, distinct-without, is_left, length-without, blocks_of-append, pairs_within, all_inside}
+use Rattle.claims.proofs.ListCounts.{distinct-append, distinct-without, is_left, length-without, blocks_of-append, pairs_within, all_inside}
 
 -- a life that passes a test
 pub record Passes (lives : Lives) (c : ℕ) (test : Life → Bool) : Type 0 where
