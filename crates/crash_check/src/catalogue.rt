@@ -18,7 +18,8 @@ use templates::{CATALOGUE_PLACES, Table, Template, TemplateFault, pointer, read_
 pub fn read_table(alloc: Global, blocks: &[[u8; 512]]) -> Result<Table, ImageFault>
     requires { 0 < length blocks.now }
     ensures { MatchResult result
-        (λ table. (table ≡ table_of_image (block_of blocks.now)) × (catalogue_fault (types_of_image blocks.now) (length blocks.now) (block_of blocks.now) ≡ None))
+        (λ table. (table ≡ table_of_image (block_of blocks.now)) ×
+        (catalogue_fault (types_of_image blocks.now) (length blocks.now) (block_of blocks.now) ≡ None))
         (λ fault. (fault ≡ ImageFault.NoMemory) ⊎ (catalogue_fault (types_of_image blocks.now) (length blocks.now) (block_of blocks.now) ≡ Some fault)) }
 {
     let Ok(mut table) = Table::new(alloc) else {
@@ -39,8 +40,10 @@ fn read_entries(
     requires few { count ≤ 16 }
     requires empty { table.old ≡ no_templates }
     ensures { MatchResult result
-        (λ _. (table.new ≡ table_upto (block_of blocks.now) count) × (entries_fault (types_of_image blocks.now) (length blocks.now) (block_of blocks.now) (range_with_len 0 count) ≡ None))
-        (λ fault. (fault ≡ ImageFault.NoMemory) ⊎ (entries_fault (types_of_image blocks.now) (length blocks.now) (block_of blocks.now) (range_with_len 0 count) ≡ Some fault)) }
+        (λ _. (table.new ≡ table_upto (block_of blocks.now) count) ×
+        (entries_fault (types_of_image blocks.now) (length blocks.now) (block_of blocks.now) (range_with_len 0 count) ≡ None))
+        (λ fault. (fault ≡ ImageFault.NoMemory) ⊎
+        (entries_fault (types_of_image blocks.now) (length blocks.now) (block_of blocks.now) (range_with_len 0 count) ≡ Some fault)) }
 {
     for place in 0..count {
         let named = match read_entry(alloc, blocks, place) {
@@ -64,7 +67,8 @@ fn read_entry(
     requires blocks { 0 < length blocks.now }
     requires place { place < 16 }
     ensures { MatchResult result
-        (λ found. (found ≡ template_named (block_of blocks.now) (pointer (block_of blocks.now 0) place)) × (entry_fault (types_of_image blocks.now) (length blocks.now) (block_of blocks.now) place ≡ None))
+        (λ found. (found ≡ template_named (block_of blocks.now) (pointer (block_of blocks.now 0) place)) ×
+        (entry_fault (types_of_image blocks.now) (length blocks.now) (block_of blocks.now) place ≡ None))
         (λ fault. (fault ≡ ImageFault.NoMemory) ⊎ (entry_fault (types_of_image blocks.now) (length blocks.now) (block_of blocks.now) place ≡ Some fault)) }
 {
     let number = pointer(block(blocks, 0), place);

@@ -46,7 +46,8 @@ answer_text (answer.Drain (Err stopped)) = codes "refused " ++ refusal_text stop
 
 -- the type, the block, and both entries
 abbrev pub installed_text : Installed → List ℕ
-installed_text made = codes "type " ++ decimal made.ty ++ codes " block " ++ decimal made.block ++ codes " edits " ++ decimal made.edits.0 ++ codes " " ++ decimal made.edits.1
+installed_text made = codes "type " ++ decimal made.ty ++ codes " block " ++ decimal made.block ++ codes " edits " ++ decimal made.edits.0 ++ codes " " ++
+    decimal made.edits.1
 
 abbrev pub reply_text : Reply → List ℕ
 reply_text (reply.Answered given) = answer_text given

@@ -54,7 +54,8 @@ fn parse_edit_event<'a>(
 /// The event of a name and two words behind it, a file system and a block.
 fn parse_place<'a>(name: &str, fs: &str, block: &str) -> Option<LineEvent<'a>>
     ensures some { IfSome result (Tells (name.now ∷ fs.now ∷ block.now ∷ [])) }
-    ensures none { IfNone result (name.now ≢ codes "edit" → name.now ≢ codes "fail" → name.now ≢ codes "crash" → SpellNothing (name.now ∷ fs.now ∷ block.now ∷ [])) }
+    ensures none { IfNone result (name.now ≢ codes "edit" → name.now ≢ codes "fail" → name.now ≢ codes "crash" →
+        SpellNothing (name.now ∷ fs.now ∷ block.now ∷ [])) }
 {
     let fs = parse_fs(fs)?;
     let block = parse_u32(block)?;

@@ -1,6 +1,7 @@
 // A kernel with the publisher of its floors.
 
-ghost use Rattle.std.specs.Prelude.{◌≡◌, ◌≢◌, ◌⊎◌, ℕ, ◌<◌, ◌≤◌, Option, Some, None, false, Ok, Err, IsTrue, IfOk, OnOk, OnErr, IfErr, IsErrAnd, slice_get, slice_set, slice_index};
+ghost use Rattle.std.specs.Prelude.{◌≡◌, ◌≢◌, ◌⊎◌, ℕ, ◌<◌, ◌≤◌, Option, Some, None, false, Ok, Err, IsTrue, IfOk, OnOk, OnErr, IfErr, IsErrAnd, slice_get};
+ghost use Rattle.std.specs.Prelude.{slice_set, slice_index};
 ghost use Rattle.std.specs.Arc.{arc_value};
 ghost use Rattle.disk.specs.Lanes.{CountsOne, LeavesNoMore};
 ghost use Rattle.xn_model.specs.Results.{GivesExactly, result_map};

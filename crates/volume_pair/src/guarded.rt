@@ -40,7 +40,8 @@ impl<S: Disk> Model for Guarded<S> {
 
     ghost view = { λ a. a.store };
 
-    ghost invariant = { λ a. HasLibrary (S.types_of a.store) (S.state_of a.store) × IfSome a.other (λ other. IsKept (S.types_of a.store) (S.state_of a.store) other.fs.number other.volume) };
+    ghost invariant = { λ a. HasLibrary (S.types_of a.store) (S.state_of a.store) ×
+        IfSome a.other (λ other. IsKept (S.types_of a.store) (S.state_of a.store) other.fs.number other.volume) };
 }
 
 impl<S: Disk + Drop> Drop for Guarded<S> {
@@ -115,7 +116,8 @@ fn crashed(
 ) -> Option<(Running, u32, u32)>
     requires library { HasLibrary (own_types running.state) running.state }
     ensures remounted { IfSome result (λ r. IsRemounted r.0) }
-    ensures keeps { IfSome result (λ r. (fs : ℕ) (array : ℕ → Option ℕ) → fs < 32 → VolumeKeeps (own_types running.state) library_layout fs array running.state →
+    ensures keeps { IfSome result (λ r. (fs : ℕ) (array : ℕ → Option ℕ) → fs < 32 →
+        VolumeKeeps (own_types running.state) library_layout fs array running.state →
         VolumeKeeps (own_types r.0.state) library_layout fs no_edits r.0.state) }
 {
     templates_are_the_librarys();

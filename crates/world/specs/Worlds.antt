@@ -67,7 +67,13 @@ is_any_in_flight state = list_any (alive_and (λ l. is_some l.begun)) state.live
 
 -- a disk that was mounted, and one whose mount found no memory
 abbrev pub mounted_value : List (List ℕ) → WorldValue
-mounted_value image = record { image = image; settled = image; given = none_given image; state = mounted_state (recovered (types_of_image image) image); down = false }
+mounted_value image = record {
+  image = image;
+  settled = image;
+  given = none_given image;
+  state = mounted_state (recovered (types_of_image image) image);
+  down = false;
+}
 
 abbrev pub down_value : List (List ℕ) → WorldValue
 down_value image = record (mounted_value image) { down = true }

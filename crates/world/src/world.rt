@@ -194,7 +194,8 @@ impl World {
         ensures rules { Holds (world_with self.new) }
         ensures agrees { (image : List (List ℕ)) → model.MayLeave (world_with self.new) image →
             Agrees (model.types_on (world_with self.new) image) (length image) (block_of image) self.new.state.lives }
-        ensures sound { (image : List (List ℕ)) → model.MayLeave (world_with self.new) image → IsSound (model.types_on (world_with self.new) image) (length image) (block_of image) }
+        ensures sound { (image : List (List ℕ)) → model.MayLeave (world_with self.new) image →
+            IsSound (model.types_on (world_with self.new) image) (length image) (block_of image) }
         ensures told { IfOk result (λ replies. (hs : Histories) → IsMoment (world_with self.old) hs → (hs' : Histories) × IsMoment (world_with self.new) hs' ×
             RunWhere Anything (world_with self.old) hs (map event_of events.now) (map reply_of replies.items) (world_with self.new) hs' ×
             ((image : List (List ℕ)) → model.MayLeave (world_with self.new) image → ImageHolds (world_with self.new) image hs')) }

@@ -22,7 +22,8 @@ abbrev pub WritesTo : Type 0 → Type 1
 WritesTo L = L → List ℕ → Result (Unit {0}) DeviceFault → L → Type 0
 
 -- the block that is picked, with its safe entries begun, was written once through its lane: the ticket after that, and the state
-pub record Writes {L : Type 0} (faults : L → ℕ) (writes : WritesTo L) (kernel : KernelValue L) (answer : Result (Unit {0}) DeviceFault) (ticket : TicketValue L) (begun : StoreState) : Type 0 where
+pub record Writes {L : Type 0} (faults : L → ℕ) (writes : WritesTo L) (kernel : KernelValue L) (answer : Result (Unit {0}) DeviceFault) (ticket : TicketValue L)
+    (begun : StoreState) : Type 0 where
   pub picked : pick_of kernel.state ≡ Some ticket.block
   pub begins : begun_of kernel.state ticket.block ≡ Ok ((ticket.bytes, ticket.count), begun)
   pub ours : ticket.kernel ≡ kernel.id
@@ -58,7 +59,8 @@ pub record Round {L : Type 0} (bytes : L → List ℕ) (faults : L → ℕ) (wri
 
 abbrev pub Rounds : {L : Type 0} → (L → List ℕ) → (L → ℕ) → WritesTo L → Reads L → Reads L → ℕ → KernelValue L → KernelValue L → Type 0
 Rounds {L} bytes faults writes syncs reads zero old new = new ≡ old
-Rounds {L} bytes faults writes syncs reads (suc n) old new = (mid : KernelValue L) × Round bytes faults writes syncs reads old mid × Rounds bytes faults writes syncs reads n mid new
+Rounds {L} bytes faults writes syncs reads (suc n) old new = (mid : KernelValue L) × Round bytes faults writes syncs reads old mid ×
+    Rounds bytes faults writes syncs reads n mid new
 
 -- a write of some block is under way
 abbrev pub IsBusy : StoreState → Type 0
@@ -81,7 +83,8 @@ pub record Unwritten {L : Type 0} (bytes : L → List ℕ) (faults : L → ℕ) 
   pub next : new ≡ with_home old ticket.block lane store
 
 -- The block could not be synced: it stays in flight, and its lane is with the ticket.
-pub record Unsynced {L : Type 0} (bytes : L → List ℕ) (faults : L → ℕ) (writes : WritesTo L) (syncs reads : Reads L) (old : KernelValue L) (back : TicketValue L) (new : KernelValue L) : Type 0 where
+pub record Unsynced {L : Type 0} (bytes : L → List ℕ) (faults : L → ℕ) (writes : WritesTo L) (syncs reads : Reads L) (old : KernelValue L)
+    (back : TicketValue L) (new : KernelValue L) : Type 0 where
   pub answer : Result (Unit {0}) DeviceFault
   pub ticket : TicketValue L
   pub begun : StoreState
@@ -94,7 +97,8 @@ pub record Unsynced {L : Type 0} (bytes : L → List ℕ) (faults : L → ℕ) (
   pub next : new ≡ record old { lanes = slice_set old.lanes ticket.block None; state = begun }
 
 -- The block could not be read back: it stays in flight, and its lane is with the ticket.
-pub record Unread {L : Type 0} (bytes : L → List ℕ) (faults : L → ℕ) (writes : WritesTo L) (syncs reads : Reads L) (old : KernelValue L) (back : TicketValue L) (new : KernelValue L) : Type 0 where
+pub record Unread {L : Type 0} (bytes : L → List ℕ) (faults : L → ℕ) (writes : WritesTo L) (syncs reads : Reads L) (old : KernelValue L) (back : TicketValue L)
+    (new : KernelValue L) : Type 0 where
   pub answer : Result (Unit {0}) DeviceFault
   pub ticket : TicketValue L
   pub begun : StoreState
@@ -109,13 +113,15 @@ pub record Unread {L : Type 0} (bytes : L → List ℕ) (faults : L → ℕ) (wr
   pub next : new ≡ record old { lanes = slice_set old.lanes ticket.block None; state = begun }
 
 -- after the last good round a write is answered Err and leaves the old bytes, or a block cannot be synced or read back
-abbrev pub Stops : {L : Type 0} → (L → List ℕ) → (L → ℕ) → WritesTo L → Reads L → Reads L → KernelValue L → Option (TicketValue L) → Refusal → KernelValue L → Type 0
+abbrev pub Stops : {L : Type 0} → (L → List ℕ) → (L → ℕ) → WritesTo L → Reads L → Reads L → KernelValue L → Option (TicketValue L) → Refusal → KernelValue L →
+    Type 0
 Stops {L} bytes faults writes syncs reads old None refusal new = (refusal ≡ Device) × Unwritten bytes faults writes syncs reads old new
 Stops {L} bytes faults writes syncs reads old (Some back) refusal new =
     (refusal ≡ Device) × (Unsynced bytes faults writes syncs reads old back new ⊎ Unread bytes faults writes syncs reads old back new)
 
 -- a drain that is refused: before its first round, as a write is under way; or after some rounds, as a lane failed
-abbrev pub Refuses : {L : Type 0} → (L → List ℕ) → (L → ℕ) → WritesTo L → Reads L → Reads L → KernelValue L → ℕ → Option (TicketValue L) → Refusal → KernelValue L → Type 0
+abbrev pub Refuses : {L : Type 0} → (L → List ℕ) → (L → ℕ) → WritesTo L → Reads L → Reads L → KernelValue L → ℕ → Option (TicketValue L) → Refusal →
+    KernelValue L → Type 0
 Refuses {L} bytes faults writes syncs reads old n ticket refusal new =
     (IsBusy old.state × (n ≡ 0) × (ticket ≡ None) × (refusal ≡ InFlight) × (new ≡ old))
     ⊎ ((mid : KernelValue L) × Rounds bytes faults writes syncs reads n old mid × Stops bytes faults writes syncs reads mid ticket refusal new)

@@ -1,6 +1,7 @@
 // A kernel over the lanes of a disk.
 
-ghost use Rattle.std.specs.Prelude.{◌≡◌, ◌≢◌, ◌⊎◌, ◌<◌, ◌≤◌, ℕ, List, length, Option, Some, None, false, Result, Ok, Err, IsTrue, IfOk, OnOk, OnErr, IfErr, IsErrAnd, slice_get, slice_set, unwrap_or, option_copied};
+ghost use Rattle.std.specs.Prelude.{◌≡◌, ◌≢◌, ◌⊎◌, ◌<◌, ◌≤◌, ℕ, List, length, Option, Some, None, false, Result, Ok, Err, IsTrue, IfOk, OnOk, OnErr, IfErr};
+ghost use Rattle.std.specs.Prelude.{IsErrAnd, slice_get, slice_set, unwrap_or, option_copied};
 ghost use Rattle.disk.specs.Lanes.{CountsOne, AreSynced, LeavesNoMore};
 ghost use Rattle.xn_model.specs.Results.{Gives, GivesExactly, result_map};
 ghost use Rattle.xn_model.specs.Calls.{init_of, make_root_of, begun_of, settled_of, floor_of};
@@ -191,7 +192,8 @@ impl<L: Lane> Kernel<L> {
     #[inline(always)]
     pub fn finish(&mut self, mut ticket: Ticket<L>) -> Result<Landed, (Ticket<L>, Refusal)>
         ensures foreign { is_mine self.old ticket ≡ false → IsErrAnd result (λ back. (back.0 ≡ ticket) × (back.1 ≡ Refusal.NotMine)) }
-        ensures unsynced { IsTrue (is_mine self.old ticket) → IsTrue ticket.unsynced → IsErrAnd result (λ back. (back.0 ≡ ticket) × (back.1 ≡ Refusal.NotSynced)) }
+        ensures unsynced { IsTrue (is_mine self.old ticket) → IsTrue ticket.unsynced →
+            IsErrAnd result (λ back. (back.0 ≡ ticket) × (back.1 ≡ Refusal.NotSynced)) }
         ensures mine { IsTrue (is_mine self.old ticket) → ticket.unsynced ≡ false →
             GivesExactly (settled_of self.old.state ticket.block (L.bytes_of ticket.lane)) self.old.state self.new.state
             (result_map (λ landed. (landed.durable, landed.freed)) (result_map_err (λ back. back.1) result))
@@ -199,7 +201,10 @@ impl<L: Lane> Kernel<L> {
 
         // The lane comes back with its bytes.
         ensures given { OnOk result ((lane : L) × (L.bytes_of lane ≡ L.bytes_of ticket.lane) × (L.faults_of lane ≡ L.faults_of ticket.lane)
-            × L.read_gives ticket.lane (Ok tt) lane × (self.new ≡ record self.old { lanes = slice_set self.old.lanes ticket.block (Some lane); state = self.new.state })) }
+            × L.read_gives ticket.lane (Ok tt) lane × (self.new ≡ record self.old {
+              lanes = slice_set self.old.lanes ticket.block (Some lane);
+              state = self.new.state;
+            })) }
 
         // A refusal changes nothing but what the lane keeps beside its bytes.
         ensures err { OnErr result (self.new ≡ self.old) }

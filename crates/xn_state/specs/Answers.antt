@@ -7,10 +7,12 @@ use Rattle.xn_model.specs.Types.{Types}
 use Rattle.xn_model.specs.Lives.{StoreState}
 use Rattle.xn_model.specs.declared.refusal.Refusal.{Refusal}
 use Rattle.xn_model.specs.Results.{Gives, GivesExactly}
-use Rattle.xn_model.specs.Calls.{init_of, propose_of, make_root_of, drop_root_of, forget_of, read_of, root_of, kind_of, tainted_of, pending_of, floor_of, free_of, pick_of}
+use Rattle.xn_model.specs.Calls.{init_of, propose_of, make_root_of, drop_root_of, forget_of, read_of, root_of, kind_of, tainted_of, pending_of, floor_of}
+use Rattle.xn_model.specs.Calls.{free_of, pick_of}
 use Rattle.xn_model.specs.Worlds as model
 use Rattle.xn_state.specs.declared.call.Call.{Call}
-use Rattle.xn_state.specs.declared.call.Call.TheVariants.{Init, Propose, MakeRoot, DropRoot, Forget, Read, Root, Kind, Tainted, Pending, Floor, Free, Pick, Drain}
+use Rattle.xn_state.specs.declared.call.Call.TheVariants.{Init, Propose, MakeRoot, DropRoot, Forget, Read, Root, Kind, Tainted, Pending, Floor, Free, Pick}
+use Rattle.xn_state.specs.declared.call.Call.TheVariants.{Drain}
 use Rattle.xn_state.specs.declared.answer.Answer.{Answer}
 use Rattle.xn_state.specs.declared.answer.Answer.TheVariants as answer
 

@@ -6,11 +6,13 @@ use Rattle.xn_model.specs.Types.{Types, named_once, within_size}
 use Rattle.xn_model.specs.Root.{with_slot}
 use Rattle.xn_model.specs.Lives.{BlockState, Life, StoreState, chain_end, current}
 use Rattle.xn_model.specs.declared.refusal.Refusal.{Refusal}
-use Rattle.xn_model.specs.declared.refusal.Refusal.TheVariants.{BadPatch, BadAfter, NotFresh, NotOwned, NotEmpty, ClaimWrong, SizeWrong, TooManyPending, Exhausted, Cycle}
+use Rattle.xn_model.specs.declared.refusal.Refusal.TheVariants.{BadPatch, BadAfter, NotFresh, NotOwned, NotEmpty, ClaimWrong, SizeWrong, TooManyPending}
+use Rattle.xn_model.specs.declared.refusal.Refusal.TheVariants.{Exhausted, Cycle}
 use Rattle.xn_model.specs.Results.{first_refusal, unless, result_and_then}
 use Rattle.claims.specs.Owners.{is_claimed, owned_count}
 use Rattle.block_cache.specs.declared.life.Facts.{Facts}
-use Rattle.xn_model.specs.Calls.{Edit, own_life, too_many, exhausted, within_limits, was_given, may_add, may_drop, is_empty, patched, propose_refusal, drop_root_refusal, root_now, slot_now}
+use Rattle.xn_model.specs.Calls.{Edit, own_life, too_many, exhausted, within_limits, was_given, may_add, may_drop, is_empty, patched, propose_refusal}
+use Rattle.xn_model.specs.Calls.{drop_root_refusal, root_now, slot_now}
 
 -- the tests of an edit, by what is known of the block and its newest bytes: row by row those of the model, but that the claim
 -- is read off the statuses

@@ -1,9 +1,11 @@
 // The lives of all blocks, with what is counted of them.
 
-ghost use Rattle.std.specs.Prelude.{◌≡◌, ℕ, ◌^◌, ◌<◌, ◌≤◌, ◌&&◌, ◌==◌, All, false, length, map, replicate, Option, Some, None, IfOk, IfSome, IsTrue, OnOk, OnErr, is_some, is_none, count_by, option_map, position, slice_get, slice_set, sum_by};
+ghost use Rattle.std.specs.Prelude.{◌≡◌, ℕ, ◌^◌, ◌<◌, ◌≤◌, ◌&&◌, ◌==◌, All, false, length, map, replicate, Option, Some, None, IfOk, IfSome, IsTrue, OnOk};
+ghost use Rattle.std.specs.Prelude.{OnErr, is_some, is_none, count_by, option_map, position, slice_get, slice_set, sum_by};
 ghost use Rattle.std.specs.Option.{option_copied};
 ghost use Rattle.xn_model.specs.Lists.{distinct};
-ghost use Rattle.xn_model.specs.Lives.{accepted_at, alive_and, chain_end, current, dropped_after, entries_of, is_for, least_to, life_at, lowest_free, owned_after};
+ghost use Rattle.xn_model.specs.Lives.{accepted_at, alive_and, chain_end, current, dropped_after, entries_of, is_for, least_to, life_at, lowest_free};
+ghost use Rattle.xn_model.specs.Lives.{owned_after};
 ghost use Rattle.xn_model.specs.Results.{result_map};
 ghost use Rattle.xn_model.specs.Calls.{is_ready, is_tainted, life_bytes, life_pending, new_life, own_place, patched, pending_in};
 ghost use Rattle.xn_model.specs.Images.{blocks_in};

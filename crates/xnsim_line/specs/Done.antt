@@ -6,7 +6,8 @@ use Rattle.xnsim_words.specs.declared.invocation.Invocation.{Invocation}
 use Rattle.xnsim_words.specs.declared.invocation.Stop.{Stop}
 use Rattle.xnsim_words.specs.declared.invocation.Invocation.TheVariants.{Bare, Format, Run, Check, Asm, Verify}
 use Rattle.xnsim_words.specs.declared.fault.Fault.{Fault}
-use Rattle.xnsim_words.specs.declared.fault.Fault.TheVariants.{Usage, CannotRead, Unreadable, Image, CannotWrite, NoMemory, Program, Owns, Size, Template, TooManyTemplates, TooManyWords, Stream}
+use Rattle.xnsim_words.specs.declared.fault.Fault.TheVariants.{Usage, CannotRead, Unreadable, Image, CannotWrite, NoMemory, Program, Owns, Size, Template}
+use Rattle.xnsim_words.specs.declared.fault.Fault.TheVariants.{TooManyTemplates, TooManyWords, Stream}
 use Rattle.xnsim_programs.specs.Assembling.{IsTemplateFault, PrintsTemplate}
 use Rattle.udf_verify.specs.declared.fault.Role.{Role}
 use Rattle.xnsim_words.specs.Files.{Held, IsHeld, with_file}

@@ -58,7 +58,8 @@ fn format<'a, F: Files, W: Write>(
 ) -> Result<(), Fault<'a>>
     requires least { 32 ≤ blocks }
     requires greatest { blocks ≤ 32768 }
-    ensures done { OnOk result (PrintsMade (F.held files.old) (F.held files.new) image.entry.now blocks file_system (map string_bytes names.entry.now) (W.contents out.old) (W.contents out.new)) }
+    ensures done { OnOk result (PrintsMade (F.held files.old) (F.held files.new) image.entry.now blocks file_system (map string_bytes names.entry.now)
+        (W.contents out.old) (W.contents out.new)) }
     ensures fault { IfErr result (IsFaultOf None (Invocation.Format image.entry blocks file_system names.entry)) }
 {
     let read = read_files(alloc, files, names)?;
@@ -80,7 +81,8 @@ fn assemble_files<'a, F: Files, W: Write>(
     size: &'a str,
     block: &'a str,
 ) -> Result<(), Fault<'a>>
-    ensures done { OnOk result (PrintsAssembled (F.held files.old) (F.held files.new) owns.entry.now size.entry.now block.entry.now (W.contents out.old) (W.contents out.new)) }
+    ensures done { OnOk result (PrintsAssembled (F.held files.old) (F.held files.new) owns.entry.now size.entry.now block.entry.now (W.contents out.old)
+        (W.contents out.new)) }
     ensures fault { IfErr result (IsFaultOf None (Invocation.Asm owns.entry size.entry block.entry)) }
 {
     let owns_bytes = files.read(alloc, owns).ok_or(Fault::CannotRead(owns))?;
@@ -106,7 +108,8 @@ fn run_files<'a, F: Files, W: Write>(
     script: &'a str,
     stop: Option<Stop>,
 ) -> Result<(), Fault<'a>>
-    ensures done { OnOk result (PrintsMounted (F.held files.old) (F.held files.new) image.entry.now script.entry.now stop (W.contents out.old) (W.contents out.new)) }
+    ensures done { OnOk result (PrintsMounted (F.held files.old) (F.held files.new) image.entry.now script.entry.now stop (W.contents out.old)
+        (W.contents out.new)) }
     ensures fault { IfErr result (IsFaultOf None (Invocation.Run image.entry script.entry stop)) }
 {
     let before = files
@@ -189,7 +192,8 @@ pub fn run<'a, F: Files, R: Read, W: Write>(
     input: &mut R,
     out: &mut W,
 ) -> Result<(), Fault<'a>>
-    ensures done { OnOk result (IsLineDone (R.remaining input.old) (F.held files.old) (F.held files.new) (map string_bytes words.entry.now) (W.contents out.old) (W.contents out.new)) }
+    ensures done { OnOk result (IsLineDone (R.remaining input.old) (F.held files.old) (F.held files.new) (map string_bytes words.entry.now) (W.contents out.old)
+        (W.contents out.new)) }
     ensures fault { IfErr result (IsLineFault (R.remaining input.old) (map string_bytes words.entry.now)) }
     ensures usage { IfErr result (λ fault. fault ≡ Fault.Usage → IsNoLine (map string_bytes words.entry.now)) }
 {

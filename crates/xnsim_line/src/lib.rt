@@ -30,7 +30,8 @@ pub fn line<F: Files, R: Read, W: Write, E: Write>(
     out: &mut W,
     err: &mut E,
 ) -> u8
-    ensures done { result ≡ 0 → IsLineDone (R.remaining input.old) (F.held files.old) (F.held files.new) (map string_bytes words.now) (W.contents out.old) (W.contents out.new) }
+    ensures done { result ≡ 0 → IsLineDone (R.remaining input.old) (F.held files.old) (F.held files.new) (map string_bytes words.now) (W.contents out.old)
+        (W.contents out.new) }
     ensures usage { result ≡ 2 → IsNoLine (map string_bytes words.now) }
     ensures status { result ≤ 2 }
 {

@@ -58,7 +58,8 @@ fn run_lines<'a, W: Write>(
     lines: Vec<ScriptLine<'_>>,
     out: &mut W,
 ) -> Result<(), Fault<'a>>
-    ensures run { OnOk result (RunsLines lines.entry.items (λ events. IsPrintedRun (world_with world.old) events (W.contents out.old) (W.contents out.new) (joined world.new.image))) }
+    ensures run { OnOk result (RunsLines lines.entry.items (λ events. IsPrintedRun (world_with world.old) events (W.contents out.old) (W.contents out.new)
+        (joined world.new.image))) }
     ensures fault { IfErr result IsRunFault }
 {
     let mut reply = Reply::Down;
@@ -78,7 +79,8 @@ fn run_asked<'a, W: Write>(
     out: &mut W,
 ) -> Result<(), Fault<'a>>
     requires { SpellEvents lines.items }
-    ensures run { OnOk result (RunsLines lines.entry.items (λ events. IsAskedOn stop (world_with world.old) events (W.contents out.old) (W.contents out.new) (joined world.new.image))) }
+    ensures run { OnOk result (RunsLines lines.entry.items (λ events. IsAskedOn stop (world_with world.old) events (W.contents out.old) (W.contents out.new)
+        (joined world.new.image))) }
     ensures fault { IfErr result IsRunFault }
 {
     match stop {
@@ -111,7 +113,8 @@ pub fn run_script<'a, W: Write>(
     requires size { IsDiskSize blocks }
     requires few { length templates.now ≤ 16 }
     requires lines { SpellEvents lines.items }
-    ensures run { IfOk result (λ image. RunsLines lines.entry.items (λ events. IsPrintedRun (fresh_world blocks templates.now) events (W.contents out.old) (W.contents out.new) image.items)) }
+    ensures run { IfOk result (λ image. RunsLines lines.entry.items
+        (λ events. IsPrintedRun (fresh_world blocks templates.now) events (W.contents out.old) (W.contents out.new) image.items)) }
     ensures fault { IfErr result IsRunFault }
 {
     let mut world = fresh_world(rt, alloc, blocks, templates)?;
@@ -130,7 +133,8 @@ pub fn run_on_image<'a, W: Write>(
     out: &mut W,
 ) -> Result<Vec<u8>, Fault<'a>>
     requires lines { SpellEvents lines.items }
-    ensures run { IfOk result (λ after. RunsLines lines.entry.items (λ events. IsAskedRun stop image.items events (W.contents out.old) (W.contents out.new) after.items)) }
+    ensures run { IfOk result (λ after. RunsLines lines.entry.items
+        (λ events. IsAskedRun stop image.items events (W.contents out.old) (W.contents out.new) after.items)) }
     ensures fault { IfErr result (IsMountFault image.items) }
 {
     let opened = World::open_image(rt, alloc, image);

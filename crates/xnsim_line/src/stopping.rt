@@ -258,7 +258,8 @@ pub fn run_lines_until<'a, W: Write>(
     out: &mut W,
 ) -> Result<(), Fault<'a>>
     requires { SpellEvents lines.items }
-    ensures run { OnOk result (RunsLines lines.entry.items (λ events. IsStoppedRun (world_with world.old) events stop (W.contents out.old) (W.contents out.new) (joined world.new.image))) }
+    ensures run { OnOk result (RunsLines lines.entry.items (λ events. IsStoppedRun (world_with world.old) events stop (W.contents out.old) (W.contents out.new)
+        (joined world.new.image))) }
     ensures fault { IfErr result IsRunFault }
 {
     let mut left = stop.writes;

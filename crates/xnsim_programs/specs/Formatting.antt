@@ -31,7 +31,8 @@ abbrev pub installed_count : Bool → ℕ → ℕ
 installed_count file_system count = if file_system then 3 + count else count
 
 -- an image was made with the templates of these files and written, and its line printed
-pub record PrintsMade (held held_after : Held) (image_name : List ℕ) (blocks : ℕ) (file_system : Bool) (names : List (List ℕ)) (old new : Option (List ℕ)) : Type 0 where
+pub record PrintsMade (held held_after : Held) (image_name : List ℕ) (blocks : ℕ) (file_system : Bool) (names : List (List ℕ))
+    (old new : Option (List ℕ)) : Type 0 where
   pub files : List (List ℕ)
   pub own : List TemplateValue
   pub image : List ℕ

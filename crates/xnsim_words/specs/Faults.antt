@@ -3,7 +3,8 @@ use Rattle.std.specs.Prelude.{ℕ, List, [], ◌∷◌, ◌++◌, Option, codes}
 use Rattle.std.specs.Fmt.{decimal}
 use Rattle.std.specs.Io.KnownBytes.{Appends, Keeps}
 use Rattle.xnsim_words.specs.declared.fault.Fault.{Fault}
-use Rattle.xnsim_words.specs.declared.fault.Fault.TheVariants.{Usage, Unreadable, Image, NoMemory, Program, Owns, Size, Template, TooManyTemplates, TooManyWords}
+use Rattle.xnsim_words.specs.declared.fault.Fault.TheVariants.{Usage, Unreadable, Image, NoMemory, Program, Owns, Size, Template, TooManyTemplates}
+use Rattle.xnsim_words.specs.declared.fault.Fault.TheVariants.{TooManyWords}
 use Rattle.script_words.specs.declared.fault.ScriptFault.{ScriptFault}
 use Rattle.script_words.specs.declared.fault.ScriptFault.TheVariants as script
 use Rattle.xnsim_words.specs.declared.invocation.LineFault.{LineFault}

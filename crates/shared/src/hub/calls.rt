@@ -2,7 +2,8 @@
 
 ghost use Rattle.std.specs.Prelude.{◌≡◌, ◌≢◌, Option, Some, None, Result, IfOk, OnOk, OnErr, slice_get, slice_set, unwrap_or, option_copied};
 ghost use Rattle.xn_model.specs.Results.{Gives, GivesExactly, Lends, result_map};
-ghost use Rattle.xn_model.specs.Calls.{init_of, make_root_of, drop_root_of, propose_of, forget_of, begun_of, read_of, kind_of, root_of, tainted_of, pending_of, floor_of, free_of, pick_of};
+ghost use Rattle.xn_model.specs.Calls.{init_of, make_root_of, drop_root_of, propose_of, forget_of, begun_of, read_of, kind_of, root_of, tainted_of, pending_of};
+ghost use Rattle.xn_model.specs.Calls.{floor_of, free_of, pick_of};
 ghost use Rattle.xn_state.specs.declared.call.Call.TheVariants.{Drain};
 ghost use Rattle.templates.specs.Tables.{TellsTemplate};
 ghost use Rattle.xn_state.specs.Answers.{Answers};
@@ -29,7 +30,8 @@ impl<L: Lane, K: Naming> Hub<L, K> {
 
     /// Starts a life with these bytes on the lowest free block.
     pub fn init(&mut self, fs: Fs, ty: u32, bytes: &[u8; 512]) -> Result<(u32, EditId), Refusal>
-        ensures state { Gives (init_of (own_types self.old.kernel.state) self.old.kernel.state fs.number ty bytes.now) self.old.kernel.state self.new.kernel.state result }
+        ensures state { Gives (init_of (own_types self.old.kernel.state) self.old.kernel.state fs.number ty bytes.now) self.old.kernel.state
+            self.new.kernel.state result }
         ensures rest { self.new ≡ with_store self.old self.new.kernel.state }
     {
         self.kernel.init(fs, ty, bytes)
@@ -37,7 +39,8 @@ impl<L: Lane, K: Naming> Hub<L, K> {
 
     /// Edits a block of the file system.
     pub fn propose(&mut self, fs: Fs, block: u32, edit: &Edit) -> Result<EditId, Refusal>
-        ensures state { Gives (propose_of (own_types self.old.kernel.state) self.old.kernel.state fs.number block edit.now) self.old.kernel.state self.new.kernel.state result }
+        ensures state { Gives (propose_of (own_types self.old.kernel.state) self.old.kernel.state fs.number block edit.now) self.old.kernel.state
+            self.new.kernel.state result }
         ensures rest { self.new ≡ with_store self.old self.new.kernel.state }
     {
         self.kernel.propose(fs, block, edit)
@@ -53,7 +56,8 @@ impl<L: Lane, K: Naming> Hub<L, K> {
 
     /// Empties the file system's root slot, in block 0.
     pub fn drop_root(&mut self, fs: Fs) -> Result<EditId, Refusal>
-        ensures state { Gives (drop_root_of (own_types self.old.kernel.state) self.old.kernel.state fs.number) self.old.kernel.state self.new.kernel.state result }
+        ensures state { Gives (drop_root_of (own_types self.old.kernel.state) self.old.kernel.state fs.number) self.old.kernel.state self.new.kernel.state
+            result }
         ensures rest { self.new ≡ with_store self.old self.new.kernel.state }
     {
         self.kernel.drop_root(fs)
@@ -61,7 +65,8 @@ impl<L: Lane, K: Naming> Hub<L, K> {
 
     /// Ends the life of a block that no owner has ever named.
     pub fn forget(&mut self, fs: Fs, block: u32) -> Result<(), Refusal>
-        ensures state { GivesExactly (forget_of (own_types self.old.kernel.state) self.old.kernel.state fs.number block) self.old.kernel.state self.new.kernel.state result }
+        ensures state { GivesExactly (forget_of (own_types self.old.kernel.state) self.old.kernel.state fs.number block) self.old.kernel.state
+            self.new.kernel.state result }
         ensures rest { self.new ≡ with_store self.old self.new.kernel.state }
     {
         self.kernel.forget(fs, block)
@@ -73,7 +78,12 @@ impl<L: Lane, K: Naming> Hub<L, K> {
             (result_map (λ ticket. (ticket.bytes, ticket.count)) result) }
         ensures ticket { IfOk result (λ ticket. (ticket.kernel ≡ self.old.kernel.id) × (ticket.block ≡ block)
             × (slice_get self.old.kernel.lanes block ≡ Some (Some ticket.lane))) }
-        ensures lanes { OnOk result (self.new ≡ record self.old { kernel = record self.old.kernel { lanes = slice_set self.old.kernel.lanes block None; state = self.new.kernel.state } }) }
+        ensures lanes { OnOk result (self.new ≡ record self.old {
+          kernel = record self.old.kernel {
+            lanes = slice_set self.old.kernel.lanes block None;
+            state = self.new.kernel.state;
+          };
+        }) }
         ensures err { OnErr result (self.new ≡ self.old) }
     {
         self.kernel.begin(block)

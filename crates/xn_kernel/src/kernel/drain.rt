@@ -76,7 +76,8 @@ impl<L: Lane> Kernel<L> {
         ensures done { OnOk result (all_pending self.new.state.lives ≡ 0) }
         ensures few { IfOk result (λ writes. writes ≤ all_pending self.old.state.lives) }
         ensures stopped { IfErr result (λ stop. stop.refusal ≡ Refusal.Device → IsIdle self.old.state.lives) }
-        ensures err { IfErr result (λ stop. Refuses L.bytes_of L.faults_of L.write_gives L.sync_gives L.read_gives self.old stop.writes stop.ticket stop.refusal self.new) }
+        ensures err { IfErr result (λ stop. Refuses L.bytes_of L.faults_of L.write_gives L.sync_gives L.read_gives self.old stop.writes stop.ticket stop.refusal
+            self.new) }
     {
         if self.is_busy() {
             return Err(DrainStop {

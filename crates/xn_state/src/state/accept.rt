@@ -45,8 +45,10 @@ impl State {
         requires reads { Decides (own_types self.old) self.old.lives block (new_bytes bytes (life_bytes (life_at self.old.lives block))) reads }
         requires undoes { patched (new_bytes bytes (life_bytes (life_at self.old.lives block))) undo ≡ life_bytes (life_at self.old.lives block) }
         requires leaves { MayLeave bytes }
-        requires continues { Continues self.old (accepts self.old block (entry_of self.old fs.number (new_bytes bytes (life_bytes (life_at self.old.lives block))) claims.adds.now claims.drops.now claims.after)).1 }
-        ensures state { Gives (Ok (accepts self.old block (entry_of self.old fs.number (new_bytes bytes.entry (life_bytes (life_at self.old.lives block))) claims.entry.adds.now claims.entry.drops.now claims.entry.after))) self.old self.new result }
+        requires continues { Continues self.old (accepts self.old block
+            (entry_of self.old fs.number (new_bytes bytes (life_bytes (life_at self.old.lives block))) claims.adds.now claims.drops.now claims.after)).1 }
+        ensures state { Gives (Ok (accepts self.old block (entry_of self.old fs.number (new_bytes bytes.entry (life_bytes (life_at self.old.lives block)))
+            claims.entry.adds.now claims.entry.drops.now claims.entry.after))) self.old self.new result }
     {
         let Claims { adds, drops, after } = claims;
         let number = EditId(self.next);

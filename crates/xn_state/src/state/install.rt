@@ -59,7 +59,8 @@ impl State {
     fn read_template(&self, template: &[u8; 512]) -> Result<Template, Refusal>
         ensures { MatchResult result
             (λ read. template_of_bytes template.now ≡ Ok read)
-            (λ refusal. ((refusal ≡ Refusal.BadTemplate) × (language template.now ≡ None)) ⊎ ((refusal ≡ Refusal.NoMemory) × IsTrue (is_some (language template.now)))) }
+            (λ refusal. ((refusal ≡ Refusal.BadTemplate) × (language template.now ≡ None)) ⊎
+            ((refusal ≡ Refusal.NoMemory) × IsTrue (is_some (language template.now)))) }
     {
         match read_block(self.alloc, template) {
             Ok(read) => Ok(read),

@@ -124,7 +124,8 @@ impl State {
     /// The chunks that decide what a block owns, where an edit writes into none of them, and adds and drops nothing.
     fn kept_reads(&self, block: u32, edit: &Edit) -> Option<ReadSet>
         requires limits { IsTrue (within_limits edit.now) }
-        ensures decides { (l : Life) → life_at self.now.lives block ≡ Some l → IfSome result (λ reads. DecidesOwned (own_types self.now) l.ty (current l) reads.chunks) }
+        ensures decides { (l : Life) → life_at self.now.lives block ≡ Some l →
+            IfSome result (λ reads. DecidesOwned (own_types self.now) l.ty (current l) reads.chunks) }
         ensures leaves { IfSome result (λ reads. Leaves reads.chunks edit.now) }
         ensures rules { IsConsistent (own_types self.now) self.now }
     {
@@ -141,9 +142,11 @@ impl State {
     fn claimed(&self, block: u32, ty: u32, new: &[u8; 512], edit: &Edit) -> Option<ReadSet>
         requires alive { IsTrue (is_some (life_at self.now.lives block)) }
         requires installed { IsTrue ((own_types self.now).installed ty) }
-        requires newest { (l : Life) → life_at self.now.lives block ≡ Some l → (l.ty ≡ ty) × (patched (current l) edit.now.patches ≡ new.now) × (length (current l) ≡ 512) }
+        requires newest { (l : Life) → life_at self.now.lives block ≡ Some l → (l.ty ≡ ty) × (patched (current l) edit.now.patches ≡ new.now) ×
+            (length (current l) ≡ 512) }
         requires limits { IsTrue (within_limits edit.now) }
-        ensures claimed { is_some result ≡ (is_claimed self.now.lives block (owned_count self.now.lives block) ((own_types self.now).owned ty new.now) edit.now.adds edit.now.drops
+        ensures claimed { is_some result ≡
+            (is_claimed self.now.lives block (owned_count self.now.lives block) ((own_types self.now).owned ty new.now) edit.now.adds edit.now.drops
             && named_once (own_types self.now) ty new.now) }
         ensures reads { IfSome result (λ reads. DecidesOwned (own_types self.now) ty new.now reads.chunks) }
     {
@@ -177,7 +180,8 @@ impl State {
         requires newest { newest_at self.now.lives block ≡ Some (ty, old.now) }
         requires limits { IsTrue (within_limits edit.now) }
         ensures plan { result_map (λ reads. patched old.now edit.now.patches) result
-            ≡ unless (first_refusal (last_tests (own_types self.now) self.now block edit.now ty (patched old.now edit.now.patches))) (Ok (patched old.now edit.now.patches)) }
+            ≡ unless (first_refusal (last_tests (own_types self.now) self.now block edit.now ty (patched old.now edit.now.patches)))
+            (Ok (patched old.now edit.now.patches)) }
         ensures reads { IfOk result (λ reads. IfSome reads (λ set. DecidesOwned (own_types self.now) ty (patched old.now edit.now.patches) set.chunks)) }
     {
         if ty == DATA_TYPE && edit.adds().is_empty() && edit.drops().is_empty() {
@@ -200,7 +204,8 @@ impl State {
         requires newest { newest_at self.now.lives block ≡ Some (ty, old.now) }
         requires limits { IsTrue (within_limits edit.now) }
         ensures plan { result_map (λ reads. patched old.now edit.now.patches) result
-            ≡ unless (first_refusal (last_tests (own_types self.now) self.now block edit.now ty (patched old.now edit.now.patches))) (Ok (patched old.now edit.now.patches)) }
+            ≡ unless (first_refusal (last_tests (own_types self.now) self.now block edit.now ty (patched old.now edit.now.patches)))
+            (Ok (patched old.now edit.now.patches)) }
         ensures reads { IfOk result (λ reads. IfSome reads (λ set. DecidesOwned (own_types self.now) ty (patched old.now edit.now.patches) set.chunks)) }
     {
         let mut bytes = *old;
@@ -226,7 +231,8 @@ impl State {
         requires alive { IsTrue (is_some (life_at self.now.lives block)) }
         requires installed { IsTrue ((own_types self.now).installed facts.ty) }
         requires newest { newest_at self.now.lives block ≡ Some (facts.ty, old.now) }
-        ensures plan { result_map (λ reads. patched old.now edit.now.patches) result ≡ edited_with (own_types self.now) self.now fs.number block edit.now facts old.now }
+        ensures plan { result_map (λ reads. patched old.now edit.now.patches) result ≡
+            edited_with (own_types self.now) self.now fs.number block edit.now facts old.now }
         ensures reads { IfOk result (λ reads. IfSome reads (λ set. DecidesOwned (own_types self.now) facts.ty (patched old.now edit.now.patches) set.chunks)) }
         ensures room { OnOk result (facts.pending < 64) }
         ensures few { OnOk result (pending_of self.now fs.number < 4096) }
@@ -262,8 +268,10 @@ impl State {
 
     /// The chunks that decide what a block owns once it is edited, or the first refusal that applies.
     fn proposed(&self, fs: Fs, block: u32, edit: &Edit) -> Result<Option<ReadSet>, Refusal>
-        ensures plan { result_map (λ reads. patched (life_bytes (life_at self.now.lives block)) edit.now.patches) result ≡ proposed_of (own_types self.now) self.now fs.number block edit.now }
-        ensures reads { IfOk result (λ reads. Decides (own_types self.now) self.now.lives block (patched (life_bytes (life_at self.now.lives block)) edit.now.patches) reads) }
+        ensures plan { result_map (λ reads. patched (life_bytes (life_at self.now.lives block)) edit.now.patches) result ≡
+            proposed_of (own_types self.now) self.now fs.number block edit.now }
+        ensures reads { IfOk result (λ reads. Decides (own_types self.now) self.now.lives block
+            (patched (life_bytes (life_at self.now.lives block)) edit.now.patches) reads) }
         ensures rules { IsConsistent (own_types self.now) self.now }
         ensures alive { OnOk result (IsTrue (is_some (life_at self.now.lives block))) }
         ensures room { OnOk result (life_pending (life_at self.now.lives block) < 64) }
@@ -282,7 +290,8 @@ impl State {
     fn undo_of(&self, block: u32, edit: &Edit) -> Result<Undo, Refusal>
         requires alive { IsTrue (is_some (life_at self.now.lives block)) }
         requires limits { IsTrue (within_limits edit.now) }
-        ensures ok { IfOk result (λ undo. patched (patched (life_bytes (life_at self.now.lives block)) edit.now.patches) undo ≡ life_bytes (life_at self.now.lives block)) }
+        ensures ok { IfOk result (λ undo. patched (patched (life_bytes (life_at self.now.lives block)) edit.now.patches) undo ≡
+            life_bytes (life_at self.now.lives block)) }
         ensures err { IfErr result (λ refusal. refusal ≡ Refusal.NoMemory) }
     {
         let Some(old) = self.lives.current(block) else {
