@@ -6,7 +6,8 @@
 --     is_over, over_named        more name it than it has links; the least number of which that is so
 --     open_in, make_from         what `open` and `make` look up
 --     numbers_in, AreCounts      the inodes that the entries of one block name; what is counted of some numbers
-use Rattle.std.specs.Prelude.{◌≡◌, ◌≢◌, ℕ, ◌+◌, ◌*◌, ◌<◌, Bool, ◌==◌, nat_lt, min, List, [], ◌∷◌, length, map, filter, filter_map, flat_map, count_by, slice_index, Contains, Option, Some, None, Result, Ok, Err, if◌then◌else◌}
+use Rattle.std.specs.Prelude.{◌≡◌, ◌≢◌, ℕ, ◌+◌, ◌*◌, ◌<◌, Bool, ◌==◌, nat_lt, min, List, [], ◌∷◌, length, map, filter, filter_map, flat_map, count_by}
+use Rattle.std.specs.Prelude.{slice_index, Contains, Option, Some, None, Result, Ok, Err, if◌then◌else◌}
 use Rattle.std.specs.List.{range_with_len}
 use Rattle.std.specs.Result.{result_ok}
 use Rattle.xn_model.specs.Lives.{StoreState}

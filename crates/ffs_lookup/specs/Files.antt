@@ -13,7 +13,9 @@
 --     empty_volume, made                          a volume without files; `make`
 --     created, written, unlinked, removed, renamed, replaced    the other calls
 --     IsSingle, AreSingle                         no name stands twice in a directory; in each one
-use Rattle.std.specs.Prelude.{◌≡◌, ℕ, ◌+◌, ◌-◌, ◌/◌, ◌<◌, Bool, true, false, not, ◌&&◌, ◌==◌, nat_lt, nat_le, List, [], ◌++◌, length, take, drop, map, find, replicate, Option, Some, None, Result, Ok, Err, is_some, bytes_eq, option_map, option_and_then, unwrap_or, filter_map, flat_map, slice_index_or, slice_set, if◌then◌else◌}
+use Rattle.std.specs.Prelude.{◌≡◌, ℕ, ◌+◌, ◌-◌, ◌/◌, ◌<◌, Bool, true, false, not, ◌&&◌, ◌==◌, nat_lt, nat_le, List, [], ◌++◌, length, take, drop, map, find}
+use Rattle.std.specs.Prelude.{replicate, Option, Some, None, Result, Ok, Err, is_some, bytes_eq, option_map, option_and_then, unwrap_or, filter_map, flat_map}
+use Rattle.std.specs.Prelude.{slice_index_or, slice_set, if◌then◌else◌}
 use Rattle.std.specs.List.{range_with_len}
 use Rattle.std.specs.Option.{ok_or, option_or}
 use Rattle.ffs_format.specs.Entries.{is_name}
@@ -106,7 +108,10 @@ is_named name (Some entry) = bytes_eq entry.0 name
 
 -- where the first entry with a name stands, and the number of the inode that it names
 abbrev pub look_up : List ℕ → Blocks → Option ((ℕ × ℕ) × ℕ)
-look_up name blocks = option_and_then (λ at. option_map (λ entry. (at, entry.1)) (entry_at blocks at)) (find (λ at. is_named name (entry_at blocks at)) (positions blocks))
+look_up name blocks = option_and_then (λ at. option_map (λ entry. (
+  at,
+  entry.1,
+)) (entry_at blocks at)) (find (λ at. is_named name (entry_at blocks at)) (positions blocks))
 
 -- The first free place, or else the first place of a new block at the lowest index that has none.
 abbrev pub room : Blocks → Option (ℕ × ℕ)
@@ -216,7 +221,10 @@ cleared files d found = without_link (with_entry files d found.0 None) found.1
 
 abbrev pub unlinked : Files → ℕ → List ℕ → Answer (Unit {0})
 unlinked files d name =
-    and_then (directory_of (files d)) (λ directory. and_then (entry_named name directory) (λ found. mapped (λ file. (tt, cleared files d found)) (file_of (files found.1))))
+    and_then (directory_of (files d)) (λ directory. and_then (entry_named name directory) (λ found. mapped (λ file. (
+      tt,
+      cleared files d found,
+    )) (file_of (files found.1))))
 
 abbrev pub is_bare : ℕ × Blocks → Bool
 is_bare directory = not (is_some (find (λ at. is_some (entry_at directory.1 at)) (positions directory.1)))

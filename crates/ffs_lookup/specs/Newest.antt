@@ -11,7 +11,9 @@
 --     room_in, number_in, IsLowest                where a directory has room for an entry; the number of the lowest free inode; a look-up for it
 --     make_in, create_in, write_in, unlink_in, rmdir_in, rename_in    what a call looks up before it edits
 --     is_short, is_own, RefusesAs                 a fault for want of something; one of the library's own; what is answered where a look-up fails
-use Rattle.std.specs.Prelude.{ℕ, ◌+◌, ◌*◌, ◌-◌, ◌/◌, ◌%◌, Bool, true, false, not, ◌&&◌, ◌||◌, ◌==◌, nat_lt, min, List, ◌++◌, length, drop, map, find, replicate, Option, Some, None, Result, Ok, Err, ◌≡◌, IfErr, get_or, is_some, bytes_eq, option_map, filter, filter_map, flat_map, if◌then◌else◌}
+use Rattle.std.specs.Prelude.{ℕ, ◌+◌, ◌*◌, ◌-◌, ◌/◌, ◌%◌, Bool, true, false, not, ◌&&◌, ◌||◌, ◌==◌, nat_lt, min, List, ◌++◌, length, drop, map, find, replicate}
+use Rattle.std.specs.Prelude.{Option, Some, None, Result, Ok, Err, ◌≡◌, IfErr, get_or, is_some, bytes_eq, option_map, filter, filter_map, flat_map}
+use Rattle.std.specs.Prelude.{if◌then◌else◌}
 use Rattle.std.specs.List.{list_any, range_with_len}
 use Rattle.std.specs.Option.{ok_or}
 use Rattle.xn_model.specs.declared.refusal.Refusal.TheVariants.{RootTaken}
@@ -195,7 +197,8 @@ has_gap m = list_any (λ place. half_at m (32 * place) == 0) (range_with_len 0 1
 
 -- room for an entry more in a directory: a gap in one of its blocks, or an empty pointer
 abbrev pub has_room : (ℕ → List ℕ) → List ℕ → Bool
-has_room content inode = list_any (λ block. has_gap (content block)) (inode_blocks inode) || list_any (λ index. direct_in inode index == 0) (range_with_len 0 12)
+has_room content inode = list_any (λ block. has_gap (content block)) (inode_blocks inode) ||
+    list_any (λ index. direct_in inode index == 0) (range_with_len 0 12)
 
 -- a free inode, which is all zeros
 abbrev pub is_free_inode : List ℕ → Bool
@@ -226,7 +229,8 @@ has_inode content root = has_free_inode content root || has_empty_pointer conten
 -- The first free inode in the first block that has one, or else the first one of a block for the first empty pointer.
 abbrev pub number_from : (ℕ → List ℕ) → ℕ → Option ℕ → Option ℕ
 number_from content root (Some index) =
-    option_map (λ place. 8 * index + place + 1) (find (λ place. is_free_inode (inode_at (content (pointer_word (content root) index)) place)) (range_with_len 0 8))
+    option_map (λ place. 8 * index + place + 1) (find (λ place. is_free_inode (inode_at (content (pointer_word (content root) index)) place))
+    (range_with_len 0 8))
 number_from content root None = option_map (λ index. 8 * index + 1) (find (λ index. pointer_word (content root) index == 0) (range_with_len 0 16))
 
 abbrev pub number_in : (ℕ → List ℕ) → ℕ → Option ℕ
@@ -242,7 +246,8 @@ if_room content inode root = if has_inode content root then (if has_room content
 
 abbrev pub if_new : (ℕ → List ℕ) → ℕ → List ℕ → List ℕ → Result (List ℕ) FfsFault
 if_new content fs name inode =
-    if is_name name then (if is_some (first_named content inode name) then Err Exists else and_then (root_in content fs) (if_room content inode)) else Err BadName
+    if is_name name then (if is_some (first_named content inode name) then Err Exists else and_then (root_in content fs) (if_room content inode)) else Err
+    BadName
 
 -- of `create` and `mkdir`
 unfoldable pub create_in : (ℕ → List ℕ) → ℕ → ℕ → List ℕ → Result (List ℕ) FfsFault
@@ -262,7 +267,8 @@ if_unnamed content fs same to new_name entry =
 abbrev pub if_movable : (ℕ → List ℕ) → ℕ → Bool → List ℕ → List ℕ → List ℕ → List ℕ → Result Slot FfsFault
 if_movable content fs same name new_name from to =
     if (inode_mode from == 2) && (inode_mode to == 2) then
-    (if is_name name && is_name new_name then and_then (ok_or (first_named content from name) NoEntry) (if_unnamed content fs same to new_name) else Err BadName)
+    (if is_name name && is_name new_name then and_then (ok_or (first_named content from name) NoEntry) (if_unnamed content fs same to new_name) else Err
+    BadName)
     else Err NotDir
 
 -- the entry that is moved
@@ -287,4 +293,5 @@ RefusesAs (Ok found) old new result = IfErr result (λ fault. is_own fault ≡ f
 
 -- The directory with a number is the same, but for one entry that is gone.
 abbrev pub TakesEntry : (ℕ → List ℕ) → (ℕ → List ℕ) → ℕ → ℕ → Slot → Type 0
-TakesEntry old new fs n entry = (inode : List ℕ) → Ok inode ≡ directory_in old fs n → (Ok inode ≡ directory_in new fs n) × (listing new inode ≡ without_entry entry (listing old inode))
+TakesEntry old new fs n entry = (inode : List ℕ) → Ok inode ≡ directory_in old fs n → (Ok inode ≡ directory_in new fs n) ×
+    (listing new inode ≡ without_entry entry (listing old inode))

@@ -1,7 +1,8 @@
 // Look-ups of the bytes, as functions of the files that these have.
 
 ghost use Rattle.std.specs.Prelude.{◌≡◌, ◌⊎◌, ◌+◌, ℕ, List, Ok, length};
-ghost use Rattle.ffs_lookup.specs.Files.{AreSingle, Files, InodeValue, created, empty_volume, listed, new_directory, new_file, read, read_over, removed, renamed, replaced, told, unlinked, written};
+ghost use Rattle.ffs_lookup.specs.Files.{AreSingle, Files, InodeValue, created, empty_volume, listed, new_directory, new_file, read, read_over, removed};
+ghost use Rattle.ffs_lookup.specs.Files.{renamed, replaced, told, unlinked, written};
 ghost use Rattle.ffs_lookup.specs.FileValues.{files_of};
 ghost use Rattle.ffs_lookup.specs.Newest.{create_in, file_in, mapped, names_in, read_count, read_into, rename_in, rmdir_in, unlink_in, write_in};
 

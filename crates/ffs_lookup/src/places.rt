@@ -1,13 +1,15 @@
 // Where inodes and entries stand.
 
-ghost use Rattle.std.specs.Prelude.{◌≡◌, ◌≢◌, ℕ, ◌<◌, ◌≤◌, ◌*◌, ◌==◌, ◌&&◌, length, find, not, bytes_eq, is_some, true, false, IfOk, IfSome, IsOk, MatchResult, Ok, Err, Some};
+ghost use Rattle.std.specs.Prelude.{◌≡◌, ◌≢◌, ℕ, ◌<◌, ◌≤◌, ◌*◌, ◌==◌, ◌&&◌, length, find, not, bytes_eq, is_some, true, false, IfOk, IfSome, IsOk, MatchResult};
+ghost use Rattle.std.specs.Prelude.{Ok, Err, Some};
 ghost use Rattle.std.specs.List.{list_any, range_with_len};
 ghost use Rattle.ffs_format.specs.Entries.{name_in};
 ghost use Rattle.ffs_format.specs.Fields.{direct_in};
 ghost use Rattle.ffs_model.specs.Cuts.{Under, latest};
 ghost use Rattle.ffs_model.specs.Names.{IsRoot, IsInodes};
 ghost use Rattle.ffs_model.specs.Library.{library_layout, half_at, inode_at, inode_mode, pointer_word, IsLibrary};
-ghost use Rattle.ffs_lookup.specs.Newest.{mapped, root_in, inode_block_in, inode_in, directory_in, file_in, entries_of, first_named, has_room, has_free_inode, has_empty_pointer, is_free_inode, room_in, IsLowest};
+ghost use Rattle.ffs_lookup.specs.Newest.{mapped, root_in, inode_block_in, inode_in, directory_in, file_in, entries_of, first_named, has_room, has_free_inode};
+ghost use Rattle.ffs_lookup.specs.Newest.{has_empty_pointer, is_free_inode, room_in, IsLowest};
 ghost use Rattle.ffs_lookup.specs.Places.{IsFound, IsDirectory, IsFile, IsFree, IsEmptyPointer, IsSlot, IsRoom};
 
 use crate::fault::FfsFault;
@@ -133,7 +135,8 @@ pub fn find_inode<S: Store>(store: &S, fs: Fs, number: u16) -> Result<Found, Ffs
 /// The directory of this number.
 pub fn find_directory<S: Store>(store: &S, fs: Fs, number: u16) -> Result<Found, FfsFault>
     ensures found { IfOk result (λ found. IsDirectory (S.state_of store.now) fs.number number found) }
-    ensures exact { IsLibrary (S.types_of store.now) → mapped (λ found. found.inode) result ≡ directory_in (latest (S.state_of store.now).lives) fs.number number }
+    ensures exact { IsLibrary (S.types_of store.now) → mapped (λ found. found.inode) result ≡
+        directory_in (latest (S.state_of store.now).lives) fs.number number }
 {
     let found = find_inode(store, fs, number)?;
     if found.inode.mode() == DIRECTORY {
@@ -159,7 +162,8 @@ pub fn find_file<S: Store>(store: &S, fs: Fs, number: u16) -> Result<Found, FfsF
 /// The place of the entry with this name in a directory's block.
 fn entry_in(block: &[u8; 512], name: &[u8]) -> Option<usize>
     ensures entry { IfSome result (λ place. (place < 16) × (half_at block.now (32 * place) ≢ 0)) }
-    ensures exact { result ≡ find (λ place. not (half_at block.now (32 * place) == 0) && bytes_eq (name_in block.now (32 * place)) name.now) (range_with_len 0 16) }
+    ensures exact { result ≡ find (λ place. not (half_at block.now (32 * place) == 0) &&
+        bytes_eq (name_in block.now (32 * place)) name.now) (range_with_len 0 16) }
 {
     (0..ENTRIES).find(|place| entry_inode(block, *place) != 0 && entry_name(block, *place) == name)
 }
@@ -276,7 +280,8 @@ pub fn find_free<S: Store>(store: &S, fs: Fs) -> Result<Option<Free>, FfsFault>
     ensures free { IfOk result (λ found. IfSome found (λ free. IsFree (S.state_of store.now) fs.number free)) }
     ensures lowest { IfOk result (λ found. IsLowest (latest (S.state_of store.now).lives) fs.number found) }
     ensures exact { IsLibrary (S.types_of store.now) → MatchResult result
-        (λ found. (root : ℕ) → Ok root ≡ root_in (latest (S.state_of store.now).lives) fs.number → is_some found ≡ has_free_inode (latest (S.state_of store.now).lives) root)
+        (λ found. (root : ℕ) → Ok root ≡ root_in (latest (S.state_of store.now).lives) fs.number →
+        is_some found ≡ has_free_inode (latest (S.state_of store.now).lives) root)
         (λ fault. Err fault ≡ root_in (latest (S.state_of store.now).lives) fs.number) }
 {
     let root = root_block(store, fs)?;
