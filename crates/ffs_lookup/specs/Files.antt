@@ -108,10 +108,9 @@ is_named name (Some entry) = bytes_eq entry.0 name
 
 -- where the first entry with a name stands, and the number of the inode that it names
 abbrev pub look_up : List ℕ → Blocks → Option ((ℕ × ℕ) × ℕ)
-look_up name blocks = option_and_then (λ at. option_map (λ entry. (
-  at,
-  entry.1,
-)) (entry_at blocks at)) (find (λ at. is_named name (entry_at blocks at)) (positions blocks))
+look_up name blocks =
+    option_and_then (λ at. option_map (λ entry. (at, entry.1)) (entry_at blocks at))
+    (find (λ at. is_named name (entry_at blocks at)) (positions blocks))
 
 -- The first free place, or else the first place of a new block at the lowest index that has none.
 abbrev pub room : Blocks → Option (ℕ × ℕ)
@@ -221,10 +220,8 @@ cleared files d found = without_link (with_entry files d found.0 None) found.1
 
 abbrev pub unlinked : Files → ℕ → List ℕ → Answer (Unit {0})
 unlinked files d name =
-    and_then (directory_of (files d)) (λ directory. and_then (entry_named name directory) (λ found. mapped (λ file. (
-      tt,
-      cleared files d found,
-    )) (file_of (files found.1))))
+    and_then (directory_of (files d)) (λ directory. and_then (entry_named name directory) (λ found.
+    mapped (λ file. (tt, cleared files d found)) (file_of (files found.1))))
 
 abbrev pub is_bare : ℕ × Blocks → Bool
 is_bare directory = not (is_some (find (λ at. is_some (entry_at directory.1 at)) (positions directory.1)))

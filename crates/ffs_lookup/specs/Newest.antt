@@ -246,8 +246,8 @@ if_room content inode root = if has_inode content root then (if has_room content
 
 abbrev pub if_new : (ℕ → List ℕ) → ℕ → List ℕ → List ℕ → Result (List ℕ) FfsFault
 if_new content fs name inode =
-    if is_name name then (if is_some (first_named content inode name) then Err Exists else and_then (root_in content fs) (if_room content inode)) else Err
-    BadName
+    if is_name name then (if is_some (first_named content inode name) then Err Exists else and_then (root_in content fs) (if_room content inode))
+    else Err BadName
 
 -- of `create` and `mkdir`
 unfoldable pub create_in : (ℕ → List ℕ) → ℕ → ℕ → List ℕ → Result (List ℕ) FfsFault
@@ -267,8 +267,8 @@ if_unnamed content fs same to new_name entry =
 abbrev pub if_movable : (ℕ → List ℕ) → ℕ → Bool → List ℕ → List ℕ → List ℕ → List ℕ → Result Slot FfsFault
 if_movable content fs same name new_name from to =
     if (inode_mode from == 2) && (inode_mode to == 2) then
-    (if is_name name && is_name new_name then and_then (ok_or (first_named content from name) NoEntry) (if_unnamed content fs same to new_name) else Err
-    BadName)
+    (if is_name name && is_name new_name then and_then (ok_or (first_named content from name) NoEntry) (if_unnamed content fs same to new_name)
+    else Err BadName)
     else Err NotDir
 
 -- the entry that is moved
