@@ -7,7 +7,7 @@
 --     Does                       what a call answers and leaves
 --     link_stages                where a link is taken
 --     removed_stages, created_stages, renamed_stages    of `unlink` and `rmdir`; of `create` and `mkdir`; of `rename`
---     Unnames, Makes             what the files don't say of the inodes where a name is taken, and where one is made
+--     Unnames, Makes, OnlyMade   what the files don't say of the inodes where a name is taken, and where one is made; all but that one are as before
 use Rattle.std.specs.Prelude.{◌≡◌, ◌≢◌, ℕ, ◌+◌, ◌-◌, ◌<◌, ◌⊎◌, nat_le, List, [], ◌∷◌, ◌++◌, length, take, replicate, None, Some, Result, Ok, Err, true, MatchResult, if◌then◌else◌}
 use Rattle.std.specs.Option.{ok_or}
 use Rattle.xn_model.specs.Root.{word_at}
@@ -135,3 +135,7 @@ pub record Makes (old new : ℕ → List ℕ) (fs d mode n : ℕ) : Type 0 where
   pub made : (place_in new fs n ≡ Ok (new_inode mode)) ⊎ SameOrNew old new fs n n
   pub directory : (inode after : List ℕ) → Ok inode ≡ directory_in old fs d → Ok after ≡ directory_in new fs d → IsExtended inode after
   pub others : (x : ℕ) → x ≢ d → x ≢ n → SameOrNew old new fs n x
+
+-- All but that one, so the directory too, have their 64 bytes, their entries and all their bytes, or are free in that block.
+abbrev pub OnlyMade : (ℕ → List ℕ) → (ℕ → List ℕ) → ℕ → ℕ → Type 0
+OnlyMade old new fs n = (x : ℕ) → x ≢ n → SameOrNew old new fs n x
