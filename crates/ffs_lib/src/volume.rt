@@ -22,7 +22,7 @@ ghost use Rattle.ffs_lib.specs.Values.{ByAnswer, Follows, Leads, WritesFirst};
 ghost use Rattle.ffs_lib.specs.Writes.{Writes, WritesSome};
 ghost use Rattle.ffs_lookup.specs.FileValues.{files_of};
 ghost use Rattle.ffs_lookup.specs.Files.{Files, created, listed, made, new_directory, new_file, read, read_over, removed, renamed, unlinked, written};
-ghost use Rattle.ffs_lib.specs.Stages.{Does, Makes, OnlyMade, Unnames, created_stages, removed_stages, renamed_stages};
+ghost use Rattle.ffs_lib.specs.Stages.{Does, KeptOrEmptied, Makes, OnlyMade, Unnames, created_stages, removed_stages, renamed_stages};
 ghost use Rattle.ffs_lib.specs.Steps.{Creates, Ends, Leaves, MayLose, NamesAgain, Stage, StopsGrowing, StopsNaming, StopsNew, StopsUnnaming, TakesFree, Undoes, Unnamed, newest};
 ghost use Rattle.xn_model.specs.Types.{Types};
 ghost use Rattle.xn_model.specs.declared.refusal.Refusal.{Refusal};
@@ -539,7 +539,7 @@ impl Volume {
             (S.state_of store.old) (S.state_of store.new) result }
         ensures inodes { let old = newest (S.state_of store.old) in let new = newest (S.state_of store.new) in let fs = self.now.fs.number in
             (slot : Slot) → Ok slot ≡ unlink_in old fs directory name.now →
-            Unnames old new fs directory slot.inode × OnErr result (inode_in new fs slot.inode ≡ inode_in old fs slot.inode) }
+            Unnames old new fs directory slot.inode × OnErr result (KeptOrEmptied old new fs slot.inode) }
         ensures keeps { IsVolume (S.types_of store.old) (S.state_of store.new) self.now }
     {
         let slot = self.look_up_file(store, directory, name)?;
@@ -562,7 +562,7 @@ impl Volume {
             (S.state_of store.old) (S.state_of store.new) result }
         ensures inodes { let old = newest (S.state_of store.old) in let new = newest (S.state_of store.new) in let fs = self.now.fs.number in
             (slot : Slot) → Ok slot ≡ rmdir_in old fs directory name.now →
-            Unnames old new fs directory slot.inode × OnErr result (inode_in new fs slot.inode ≡ inode_in old fs slot.inode) }
+            Unnames old new fs directory slot.inode × OnErr result (KeptOrEmptied old new fs slot.inode) }
         ensures keeps { IsVolume (S.types_of store.old) (S.state_of store.new) self.now }
     {
         let slot = self.look_up_empty(store, directory, name)?;

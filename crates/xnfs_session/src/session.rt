@@ -11,7 +11,7 @@ ghost use Rattle.ffs_lookup.specs.Repairs.{idle_in, repair_at, repair_in};
 ghost use Rattle.ffs_lib.specs.Reclaiming.{Reclaims};
 ghost use Rattle.ffs_lib.specs.Replacing.{Replaces};
 ghost use Rattle.ffs_lib.specs.Results.{MovedInodes};
-ghost use Rattle.ffs_lib.specs.Stages.{Does, Makes, OnlyMade, Unnames, created_stages, removed_stages, renamed_stages};
+ghost use Rattle.ffs_lib.specs.Stages.{Does, KeptOrEmptied, Makes, OnlyMade, Unnames, created_stages, removed_stages, renamed_stages};
 ghost use Rattle.ffs_lib.specs.Steps.{newest};
 ghost use Rattle.ffs_lib.specs.Values.{Follows};
 ghost use Rattle.ffs_lib.specs.Volumes.{NothingPending};
@@ -273,7 +273,7 @@ impl<S: FlushStore + Drop> Session<S> {
             (S.state_of self.old.store) (S.state_of self.new.store) result }
         ensures inodes { let old = newest (S.state_of self.old.store) in let new = newest (S.state_of self.new.store) in let fs = self.old.fs in
             (slot : Slot) → Ok slot ≡ unlink_in old fs directory name.now →
-            Unnames old new fs directory slot.inode × OnErr result (inode_in new fs slot.inode ≡ inode_in old fs slot.inode) }
+            Unnames old new fs directory slot.inode × OnErr result (KeptOrEmptied old new fs slot.inode) }
     {
         self.volume.unlink(alloc, &mut self.store, directory, name)
     }
@@ -287,7 +287,7 @@ impl<S: FlushStore + Drop> Session<S> {
             (S.state_of self.old.store) (S.state_of self.new.store) result }
         ensures inodes { let old = newest (S.state_of self.old.store) in let new = newest (S.state_of self.new.store) in let fs = self.old.fs in
             (slot : Slot) → Ok slot ≡ rmdir_in old fs directory name.now →
-            Unnames old new fs directory slot.inode × OnErr result (inode_in new fs slot.inode ≡ inode_in old fs slot.inode) }
+            Unnames old new fs directory slot.inode × OnErr result (KeptOrEmptied old new fs slot.inode) }
     {
         self.volume.rmdir(alloc, &mut self.store, directory, name)
     }
