@@ -1,5 +1,5 @@
 -- What is left of a name that is moved, after its inode was named again and the old name taken.
-use Rattle.std.proofs.Common.{◌≡◌, ◌≢◌, ◌∙◌, ℕ, ◌+◌, ◌*◌, ◌<◌, ◌≤◌, ◌++◌, ◌∷◌, List, None, Ok, Some, ap, arith, eq-eqb, inl, inr, length, length-append, refl, subst, suc, sym}
+use Rattle.std.proofs.Common.{◌≡◌, ◌≢◌, ◌∙◌, ℕ, ◌*◌, ◌<◌, ◌≤◌, ◌++◌, ◌∷◌, List, None, Ok, Some, ap, arith, eq-eqb, inl, inr, length, length-append, refl, subst, suc, sym}
 use Rattle.std.specs.Prelude.{◌==◌, if◌then◌else◌}
 use Rattle.std.proofs.lemmas.Bool.{cases_eq}
 use Rattle.std.proofs.lemmas.Option.{none-some}
