@@ -1,6 +1,8 @@
 -- What is left of a name that is moved, after its inode was named again and the old name taken.
-use Rattle.std.proofs.Common.{◌≡◌, ◌≢◌, ◌∙◌, ℕ, ◌*◌, ◌<◌, ◌≤◌, List, Ok, Some, ap, arith, inl, inr, length, refl, subst, sym}
+use Rattle.std.proofs.Common.{◌≡◌, ◌≢◌, ◌∙◌, ℕ, ◌*◌, ◌<◌, ◌≤◌, ◌++◌, ◌∷◌, List, None, Ok, Some, ap, arith, eq-eqb, inl, inr, length, length-append, refl, subst, suc, sym}
+use Rattle.std.specs.Prelude.{◌==◌, if◌then◌else◌}
 use Rattle.std.proofs.lemmas.Bool.{cases_eq}
+use Rattle.std.proofs.lemmas.Option.{none-some}
 use Rattle.xn_model.specs.Types.{Types}
 use Rattle.xn_model.specs.Lives.{StoreState}
 use Rattle.ffs_model.specs.Cuts.{latest}
@@ -8,8 +10,8 @@ use Rattle.ffs_model.specs.Library.{inode_links}
 use Rattle.ffs_format.specs.Fields.{direct_in}
 use Rattle.ffs_lookup.specs.declared.fault.FfsFault.{FfsFault}
 use Rattle.ffs_lookup.specs.declared.places.Slot.{Slot}
-use Rattle.ffs_lookup.specs.Newest.{directory_in, inode_in, named_in}
-use Rattle.ffs_lookup.proofs.ForCallers.{same_ok}
+use Rattle.ffs_lookup.specs.Newest.{directory_in, inode_in, listing, named_in, without_entry}
+use Rattle.ffs_lookup.proofs.ForCallers.{direct_has, first_value, same_ok}
 use Rattle.ffs_lookup.specs.Files.{room}
 use Rattle.ffs_lookup.specs.FileValues.{AreBlocksOnce, blocks_value}
 use Rattle.ffs_lib.specs.Results.{AsBefore, IsAs, IsExtended, MovedInodes, SameInode}
@@ -22,9 +24,23 @@ use Rattle.ffs_lib.proofs.Renaming.{CanMove}
 use Rattle.ffs_lib.proofs.Same.{same_on}
 use Rattle.ffs_lib.proofs.Staged.{same_here}
 use Rattle.ffs_lib.proofs.StillNamed.{still_named}
+use Rattle.ffs_lib.proofs.ValueLists.{Listed, both_true, place_listed, there_in, there_without}
 use Rattle.ffs_lib.proofs.ValueMade.{pointer_kept, pointer_new}
 use Rattle.ffs_lib.proofs.ValueSame.{blocks_same}
 use Rattle.ffs_lib.proofs.ValueSteps.{as_direct}
+
+longer : (front back : List Listed) (e : Listed) → front ++ e ∷ back ≡ front ++ back → ⊥
+longer front back e same =
+    let one : length (e ∷ back) ≡ suc (length back) = refl in
+    let more = length-append front (e ∷ back) in
+    let less = length-append front back in
+    let both : length (front ++ e ∷ back) ≡ length (front ++ back) = ap length same in
+    omega (arith, one, more, less, both)
+
+-- what the inode that is named has, besides its links
+abbrev SameListed : (ℕ → List ℕ) → (ℕ → List ℕ) → ℕ → ℕ → ℕ → Type 0
+SameListed old new fs n x =
+    (inode after : List ℕ) → Ok inode ≡ directory_in old fs x → Ok after ≡ directory_in new fs x → listing new after ≡ listing old inode → AsBefore old new fs x × (x ≢ n → SameInode old new fs x)
 
 module _ (u w : ℕ → List ℕ) (fs d : ℕ) (name : List ℕ) (other : ℕ) (new_name : List ℕ) (slot : Slot) (x : CanMove u fs d name other new_name slot) (z : NamedAgain u w fs other new_name slot.inode) where
   pub still_there : Ok slot ≡ named_in w fs d name
@@ -49,6 +65,67 @@ module _ (u w : ℕ → List ℕ) (fs d : ℕ) (name : List ℕ) (other : ℕ) (
             let one = z.linked.links x.own to1.after x.is_own (to1.found ∙ ap (inode_in v fs) (sym e)) in
             omega (arith, one, linked, same, kept)
       ]
+
+  -- the directory that is entered has an entry more
+  more_listed : (inode after : List ℕ) → Ok inode ≡ directory_in u fs other → Ok after ≡ directory_in w fs other → listing w after ≡ listing u inode → ⊥
+  more_listed inode after i now same =
+      let v = z.middle in
+      let dir = directory_from u fs other inode i in
+      let to1 = z.linked.before other inode dir.0 in
+      let more = z.entered.more to1.after (directory_to v fs other to1.after to1.found (to1.mode ∙ dir.1)) in
+      let one : more.after ≡ after = same_ok more.after after (more.directory ∙ sym now) in
+      longer more.front more.back (more.entry, new_name) (sym more.is ∙ (ap (listing w) one ∙ (same ∙ (sym to1.entries ∙ more.was))))
+
+  named_listed : (x' : ℕ) → SameListed u w fs slot.inode x'
+  named_listed e inode after i now same = elim (cases_eq e other) [
+    | inl is ↦ absurd (more_listed inode after (i ∙ ap (directory_in u fs) is) (now ∙ ap (directory_in w fs) is) same)
+    | inr ne ↦ (
+      as_on u z.middle w fs e (z.linked.before e) (same_as z.middle w fs e (z.entered.others e ne)),
+      λ away. same_on u z.middle w fs e (z.linked.others e away) (z.entered.others e ne),
+    )
+  ]
+
+  -- and the first one lost one
+  less_listed : (v last : ℕ → List ℕ) → Clearing w v fs slot → AsBefore v last fs d → (inode after : List ℕ) → Ok inode ≡ directory_in u fs d → Ok after ≡ directory_in last fs d → listing last after ≡ listing u inode → ⊥
+  less_listed v last c before inode after i now same =
+      let at = named_block w fs d name slot still_there in
+      let y = before at.0 (at.1 ∙ sym (c.inodes d)) in
+      let one : y.after ≡ after = same_ok y.after after (y.found ∙ sym (directory_from last fs d after now).0) in
+      let mine : x.from ≡ inode = same_ok x.from inode (x.is_from ∙ sym i) in
+      let entry = first_value u x.from name slot x.first in
+      let k = entry.is in
+      let lists : listing u x.from ≡ without_entry slot (listing w at.0) = ap (listing u) mine ∙ (sym same ∙ (ap (listing last) (sym one) ∙ (y.entries ∙ c.entries at.0))) in
+      let few = k.few in
+      let place = k.place in
+      let stood : there_in slot.block slot.place (listing u x.from) ≡ Some (name, slot.inode) =
+      sym (place_listed slot.block slot.place u (omega (arith, few, place)) x.from (direct_has x.from entry.at.0 slot.block k.low k.block k.there)) ∙ entry.stands in
+      none-some (name, slot.inode)
+      (sym (there_without slot slot.block slot.place (listing w at.0)
+      ∙ ap (λ t. if t then None else there_in slot.block slot.place (listing w at.0)) (both_true (slot.block == slot.block) (slot.place == slot.place) (eq-eqb slot.block slot.block refl) (eq-eqb slot.place slot.place refl)))
+      ∙ (ap (there_in slot.block slot.place) (sym lists) ∙ stood))
+
+  -- after that only the links of the inode changed
+  last_listed : (v last : ℕ → List ℕ) → Clearing w v fs slot → ((e : ℕ) → AsBefore v last fs e) → ((e : ℕ) → e ≢ slot.inode → SameInode v last fs e) → (x' : ℕ) → SameListed u last fs slot.inode x'
+  last_listed v last c before same e inode after i now listed = elim (cases_eq e d) [
+    | inl is ↦ absurd (less_listed v last c (before d) inode after (i ∙ ap (directory_in u fs) is) (now ∙ ap (directory_in last fs) is) listed)
+    | inr ne ↦
+        let at = named_block w fs d name slot still_there in
+        let own : SameInode w v fs e = c.others d at.0 at.1 at.2 e ne in
+        elim (cases_eq e other) [
+          | inl is ↦
+              let dir = directory_from u fs other inode (i ∙ ap (directory_in u fs) is) in
+              let to1 = z.linked.before other inode dir.0 in
+              let more = z.entered.more to1.after (directory_to z.middle fs other to1.after to1.found (to1.mode ∙ dir.1)) in
+              let found : Ok more.after ≡ inode_in w fs e = (directory_from w fs other more.after more.directory).0 ∙ ap (inode_in w fs) (sym is) in
+              let y = as_on w v last fs e (same_as w v fs e own) (before e) more.after found in
+              let one : y.after ≡ after = same_ok y.after after (y.found ∙ sym (directory_from last fs e after now).0) in
+              absurd (more_listed inode more.after (i ∙ ap (directory_in u fs) is) more.directory (sym y.entries ∙ (ap (listing last) one ∙ listed)))
+          | inr ne' ↦ (
+            as_on u w last fs e (as_on u z.middle w fs e (z.linked.before e) (same_as z.middle w fs e (z.entered.others e ne'))) (as_on w v last fs e (same_as w v fs e own) (before e)),
+            λ away. same_on u w last fs e (same_on u z.middle w fs e (z.linked.others e away) (z.entered.others e ne')) (same_on w v last fs e own (same e away)),
+          )
+        ]
+  ]
 
   -- two inodes of which one is as the other but for its links
   extended_as : (inode before : List ℕ) → (y : (v : ℕ → List ℕ) × (last : ℕ → List ℕ) × IsAs v last fs other before) → IsExtended inode before → IsExtended inode y.2.after
@@ -89,6 +166,7 @@ module _ (u w : ℕ → List ℕ) (fs d : ℕ) (name : List ℕ) (other : ℕ) (
       same = λ e ne ne' away. same_on u z.middle w fs e (z.linked.others e away) (z.entered.others e ne');
       kept = λ ne away. (z.entered.others d ne).0 ∙ (z.linked.others d away).0;
       sized = extended;
+      listed = named_listed;
     }
 
     -- and the old entry is gone, or an edit after that was refused
@@ -110,6 +188,17 @@ module _ (u w : ℕ → List ℕ) (fs d : ℕ) (name : List ℕ) (other : ℕ) (
               | inl same ↦ ap (inode_in last fs) same ∙ (sym s.is ∙ (s.was ∙ (c.inodes n ∙ ap (inode_in w fs) (sym same))))
               | inr ne ↦ (s.others e ne).0 ∙ c.inodes e
             ] in
+            let before : (e : ℕ) → AsBefore v last fs e = λ e. elim (cases_eq e n) [
+              | inr ne ↦ same_as v last fs e (s.others e ne)
+              | inl is ↦ λ inode i. elim s.stage [
+                | inl same ↦ same_as v last fs e (subst (λ (y : StoreState). SameInode v (latest y.lives) fs e) (sym same) (same_here v fs e)) inode i
+                | inr k ↦
+                    let more = many linked inode (i ∙ (ap (inode_in v fs) is ∙ c.inodes n)) in
+                    let one : inode_links inode ≡ inode_links s.inode = ap inode_links (same_ok inode s.inode (i ∙ (ap (inode_in v fs) is ∙ sym s.was))) in
+                    let low = k.last in
+                    absurd (omega (arith, one, more, low))
+              ]
+            ] in
             let mine : n ≢ d → AsBefore w last fs n = λ away inode i. elim s.stage [
               | inl same ↦ same_as w last fs n (subst (λ (y : StoreState). SameInode w (latest y.lives) fs n) (sym same) (own n away)) inode i
               | inr e ↦
@@ -126,6 +215,7 @@ module _ (u w : ℕ → List ℕ) (fs d : ℕ) (name : List ℕ) (other : ℕ) (
               same = λ e ne ne' away. same_on u w last fs e (named.same e ne ne' away) (same_on w v last fs e (own e ne) (s.others e away));
               kept = λ ne away. inodes d ∙ named.kept ne away;
               sized = λ inode after i now. extended inode after i (now ∙ directory_same w last fs other (inodes other));
+              listed = last_listed v last c before s.others;
             }
 
     pub moved_inodes : 1 ≤ inode_links x.own → (last : ℕ → List ℕ) → Unnamed w last fs slot → MovedInodes u last fs d other slot.inode
@@ -144,6 +234,7 @@ module _ (u w : ℕ → List ℕ) (fs d : ℕ) (name : List ℕ) (other : ℕ) (
               let more = z.entered.more to1.after (directory_to z.middle fs other to1.after to1.found (to1.mode ∙ dir.1)) in
               let y = less.0 other more.after ((directory_from w fs other more.after more.directory).0 ∙ sym (g.cleared.inodes other)) in
               subst (IsExtended inode) (same_ok y.after after (y.found ∙ sym (directory_from last fs other after now).0)) (extended_as inode more.after (g.middle, last, y) (extended inode more.after i more.directory));
+          listed = last_listed g.middle last g.cleared less.0 g.took.others;
         }
 
 -- no name is entered yet
@@ -163,6 +254,7 @@ naming_inodes T fs d other n old new fault stop = let u = latest old.lives in el
             let to1 = l.before other inode (directory_from u fs other inode i).0 in
             let one : to1.after ≡ after = same_ok to1.after after (to1.found ∙ (sym (same other).0 ∙ sym (directory_from w fs other after now).0)) in
             subst (IsExtended inode) one (λ k lt some. as_direct u m fs other inode to1 k lt, inl (to1.direct, to1.size));
+        listed = λ x inode after i now e. (as_on u m w fs x (l.before x) (same_as m w fs x (same x)), λ away. same_on u m w fs x (l.others x away) (same x));
       }
 ]
   where
@@ -172,4 +264,5 @@ naming_inodes T fs d other n old new fault stop = let u = latest old.lives in el
       same = λ e ne ne' away. same_here (latest old.lives) fs e;
       kept = λ ne away. refl;
       sized = λ inode after i now. subst (IsExtended inode) (same_ok inode after (i ∙ sym now)) (λ k lt some. refl, inl (refl, refl));
+      listed = λ x inode after i now e. (same_as (latest old.lives) (latest old.lives) fs x (same_here (latest old.lives) fs x), λ away. same_here (latest old.lives) fs x);
     }

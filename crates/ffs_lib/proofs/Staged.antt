@@ -1,9 +1,9 @@
 -- A call does what its function of the files says, or leaves one of its stages.
 use Rattle.std.proofs.Common.{◌≡◌, ◌≢◌, ℕ, ◌-◌, ◌*◌, ◌/◌, ◌%◌, ◌<◌, ◌≤◌, ◌⊎◌, Bool, true, false, List, ◌++◌, length, map, take, replicate, get_or, Some, None, Result, Ok, Err, refl, sym, ◌∙◌, ap, inl, inr, arith, subst, length-append}
-use Rattle.std.specs.Prelude.{Contains, MatchResult, OnErr, ◌==◌, min, if◌then◌else◌}
+use Rattle.std.specs.Prelude.{Contains, MatchResult, OnErr, ◌==◌, min, nat_lt, if◌then◌else◌}
 use Rattle.std.specs.List.{range_with_len}
 use Rattle.std.specs.Option.{ok_or}
-use Rattle.std.proofs.lemmas.Bool.{cases_lt, eqb-false, le-leb, le-ltb}
+use Rattle.std.proofs.lemmas.Bool.{cases_lt, eqb-false, le-leb, le-ltb, lt-ltb}
 use Rattle.std.proofs.lemmas.List.{get_or-append_right, get_or-replicate, get_or-take, get_or_append_left, length-replicate, length-take, same_lists}
 use Rattle.std.proofs.lemmas.List.FromFn.{get_or-map-range_with_len, length-map-range_with_len}
 use Rattle.xn_model.specs.Root.{word_at}
@@ -12,7 +12,7 @@ use Rattle.xn_model.specs.Lives.{StoreState}
 use Rattle.xn_model.specs.Rules.{IsConsistent}
 use Rattle.ffs_model.specs.Cuts.{latest}
 use Rattle.ffs_model.specs.Library.{IsLibrary, inode_blocks, inode_links, inode_mode, pointer_word}
-use Rattle.ffs_model.proofs.ForCallers.{zero_word}
+use Rattle.ffs_model.proofs.ForCallers.{direct_where, zero_word}
 use Rattle.ffs_format.specs.Entries.{is_name}
 use Rattle.ffs_format.specs.Fields.{direct_in}
 use Rattle.ffs_lookup.specs.declared.fault.FfsFault.{FfsFault}
@@ -22,12 +22,13 @@ use Rattle.ffs_lookup.specs.Newest.{and_then, byte_in, byte_of, directory_in, fi
 use Rattle.ffs_lookup.specs.Files.{Answer, Blocks, Directory, File, Files, cleared, directory_of, entry_named, look_up, told, with_entry, without_link}
 use Rattle.ffs_lookup.specs.FileValues.{blocks_value, bytes_value, files_of}
 use Rattle.ffs_lookup.proofs.ForCallers.{IsPlaceOf, direct_has, map_on, same_ok}
-use Rattle.ffs_lib.specs.Results.{OnlyChanges, SameInode}
-use Rattle.ffs_lib.specs.Stages.{Asks, Does, IsRefused, IsStage, OfEntry, OfLink, Stages, Unnames, cleared_stages, emptied, link_stages, removed_stages, stages_of, with_emptied}
+use Rattle.ffs_lib.specs.Results.{OnlyChanges, SameContents, SameInode}
+use Rattle.ffs_lib.specs.Stages.{AreEmptied, Asks, Does, IsRefused, IsStage, KeptOrEmptied, OfEntry, OfLink, Stages, Unnames, cleared_stages, emptied, link_stages, removed_stages, stages_of, with_emptied}
 use Rattle.ffs_lib.specs.Steps.{Answers, ClearedPointers, Clearing, IsHome, Stops, StopsTaking, StopsUnnaming, Unnamed, Wants}
 use Rattle.ffs_lib.specs.Values.{Leads}
 use Rattle.ffs_lib.proofs.Entering.{directory_from}
 use Rattle.ffs_lib.proofs.Following.{blocks_once}
+use Rattle.ffs_lib.proofs.Frames.{listing_same}
 use Rattle.ffs_lib.proofs.Laws.{removed, unlisted}
 use Rattle.ffs_lib.proofs.Moving.{same_as}
 use Rattle.ffs_lib.proofs.Owners.{direct_block, pointers_apart, stands_from}
@@ -102,6 +103,15 @@ module _ (T : Types) (lib : IsLibrary T) (fs : ℕ) (few : fs < 32) (v : ℕ →
       none : (t : Bool) (i : ℕ) → (if t then 0 else pointer_word (w pointers) i) ≡ 0
       none true i = refl
       none false i = ap (λ m. pointer_word m i) c.cleared ∙ zero_word (4 * i)
+
+  pub emptied_contents : AreEmptied v w inode
+  emptied_contents = (
+    listing_same w v inode (λ b i. let x = direct_where inode b i in subst (λ (k : ℕ). w k ≡ v k) x.2 (direct_apart x.0 x.1 (λ z. x.3 (sym x.2 ∙ z)))),
+    λ at low. elim (cases_lt at 6144) [
+      | inl lt ↦ first_bytes at lt ∙ sym (ap (λ t. if t then byte_of v inode at else 0) (lt-ltb at 6144 lt))
+      | inr ge ↦ last_bytes at ge ∙ sym (ap (λ t. if t then byte_of v inode at else 0) (le-ltb at 6144 ge))
+    ],
+  )
 
   abbrev end : ℕ
   end = file_end inode
@@ -241,15 +251,32 @@ module _ (T : Types) (lib : IsLibrary T) (fs : ℕ) (few : fs < 32) (d : ℕ) (n
         ];
       }
 
-  pub unnames : (result : Result (Unit {0}) FfsFault) → MatchResult result (λ _. Unnamed u z fs slot) (Stops (StopsUnnaming T fs old new slot)) →
-      Unnames u z fs d slot.inode × OnErr result (inode_in z fs slot.inode ≡ inode_in u fs slot.inode)
-  unnames (Ok x) y =
+  kept_or_emptied : IsConsistent T new → (middle : StoreState) → Clearing u (latest middle.lives) fs slot → (fault : FfsFault) → StopsTaking T fs middle new slot.inode fault → KeptOrEmptied u z fs slot.inode
+  kept_or_emptied after middle c fault s = (
+    sym s.is ∙ (s.was ∙ c.inodes slot.inode),
+    λ inode i.
+        let m = latest middle.lives in
+        let lost = unlisted u m fs d slot f.own own_is has c in
+        let named = lost.others slot.inode (λ e. f.apart (sym e)) in
+        let same = named.1 inode i in
+        elim s.stage [
+          | inl e ↦ inl (subst (λ (y : StoreState). SameContents u (latest y.lives) inode) (sym e) same)
+          | inr e ↦
+              let one : s.inode ≡ inode = same_ok s.inode inode (s.was ∙ (c.inodes slot.inode ∙ sym i)) in
+              let k = subst (AreEmptied m z) one (emptied_contents T lib fs few m new after slot.inode s.inode s.was s.is e) in
+              inr (k.0 ∙ same.0, λ at low. k.1 at low ∙ ap (λ (b : ℕ). if nat_lt at 6144 then b else 0) (same.1 at low))
+        ],
+  )
+
+  pub unnames : IsConsistent T new → (result : Result (Unit {0}) FfsFault) → MatchResult result (λ _. Unnamed u z fs slot) (Stops (StopsUnnaming T fs old new slot)) →
+      Unnames u z fs d slot.inode × OnErr result (KeptOrEmptied u z fs slot.inode)
+  unnames after (Ok x) y =
       let r = removed u y.middle fs d slot (record { own = f.own; is = own_is; has = has; apart = f.apart }) y.cleared z y.took in (
         record { home = sym (directory_from z fs d f.own (r.gone f.own f.is).0).0 ∙ own_is; others = r.others; kept = λ inode i lt. ((r.unlinked inode i).kept lt).0 },
         tt,
       )
-  unnames (Err fault) stop = elim stop.1 [
+  unnames after (Err fault) stop = elim stop.1 [
     | inl p ↦
-        subst (λ (s : StoreState). Unnames u (latest s.lives) fs d slot.inode × (inode_in (latest s.lives) fs slot.inode ≡ inode_in u fs slot.inode)) (sym p.0) (nothing, refl)
-    | inr q ↦ let s = q.2 in (in_middle q.0 q.1 fault s, sym s.is ∙ (s.was ∙ q.1.inodes slot.inode))
+        subst (λ (s : StoreState). Unnames u (latest s.lives) fs d slot.inode × KeptOrEmptied u (latest s.lives) fs slot.inode) (sym p.0) (nothing, (refl, λ inode i. inl (refl, λ at low. refl)))
+    | inr q ↦ (in_middle q.0 q.1 fault q.2, kept_or_emptied after q.0 q.1 fault q.2)
   ]

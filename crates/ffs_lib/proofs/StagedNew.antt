@@ -1,6 +1,6 @@
 -- What `create` and `mkdir` leave where they are refused is one of their stages.
 use Rattle.std.proofs.Common.{◌≡◌, ◌≢◌, ℕ, ◌∷◌, [], ◌-◌, ◌/◌, ◌%◌, ◌<◌, Bool, true, false, List, Result, Ok, Err, refl, sym, ◌∙◌, ap, inl, inr, arith, subst}
-use Rattle.std.specs.Prelude.{◌==◌, ◌||◌, nat_lt, Some}
+use Rattle.std.specs.Prelude.{◌==◌, ◌||◌, nat_lt, OnErr, Some}
 use Rattle.xn_model.specs.Types.{Types}
 use Rattle.xn_model.specs.Lives.{StoreState}
 use Rattle.xn_model.specs.Rules.{IsConsistent}
@@ -14,7 +14,7 @@ use Rattle.ffs_lookup.specs.Files.{Answer, Files, InodeValue, created, is_absent
 use Rattle.ffs_lookup.specs.FileValues.{AreBlocksOnce, blocks_value, files_of, inode_value, place_in, value_in}
 use Rattle.ffs_lookup.proofs.ForCallers.{block_again, created_ok, created_told, good_number, has_root, same_ok, value_by_place, value_found, value_outside}
 use Rattle.ffs_lib.specs.Results.{IsExtended, IsLowestNumber, MadeEntry, SameOrNew, new_inode}
-use Rattle.ffs_lib.specs.Stages.{Asks, Does, ForEntry, IsRefused, IsStage, Makes, OfInode, created_stages, made_stages, stages_of}
+use Rattle.ffs_lib.specs.Stages.{Asks, Does, ForEntry, IsRefused, IsStage, Makes, OfInode, OnlyMade, created_stages, made_stages, stages_of}
 use Rattle.ffs_lib.specs.Steps.{Answers, Creates, MadeInode, StopsAtHome, StopsMaking, StopsNew, TakesFree, Wants}
 use Rattle.ffs_lib.specs.Values.{Leads}
 use Rattle.ffs_lib.proofs.Entering.{directory_from, free_none}
@@ -180,18 +180,24 @@ module _ (T : Types) (fs d : ℕ) (name : List ℕ) (mode : ℕ) (old new : Stor
     others = k.others;
   }
 
+  new_stays : (fault : FfsFault) (middle : StoreState) (free : Free) → TakesFree old middle fs free → StopsNew T fs middle new d mode free.number fault → OnlyMade u2 w2 fs free.number
+  new_stays fault middle free t s =
+      let n = free.number in
+      let m = latest middle.lives in
+      elim s [
+        | inl home ↦ λ x ne. subst (λ (y : StoreState). SameOrNew u2 (latest y.lives) fs n x) (sym home.0) (t.stays x)
+        | inr q ↦ λ x ne. new_on u2 m w2 fs n x (t.stays x) (as_same m w2 fs n x (same_on m (latest q.0.lives) w2 fs x (q.1.others x ne) (q.2.same x)))
+      ]
+
   new_makes : (fault : FfsFault) (middle : StoreState) (free : Free) → TakesFree old middle fs free → StopsNew T fs middle new d mode free.number fault → Makes u2 w2 fs d mode free.number
   new_makes fault middle free t s =
       let n = free.number in
-      let m = latest middle.lives in
       elim s [
         | inl home ↦ all_same u2 w2 fs d mode n (λ x. subst (λ (y : StoreState). SameOrNew u2 (latest y.lives) fs n x) (sym home.0) (t.stays x))
         | inr q ↦
             let k = q.1 in
-            let then = latest q.0.lives in
             let now = q.2.same in
-            made_apart u2 w2 fs d mode n (sym (t.stays n).0 ∙ free_none middle fs free t.is) (place_used w2 fs n (new_inode mode) (sym k.made ∙ sym (now n).0))
-            (λ x ne. new_on u2 m w2 fs n x (t.stays x) (as_same m w2 fs n x (same_on m then w2 fs x (k.others x ne) (now x))))
+            made_apart u2 w2 fs d mode n (sym (t.stays n).0 ∙ free_none middle fs free t.is) (place_used w2 fs n (new_inode mode) (sym k.made ∙ sym (now n).0)) (new_stays fault middle free t (inr q))
       ]
 
   pub created_makes : (value : InodeValue) (next : ℕ × Files) → created value (files_of u2 fs) d name ≡ Ok next → (result : Result ℕ FfsFault) → Creates T fs d name mode old new result → Makes u2 w2 fs d mode next.0
@@ -209,3 +215,19 @@ module _ (T : Types) (fs d : ℕ) (name : List ℕ) (mode : ℕ) (old new : Stor
         | inl growing ↦ all_same u2 w2 fs d mode next.0 (λ x. as_same u2 w2 fs next.0 x (growing.same x))
         | inr q ↦ subst (Makes u2 w2 fs d mode) (number_is u2 fs d name value inode l next (sym e) q.1.number q.2.lowest) (new_makes fault q.0 q.1 q.2 q.3)
       ]
+
+  -- where that is refused the directory is as before too
+  refused_stays : (value : InodeValue) (next : ℕ × Files) → created value (files_of u2 fs) d name ≡ Ok next → (fault : FfsFault) → Creates T fs d name mode old new (Err fault) → OnlyMade u2 w2 fs next.0
+  refused_stays value next e fault answers = go (create_in u2 fs d name) refl answers
+    where
+      go : (looked : Result (List ℕ) FfsFault) → looked ≡ create_in u2 fs d name →
+          Answers looked (λ _ n. MadeEntry u2 w2 fs d name mode n × IsLowestNumber u2 fs n) (λ _ fault. StopsMaking T fs old new d mode fault) old new (Err fault) → OnlyMade u2 w2 fs next.0
+      go (Err other) l h = absurd (cc (ap told l ∙ (created_told u2 fs value d name ∙ ap told e)))
+      go (Ok inode) l h = elim h.1 [
+        | inl growing ↦ λ x ne. as_same u2 w2 fs next.0 x (growing.same x)
+        | inr q ↦ subst (OnlyMade u2 w2 fs) (number_is u2 fs d name value inode l next (sym e) q.1.number q.2.lowest) (new_stays fault q.0 q.1 q.2 q.3)
+      ]
+
+  pub created_stays : (value : InodeValue) (next : ℕ × Files) → created value (files_of u2 fs) d name ≡ Ok next → (result : Result ℕ FfsFault) → Creates T fs d name mode old new result → OnErr result (OnlyMade u2 w2 fs next.0)
+  created_stays value next e (Ok n) answers = tt
+  created_stays value next e (Err fault) answers = refused_stays value next e fault answers

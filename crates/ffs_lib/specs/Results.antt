@@ -148,9 +148,12 @@ IsExtended inode after =
     ⊎ (((fields_of after).direct ≢ (fields_of inode).direct) × (word_at after 4 ≡ 512 * length (inode_blocks after))))
 
 -- An entry went from the directory with a number to that with another, which may be the same. All inodes but those two and the one that it names are as
--- before; that one is too, but for its links, where it is neither of the two. The first keeps its 64 bytes where it is another than both.
+-- before; that one is too, but for its links, where it is neither of the two. The first keeps its 64 bytes where it is another than both. A directory whose
+-- entries are as before is so in all, but for the links of that one.
 pub record MovedInodes (old new : ℕ → List ℕ) (fs d other n : ℕ) : Type 0 where
   pub others : (x : ℕ) → x ≢ d → x ≢ other → AsBefore old new fs x
   pub same : (x : ℕ) → x ≢ d → x ≢ other → x ≢ n → SameInode old new fs x
   pub kept : d ≢ other → d ≢ n → inode_in new fs d ≡ inode_in old fs d
   pub sized : (inode after : List ℕ) → Ok inode ≡ directory_in old fs other → Ok after ≡ directory_in new fs other → IsExtended inode after
+  pub listed : (x : ℕ) (inode after : List ℕ) → Ok inode ≡ directory_in old fs x → Ok after ≡ directory_in new fs x → listing new after ≡ listing old inode →
+      AsBefore old new fs x × (x ≢ n → SameInode old new fs x)

@@ -7,8 +7,9 @@
 --     Does                       what a call answers and leaves
 --     link_stages                where a link is taken
 --     removed_stages, created_stages, renamed_stages    of `unlink` and `rmdir`; of `create` and `mkdir`; of `rename`
---     Unnames, Makes             what the files don't say of the inodes where a name is taken, and where one is made
-use Rattle.std.specs.Prelude.{◌≡◌, ◌≢◌, ℕ, ◌+◌, ◌-◌, ◌<◌, ◌⊎◌, nat_le, List, [], ◌∷◌, ◌++◌, length, take, replicate, None, Some, Result, Ok, Err, true, MatchResult, if◌then◌else◌}
+--     Unnames, KeptOrEmptied     what the files don't say of the inodes where a name is taken; what a refusal leaves of the inode that was named
+--     Makes, OnlyMade            what the files don't say of the inodes where one is made; all but that one are as before
+use Rattle.std.specs.Prelude.{◌≡◌, ◌≢◌, ℕ, ◌+◌, ◌-◌, ◌<◌, ◌⊎◌, nat_le, nat_lt, List, [], ◌∷◌, ◌++◌, length, take, replicate, None, Some, Result, Ok, Err, true, MatchResult, if◌then◌else◌}
 use Rattle.std.specs.Option.{ok_or}
 use Rattle.xn_model.specs.Root.{word_at}
 use Rattle.xn_model.specs.Types.{Types}
@@ -19,8 +20,8 @@ use Rattle.ffs_lookup.specs.declared.fault.FfsFault.{FfsFault}
 use Rattle.ffs_lookup.specs.declared.fault.FfsFault.TheVariants.{NoEntry, TooLarge}
 use Rattle.ffs_lookup.specs.Files.{Answer, Blocks, Directory, File, Files, InodeValue, both_directories, created, directory_of, entry_named, look_up, room, with_block, with_entry, with_value}
 use Rattle.ffs_lookup.specs.FileValues.{files_of, place_in}
-use Rattle.ffs_lookup.specs.Newest.{and_then, directory_in, inode_in, is_short}
-use Rattle.ffs_lib.specs.Results.{IsAs, IsExtended, OthersSame, SameOrNew, new_inode}
+use Rattle.ffs_lookup.specs.Newest.{and_then, byte_of, directory_in, inode_in, is_short, listing}
+use Rattle.ffs_lib.specs.Results.{IsAs, IsExtended, OthersSame, SameContents, SameOrNew, new_inode}
 use Rattle.ffs_lib.specs.Steps.{IsHome, StopsEntering, StopsGrowing, Wants, newest}
 use Rattle.ffs_lib.specs.Values.{Leads}
 
@@ -129,9 +130,23 @@ pub record Unnames (old new : ℕ → List ℕ) (fs d n : ℕ) : Type 0 where
   pub others : OthersSame old new fs d n
   pub kept : (inode : List ℕ) → Ok inode ≡ inode_in old fs n → 1 < inode_links inode → IsAs old new fs n inode
 
+-- The bytes of an inode are 0 behind the 12 blocks to which it points itself, and else it has its bytes and its entries.
+abbrev pub AreEmptied : (ℕ → List ℕ) → (ℕ → List ℕ) → List ℕ → Type 0
+AreEmptied old new inode =
+    (listing new inode ≡ listing old inode) × ((at : ℕ) → at < 71680 → byte_of new inode at ≡ (if nat_lt at 6144 then byte_of old inode at else 0))
+
+-- An inode has its 64 bytes, and its entries and all its bytes; or it is emptied so.
+abbrev pub KeptOrEmptied : (ℕ → List ℕ) → (ℕ → List ℕ) → ℕ → ℕ → Type 0
+KeptOrEmptied old new fs n =
+    (inode_in new fs n ≡ inode_in old fs n) × ((inode : List ℕ) → Ok inode ≡ inode_in old fs n → SameContents old new inode ⊎ AreEmptied old new inode)
+
 -- A new inode was made for a directory, or not: it has these 64 bytes, or is as before, or free in a new block of inodes. The directory keeps its pointers and
 -- has its size, or 512 times its blocks. All others have their 64 bytes, in use or not, and their entries and their bytes, or are free in that block.
 pub record Makes (old new : ℕ → List ℕ) (fs d mode n : ℕ) : Type 0 where
   pub made : (place_in new fs n ≡ Ok (new_inode mode)) ⊎ SameOrNew old new fs n n
   pub directory : (inode after : List ℕ) → Ok inode ≡ directory_in old fs d → Ok after ≡ directory_in new fs d → IsExtended inode after
   pub others : (x : ℕ) → x ≢ d → x ≢ n → SameOrNew old new fs n x
+
+-- All but that one, so the directory too, have their 64 bytes, their entries and all their bytes, or are free in that block.
+abbrev pub OnlyMade : (ℕ → List ℕ) → (ℕ → List ℕ) → ℕ → ℕ → Type 0
+OnlyMade old new fs n = (x : ℕ) → x ≢ n → SameOrNew old new fs n x

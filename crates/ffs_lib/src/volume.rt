@@ -22,7 +22,7 @@ ghost use Rattle.ffs_lib.specs.Values.{ByAnswer, Follows, Leads, WritesFirst};
 ghost use Rattle.ffs_lib.specs.Writes.{Writes, WritesSome};
 ghost use Rattle.ffs_lookup.specs.FileValues.{files_of};
 ghost use Rattle.ffs_lookup.specs.Files.{Files, created, listed, made, new_directory, new_file, read, read_over, removed, renamed, unlinked, written};
-ghost use Rattle.ffs_lib.specs.Stages.{Does, Makes, Unnames, created_stages, removed_stages, renamed_stages};
+ghost use Rattle.ffs_lib.specs.Stages.{Does, KeptOrEmptied, Makes, OnlyMade, Unnames, created_stages, removed_stages, renamed_stages};
 ghost use Rattle.ffs_lib.specs.Steps.{Creates, Ends, Leaves, MayLose, NamesAgain, Stage, StopsGrowing, StopsNaming, StopsNew, StopsUnnaming, TakesFree, Undoes, Unnamed, newest};
 ghost use Rattle.xn_model.specs.Types.{Types};
 ghost use Rattle.xn_model.specs.declared.refusal.Refusal.{Refusal};
@@ -223,7 +223,8 @@ impl Volume {
             Does (S.types_of store.old) self.old.fs.number (created new_file files directory name.now) (created_stages new_file files directory name.now)
             (S.state_of store.old) (S.state_of store.new) result }
         ensures inodes { let old = newest (S.state_of store.old) in let new = newest (S.state_of store.new) in let fs = self.old.fs.number in
-            (next : ℕ × Files) → created new_file (files_of old fs) directory name.now ≡ Ok next → Makes old new fs directory FILE next.0 }
+            (next : ℕ × Files) → created new_file (files_of old fs) directory name.now ≡ Ok next →
+            Makes old new fs directory FILE next.0 × OnErr result (OnlyMade old new fs next.0) }
         ensures keeps { IsVolume (S.types_of store.old) (S.state_of store.new) self.new }
     {
         self.make_entry(alloc, store, directory, name, FILE)
@@ -244,7 +245,8 @@ impl Volume {
             Does (S.types_of store.old) self.old.fs.number (created new_directory files directory name.now)
             (created_stages new_directory files directory name.now) (S.state_of store.old) (S.state_of store.new) result }
         ensures inodes { let old = newest (S.state_of store.old) in let new = newest (S.state_of store.new) in let fs = self.old.fs.number in
-            (next : ℕ × Files) → created new_directory (files_of old fs) directory name.now ≡ Ok next → Makes old new fs directory DIRECTORY next.0 }
+            (next : ℕ × Files) → created new_directory (files_of old fs) directory name.now ≡ Ok next →
+            Makes old new fs directory DIRECTORY next.0 × OnErr result (OnlyMade old new fs next.0) }
         ensures keeps { IsVolume (S.types_of store.old) (S.state_of store.new) self.new }
     {
         self.make_entry(alloc, store, directory, name, DIRECTORY)
@@ -537,7 +539,7 @@ impl Volume {
             (S.state_of store.old) (S.state_of store.new) result }
         ensures inodes { let old = newest (S.state_of store.old) in let new = newest (S.state_of store.new) in let fs = self.now.fs.number in
             (slot : Slot) → Ok slot ≡ unlink_in old fs directory name.now →
-            Unnames old new fs directory slot.inode × OnErr result (inode_in new fs slot.inode ≡ inode_in old fs slot.inode) }
+            Unnames old new fs directory slot.inode × OnErr result (KeptOrEmptied old new fs slot.inode) }
         ensures keeps { IsVolume (S.types_of store.old) (S.state_of store.new) self.now }
     {
         let slot = self.look_up_file(store, directory, name)?;
@@ -560,7 +562,7 @@ impl Volume {
             (S.state_of store.old) (S.state_of store.new) result }
         ensures inodes { let old = newest (S.state_of store.old) in let new = newest (S.state_of store.new) in let fs = self.now.fs.number in
             (slot : Slot) → Ok slot ≡ rmdir_in old fs directory name.now →
-            Unnames old new fs directory slot.inode × OnErr result (inode_in new fs slot.inode ≡ inode_in old fs slot.inode) }
+            Unnames old new fs directory slot.inode × OnErr result (KeptOrEmptied old new fs slot.inode) }
         ensures keeps { IsVolume (S.types_of store.old) (S.state_of store.new) self.now }
     {
         let slot = self.look_up_empty(store, directory, name)?;
@@ -718,7 +720,7 @@ impl Volume {
         enter(alloc, store, self.fs, directory, inode, name, added)
     }
 
-    /// The names in a directory and their inodes, by block and place. Faults are `NoEntry` and `NotDir`, and `Kernel(NoMemory)`.
+    /// The names in a directory and their inodes, by block and place. Faults are `NoEntry` and `NotDir`, and then `Kernel(NoMemory)`.
     pub fn list<S: Store>(
         &self,
         alloc: Global,
@@ -727,7 +729,8 @@ impl Volume {
     ) -> Result<Vec<(Vec<u8>, u16)>, FfsFault>
         ensures value { IsLibrary (S.types_of store.now) → MatchResult result
             (λ names. Ok (map (λ name. (name.0.items, name.1)) names.items) ≡ listed (files_of (newest (S.state_of store.now)) self.now.fs.number) directory)
-            (λ fault. (fault ≡ FfsFault.Kernel Refusal.NoMemory)
+            (λ fault. ((fault ≡ FfsFault.Kernel Refusal.NoMemory)
+            × IsOk (listed (files_of (newest (S.state_of store.now)) self.now.fs.number) directory))
             ⊎ (Err fault ≡ listed (files_of (newest (S.state_of store.now)) self.now.fs.number) directory)) }
     {
         let found = find_directory(store, self.fs, directory)?;

@@ -1,6 +1,6 @@
 // A store with its open volume.
 
-ghost use Rattle.std.specs.Prelude.{◌≡◌, ◌≤◌, ◌⊎◌, ℕ, is_some, length, map, IfOk, MatchResult, OnErr, OnOk, Ok, Err};
+ghost use Rattle.std.specs.Prelude.{◌≡◌, ◌≤◌, ◌⊎◌, ℕ, is_some, length, map, IfOk, IfErr, IsOk, MatchResult, OnErr, OnOk, Ok, Err};
 ghost use Rattle.ffs_model.specs.Cuts.{latest};
 ghost use Rattle.ffs_model.specs.Library.{IsLibrary};
 ghost use Rattle.ffs_lookup.specs.Newest.{inode_in, mapped, named_in, rename_in, rmdir_in, unlink_in};
@@ -11,7 +11,7 @@ ghost use Rattle.ffs_lookup.specs.Repairs.{idle_in, repair_at, repair_in};
 ghost use Rattle.ffs_lib.specs.Reclaiming.{Reclaims};
 ghost use Rattle.ffs_lib.specs.Replacing.{Replaces};
 ghost use Rattle.ffs_lib.specs.Results.{MovedInodes};
-ghost use Rattle.ffs_lib.specs.Stages.{Does, Makes, Unnames, created_stages, removed_stages, renamed_stages};
+ghost use Rattle.ffs_lib.specs.Stages.{Does, KeptOrEmptied, Makes, OnlyMade, Unnames, created_stages, removed_stages, renamed_stages};
 ghost use Rattle.ffs_lib.specs.Steps.{newest};
 ghost use Rattle.ffs_lib.specs.Values.{ByAnswer, Follows, WritesFirst};
 ghost use Rattle.ffs_lib.specs.Volumes.{NothingPending};
@@ -204,7 +204,7 @@ impl<S: FlushStore + Drop> Session<S> {
     pub fn list(&self, alloc: Global, directory: u16) -> Result<Vec<(Vec<u8>, u16)>, FfsFault>
         ensures value { MatchResult result
             (λ names. Ok (map (λ name. (name.0.items, name.1)) names.items) ≡ listed (files_of (newest (S.state_of self.now.store)) self.now.fs) directory)
-            (λ fault. (fault ≡ FfsFault.Kernel Refusal.NoMemory)
+            (λ fault. ((fault ≡ FfsFault.Kernel Refusal.NoMemory) × IsOk (listed (files_of (newest (S.state_of self.now.store)) self.now.fs) directory))
             ⊎ (Err fault ≡ listed (files_of (newest (S.state_of self.now.store)) self.now.fs) directory)) }
     {
         self.volume.list(alloc, &self.store, directory)
@@ -226,7 +226,8 @@ impl<S: FlushStore + Drop> Session<S> {
             Does (S.types_of self.old.store) self.old.fs (created new_file files directory name.now) (created_stages new_file files directory name.now)
             (S.state_of self.old.store) (S.state_of self.new.store) result }
         ensures inodes { let old = newest (S.state_of self.old.store) in let new = newest (S.state_of self.new.store) in
-            (next : ℕ × Files) → created new_file (files_of old self.old.fs) directory name.now ≡ Ok next → Makes old new self.old.fs directory 1 next.0 }
+            (next : ℕ × Files) → created new_file (files_of old self.old.fs) directory name.now ≡ Ok next →
+            Makes old new self.old.fs directory 1 next.0 × OnErr result (OnlyMade old new self.old.fs next.0) }
     {
         self.volume.create(alloc, &mut self.store, directory, name)
     }
@@ -239,7 +240,8 @@ impl<S: FlushStore + Drop> Session<S> {
             Does (S.types_of self.old.store) self.old.fs (created new_directory files directory name.now)
             (created_stages new_directory files directory name.now) (S.state_of self.old.store) (S.state_of self.new.store) result }
         ensures inodes { let old = newest (S.state_of self.old.store) in let new = newest (S.state_of self.new.store) in
-            (next : ℕ × Files) → created new_directory (files_of old self.old.fs) directory name.now ≡ Ok next → Makes old new self.old.fs directory 2 next.0 }
+            (next : ℕ × Files) → created new_directory (files_of old self.old.fs) directory name.now ≡ Ok next →
+            Makes old new self.old.fs directory 2 next.0 × OnErr result (OnlyMade old new self.old.fs next.0) }
     {
         self.volume.mkdir(alloc, &mut self.store, directory, name)
     }
@@ -275,7 +277,7 @@ impl<S: FlushStore + Drop> Session<S> {
             (S.state_of self.old.store) (S.state_of self.new.store) result }
         ensures inodes { let old = newest (S.state_of self.old.store) in let new = newest (S.state_of self.new.store) in let fs = self.old.fs in
             (slot : Slot) → Ok slot ≡ unlink_in old fs directory name.now →
-            Unnames old new fs directory slot.inode × OnErr result (inode_in new fs slot.inode ≡ inode_in old fs slot.inode) }
+            Unnames old new fs directory slot.inode × OnErr result (KeptOrEmptied old new fs slot.inode) }
     {
         self.volume.unlink(alloc, &mut self.store, directory, name)
     }
@@ -289,7 +291,7 @@ impl<S: FlushStore + Drop> Session<S> {
             (S.state_of self.old.store) (S.state_of self.new.store) result }
         ensures inodes { let old = newest (S.state_of self.old.store) in let new = newest (S.state_of self.new.store) in let fs = self.old.fs in
             (slot : Slot) → Ok slot ≡ rmdir_in old fs directory name.now →
-            Unnames old new fs directory slot.inode × OnErr result (inode_in new fs slot.inode ≡ inode_in old fs slot.inode) }
+            Unnames old new fs directory slot.inode × OnErr result (KeptOrEmptied old new fs slot.inode) }
     {
         self.volume.rmdir(alloc, &mut self.store, directory, name)
     }

@@ -1,12 +1,18 @@
-use Rattle.std.proofs.Common.{◌+◌, ◌++◌, ◌∙◌, ap, arith, inl, inr, refl, sym}
+use Rattle.std.proofs.Common.{◌≡◌, ℕ, ◌+◌, ◌++◌, ◌∙◌, List, Ok, IsOk, ap, arith, inl, inr, is_ok, refl, sym}
 use Rattle.std.specs.List.{range_with_len}
 use Rattle.std.proofs.lemmas.Result.{err_from_is_err_and}
 use Rattle.ffs_model.specs.Cuts.{latest}
 use Rattle.ffs_model.specs.Library.{library_layout}
 use Rattle.ffs_model.proofs.ForCallers.{library_reads, under_direct}
-use Rattle.ffs_lookup.specs.Newest.{names_at}
-use Rattle.ffs_lookup.proofs.ForCallers.{found_has, listed_told, names_are, names_more, names_past, no_names, not_ok}
+use Rattle.ffs_lookup.specs.Newest.{directory_in, names_at}
+use Rattle.ffs_lookup.specs.Files.{listed}
+use Rattle.ffs_lookup.specs.FileValues.{files_of}
+use Rattle.ffs_lookup.proofs.ForCallers.{first_names, found_has, listed_told, names_are, names_more, names_past, no_names, not_ok}
 use Rattle.ffs_lib.proofs.volume.Volume.list.Goals as goal
+
+-- a directory has a list
+is_listed : (content : ℕ → List ℕ) (fs d : ℕ) (inode : List ℕ) → Ok inode ≡ directory_in content fs d → IsOk (listed (files_of content fs) d)
+is_listed content fs d inode found = ap is_ok (sym (names_are content fs d 12 inode (first_names content inode 12) found refl refl ∙ listed_told content fs d))
 
 pub returns-in_err-found : goal.returns-in_err-found
 returns-in_err-found g c = record {
@@ -33,7 +39,7 @@ pub returns-in_err-add_names : goal.returns-in_err-add_names
 returns-in_err-add_names g c = record {
   value = λ lib.
       let p = err_from_is_err_and c.from_residual-in_err-add_names.result c.from_residual-in_err-add_names.ensures.1 in
-      rw p.1 (inl p.2);
+      rw p.1 (inl (p.2, is_listed (latest (g.S.Store.state_of c.args.store.now).lives) c.args.self.now.fs.number c.args.directory c.in_ok-found.found.inode (c.in_ok-found.ensures.exact lib)));
 }
 
 pub loop-i-preserved-then-block-eq0 : goal.loop-i-preserved-then-block-eq0

@@ -39,7 +39,7 @@ returns-clause-inodes g c = λ entry e.
     let f = unlink_value (latest old.lives) volume.fs.number d c.args.name.now entry e in
     let x = c.remove.ensures.ends T (edits_of volume.added) refl (staged c.requires volume.fs.few) refl in
     let same = same_ok c.in_ok-slot.slot entry (c.in_ok-slot.ensures.exact c.requires.library ∙ sym e) in
-    unnames T c.requires.library volume.fs.number volume.fs.few d c.args.name.now entry old (g.S.Store.state_of c.remove.new.store) f c.remove.result (rw same at x.1)
+    unnames T c.requires.library volume.fs.number volume.fs.few d c.args.name.now entry old (g.S.Store.state_of c.remove.new.store) f x.0.keeps.consistent c.remove.result (rw same at x.1)
 
 pub returns-clause-keeps : goal.returns-clause-keeps
 returns-clause-keeps g c =

@@ -1,8 +1,8 @@
 use Rattle.std.proofs.Common.{◌≡◌, Ok, subst}
 use Rattle.std.specs.Prelude.{OnErr}
 use Rattle.ffs_lookup.specs.declared.places.Slot.{Slot}
-use Rattle.ffs_lookup.specs.Newest.{inode_in, rmdir_in}
-use Rattle.ffs_lib.specs.Stages.{Unnames}
+use Rattle.ffs_lookup.specs.Newest.{rmdir_in}
+use Rattle.ffs_lib.specs.Stages.{KeptOrEmptied, Unnames}
 use Rattle.ffs_lib.specs.Steps.{newest}
 use Rattle.xnfs_session.proofs.session.Session.rmdir.Goals as goal
 
@@ -10,4 +10,4 @@ pub returns-clause-inodes : goal.returns-clause-inodes
 returns-clause-inodes g c =
     subst (λ v. (slot : Slot) → Ok slot ≡ rmdir_in (newest (g.S.Store.state_of v.store)) v.fs c.args.directory c.args.name.now →
     Unnames (newest (g.S.Store.state_of v.store)) (newest (g.S.Store.state_of c.rmdir.new.store)) v.fs c.args.directory slot.inode
-    × OnErr c.rmdir.result (inode_in (newest (g.S.Store.state_of c.rmdir.new.store)) v.fs slot.inode ≡ inode_in (newest (g.S.Store.state_of v.store)) v.fs slot.inode)) c.self.view_is c.rmdir.ensures.inodes
+    × OnErr c.rmdir.result (KeptOrEmptied (newest (g.S.Store.state_of v.store)) (newest (g.S.Store.state_of c.rmdir.new.store)) v.fs slot.inode)) c.self.view_is c.rmdir.ensures.inodes
