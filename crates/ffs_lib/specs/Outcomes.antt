@@ -1,7 +1,8 @@
 -- What the edits of a volume leave, each for every array of numbers for which a volume's rules held before.
 --     Keeps T fs old new      a volume's rules hold on
 --     IsMade, ..              and what may come next
-use Rattle.std.specs.Prelude.{◌≡◌, ◌≢◌, ℕ, ◌-◌, ◌*◌, ◌/◌, ◌%◌, ◌<◌, ◌≤◌, List, [], Option, None, Ok, Contains, length, max, slice_set, Some, Bool, true, IfErr, IsTrue, Result}
+use Rattle.std.specs.Prelude.{◌≡◌, ◌≢◌, ℕ, ◌-◌, ◌*◌, ◌/◌, ◌%◌, ◌<◌, ◌≤◌, List, [], Option, None, Ok, Contains, length, max, slice_set, Some, Bool, true, IfErr}
+use Rattle.std.specs.Prelude.{IsTrue, Result}
 use Rattle.xn_model.specs.Types.{Types}
 use Rattle.xn_model.specs.Lists.{put}
 use Rattle.xn_model.specs.Root.{slot, word_at}
@@ -36,7 +37,8 @@ pub record IsAdded (T : Types) (fs : ℕ) (array : ℕ → Option ℕ) (index bl
 
 -- what holds only some bytes still does
 abbrev pub Leaves : Types → ℕ → StoreState → StoreState → Type 0
-Leaves T fs old new = IsLibrary T → (array : ℕ → Option ℕ) (block : ℕ) (bytes : List ℕ) → VolumeKeeps T library_layout fs array old → block ≢ 0 → HoldsOnly old.lives block bytes → HoldsOnly new.lives block bytes
+Leaves T fs old new = IsLibrary T → (array : ℕ → Option ℕ) (block : ℕ) (bytes : List ℕ) → VolumeKeeps T library_layout fs array old → block ≢ 0 →
+    HoldsOnly old.lives block bytes → HoldsOnly new.lives block bytes
 
 -- the root slot was set to a block of zeros
 abbrev pub Roots : Types → ℕ → StoreState → StoreState → ℕ → Type 0
@@ -45,7 +47,8 @@ Roots T fs old new block = IsLibrary T → (array : ℕ → Option ℕ) → Volu
 
 -- the first block of inodes was attached, which point to nothing
 abbrev pub Starts : Types → ℕ → StoreState → StoreState → ℕ → Type 0
-Starts T fs old new block = IsLibrary T → (array : ℕ → Option ℕ) (bytes : List ℕ) → VolumeKeeps T library_layout fs array old → array 0 ≡ None → HoldsOnly old.lives block bytes →
+Starts T fs old new block = IsLibrary T → (array : ℕ → Option ℕ) (bytes : List ℕ) → VolumeKeeps T library_layout fs array old → array 0 ≡ None →
+    HoldsOnly old.lives block bytes →
     ((p c : ℕ) → Contains (library_layout.direct bytes p) c → ⊥) → block ≢ 0 → VolumeKeeps T library_layout fs array new
 
 -- What is found in directories
@@ -106,7 +109,8 @@ pub record IsRaised (old new : ℕ → List ℕ) (fs n : ℕ) (inode : List ℕ)
 
 abbrev pub SetsRoot : Types → ℕ → ℕ → StoreState → StoreState → Type 0
 SetsRoot T fs block old new = IsConsistent T old → (l : Life) → life_at old.lives block ≡ Some l →
-    (slot (latest new.lives 0) fs ≡ (block, l.ty)) × ((c : ℕ) → c ≢ 0 → latest new.lives c ≡ latest old.lives c) × ((p : ℕ × ℕ) → p.0 ≢ block → may_add new fs p ≡ may_add old fs p)
+    (slot (latest new.lives 0) fs ≡ (block, l.ty)) × ((c : ℕ) → c ≢ 0 → latest new.lives c ≡ latest old.lives c) ×
+    ((p : ℕ × ℕ) → p.0 ≢ block → may_add new fs p ≡ may_add old fs p)
 
 pub record IsReady (old new : StoreState) (fs : ℕ) : Type 0 where
   pub ready : Ok true ≡ make_in (latest new.lives) fs

@@ -30,18 +30,21 @@ if_directories name other_name from to =
     if (inode_mode from == 2) && (inode_mode to == 2) then (if is_name name && is_name other_name then Ok (from, to) else Err BadName) else Err NotDir
 
 unfoldable pub directories_in : (ℕ → List ℕ) → ℕ → ℕ → List ℕ → ℕ → List ℕ → Result (List ℕ × List ℕ) FfsFault
-directories_in content fs d name other other_name = and_then (inode_in content fs d) (λ from. and_then (inode_in content fs other) (if_directories name other_name from))
+directories_in content fs d name other other_name = and_then (inode_in content fs d)
+    (λ from. and_then (inode_in content fs other) (if_directories name other_name from))
 
 abbrev pub is_full_for : Slot → Slot → List ℕ → Bool
 is_full_for from to inode = not (from.inode == to.inode) && (inode_links inode == 65535)
 
 unfoldable pub files_in : (ℕ → List ℕ) → ℕ → Slot → Slot → Result (Slot × Slot) FfsFault
 files_in content fs from to =
-    and_then (file_in content fs from.inode) (λ inode. and_then (file_in content fs to.inode) (λ other. if is_full_for from to inode then Err TooLarge else Ok (from, to)))
+    and_then (file_in content fs from.inode) (λ inode. and_then (file_in content fs to.inode)
+    (λ other. if is_full_for from to inode then Err TooLarge else Ok (from, to)))
 
 abbrev pub entries_named : (ℕ → List ℕ) → ℕ → List ℕ → List ℕ → List ℕ × List ℕ → Result (Slot × Slot) FfsFault
 entries_named content fs name other_name directories =
-    and_then (ok_or (first_named content directories.0 name) NoEntry) (λ from. and_then (ok_or (first_named content directories.1 other_name) NoEntry) (files_in content fs from))
+    and_then (ok_or (first_named content directories.0 name) NoEntry)
+    (λ from. and_then (ok_or (first_named content directories.1 other_name) NoEntry) (files_in content fs from))
 
 unfoldable pub replace_in : (ℕ → List ℕ) → ℕ → ℕ → List ℕ → ℕ → List ℕ → Result (Slot × Slot) FfsFault
 replace_in content fs d name other other_name = and_then (directories_in content fs d name other other_name) (entries_named content fs name other_name)
@@ -85,7 +88,8 @@ pub record AreDirect (content : ℕ → List ℕ) (fs : ℕ) (p : SlotPair) : Ty
 -- what two slots name in the cuts they name on
 abbrev pub KeepsPairs : ℕ → StoreState → StoreState → Type 0
 KeepsPairs fs old new =
-    (first : Lives) (p : SlotPair) (after : Option ℕ) → AreDirect (newest old) fs p → StayNamed library_layout first old.lives p after → StayNamed library_layout first new.lives p after
+    (first : Lives) (p : SlotPair) (after : Option ℕ) → AreDirect (newest old) fs p → StayNamed library_layout first old.lives p after →
+    StayNamed library_layout first new.lives p after
 
 -- In every cut that has the second entry's block as it was newest at the call, or later, this entry names one of the two files; and in every one that
 -- has both blocks so, one of the entries names the moved one.

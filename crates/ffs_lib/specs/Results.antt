@@ -12,7 +12,8 @@
 --     IsLinked, TookLink         it is, with so many links; it lost one, or is free
 --     IsExtended, MovedInodes    a directory's pointers and size, where it may have a block more; the inodes where an entry goes to another directory, or
 --                                gets another name, or where that is refused
-use Rattle.std.specs.Prelude.{◌≡◌, ◌≢◌, ℕ, ◌+◌, ◌-◌, ◌*◌, ◌/◌, ◌<◌, ◌≤◌, ◌⊎◌, ◌&&◌, List, ◌∷◌, ◌++◌, length, nat_le, nat_lt, get_or, replicate, slice_set, Ok, Err, false, if◌then◌else◌, Some}
+use Rattle.std.specs.Prelude.{◌≡◌, ◌≢◌, ℕ, ◌+◌, ◌-◌, ◌*◌, ◌/◌, ◌<◌, ◌≤◌, ◌⊎◌, ◌&&◌, List, ◌∷◌, ◌++◌, length, nat_le, nat_lt, get_or, replicate, slice_set, Ok}
+use Rattle.std.specs.Prelude.{Err, false, if◌then◌else◌, Some}
 use Rattle.std.specs.List.{list_any}
 use Rattle.std.specs.Int.{w16, to_le_bytes}
 use Rattle.xn_model.specs.Root.{word_at}

@@ -11,7 +11,8 @@
 --     StopsWriting                 the first of what a write writes is there, and the store refused the next block, or the size
 --     WroteSome                    the first of the bytes are written
 --     Writes, WritesSome           the calls
-use Rattle.std.specs.Prelude.{◌≡◌, ◌≢◌, ℕ, ◌+◌, ◌-◌, ◌/◌, ◌%◌, ◌<◌, ◌≤◌, ◌⊎◌, List, [], ◌++◌, length, max, min, replicate, take, Option, None, Some, Result, Ok, IsTrue, IfSome}
+use Rattle.std.specs.Prelude.{◌≡◌, ◌≢◌, ℕ, ◌+◌, ◌-◌, ◌/◌, ◌%◌, ◌<◌, ◌≤◌, ◌⊎◌, List, [], ◌++◌, length, max, min, replicate, take, Option, None, Some, Result, Ok}
+use Rattle.std.specs.Prelude.{IsTrue, IfSome}
 use Rattle.xn_model.specs.declared.refusal.Refusal.TheVariants.{TooManyPending}
 use Rattle.xn_model.specs.Root.{word_at}
 use Rattle.xn_model.specs.Types.{Types}

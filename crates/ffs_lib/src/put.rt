@@ -10,7 +10,8 @@ ghost use Rattle.xn_model.specs.Types.{Types};
 ghost use Rattle.ffs_model.specs.Cuts.{Under};
 ghost use Rattle.ffs_lib.specs.Edits.{edit_at};
 ghost use Rattle.ffs_lib.specs.Replacing.{KeepsPairs};
-ghost use Rattle.ffs_lib.specs.Steps.{AddsLink, Attached, Dropped, Ends, Enters, IsEntry, MayLose, MayName, Proposed, Stage, StopsAtHome, StopsEntering, StopsTaking, TakesLink, newest};
+ghost use Rattle.ffs_lib.specs.Steps.{AddsLink, Attached, Dropped, Ends, Enters, IsEntry, MayLose, MayName, Proposed, Stage, StopsAtHome, StopsEntering};
+ghost use Rattle.ffs_lib.specs.Steps.{StopsTaking, TakesLink, newest};
 
 use crate::steps::{DATA, block_with, blocks_in, blocks_of, count_blocks, forgotten};
 use edit_list::{Edit, EditId, Fs, Patch};

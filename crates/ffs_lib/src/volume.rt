@@ -1,12 +1,14 @@
 // A volume: the files and directories of a file system.
 
-ghost use Rattle.std.specs.Prelude.{◌≡◌, ◌≢◌, ◌<◌, ◌≤◌, ◌+◌, ◌++◌, ◌==◌, ◌&&◌, not, true, false, ◌⊎◌, Bool, ℕ, List, Option, length, map, Contains, None, Some, Ok, Err, IfOk, IfErr, OnOk, OnErr, IfSome, IsOk, IsTrue, MatchResult};
+ghost use Rattle.std.specs.Prelude.{◌≡◌, ◌≢◌, ◌<◌, ◌≤◌, ◌+◌, ◌++◌, ◌==◌, ◌&&◌, not, true, false, ◌⊎◌, Bool, ℕ, List, Option, length, map, Contains, None, Some};
+ghost use Rattle.std.specs.Prelude.{Ok, Err, IfOk, IfErr, OnOk, OnErr, IfSome, IsOk, IsTrue, MatchResult};
 ghost use Rattle.std.specs.List.{range_with_len};
 ghost use Rattle.ffs_format.specs.Entries.{is_name};
 ghost use Rattle.ffs_model.specs.Cuts.{latest};
 ghost use Rattle.ffs_model.specs.Library.{library_layout, inode_mode, IsLibrary, inode_blocks, inode_links, zeros};
 ghost use Rattle.xn_model.specs.Lists.{put};
-ghost use Rattle.ffs_lookup.specs.Newest.{IsLowest, RefusesAs, TakesEntry, create_in, directory_in, first_named, has_empty_pointer, has_inode, has_room, is_at, mapped, root_in, file_in, listing, named_in, names_at, rename_in, rmdir_in, unlink_in, without_entry, inode_in};
+ghost use Rattle.ffs_lookup.specs.Newest.{IsLowest, RefusesAs, TakesEntry, create_in, directory_in, first_named, has_empty_pointer, has_inode, has_room, is_at};
+ghost use Rattle.ffs_lookup.specs.Newest.{mapped, root_in, file_in, listing, named_in, names_at, rename_in, rmdir_in, unlink_in, without_entry, inode_in};
 ghost use Rattle.ffs_lookup.specs.Counts.{make_from, open_in};
 ghost use Rattle.ffs_lookup.specs.Repairs.{idle_in, repair_at, repair_in};
 ghost use Rattle.ffs_lib.specs.Reclaiming.{Reclaims};
@@ -23,7 +25,8 @@ ghost use Rattle.ffs_lib.specs.Writes.{Writes, WritesSome};
 ghost use Rattle.ffs_lookup.specs.FileValues.{files_of};
 ghost use Rattle.ffs_lookup.specs.Files.{Files, created, listed, made, new_directory, new_file, read, read_over, removed, renamed, unlinked, written};
 ghost use Rattle.ffs_lib.specs.Stages.{Does, KeptOrEmptied, Makes, OnlyMade, Unnames, created_stages, removed_stages, renamed_stages};
-ghost use Rattle.ffs_lib.specs.Steps.{Creates, Ends, Leaves, MayLose, NamesAgain, Stage, StopsGrowing, StopsNaming, StopsNew, StopsUnnaming, TakesFree, Undoes, Unnamed, newest};
+ghost use Rattle.ffs_lib.specs.Steps.{Creates, Ends, Leaves, MayLose, NamesAgain, Stage, StopsGrowing, StopsNaming, StopsNew, StopsUnnaming, TakesFree, Undoes};
+ghost use Rattle.ffs_lib.specs.Steps.{Unnamed, newest};
 ghost use Rattle.xn_model.specs.Types.{Types};
 ghost use Rattle.xn_model.specs.declared.refusal.Refusal.{Refusal};
 ghost use Rattle.xn_model.specs.Calls.{was_given};
@@ -419,7 +422,8 @@ impl Volume {
         requires { IsVolume (S.types_of store.old) (S.state_of store.old) self.now }
         ensures types { S.types_of store.new ≡ S.types_of store.old }
         ensures value { ByAnswer (written (files_of (newest (S.state_of store.old)) self.now.fs.number) inode offset bytes.now)
-            (WritesFirst (files_of (newest (S.state_of store.old)) self.now.fs.number) (newest (S.state_of store.new)) self.now.fs.number inode offset bytes.now)
+            (WritesFirst (files_of (newest (S.state_of store.old)) self.now.fs.number) (newest (S.state_of store.new)) self.now.fs.number inode offset
+            bytes.now)
             (S.state_of store.old) (S.state_of store.new) result }
         ensures answers { WritesSome (S.types_of store.old) self.now.fs.number inode offset bytes.now (S.state_of store.old) (S.state_of store.new) result }
         ensures keeps { IsVolume (S.types_of store.old) (S.state_of store.new) self.now }
