@@ -1,4 +1,4 @@
-use Rattle.std.proofs.Common.{◌≡◌, [], ◌∷◌, None, refl, sym, ◌∙◌, ap, arith, subst}
+use Rattle.std.proofs.Common.{[], ◌∷◌, None, refl, sym, ◌∙◌, ap, arith, subst}
 use Rattle.xn_state.specs.declared.found.Found.{Found}
 use Rattle.xn_state.specs.Mounts.{image_types, AreFound}
 use Rattle.templates.specs.Tables.{types_of}
