@@ -1,10 +1,11 @@
 // Makes a volume and a file on fresh disks, each with a crash after another count of writes, and looks at what the crash leaves; then some
-// values. What finds no memory is made again. So this prints the same where any one request for memory is refused. Last come calls that take
-// no memory, and a line before them: they do what they should also where every request from there on is refused. `tools/refused_memory`
-// tries both.
+// values. What finds no memory is made again. So this prints the same where any one request for memory is refused, but for how many values
+// there was no memory at once. Last come calls that take no memory, and a line before them: they do what they should also where every request
+// from there on is refused. `tools/refused_memory` tries both.
 #![tactic(auto)]
 
 mod clients;
+mod disks;
 mod images;
 mod programs;
 mod spare;
@@ -56,8 +57,10 @@ fn main(rt: HostRuntime) -> io::Result<()> {
         println!(rt; "crashes that {word} open writes: {crashes}, {wrong} wrong")?;
         println!(rt; "nothing without a write: {begins}, a file in the end: {ends}")?;
     }
-    let right = right_values(&rt, rt.alloc());
-    println!(rt; "values that are right: {right} of 5")?;
+    let values = right_values(&rt, rt.alloc());
+    let (right, unmade) = (values.right, values.unmade);
+    println!(rt; "values that are right: {right} of 10")?;
+    println!(rt; "values for which there was no memory at once: {unmade}")?;
     // One request is refused at most before the calls that take no memory, so the second time prints.
     let is_printed = print_spare(&rt, rt.alloc())? || print_spare(&rt, rt.alloc())?;
     if is_printed {

@@ -1,90 +1,87 @@
-// Values that take memory to make. Each is made again where there is none, which is all that may keep it from being right.
+// Values that take memory to make. Each is made twice: want of memory in one of both is all that may keep it from being right.
 
 use crate::clients::client_is_answered;
-use crash_check::{ImageFault, mount};
-use disk::{Lanes, MemDisk, MemLane, fresh_lanes};
+use crate::disks::{has_state, is_checked, is_joined, is_mounted};
+use crate::tally::{Miss, Values};
 use durable_floor::Floor;
 use std::alloc::Global;
 use std::sync::Wait;
 use std::thread::Threads;
-use templates::format_image;
-use udf_asm::{assemble, print};
-use udf_code::{decode, encode};
+use templates::{TemplateFault, builtin, read_block, write_block};
+use udf_asm::{AsmKind, assemble, print};
+use udf_code::{CodeFault, Word, decode, encode, well_formed};
+use udf_verify::{FaultKind, Role, judge, verify};
 
 /// A program's text.
 const TEXT: &str = "SET 1 4\nLD4 2 1\n";
 
-/// Whether a program's text is printed as it was assembled, and its bytes are decoded as they were encoded. `None` here and below: there
-/// was no memory.
-fn is_spelled_again(alloc: Global) -> Option<bool> {
-    let words = assemble(alloc, TEXT).ok()?;
-    let text = print(alloc, &words).ok()?;
-    let bytes = encode(alloc, &words).ok()?;
-    let again = decode(alloc, &bytes).ok()?;
-    Some(text.as_str() == TEXT && again.as_slice() == words.as_slice())
+/// The words of a program.
+fn assembled(alloc: Global) -> Result<Vec<Word>, Miss> {
+    assemble(alloc, TEXT).map_err(|fault| Miss::of(fault.kind == AsmKind::NoMemory))
 }
 
-/// Whether lanes are joined to the bytes that they have. They come back where there is no memory for these.
-fn is_joined(alloc: Global) -> Option<bool> {
-    let bytes = [7; 1024];
-    let lanes = fresh_lanes(alloc, &bytes).ok()?;
-    let disk = match MemDisk::join(alloc, lanes) {
-        Ok(disk) => disk,
-        Err(lanes) => MemDisk::join(alloc, lanes).ok()?,
-    };
-    Some(disk.bytes() == bytes.as_slice())
+/// Whether a program's text is printed as it was assembled, and its bytes are decoded as they were encoded.
+fn is_spelled_again(alloc: Global) -> Result<bool, Miss> {
+    let words = assembled(alloc)?;
+    let text = print(alloc, &words).map_err(|_| Miss::NoMemory)?;
+    let bytes = encode(alloc, &words).map_err(|_| Miss::NoMemory)?;
+    let again = decode(alloc, &bytes).map_err(|fault| Miss::of(fault == CodeFault::NoMemory))?;
+    Ok(text.as_str() == TEXT && again.as_slice() == words.as_slice())
 }
 
-/// Whether every lane of 32 is at home.
-fn are_home(lanes: &Lanes<MemLane>) -> bool {
-    if lanes.blocks() != 32 {
-        return false;
+/// Whether the verifier accepts a program, and keeps its words.
+fn is_verified(alloc: Global) -> Result<bool, Miss> {
+    let words = assembled(alloc)?;
+    if well_formed(&words).is_err() {
+        return Ok(false);
     }
-    for block in 0..32 {
-        if lanes.lane(block).is_none() {
-            return false;
-        }
-    }
-    true
+    let checked = verify(alloc, &words, Role::Owns).map_err(|fault| Miss::of(
+        fault.kind == FaultKind::NoMemory,
+    ))?;
+    let is_kept = checked.words() == words.as_slice() && checked.role() == Role::Owns;
+    Ok(is_kept && judge(&words, Role::Owns).is_ok())
 }
 
-/// Whether a fresh disk is mounted. All lanes come back where there is no memory for that.
-fn is_mounted(rt: &(impl Threads + Sync), alloc: Global) -> Option<bool> {
-    let image = format_image(alloc, 32, &[]).ok()?;
-    if image.len() != 16_384 {
-        return Some(false);
-    }
-    let lanes = fresh_lanes(alloc, &image).ok()?;
-    match mount(rt, alloc, lanes, 1) {
-        Ok(kernel) => Some(kernel.free() == 31),
-        Err((fault, lanes)) => {
-            let are_back = are_home(&lanes);
-            let is_again = mount(rt, alloc, lanes, 1).is_ok();
-            Some(fault == ImageFault::NoMemory && are_back && is_again)
-        }
-    }
+/// Whether the template of blocks of data, which is built in, is spelled as a program `SET 0 512` alone.
+fn is_built_in(alloc: Global) -> Result<bool, Miss> {
+    let template = builtin(alloc, 2).map_err(|_| Miss::NoMemory)?;
+    let block = write_block(&template);
+    Ok(block[..8] == [0x58, 0x54, 0, 1, 1, 0, 0, 2])
+}
+
+/// Whether block 0's template is read from the block that spells it.
+fn is_read(alloc: Global) -> Result<bool, Miss> {
+    let template = builtin(alloc, 0).map_err(|_| Miss::NoMemory)?;
+    let block = write_block(&template);
+    let again = read_block(alloc, &block).map_err(|fault| Miss::of(
+        fault == TemplateFault::NoMemory,
+    ))?;
+    Ok(block[2] == 26 && write_block(&again) == block)
 }
 
 /// Whether a floor is made with its readers.
-fn has_readers(alloc: Global) -> Option<bool> {
-    let (_floor, _publisher, readers) = Floor::new(alloc, 2).ok()?;
-    Some(readers.len() == 2)
+fn has_readers(alloc: Global) -> Result<bool, Miss> {
+    let (_floor, _publisher, readers) = Floor::new(alloc, 2).map_err(|_| Miss::NoMemory)?;
+    Ok(readers.len() == 2)
 }
 
-/// How many of these values are right.
-pub fn right_values<R: Threads + Wait + Sync>(rt: &R, alloc: Global) -> u32 {
-    let made = [
-        is_spelled_again(alloc).or(is_spelled_again(alloc)),
-        is_joined(alloc).or(is_joined(alloc)),
-        is_mounted(rt, alloc).or(is_mounted(rt, alloc)),
-        has_readers(alloc).or(has_readers(alloc)),
-        client_is_answered(rt, alloc).or(client_is_answered(rt, alloc)),
-    ];
-    let mut right = 0u32;
-    for value in made {
-        if value == Some(true) {
-            right = right.saturating_add(1);
-        }
-    }
-    right
+/// Whether a client of a fresh disk is answered.
+fn is_answered<R: Threads + Wait + Sync>(rt: &R, alloc: Global) -> Result<bool, Miss> {
+    client_is_answered(rt, alloc).ok_or(Miss::NoMemory)
+}
+
+/// How many of 10 values are right.
+pub fn right_values<R: Threads + Wait + Sync>(rt: &R, alloc: Global) -> Values {
+    let mut values = Values::new();
+    values.take(is_spelled_again(alloc), is_spelled_again(alloc));
+    values.take(is_verified(alloc), is_verified(alloc));
+    values.take(is_built_in(alloc), is_built_in(alloc));
+    values.take(is_read(alloc), is_read(alloc));
+    values.take(is_joined(alloc), is_joined(alloc));
+    values.take(is_checked(rt, alloc), is_checked(rt, alloc));
+    values.take(has_state(alloc), has_state(alloc));
+    values.take(is_mounted(rt, alloc), is_mounted(rt, alloc));
+    values.take(has_readers(alloc), has_readers(alloc));
+    values.take(is_answered(rt, alloc), is_answered(rt, alloc));
+    values
 }
