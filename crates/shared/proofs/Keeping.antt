@@ -13,7 +13,7 @@ use Rattle.xn_state.specs.Answers.{Answers}
 use Rattle.xn_kernel.specs.Kernels.{KernelValue, TicketValue, result_map_err}
 use Rattle.xn_kernel.specs.Drains.{Reads, WritesTo, Round, Rounds, Stops, Refuses}
 use Rattle.disk.specs.declared.lane.DeviceFault.{DeviceFault}
-use Rattle.xn_kernel.specs.Flushes.{Ends, FlushRefuses, Wave, Waves, with_begun}
+use Rattle.xn_kernel.specs.Flushes.{Ends, FlushRefuses, Wave, Waves, wave_room, with_begun}
 use Rattle.shared.specs.Floors.{FloorsRise}
 use Rattle.shared.specs.Hubs.{NoWordAbove}
 use Rattle.shared.proofs.Floors.{init_rises, propose_rises, make_root_rises, drop_root_rises, forget_rises, begun_rises, settled_rises, rises_by, rises_on, begun_ok_rises, settled_ok_rises}
@@ -139,14 +139,14 @@ module _ {L : Type 0} (bytes : L → List ℕ) (faults : L → ℕ) (writes : Wr
   waves_rise : (n : ℕ) (old new : KernelValue L) → Waves bytes faults writes syncs reads n old new → FloorsRise old.state new.state
   waves_rise zero old new e = rises_by old.state new.state (ap (λ k. k.state) e)
   waves_rise (suc n) old new w =
-      rises_on old.state w.0.state new.state (wave_rises w.1.blocks 32 w.1.blocks old [] w.0 [] w.1.wave) (waves_rise n w.0 new w.2)
+      rises_on old.state w.0.state new.state (wave_rises w.1.blocks wave_room w.1.blocks old [] w.0 [] w.1.wave) (waves_rise n w.0 new w.2)
 
   flush_refuses_rise : (old new : KernelValue L) (n : ℕ) (tickets : List (TicketValue L)) (refusal : Refusal) → FlushRefuses bytes faults writes syncs reads old n tickets refusal new → FloorsRise old.state new.state
   flush_refuses_rise old new n tickets refusal h = ⊎_elim
       (λ busy. rises_by old.state new.state (ap (λ k. k.state) busy.4))
       (λ idle. ⊎_elim
       (λ wanting. rises_by old.state new.state (ap (λ k. k.state) wanting.3))
-      (λ s. rises_on old.state s.0.state new.state (waves_rise n old s.0 s.1) (wave_rises s.2.blocks 32 s.2.durable s.0 [] new tickets s.2.wave))
+      (λ s. rises_on old.state s.0.state new.state (waves_rise n old s.0 s.1) (wave_rises s.2.blocks wave_room s.2.durable s.0 [] new tickets s.2.wave))
       idle.1)
       h
 
