@@ -86,7 +86,7 @@ fn fill<S: FlushStore + Drop>(
             Ok(taken) => taken,
             Err(fault) => return Ok(Err(fault)),
         };
-        at = at.saturating_add(taken as u32);
+        at = at.saturating_add(u32::try_from(taken).unwrap_or(u32::MAX));
         rest = &rest[taken..];
     }
     Ok(Ok(()))
