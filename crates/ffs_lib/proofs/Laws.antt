@@ -27,7 +27,7 @@ use Rattle.ffs_lib.specs.Edits.{data_of_inode, data_of_pointers, edit_at}
 use Rattle.ffs_lib.specs.Outcomes.{CanEdit, HasNoData}
 use Rattle.ffs_lookup.specs.FileValues.{place_in}
 use Rattle.ffs_lib.specs.Results.{AsBefore, IsAs, SameInode, TookLink}
-use Rattle.ffs_lib.specs.Steps.{AddsLink, Answers, Attached, ClearedPointers, Clearing, Dropped, Ends, IsHome, LastForgets, MayLose, MayName, Proposed, Removable, Removed, ShortEdit, Stage, Stops, StopsAtHome, StopsRemoving, StopsTaking, StopsUnnaming, TakesLink, Tells, Undoes, Unlisted, Wants, clearing, left_by}
+use Rattle.ffs_lib.specs.Steps.{AddsLink, Answers, Attached, ClearedPointers, Clearing, Dropped, Ends, IsHome, LastForgets, MayLose, MayName, Proposed, Removable, Removed, ShortEdit, Stage, Stops, StopsAtHome, StopsTaking, TakesLink, Tells, Undoes, Unlisted, Wants, clearing, left_by}
 use Rattle.ffs_lib.specs.Volumes.{IsVolume, edits_of}
 use Rattle.ffs_lib.specs.declared.volume.Volume.{Volume}
 use Rattle.ffs_lib.proofs.Dropping.{cleared_owns, no_pairs, put_whole}
@@ -364,13 +364,6 @@ less_of u w fs n t many = (
       let one = k.1 in
       omega (arith, same, one, lt),
 )
-
-pub stops_removing : (T : Types) (fs : ℕ) (old new : StoreState) (d : ℕ) (slot : Slot) (own : List ℕ) → Ok own ≡ inode_in (latest old.lives) fs d → Contains (inode_blocks own) slot.block → (fault : FfsFault) → StopsUnnaming T fs old new slot fault →
-    StopsRemoving T fs old new d slot fault
-stops_removing T fs old new d slot own is has fault x = elim x [
-  | inl p ↦ inl p
-  | inr q ↦ inr (q.0, unlisted (latest old.lives) (latest q.0.lives) fs d slot own is has q.1, q.2)
-]
 
 -- a block was begun, and forgotten last
 pub undoes : (T : Types) (fs : ℕ) (old first new : StoreState) (block number : ℕ) (given bytes : List ℕ) → given ≡ bytes → Gives (init_of T old fs 4 given) old first (Ok (block, number)) → LastForgets T fs block new → Undoes T fs old new 4 bytes

@@ -52,3 +52,4 @@ pub mod ValueWritten
 pub mod Staged
 pub mod StagedNew
 pub mod StagedMoves
+pub mod StagedTurns

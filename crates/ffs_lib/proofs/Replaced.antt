@@ -1,28 +1,31 @@
 -- What is left of two files after each edit by which the name of one goes to the other.
-use Rattle.std.proofs.Common.{◌≡◌, ◌≢◌, ℕ, ◌<◌, ◌≤◌, Bool, true, false, List, map, Option, Some, None, Ok, refl, sym, ◌∙◌, ap, arith, subst, eq-eqb}
-use Rattle.std.specs.Prelude.{Contains, bytes_eq, find, option_map, ◌==◌, ◌&&◌, if◌then◌else◌}
+use Rattle.std.proofs.Common.{◌≡◌, ◌≢◌, ℕ, ◌<◌, ◌≤◌, Bool, true, false, List, map, Option, Some, None, Result, Ok, refl, sym, ◌∙◌, ap, inl, inr, arith, subst, eq-eqb}
+use Rattle.std.specs.Prelude.{Contains, OnErr, bytes_eq, find, option_map, ◌==◌, ◌&&◌, if◌then◌else◌}
 use Rattle.std.proofs.lemmas.Bool.{and_parts, eqb-true}
 use Rattle.std.proofs.lemmas.Option.{same_Some}
 use Rattle.xn_model.specs.Types.{Types}
 use Rattle.xn_model.specs.Lives.{StoreState}
+use Rattle.xn_model.specs.Rules.{IsConsistent}
 use Rattle.ffs_model.specs.Cuts.{latest}
-use Rattle.ffs_model.specs.Library.{inode_blocks, inode_links, library_layout}
+use Rattle.ffs_model.specs.Library.{IsLibrary, inode_blocks, inode_links, library_layout}
 use Rattle.ffs_lookup.specs.declared.fault.FfsFault.{FfsFault}
 use Rattle.ffs_lookup.specs.declared.places.Slot.{Slot}
-use Rattle.ffs_lookup.specs.Newest.{directory_in, entries_of, inode_in, is_at, listing, named_in}
+use Rattle.ffs_lookup.specs.Newest.{directory_in, entries_of, file_in, inode_in, is_at, listing, named_in}
 use Rattle.ffs_lookup.specs.Places.{IsSlot}
 use Rattle.ffs_lookup.proofs.ForCallers.{not_both, same_ok}
-use Rattle.ffs_lib.specs.Replacing.{AreDirect, Replaced, ReplacedInodes, StopsReplacing, StopsTurning, Turned, pair_of, turned_entry}
-use Rattle.ffs_lib.specs.Results.{IsLinked, SameInode}
-use Rattle.ffs_lib.specs.Steps.{AddsLink, Removable, Removed, StopsRemoving, TakesLink, Unnamed}
+use Rattle.ffs_lib.specs.Replacing.{AreDirect, Replaced, ReplacedInodes, Turned, pair_of, turned_entry}
+use Rattle.ffs_lib.specs.Results.{AsBefore, SameInode}
+use Rattle.ffs_lib.specs.Stages.{KeptOrEmptied, Unnames}
+use Rattle.ffs_lib.specs.Steps.{AddsLink, Clearing, StopsTaking, TakesLink}
 use Rattle.ffs_lib.proofs.Alone.{are_apart}
 use Rattle.ffs_lib.proofs.Entering.{directory_from, directory_same}
 use Rattle.ffs_lib.proofs.Firsts.{find_listed, named_among}
-use Rattle.ffs_lib.proofs.Laws.{less_of, removed, took_on, true_false}
-use Rattle.ffs_lib.proofs.Moving.{as_on, directory_to, named_block, same_as}
+use Rattle.ffs_lib.proofs.Laws.{less_of, took_on, true_false}
+use Rattle.ffs_lib.proofs.Moving.{as_on, named_block, same_as}
 use Rattle.ffs_lib.proofs.PairLaws.{direct_of}
 use Rattle.ffs_lib.proofs.Replacing.{CanReplace}
 use Rattle.ffs_lib.proofs.Same.{same_on}
+use Rattle.ffs_lib.proofs.Staged.{taking_as, taking_kept}
 use Rattle.ffs_lib.proofs.StillNamed.{named_to}
 use Rattle.ffs_lib.proofs.TurnLaws.{slot_names}
 use Rattle.ffs_lib.proofs.ValueLists.{find_map}
@@ -51,7 +54,7 @@ at_one_place state fs from to a b e =
     let p = and_parts (from.block == to.block) (from.place == to.place) e in
     same_place state fs from to a b (eqb-true from.block to.block p.0) (eqb-true from.place to.place p.1)
 
-pub itself_done : (state : StoreState) (fs d other : ℕ) (from to : Slot) → IsSlot state fs from → IsSlot state fs to → (from.block == to.block) && (from.place == to.place) ≡ true → Replaced state state fs d from other to
+pub itself_done : (state : StoreState) (fs d other : ℕ) (from to : Slot) → IsSlot state fs from → IsSlot state fs to → (from.block == to.block) && (from.place == to.place) ≡ true → Replaced state state fs d from other to (Ok tt)
 itself_done state fs d other from to a b e =
     let p = and_parts (from.block == to.block) (from.place == to.place) e in
     let block = eqb-true from.block to.block p.0 in
@@ -60,17 +63,13 @@ itself_done state fs d other from to a b e =
     let one : from ≡ to = λ i. record { block = block i; place = place i; inode = inode i } in
     record { itself = λ z. refl; same = λ ne. absurd (ne one); another = λ ne. absurd (ne inode) }
 
-pub same_done : (old new : StoreState) (fs d other : ℕ) (from to : Slot) → from ≢ to → from.inode ≡ to.inode → Removed (latest old.lives) (latest new.lives) fs d from → Replaced old new fs d from other to
-same_done old new fs d other from to apart one r = record { itself = λ z. absurd (apart z); same = λ ne e. r; another = λ ne. absurd (ne one) }
+pub same_done : (old new : StoreState) (fs d other : ℕ) (from to : Slot) (result : Result (Unit {0}) FfsFault) → from ≢ to → from.inode ≡ to.inode →
+    Unnames (latest old.lives) (latest new.lives) fs d from.inode × OnErr result (KeptOrEmptied (latest old.lives) (latest new.lives) fs from.inode) → Replaced old new fs d from other to result
+same_done old new fs d other from to result apart one r = record { itself = λ z. absurd (apart z); same = λ ne e. r; another = λ ne. absurd (ne one) }
 
-pub another_done : (old new : StoreState) (fs d other : ℕ) (from to : Slot) → from.inode ≢ to.inode → ReplacedInodes (latest old.lives) (latest new.lives) fs d from other to → Replaced old new fs d from other to
-another_done old new fs d other from to apart r = record { itself = λ z. absurd (apart (ap (λ (s : Slot). s.inode) z)); same = λ ne e. absurd (apart e); another = λ ne. r }
-
-pub same_stops : (T : Types) (fs : ℕ) (old new : StoreState) (d : ℕ) (from to : Slot) → from ≢ to → from.inode ≡ to.inode → (fault : FfsFault) → StopsRemoving T fs old new d from fault → StopsReplacing T fs old new d from to fault
-same_stops T fs old new d from to apart one fault r = record { other = apart; same = λ e. r; another = λ ne. absurd (ne one) }
-
-pub another_stops : (T : Types) (fs : ℕ) (old new : StoreState) (d : ℕ) (from to : Slot) → from.inode ≢ to.inode → (fault : FfsFault) → StopsTurning T fs old new d from to fault → StopsReplacing T fs old new d from to fault
-another_stops T fs old new d from to apart fault r = record { other = λ z. apart (ap (λ (s : Slot). s.inode) z); same = λ e. absurd (apart e); another = λ ne. r }
+pub another_done : (old new : StoreState) (fs d other : ℕ) (from to : Slot) (result : Result (Unit {0}) FfsFault) → from.inode ≢ to.inode →
+    ReplacedInodes (latest old.lives) (latest new.lives) fs d from other to × OnErr result (KeptOrEmptied (latest old.lives) (latest new.lives) fs to.inode) → Replaced old new fs d from other to result
+another_done old new fs d other from to result apart r = record { itself = λ z. absurd (apart (ap (λ (s : Slot). s.inode) z)); same = λ ne e. absurd (apart e); another = λ ne. r }
 
 -- The first entry with a name, where another one was turned
 
@@ -95,11 +94,11 @@ module _ (entry : Slot) (n : ℕ) where
           let other : is_at entry p.0 ≡ false = ap (is_at entry) (sym is) ∙ apart in
           f ∙ ap (λ (t : Bool). Some (if t then (record p.0 { inode = n }, p.1) else p).0) (sym other)
 
--- the first entry may be removed from its directory
-pub first_removable : (u : ℕ → List ℕ) (fs d : ℕ) (name : List ℕ) (other : ℕ) (other_name : List ℕ) (from to : Slot) → CanReplace u fs d name other other_name from to → Removable u fs d from
-first_removable u fs d name other other_name from to x =
-    let b = named_block u fs d name from (named_to u fs d name x.home from x.is_home x.good x.first) in
-    record { own = b.0; is = b.1; has = b.2; apart = λ z. not_both u fs from.inode x.home x.own (x.is_home ∙ ap (directory_in u fs) z) x.is_own }
+-- All inodes but two directories and one that is as before but for its links are as before.
+pub record Halfway (u v : ℕ → List ℕ) (fs d other n : ℕ) : Type 0 where
+  pub inodes : (e : ℕ) (inode : List ℕ) → Ok inode ≡ directory_in u fs e → Ok inode ≡ directory_in v fs e
+  pub moved : AsBefore u v fs n
+  pub rest : (e : ℕ) → e ≢ d → e ≢ other → e ≢ n → SameInode u v fs e
 
 -- The edits
 
@@ -128,7 +127,7 @@ module _ (u : ℕ → List ℕ) (fs d : ℕ) (name : List ℕ) (other : ℕ) (ot
       let b = named_block u fs other other_name to (named_to u fs other other_name x.target to x.is_target x.other_good x.second) in
       subst (λ (i : List ℕ). Contains (inode_blocks i) to.block) (same_ok b.0 x.target (b.1 ∙ sym (directory_from u fs other x.target x.is_target).0)) b.2
 
-  direct_in_both : (v : ℕ → List ℕ) → ((e : ℕ) (inode : List ℕ) → Ok inode ≡ directory_in u fs e → Ok inode ≡ directory_in v fs e) → AreDirect v fs (pair_of from to)
+  pub direct_in_both : (v : ℕ → List ℕ) → ((e : ℕ) (inode : List ℕ) → Ok inode ≡ directory_in u fs e → Ok inode ≡ directory_in v fs e) → AreDirect v fs (pair_of from to)
   direct_in_both v there = record { from = direct_of v fs d x.home from.block (there d x.home x.is_home) home_has; to = direct_of v fs other x.target to.block (there other x.target x.is_target) target_has }
 
   pub direct_before : AreDirect u fs (pair_of from to)
@@ -156,86 +155,89 @@ module _ (u : ℕ → List ℕ) (fs d : ℕ) (name : List ℕ) (other : ℕ) (ot
       listing2 : (e : ℕ) (inode : List ℕ) → Ok inode ≡ directory_in u fs e → listing v2 inode ≡ map (turned_entry to n) (listing u inode)
       listing2 e inode i = t.entries inode ∙ ap (map (turned_entry to n)) (listing1 e inode i)
 
-      pub direct_turned : AreDirect v2 fs (pair_of from to)
-      direct_turned = direct_in_both v2 there2
-
       -- so is the first entry
       pub home_named : Ok from ≡ named_in v2 fs d name
       home_named = named_to v2 fs d name x.home from (there2 d x.home x.is_home) x.good
           (still_first to n from name (listing u x.home) places (x.first ∙ find_listed u name (entries_of u x.home)) ∙ (ap (named_among name) (sym (listing2 d x.home x.is_home)) ∙ sym (find_listed v2 name (entries_of v2 x.home))))
 
-      pub home_removable : Removable v2 fs d from
-      home_removable = let b = named_block v2 fs d name from home_named in record { own = b.0; is = b.1; has = b.2; apart = not_moved d x.home x.is_home }
+  -- What stands of both files after each edit
 
-      module _ (v4 : ℕ → List ℕ) (g : Unnamed v2 v4 fs from) where
-        pub home_removed : Removed v2 v4 fs d from
-        home_removed = removed v2 g.middle fs d from home_removable g.cleared v4 g.took
+  no_directory : (e x : ℕ) (inode own : List ℕ) → Ok inode ≡ directory_in u fs e → Ok own ≡ file_in u fs x → x ≢ e
+  no_directory e x inode own i o z = not_both u fs x inode own (i ∙ ap (directory_in u fs) (sym z)) o
 
-        there4 : (e : ℕ) (inode : List ℕ) → Ok inode ≡ directory_in u fs e → Ok inode ≡ directory_in v4 fs e
-        there4 e inode i =
-            there2 e inode i ∙ (sym (directory_same v2 g.middle fs e (g.cleared.inodes e)) ∙ sym (directory_same g.middle v4 fs e (g.took.others e (not_moved e inode i)).0))
+  module _ (v : ℕ → List ℕ) (k : Halfway u v fs d other n) where
+    pub former_same : SameInode u v fs to.inode
+    former_same = k.rest to.inode (no_directory d to.inode x.home x.former x.is_home x.is_former) (no_directory other to.inode x.target x.former x.is_target x.is_former) (λ z. apart (sym z))
 
-        pub direct_unnamed : AreDirect v4 fs (pair_of from to)
-        direct_unnamed = direct_in_both v4 there4
+    -- an edit of an entry
+    on_entry : (w : ℕ → List ℕ) → ((e : ℕ) → inode_in w fs e ≡ inode_in v fs e) → ((e : ℕ) → e ≢ d → e ≢ other → SameInode v w fs e) → Halfway u w fs d other n
+    on_entry w same away = record {
+      inodes = λ e inode i. k.inodes e inode i ∙ sym (directory_same v w fs e (same e));
+      moved = as_on u v w fs n k.moved (same_as v w fs n (away n (no_directory d n x.home x.own x.is_home x.is_own) (no_directory other n x.target x.own x.is_target x.is_own)));
+      rest = λ e ne ne' far. same_on u v w fs e (k.rest e ne ne' far) (away e ne ne');
+    }
 
-        -- all but both directories and both files are as before
-        after_turn : (e : ℕ) → e ≢ other → SameInode v1 v2 fs e
-        after_turn = let b = named_block v1 fs other other_name to target_named in t.others other b.0 b.1 b.2
+    pub after_turn : (w : ℕ → List ℕ) → Ok to ≡ named_in v fs other other_name → Turned v w fs to n → Halfway u w fs d other n
+    after_turn w named t = let b = named_block v fs other other_name to named in on_entry w t.inodes (λ e ne ne'. t.others other b.0 b.1 b.2 e ne')
 
-        after_clear : (e : ℕ) → e ≢ d → SameInode v2 g.middle fs e
-        after_clear = g.cleared.others d home_removable.own home_removable.is home_removable.has
+    pub after_clear : (w : ℕ → List ℕ) → Ok from ≡ named_in v fs d name → Clearing v w fs from → Halfway u w fs d other n
+    after_clear w named c = let b = named_block v fs d name from named in on_entry w c.inodes (λ e ne ne'. c.others d b.0 b.1 b.2 e ne)
 
-        pub rest : (e : ℕ) → e ≢ d → e ≢ other → e ≢ n → SameInode u v4 fs e
-        rest e ne ne' away = same_on u v1 v4 fs e (l.others e away) (same_on v1 v2 v4 fs e (after_turn e ne') (same_on v2 g.middle v4 fs e (after_clear e ne) (g.took.others e away)))
+    -- a link of the moved file is taken, which had two at least
+    pub after_less : (w : ℕ → List ℕ) → ((inode : List ℕ) → Ok inode ≡ inode_in v fs n → 1 < inode_links inode) → TakesLink v w fs n → Halfway u w fs d other n
+    after_less w many t = record {
+      inodes = λ e inode i. k.inodes e inode i ∙ sym (directory_same v w fs e (t.others e (not_moved e inode i)).0);
+      moved = as_on u v w fs n k.moved ((less_of v w fs n t many).0 n);
+      rest = λ e ne ne' far. same_on u v w fs e (k.rest e ne ne' far) (t.others e far);
+    }
 
-        moved_no_home : n ≢ d
-        moved_no_home z = not_moved d x.home x.is_home (sym z)
+    -- The call ends there
+    pub halted : ReplacedInodes u v fs d from other to × KeptOrEmptied u v fs to.inode
+    halted = (
+      record { inodes = k.inodes; moved = k.moved; former = λ inode i lt. same_as u v fs to.inode former_same inode i; others = λ e ne ne' far far'. k.rest e ne ne' far },
+      (former_same.0, λ inode i. inl (former_same.1 inode i)),
+    )
 
-        moved_no_target : n ≢ other
-        moved_no_target z = not_moved other x.target x.is_target (sym z)
+    -- or a link of the former one is taken
+    pub ended : (w : ℕ → List ℕ) → TakesLink v w fs to.inode → ReplacedInodes u w fs d from other to
+    ended w t = record {
+      inodes = λ e inode i. k.inodes e inode i ∙ sym (directory_same v w fs e (t.others e (not_former e inode i)).0);
+      moved = as_on u v w fs n k.moved (same_as v w fs n (t.others n apart));
+      former = λ inode i lt. ((took_on u v w fs to.inode inode former_same i (t.took inode (i ∙ sym former_same.0))).kept lt).0;
+      others = λ e ne ne' far far'. same_on u v w fs e (k.rest e ne ne' far) (t.others e far');
+    }
 
-        former_no_home : to.inode ≢ d
-        former_no_home z = not_former d x.home x.is_home (sym z)
+  -- or it could not be
+  pub refused : (T : Types) → IsLibrary T → fs < 32 → (middle new : StoreState) → Halfway u (latest middle.lives) fs d other n → IsConsistent T new → (fault : FfsFault) → StopsTaking T fs middle new to.inode fault →
+      ReplacedInodes u (latest new.lives) fs d from other to × KeptOrEmptied u (latest new.lives) fs to.inode
+  refused T lib few middle new k h fault s =
+      let v = latest middle.lives in
+      let w = latest new.lives in
+      let same = former_same v k in (
+        record {
+          inodes = λ e inode i. k.inodes e inode i ∙ sym (directory_same v w fs e (s.others e (not_former e inode i)).0);
+          moved = as_on u v w fs n k.moved (same_as v w fs n (s.others n apart));
+          former = λ inode i lt. taking_as T fs u middle new to.inode same fault s inode i lt;
+          others = λ e ne ne' far far'. same_on u v w fs e (k.rest e ne ne' far) (s.others e far');
+        },
+        taking_kept T fs u middle new to.inode same fault s lib few h,
+      )
 
-        former_no_target : to.inode ≢ other
-        former_no_target z = not_former other x.target x.is_target (sym z)
+  -- the moved file has two links, so where none is taken nothing changed
+  pub nothing_taken : (T : Types) (middle new : StoreState) → ((inode : List ℕ) → Ok inode ≡ inode_in (latest middle.lives) fs n → 1 < inode_links inode) → (fault : FfsFault) → StopsTaking T fs middle new n fault → new ≡ middle
+  nothing_taken T middle new many fault s = elim s.stage [
+    | inl same ↦ same
+    | inr c ↦
+        let low = c.last in
+        let high = many s.inode s.was in
+        absurd (omega (arith, low, high))
+  ]
 
-        pub former_same : SameInode u v4 fs to.inode
-        former_same = rest to.inode former_no_home former_no_target (λ z. apart (sym z))
+  module _ (v1 : ℕ → List ℕ) (l : AddsLink u v1 fs n) where
+    pub after_link : Halfway u v1 fs d other n
+    after_link = record { inodes = there1 v1 l; moved = l.before n; rest = λ e ne ne' far. l.others e far }
 
-        module _ (linked : 1 ≤ inode_links x.own) where
-          -- two links at least
-          many : (inode : List ℕ) → Ok inode ≡ inode_in g.middle fs n → 1 < inode_links inode
-          many inode i =
-              let at : Ok inode ≡ inode_in v1 fs n = i ∙ ((after_clear n moved_no_home).0 ∙ (after_turn n moved_no_target).0) in
-              let more = l.links x.own inode is_moved at in
-              omega (arith, more, linked)
-
-          module _ (w : ℕ → List ℕ) (k : TakesLink v4 w fs to.inode) where
-            moved : (inode : List ℕ) → Ok inode ≡ inode_in u fs n → IsLinked u w fs n inode (inode_links inode)
-            moved inode i =
-                let less = less_of g.middle v4 fs n g.took many in
-                let a = l.before n inode i in
-                let s2 = after_turn n moved_no_target in
-                let s3 = after_clear n moved_no_home in
-                let s5 = k.others n apart in
-                let at3 : Ok a.after ≡ inode_in g.middle fs n = a.found ∙ (sym s2.0 ∙ sym s3.0) in
-                let later = as_on v1 v2 w fs n (same_as v1 v2 fs n s2) (as_on v2 g.middle w fs n (same_as v2 g.middle fs n s3) (as_on g.middle v4 w fs n (less.0 n) (same_as v4 w fs n s5))) in
-                let y = as_on u v1 w fs n (l.before n) later inode i in
-                let up = l.links inode a.after i a.found in
-                let down = less.1 a.after y.after at3 (y.found ∙ s5.0) in
-                (y, omega (arith, up, down))
-
-            pub replaced : ReplacedInodes u w fs d from other to
-            replaced = record {
-              inodes = λ e inode i.
-                  let at = directory_from u fs e inode i in
-                  let at3 : Ok inode ≡ inode_in g.middle fs e = (directory_from v2 fs e inode (there2 e inode i)).0 ∙ sym (g.cleared.inodes e) in
-                  let at4 : Ok inode ≡ inode_in v4 fs e = at3 ∙ sym (g.took.others e (not_moved e inode i)).0 in
-                  directory_to w fs e inode (at4 ∙ sym (k.others e (not_former e inode i)).0) at.1;
-              moved = moved;
-              former = λ inode i.
-                  let s = former_same in
-                  took_on u v4 w fs to.inode inode s i (k.took inode (i ∙ sym s.0));
-              others = λ e ne ne' away away'. same_on u v4 w fs e (rest e ne ne' away) (k.others e away');
-            }
+    pub two_links : (v : ℕ → List ℕ) → inode_in v fs n ≡ inode_in v1 fs n → 1 ≤ inode_links x.own → (inode : List ℕ) → Ok inode ≡ inode_in v fs n → 1 < inode_links inode
+    two_links v same linked inode i =
+        let more = l.links x.own inode is_moved (i ∙ same) in
+        omega (arith, more, linked)

@@ -22,7 +22,7 @@ use Rattle.ffs_lookup.specs.Newest.{and_then, byte_in, byte_of, directory_in, fi
 use Rattle.ffs_lookup.specs.Files.{Answer, Blocks, Directory, File, Files, cleared, directory_of, entry_named, look_up, told, with_entry, without_link}
 use Rattle.ffs_lookup.specs.FileValues.{blocks_value, bytes_value, files_of}
 use Rattle.ffs_lookup.proofs.ForCallers.{IsPlaceOf, direct_has, map_on, same_ok}
-use Rattle.ffs_lib.specs.Results.{OnlyChanges, SameContents, SameInode}
+use Rattle.ffs_lib.specs.Results.{IsAs, OnlyChanges, SameContents, SameInode}
 use Rattle.ffs_lib.specs.Stages.{AreEmptied, Asks, Does, IsRefused, IsStage, KeptOrEmptied, OfEntry, OfLink, Stages, Unnames, cleared_stages, emptied, link_stages, removed_stages, stages_of, with_emptied}
 use Rattle.ffs_lib.specs.Steps.{Answers, ClearedPointers, Clearing, IsHome, Stops, StopsTaking, StopsUnnaming, Unnamed, Wants}
 use Rattle.ffs_lib.specs.Values.{Leads}
@@ -187,6 +187,33 @@ link_stage T lib fs few middle new h n files e fault s =
       | inr c ↦ inr (inl (new, emptied_value T lib fs few (latest middle.lives) new h n s.inode s.was s.is c s.others ∙ ap (λ (f : Files). with_emptied f n) e, asks))
     ]
 
+-- and what that leaves of an inode that was as before
+module _ (T : Types) (fs : ℕ) (u : ℕ → List ℕ) (middle new : StoreState) (n : ℕ) (same : SameInode u (latest middle.lives) fs n) (fault : FfsFault) (s : StopsTaking T fs middle new n fault) where
+  pub taking_as : (inode : List ℕ) → Ok inode ≡ inode_in u fs n → 1 < inode_links inode → IsAs u (latest new.lives) fs n inode
+  taking_as inode i lt = elim s.stage [
+    | inl e ↦ same_as u (latest new.lives) fs n (subst (λ (y : StoreState). SameInode u (latest y.lives) fs n) (sym e) same) inode i
+    | inr e ↦
+        let one : inode_links inode ≡ inode_links s.inode = ap inode_links (same_ok inode s.inode (i ∙ (sym same.0 ∙ sym s.was))) in
+        let low = e.last in
+        absurd (omega (arith, one, low, lt))
+  ]
+
+  pub taking_kept : IsLibrary T → fs < 32 → IsConsistent T new → KeptOrEmptied u (latest new.lives) fs n
+  taking_kept lib few after = (
+    sym s.is ∙ (s.was ∙ same.0),
+    λ inode i.
+        let m = latest middle.lives in
+        let z = latest new.lives in
+        let k = same.1 inode i in
+        elim s.stage [
+          | inl e ↦ inl (subst (λ (y : StoreState). SameContents u (latest y.lives) inode) (sym e) k)
+          | inr e ↦
+              let one : s.inode ≡ inode = same_ok s.inode inode (s.was ∙ (same.0 ∙ sym i)) in
+              let x = subst (AreEmptied m z) one (emptied_contents T lib fs few m new after n s.inode s.was s.is e) in
+              inr (x.0 ∙ k.0, λ at low. x.1 at low ∙ ap (λ (b : ℕ). if nat_lt at 6144 then b else 0) (k.1 at low))
+        ],
+  )
+
 -- `unlink` and `rmdir`
 
 cleared_stages_are : (files : Files) (d links : ℕ) (blocks : Blocks) (name : List ℕ) (found : (ℕ × ℕ) × ℕ) → files d ≡ Directory links blocks → look_up name blocks ≡ Some found → is_name name ≡ true → removed_stages files d name ≡ cleared_stages files d found
@@ -204,11 +231,9 @@ module _ (T : Types) (lib : IsLibrary T) (fs : ℕ) (few : fs < 32) (d : ℕ) (n
   abbrev found : (ℕ × ℕ) × ℕ
   found = (f.entry.at, slot.inode)
 
-  pub removed_does : IsConsistent T old → IsConsistent T new → (answer : Answer (Unit {0})) → answer ≡ Ok (tt, cleared (files_of u fs) d found) → (result : Result (Unit {0}) FfsFault) →
-      MatchResult result (λ _. Unnamed u z fs slot) (Stops (StopsUnnaming T fs old new slot)) → Does T fs answer (removed_stages (files_of u fs) d name) old new result
-  removed_does before after answer is result ends =
-      subst (λ (a : Answer (Unit {0})). Does T fs a (removed_stages (files_of u fs) d name) old new result) (sym is)
-      (subst (λ (s : Stages). Does T fs (Ok (tt, cleared (files_of u fs) d found)) s old new result) (sym (cleared_stages_are (files_of u fs) d _ _ name found (directory_value u fs d f.own f.is) f.entry.looked f.good)) (go result ends))
+  pub cleared_does : IsConsistent T old → IsConsistent T new → (result : Result (Unit {0}) FfsFault) → MatchResult result (λ _. Unnamed u z fs slot) (Stops (StopsUnnaming T fs old new slot)) →
+      Does T fs (Ok (tt, cleared (files_of u fs) d found)) (cleared_stages (files_of u fs) d found) old new result
+  cleared_does before after result ends = go result ends
     where
       gone : (m : ℕ → List ℕ) → Clearing u m fs slot → files_of m fs ≡ with_entry (files_of u fs) d f.entry.at None
       gone m c = clearing_value u m fs d f.own f.is (blocks_once T lib old before fs few d f.own f.is) slot f.entry.at f.entry.is c
@@ -224,6 +249,12 @@ module _ (T : Types) (lib : IsLibrary T) (fs : ℕ) (few : fs < 32) (d : ℕ) (n
         ],
       )
 
+  pub removed_does : IsConsistent T old → IsConsistent T new → (answer : Answer (Unit {0})) → answer ≡ Ok (tt, cleared (files_of u fs) d found) → (result : Result (Unit {0}) FfsFault) →
+      MatchResult result (λ _. Unnamed u z fs slot) (Stops (StopsUnnaming T fs old new slot)) → Does T fs answer (removed_stages (files_of u fs) d name) old new result
+  removed_does before after answer is result ends =
+      subst (λ (a : Answer (Unit {0})). Does T fs a (removed_stages (files_of u fs) d name) old new result) (sym is)
+      (subst (λ (s : Stages). Does T fs (Ok (tt, cleared (files_of u fs) d found)) s old new result) (sym (cleared_stages_are (files_of u fs) d _ _ name found (directory_value u fs d f.own f.is) f.entry.looked f.good)) (cleared_does before after result ends))
+
   -- what the files don't say of the inodes
   own_is : Ok f.own ≡ inode_in u fs d
   own_is = (directory_from u fs d f.own f.is).0
@@ -238,35 +269,11 @@ module _ (T : Types) (lib : IsLibrary T) (fs : ℕ) (few : fs < 32) (d : ℕ) (n
   in_middle middle c fault s =
       let m = latest middle.lives in
       let lost = unlisted u m fs d slot f.own own_is has c in
-      let named = lost.others slot.inode (λ e. f.apart (sym e)) in
       record {
         home = (s.others d f.apart).0 ∙ c.inodes d;
         others = λ x ne ne'. same_on u m z fs x (lost.others x ne) (s.others x ne');
-        kept = λ inode i lt. elim s.stage [
-          | inl same ↦ same_as u z fs slot.inode (subst (λ (y : StoreState). SameInode u (latest y.lives) fs slot.inode) (sym same) named) inode i
-          | inr e ↦
-              let one : inode_links inode ≡ inode_links s.inode = ap inode_links (same_ok inode s.inode (i ∙ (sym (c.inodes slot.inode) ∙ sym s.was))) in
-              let low = e.last in
-              absurd (omega (arith, one, low, lt))
-        ];
+        kept = λ inode i lt. taking_as T fs u middle new slot.inode (lost.others slot.inode (λ e. f.apart (sym e))) fault s inode i lt;
       }
-
-  kept_or_emptied : IsConsistent T new → (middle : StoreState) → Clearing u (latest middle.lives) fs slot → (fault : FfsFault) → StopsTaking T fs middle new slot.inode fault → KeptOrEmptied u z fs slot.inode
-  kept_or_emptied after middle c fault s = (
-    sym s.is ∙ (s.was ∙ c.inodes slot.inode),
-    λ inode i.
-        let m = latest middle.lives in
-        let lost = unlisted u m fs d slot f.own own_is has c in
-        let named = lost.others slot.inode (λ e. f.apart (sym e)) in
-        let same = named.1 inode i in
-        elim s.stage [
-          | inl e ↦ inl (subst (λ (y : StoreState). SameContents u (latest y.lives) inode) (sym e) same)
-          | inr e ↦
-              let one : s.inode ≡ inode = same_ok s.inode inode (s.was ∙ (c.inodes slot.inode ∙ sym i)) in
-              let k = subst (AreEmptied m z) one (emptied_contents T lib fs few m new after slot.inode s.inode s.was s.is e) in
-              inr (k.0 ∙ same.0, λ at low. k.1 at low ∙ ap (λ (b : ℕ). if nat_lt at 6144 then b else 0) (same.1 at low))
-        ],
-  )
 
   pub unnames : IsConsistent T new → (result : Result (Unit {0}) FfsFault) → MatchResult result (λ _. Unnamed u z fs slot) (Stops (StopsUnnaming T fs old new slot)) →
       Unnames u z fs d slot.inode × OnErr result (KeptOrEmptied u z fs slot.inode)
@@ -278,5 +285,7 @@ module _ (T : Types) (lib : IsLibrary T) (fs : ℕ) (few : fs < 32) (d : ℕ) (n
   unnames after (Err fault) stop = elim stop.1 [
     | inl p ↦
         subst (λ (s : StoreState). Unnames u (latest s.lives) fs d slot.inode × KeptOrEmptied u (latest s.lives) fs slot.inode) (sym p.0) (nothing, (refl, λ inode i. inl (refl, λ at low. refl)))
-    | inr q ↦ (in_middle q.0 q.1 fault q.2, kept_or_emptied after q.0 q.1 fault q.2)
+    | inr q ↦
+        let lost = unlisted u (latest q.0.lives) fs d slot f.own own_is has q.1 in
+        (in_middle q.0 q.1 fault q.2, taking_kept T fs u q.0 new slot.inode (lost.others slot.inode (λ e. f.apart (sym e))) fault q.2 lib few after)
   ]

@@ -14,9 +14,9 @@ use Rattle.ffs_lookup.specs.Files.{Answer, Blocks, Directory, Files, both_direct
 use Rattle.ffs_lookup.specs.FileValues.{AreBlocksOnce, blocks_value, files_of}
 use Rattle.ffs_lookup.proofs.ForCallers.{EntryAt, both_found, both_parts, file_found, file_parts, if_both, named_told, same_ok}
 use Rattle.ffs_lib.specs.Replacing.{Turned, directories_in, files_in, is_full_for, replace_in}
-use Rattle.ffs_lib.specs.Stages.{with_link}
-use Rattle.ffs_lib.specs.Steps.{AddsLink, TakesLink, Unnamed}
-use Rattle.ffs_lib.proofs.Replaced.{former_same, is_moved, listing1, there1, there2}
+use Rattle.ffs_lib.specs.Stages.{Stages, over_stages, replaced_stages, stages_of, with_link}
+use Rattle.ffs_lib.specs.Steps.{AddsLink, Clearing, TakesLink, Unnamed}
+use Rattle.ffs_lib.proofs.Replaced.{is_moved, listing1, there1, there2}
 use Rattle.ffs_lib.proofs.Replacing.{CanReplace}
 use Rattle.ffs_lib.proofs.ValueLists.{there_in}
 use Rattle.ffs_lib.proofs.ValueMade.{directory_value}
@@ -122,6 +122,19 @@ module _ (u : ℕ → List ℕ) (fs d : ℕ) (name : List ℕ) (other : ℕ) (ot
         ∙ (ap (λ r. and_then r (found_former f g)) (sym (ap (mapped (file_parts u)) x.is_former ∙ file_found u fs to.inode))
         ∙ ap (λ t. by_tests f g t (is_same d f other g) (from.inode == to.inode)) not_full)))))))
 
+    pub replaced_stages_ok : replaced_stages files d name other other_name ≡ over_stages files d f other other_name g
+    replaced_stages_ok =
+        let home = directory_value u fs d x.home x.is_home in
+        let target = directory_value u fs other x.target x.is_target in
+        let K : (ℕ × Blocks) × (ℕ × Blocks) → Stages =
+        λ both. stages_of (ok_or (look_up name both.0.1) NoEntry) (λ a. stages_of (ok_or (look_up other_name both.1.1) NoEntry) (over_stages files d a other other_name)) in
+        ap (λ v. stages_of (and_then (in_use v) (λ a. and_then (in_use (files other)) (λ b. and_then (directories a b) if_names))) K) home
+        ∙ (ap (λ v. stages_of (and_then (in_use v) (λ b. and_then (directories (Directory (inode_links x.home) (blocks_value u x.home)) b) if_names)) K) target
+        ∙ (ap (λ t. stages_of (if t && is_name other_name then Ok (both_parts u (x.home, x.target)) else Err BadName) K) x.good
+        ∙ (ap (λ t. stages_of (if t then Ok (both_parts u (x.home, x.target)) else Err BadName) K) x.other_good
+        ∙ (ap (λ o. stages_of (ok_or o NoEntry) (λ a. stages_of (ok_or (look_up other_name (blocks_value u x.target)) NoEntry) (over_stages files d a other other_name))) k.looked
+        ∙ ap (λ o. stages_of (ok_or o NoEntry) (over_stages files d f other other_name)) l.looked))))
+
     -- two entries stand at one place in the value where they do in the bytes
     module _ (once : AreBlocksOnce u fs) (apart : (e : ℕ) (a b : List ℕ) (i j : ℕ) → Ok a ≡ directory_in u fs d → Ok b ≡ directory_in u fs e → i < 12 → j < 12 → direct_in a i ≢ 0 → direct_in a i ≡ direct_in b j → d ≡ e) where
       pub same_is : (from.block == to.block) && (from.place == to.place) ≡ is_same d f other g
@@ -147,37 +160,51 @@ module _ (u : ℕ → List ℕ) (fs d : ℕ) (name : List ℕ) (other : ℕ) (ot
           index e here (inr z) = ne_eqb from.block to.block z ∙ sym (ne_eqb k.at.0 l.at.0 (λ i. z (sym k.is.block ∙ (ap (direct_in x.home) i ∙ here))))
 
     -- What its edits leave
-    module _ (once : AreBlocksOnce u fs) (ne : from.inode ≢ to.inode) (v1 : ℕ → List ℕ) (a : AddsLink u v1 fs from.inode) (v2 : ℕ → List ℕ) (t : Turned v1 v2 fs to from.inode) (places : is_at to from ≡ false) (v4 : ℕ → List ℕ) (c : Unnamed v2 v4 fs from)
-        (w : ℕ → List ℕ) (b : TakesLink v4 w fs to.inode) where
+    module _ (once : AreBlocksOnce u fs) (ne : from.inode ≢ to.inode) (v1 : ℕ → List ℕ) (a : AddsLink u v1 fs from.inode) where
       abbrev n : ℕ
       n = from.inode
 
       own : Ok x.own ≡ inode_in u fs n
       own = is_moved u fs d name other other_name from to x ne
 
-      abbrev there : Files
-      there = with_entry (with_entry files other l.at (Some (other_name, n))) d k.at None
+      abbrev pub named : Files
+      named = with_entry (with_link files n) other l.at (Some (other_name, n))
 
-      former_then : Ok x.former ≡ inode_in v4 fs to.inode
-      former_then = file_from u fs to.inode x.former x.is_former ∙ sym (former_same u fs d name other other_name from to x ne v1 a v2 t places v4 c).0
+      abbrev pub left : Files
+      left = with_entry named d k.at None
 
-      cleared_then : files_of c.middle fs ≡ with_link there n
-      cleared_then =
-          let target1 = there1 u fs d name other other_name from to x ne v1 a other x.target x.is_target in
-          let home2 = there2 u fs d name other other_name from to x ne v1 a v2 t places d x.home x.is_home in
-          let once_target = once other x.target x.is_target in
-          let stood = ap (there_in to.block to.place) (listing1 u fs d name other other_name from to x ne v1 a other x.target x.is_target) ∙ stands_listed u v1 fs other x.target x.is_target once_target to l.at l.is (Some (other_name, to.inode)) l.stands in
-          clearing_value v2 c.middle fs d x.home home2 (once d x.home x.is_home) from k.at k.is c.cleared
-          ∙ (ap (λ (h : Files). with_entry h d k.at None) (turned_value v1 v2 fs other x.target target1 once_target to l.at l.is other_name n stood t
-          ∙ (ap (λ (h : Files). with_entry h other l.at (Some (other_name, n))) (adds_value u v1 fs n x.own own a) ∙ entry_after_link files n other l.at (Some (other_name, n))))
-          ∙ entry_after_link (with_entry files other l.at (Some (other_name, n))) n d k.at None)
+      pub linked_then : files_of v1 fs ≡ with_link files n
+      linked_then = adds_value u v1 fs n x.own own a
 
-      pub replaced_files : 1 ≤ inode_links x.own → files_of w fs ≡ turned files d name f other other_name g
-      replaced_files linked =
-          let s = a.before n x.own own in
-          let mid : Ok s.after ≡ inode_in c.middle fs n = s.found ∙ (sym (t.inodes n) ∙ sym (c.cleared.inodes n)) in
-          let same : links_of (there n) ≡ inode_links x.own =
-          links_of_entry (with_entry files other l.at (Some (other_name, n))) n d k.at None ∙ (links_of_entry files n other l.at (Some (other_name, n)) ∙ inode_linked u fs n x.own own) in
-          let low : 1 ≤ links_of (there n) = omega (arith, same, linked) in
-          takes_value v4 w fs to.inode x.former former_then b
-          ∙ ap (λ (h : Files). without_link h to.inode) (takes_value c.middle v4 fs n s.after mid c.took ∙ (ap (λ (h : Files). without_link h n) cleared_then ∙ link_and_less there n low))
+      module _ (v2 : ℕ → List ℕ) (t : Turned v1 v2 fs to n) (places : is_at to from ≡ false) where
+        pub named_then : files_of v2 fs ≡ named
+        named_then =
+            let target1 = there1 u fs d name other other_name from to x ne v1 a other x.target x.is_target in
+            let once_target = once other x.target x.is_target in
+            let stood =
+            ap (there_in to.block to.place) (listing1 u fs d name other other_name from to x ne v1 a other x.target x.is_target) ∙ stands_listed u v1 fs other x.target x.is_target once_target to l.at l.is (Some (other_name, to.inode)) l.stands in
+            turned_value v1 v2 fs other x.target target1 once_target to l.at l.is other_name n stood t ∙ ap (λ (h : Files). with_entry h other l.at (Some (other_name, n))) linked_then
+
+        pub left_then : (m : ℕ → List ℕ) → Clearing v2 m fs from → files_of m fs ≡ left
+        left_then m c =
+            let home2 = there2 u fs d name other other_name from to x ne v1 a v2 t places d x.home x.is_home in
+            clearing_value v2 m fs d x.home home2 (once d x.home x.is_home) from k.at k.is c ∙ ap (λ (h : Files). with_entry h d k.at None) named_then
+
+        module _ (v4 : ℕ → List ℕ) (c : Unnamed v2 v4 fs from) where
+          pub moved_then : files_of v4 fs ≡ without_link left n
+          moved_then =
+              let s = a.before n x.own own in
+              let mid : Ok s.after ≡ inode_in c.middle fs n = s.found ∙ (sym (t.inodes n) ∙ sym (c.cleared.inodes n)) in
+              takes_value c.middle v4 fs n s.after mid c.took ∙ ap (λ (h : Files). without_link h n) (left_then c.middle c.cleared)
+
+          abbrev there : Files
+          there = with_entry (with_entry files other l.at (Some (other_name, n))) d k.at None
+
+          pub replaced_files : 1 ≤ inode_links x.own → (w : ℕ → List ℕ) → Ok x.former ≡ inode_in v4 fs to.inode → TakesLink v4 w fs to.inode → files_of w fs ≡ turned files d name f other other_name g
+          replaced_files linked w former b =
+              let same : links_of (there n) ≡ inode_links x.own =
+              links_of_entry (with_entry files other l.at (Some (other_name, n))) n d k.at None ∙ (links_of_entry files n other l.at (Some (other_name, n)) ∙ inode_linked u fs n x.own own) in
+              let low : 1 ≤ links_of (there n) = omega (arith, same, linked) in
+              let gone : left ≡ with_link there n = ap (λ (h : Files). with_entry h d k.at None) (entry_after_link files n other l.at (Some (other_name, n))) ∙ entry_after_link (with_entry files other l.at (Some (other_name, n))) n d k.at None in
+              takes_value v4 w fs to.inode x.former former b
+              ∙ ap (λ (h : Files). without_link h to.inode) (moved_then ∙ (ap (λ (h : Files). without_link h n) gone ∙ link_and_less there n low))

@@ -6,13 +6,13 @@ use Rattle.ffs_model.specs.Library.{inode_blocks, inode_links, inode_mode}
 use Rattle.ffs_format.specs.Fields.{direct_in}
 use Rattle.ffs_lookup.specs.declared.places.Slot.{Slot}
 use Rattle.ffs_lookup.specs.Newest.{directory_in, inode_in, listing, name_of_place}
-use Rattle.ffs_lookup.specs.Files.{Absent, Directory, Entry, File, Files, Free, InodeValue, Unusable, cleared, less_a_link, links_of, put_entry, with_entry, with_entry_in, with_value, without_link}
+use Rattle.ffs_lookup.specs.Files.{Absent, Directory, Entry, File, Files, Free, InodeValue, Unusable, less_a_link, links_of, put_entry, with_entry, with_entry_in, with_value, without_link}
 use Rattle.ffs_lookup.specs.FileValues.{HasBlocksOnce, blocks_value, bytes_value, files_of, value_in}
 use Rattle.ffs_lookup.proofs.ForCallers.{IsPlaceOf, direct_has, good_number, put_is, value_by_place, value_found, value_used}
 use Rattle.ffs_lib.specs.Replacing.{Turned}
 use Rattle.ffs_lib.specs.Results.{IsAs, SameInode, TookLink}
 use Rattle.ffs_lib.specs.Stages.{more_a_link, with_link}
-use Rattle.ffs_lib.specs.Steps.{AddsLink, Clearing, Removed, TakesLink}
+use Rattle.ffs_lib.specs.Steps.{AddsLink, Clearing, TakesLink}
 use Rattle.ffs_lib.proofs.Entering.{directory_from, directory_same}
 use Rattle.ffs_lib.proofs.Fields.{direct_get}
 use Rattle.ffs_lib.proofs.Owners.{stands_from}
@@ -255,26 +255,3 @@ links_of_entry files n d at entry = elim (cases_eq n d) [
     same Unusable = refl
     same (File links bytes) = refl
     same (Directory links blocks) = refl
-
--- An entry is cleared, and the inode that it names has a link less
-pub removed_value : (u w : ℕ → List ℕ) (fs d : ℕ) (own target : List ℕ) (slot : Slot) (at : ℕ × ℕ) → Ok own ≡ directory_in u fs d → HasBlocksOnce own → (k : IsPlaceOf own slot at) → Ok target ≡ inode_in u fs slot.inode → d ≢ slot.inode →
-    Removed u w fs d slot → files_of w fs ≡ cleared (files_of u fs) d (at, slot.inode)
-removed_value u w fs d own target slot at is once k target_is apart r =
-    let n = slot.inode in
-    let f = files_of u fs in
-    let lost = r.gone own is in
-    let other : with_entry f d at None n ≡ f n = ap (λ t. if t then with_entry_in at None (f d) else f n) (ne_eqb n d (λ z. apart (sym z))) in
-    files_equal (λ x. elim (cases_eq x n) [
-      | inl e ↦
-          ap (files_of w fs) e ∙ (took_link_value u w fs n target target_is (r.unlinked target target_is) ∙ (ap less_a_link (sym other) ∙ sym (ap (λ t. if t then less_a_link (with_entry f d at None n) else with_entry f d at None x) (eq-eqb x n e))))
-      | inr ne ↦
-          elim (cases_eq x d) [
-            | inl e ↦
-                ap (files_of w fs) e
-                ∙ (directory_value w fs d own lost.0
-                ∙ (ap (Directory (inode_links own)) (entry_changed u w own once slot at k None (λ b p. ap (there_in b p) lost.1 ∙ there_without slot b p (listing u own)))
-                ∙ (ap (with_entry_in at None) (sym (directory_value u fs d own is)) ∙ sym (ap (λ t. if t then with_entry_in at None (f d) else f x) (eq-eqb x d e)))))
-            | inr ne' ↦ same_value u w fs x (r.others x ne' ne) ∙ sym (ap (λ t. if t then with_entry_in at None (f d) else f x) (ne_eqb x d ne'))
-          ]
-          ∙ sym (ap (λ t. if t then less_a_link (with_entry f d at None n) else with_entry f d at None x) (ne_eqb x n ne))
-    ])

@@ -2,14 +2,12 @@
 --     replace_in            what it looks up: the entry that is moved, and the one that is replaced
 --     turned_entry          an entry of a list, with another inode where it stands at a place
 --     Turned                all lists have it so, and inodes are as before
---     ReplacedInodes        the inodes of the two directories and the two files, of which the former lost a link
+--     ReplacedInodes        what the files don't say of the inodes, where the two entries name two files
 --     pair_of, IsDirect, AreDirect, KeepsPairs    the two entries as slots; that inodes point to their blocks; that what they name in the cuts stays
 --     NamesStand            what the two entries name in the cuts
---     Replaced              what the call leaves
---     StopsReplacing, Replaces    the stages of a refused one, and what its fault tells; the call
-use Rattle.std.specs.Prelude.{◌≡◌, ◌≢◌, ℕ, Bool, not, ◌&&◌, ◌==◌, List, map, Contains, Option, Result, Ok, Err, ◌⊎◌, if◌then◌else◌}
+--     Replaced              what the files don't say of the inodes in each case
+use Rattle.std.specs.Prelude.{◌≡◌, ◌≢◌, ℕ, Bool, not, ◌&&◌, ◌==◌, List, map, Contains, Option, Result, Ok, Err, ◌<◌, OnErr, if◌then◌else◌}
 use Rattle.std.specs.Option.{ok_or}
-use Rattle.xn_model.specs.Types.{Types}
 use Rattle.xn_model.specs.Lives.{Lives, StoreState}
 use Rattle.ffs_model.specs.Library.{inode_blocks, inode_links, inode_mode, library_layout}
 use Rattle.ffs_model.specs.Names.{IsInodes}
@@ -19,8 +17,9 @@ use Rattle.ffs_lookup.specs.declared.fault.FfsFault.{FfsFault}
 use Rattle.ffs_lookup.specs.declared.fault.FfsFault.TheVariants.{BadName, NoEntry, NotDir, TooLarge}
 use Rattle.ffs_lookup.specs.declared.places.Slot.{Slot}
 use Rattle.ffs_lookup.specs.Newest.{and_then, directory_in, file_in, first_named, inode_in, is_at, listing}
-use Rattle.ffs_lib.specs.Results.{IsLinked, SameInode, TookLink}
-use Rattle.ffs_lib.specs.Steps.{AddsLink, Answers, Removed, StopsAtHome, StopsRemoving, StopsTaking, Wants, newest}
+use Rattle.ffs_lib.specs.Results.{AsBefore, IsAs, SameInode}
+use Rattle.ffs_lib.specs.Stages.{KeptOrEmptied, Unnames}
+use Rattle.ffs_lib.specs.Steps.{newest}
 
 -- What it looks up: both directories, both names, both entries, both files; then whether the first inode may have a link more, if the second
 -- entry names another one.
@@ -60,12 +59,12 @@ pub record Turned (old new : ℕ → List ℕ) (fs : ℕ) (entry : Slot) (n : �
   pub entries : (inode : List ℕ) → listing new inode ≡ map (turned_entry entry n) (listing old inode)
   pub others : (d : ℕ) (own : List ℕ) → Ok own ≡ inode_in old fs d → Contains (inode_blocks own) entry.block → (x : ℕ) → x ≢ d → SameInode old new fs x
 
--- Each directory has its 64 bytes. The moved inode is as before, with as many links; the former one lost a link, or is free; all but these two and the
--- two directories are as before.
+-- What the files don't say of the inodes where two entries name two files, also where that is refused: each directory has its 64 bytes. The moved inode is
+-- as before but for its links, and so is the former one where it has more than one. All but these and the two directories are as before.
 pub record ReplacedInodes (old new : ℕ → List ℕ) (fs d : ℕ) (from : Slot) (other : ℕ) (to : Slot) : Type 0 where
   pub inodes : (x : ℕ) (inode : List ℕ) → Ok inode ≡ directory_in old fs x → Ok inode ≡ directory_in new fs x
-  pub moved : (inode : List ℕ) → Ok inode ≡ inode_in old fs from.inode → IsLinked old new fs from.inode inode (inode_links inode)
-  pub former : (inode : List ℕ) → Ok inode ≡ inode_in old fs to.inode → TookLink old new fs to.inode inode
+  pub moved : AsBefore old new fs from.inode
+  pub former : (inode : List ℕ) → Ok inode ≡ inode_in old fs to.inode → 1 < inode_links inode → IsAs old new fs to.inode inode
   pub others : (x : ℕ) → x ≢ d → x ≢ other → x ≢ from.inode → x ≢ to.inode → SameInode old new fs x
 
 -- In the cuts
@@ -98,27 +97,11 @@ NamesStand old new from to = AreNamed library_layout old.lives new.lives (pair_o
 
 -- The call
 
--- Onto itself nothing is done; where both entries name one inode the first is taken from its directory, as `unlink` does.
-pub record Replaced (old new : StoreState) (fs d : ℕ) (from : Slot) (other : ℕ) (to : Slot) : Type 0 where
+-- What the files don't say: onto itself nothing is done; where both entries name one inode the first is taken from its directory, as `unlink` does; and
+-- where they name two. A refusal leaves the inode that was to lose a link its 64 bytes.
+pub record Replaced (old new : StoreState) (fs d : ℕ) (from : Slot) (other : ℕ) (to : Slot) (result : Result (Unit {0}) FfsFault) : Type 0 where
   pub itself : from ≡ to → new ≡ old
-  pub same : from ≢ to → from.inode ≡ to.inode → Removed (newest old) (newest new) fs d from
-  pub another : from.inode ≢ to.inode → ReplacedInodes (newest old) (newest new) fs d from other to
-
--- A stage: nothing; a link more of the moved inode; the entry turned, too; the old one cleared, too, then the link taken; then the former inode is as
--- before but for what its block of pointers owned.
-abbrev pub StopsTurning : Types → ℕ → StoreState → StoreState → ℕ → Slot → Slot → FfsFault → Type 0
-StopsTurning T fs old new d from to fault =
-    StopsAtHome T fs old new from.inode fault
-    ⊎ ((first : StoreState) × AddsLink (newest old) (newest first) fs from.inode × (((new ≡ first) × Wants T first fs to.block fault)
-    ⊎ ((second : StoreState) × Turned (newest first) (newest second) fs to from.inode × (StopsRemoving T fs second new d from fault
-    ⊎ ((third : StoreState) × Removed (newest second) (newest third) fs d from × StopsTaking T fs third new to.inode fault)))))
-
-pub record StopsReplacing (T : Types) (fs : ℕ) (old new : StoreState) (d : ℕ) (from to : Slot) (fault : FfsFault) : Type 0 where
-  pub other : from ≢ to
-  pub same : from.inode ≡ to.inode → StopsRemoving T fs old new d from fault
-  pub another : from.inode ≢ to.inode → StopsTurning T fs old new d from to fault
-
-abbrev pub Replaces : Types → ℕ → ℕ → List ℕ → ℕ → List ℕ → StoreState → StoreState → Result (Unit {0}) FfsFault → Type 0
-Replaces T fs d name other other_name old new result =
-    Answers (replace_in (newest old) fs d name other other_name) (λ entries _. Replaced old new fs d entries.0 other entries.1)
-    (λ entries fault. StopsReplacing T fs old new d entries.0 entries.1 fault) old new result
+  pub same : from ≢ to → from.inode ≡ to.inode →
+      Unnames (newest old) (newest new) fs d from.inode × OnErr result (KeptOrEmptied (newest old) (newest new) fs from.inode)
+  pub another : from.inode ≢ to.inode →
+      ReplacedInodes (newest old) (newest new) fs d from other to × OnErr result (KeptOrEmptied (newest old) (newest new) fs to.inode)

@@ -6,11 +6,11 @@
 --     stages_of                  the stages of a call whose look-ups pass
 --     Does                       what a call answers and leaves
 --     link_stages                where a link is taken
---     removed_stages, created_stages, renamed_stages    of `unlink` and `rmdir`; of `create` and `mkdir`; of `rename`
+--     removed_stages, created_stages, renamed_stages, replaced_stages    of `unlink` and `rmdir`; of `create` and `mkdir`; of `rename`; of `replace`
 --     Unnames, KeptOrEmptied     what the files don't say of the inodes where a name is taken; what a refusal leaves of the inode that was named
 --     Makes, OnlyMade            what the files don't say of the inodes where one is made; all but that one are as before
 use Rattle.std.specs.Prelude.{◌≡◌, ◌≢◌, ℕ, ◌+◌, ◌-◌, ◌<◌, ◌⊎◌, nat_le, nat_lt, List, [], ◌∷◌, ◌++◌, length, take, replicate, None, Some, Result, Ok, Err, true}
-use Rattle.std.specs.Prelude.{MatchResult, if◌then◌else◌}
+use Rattle.std.specs.Prelude.{MatchResult, ◌==◌, if◌then◌else◌}
 use Rattle.std.specs.Option.{ok_or}
 use Rattle.xn_model.specs.Root.{word_at}
 use Rattle.xn_model.specs.Types.{Types}
@@ -19,8 +19,8 @@ use Rattle.ffs_model.specs.Library.{inode_links}
 use Rattle.ffs_format.specs.Fields.{direct_in}
 use Rattle.ffs_lookup.specs.declared.fault.FfsFault.{FfsFault}
 use Rattle.ffs_lookup.specs.declared.fault.FfsFault.TheVariants.{NoEntry, TooLarge}
-use Rattle.ffs_lookup.specs.Files.{Answer, Blocks, Directory, File, Files, InodeValue, both_directories, created, directory_of, entry_named, look_up, room}
-use Rattle.ffs_lookup.specs.Files.{with_block, with_entry, with_value}
+use Rattle.ffs_lookup.specs.Files.{Answer, Blocks, Directory, File, Files, InodeValue, both_directories, created, directory_of, entry_named, is_same, look_up, room}
+use Rattle.ffs_lookup.specs.Files.{with_block, with_entry, with_value, without_link}
 use Rattle.ffs_lookup.specs.FileValues.{files_of, place_in}
 use Rattle.ffs_lookup.specs.Newest.{and_then, byte_of, directory_in, inode_in, is_short, listing}
 use Rattle.ffs_lib.specs.Results.{IsAs, IsExtended, OthersSame, SameContents, SameOrNew, new_inode}
@@ -122,6 +122,26 @@ found_stages files d name other new_name both =
 -- `rename`
 abbrev pub renamed_stages : Files → ℕ → List ℕ → ℕ → List ℕ → Stages
 renamed_stages files d name other new_name = stages_of (both_directories files d name other new_name) (found_stages files d name other new_name)
+
+-- A link more of the inode that the first entry names; the second entry names it, too; the first is cleared, and that link taken; then a link of the former one.
+abbrev pub turned_stages : Files → ℕ → (ℕ × ℕ) × ℕ → ℕ → List ℕ → (ℕ × ℕ) × ℕ → Stages
+turned_stages files d from other other_name to =
+    let linked = with_link files from.1 in
+    let named = with_entry linked other to.0 (Some (other_name, from.1)) in
+    let left = with_entry named d from.0 None in
+    (files, OfInode from.1) ∷ (linked, OfEntry other to.0.0) ∷ (named, OfEntry d from.0.0)
+    ∷ (link_stages left from.1 ++ link_stages (without_link left from.1) to.1)
+
+-- onto itself nothing is asked
+abbrev pub over_stages : Files → ℕ → (ℕ × ℕ) × ℕ → ℕ → List ℕ → (ℕ × ℕ) × ℕ → Stages
+over_stages files d from other other_name to =
+    if is_same d from other to then [] else if from.1 == to.1 then cleared_stages files d from else turned_stages files d from other other_name to
+
+-- `replace`
+abbrev pub replaced_stages : Files → ℕ → List ℕ → ℕ → List ℕ → Stages
+replaced_stages files d name other other_name =
+    stages_of (both_directories files d name other other_name) (λ both. stages_of (ok_or (look_up name both.0.1) NoEntry) (λ from.
+    stages_of (ok_or (look_up other_name both.1.1) NoEntry) (over_stages files d from other other_name)))
 
 -- What the files don't say of the inodes
 

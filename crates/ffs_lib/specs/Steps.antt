@@ -263,11 +263,6 @@ StopsUnnaming T fs old new slot fault =
     ((new ≡ old) × Wants T old fs slot.block fault)
     ⊎ ((middle : StoreState) × Clearing (newest old) (newest middle) fs slot × StopsTaking T fs middle new slot.inode fault)
 
-abbrev pub StopsRemoving : Types → ℕ → StoreState → StoreState → ℕ → Slot → FfsFault → Type 0
-StopsRemoving T fs old new d entry fault =
-    ((new ≡ old) × Wants T old fs entry.block fault)
-    ⊎ ((middle : StoreState) × Unlisted (newest old) (newest middle) fs d entry × StopsTaking T fs middle new entry.inode fault)
-
 -- a link was to be added, and then an entry written
 abbrev pub StopsNaming : Types → ℕ → StoreState → StoreState → ℕ → ℕ → FfsFault → Type 0
 StopsNaming T fs old new d n fault =

@@ -9,9 +9,9 @@ ghost use Rattle.ffs_lookup.specs.Files.{Files, created, listed, new_directory, 
 ghost use Rattle.ffs_lookup.specs.FileValues.{files_of};
 ghost use Rattle.ffs_lookup.specs.Repairs.{idle_in, repair_at, repair_in};
 ghost use Rattle.ffs_lib.specs.Reclaiming.{Reclaims};
-ghost use Rattle.ffs_lib.specs.Replacing.{Replaces};
+ghost use Rattle.ffs_lib.specs.Replacing.{Replaced, replace_in};
 ghost use Rattle.ffs_lib.specs.Results.{MovedInodes};
-ghost use Rattle.ffs_lib.specs.Stages.{Does, KeptOrEmptied, Makes, OnlyMade, Unnames, created_stages, removed_stages, renamed_stages};
+ghost use Rattle.ffs_lib.specs.Stages.{Does, KeptOrEmptied, Makes, OnlyMade, Unnames, created_stages, removed_stages, renamed_stages, replaced_stages};
 ghost use Rattle.ffs_lib.specs.Steps.{newest};
 ghost use Rattle.ffs_lib.specs.Values.{ByAnswer, Follows, WritesFirst};
 ghost use Rattle.ffs_lib.specs.Volumes.{NothingPending};
@@ -340,10 +340,12 @@ impl<S: FlushStore + Drop> Session<S> {
     ) -> Result<(), FfsFault>
         ensures types { S.types_of self.new.store ≡ S.types_of self.old.store }
         ensures fs { self.new.fs ≡ self.old.fs }
-        ensures value { Follows (replaced (files_of (newest (S.state_of self.old.store)) self.old.fs) directory name.now other other_name.now)
-            self.old.fs (S.state_of self.old.store) (S.state_of self.new.store) result }
-        ensures answers { Replaces (S.types_of self.old.store) self.old.fs directory name.now other other_name.now
-            (S.state_of self.old.store) (S.state_of self.new.store) result }
+        ensures answers { let files = files_of (newest (S.state_of self.old.store)) self.old.fs in
+            Does (S.types_of self.old.store) self.old.fs (replaced files directory name.now other other_name.now)
+            (replaced_stages files directory name.now other other_name.now) (S.state_of self.old.store) (S.state_of self.new.store) result }
+        ensures inodes { (from to : Slot) →
+            Ok (from, to) ≡ replace_in (newest (S.state_of self.old.store)) self.old.fs directory name.now other other_name.now →
+            Replaced (S.state_of self.old.store) (S.state_of self.new.store) self.old.fs directory from other to result }
     {
         self.volume
             .replace(alloc, &mut self.store, directory, name, other, other_name)

@@ -1,16 +1,16 @@
 // The entry of one file that comes to name another.
 
-ghost use Rattle.std.specs.Prelude.{◌≡◌, ◌≢◌, ◌&&◌, ◌==◌, not, ℕ, Option, None, Some, Ok, IfOk, MatchResult};
+ghost use Rattle.std.specs.Prelude.{◌≡◌, ◌≢◌, ◌&&◌, ◌==◌, not, ℕ, Option, None, Some, Ok, IfOk, MatchResult, OnErr};
 ghost use Rattle.ffs_model.specs.Library.{IsLibrary, inode_links, library_layout};
 ghost use Rattle.ffs_model.specs.Standing.{StayNamed};
 ghost use Rattle.ffs_lookup.specs.Newest.{first_named, mapped, named_in};
 ghost use Rattle.ffs_lookup.specs.Places.{IsDirectory, IsSlot};
 ghost use Rattle.ffs_lookup.specs.declared.places.Slot.{Slot};
-ghost use Rattle.ffs_lib.specs.Replacing.{NamesStand, Replaces, ReplacedInodes, StopsTurning, Turned, directories_in, files_in, pair_of, replace_in};
+ghost use Rattle.ffs_lib.specs.Replacing.{NamesStand, Replaced, ReplacedInodes, Turned, directories_in, files_in, pair_of, replace_in};
 ghost use Rattle.ffs_lookup.specs.Files.{replaced};
 ghost use Rattle.ffs_lookup.specs.FileValues.{files_of};
-ghost use Rattle.ffs_lib.specs.Values.{Follows, Leads};
-ghost use Rattle.ffs_lib.specs.Steps.{Ends, Leaves, MayLose, MayName, Stage, Wants, newest};
+ghost use Rattle.ffs_lib.specs.Stages.{Does, KeptOrEmptied, replaced_stages};
+ghost use Rattle.ffs_lib.specs.Steps.{Ends, MayLose, MayName, Stage, Wants, newest};
 ghost use Rattle.xn_model.specs.Lives.{Lives};
 ghost use Rattle.xn_model.specs.Types.{Types};
 
@@ -115,10 +115,12 @@ impl Volume {
     ) -> Result<(), FfsFault>
         requires { IsVolume (S.types_of store.old) (S.state_of store.old) self.now }
         ensures types { S.types_of store.new ≡ S.types_of store.old }
-        ensures value { Follows (replaced (files_of (newest (S.state_of store.old)) self.now.fs.number) directory name.now other other_name.now)
-            self.now.fs.number (S.state_of store.old) (S.state_of store.new) result }
-        ensures answers { Replaces (S.types_of store.old) self.now.fs.number directory name.now other other_name.now (S.state_of store.old)
-            (S.state_of store.new) result }
+        ensures answers { let files = files_of (newest (S.state_of store.old)) self.now.fs.number in
+            Does (S.types_of store.old) self.now.fs.number (replaced files directory name.now other other_name.now)
+            (replaced_stages files directory name.now other other_name.now) (S.state_of store.old) (S.state_of store.new) result }
+        ensures inodes { (from to : Slot) →
+            Ok (from, to) ≡ replace_in (newest (S.state_of store.old)) self.now.fs.number directory name.now other other_name.now →
+            Replaced (S.state_of store.old) (S.state_of store.new) self.now.fs.number directory from other to result }
         ensures keeps { IsVolume (S.types_of store.old) (S.state_of store.new) self.now }
         ensures stands { (from to : Slot) →
             Ok (from, to) ≡ replace_in (newest (S.state_of store.old)) self.now.fs.number directory name.now other other_name.now →
@@ -152,12 +154,12 @@ impl Volume {
         requires second { IsSlot (S.state_of store.old) self.now.fs.number to }
         requires apart { from.inode ≢ to.inode }
         ensures types { S.types_of store.new ≡ S.types_of store.old }
-        ensures leaves { Leaves (S.types_of store.old) self.now (S.state_of store.new) result
-            (λ done. ReplacedInodes (newest (S.state_of store.old)) (newest (S.state_of store.new)) self.now.fs.number directory from other to
-            × Leads (replaced (files_of (newest (S.state_of store.old)) self.now.fs.number) directory name.now other other_name.now)
-            (newest (S.state_of store.new)) self.now.fs.number done)
-            (StopsTurning (S.types_of store.old) self.now.fs.number (S.state_of store.old) (S.state_of store.new) directory from to) }
-        ensures stands { NamesStand (S.state_of store.old) (S.state_of store.new) from to }
+        ensures leaves { let files = files_of (newest (S.state_of store.old)) self.now.fs.number in
+            IsVolume (S.types_of store.old) (S.state_of store.new) self.now × NamesStand (S.state_of store.old) (S.state_of store.new) from to
+            × Does (S.types_of store.old) self.now.fs.number (replaced files directory name.now other other_name.now)
+            (replaced_stages files directory name.now other other_name.now) (S.state_of store.old) (S.state_of store.new) result
+            × (ReplacedInodes (newest (S.state_of store.old)) (newest (S.state_of store.new)) self.now.fs.number directory from other to
+            × OnErr result (KeptOrEmptied (newest (S.state_of store.old)) (newest (S.state_of store.new)) self.now.fs.number to.inode)) }
     {
         let linked = add_link(alloc, store, self.fs, from.inode)?;
         let turned = self.turn(alloc, store, other, other_name, from.inode, linked)?;

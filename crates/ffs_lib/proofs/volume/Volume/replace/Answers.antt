@@ -1,22 +1,37 @@
-use Rattle.std.proofs.Common.{◌≡◌, ◌∙◌, Ok, eq-eqb, false, refl, rules, subst, sym, true}
+use Rattle.std.proofs.Common.{◌≡◌, ◌∙◌, Ok, refl, rules, subst, sym, true}
 use Rattle.std.specs.Prelude.{◌==◌}
-use Rattle.std.proofs.lemmas.Bool.{ne_eqb}
 use Rattle.ffs_model.specs.Cuts.{latest}
 use Rattle.ffs_lookup.proofs.ForCallers.{same_ok}
 use Rattle.ffs_lookup.specs.declared.places.Slot.{Slot}
-use Rattle.ffs_lookup.specs.Files.{Answer, replaced}
+use Rattle.ffs_lookup.specs.Files.{replaced}
 use Rattle.ffs_lookup.specs.FileValues.{files_of}
-use Rattle.ffs_lib.specs.Values.{Follows, Leads}
-use Rattle.ffs_lib.specs.Replacing.{NamesStand, Replaced, StopsReplacing, StopsTurning, replace_in}
-use Rattle.ffs_lib.specs.Steps.{StopsUnnaming, Unnamed}
+use Rattle.ffs_lib.specs.Replacing.{NamesStand, Replaced, replace_in}
+use Rattle.ffs_lib.specs.Stages.{replaced_stages}
 use Rattle.ffs_lib.specs.Volumes.{edits_of}
-use Rattle.ffs_lib.proofs.Following.{follows_fault, follows_found, replaced_answer, same_leads}
-use Rattle.ffs_lib.proofs.Laws.{answers_ok, match_then, removed, staged, stops_removing}
-use Rattle.ffs_lib.proofs.Replaced.{another_done, at_one_place, another_stops, first_removable, itself_done, other_place, same_done, same_stops}
+use Rattle.ffs_lib.proofs.Laws.{staged}
+use Rattle.ffs_lib.proofs.Replaced.{another_done, at_one_place, itself_done, other_place, same_done}
 use Rattle.ffs_lib.proofs.Replacing.{can_replace}
+use Rattle.ffs_lib.proofs.Staged.{does_fault, unnames}
+use Rattle.ffs_lib.proofs.StagedTurns.{does_by, finds_first, same_does}
 use Rattle.ffs_lib.proofs.Tops.{never}
 use Rattle.ffs_lib.proofs.ValueReplaced.{replaced_told}
 use Rattle.ffs_lib.proofs.volume.Volume.replace.Goals as goal
+
+pub returns-in_err-from-clause-answers : goal.returns-in_err-from-clause-answers
+returns-in_err-from-clause-answers g c =
+    let T = g.S.Store.types_of c.args.store.now in
+    let fs = c.args.self.now.fs in
+    let old = g.S.Store.state_of c.args.store.now in
+    let u = latest old.lives in
+    let d = c.args.directory in
+    let name = c.args.name.now in
+    let other = c.args.other in
+    let other_name = c.args.other_name.now in
+    does_fault T fs.number (replace_in u fs.number d name other other_name) (replaced (files_of u fs.number) d name other other_name) (replaced_stages (files_of u fs.number) d name other other_name) old old c.from_residual.result
+    (replaced_told u fs.number d name other other_name) (search rules)
+
+pub returns-in_err-from-clause-inodes : goal.returns-in_err-from-clause-inodes
+returns-in_err-from-clause-inodes g c = λ from to is. absurd (never (from, to) _ (is ∙ sym (c.in_err-from.ensures.exact c.requires.library)))
 
 pub returns-then-is_same_place-clause-answers : goal.returns-then-is_same_place-clause-answers
 returns-then-is_same_place-clause-answers g c =
@@ -25,12 +40,35 @@ returns-then-is_same_place-clause-answers g c =
     let old = g.S.Store.state_of c.args.store.now in
     let u = latest old.lives in
     let d = c.args.directory in
+    let name = c.args.name.now in
     let other = c.args.other in
+    let other_name = c.args.other_name.now in
     let from = c.in_ok-from.from in
     let to = c.in_ok-from.to in
-    let exact = c.in_ok-from.ensures.exact c.requires.library in
-    answers_ok (replace_in u fs.number d c.args.name.now other c.args.other_name.now) (λ entries _. Replaced old old fs.number d entries.0 other entries.1) (λ entries fault. StopsReplacing T fs.number old old d entries.0 entries.1 fault) (Ok tt) (from, to) old old exact
-    (itself_done old fs.number d other from to c.in_ok-from.ensures.first c.in_ok-from.ensures.second (sym c.if-is_same_place.ensures))
+    let lib = c.requires.library in
+    let h = c.requires.keeps.consistent in
+    let exact = c.in_ok-from.ensures.exact lib in
+    let x = can_replace u fs.number d name other other_name from to exact in
+    does_by T lib old h fs.number fs.few d name other other_name from to x true (from.inode == to.inode) (sym c.if-is_same_place.ensures) refl old (Ok tt) (refl, λ n. refl)
+
+pub returns-then-is_same_place-clause-inodes : goal.returns-then-is_same_place-clause-inodes
+returns-then-is_same_place-clause-inodes g c = λ first second is.
+    let T = g.S.Store.types_of c.args.store.now in
+    let fs = c.args.self.now.fs in
+    let old = g.S.Store.state_of c.args.store.now in
+    let u = latest old.lives in
+    let d = c.args.directory in
+    let name = c.args.name.now in
+    let other = c.args.other in
+    let other_name = c.args.other_name.now in
+    let from = c.in_ok-from.from in
+    let to = c.in_ok-from.to in
+    let lib = c.requires.library in
+    let h = c.requires.keeps.consistent in
+    let exact = c.in_ok-from.ensures.exact lib in
+    let x = can_replace u fs.number d name other other_name from to exact in
+    let pair : (from, to) ≡ (first, second) = same_ok (from, to) (first, second) (exact ∙ sym is) in
+    subst (λ (p : Slot × Slot). Replaced old old fs.number d p.0 other p.1 (Ok tt)) pair (itself_done old fs.number d other from to c.in_ok-from.ensures.first c.in_ok-from.ensures.second (sym c.if-is_same_place.ensures))
 
 pub returns-then-from-to-clause-answers : goal.returns-then-from-to-clause-answers
 returns-then-from-to-clause-answers g c =
@@ -39,41 +77,68 @@ returns-then-from-to-clause-answers g c =
     let old = g.S.Store.state_of c.args.store.now in
     let u = latest old.lives in
     let d = c.args.directory in
+    let name = c.args.name.now in
     let other = c.args.other in
+    let other_name = c.args.other_name.now in
     let from = c.in_ok-from.from in
     let to = c.in_ok-from.to in
-    let exact = c.in_ok-from.ensures.exact c.requires.library in
+    let lib = c.requires.library in
+    let h = c.requires.keeps.consistent in
+    let exact = c.in_ok-from.ensures.exact lib in
+    let x = can_replace u fs.number d name other other_name from to exact in
     let new = g.S.Store.state_of c.remove.new.store in
-    let w = latest new.lives in
-    let x = c.remove.ensures.ends T (edits_of c.args.self.now.added) refl (staged c.requires fs.few) refl in
-    let apart = other_place from to (sym c.if-is_same_place.ensures) in
-    let r = first_removable u fs.number d c.args.name.now other c.args.other_name.now from to (can_replace u fs.number d c.args.name.now other c.args.other_name.now from to exact) in
-    answers_ok (replace_in u fs.number d c.args.name.now other c.args.other_name.now) (λ entries _. Replaced old new fs.number d entries.0 other entries.1) (λ entries fault. StopsReplacing T fs.number old new d entries.0 entries.1 fault) c.remove.result (from, to) old new exact
-    (match_then (λ _. Unnamed u w fs.number from) (λ _. Replaced old new fs.number d from other to) (StopsUnnaming T fs.number old new from) (StopsReplacing T fs.number old new d from to) c.remove.result
-    (λ _ y. same_done old new fs.number d other from to apart c.if-from-to.true (removed u y.middle fs.number d from r y.cleared w y.took))
-    (λ fault y. same_stops T fs.number old new d from to apart c.if-from-to.true fault (stops_removing T fs.number old new d from r.own r.is r.has fault y)) x.1)
+    let one = c.if-from-to.true in
+    let b = c.remove.ensures.ends T (edits_of c.args.self.now.added) refl (staged c.requires fs.few) refl in
+    same_does T lib old h fs.number fs.few d name other other_name from to x (sym c.if-is_same_place.ensures) one new b.0.keeps.consistent c.remove.result b.1
+
+pub returns-then-from-to-clause-inodes : goal.returns-then-from-to-clause-inodes
+returns-then-from-to-clause-inodes g c = λ first second is.
+    let T = g.S.Store.types_of c.args.store.now in
+    let fs = c.args.self.now.fs in
+    let old = g.S.Store.state_of c.args.store.now in
+    let u = latest old.lives in
+    let d = c.args.directory in
+    let name = c.args.name.now in
+    let other = c.args.other in
+    let other_name = c.args.other_name.now in
+    let from = c.in_ok-from.from in
+    let to = c.in_ok-from.to in
+    let lib = c.requires.library in
+    let h = c.requires.keeps.consistent in
+    let exact = c.in_ok-from.ensures.exact lib in
+    let x = can_replace u fs.number d name other other_name from to exact in
+    let pair : (from, to) ≡ (first, second) = same_ok (from, to) (first, second) (exact ∙ sym is) in
+    let new = g.S.Store.state_of c.remove.new.store in
+    let one = c.if-from-to.true in
+    let b = c.remove.ensures.ends T (edits_of c.args.self.now.added) refl (staged c.requires fs.few) refl in
+    let f = finds_first T lib old h fs.number fs.few d name other other_name from to x in
+    subst (λ (p : Slot × Slot). Replaced old new fs.number d p.0 other p.1 c.remove.result) pair
+    (same_done old new fs.number d other from to c.remove.result (other_place from to (sym c.if-is_same_place.ensures)) one (unnames T lib fs.number fs.few d name from old new f b.0.keeps.consistent c.remove.result b.1))
 
 pub returns-then-from-to-clause-keeps : goal.returns-then-from-to-clause-keeps
 returns-then-from-to-clause-keeps g c =
     let x = c.remove.ensures.ends (g.S.Store.types_of c.args.store.now) (edits_of c.args.self.now.added) refl (staged c.requires c.args.self.now.fs.few) refl in
     record { library = c.requires.library; keeps = x.0.keeps }
 
-pub returns-clause-answers : goal.returns-clause-answers
-returns-clause-answers g c =
+pub returns-clause-inodes : goal.returns-clause-inodes
+returns-clause-inodes g c = λ first second is.
     let T = g.S.Store.types_of c.args.store.now in
     let fs = c.args.self.now.fs in
     let old = g.S.Store.state_of c.args.store.now in
     let u = latest old.lives in
     let d = c.args.directory in
+    let name = c.args.name.now in
     let other = c.args.other in
+    let other_name = c.args.other_name.now in
     let from = c.in_ok-from.from in
     let to = c.in_ok-from.to in
-    let exact = c.in_ok-from.ensures.exact c.requires.library in
+    let lib = c.requires.library in
+    let h = c.requires.keeps.consistent in
+    let exact = c.in_ok-from.ensures.exact lib in
+    let x = can_replace u fs.number d name other other_name from to exact in
+    let pair : (from, to) ≡ (first, second) = same_ok (from, to) (first, second) (exact ∙ sym is) in
     let new = g.S.Store.state_of c.name_over.new.store in
-    let apart = c.if-from-to.false in
-    answers_ok (replace_in u fs.number d c.args.name.now other c.args.other_name.now) (λ entries _. Replaced old new fs.number d entries.0 other entries.1) (λ entries fault. StopsReplacing T fs.number old new d entries.0 entries.1 fault) c.name_over.result (from, to) old new exact
-    (match_then _ (λ _. Replaced old new fs.number d from other to) (StopsTurning T fs.number old new d from to) (StopsReplacing T fs.number old new d from to) c.name_over.result
-    (λ _ y. another_done old new fs.number d other from to apart y.0) (λ fault y. another_stops T fs.number old new d from to apart fault y) c.name_over.ensures.leaves.1)
+    subst (λ (p : Slot × Slot). Replaced old new fs.number d p.0 other p.1 c.name_over.result) pair (another_done old new fs.number d other from to c.name_over.result c.if-from-to.false c.name_over.ensures.leaves.3)
 
 pub returns-in_err-from-clause-stands : goal.returns-in_err-from-clause-stands
 returns-in_err-from-clause-stands g c = λ from to is apart. absurd (never (from, to) _ (is ∙ sym (c.in_err-from.ensures.exact c.requires.library)))
@@ -94,79 +159,4 @@ pub returns-clause-stands : goal.returns-clause-stands
 returns-clause-stands g c = λ from to is apart.
     let old = g.S.Store.state_of c.args.store.now in
     let pair : (c.in_ok-from.from, c.in_ok-from.to) ≡ (from, to) = same_ok (c.in_ok-from.from, c.in_ok-from.to) (from, to) (c.in_ok-from.ensures.exact c.requires.library ∙ sym is) in
-    subst (λ (p : Slot × Slot). NamesStand old (g.S.Store.state_of c.name_over.new.store) p.0 p.1) pair c.name_over.ensures.stands
-
-pub returns-in_err-from-clause-value : goal.returns-in_err-from-clause-value
-returns-in_err-from-clause-value g c =
-    let T = g.S.Store.types_of c.args.store.now in
-    let fs = c.args.self.now.fs in
-    let old = g.S.Store.state_of c.args.store.now in
-    let u = latest old.lives in
-    let d = c.args.directory in
-    let name = c.args.name.now in
-    let other = c.args.other in
-    let other_name = c.args.other_name.now in
-    follows_fault (replace_in u fs.number d name other other_name) (replaced (files_of u fs.number) d name other other_name) (λ entries fault. StopsReplacing T fs.number old old d entries.0 entries.1 fault) fs.number old old c.from_residual.result
-    (replaced_told u fs.number d name other other_name) (search rules)
-
-pub returns-then-is_same_place-clause-value : goal.returns-then-is_same_place-clause-value
-returns-then-is_same_place-clause-value g c =
-    let T = g.S.Store.types_of c.args.store.now in
-    let fs = c.args.self.now.fs in
-    let old = g.S.Store.state_of c.args.store.now in
-    let u = latest old.lives in
-    let d = c.args.directory in
-    let name = c.args.name.now in
-    let other = c.args.other in
-    let other_name = c.args.other_name.now in
-    let from = c.in_ok-from.from in
-    let to = c.in_ok-from.to in
-    let lib = c.requires.library in
-    let h = c.requires.keeps.consistent in
-    let x = can_replace u fs.number d name other other_name from to (c.in_ok-from.ensures.exact lib) in
-    let answer = replaced_answer T lib old h fs.number fs.few d name other other_name from to x true (from.inode == to.inode) (sym c.if-is_same_place.ensures) refl in
-    subst (λ (a : Answer (Unit {0})). Follows a fs.number old old (Ok tt)) (sym answer) (refl, λ n. refl)
-
-pub returns-then-from-to-clause-value : goal.returns-then-from-to-clause-value
-returns-then-from-to-clause-value g c =
-    let T = g.S.Store.types_of c.args.store.now in
-    let fs = c.args.self.now.fs in
-    let old = g.S.Store.state_of c.args.store.now in
-    let u = latest old.lives in
-    let d = c.args.directory in
-    let name = c.args.name.now in
-    let other = c.args.other in
-    let other_name = c.args.other_name.now in
-    let from = c.in_ok-from.from in
-    let to = c.in_ok-from.to in
-    let lib = c.requires.library in
-    let h = c.requires.keeps.consistent in
-    let x = can_replace u fs.number d name other other_name from to (c.in_ok-from.ensures.exact lib) in
-    let new = g.S.Store.state_of c.remove.new.store in
-    let w = latest new.lives in
-    let one = c.if-from-to.true in
-    let r = first_removable u fs.number d name other other_name from to x in
-    let b = c.remove.ensures.ends T (edits_of c.args.self.now.added) refl (staged c.requires fs.few) refl in
-    let answer = replaced_answer T lib old h fs.number fs.few d name other other_name from to x false true (sym c.if-is_same_place.ensures) (eq-eqb from.inode to.inode one) in
-    follows_found (replaced (files_of u fs.number) d name other other_name) _ (λ _. Unnamed u w fs.number from) (StopsUnnaming T fs.number old new from) fs.number old new c.remove.result answer
-    (λ y k. same_leads T lib old h fs.number fs.few d name other other_name from to x one w (removed u k.middle fs.number d from r k.cleared w k.took) y) b.1
-
-pub returns-clause-value : goal.returns-clause-value
-returns-clause-value g c =
-    let T = g.S.Store.types_of c.args.store.now in
-    let fs = c.args.self.now.fs in
-    let old = g.S.Store.state_of c.args.store.now in
-    let u = latest old.lives in
-    let d = c.args.directory in
-    let name = c.args.name.now in
-    let other = c.args.other in
-    let other_name = c.args.other_name.now in
-    let from = c.in_ok-from.from in
-    let to = c.in_ok-from.to in
-    let lib = c.requires.library in
-    let h = c.requires.keeps.consistent in
-    let x = can_replace u fs.number d name other other_name from to (c.in_ok-from.ensures.exact lib) in
-    let new = g.S.Store.state_of c.name_over.new.store in
-    let answer = replaced_answer T lib old h fs.number fs.few d name other other_name from to x false false (sym c.if-is_same_place.ensures) (ne_eqb from.inode to.inode c.if-from-to.false) in
-    follows_found (replaced (files_of u fs.number) d name other other_name) _ _ (StopsTurning T fs.number old new d from to) fs.number old new c.name_over.result answer
-    (λ y k. subst (λ (a : Answer (Unit {0})). Leads a (latest new.lives) fs.number y) answer k.1) c.name_over.ensures.leaves.1
+    subst (λ (p : Slot × Slot). NamesStand old (g.S.Store.state_of c.name_over.new.store) p.0 p.1) pair c.name_over.ensures.leaves.1
