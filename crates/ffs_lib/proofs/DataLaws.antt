@@ -31,7 +31,7 @@ use Rattle.ffs_lib.proofs.Laws.{can_edit, gives_of, home_of}
 use Rattle.ffs_lib.proofs.Owners.{Stands, block_at, direct_block, pointers_at, stands_from, where_block}
 use Rattle.ffs_lib.proofs.Same.{Touches, begun, begun_some, block_same, none_touched, reached_before, same_on}
 use Rattle.ffs_lib.proofs.Short.{begun_addable}
-use Rattle.ffs_lib.proofs.Undoing.{left_next, undone_same}
+use Rattle.ffs_lib.proofs.Undoing.{attach_undone, left_next, undone_same}
 use Rattle.ffs_lib.proofs.Writing.{block_written, data_attached, data_written, direct_attached, file_from, file_now, file_others, file_same, indirect_block, no_pointers, pointers_attached, size_raised, wrote_none, written_none, written_same}
 
 -- Bytes that stay, and one write after another
@@ -190,7 +190,7 @@ module _ (T : Types) (fs : ℕ) (array : ℕ → Option ℕ) (zeroth first : Sto
       ty = ty;
       bytes = bytes;
       kind = kind;
-      told = inr (record { block = block; number = number; first = first; begun = done; forgotten = left; wants = wants });
+      told = attach_undone T fs zeroth first new ty bytes block number owner done left fault wants;
     });
   }
 

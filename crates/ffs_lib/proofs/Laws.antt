@@ -41,6 +41,7 @@ use Rattle.ffs_lib.proofs.Owners.{stands_from}
 use Rattle.ffs_lib.proofs.Same.{edited, inodes_same, pointers_touched, same_on}
 use Rattle.ffs_lib.proofs.Rooms.{room_by}
 use Rattle.ffs_lib.proofs.Short.{free_pairs, freed_short, kept_short, pairs_kept, slot_short}
+use Rattle.ffs_lib.proofs.Undoing.{at_ok}
 
 -- Results
 
@@ -368,7 +369,8 @@ less_of u w fs n t many = (
 -- a block was begun, and forgotten last
 pub undoes : (T : Types) (fs : ℕ) (old first new : StoreState) (block number : ℕ) (given bytes : List ℕ) → given ≡ bytes → Gives (init_of T old fs 4 given) old first (Ok (block, number)) → LastForgets T fs block new → Undoes T fs old new 4 bytes
 undoes T fs old first new block number given bytes same gives last =
-    inr (block, number, first, ap (λ (m : List ℕ). init_of T old fs 4 m) (sym same) ∙ gives_ok (init_of T old fs 4 given) old first (block, number) gives, last)
+    inr (at_ok (init_of T old fs 4 bytes) ((block, number), first) (λ made. LastForgets T fs made.0.0 new)
+    (sym (ap (λ (m : List ℕ). init_of T old fs 4 m) (sym same) ∙ gives_ok (init_of T old fs 4 given) old first (block, number) gives)) last)
 
 -- What is left where a link could not be taken
 

@@ -44,6 +44,7 @@ pub mod ValueLists
 pub mod ValueSame
 pub mod ValueMade
 pub mod ValueSteps
+pub mod ValueRepairs
 pub mod ValueVolume
 pub mod ValueMoved
 pub mod ValueReplaced
@@ -53,3 +54,4 @@ pub mod Staged
 pub mod StagedNew
 pub mod StagedMoves
 pub mod StagedTurns
+pub mod StagedRepairs

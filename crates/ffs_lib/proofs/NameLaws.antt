@@ -19,14 +19,14 @@ use Rattle.ffs_lookup.specs.declared.places.Found.{Found}
 use Rattle.ffs_lookup.specs.declared.fault.FfsFault.{FfsFault}
 use Rattle.ffs_lookup.specs.declared.fault.FfsFault.TheVariants.{NoEntry}
 use Rattle.ffs_lookup.specs.declared.places.Free.{Free}
-use Rattle.ffs_lookup.specs.Newest.{IsLowest, directory_in, has_free_at, has_room, inode_in, number_from, room_in, root_in}
+use Rattle.ffs_lookup.specs.Newest.{IsLowest, directory_in, has_free_at, has_room, inode_block_in, inode_in, number_from, room_in, root_in}
 use Rattle.ffs_lookup.specs.declared.places.Room.TheVariants.{Entry, Pointer}
 use Rattle.ffs_lookup.specs.Places.{IsDirectory, IsEmptyPointer, IsFree, IsGap}
 use Rattle.ffs_lookup.proofs.ForCallers.{directory_is, find_none, free_mode, in_directory, root_again, same_ok}
 use Rattle.ffs_lib.specs.Edits.{edit_at}
 use Rattle.ffs_lib.specs.Outcomes.{HasFreePointer, IsAdded, IsGrown, IsMade}
 use Rattle.ffs_lib.specs.Results.{HasMore, IsLowestNumber, SameInode, SameOrNew, new_inode}
-use Rattle.ffs_lib.specs.Steps.{Entered, IsEntry, IsHome, MayName, ShortEdit, Stage, StopsEntering, StopsGrowing, Tells, Wants, left_by}
+use Rattle.ffs_lib.specs.Steps.{Entered, IsEntry, IsHome, MayName, ShortEdit, Stage, StopsAtRoom, StopsAttaching, StopsEntering, StopsGrowing, Tells, Wants, left_by}
 use Rattle.ffs_lib.proofs.Edited.{attached, entered, grown, made, same_root}
 use Rattle.ffs_lib.proofs.Entering.{begun_same, block_entered, directory_from, directory_same, gap_entered, inode_put}
 use Rattle.ffs_lib.proofs.Fields.{free_blocks, one_more, same_blocks, zeros_inode}
@@ -35,7 +35,7 @@ use Rattle.ffs_lib.proofs.Linked.{same_room}
 use Rattle.ffs_lib.proofs.Tops.{never}
 use Rattle.ffs_lib.proofs.Owners.{block_from, stands_from}
 use Rattle.ffs_lib.proofs.Same.{Touches, as_same, begun, begun_some, block_same, new_on, none_touched, place_added, place_kept, pointer_touched, root_bytes, root_same, same_on}
-use Rattle.ffs_lib.proofs.Undoing.{undone_same}
+use Rattle.ffs_lib.proofs.Undoing.{at_ok, attach_undone, undone_same}
 use Rattle.ffs_lib.proofs.Short.{attached_short, begun_addable, entry_short, kept_short, pairs_kept, pairs_set, pointer_short}
 
 -- An entry is written into a gap
@@ -61,26 +61,19 @@ module _ (T : Types) (fs : ℕ) (array : ℕ → Option ℕ) (old : StoreState) 
         ),
       )
 
-pub direct_contains : (T : Types) (fs : ℕ) (old : StoreState) (d : ℕ) (found : Found) (inode : List ℕ) → IsDirectory old fs d found → inode ≡ found.inode → (block : ℕ) → Contains (library_layout.direct (latest old.lives found.block) found.place) block → Contains (inode_blocks inode) block
-direct_contains T fs old d found inode dir same block has =
-    subst (λ (i : List ℕ). Contains (inode_blocks i) block) (sym same) (subst (λ (i : List ℕ). Contains (inode_blocks i) block) (sym dir.is.bytes) (subst (λ xs. Contains xs block) (blocks_read (latest old.lives found.block) found.place dir.is.stands.few) has))
-
-pub not_entered : (T : Types) (fs : ℕ) (old new : StoreState) (d : ℕ) (inode : List ℕ) → Ok inode ≡ directory_in (latest old.lives) fs d → new ≡ old → (block : ℕ) → Contains (inode_blocks inode) block → (fault : FfsFault) → Wants T old fs block fault →
-    StopsEntering T fs old new d fault
-not_entered T fs old new d inode dir same block has fault wants = record {
+pub not_entered : (T : Types) (fs : ℕ) (old new : StoreState) (d : ℕ) (inode : List ℕ) → Ok inode ≡ directory_in (latest old.lives) fs d → new ≡ old → (block place : ℕ) → Some (Entry block place) ≡ room_in (latest old.lives) inode → (fault : FfsFault) →
+    Wants T old fs block fault → StopsEntering T fs old new d fault
+not_entered T fs old new d inode dir same block place room fault wants = record {
   same = λ x. subst (λ (s : StoreState). SameInode (latest old.lives) (latest s.lives) fs x) (sym same) (refl, λ i e. (refl, λ at low. refl), λ some few. refl);
-  inode = inode;
-  directory = dir;
-  told = inl (same, block, has, wants);
+  told = at_ok (directory_in (latest old.lives) fs d) inode (λ i. StopsAtRoom T fs old new d fault (room_in (latest old.lives) i)) dir (subst (StopsAtRoom T fs old new d fault) room (same, wants));
 }
 
-pub not_begun : (T : Types) (fs : ℕ) (old new : StoreState) (d : ℕ) (inode : List ℕ) → Ok inode ≡ directory_in (latest old.lives) fs d → new ≡ old → (bytes : List ℕ) (home : ℕ) → IsHome (latest old.lives) fs d home → (fault : FfsFault) → Tells (init_of T old fs 2 bytes) fault →
-    StopsEntering T fs old new d fault
-not_begun T fs old new d inode dir same bytes home at fault told = record {
+pub not_begun : (T : Types) (fs : ℕ) (old new : StoreState) (d : ℕ) (inode : List ℕ) → Ok inode ≡ directory_in (latest old.lives) fs d → new ≡ old → (index : ℕ) → Some (Pointer index) ≡ room_in (latest old.lives) inode → (bytes : List ℕ) (home : ℕ) →
+    IsHome (latest old.lives) fs d home → (fault : FfsFault) → Tells (init_of T old fs 2 bytes) fault → StopsEntering T fs old new d fault
+not_begun T fs old new d inode dir same index room bytes home at fault told = record {
   same = λ x. subst (λ (s : StoreState). SameInode (latest old.lives) (latest s.lives) fs x) (sym same) (refl, λ i e. (refl, λ at low. refl), λ some few. refl);
-  inode = inode;
-  directory = dir;
-  told = inr (bytes, home, at, inl (same, told));
+  told = at_ok (directory_in (latest old.lives) fs d) inode (λ i. StopsAtRoom T fs old new d fault (room_in (latest old.lives) i)) dir (subst (StopsAtRoom T fs old new d fault) room
+      (at_ok (inode_block_in (latest old.lives) fs ((d - 1) / 8)) home (λ owner. (m : List ℕ) × StopsAttaching T fs old new 2 m owner fault) at (bytes, inl (same, told))));
 }
 
 -- A new block with one entry
@@ -118,9 +111,9 @@ module _ (T : Types) (fs : ℕ) (array : ℕ → Option ℕ) (zeroth first : Sto
     pub grow_undone : (new : StoreState) → new ≡ left_by (forget_of T first fs block) first → (fault : FfsFault) → Wants T first fs found.block fault → StopsEntering T fs zeroth new d fault
     grow_undone new left fault wants = record {
       same = λ x. subst (λ (s : StoreState). SameInode (latest zeroth.lives) (latest s.lives) fs x) (sym left) (undone_same T s.library zeroth first s.keeps.consistent fs s.few 2 (put zeros 0 bytes) block number done x);
-      inode = inode;
-      directory = dir;
-      told = inr (put zeros 0 bytes, found.block, home_begun, inr (record { block = block; number = number; first = first; begun = done; forgotten = left; wants = wants }));
+      told = at_ok (directory_in (latest zeroth.lives) fs d) inode (λ i. StopsAtRoom T fs zeroth new d fault (room_in (latest zeroth.lives) i)) dir (subst (StopsAtRoom T fs zeroth new d fault) empty
+          (at_ok (inode_block_in (latest zeroth.lives) fs ((d - 1) / 8)) found.block (λ owner. (m : List ℕ) × StopsAttaching T fs zeroth new 2 m owner fault) home_begun
+          (put zeros 0 bytes, attach_undone T fs zeroth first new 2 (put zeros 0 bytes) block number found.block done left fault wants)));
     }
       where
         home_begun : IsHome (latest zeroth.lives) fs d found.block
@@ -210,9 +203,7 @@ named_once v w fs d n inode dir free others =
 pub not_added : (T : Types) (fs : ℕ) (old new : StoreState) → HasFreePointer (latest old.lives) fs → new ≡ old → (fault : FfsFault) → Tells (init_of T old fs 4 zeros) fault → StopsGrowing T fs old new fault
 not_added T fs old new free same fault told = record {
   same = λ x. subst (λ (s : StoreState). SameInode (latest old.lives) (latest s.lives) fs x) (sym same) (refl, λ i e. (refl, λ at low. refl), λ some few. refl);
-  root = free.root;
-  is_root = free.is_root;
-  told = inl (same, told);
+  told = at_ok (root_in (latest old.lives) fs) free.root (λ root. StopsAttaching T fs old new 4 zeros root fault) free.is_root (inl (same, told));
 }
 
 no_mode : (p : ℕ) → p < 8 → inode_mode (inode_at zeros p) ≡ 0
@@ -255,9 +246,8 @@ module _ (T : Types) (fs : ℕ) (array : ℕ → Option ℕ) (zeroth first : Sto
     pub point_undone : (new : StoreState) → new ≡ left_by (forget_of T first fs block) first → (fault : FfsFault) → Wants T first fs root fault → StopsGrowing T fs zeroth new fault
     point_undone new left fault wants = record {
       same = λ x. subst (λ (m : StoreState). SameInode (latest zeroth.lives) (latest m.lives) fs x) (sym left) (undone_same T s.library zeroth first s.keeps.consistent fs s.few 4 zeros block number done x);
-      root = root;
-      is_root = root_again (latest first.lives) fs root is_root ∙ root_same T s.library (latest zeroth.lives) (latest first.lives) fs block 6 touched;
-      told = inr (record { block = block; number = number; first = first; begun = done; forgotten = left; wants = wants });
+      told = at_ok (root_in (latest zeroth.lives) fs) root (λ r. StopsAttaching T fs zeroth new 4 zeros r fault)
+          (root_again (latest first.lives) fs root is_root ∙ root_same T s.library (latest zeroth.lives) (latest first.lives) fs block 6 touched) (attach_undone T fs zeroth first new 4 zeros block number root done left fault wants);
     }
 
     pub points : (second : StoreState) (entry : ℕ) → propose_of T first fs root (edit_at (4 * index) (to_le_bytes w32 block) ((block, 4) ∷ []) [] None) ≡ Ok (entry, second) →

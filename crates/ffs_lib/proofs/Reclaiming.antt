@@ -1,6 +1,7 @@
 -- What the edits of `reclaim` leave, and how they come together.
 use Rattle.std.proofs.Common.{◌≡◌, ◌≢◌, ℕ, ◌+◌, ◌-◌, ◌*◌, ◌/◌, ◌%◌, ◌<◌, ◌≤◌, ◌⊎◌, List, [], length, replicate, Option, None, Result, Ok, Err, Bool, refl, sym, ◌∙◌, ap, arith, subst, inl, inr}
-use Rattle.std.specs.Prelude.{IsErrAnd, MatchResult, if◌then◌else◌}
+use Rattle.std.specs.Prelude.{IsErrAnd, flat_map, if◌then◌else◌}
+use Rattle.std.specs.List.{range_with_len}
 use Rattle.std.proofs.lemmas.Bool.{cases_eq, cases_lt, ne_eqb}
 use Rattle.std.proofs.lemmas.Result.{err_from_is_err_and}
 use Rattle.xn_model.specs.Types.{Types}
@@ -22,40 +23,39 @@ use Rattle.ffs_lookup.specs.declared.repairs.Repair.{Repair}
 use Rattle.ffs_lookup.specs.declared.repairs.Repair.TheVariants.{Keep, GiveUp, SetLinks}
 use Rattle.ffs_lookup.specs.Newest.{inode_in}
 use Rattle.ffs_lookup.specs.Counts.{names_count}
-use Rattle.ffs_lookup.specs.declared.repairs.Repairs.{Repairs}
 use Rattle.ffs_lookup.specs.Repairs.{idle_in, repair_in}
 use Rattle.ffs_lookup.specs.Places.{IsFound}
 use Rattle.ffs_lookup.proofs.ForCallers.{given_up, links_set, same_ok, unnumbered_repair}
 use Rattle.ffs_lib.specs.Edits.{data_of_inode, data_of_pointers, edit_at}
 use Rattle.ffs_lib.specs.Outcomes.{HasNoData}
-use Rattle.ffs_lookup.specs.FileValues.{place_in}
-use Rattle.ffs_lib.specs.Results.{AsBefore, IsLinked, OnlyChanges, SameInode}
-use Rattle.ffs_lib.specs.Steps.{Answers, Ends, IsHome, ShortEdit, Stage, Stops, Tells, Wants}
-use Rattle.ffs_lib.specs.Reclaiming.{Emptied, InMiddle, MayRepair, PointersEmptied, ReclaimedAll, Reclaims, Repaired, RepairedOne, StopsReclaiming, StopsRepairing, emptying}
+use Rattle.ffs_lookup.specs.FileValues.{files_of}
+use Rattle.ffs_lib.specs.Results.{IsLinked, OnlyChanges, SameInode}
+use Rattle.ffs_lib.specs.Steps.{Ends, IsHome, ShortEdit, Stage, Stops, Tells, Wants}
+use Rattle.ffs_lib.specs.Reclaiming.{Emptied, InMiddle, MayRepair, PointersEmptied, Repaired, RepairedOne, StopsRepairing, emptying, needs, repaired_below, stages_at}
 use Rattle.ffs_lib.proofs.Dropping.{cleared_owns, no_pairs, put_whole}
 use Rattle.ffs_lib.proofs.Edited.{pointers_reached}
-use Rattle.ffs_lib.proofs.Entering.{home_bytes, home_touched, inode_gone, inode_put, others_put, place_put}
+use Rattle.ffs_lib.proofs.Entering.{inode_gone, inode_put, others_put, place_put}
 use Rattle.ffs_lib.proofs.Fields.{free_blocks, free_mode, same_blocks}
 use Rattle.ffs_lib.proofs.Laws.{can_edit, fails}
-use Rattle.ffs_lib.proofs.Moving.{relinked, same_as}
+use Rattle.ffs_lib.proofs.Moving.{relinked}
 use Rattle.ffs_lib.proofs.NameCounts.{names_within}
 use Rattle.ffs_lib.proofs.Owners.{stands_from}
 use Rattle.ffs_lib.proofs.Rooms.{room_by}
-use Rattle.ffs_lib.proofs.Same.{edited, inode_bytes, inodes_same, place_same, pointers_touched, same_on}
+use Rattle.ffs_lib.proofs.Same.{edited, inodes_same, pointers_touched, same_on}
 use Rattle.ffs_lib.proofs.Short.{free_pairs, freed_short}
+use Rattle.ffs_lib.proofs.ValueRepairs.{both_none, need_is, none_kept, stages_more}
+
+-- What needs something is not kept
+
+pub set_no_keep : (links : ℕ) → SetLinks links ≡ Keep → ⊥
+set_no_keep links z = cc
+
+pub give_no_keep : GiveUp ≡ Keep → ⊥
+give_no_keep z = cc
 
 -- The places of inodes
 
 module _ (T : Types) (fs : ℕ) (array : ℕ → Option ℕ) (old : StoreState) (s : Stage T fs array old) (n : ℕ) (found : Found) (is : IsFound old fs n found) (exact : Ok found.inode ≡ inode_in (latest old.lives) fs n) where
-  -- the places of other inodes in the block of one that is written
-  places_put : (new : StoreState) (bytes : List ℕ) (whole : length bytes ≡ 64) (drops : List ℕ) (entry : ℕ) → propose_of T old fs found.block (edit_at (64 * found.place) bytes [] drops None) ≡ Ok (entry, new) →
-      (i : ℕ) → i ≢ 0 → i ≤ 128 → i ≢ n → place_in (latest new.lives) fs i ≡ place_in (latest old.lives) fs i
-  places_put new bytes whole drops entry done i some low ne =
-      let t = home_touched T s.library old new s.keeps.consistent fs s.few n found.block found.place is.stands bytes whole [] drops None entry done in
-      let here = home_bytes T s.library old new s.keeps.consistent fs s.few n found.block found.place is.stands bytes whole [] drops None entry done in
-      place_same T s.library (latest old.lives) (latest new.lives) fs found.block 4 t (λ z. absurd (omega (arith, z))) i low
-      (λ b at. inode_bytes T s.library old s.keeps.consistent fs s.few (latest new.lives) found.block 4 t refl n found.place bytes is.stands whole here i ne b some low at)
-
   -- Links are set
 
   module _ (bytes : List ℕ) (whole : length bytes ≡ 64) (links : ℕ) (set : fields_of bytes ≡ record (fields_of found.inode) { links = links }) (less : links ≤ inode_links found.inode)
@@ -84,7 +84,7 @@ module _ (T : Types) (fs : ℕ) (array : ℕ → Option ℕ) (old : StoreState) 
           record {
             repaired = λ inode i. let x = kept inode i in (x, ap inode_links (same_ok x.after bytes (x.found ∙ p.0)) ∙ now);
             others = p.1;
-            places = places_put new bytes whole [] entry done;
+            nothing = λ z. absurd (set_no_keep links z);
             spares = λ i q some ne x. spare_by_taken T library_layout reads fs s.few array old new s.keeps found.block edit entry done n is.stands.some is.stands.inodes spared taken i some ne None q x;
           },
         )
@@ -121,7 +121,7 @@ module _ (T : Types) (fs : ℕ) (array : ℕ → Option ℕ) (old : StoreState) 
               place_put T lib old new h fs s.few n found.block found.place is.stands bytes whole [] drops None entry done ∙ ap (λ (b : List ℕ). Ok b) free,
             );
             others = others_put T lib old new h fs s.few n found.block found.place is.stands bytes whole [] drops None entry done;
-            places = places_put new bytes whole drops entry done;
+            nothing = λ z. absurd (give_no_keep z);
             spares = λ i q some ne x. spare_by_freed T library_layout reads fs s.few array old new s.keeps found.block edit entry done n is.stands.some is.stands.inodes freed i some ne None q x;
           },
         )
@@ -132,7 +132,6 @@ pub record EmptiedData (T : Types) (fs : ℕ) (array : ℕ → Option ℕ) (old 
   pub stage : Stage T fs array new
   pub same : Ok inode ≡ inode_in (latest new.lives) fs n
   pub others : OnlyChanges (latest old.lives) (latest new.lives) fs n
-  pub places : (i : ℕ) → i ≤ 128 → place_in (latest new.lives) fs i ≡ place_in (latest old.lives) fs i
   pub spares : (i m : ℕ) → i ≢ 0 → KeepsNumber library_layout old.lives fs None m i → KeepsNumber library_layout new.lives fs None m i
   pub none : HasNoData T (latest new.lives) inode
   pub left : (new ≡ old) ⊎ PointersEmptied (latest old.lives) (latest new.lives) inode
@@ -150,7 +149,7 @@ module _ (T : Types) (fs : ℕ) (array : ℕ → Option ℕ) (old : StoreState) 
         | inl z ↦ absurd (there (points ∙ z))
         | inr z ↦ ap (λ b. T.owned 5 (latest old.lives b)) points ∙ s.library.indirect (latest old.lives block) ∙ no_pairs (pointed (pointer_word (latest old.lives block)) 128 2) (ap length z)
       ] in
-      let first : EmptiedData T fs array old old n found.inode = record { stage = s; same = exact; others = λ d ne. (refl, λ inode i. (refl, λ at low. refl), λ some few. refl); places = λ i low. refl; spares = λ i m some k. k; none = bare; left = inl refl } in
+      let first : EmptiedData T fs array old old n found.inode = record { stage = s; same = exact; others = λ d ne. (refl, λ inode i. (refl, λ at low. refl), λ some few. refl); spares = λ i m some k. k; none = bare; left = inl refl } in
       subst (λ (m : StoreState). EmptiedData T fs array old m n found.inode) (sym x.0) first
   empties new (inr x) =
       let h = s.keeps.consistent in
@@ -170,9 +169,6 @@ module _ (T : Types) (fs : ℕ) (array : ℕ → Option ℕ) (old : StoreState) 
         };
         same = exact ∙ sym (inodes_same T lib (latest old.lives) (latest new.lives) fs block 5 t (λ z. omega (arith, z)) (λ z. omega (arith, z)) n);
         others = pointers_touched T lib old h fs s.few (latest new.lives) block 5 t refl n found.inode (stands_from (latest old.lives) fs n found.inode exact) points there;
-        places = λ i low. place_same T lib (latest old.lives) (latest new.lives) fs block 5 t (λ z. absurd (omega (arith, z))) i low (λ b r.
-            let under = under_inodes T library_layout reads (latest old.lives) fs ((i - 1) / 8) b r in
-            ap (λ m. inode_at m ((i - 1) % 8)) (t.others b 4 under (t.apart b 4 under (λ z. absurd (omega (arith, z))))));
         spares = λ i m some k. other_number T library_layout reads fs s.few array old s.keeps block new edit e done 5 i (λ z. absurd (omega (arith, z))) (λ z. absurd (omega (arith, z))) (λ z. absurd (omega (arith, z))) at some None m k;
         none = λ ne. ap (λ b. T.owned 5 (latest new.lives b)) points ∙ ap (T.owned 5) (proposed_here T old new h fs block edit e done) ∙ cleared_owns T lib (latest old.lives block) x.1;
         left = inr (record {
@@ -197,15 +193,16 @@ pub given_up_then : (T : Types) (fs : ℕ) (array : ℕ → Option ℕ) (old fir
 given_up_then T fs array old first new n inode k r = record {
   repaired = r.repaired;
   others = λ d ne. same_on (latest old.lives) (latest first.lives) (latest new.lives) fs d (k.others d ne) (r.others d ne);
-  places = λ i some low ne. r.places i some low ne ∙ k.places i low;
+  nothing = λ z. absurd (give_no_keep z);
   spares = λ i m some ne x. r.spares i m some ne (k.spares i m some x);
 }
 
 -- What is left where an inode could not be repaired
 
-pub nothing_repaired : (T : Types) (fs : ℕ) (old new : StoreState) (n : ℕ) (repair : Repair) (inode : List ℕ) → Ok inode ≡ inode_in (latest old.lives) fs n → new ≡ old → (block : ℕ) → IsHome (latest old.lives) fs n block ⊎ (block ≡ word_at inode 56) →
+pub nothing_repaired : (T : Types) (fs : ℕ) (old new : StoreState) (n : ℕ) (repair : Repair) → repair ≢ Keep → (inode : List ℕ) → Ok inode ≡ inode_in (latest old.lives) fs n → new ≡ old → (block : ℕ) → IsHome (latest old.lives) fs n block ⊎ (block ≡ word_at inode 56) →
     (fault : FfsFault) → Wants T old fs block fault → StopsRepairing T fs old new n repair fault
-nothing_repaired T fs old new n repair inode is same block of fault wants = subst (λ (s : StoreState). StopsRepairing T fs old s n repair fault) (sym same) (record {
+nothing_repaired T fs old new n repair needed inode is same block of fault wants = subst (λ (s : StoreState). StopsRepairing T fs old s n repair fault) (sym same) (record {
+  needed = needed;
   others = λ d ne. (refl, λ x i. (refl, λ at low. refl), λ some few. refl);
   inode = inode;
   was = is;
@@ -219,6 +216,7 @@ nothing_repaired T fs old new n repair inode is same block of fault wants = subs
 pub pointers_emptied : (T : Types) (fs : ℕ) (array : ℕ → Option ℕ) (old first new : StoreState) (n : ℕ) (inode : List ℕ) → Ok inode ≡ inode_in (latest old.lives) fs n → EmptiedData T fs array old first n inode → new ≡ first →
     (block : ℕ) → IsHome (latest first.lives) fs n block → (fault : FfsFault) → Wants T first fs block fault → StopsRepairing T fs old new n GiveUp fault
 pointers_emptied T fs array old first new n inode is k same block home fault wants = subst (λ (s : StoreState). StopsRepairing T fs old s n GiveUp fault) (sym same) (record {
+  needed = give_no_keep;
   others = k.others;
   inode = inode;
   was = is;
@@ -243,10 +241,10 @@ repaired_from u v w fs n GiveUp same x = x
 repaired_from u v w fs n (SetLinks links) same x = λ inode i. as_it_was u v w fs n inode links same i (x inode (i ∙ sym same.0))
 
 -- and before others are
-pub repaired_then : (u v w : ℕ → List ℕ) (fs n : ℕ) (repair : Repair) → Repaired u v fs n repair → SameInode v w fs n → place_in w fs n ≡ place_in v fs n → Repaired u w fs n repair
-repaired_then u v w fs n Keep x same place = same_on u v w fs n x same
-repaired_then u v w fs n GiveUp x same place = (same.0 ∙ x.0, place ∙ x.1)
-repaired_then u v w fs n (SetLinks links) x same place = λ inode i.
+pub repaired_then : (u v w : ℕ → List ℕ) (fs n : ℕ) → n ≢ 0 → n ≤ 128 → (repair : Repair) → Repaired u v fs n repair → SameInode v w fs n → Repaired u w fs n repair
+repaired_then u v w fs n some low Keep x same = same_on u v w fs n x same
+repaired_then u v w fs n some low GiveUp x same = (same.0 ∙ x.0, same.2 some low ∙ x.1)
+repaired_then u v w fs n some low (SetLinks links) x same = λ inode i.
     let y = x inode i in
     let k = same.1 y.0.after y.0.found in
     (record { after = y.0.after; found = y.0.found ∙ sym same.0; mode = y.0.mode; size = y.0.size; entries = k.0 ∙ y.0.entries; each = λ at low. k.1 at low ∙ y.0.each at low; direct = y.0.direct; room = room_by v w y.0.after y.0.after refl k.1 ∙ y.0.room }, y.1)
@@ -304,10 +302,14 @@ middle_more T fs array old now new done next is low repair e x stage r = record 
     | inl same ↦
         subst (λ k. Repaired u w fs k (repair_in u fs k)) (sym same)
         (repaired_from u v w fs next (repair_in u fs next) (x.later next (inr (omega (arith, is)))) (subst (Repaired v w fs next) e r.repaired))
-    | inr ne ↦ repaired_then u v w fs i (repair_in u fs i) (x.before i some (omega (arith, le, is, ne))) (r.others i ne) (r.places i some (omega (arith, le, low)) ne)
+    | inr ne ↦ repaired_then u v w fs i some (omega (arith, le, low)) (repair_in u fs i) (x.before i some (omega (arith, le, is, ne))) (r.others i ne)
   ];
   later = λ i of. same_on u v w fs i (x.later i (elim of [ inl z ↦ inl z | inr lt ↦ inr (omega (arith, lt, is)) ]))
       (r.others i (elim of [ inl z ↦ λ f. absurd (omega (arith, z, f, is)) | inr lt ↦ λ f. absurd (omega (arith, lt, f)) ]));
+  nothing = λ none.
+      let all = sym (stages_more (files_of u fs) done next is) ∙ none in
+      let parts = both_none (flat_map (stages_at (files_of u fs)) (range_with_len 1 done)) (stages_at (files_of u fs) next) all in
+      r.nothing (e ∙ (need_is u fs next ∙ none_kept (repaired_below (files_of u fs) next) next (needs (files_of u fs) next) parts.1)) ∙ x.nothing parts.0;
   spares = λ i m lt k. r.spares i m (omega (arith, lt)) (λ f. absurd (omega (arith, lt, f))) (x.spares i m (omega (arith, lt, is)) k);
 }
   where
@@ -319,17 +321,6 @@ middle_more T fs array old now new done next is low repair e x stage r = record 
 
     w : ℕ → List ℕ
     w = latest new.lives
-
--- the next one could not be repaired
-pub middle_stops : (T : Types) (fs : ℕ) (array : ℕ → Option ℕ) (old now new : StoreState) (done next : ℕ) → next ≡ done + 1 → (repair : Repair) → repair ≡ repair_in (latest old.lives) fs next → InMiddle T fs array old now done →
-    (fault : FfsFault) → StopsRepairing T fs now new next repair fault → StopsReclaiming T fs old new fault
-middle_stops T fs array old now new done next is repair e x fault r = record {
-  middle = now;
-  number = next;
-  before = λ i some lt. x.before i some (omega (arith, lt, is));
-  later = λ i of. x.later i (elim of [ inl z ↦ inl z | inr le ↦ inr (omega (arith, le, is)) ]);
-  told = subst (λ k. StopsRepairing T fs now new next k fault) e r;
-}
 
 -- all are repaired
 pub middle_ends : (T : Types) (fs : ℕ) (array : ℕ → Option ℕ) (old new : StoreState) (done : ℕ) → done ≡ 128 → InMiddle T fs array old new done → (n : ℕ) → Repaired (latest old.lives) (latest new.lives) fs n (repair_in (latest old.lives) fs n)
@@ -351,8 +342,7 @@ pub repair_fails : (T : Types) (fs : ℕ) (array : ℕ → Option ℕ) (old new 
 repair_fails T fs array old new n repair same e fault p result from =
     fails (λ _. RepairedOne old new fs n repair) (StopsRepairing T fs old new n repair) p.0 result fault from (subst (λ (r : Repair). Stops (StopsRepairing T fs old new n r) fault) (sym e) p.1)
 
--- where something is pending, and where nothing is
-
+-- where nothing is pending
 pub idle_ok : (state : StoreState) (fs : ℕ) → Ok tt ≡ idle_in state fs → pending_of state fs ≡ 0
 idle_ok state fs e = elim (cases_eq (pending_of state fs) 0) [
   | inl z ↦ z
@@ -361,18 +351,3 @@ idle_ok state fs e = elim (cases_eq (pending_of state fs) 0) [
   where
     never : ◌≡◌ {A = Result (Unit {0}) FfsFault} (Ok tt) (Err Pending) → ⊥
     never z = cc
-
-pub idle_then : (T : Types) (fs : ℕ) (old new : StoreState) (result : Result Repairs FfsFault) → Ok tt ≡ idle_in old fs → MatchResult result (λ repairs. ReclaimedAll (latest old.lives) (latest new.lives) fs repairs) (Stops (StopsReclaiming T fs old new)) →
-    Reclaims T fs old new result
-idle_then T fs old new result e x =
-    subst (λ (r : Result (Unit {0}) FfsFault). Answers r (λ _ repairs. ReclaimedAll (latest old.lives) (latest new.lives) fs repairs) (λ _ fault. StopsReclaiming T fs old new fault) old new result) e x
-
--- An inode with a name
-
-pub named_kept : (old new : ℕ → List ℕ) (fs n : ℕ) → names_count old fs n ≢ 0 → Repaired old new fs n (repair_in old fs n) → AsBefore old new fs n
-named_kept old new fs n named x = go (repair_in old fs n) refl x
-  where
-    go : (repair : Repair) → repair_in old fs n ≡ repair → Repaired old new fs n repair → AsBefore old new fs n
-    go Keep e y = same_as old new fs n y
-    go GiveUp e y = absurd (named (given_up old fs n e).none)
-    go (SetLinks links) e y = λ inode i. (y inode i).0

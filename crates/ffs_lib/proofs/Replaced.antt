@@ -1,8 +1,8 @@
 -- What is left of two files after each edit by which the name of one goes to the other.
 use Rattle.std.proofs.Common.{◌≡◌, ◌≢◌, ℕ, ◌<◌, ◌≤◌, Bool, true, false, List, map, Option, Some, None, Result, Ok, refl, sym, ◌∙◌, ap, inl, inr, arith, subst, eq-eqb}
 use Rattle.std.specs.Prelude.{Contains, OnErr, bytes_eq, find, option_map, ◌==◌, ◌&&◌, if◌then◌else◌}
-use Rattle.std.proofs.lemmas.Bool.{and_parts, eqb-true}
-use Rattle.std.proofs.lemmas.Option.{same_Some}
+use Rattle.std.proofs.lemmas.Bool.{and_parts, cases_eq, eqb-true}
+use Rattle.std.proofs.lemmas.Option.{none-some, same_Some}
 use Rattle.xn_model.specs.Types.{Types}
 use Rattle.xn_model.specs.Lives.{StoreState}
 use Rattle.xn_model.specs.Rules.{IsConsistent}
@@ -12,9 +12,9 @@ use Rattle.ffs_lookup.specs.declared.fault.FfsFault.{FfsFault}
 use Rattle.ffs_lookup.specs.declared.places.Slot.{Slot}
 use Rattle.ffs_lookup.specs.Newest.{directory_in, entries_of, file_in, inode_in, is_at, listing, named_in}
 use Rattle.ffs_lookup.specs.Places.{IsSlot}
-use Rattle.ffs_lookup.proofs.ForCallers.{not_both, same_ok}
+use Rattle.ffs_lookup.proofs.ForCallers.{EntryAt, direct_has, first_value, not_both, same_ok}
 use Rattle.ffs_lib.specs.Replacing.{AreDirect, Replaced, ReplacedInodes, Turned, pair_of, turned_entry}
-use Rattle.ffs_lib.specs.Results.{AsBefore, SameInode}
+use Rattle.ffs_lib.specs.Results.{AsBefore, OnlyChanges, SameInode}
 use Rattle.ffs_lib.specs.Stages.{KeptOrEmptied, Unnames}
 use Rattle.ffs_lib.specs.Steps.{AddsLink, Clearing, StopsTaking, TakesLink}
 use Rattle.ffs_lib.proofs.Alone.{are_apart}
@@ -28,7 +28,7 @@ use Rattle.ffs_lib.proofs.Same.{same_on}
 use Rattle.ffs_lib.proofs.Staged.{taking_as, taking_kept}
 use Rattle.ffs_lib.proofs.StillNamed.{named_to}
 use Rattle.ffs_lib.proofs.TurnLaws.{slot_names}
-use Rattle.ffs_lib.proofs.ValueLists.{find_map}
+use Rattle.ffs_lib.proofs.ValueLists.{both_true, find_map, naming, place_listed, there_in, there_turned, there_without}
 use Rattle.ffs_lib.proofs.Writing.{file_from}
 
 -- Entries that name two inodes stand at two places.
@@ -94,9 +94,21 @@ module _ (entry : Slot) (n : ℕ) where
           let other : is_at entry p.0 ≡ false = ap (is_at entry) (sym is) ∙ apart in
           f ∙ ap (λ (t : Bool). Some (if t then (record p.0 { inode = n }, p.1) else p).0) (sym other)
 
--- All inodes but two directories and one that is as before but for its links are as before.
+-- what stands where an entry was found
+stood_there : (u : ℕ → List ℕ) (inode name : List ℕ) (slot : Slot) → EntryAt u inode name slot → there_in slot.block slot.place (listing u inode) ≡ Some (name, slot.inode)
+stood_there u inode name slot entry =
+    let k = entry.is in
+    let few = k.few in
+    let place = k.place in
+    sym (place_listed slot.block slot.place u (omega (arith, few, place)) inode (direct_has inode entry.at.0 slot.block k.low k.block k.there)) ∙ entry.stands
+
+itself_true : (slot : Slot) → (slot.block == slot.block) && (slot.place == slot.place) ≡ true
+itself_true slot = both_true (slot.block == slot.block) (slot.place == slot.place) (eq-eqb slot.block slot.block refl) (eq-eqb slot.place slot.place refl)
+
+-- All inodes but two directories and one that is as before but for its links are as before, and so is a directory with the entries that it had.
 pub record Halfway (u v : ℕ → List ℕ) (fs d other n : ℕ) : Type 0 where
   pub inodes : (e : ℕ) (inode : List ℕ) → Ok inode ≡ directory_in u fs e → Ok inode ≡ directory_in v fs e
+  pub listed : (e : ℕ) (inode : List ℕ) → Ok inode ≡ directory_in u fs e → listing v inode ≡ listing u inode → SameInode u v fs e
   pub moved : AsBefore u v fs n
   pub rest : (e : ℕ) → e ≢ d → e ≢ other → e ≢ n → SameInode u v fs e
 
@@ -160,6 +172,23 @@ module _ (u : ℕ → List ℕ) (fs d : ℕ) (name : List ℕ) (other : ℕ) (ot
       home_named = named_to v2 fs d name x.home from (there2 d x.home x.is_home) x.good
           (still_first to n from name (listing u x.home) places (x.first ∙ find_listed u name (entries_of u x.home)) ∙ (ap (named_among name) (sym (listing2 d x.home x.is_home)) ∙ sym (find_listed v2 name (entries_of v2 x.home))))
 
+      -- and neither directory has the entries that it had
+      pub turned_listed : listing v2 x.target ≡ listing u x.target → ⊥
+      turned_listed same =
+          let stood = stood_there u x.target other_name to (first_value u x.target other_name to x.second) in
+          let all = listing u x.target in
+          let now : Some (other_name, to.inode) ≡ Some (other_name, n) =
+          sym stood ∙ (ap (there_in to.block to.place) (sym same ∙ listing2 other x.target x.is_target) ∙ (there_turned to n to.block to.place all
+          ∙ (ap (λ (b : Bool). if b then option_map (naming n) (there_in to.block to.place all) else there_in to.block to.place all) (itself_true to) ∙ ap (option_map (naming n)) stood))) in
+          apart (sym (ap (λ (e : List ℕ × ℕ). e.1) (same_Some (other_name, to.inode) (other_name, n) now)))
+
+      pub cleared_listed : (m : ℕ → List ℕ) → Clearing v2 m fs from → listing m x.home ≡ listing u x.home → ⊥
+      cleared_listed m c same =
+          let all = listing v2 x.home in
+          none-some (name, n)
+          (sym (there_without from from.block from.place all ∙ ap (λ (b : Bool). if b then None else there_in from.block from.place all) (itself_true from))
+          ∙ (ap (there_in from.block from.place) (sym (c.entries x.home) ∙ same) ∙ stood_there u x.home name from (first_value u x.home name from x.first)))
+
   -- What stands of both files after each edit
 
   no_directory : (e x : ℕ) (inode own : List ℕ) → Ok inode ≡ directory_in u fs e → Ok own ≡ file_in u fs x → x ≢ e
@@ -169,24 +198,35 @@ module _ (u : ℕ → List ℕ) (fs d : ℕ) (name : List ℕ) (other : ℕ) (ot
     pub former_same : SameInode u v fs to.inode
     former_same = k.rest to.inode (no_directory d to.inode x.home x.former x.is_home x.is_former) (no_directory other to.inode x.target x.former x.is_target x.is_former) (λ z. apart (sym z))
 
+    -- a directory that did not change
+    listed_on : (w : ℕ → List ℕ) (e : ℕ) (inode : List ℕ) → Ok inode ≡ directory_in u fs e → SameInode v w fs e → listing w inode ≡ listing u inode → SameInode u w fs e
+    listed_on w e inode i s same = same_on u v w fs e (k.listed e inode i (sym (s.1 inode (directory_from v fs e inode (k.inodes e inode i)).0).0 ∙ same)) s
+
     -- an edit of an entry
-    on_entry : (w : ℕ → List ℕ) → ((e : ℕ) → inode_in w fs e ≡ inode_in v fs e) → ((e : ℕ) → e ≢ d → e ≢ other → SameInode v w fs e) → Halfway u w fs d other n
-    on_entry w same away = record {
+    on_entry : (w : ℕ → List ℕ) (a : ℕ) (own : List ℕ) → Ok own ≡ directory_in u fs a → ((e : ℕ) → inode_in w fs e ≡ inode_in v fs e) → OnlyChanges v w fs a → ((e : ℕ) → e ≢ d → e ≢ other → e ≢ a) → (listing w own ≡ listing u own → ⊥) → Halfway u w fs d other n
+    on_entry w a own at same others away changed = record {
       inodes = λ e inode i. k.inodes e inode i ∙ sym (directory_same v w fs e (same e));
-      moved = as_on u v w fs n k.moved (same_as v w fs n (away n (no_directory d n x.home x.own x.is_home x.is_own) (no_directory other n x.target x.own x.is_target x.is_own)));
-      rest = λ e ne ne' far. same_on u v w fs e (k.rest e ne ne' far) (away e ne ne');
+      listed = λ e inode i now. elim (cases_eq e a) [
+        | inl is ↦
+            let one : inode ≡ own = same_ok inode own (i ∙ (ap (directory_in u fs) is ∙ sym at)) in
+            absurd (changed (subst (λ (m : List ℕ). listing w m ≡ listing u m) one now))
+        | inr ne ↦ listed_on w e inode i (others e ne) now
+      ];
+      moved = as_on u v w fs n k.moved (same_as v w fs n (others n (λ z. not_moved a own at (sym z))));
+      rest = λ e ne ne' far. same_on u v w fs e (k.rest e ne ne' far) (others e (away e ne ne'));
     }
 
-    pub after_turn : (w : ℕ → List ℕ) → Ok to ≡ named_in v fs other other_name → Turned v w fs to n → Halfway u w fs d other n
-    after_turn w named t = let b = named_block v fs other other_name to named in on_entry w t.inodes (λ e ne ne'. t.others other b.0 b.1 b.2 e ne')
+    pub after_turn : (w : ℕ → List ℕ) → Ok to ≡ named_in v fs other other_name → Turned v w fs to n → (listing w x.target ≡ listing u x.target → ⊥) → Halfway u w fs d other n
+    after_turn w named t changed = let b = named_block v fs other other_name to named in on_entry w other x.target x.is_target t.inodes (t.others other b.0 b.1 b.2) (λ e ne ne'. ne') changed
 
-    pub after_clear : (w : ℕ → List ℕ) → Ok from ≡ named_in v fs d name → Clearing v w fs from → Halfway u w fs d other n
-    after_clear w named c = let b = named_block v fs d name from named in on_entry w c.inodes (λ e ne ne'. c.others d b.0 b.1 b.2 e ne)
+    pub after_clear : (w : ℕ → List ℕ) → Ok from ≡ named_in v fs d name → Clearing v w fs from → (listing w x.home ≡ listing u x.home → ⊥) → Halfway u w fs d other n
+    after_clear w named c changed = let b = named_block v fs d name from named in on_entry w d x.home x.is_home c.inodes (c.others d b.0 b.1 b.2) (λ e ne ne'. ne) changed
 
     -- a link of the moved file is taken, which had two at least
     pub after_less : (w : ℕ → List ℕ) → ((inode : List ℕ) → Ok inode ≡ inode_in v fs n → 1 < inode_links inode) → TakesLink v w fs n → Halfway u w fs d other n
     after_less w many t = record {
       inodes = λ e inode i. k.inodes e inode i ∙ sym (directory_same v w fs e (t.others e (not_moved e inode i)).0);
+      listed = λ e inode i. listed_on w e inode i (t.others e (not_moved e inode i));
       moved = as_on u v w fs n k.moved ((less_of v w fs n t many).0 n);
       rest = λ e ne ne' far. same_on u v w fs e (k.rest e ne ne' far) (t.others e far);
     }
@@ -194,7 +234,7 @@ module _ (u : ℕ → List ℕ) (fs d : ℕ) (name : List ℕ) (other : ℕ) (ot
     -- The call ends there
     pub halted : ReplacedInodes u v fs d from other to × KeptOrEmptied u v fs to.inode
     halted = (
-      record { inodes = k.inodes; moved = k.moved; former = λ inode i lt. same_as u v fs to.inode former_same inode i; others = λ e ne ne' far far'. k.rest e ne ne' far },
+      record { inodes = k.inodes; listed = k.listed; moved = k.moved; former = λ inode i lt. same_as u v fs to.inode former_same inode i; others = λ e ne ne' far far'. k.rest e ne ne' far },
       (former_same.0, λ inode i. inl (former_same.1 inode i)),
     )
 
@@ -202,6 +242,7 @@ module _ (u : ℕ → List ℕ) (fs d : ℕ) (name : List ℕ) (other : ℕ) (ot
     pub ended : (w : ℕ → List ℕ) → TakesLink v w fs to.inode → ReplacedInodes u w fs d from other to
     ended w t = record {
       inodes = λ e inode i. k.inodes e inode i ∙ sym (directory_same v w fs e (t.others e (not_former e inode i)).0);
+      listed = λ e inode i. listed_on w e inode i (t.others e (not_former e inode i));
       moved = as_on u v w fs n k.moved (same_as v w fs n (t.others n apart));
       former = λ inode i lt. ((took_on u v w fs to.inode inode former_same i (t.took inode (i ∙ sym former_same.0))).kept lt).0;
       others = λ e ne ne' far far'. same_on u v w fs e (k.rest e ne ne' far) (t.others e far');
@@ -216,6 +257,7 @@ module _ (u : ℕ → List ℕ) (fs d : ℕ) (name : List ℕ) (other : ℕ) (ot
       let same = former_same v k in (
         record {
           inodes = λ e inode i. k.inodes e inode i ∙ sym (directory_same v w fs e (s.others e (not_former e inode i)).0);
+          listed = λ e inode i. listed_on v k w e inode i (s.others e (not_former e inode i));
           moved = as_on u v w fs n k.moved (same_as v w fs n (s.others n apart));
           former = λ inode i lt. taking_as T fs u middle new to.inode same fault s inode i lt;
           others = λ e ne ne' far far'. same_on u v w fs e (k.rest e ne ne' far) (s.others e far');
@@ -235,7 +277,7 @@ module _ (u : ℕ → List ℕ) (fs d : ℕ) (name : List ℕ) (other : ℕ) (ot
 
   module _ (v1 : ℕ → List ℕ) (l : AddsLink u v1 fs n) where
     pub after_link : Halfway u v1 fs d other n
-    after_link = record { inodes = there1 v1 l; moved = l.before n; rest = λ e ne ne' far. l.others e far }
+    after_link = record { inodes = there1 v1 l; listed = λ e inode i same. l.others e (not_moved e inode i); moved = l.before n; rest = λ e ne ne' far. l.others e far }
 
     pub two_links : (v : ℕ → List ℕ) → inode_in v fs n ≡ inode_in v1 fs n → 1 ≤ inode_links x.own → (inode : List ℕ) → Ok inode ≡ inode_in v fs n → 1 < inode_links inode
     two_links v same linked inode i =

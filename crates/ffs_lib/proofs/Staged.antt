@@ -1,6 +1,6 @@
 -- A call does what its function of the files says, or leaves one of its stages.
 use Rattle.std.proofs.Common.{◌≡◌, ◌≢◌, ℕ, ◌-◌, ◌*◌, ◌/◌, ◌%◌, ◌<◌, ◌≤◌, ◌⊎◌, Bool, true, false, List, ◌++◌, length, map, take, replicate, get_or, Some, None, Result, Ok, Err, refl, sym, ◌∙◌, ap, inl, inr, arith, subst, length-append}
-use Rattle.std.specs.Prelude.{Contains, MatchResult, OnErr, ◌==◌, min, nat_lt, if◌then◌else◌}
+use Rattle.std.specs.Prelude.{Contains, MatchResult, OnErr, ◌==◌, min, nat_le, nat_lt, if◌then◌else◌}
 use Rattle.std.specs.List.{range_with_len}
 use Rattle.std.specs.Option.{ok_or}
 use Rattle.std.proofs.lemmas.Bool.{cases_lt, eqb-false, le-leb, le-ltb, lt-ltb}
@@ -23,7 +23,8 @@ use Rattle.ffs_lookup.specs.Files.{Answer, Blocks, Directory, File, Files, clear
 use Rattle.ffs_lookup.specs.FileValues.{blocks_value, bytes_value, files_of}
 use Rattle.ffs_lookup.proofs.ForCallers.{IsPlaceOf, direct_has, map_on, same_ok}
 use Rattle.ffs_lib.specs.Results.{IsAs, OnlyChanges, SameContents, SameInode}
-use Rattle.ffs_lib.specs.Stages.{AreEmptied, Asks, Does, IsRefused, IsStage, KeptOrEmptied, OfEntry, OfLink, Stages, Unnames, cleared_stages, emptied, link_stages, removed_stages, stages_of, with_emptied}
+use Rattle.ffs_lib.specs.Reclaiming.{PointersEmptied}
+use Rattle.ffs_lib.specs.Stages.{AreEmptied, Asks, Does, IsRefused, IsStage, KeptOrEmptied, OfEntry, OfLink, Stages, Unnames, cleared_stages, cut_short, emptied, link_stages, removed_stages, stages_of, with_emptied}
 use Rattle.ffs_lib.specs.Steps.{Answers, ClearedPointers, Clearing, IsHome, Stops, StopsTaking, StopsUnnaming, Unnamed, Wants}
 use Rattle.ffs_lib.specs.Values.{Leads}
 use Rattle.ffs_lib.proofs.Entering.{directory_from}
@@ -35,7 +36,7 @@ use Rattle.ffs_lib.proofs.Owners.{direct_block, pointers_apart, stands_from}
 use Rattle.ffs_lib.proofs.Removal.{FindsEntry}
 use Rattle.ffs_lib.proofs.Same.{same_on}
 use Rattle.ffs_lib.proofs.ValueMade.{directory_value}
-use Rattle.ffs_lib.proofs.ValueSteps.{clearing_value, kind, kind_is, takes_value, value_at}
+use Rattle.ffs_lib.proofs.ValueSteps.{clearing_value, inode_linked, kind, kind_is, takes_value, value_at}
 
 pub same_here : (v : ℕ → List ℕ) (fs x : ℕ) → SameInode v v fs x
 same_here v fs x = (refl, λ inode i. (refl, λ at low. refl), λ some low. refl)
@@ -60,7 +61,7 @@ does_found {A} T fs answer next stages list P R old new result is are leads refu
 
 -- The block of pointers of an inode with its last link was emptied
 module _ (T : Types) (lib : IsLibrary T) (fs : ℕ) (few : fs < 32) (v : ℕ → List ℕ) (new : StoreState) (h : IsConsistent T new) (n : ℕ) (inode : List ℕ) (was : Ok inode ≡ inode_in v fs n) (is : Ok inode ≡ inode_in (latest new.lives) fs n)
-    (c : ClearedPointers v (latest new.lives) inode) where
+    (c : PointersEmptied v (latest new.lives) inode) where
   abbrev w : ℕ → List ℕ
   w = latest new.lives
 
@@ -153,15 +154,22 @@ module _ (T : Types) (lib : IsLibrary T) (fs : ℕ) (few : fs < 32) (v : ℕ →
             ∙ sym (get_or-append_right (take 6144 bytes) (replicate (length bytes - 6144) 0) 6144 k d (omega (arith, a, ge, small)) ge ∙ get_or-replicate (length bytes - 6144) (k - 6144) 0 d (omega (arith, l, ge, small)))
       ]
 
-  emptied_at : files_of w fs n ≡ emptied (files_of v fs n)
-  emptied_at = kind_is v w fs n inode was w inode is ∙ (go (inode_mode inode == 2) ∙ ap emptied (sym (kind_is v w fs n inode was v inode was)))
+  pub short_at : files_of w fs n ≡ cut_short (files_of v fs n)
+  short_at = kind_is v w fs n inode was w inode is ∙ (go (inode_mode inode == 2) ∙ ap cut_short (sym (kind_is v w fs n inode was v inode was)))
     where
-      go : (t : Bool) → kind v w fs n inode was w inode t ≡ emptied (kind v w fs n inode was v inode t)
+      go : (t : Bool) → kind v w fs n inode was w inode t ≡ cut_short (kind v w fs n inode was v inode t)
       go true = ap (Directory (inode_links inode)) same_blocks
-      go false = ap (File (inode_links inode)) emptied_bytes ∙ sym (ap (λ (t : Bool). if t then File (inode_links inode) (take 6144 bytes ++ replicate (length bytes - 6144) 0) else File (inode_links inode) bytes) (le-leb (inode_links inode) 1 c.last))
+      go false = ap (File (inode_links inode)) emptied_bytes
 
-  pub emptied_value : OnlyChanges v w fs n → files_of w fs ≡ with_emptied (files_of v fs) n
-  emptied_value others = value_at v w fs n (emptied (files_of v fs n)) emptied_at others
+  -- with its last link
+  pub emptied_value : inode_links inode ≤ 1 → OnlyChanges v w fs n → files_of w fs ≡ with_emptied (files_of v fs) n
+  emptied_value last others =
+      let value = files_of v fs n in
+      value_at v w fs n (emptied value)
+      (short_at ∙ sym (ap (λ (l : ℕ). if nat_le l 1 then cut_short value else value) (inode_linked v fs n inode was) ∙ ap (λ (t : Bool). if t then cut_short value else value) (le-leb (inode_links inode) 1 last))) others
+
+pointers_of : (v w : ℕ → List ℕ) (inode : List ℕ) → ClearedPointers v w inode → PointersEmptied v w inode
+pointers_of v w inode c = record { cleared = c.cleared; others = c.others }
 
 -- What is asked
 
@@ -172,7 +180,7 @@ asks_entry T fs d old new own slot at is k fault same wants = (
   λ inode i. subst (λ (b : ℕ). Wants T old fs b fault) (sym k.block ∙ ap (λ (m : List ℕ). direct_in m at.0) (same_ok own inode (is ∙ sym i))) wants,
 )
 
-asks_link : (T : Types) (fs n : ℕ) (new : StoreState) (inode : List ℕ) → Ok inode ≡ inode_in (latest new.lives) fs n → (block : ℕ) (fault : FfsFault) → IsHome (latest new.lives) fs n block ⊎ (block ≡ word_at inode 56) → Wants T new fs block fault →
+pub asks_link : (T : Types) (fs n : ℕ) (new : StoreState) (inode : List ℕ) → Ok inode ≡ inode_in (latest new.lives) fs n → (block : ℕ) (fault : FfsFault) → IsHome (latest new.lives) fs n block ⊎ (block ≡ word_at inode 56) → Wants T new fs block fault →
     Asks T fs (OfLink n) new new fault
 asks_link T fs n new inode is block fault (inl home) wants = (refl, inl (λ b other. subst (λ (x : ℕ). Wants T new fs x fault) (same_ok block b (home ∙ sym other)) wants))
 asks_link T fs n new inode is block fault (inr e) wants = (refl, inr (λ m i. subst (λ (x : ℕ). Wants T new fs x fault) (e ∙ ap (λ (y : List ℕ). word_at y 56) (same_ok inode m (is ∙ sym i))) wants))
@@ -184,10 +192,27 @@ link_stage T lib fs few middle new h n files e fault s =
     let asks = asks_link T fs n new s.inode s.is s.block fault s.of_inode s.wants in
     elim s.stage [
       | inl same ↦ inl (new, ap (λ (z : StoreState). files_of (latest z.lives) fs) same ∙ e, asks)
-      | inr c ↦ inr (inl (new, emptied_value T lib fs few (latest middle.lives) new h n s.inode s.was s.is c s.others ∙ ap (λ (f : Files). with_emptied f n) e, asks))
+      | inr c ↦ inr (inl (new, emptied_value T lib fs few (latest middle.lives) new h n s.inode s.was s.is (pointers_of _ _ s.inode c) c.last s.others ∙ ap (λ (f : Files). with_emptied f n) e, asks))
     ]
 
 -- and what that leaves of an inode that was as before
+pub kept_or_emptied : (T : Types) → IsLibrary T → (fs : ℕ) → fs < 32 → (u : ℕ → List ℕ) (middle new : StoreState) → IsConsistent T new → (n : ℕ) → SameInode u (latest middle.lives) fs n → (inode : List ℕ) → Ok inode ≡ inode_in (latest middle.lives) fs n →
+    Ok inode ≡ inode_in (latest new.lives) fs n → (new ≡ middle) ⊎ PointersEmptied (latest middle.lives) (latest new.lives) inode → KeptOrEmptied u (latest new.lives) fs n
+kept_or_emptied T lib fs few u middle new after n same own was is stage = (
+  sym is ∙ (was ∙ same.0),
+  λ inode i.
+      let m = latest middle.lives in
+      let z = latest new.lives in
+      let k = same.1 inode i in
+      elim stage [
+        | inl e ↦ inl (subst (λ (y : StoreState). SameContents u (latest y.lives) inode) (sym e) k)
+        | inr e ↦
+            let one : own ≡ inode = same_ok own inode (was ∙ (same.0 ∙ sym i)) in
+            let x = subst (AreEmptied m z) one (emptied_contents T lib fs few m new after n own was is e) in
+            inr (x.0 ∙ k.0, λ at low. x.1 at low ∙ ap (λ (b : ℕ). if nat_lt at 6144 then b else 0) (k.1 at low))
+      ],
+)
+
 module _ (T : Types) (fs : ℕ) (u : ℕ → List ℕ) (middle new : StoreState) (n : ℕ) (same : SameInode u (latest middle.lives) fs n) (fault : FfsFault) (s : StopsTaking T fs middle new n fault) where
   pub taking_as : (inode : List ℕ) → Ok inode ≡ inode_in u fs n → 1 < inode_links inode → IsAs u (latest new.lives) fs n inode
   taking_as inode i lt = elim s.stage [
@@ -199,20 +224,11 @@ module _ (T : Types) (fs : ℕ) (u : ℕ → List ℕ) (middle new : StoreState)
   ]
 
   pub taking_kept : IsLibrary T → fs < 32 → IsConsistent T new → KeptOrEmptied u (latest new.lives) fs n
-  taking_kept lib few after = (
-    sym s.is ∙ (s.was ∙ same.0),
-    λ inode i.
-        let m = latest middle.lives in
-        let z = latest new.lives in
-        let k = same.1 inode i in
-        elim s.stage [
-          | inl e ↦ inl (subst (λ (y : StoreState). SameContents u (latest y.lives) inode) (sym e) k)
-          | inr e ↦
-              let one : s.inode ≡ inode = same_ok s.inode inode (s.was ∙ (same.0 ∙ sym i)) in
-              let x = subst (AreEmptied m z) one (emptied_contents T lib fs few m new after n s.inode s.was s.is e) in
-              inr (x.0 ∙ k.0, λ at low. x.1 at low ∙ ap (λ (b : ℕ). if nat_lt at 6144 then b else 0) (k.1 at low))
-        ],
-  )
+  taking_kept lib few after =
+      kept_or_emptied T lib fs few u middle new after n same s.inode s.was s.is (elim s.stage [
+        | inl e ↦ inl e
+        | inr c ↦ inr (pointers_of _ _ s.inode c)
+      ])
 
 -- `unlink` and `rmdir`
 

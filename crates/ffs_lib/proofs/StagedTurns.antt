@@ -23,7 +23,7 @@ use Rattle.ffs_lib.proofs.Following.{blocks_once}
 use Rattle.ffs_lib.proofs.Moving.{same_as}
 use Rattle.ffs_lib.proofs.Owners.{direct_block, stands_from, two_blocks}
 use Rattle.ffs_lib.proofs.Removal.{FindsEntry}
-use Rattle.ffs_lib.proofs.Replaced.{Halfway, after_clear, after_less, after_link, after_turn, ended, former_same, halted, home_named, nothing_taken, refused, target_named, there1, there2, two_links}
+use Rattle.ffs_lib.proofs.Replaced.{Halfway, after_clear, after_less, after_link, after_turn, cleared_listed, ended, former_same, halted, home_named, nothing_taken, refused, target_named, there1, there2, turned_listed, two_links}
 use Rattle.ffs_lib.proofs.Replacing.{CanReplace}
 use Rattle.ffs_lib.proofs.Staged.{asks_entry, cleared_does, link_stage, same_here}
 use Rattle.ffs_lib.proofs.StagedNew.{asks_inode}
@@ -147,7 +147,7 @@ module _ (T : Types) (lib : IsLibrary T) (old : StoreState) (h : IsConsistent T 
   pub link_refused : (new : StoreState) (fault : FfsFault) → StopsAtHome T fs old new n fault → Refused new fault
   link_refused new fault s =
       let same : old ≡ new = sym s.0 in
-      let none : Halfway before before fs d other n = record { inodes = λ e inode i. i; moved = same_as before before fs n (same_here before fs n); rest = λ e ne ne' far. same_here before fs e } in
+      let none : Halfway before before fs d other n = record { inodes = λ e inode i. i; listed = λ e inode i same. same_here before fs e; moved = same_as before before fs n (same_here before fs n); rest = λ e ne ne' far. same_here before fs e } in
       let k = halted before fs d name other other_name from to x apart before none in
       (inl (asks_inode T fs n old new fault s), subst (λ (y : StoreState). ReplacedInodes before (latest y.lives) fs d from other to × KeptOrEmptied before (latest y.lives) fs to.inode) same k)
 
@@ -173,10 +173,10 @@ module _ (T : Types) (lib : IsLibrary T) (old : StoreState) (h : IsConsistent T 
       pub half : Halfway before v2 fs d other n
       half =
           after_turn before fs d name other other_name from to x apart v1 (after_link before fs d name other other_name from to x apart v1 a) v2
-          (target_named before fs d name other other_name from to x apart v1 a) t
+          (target_named before fs d name other other_name from to x apart v1 a) t (turned_listed before fs d name other other_name from to x apart v1 a v2 t places)
 
       half_clear : (m : ℕ → List ℕ) → Clearing v2 m fs from → Halfway before m fs d other n
-      half_clear m c = after_clear before fs d name other other_name from to x apart v2 half m (home_named before fs d name other other_name from to x apart v1 a v2 t places) c
+      half_clear m c = after_clear before fs d name other other_name from to x apart v2 half m (home_named before fs d name other other_name from to x apart v1 a v2 t places) c (cleared_listed before fs d name other other_name from to x apart v1 a v2 t places m c)
 
       many : (m : ℕ → List ℕ) → Clearing v2 m fs from → (inode : List ℕ) → Ok inode ≡ inode_in m fs n → 1 < inode_links inode
       many m c = two_links before fs d name other other_name from to x apart v1 a m (c.inodes n ∙ t.inodes n) linked

@@ -1,6 +1,6 @@
 -- What stands after a new block was begun, and forgotten.
-use Rattle.std.proofs.Common.{◌≡◌, ◌≢◌, ℕ, ◌<◌, ◌⊎◌, List, Option, None, Some, Result, Ok, Err, refl, sym, ◌∙◌, ap, inl, inr, arith}
-use Rattle.std.specs.Prelude.{slice_set}
+use Rattle.std.proofs.Common.{◌≡◌, ◌≢◌, ℕ, ◌<◌, ◌⊎◌, List, Option, None, Some, Result, Ok, Err, refl, sym, ◌∙◌, ap, inl, inr, arith, subst}
+use Rattle.std.specs.Prelude.{MatchResult, slice_set}
 use Rattle.xn_model.specs.declared.refusal.Refusal.{Refusal}
 use Rattle.xn_model.specs.Types.{Types}
 use Rattle.xn_model.specs.Lives.{Life, Lives, StoreState}
@@ -10,8 +10,9 @@ use Rattle.xn_model.specs.Rules.{IsConsistent}
 use Rattle.xn_model.proofs.ForCallers.{set_other}
 use Rattle.ffs_model.specs.Cuts.{latest}
 use Rattle.ffs_model.specs.Library.{IsLibrary}
+use Rattle.ffs_lookup.specs.declared.fault.FfsFault.{FfsFault}
 use Rattle.ffs_lib.specs.Results.{SameInode}
-use Rattle.ffs_lib.specs.Steps.{left_by}
+use Rattle.ffs_lib.specs.Steps.{StopsAttaching, Wants, left_by}
 use Rattle.ffs_lib.proofs.Same.{Touches, begun, begun_some, none_touched}
 
 module _ (T : Types) (state : StoreState) (fs b : ℕ) where
@@ -60,3 +61,12 @@ undone_same T lib zeroth first h fs few ty bytes block number done d =
       apart = t.apart;
     } in
     none_touched T lib zeroth h fs few w block 6 after (λ z. omega (arith, z)) (λ z. omega (arith, z)) (λ z. omega (arith, z)) (λ z. omega (arith, z)) d
+
+-- one of its two results, where a call has it
+pub at_ok : {A E : Type 0} (r : Result A E) (x : A) (P : A → Type 0) → Ok x ≡ r → P x → MatchResult r P (λ other. ⊥)
+at_ok r x P e p = subst (λ y. MatchResult y P (λ other. ⊥)) e p
+
+pub attach_undone : (T : Types) (fs : ℕ) (zeroth first new : StoreState) (ty : ℕ) (bytes : List ℕ) (block number home : ℕ) → init_of T zeroth fs ty bytes ≡ Ok ((block, number), first) → new ≡ left_by (forget_of T first fs block) first → (fault : FfsFault) →
+    Wants T first fs home fault → StopsAttaching T fs zeroth new ty bytes home fault
+attach_undone T fs zeroth first new ty bytes block number home done left fault wants =
+    inr (at_ok (init_of T zeroth fs ty bytes) ((block, number), first) (λ made. (new ≡ left_by (forget_of T made.1 fs made.0.0) made.1) × Wants T made.1 fs home fault) (sym done) (left, wants))

@@ -9,6 +9,7 @@ use Rattle.ffs_lookup.specs.Newest.{directory_in, inode_in, listing, name_of_pla
 use Rattle.ffs_lookup.specs.Files.{Absent, Directory, Entry, File, Files, Free, InodeValue, Unusable, less_a_link, links_of, put_entry, with_entry, with_entry_in, with_value, without_link}
 use Rattle.ffs_lookup.specs.FileValues.{HasBlocksOnce, blocks_value, bytes_value, files_of, value_in}
 use Rattle.ffs_lookup.proofs.ForCallers.{IsPlaceOf, direct_has, good_number, put_is, value_by_place, value_found, value_used}
+use Rattle.ffs_lib.specs.Reclaiming.{with_links}
 use Rattle.ffs_lib.specs.Replacing.{Turned}
 use Rattle.ffs_lib.specs.Results.{IsAs, SameInode, TookLink}
 use Rattle.ffs_lib.specs.Stages.{more_a_link, with_link}
@@ -106,11 +107,6 @@ module _ (u v : ℕ → List ℕ) (fs d : ℕ) (own : List ℕ) (is : Ok own ≡
 
 pub as_direct : (v w : ℕ → List ℕ) (fs n : ℕ) (inode : List ℕ) (k : IsAs v w fs n inode) (i : ℕ) → i < 12 → direct_in k.after i ≡ direct_in inode i
 as_direct v w fs n inode k i lt = direct_get k.after i lt ∙ (ap (λ xs. get_or xs i 0) k.direct ∙ sym (direct_get inode i lt))
-
-abbrev pub with_links : ℕ → InodeValue → InodeValue
-with_links l (File links bytes) = File l bytes
-with_links l (Directory links blocks) = Directory l blocks
-with_links l other = other
 
 module _ (v w : ℕ → List ℕ) (fs n : ℕ) (inode : List ℕ) (is : Ok inode ≡ inode_in v fs n) where
   abbrev pub kind : (ℕ → List ℕ) → List ℕ → Bool → InodeValue

@@ -1,13 +1,19 @@
--- What `reclaim` leaves.
+-- `reclaim` by its function of the files, and what it leaves.
+--     numbers_listed, name_count   the inodes that the entries of a directory name; how many entries of all directories name one
+--     need_of, needs               what an inode needs, so that it is in use exactly where it has a name, with as many links as names; by its number
+--     with_links, repaired         an inode with so many links; as it needs to be
+--     repaired_below, reclaimed    the files where the inodes with lower numbers are repaired; what `reclaim` answers, and the files after it
+--     repair_stages, reclaimed_stages    what is asked for one inode, and for all, the lowest first
+--     LeftByRepair                 what the files don't say of an inode that needed something
 --     Repaired                     an inode is as it needs to be
---     ReclaimedAll                 so is each, and what is told is what each needed
 --     MayRepair                    an inode's links are to spare in every cut, so it may be repaired
 --     RepairedOne                  one is as it needs to be, and all others are as before, with what they have to spare
 --     emptying, Emptied            a block of pointers is cleared, if it points to anything
 --     StopsRepairing               what is left where an inode was to be repaired, and of what the fault tells
 --     InMiddle                     the inodes up to a number are repaired
---     StopsReclaiming, Reclaims    what is left where the store refuses; the call
-use Rattle.std.specs.Prelude.{◌≡◌, ◌≢◌, ℕ, ◌-◌, ◌<◌, ◌≤◌, ◌⊎◌, List, [], length, replicate, Option, None, Result, Ok, Err, ⊤}
+--     Reclaims                     the call
+use Rattle.std.specs.Prelude.{◌≡◌, ◌≢◌, ℕ, ◌-◌, ◌<◌, ◌≤◌, ◌==◌, ◌⊎◌, nat_lt, List, [], ◌∷◌, length, map, flat_map, count_by, replicate, Option, None, Result, Ok, Err, ⊤, if◌then◌else◌}
+use Rattle.std.specs.List.{range_with_len}
 use Rattle.xn_model.specs.Root.{word_at}
 use Rattle.xn_model.specs.Types.{Types}
 use Rattle.xn_model.specs.Lives.{StoreState}
@@ -19,24 +25,80 @@ use Rattle.ffs_lookup.specs.declared.fault.FfsFault.TheVariants.{NoEntry}
 use Rattle.ffs_lookup.specs.declared.repairs.Repair.{Repair}
 use Rattle.ffs_lookup.specs.declared.repairs.Repair.TheVariants.{Keep, GiveUp, SetLinks}
 use Rattle.ffs_lookup.specs.declared.repairs.Repairs.{Repairs}
-use Rattle.ffs_lookup.specs.FileValues.{place_in}
-use Rattle.ffs_lookup.specs.Newest.{inode_in}
-use Rattle.ffs_lookup.specs.Repairs.{idle_in, repair_at, repair_in}
+use Rattle.ffs_lookup.specs.Counts.{if_idle}
+use Rattle.ffs_lookup.specs.Files.{Answer, Directory, Entry, File, Files, Free, InodeValue, is_bare, listed, with_value}
+use Rattle.ffs_lookup.specs.FileValues.{files_of, place_in}
+use Rattle.ffs_lookup.specs.Newest.{inode_in, mapped}
+use Rattle.ffs_lookup.specs.Repairs.{repair_at, repair_in}
 use Rattle.ffs_lib.specs.Edits.{data_of_pointers, edit_at}
-use Rattle.ffs_lib.specs.Results.{IsLinked, OnlyChanges, SameInode}
-use Rattle.ffs_lib.specs.Steps.{Answers, IsHome, Stage, Tells, Wants, newest}
+use Rattle.ffs_lib.specs.Results.{AsBefore, IsLinked, OnlyChanges, SameInode}
+use Rattle.ffs_lib.specs.Stages.{Does, KeptOrEmptied, OfLink, Stages, cut_short}
+use Rattle.ffs_lib.specs.Steps.{IsHome, Stage, Tells, Wants, newest}
+
+-- The call as a function of the files
+
+abbrev pub numbers_listed : Result (List Entry) FfsFault → List ℕ
+numbers_listed (Ok entries) = map (λ entry. entry.1) entries
+numbers_listed (Err fault) = []
+
+abbrev pub name_count : Files → ℕ → ℕ
+name_count files n = count_by (λ m. m == n) (flat_map (λ d. numbers_listed (listed files d)) (range_with_len 1 128))
+
+-- one without names is given up, unless it is a directory with entries
+abbrev pub need_of : ℕ → InodeValue → Repair
+need_of names (File links bytes) = if names == 0 then GiveUp else if nat_lt names links then SetLinks names else Keep
+need_of names (Directory links blocks) =
+    if names == 0 then (if is_bare (links, blocks) then GiveUp else Keep)
+    else if nat_lt names links then SetLinks names
+    else Keep
+need_of names other = Keep
+
+-- the top directory needs nothing
+abbrev pub needs : Files → ℕ → Repair
+needs files n = if n == 1 then Keep else need_of (name_count files n) (files n)
+
+abbrev pub with_links : ℕ → InodeValue → InodeValue
+with_links l (File links bytes) = File l bytes
+with_links l (Directory links blocks) = Directory l blocks
+with_links l other = other
+
+abbrev pub repaired : Repair → InodeValue → InodeValue
+repaired Keep value = value
+repaired GiveUp value = Free
+repaired (SetLinks links) value = with_links links value
+
+abbrev pub repaired_below : Files → ℕ → Files
+repaired_below files n x = if nat_lt x n then repaired (needs files x) (files x) else files x
+
+abbrev pub reclaimed : Files → Answer (ℕ → Repair)
+reclaimed files = Ok (needs files, λ n. repaired (needs files n) (files n))
+
+-- of one that is given up the block of pointers is emptied first
+abbrev pub repair_stages : Files → ℕ → Repair → Stages
+repair_stages files n Keep = []
+repair_stages files n GiveUp = (files, OfLink n) ∷ (with_value files n (cut_short (files n)), OfLink n) ∷ []
+repair_stages files n (SetLinks links) = (files, OfLink n) ∷ []
+
+abbrev pub stages_at : Files → ℕ → Stages
+stages_at files n = repair_stages (repaired_below files n) n (needs files n)
+
+abbrev pub reclaimed_stages : Files → Stages
+reclaimed_stages files = flat_map (stages_at files) (range_with_len 1 128)
+
+-- An inode that needed something, also where the store refused: it is as before; it is free, or has its 64 bytes, and may be emptied; it is as before
+-- but for its links.
+abbrev pub LeftByRepair : (ℕ → List ℕ) → (ℕ → List ℕ) → ℕ → ℕ → Repair → Type 0
+LeftByRepair old new fs n Keep = SameInode old new fs n
+LeftByRepair old new fs n GiveUp = (place_in new fs n ≡ Ok (replicate 64 0)) ⊎ KeptOrEmptied old new fs n
+LeftByRepair old new fs n (SetLinks links) = AsBefore old new fs n
+
+-- One inode
 
 -- kept as it is, or free, which is 64 zeros, or with so many links and all else as before
 abbrev pub Repaired : (ℕ → List ℕ) → (ℕ → List ℕ) → ℕ → ℕ → Repair → Type 0
 Repaired old new fs n Keep = SameInode old new fs n
 Repaired old new fs n GiveUp = (inode_in new fs n ≡ Err NoEntry) × (place_in new fs n ≡ Ok (replicate 64 0))
 Repaired old new fs n (SetLinks links) = (inode : List ℕ) → Ok inode ≡ inode_in old fs n → IsLinked old new fs n inode links
-
-pub record ReclaimedAll (old new : ℕ → List ℕ) (fs : ℕ) (repairs : Repairs) : Type 0 where
-  pub told : (n : ℕ) → repair_at repairs.each n ≡ repair_in old fs n
-  pub each : (n : ℕ) → Repaired old new fs n (repair_in old fs n)
-
--- One inode
 
 -- an inode in use has so many links to spare, whatever a cut takes
 pub record HasSpare (state : StoreState) (fs n : ℕ) (spare : ℕ → ℕ) : Type 0 where
@@ -53,7 +115,7 @@ MayRepair state fs n (SetLinks left) = (has : HasSpare state fs n (λ links. lin
 pub record RepairedOne (old new : StoreState) (fs n : ℕ) (repair : Repair) : Type 0 where
   pub repaired : Repaired (newest old) (newest new) fs n repair
   pub others : OnlyChanges (newest old) (newest new) fs n
-  pub places : (i : ℕ) → i ≢ 0 → i ≤ 128 → i ≢ n → place_in (newest new) fs i ≡ place_in (newest old) fs i
+  pub nothing : repair ≡ Keep → new ≡ old
   pub spares : (i m : ℕ) → i ≢ 0 → i ≢ n → KeepsNumber library_layout old.lives fs None m i → KeepsNumber library_layout new.lives fs None m i
 
 abbrev pub emptying : StoreState → ℕ → Edit
@@ -73,6 +135,7 @@ pub record PointersEmptied (old new : ℕ → List ℕ) (inode : List ℕ) : Typ
 
 -- its 64 bytes are as before, and so are all others; of one that was to be given up the block of pointers may be cleared
 pub record StopsRepairing (T : Types) (fs : ℕ) (old new : StoreState) (n : ℕ) (repair : Repair) (fault : FfsFault) : Type 0 where
+  pub needed : repair ≢ Keep
   pub others : OnlyChanges (newest old) (newest new) fs n
   pub inode : List ℕ
   pub was : Ok inode ≡ inode_in (newest old) fs n
@@ -88,16 +151,12 @@ pub record InMiddle (T : Types) (fs : ℕ) (array : ℕ → Option ℕ) (old new
   pub stage : Stage T fs array new
   pub before : (i : ℕ) → i ≢ 0 → i ≤ done → Repaired (newest old) (newest new) fs i (repair_in (newest old) fs i)
   pub later : (i : ℕ) → (i ≡ 0) ⊎ (done < i) → SameInode (newest old) (newest new) fs i
+  pub nothing : flat_map (stages_at (files_of (newest old) fs)) (range_with_len 1 done) ≡ [] → new ≡ old
   pub spares : (i m : ℕ) → done < i → KeepsNumber library_layout old.lives fs None m i → KeepsNumber library_layout new.lives fs None m i
 
--- the inodes below one are as they need to be, and those from it on as before, but for what its repair left
-pub record StopsReclaiming (T : Types) (fs : ℕ) (old new : StoreState) (fault : FfsFault) : Type 0 where
-  pub middle : StoreState
-  pub number : ℕ
-  pub before : (i : ℕ) → i ≢ 0 → i < number → Repaired (newest old) (newest middle) fs i (repair_in (newest old) fs i)
-  pub later : (i : ℕ) → (i ≡ 0) ⊎ (number ≤ i) → SameInode (newest old) (newest middle) fs i
-  pub told : StopsRepairing T fs middle new number (repair_in (newest old) fs number) fault
-
+-- The call: `Pending` where something of the file system is pending, else what its function says, with what the files don't say.
 abbrev pub Reclaims : Types → ℕ → StoreState → StoreState → Result Repairs FfsFault → Type 0
 Reclaims T fs old new result =
-    Answers (idle_in old fs) (λ _ repairs. ReclaimedAll (newest old) (newest new) fs repairs) (λ _ fault. StopsReclaiming T fs old new fault) old new result
+    Does T fs (if_idle old fs (reclaimed (files_of (newest old) fs))) (reclaimed_stages (files_of (newest old) fs)) old new
+    (mapped (λ repairs. repair_at repairs.each) result)
+    × ((n : ℕ) → LeftByRepair (newest old) (newest new) fs n (needs (files_of (newest old) fs) n))

@@ -59,10 +59,12 @@ pub record Turned (old new : ℕ → List ℕ) (fs : ℕ) (entry : Slot) (n : �
   pub entries : (inode : List ℕ) → listing new inode ≡ map (turned_entry entry n) (listing old inode)
   pub others : (d : ℕ) (own : List ℕ) → Ok own ≡ inode_in old fs d → Contains (inode_blocks own) entry.block → (x : ℕ) → x ≢ d → SameInode old new fs x
 
--- What the files don't say of the inodes where two entries name two files, also where that is refused: each directory has its 64 bytes. The moved inode is
--- as before but for its links, and so is the former one where it has more than one. All but these and the two directories are as before.
+-- What the files don't say of the inodes where two entries name two files, also where that is refused: each directory has its 64 bytes, and one with the
+-- entries that it had is as before in all. The moved inode is as before but for its links, and so is the former one where it has more than one. All but
+-- these and the two directories are as before.
 pub record ReplacedInodes (old new : ℕ → List ℕ) (fs d : ℕ) (from : Slot) (other : ℕ) (to : Slot) : Type 0 where
   pub inodes : (x : ℕ) (inode : List ℕ) → Ok inode ≡ directory_in old fs x → Ok inode ≡ directory_in new fs x
+  pub listed : (x : ℕ) (inode : List ℕ) → Ok inode ≡ directory_in old fs x → listing new inode ≡ listing old inode → SameInode old new fs x
   pub moved : AsBefore old new fs from.inode
   pub former : (inode : List ℕ) → Ok inode ≡ inode_in old fs to.inode → 1 < inode_links inode → IsAs old new fs to.inode inode
   pub others : (x : ℕ) → x ≢ d → x ≢ other → x ≢ from.inode → x ≢ to.inode → SameInode old new fs x

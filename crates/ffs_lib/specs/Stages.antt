@@ -1,6 +1,7 @@
 -- A call by its function of the files, and what it leaves where the store refuses one of its edits.
 --     more_a_link, with_link     an inode with a link more; the files with one so
---     emptied, with_emptied      a file whose block of pointers was emptied for its last link: its bytes are 0 there; the files with one so
+--     cut_short                  a file whose block of pointers was emptied: its bytes are 0 there
+--     emptied, with_emptied      so it was for its last link; the files with one so
 --     Ask, Asks                  what a call asks of the store next; the store refuses that, and nothing changes but what forgetting leaves
 --     Stages, IsStage            files, and what is asked there, in the order of a call; one of them
 --     stages_of                  the stages of a call whose look-ups pass
@@ -19,7 +20,7 @@ use Rattle.ffs_model.specs.Library.{inode_links}
 use Rattle.ffs_format.specs.Fields.{direct_in}
 use Rattle.ffs_lookup.specs.declared.fault.FfsFault.{FfsFault}
 use Rattle.ffs_lookup.specs.declared.fault.FfsFault.TheVariants.{NoEntry, TooLarge}
-use Rattle.ffs_lookup.specs.Files.{Answer, Blocks, Directory, File, Files, InodeValue, both_directories, created, directory_of, entry_named, is_same, look_up, room}
+use Rattle.ffs_lookup.specs.Files.{Answer, Blocks, Directory, File, Files, InodeValue, both_directories, created, directory_of, entry_named, is_same, links_of, look_up, room}
 use Rattle.ffs_lookup.specs.Files.{with_block, with_entry, with_value, without_link}
 use Rattle.ffs_lookup.specs.FileValues.{files_of, place_in}
 use Rattle.ffs_lookup.specs.Newest.{and_then, byte_of, directory_in, inode_in, is_short, listing}
@@ -36,9 +37,12 @@ abbrev pub with_link : Files → ℕ → Files
 with_link files n = with_value files n (more_a_link (files n))
 
 -- behind the 12 blocks to which the inode points itself
+abbrev pub cut_short : InodeValue → InodeValue
+cut_short (File links bytes) = File links (take 6144 bytes ++ replicate (length bytes - 6144) 0)
+cut_short other = other
+
 abbrev pub emptied : InodeValue → InodeValue
-emptied (File links bytes) = if nat_le links 1 then File links (take 6144 bytes ++ replicate (length bytes - 6144) 0) else File links bytes
-emptied other = other
+emptied value = if nat_le (links_of value) 1 then cut_short value else value
 
 abbrev pub with_emptied : Files → ℕ → Files
 with_emptied files n = with_value files n (emptied (files n))

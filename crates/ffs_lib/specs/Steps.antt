@@ -11,7 +11,7 @@
 --     TakesLink, Removed  an inode lost a link; a directory lost an entry, and the inode that it named a link
 --     StopsAt, ..         what is left where a part of a call is refused, and of what the fault tells
 --     Creates    the calls
-use Rattle.std.specs.Prelude.{◌≡◌, ◌≢◌, ℕ, ◌+◌, ◌-◌, ◌/◌, ◌<◌, ◌≤◌, ◌⊎◌, List, [], length, Contains, Option, Some, Result, Ok, Err, true, MatchResult, IsTrue}
+use Rattle.std.specs.Prelude.{◌≡◌, ◌≢◌, ℕ, ◌+◌, ◌-◌, ◌/◌, ◌<◌, ◌≤◌, ◌⊎◌, List, [], length, Contains, Option, Some, None, Result, Ok, Err, true, MatchResult, IsTrue}
 use Rattle.xn_model.specs.declared.refusal.Refusal.{Refusal}
 use Rattle.xn_model.specs.declared.refusal.Refusal.TheVariants.{NoMemory}
 use Rattle.xn_model.specs.Root.{word_at}
@@ -26,8 +26,10 @@ use Rattle.ffs_lookup.specs.declared.fault.FfsFault.{FfsFault}
 use Rattle.ffs_lookup.specs.declared.fault.FfsFault.TheVariants.{Kernel, NoEntry}
 use Rattle.ffs_lookup.specs.declared.places.Slot.{Slot}
 use Rattle.ffs_lookup.specs.declared.places.Free.{Free}
+use Rattle.ffs_lookup.specs.declared.places.Room.{Room}
+use Rattle.ffs_lookup.specs.declared.places.Room.TheVariants.{Entry, Pointer}
 use Rattle.ffs_lookup.specs.Places.{IsFree}
-use Rattle.ffs_lookup.specs.Newest.{TakesEntry, create_in, directory_in, inode_block_in, inode_in, is_short, listing, root_in, without_entry}
+use Rattle.ffs_lookup.specs.Newest.{TakesEntry, create_in, directory_in, inode_block_in, inode_in, is_short, listing, room_in, root_in, without_entry}
 use Rattle.ffs_lib.specs.Edits.{data_of_pointers, edit_at}
 use Rattle.ffs_format.specs.Entries.{entry_of, is_name}
 use Rattle.ffs_lib.specs.Volumes.{IsVolume}
@@ -203,42 +205,35 @@ IsHome content fs n block = Ok block ≡ inode_block_in content fs ((n - 1) / 8)
 abbrev pub StopsAtHome : Types → ℕ → StoreState → StoreState → ℕ → FfsFault → Type 0
 StopsAtHome T fs old new n fault = (new ≡ old) × (block : ℕ) × IsHome (newest old) fs n block × Wants T old fs block fault
 
--- nothing but what forgetting leaves of a new block, for an edit of a block that was to own it
-pub record Undone (T : Types) (fs : ℕ) (old new : StoreState) (ty : ℕ) (bytes : List ℕ) (home : ℕ) (fault : FfsFault) : Type 0 where
-  pub block : ℕ
-  pub number : ℕ
-  pub first : StoreState
-  pub begun : init_of T old fs ty bytes ≡ Ok ((block, number), first)
-  pub forgotten : new ≡ left_by (forget_of T first fs block) first
-  pub wants : Wants T first fs home fault
-
 -- a block was forgotten last, if the store takes that
 abbrev pub LastForgets : Types → ℕ → ℕ → StoreState → Type 0
 LastForgets T fs block new = (last : StoreState) × (new ≡ left_by (forget_of T last fs block) last)
 
 -- nothing changed, or a block was begun, and forgotten last
 abbrev pub Undoes : Types → ℕ → StoreState → StoreState → ℕ → List ℕ → Type 0
-Undoes T fs old new ty bytes =
-    (new ≡ old) ⊎ ((block : ℕ) × (number : ℕ) × (first : StoreState) × (init_of T old fs ty bytes ≡ Ok ((block, number), first)) × LastForgets T fs block new)
+Undoes T fs old new ty bytes = (new ≡ old) ⊎ MatchResult (init_of T old fs ty bytes) (λ made. LastForgets T fs made.0.0 new) (λ refusal. ⊥)
 
--- so it is, or the new block was not begun
+-- A new block was not begun; or it was, an edit of the block that was to own it is refused, and it is forgotten, if the store takes that.
 abbrev pub StopsAttaching : Types → ℕ → StoreState → StoreState → ℕ → List ℕ → ℕ → FfsFault → Type 0
-StopsAttaching T fs old new ty bytes home fault = ((new ≡ old) × Tells (init_of T old fs ty bytes) fault) ⊎ Undone T fs old new ty bytes home fault
+StopsAttaching T fs old new ty bytes home fault =
+    ((new ≡ old) × Tells (init_of T old fs ty bytes) fault)
+    ⊎ MatchResult (init_of T old fs ty bytes) (λ made. (new ≡ left_by (forget_of T made.1 fs made.0.0) made.1) × Wants T made.1 fs home fault) (λ refusal. ⊥)
 
 -- a block of inodes was to be added
 pub record StopsGrowing (T : Types) (fs : ℕ) (old new : StoreState) (fault : FfsFault) : Type 0 where
   pub same : AllSame old new fs
-  pub root : ℕ
-  pub is_root : Ok root ≡ root_in (newest old) fs
-  pub told : StopsAttaching T fs old new 4 zeros root fault
+  pub told : MatchResult (root_in (newest old) fs) (λ root. StopsAttaching T fs old new 4 zeros root fault) (λ other. ⊥)
 
--- an entry was to be written into a block of a directory, or into a new one
+-- an entry was to be written where a directory has room, or into a new block of it
+abbrev pub StopsAtRoom : Types → ℕ → StoreState → StoreState → ℕ → FfsFault → Option Room → Type 0
+StopsAtRoom T fs old new d fault (Some (Entry block place)) = (new ≡ old) × Wants T old fs block fault
+StopsAtRoom T fs old new d fault (Some (Pointer index)) =
+    MatchResult (inode_block_in (newest old) fs ((d - 1) / 8)) (λ home. (bytes : List ℕ) × StopsAttaching T fs old new 2 bytes home fault) (λ other. ⊥)
+StopsAtRoom T fs old new d fault None = ⊥
+
 pub record StopsEntering (T : Types) (fs : ℕ) (old new : StoreState) (d : ℕ) (fault : FfsFault) : Type 0 where
   pub same : AllSame old new fs
-  pub inode : List ℕ
-  pub directory : Ok inode ≡ directory_in (newest old) fs d
-  pub told : ((new ≡ old) × (block : ℕ) × Contains (inode_blocks inode) block × Wants T old fs block fault)
-      ⊎ ((bytes : List ℕ) × (home : ℕ) × IsHome (newest old) fs d home × StopsAttaching T fs old new 2 bytes home fault)
+  pub told : MatchResult (directory_in (newest old) fs d) (λ inode. StopsAtRoom T fs old new d fault (room_in (newest old) inode)) (λ other. ⊥)
 
 -- only the block of pointers of an inode changed, which owns nothing now
 pub record ClearedPointers (old new : ℕ → List ℕ) (inode : List ℕ) : Type 0 where

@@ -9,9 +9,9 @@ ghost use Rattle.ffs_model.specs.Library.{library_layout, inode_mode, IsLibrary,
 ghost use Rattle.xn_model.specs.Lists.{put};
 ghost use Rattle.ffs_lookup.specs.Newest.{IsLowest, RefusesAs, TakesEntry, create_in, directory_in, first_named, has_empty_pointer, has_inode, has_room, is_at};
 ghost use Rattle.ffs_lookup.specs.Newest.{mapped, root_in, file_in, listing, named_in, names_at, rename_in, rmdir_in, unlink_in, without_entry, inode_in};
-ghost use Rattle.ffs_lookup.specs.Counts.{make_from, open_in};
-ghost use Rattle.ffs_lookup.specs.Repairs.{idle_in, repair_at, repair_in};
-ghost use Rattle.ffs_lib.specs.Reclaiming.{Reclaims};
+ghost use Rattle.ffs_lookup.specs.Counts.{if_idle, make_from, open_in};
+ghost use Rattle.ffs_lookup.specs.Repairs.{idle_in, repair_at};
+ghost use Rattle.ffs_lib.specs.Reclaiming.{LeftByRepair, needs, reclaimed, reclaimed_stages};
 ghost use Rattle.ffs_lookup.specs.declared.places.Found.{Found};
 ghost use Rattle.ffs_lookup.specs.declared.places.Slot.{Slot};
 ghost use Rattle.ffs_model.specs.Volumes.{VolumeKeeps, no_edits};
@@ -579,7 +579,7 @@ impl Volume {
     pub fn reclaimable<S: Store>(&self, store: &S) -> Result<Repairs, FfsFault>
         ensures exact { IsLibrary (S.types_of store.now) → mapped (λ repairs. tt) result ≡ idle_in (S.state_of store.now) self.now.fs.number }
         ensures each { IsLibrary (S.types_of store.now) → IfOk result (λ repairs. (n : ℕ) →
-            repair_at repairs.each n ≡ repair_in (newest (S.state_of store.now)) self.now.fs.number n) }
+            repair_at repairs.each n ≡ needs (files_of (newest (S.state_of store.now)) self.now.fs.number) n) }
     {
         look_up_repairs(store, self.fs)
     }
@@ -590,7 +590,11 @@ impl Volume {
     pub fn reclaim<S: Store>(&self, alloc: Global, store: &mut S) -> Result<Repairs, FfsFault>
         requires { IsVolume (S.types_of store.old) (S.state_of store.old) self.now }
         ensures types { S.types_of store.new ≡ S.types_of store.old }
-        ensures answers { Reclaims (S.types_of store.old) self.now.fs.number (S.state_of store.old) (S.state_of store.new) result }
+        ensures answers { let files = files_of (newest (S.state_of store.old)) self.now.fs.number in
+            Does (S.types_of store.old) self.now.fs.number (if_idle (S.state_of store.old) self.now.fs.number (reclaimed files)) (reclaimed_stages files)
+            (S.state_of store.old) (S.state_of store.new) (mapped (λ repairs. repair_at repairs.each) result) }
+        ensures inodes { let old = newest (S.state_of store.old) in let new = newest (S.state_of store.new) in let fs = self.now.fs.number in
+            (n : ℕ) → LeftByRepair old new fs n (needs (files_of old fs) n) }
         ensures keeps { IsVolume (S.types_of store.old) (S.state_of store.new) self.now }
     {
         reclaim_inodes(alloc, store, self.fs)

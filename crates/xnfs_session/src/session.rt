@@ -7,8 +7,9 @@ ghost use Rattle.ffs_lookup.specs.Newest.{inode_in, mapped, named_in, rename_in,
 ghost use Rattle.ffs_lookup.specs.declared.places.Slot.{Slot};
 ghost use Rattle.ffs_lookup.specs.Files.{Files, created, listed, new_directory, new_file, read, read_over, removed, renamed, replaced, unlinked, written};
 ghost use Rattle.ffs_lookup.specs.FileValues.{files_of};
-ghost use Rattle.ffs_lookup.specs.Repairs.{idle_in, repair_at, repair_in};
-ghost use Rattle.ffs_lib.specs.Reclaiming.{Reclaims};
+ghost use Rattle.ffs_lookup.specs.Counts.{if_idle};
+ghost use Rattle.ffs_lookup.specs.Repairs.{idle_in, repair_at};
+ghost use Rattle.ffs_lib.specs.Reclaiming.{LeftByRepair, needs, reclaimed, reclaimed_stages};
 ghost use Rattle.ffs_lib.specs.Replacing.{Replaced, replace_in};
 ghost use Rattle.ffs_lib.specs.Results.{MovedInodes};
 ghost use Rattle.ffs_lib.specs.Stages.{Does, KeptOrEmptied, Makes, OnlyMade, Unnames, created_stages, removed_stages, renamed_stages, replaced_stages};
@@ -355,7 +356,8 @@ impl<S: FlushStore + Drop> Session<S> {
     /// written.
     pub fn reclaimable(&self) -> Result<Repairs, FfsFault>
         ensures exact { mapped (λ repairs. tt) result ≡ idle_in (S.state_of self.now.store) self.now.fs }
-        ensures each { IfOk result (λ repairs. (n : ℕ) → repair_at repairs.each n ≡ repair_in (newest (S.state_of self.now.store)) self.now.fs n) }
+        ensures each { IfOk result (λ repairs. (n : ℕ) →
+            repair_at repairs.each n ≡ needs (files_of (newest (S.state_of self.now.store)) self.now.fs) n) }
     {
         self.volume.reclaimable(&self.store)
     }
@@ -364,7 +366,11 @@ impl<S: FlushStore + Drop> Session<S> {
     pub fn reclaim(&mut self, alloc: Global) -> Result<Repairs, FfsFault>
         ensures types { S.types_of self.new.store ≡ S.types_of self.old.store }
         ensures fs { self.new.fs ≡ self.old.fs }
-        ensures answers { Reclaims (S.types_of self.old.store) self.old.fs (S.state_of self.old.store) (S.state_of self.new.store) result }
+        ensures answers { let files = files_of (newest (S.state_of self.old.store)) self.old.fs in
+            Does (S.types_of self.old.store) self.old.fs (if_idle (S.state_of self.old.store) self.old.fs (reclaimed files)) (reclaimed_stages files)
+            (S.state_of self.old.store) (S.state_of self.new.store) (mapped (λ repairs. repair_at repairs.each) result) }
+        ensures inodes { let old = newest (S.state_of self.old.store) in let new = newest (S.state_of self.new.store) in let fs = self.old.fs in
+            (n : ℕ) → LeftByRepair old new fs n (needs (files_of old fs) n) }
     {
         self.volume.reclaim(alloc, &mut self.store)
     }

@@ -10,7 +10,7 @@ use Rattle.ffs_lib.specs.Edits.{edit_at}
 use Rattle.ffs_lib.specs.Steps.{IsEntry}
 use Rattle.ffs_lib.proofs.Fields.{entry_names}
 use Rattle.ffs_lib.proofs.Laws.{finishes}
-use Rattle.ffs_lib.proofs.NameLaws.{direct_contains, enters, enters_short, not_entered}
+use Rattle.ffs_lib.proofs.NameLaws.{enters, enters_short, not_entered}
 use Rattle.ffs_lib.proofs.put.enter.Goals as goal
 
 pub returns-in-Entry-clause-ends : goal.returns-in-Entry-clause-ends
@@ -29,8 +29,7 @@ returns-in-Entry-clause-ends g c = λ T array directory e s m dir free.
     finishes T fs room.block (edit_at (32 * room.place) bytes [] [] (Some c.args.after)) array old new _ _ s c.put.result (c.put.ensures.put T e)
     (enters_short T fs array old s c.args.number found c.in_ok-directory.ensures.found exact c.args.inode c.args.after m bytes c.args.name.now b room.block room.place gap first)
     (enters T fs array old s c.args.number found c.in_ok-directory.ensures.found exact c.args.inode c.args.after m bytes c.args.name.now b room.block room.place gap first new)
-    (λ fault same told. not_entered T fs old new c.args.number directory dir same room.block (direct_contains T fs old c.args.number found directory c.in_ok-directory.ensures.found (same_ok directory found.inode (dir ∙ sym exact)) room.block gap.has) fault
-    (edit_at (32 * room.place) bytes [] [] (Some c.args.after), told))
+    (λ fault same told. not_entered T fs old new c.args.number found.inode exact same room.block room.place first fault (edit_at (32 * room.place) bytes [] [] (Some c.args.after), told))
 
 pub returns-in-Pointer-clause-ends : goal.returns-in-Pointer-clause-ends
 returns-in-Pointer-clause-ends g c = λ T array directory e s m dir free.

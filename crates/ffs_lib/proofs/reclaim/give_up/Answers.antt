@@ -10,7 +10,7 @@ use Rattle.ffs_lib.specs.Outcomes.{HasNoData}
 use Rattle.ffs_lib.specs.Steps.{ShortEdit}
 use Rattle.ffs_lib.specs.Reclaiming.{emptying}
 use Rattle.ffs_lib.proofs.Laws.{fails, finishes, home_of, no_memory, same_stage, short_told}
-use Rattle.ffs_lib.proofs.Reclaiming.{empties, empties_short, given_up_then, inode_goes, inode_short, nothing_repaired, pointers_emptied, reached_pointers}
+use Rattle.ffs_lib.proofs.Reclaiming.{empties, empties_short, give_no_keep, given_up_then, inode_goes, inode_short, nothing_repaired, pointers_emptied, reached_pointers}
 use Rattle.ffs_lib.proofs.Tops.{never}
 use Rattle.ffs_lib.proofs.reclaim.give_up.Goals as goal
 
@@ -28,7 +28,7 @@ returns-in_err-empty_pointers-clause-ends g c = λ T array e s may.
     let p = c.in_err-empty_pointers.ensures.put T e (reached_pointers T fs array old s n found is exact block points) in
     let edit = emptying old block in
     fails _ _ (same_stage s p.0) c.from_residual-in_err-empty_pointers.result _ c.from_residual-in_err-empty_pointers.ensures.1
-    (short_told (propose_of T old fs block edit) (empties_short T fs array old s n found is exact block points p.1 p.2) _ p.3, nothing_repaired T fs old new n GiveUp found.inode exact p.0 block (inr (sym points)) _ (edit, p.3))
+    (short_told (propose_of T old fs block edit) (empties_short T fs array old s n found is exact block points p.1 p.2) _ p.3, nothing_repaired T fs old new n GiveUp give_no_keep found.inode exact p.0 block (inr (sym points)) _ (edit, p.3))
 
 pub returns-in_err-found-2-clause-ends : goal.returns-in_err-found-2-clause-ends
 returns-in_err-found-2-clause-ends g c = λ T array e s may.

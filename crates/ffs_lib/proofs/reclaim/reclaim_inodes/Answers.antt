@@ -2,8 +2,8 @@ use Rattle.std.proofs.Common.{◌≡◌, ◌+◌, ◌≤◌, ◌∙◌, arith, r
 use Rattle.ffs_model.specs.Cuts.{latest}
 use Rattle.ffs_model.specs.Library.{IsLibrary}
 use Rattle.ffs_lookup.specs.Repairs.{repair_in}
-use Rattle.ffs_lib.proofs.Laws.{stops_err}
-use Rattle.ffs_lib.proofs.Reclaiming.{idle_ok, idle_then, may_repair, middle_ends, middle_more, middle_stops}
+use Rattle.ffs_lib.proofs.Reclaiming.{idle_ok, may_repair, middle_more}
+use Rattle.ffs_lib.proofs.StagedRepairs.{all_left, all_refused, all_value, done_reclaims, pending_reclaims, refused_left, refused_reclaims}
 use Rattle.ffs_lib.proofs.reclaim.reclaim_inodes.Goals as goal
 
 pub returns-in_err-repair_inode-clause-reclaims : goal.returns-in_err-repair_inode-clause-reclaims
@@ -18,11 +18,13 @@ returns-in_err-repair_inode-clause-reclaims g c = λ T array e s.
     let idle = idle_ok old fs looked in
     let middle = c.loop-at.invariant.middle T array e s idle in
     let repair : c.of.result ≡ repair_in (latest old.lives) fs (at + 1) = c.of.ensures ∙ c.in_ok-repairs.ensures.each lib (at + 1) in
-    let p = c.in_err-repair_inode.ensures.ends T array (c.loop-at.invariant.types ∙ e) middle.stage (may_repair T fs array old s idle now at middle (at + 1) refl c.of.result repair) in (
+    let p = c.in_err-repair_inode.ensures.ends T array (c.loop-at.invariant.types ∙ e) middle.stage (may_repair T fs array old s idle now at middle (at + 1) refl c.of.result repair) in
+    let low : at + 1 ≤ 128 = omega arith in (
       p.0,
-      idle_then T fs old new c.from_residual-in_err-repair_inode.result looked
-          (stops_err _ _ c.from_residual-in_err-repair_inode.result c.in_err-repair_inode.field-0.0 c.from_residual-in_err-repair_inode.ensures.1
-          (p.1.0, middle_stops T fs array old now new at (at + 1) refl c.of.result repair middle c.in_err-repair_inode.field-0.0 p.1.1)),
+      refused_reclaims T fs old new c.in_err-repair_inode.field-0.0 looked p.1.0
+          (all_refused T s.library fs c.args.fs.few array old now at middle (at + 1) refl low new p.0.keeps.consistent c.in_err-repair_inode.field-0.0 c.of.result repair p.1.1)
+          (refused_left T s.library fs c.args.fs.few array old now at middle (at + 1) refl low new p.0.keeps.consistent c.in_err-repair_inode.field-0.0 c.of.result repair p.1.1)
+          c.from_residual-in_err-repair_inode.result c.from_residual-in_err-repair_inode.ensures.1,
     )
 
 pub loop-at-preserved : goal.loop-at-preserved
@@ -47,11 +49,13 @@ returns-clause-reclaims g c = λ T array e s.
     let old = g.S.Store.state_of c.args.store.now in
     let lib = subst IsLibrary (sym e) s.library in
     let looked = c.in_ok-repairs.ensures.exact lib in
+    let now = g.S.Store.state_of c.loop-at.store in
     let middle = c.loop-at.invariant.middle T array e s (idle_ok old fs looked) in
     let all : c.loop-at.at ≡ 128 = omega arith in (
       middle.stage,
-      idle_then T fs old (g.S.Store.state_of c.loop-at.store) _ looked (record {
-        told = c.in_ok-repairs.ensures.each lib;
-        each = middle_ends T fs array old (g.S.Store.state_of c.loop-at.store) c.loop-at.at all middle;
-      }),
+      done_reclaims T fs old now _ looked (c.in_ok-repairs.ensures.each lib) (all_value T s.library fs c.args.fs.few array old now c.loop-at.at middle all) (all_left T s.library fs c.args.fs.few array old now c.loop-at.at middle all),
     )
+
+pub returns-in_err-repairs-clause-reclaims : goal.returns-in_err-repairs-clause-reclaims
+returns-in_err-repairs-clause-reclaims g c = λ T array e s.
+    (s, pending_reclaims T c.args.fs.number (g.S.Store.state_of c.args.store.now) _ (c.in_err-repairs.ensures.exact (subst IsLibrary (sym e) s.library)) c.from_residual.result c.from_residual.ensures.1)

@@ -5,7 +5,7 @@ use Rattle.ffs_lookup.specs.declared.repairs.Repair.TheVariants.{SetLinks}
 use Rattle.ffs_lookup.proofs.ForCallers.{same_ok}
 use Rattle.ffs_lib.specs.Edits.{edit_at}
 use Rattle.ffs_lib.proofs.Laws.{finishes, home_of, more_short}
-use Rattle.ffs_lib.proofs.Reclaiming.{links_go, nothing_repaired}
+use Rattle.ffs_lib.proofs.Reclaiming.{links_go, nothing_repaired, set_no_keep}
 use Rattle.ffs_lib.proofs.reclaim.set_links.Goals as goal
 
 pub returns-clause-ends : goal.returns-clause-ends
@@ -27,4 +27,4 @@ returns-clause-ends g c = λ T array e s may.
     finishes T fs found.block edit array old new _ _ s c.put_inode.result (c.put_inode.ensures.put T e)
     (more_short T fs array old s n found is exact bytes c.put_inode.ensures.whole left c.set_links.ensures.fields)
     (links_go T fs array old s n found is exact bytes c.put_inode.ensures.whole left c.set_links.ensures.fields less spare new)
-    (λ fault same told. nothing_repaired T fs old new n (SetLinks left) found.inode exact same found.block (inl (home_of old fs n found.block found.place is.stands)) fault (edit, told))
+    (λ fault same told. nothing_repaired T fs old new n (SetLinks left) (set_no_keep left) found.inode exact same found.block (inl (home_of old fs n found.block found.place is.stands)) fault (edit, told))

@@ -4,7 +4,10 @@ use Rattle.ffs_lib.proofs.Laws.{staged}
 use Rattle.ffs_lib.proofs.volume.Volume.reclaim.Goals as goal
 
 pub returns-clause-answers : goal.returns-clause-answers
-returns-clause-answers g c = (c.reclaim_inodes.ensures.reclaims (g.S.Store.types_of c.args.store.now) (edits_of c.args.self.now.added) refl (staged c.requires c.args.self.now.fs.few)).1
+returns-clause-answers g c = (c.reclaim_inodes.ensures.reclaims (g.S.Store.types_of c.args.store.now) (edits_of c.args.self.now.added) refl (staged c.requires c.args.self.now.fs.few)).1.0
+
+pub returns-clause-inodes : goal.returns-clause-inodes
+returns-clause-inodes g c = (c.reclaim_inodes.ensures.reclaims (g.S.Store.types_of c.args.store.now) (edits_of c.args.self.now.added) refl (staged c.requires c.args.self.now.fs.few)).1.1
 
 pub returns-clause-keeps : goal.returns-clause-keeps
 returns-clause-keeps g c =
