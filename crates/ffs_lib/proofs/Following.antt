@@ -1,9 +1,7 @@
 -- A call follows its function of the files, by what it looks up, and what it leaves.
-use Rattle.std.proofs.Common.{◌≡◌, ◌≢◌, ℕ, ◌+◌, ◌<◌, List, Result, Ok, Err, length, take, refl, sym, ◌∙◌, ap, arith, subst, ◌≤◌}
+use Rattle.std.proofs.Common.{◌≡◌, ◌≢◌, ℕ, ◌<◌, List, Result, Ok, Err, refl, sym, ◌∙◌, ap, arith, subst, ◌≤◌}
 use Rattle.std.specs.Prelude.{Bool, false, MatchResult, ◌==◌, ◌&&◌}
 use Rattle.std.proofs.lemmas.Bool.{ne_eqb}
-use Rattle.std.proofs.lemmas.List.{length-take}
-use Rattle.xn_model.specs.declared.refusal.Refusal.TheVariants.{TooManyPending}
 use Rattle.xn_model.specs.Types.{Types}
 use Rattle.xn_model.specs.Lives.{StoreState}
 use Rattle.xn_model.specs.Rules.{IsConsistent}
@@ -11,23 +9,20 @@ use Rattle.ffs_model.specs.Cuts.{latest}
 use Rattle.ffs_model.specs.Library.{IsLibrary, inode_links}
 use Rattle.ffs_format.specs.Fields.{direct_in}
 use Rattle.ffs_lookup.specs.declared.fault.FfsFault.{FfsFault}
-use Rattle.ffs_lookup.specs.declared.fault.FfsFault.TheVariants.{Kernel}
 use Rattle.ffs_lookup.specs.declared.places.Slot.{Slot}
-use Rattle.ffs_lookup.specs.Newest.{directory_in, is_at, write_in}
-use Rattle.ffs_lookup.specs.Files.{Answer, Files, cleared, replaced, told, written}
+use Rattle.ffs_lookup.specs.Newest.{directory_in, is_at}
+use Rattle.ffs_lookup.specs.Files.{Answer, Files, cleared, replaced, told}
 use Rattle.ffs_lookup.specs.FileValues.{AreBlocksOnce, files_of}
-use Rattle.ffs_lookup.proofs.ForCallers.{EntryAt, first_value, not_both, written_told}
+use Rattle.ffs_lookup.proofs.ForCallers.{EntryAt, first_value, not_both}
 use Rattle.ffs_lib.specs.Replacing.{Turned}
 use Rattle.ffs_lib.specs.Steps.{AddsLink, Answers, Removed, Stops, TakesLink, Unnamed}
-use Rattle.ffs_lib.specs.Values.{ByAnswer, Follows, Leads, WritesFirst}
+use Rattle.ffs_lib.specs.Values.{ByAnswer, Follows, Leads}
 use Rattle.ffs_lib.proofs.Entering.{directory_from}
 use Rattle.ffs_lib.proofs.Owners.{direct_block, stands_from, two_blocks}
 use Rattle.ffs_lib.proofs.Replacing.{CanReplace}
 use Rattle.ffs_lib.proofs.ValueReplaced.{by_tests, replaced_files, replaced_ok, same_is}
 use Rattle.ffs_lib.proofs.ValueSteps.{removed_value}
-use Rattle.ffs_lib.proofs.ValueWritten.{write_less, written_leads}
 use Rattle.ffs_lib.proofs.Writing.{file_from}
-use Rattle.ffs_lib.specs.Writes.{StopsSome, StopsWriting, Writes, WritesSome, Wrote, WroteSome}
 
 -- a directory points to no block twice
 pub blocks_once : (T : Types) (lib : IsLibrary T) (state : StoreState) (h : IsConsistent T state) (fs : ℕ) → fs < 32 → AreBlocksOnce (latest state.lives) fs
@@ -61,11 +56,6 @@ follows_found {A} answer next P R fs old new result e leads h = subst (λ (a : A
 pub follows_fault : {A B : Type 0} (looked : Result B FfsFault) (answer : Answer A) (R : B → FfsFault → Type 0) (fs : ℕ) (old new : StoreState) (result : Result A FfsFault) → told looked ≡ told answer → Answers looked (λ x y. ⊥) R old new result →
     Follows answer fs old new result
 follows_fault looked answer R fs old new result e h = follows_by looked answer (λ x y. ⊥) R fs old new result e (λ x is y none. absurd none) h
-
-pub written_follows : (T : Types) (fs n offset : ℕ) (bytes : List ℕ) (old new : StoreState) (result : Result (Unit {0}) FfsFault) → Writes T fs n offset bytes old new result → Follows (written (files_of (latest old.lives) fs) n offset bytes) fs old new result
-written_follows T fs n offset bytes old new result answers =
-    follows_by (write_in (latest old.lives) fs n (offset + length bytes)) (written (files_of (latest old.lives) fs) n offset bytes) (λ inode _. Wrote old new fs n inode offset bytes) (λ inode fault. StopsWriting T fs old new n inode offset bytes fault)
-    fs old new result (written_told (latest old.lives) fs n offset bytes) (λ inode e x wrote. written_leads old new fs n offset bytes inode e wrote x) answers
 
 -- two directories point to no block
 pub blocks_apart : (T : Types) (lib : IsLibrary T) (state : StoreState) (h : IsConsistent T state) (fs : ℕ) → fs < 32 → (d e : ℕ) (a b : List ℕ) (i j : ℕ) → Ok a ≡ directory_in (latest state.lives) fs d → Ok b ≡ directory_in (latest state.lives) fs e → i < 12 → j < 12 →
@@ -108,17 +98,3 @@ module _ (T : Types) (lib : IsLibrary T) (state : StoreState) (h : IsConsistent 
   another_leads ne v1 a v2 t places v4 c linked w b =
       subst (λ (r : Answer (Unit {0})). Leads r w fs tt) (sym (replaced_answer false false places (ne_eqb from.inode to.inode ne)))
       (refl, λ n. ap (λ (g : Files). g n) (replaced_files u fs d name other other_name from to x first second (blocks_once T lib state h fs few) ne v1 a v2 t places v4 c w b linked))
-
--- `write_some`
-pub some_follows : (T : Types) (fs n offset : ℕ) (bytes : List ℕ) (old new : StoreState) (result : Result ℕ FfsFault) → WritesSome T fs n offset bytes old new result →
-    ByAnswer (written (files_of (latest old.lives) fs) n offset bytes) (WritesFirst (files_of (latest old.lives) fs) (latest new.lives) fs n offset bytes) old new result
-some_follows T fs n offset bytes old new result answers =
-    by_answer (write_in (latest old.lives) fs n (offset + length bytes)) (written (files_of (latest old.lives) fs) n offset bytes) (λ inode count. WroteSome T fs old new n inode offset bytes count)
-    (λ inode fault. (fault ≢ Kernel TooManyPending) × StopsSome T fs old new n inode offset bytes fault) (WritesFirst (files_of (latest old.lives) fs) (latest new.lives) fs n offset bytes) old new result (written_told (latest old.lives) fs n offset bytes)
-    (λ inode e count k. (
-      k.few,
-      λ some.
-          let few = k.few in
-          let long = length-take count bytes in
-          written_leads old new fs n offset (take count bytes) inode (write_less (latest old.lives) fs n (offset + length bytes) (offset + length (take count bytes)) inode (omega (arith, few, long)) e) (k.some some) tt,
-    )) answers

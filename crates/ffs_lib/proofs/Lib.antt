@@ -51,4 +51,5 @@ pub mod Following
 pub mod ValueWritten
 pub mod Staged
 pub mod StagedNew
+pub mod StagedWritten
 pub mod StagedMoves
