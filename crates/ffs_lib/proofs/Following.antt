@@ -16,7 +16,7 @@ use Rattle.ffs_lookup.specs.FileValues.{AreBlocksOnce, files_of}
 use Rattle.ffs_lookup.proofs.ForCallers.{EntryAt, first_value, not_both}
 use Rattle.ffs_lib.specs.Replacing.{Turned}
 use Rattle.ffs_lib.specs.Steps.{AddsLink, Answers, Removed, Stops, TakesLink, Unnamed}
-use Rattle.ffs_lib.specs.Values.{ByAnswer, Follows, Leads}
+use Rattle.ffs_lib.specs.Values.{Follows, Leads}
 use Rattle.ffs_lib.proofs.Entering.{directory_from}
 use Rattle.ffs_lib.proofs.Owners.{direct_block, stands_from, two_blocks}
 use Rattle.ffs_lib.proofs.Replacing.{CanReplace}
@@ -31,18 +31,6 @@ blocks_once T lib state h fs few d inode e i j low low' ne same =
     let s = stands_from v fs d inode (directory_from v fs d inode e).0 in
     (two_blocks T lib state h fs few d d inode inode s s i j _ (omega (arith, low)) (omega (arith, low')) (direct_block v inode i low) (direct_block v inode j low' ∙ sym same) ne).1
 
-pub by_answer : {A B C : Type 0} (looked : Result B FfsFault) (answer : Answer A) (Q : B → C → Type 0) (R : B → FfsFault → Type 0) (P : C → Type 0) (old new : StoreState) (result : Result C FfsFault) → told looked ≡ told answer →
-    ((x : B) → Ok x ≡ looked → (y : C) → Q x y → P y) → Answers looked Q R old new result → ByAnswer answer P old new result
-by_answer (Err fault) (Err other) Q R P old new result e leads h = let same : fault ≡ other = cc e in (h.0 ∙ ap (λ (f : FfsFault). Err f) same, h.1)
-by_answer (Err fault) (Ok next) Q R P old new result e leads h = absurd (cc e)
-by_answer (Ok x) (Err other) Q R P old new result e leads h = absurd (cc e)
-by_answer (Ok x) (Ok next) Q R P old new (Ok y) e leads h = leads x refl y h
-by_answer (Ok x) (Ok next) Q R P old new (Err fault) e leads h = h.0
-
-pub follows_by : {A B : Type 0} (looked : Result B FfsFault) (answer : Answer A) (Q : B → A → Type 0) (R : B → FfsFault → Type 0) (fs : ℕ) (old new : StoreState) (result : Result A FfsFault) → told looked ≡ told answer →
-    ((x : B) → Ok x ≡ looked → (y : A) → Q x y → Leads answer (latest new.lives) fs y) → Answers looked Q R old new result → Follows answer fs old new result
-follows_by looked answer Q R fs old new result e leads h = by_answer looked answer Q R (Leads answer (latest new.lives) fs) old new result e leads h
-
 -- a call whose look-ups pass does what its function says, or the store is short of something
 pub follows_found : {A : Type 0} (answer : Answer A) (next : A × Files) (P : A → Type 0) (R : FfsFault → Type 0) (fs : ℕ) (old new : StoreState) (result : Result A FfsFault) → answer ≡ Ok next → ((y : A) → P y → Leads (Ok next) (latest new.lives) fs y) →
     MatchResult result P (Stops R) → Follows answer fs old new result
@@ -55,7 +43,11 @@ follows_found {A} answer next P R fs old new result e leads h = subst (λ (a : A
 -- one whose look-ups fail has the fault that its function has
 pub follows_fault : {A B : Type 0} (looked : Result B FfsFault) (answer : Answer A) (R : B → FfsFault → Type 0) (fs : ℕ) (old new : StoreState) (result : Result A FfsFault) → told looked ≡ told answer → Answers looked (λ x y. ⊥) R old new result →
     Follows answer fs old new result
-follows_fault looked answer R fs old new result e h = follows_by looked answer (λ x y. ⊥) R fs old new result e (λ x is y none. absurd none) h
+follows_fault (Err fault) (Err other) R fs old new result e h = let same : fault ≡ other = cc e in (h.0 ∙ ap (λ (f : FfsFault). Err f) same, h.1)
+follows_fault (Err fault) (Ok next) R fs old new result e h = absurd (cc e)
+follows_fault (Ok x) (Err other) R fs old new result e h = absurd (cc e)
+follows_fault (Ok x) (Ok next) R fs old new (Ok y) e h = absurd h
+follows_fault (Ok x) (Ok next) R fs old new (Err fault) e h = h.0
 
 -- two directories point to no block
 pub blocks_apart : (T : Types) (lib : IsLibrary T) (state : StoreState) (h : IsConsistent T state) (fs : ℕ) → fs < 32 → (d e : ℕ) (a b : List ℕ) (i j : ℕ) → Ok a ≡ directory_in (latest state.lives) fs d → Ok b ≡ directory_in (latest state.lives) fs e → i < 12 → j < 12 →

@@ -2,7 +2,7 @@
 use Rattle.std.proofs.Common.{◌≡◌, ◌≢◌, ℕ, zero, suc, ◌+◌, ◌-◌, ◌/◌, ◌%◌, ◌<◌, ◌≤◌, ◌⊎◌, Bool, true, false, List, [], ◌∷◌, ◌++◌, length, map, take, replicate, Option, Some, None, Result, Ok, Err, refl, sym, ◌∙◌, ap, inl, inr, arith, eq-eqb, subst, length-append}
 use Rattle.std.specs.Prelude.{IfErr, IfOk, IfSome, IsOk, MatchResult, OnOk, ◌==◌, ◌||◌, filter, min, nat_lt, if◌then◌else◌}
 use Rattle.std.specs.List.{range_with_len}
-use Rattle.std.proofs.lemmas.Bool.{cases_eq, lt-ltb, or_left, or_right}
+use Rattle.std.proofs.lemmas.Bool.{cases_eq, le-ltb, lt-ltb, or_left, or_right}
 use Rattle.std.proofs.lemmas.List.{length-replicate, length-take-le, take_all}
 use Rattle.std.proofs.Math.Seq.{take-append-add}
 use Rattle.std.proofs.lemmas.List.FromFn.{length-map-range_with_len}
@@ -24,7 +24,7 @@ use Rattle.ffs_lib.specs.Stages.{Ask, Asks, Does, IsRefused, IsStage, OfInode, O
 use Rattle.ffs_lib.specs.Steps.{Answers, Stage, Stops, StopsAtHome}
 use Rattle.ffs_lib.specs.Values.{Leads}
 use Rattle.ffs_lib.specs.Writes.{PartStops, Parts, Puts, StopsPart, padded}
-use Rattle.ffs_lib.specs.Written.{DoesSome, Overwrites, RefusesSome, WritesSomeTo, WritesTo, borders, first_place, if_any, next_stages, part_stages, place_stages, size_stages, written_stages, written_to}
+use Rattle.ffs_lib.specs.Written.{DoesSome, Overwrites, RefusesSome, TakesSome, WritesSomeTo, WritesTo, borders, first_place, if_any, last_stages, next_stages, part_stages, place_stages, size_stages, written_stages, written_to}
 use Rattle.ffs_lib.specs.Volumes.{IsVolume, edits_of}
 use Rattle.ffs_lib.specs.declared.data.Progress.{Progress}
 use Rattle.ffs_lib.specs.declared.volume.Volume.{Volume}
@@ -70,35 +70,11 @@ any_is (byte ∷ rest) stages ne = refl
 
 -- What the files don't say
 
-pub overwrites_first : (old new : StoreState) (fs n : ℕ) (inode : List ℕ) (offset : ℕ) (bytes : List ℕ) (done : ℕ) → Ok inode ≡ file_in (latest old.lives) fs n → Puts old new fs n (min (file_end inode) offset) (take done (padded (file_end inode) offset bytes)) →
-    Overwrites (latest old.lives) (latest new.lives) fs n inode offset bytes done
-overwrites_first old new fs n inode offset bytes done is a =
-    let k = a.wrote inode is in
-    record { others = a.others; after = k.after; file = k.file; mode = k.marks.0; size = λ high. k.size; each = k.each }
-
 pub overwrites_none : (state : StoreState) (fs n : ℕ) (inode : List ℕ) (offset : ℕ) (bytes : List ℕ) → Ok inode ≡ file_in (latest state.lives) fs n → Overwrites (latest state.lives) (latest state.lives) fs n inode offset bytes 0
-overwrites_none state fs n inode offset bytes is = overwrites_first state state fs n inode offset bytes 0 is (puts_none state fs n (min (file_end inode) offset))
-
-pub overwrites_raised : (old middle new : StoreState) (fs n : ℕ) (inode : List ℕ) (offset : ℕ) (bytes : List ℕ) (done size : ℕ) (is : Ok inode ≡ file_in (latest old.lives) fs n) (a : Puts old middle fs n (min (file_end inode) offset) (take done (padded (file_end inode) offset bytes))) → size ≤ 71680 →
-    IsRaised (latest middle.lives) (latest new.lives) fs n (a.wrote inode is).after size → OnlyChanges (latest middle.lives) (latest new.lives) fs n → Overwrites (latest old.lives) (latest new.lives) fs n inode offset bytes done
-overwrites_raised old middle new fs n inode offset bytes done size is a low r others =
+overwrites_none state fs n inode offset bytes is =
+    let a = puts_none state fs n (min (file_end inode) offset) in
     let k = a.wrote inode is in
-    record {
-      others = λ d ne. same_on (latest old.lives) (latest middle.lives) (latest new.lives) fs d (a.others d ne) (others d ne);
-      after = r.after;
-      file = r.file;
-      mode = r.marks.0 ∙ k.marks.0;
-      size = λ high. let w = k.size in let s = r.sized in omega (arith, w, s, high, low);
-      each = λ at less. r.each at less ∙ k.each at less;
-    }
-
--- the size was raised then, or not
-pub overwrites_by : (T : Types) (old middle new : StoreState) (fs n : ℕ) (inode : List ℕ) (offset : ℕ) (bytes : List ℕ) (done size : ℕ) (is : Ok inode ≡ file_in (latest old.lives) fs n) (a : Puts old middle fs n (min (file_end inode) offset) (take done (padded (file_end inode) offset bytes))) → size ≤ 71680 →
-    (result : Result (Unit {0}) FfsFault) → MatchResult result (λ x. IsRaised (latest middle.lives) (latest new.lives) fs n (a.wrote inode is).after size × OnlyChanges (latest middle.lives) (latest new.lives) fs n)
-    (Stops (λ fault. (word_at (a.wrote inode is).after 4 < size) × StopsAtHome T fs middle new n fault)) → Overwrites (latest old.lives) (latest new.lives) fs n inode offset bytes done
-overwrites_by T old middle new fs n inode offset bytes done size is a low (Ok x) r = overwrites_raised old middle new fs n inode offset bytes done size is a low r.0 r.1
-overwrites_by T old middle new fs n inode offset bytes done size is a low (Err fault) stop =
-    subst (λ (s : StoreState). Overwrites (latest old.lives) (latest s.lives) fs n inode offset bytes done) (sym stop.1.1.0) (overwrites_first old middle fs n inode offset bytes done is a)
+    record { others = a.others; after = k.after; file = k.file; mode = k.marks.0; size = λ high. k.size; few = omega arith; border = λ lt. inl refl; each = k.each }
 
 -- The file that is looked up
 pub found_file : (content : ℕ → List ℕ) (fs n size end : ℕ) → Ok end ≡ mapped file_end (write_in content fs n size) → (inode : List ℕ) × (Ok inode ≡ file_in content fs n) × (file_end inode ≡ end) × (size ≤ 71680)
@@ -221,6 +197,28 @@ module _ (T : Types) (fs : ℕ) (array : ℕ → Option ℕ) (old middle : Store
   size_place : (new : StoreState) (fault : FfsFault) → StopsAtHome T fs middle new n fault → IsStage T fs new fault (place_stages all n offset bytes progress.done)
   size_place new fault s = subst (IsStage T fs new fault) (sym (place_are progress.done)) (inr (inl (middle, first_files old fs n offset inode is middle bytes progress.done p.few p.puts, asks_inode T fs n middle new fault s)))
 
+  abbrev last_of : Bool → ℕ → Stages
+  last_of test at = if test then (to bytes at, OfPart n (at / 512)) ∷ [] else (to bytes at, OfInode n) ∷ []
+
+  last_are : (test : Bool) → nat_lt (start + progress.done) (offset + length bytes) ≡ test → last_stages all n offset bytes progress.done ≡ last_of test (start + progress.done)
+  last_are test e =
+      let done = progress.done in
+      ap (λ r. stages_of r (λ f. if nat_lt (first_place f offset + done) (offset + length bytes) then part_stages all n offset bytes f ((first_place f offset + done) ∷ []) else size_stages all n offset bytes f ((first_place f offset + done) ∷ [])))
+      (file_is old fs n offset inode is) ∙ (ap (λ x. last_of (nat_lt (x + done) (offset + length bytes)) (x + done)) start_is ∙ ap (λ t. last_of t (start + done)) e)
+
+  part_last : (fault : FfsFault) → Stopped fault → IsStage T fs middle fault (last_stages all n offset bytes progress.done)
+  part_last fault k =
+      let few = k.low in
+      let l = long_pads in
+      subst (IsStage T fs middle fault) (sym (last_are true (lt-ltb (start + progress.done) (offset + length bytes) (omega (arith, few, l)))))
+      (inl (k.before, first_files old fs n offset inode is k.before bytes progress.done (omega (arith, few)) k.puts, k.told))
+
+  size_last : progress.done ≡ length pads → (new : StoreState) (fault : FfsFault) → StopsAtHome T fs middle new n fault → IsStage T fs new fault (last_stages all n offset bytes progress.done)
+  size_last e new fault s =
+      let l = long_pads in
+      subst (IsStage T fs new fault) (sym (last_are false (le-ltb (start + progress.done) (offset + length bytes) (omega (arith, e, l)))))
+      (inl (middle, first_files old fs n offset inode is middle bytes progress.done p.few p.puts, asks_inode T fs n middle new fault s))
+
   next_are : (count : ℕ) → next_stages all n offset bytes count ≡ (to bytes (offset + count), OfPart n ((offset + count) / 512)) ∷ []
   next_are count = ap (λ r. stages_of r (λ f. part_stages all n offset bytes f ((offset + count) ∷ []))) (file_is old fs n offset inode is)
 
@@ -314,34 +312,84 @@ module _ (T : Types) (fs : ℕ) (array : ℕ → Option ℕ) (old middle : Store
       (λ y r. subst (λ (m : List ℕ). Leads (Ok (next m)) (latest new.lives) fs y) same (raised some new (subst (λ (k : ℕ). IsRaised (latest middle.lives) (latest new.lives) fs n after (offset + k)) (sym every) r.0) r.1 y))
       (λ fault s. subst (λ (m : List ℕ). IsRefused T fs old new fault (written_stages all n offset m)) same (size_refused some new fault (subst (λ (k : ℕ). word_at after 4 < offset + k) (sym every) s.0, s.1))) ends
 
-  -- `write_some`, where it takes no byte
-  some_none : (new : StoreState) (fault : Option FfsFault) → fault ≢ None → ((x : FfsFault) → fault ≡ Some x → Stops (RefusesSome T fs all n offset bytes old new) x) → (result : Result ℕ FfsFault) → OnOk result ((fault ≡ None) ⊎ (fault ≡ Some (Kernel TooManyPending))) →
-      IfOk result (λ count. count ≡ 0) → IfErr result (λ other. (fault ≡ Some other) × (other ≢ Kernel TooManyPending)) → DoesSome T fs all n offset bytes (written all n offset bytes) old new result
-  some_none new fault there stop result many is_zero err =
-      subst (λ (a : Answer (Unit {0})). DoesSome T fs all n offset bytes a old new result) (sym (some_leads old fs n offset inode is bytes low b.there)) (go result many is_zero err)
-    where
-      go : (r : Result ℕ FfsFault) → OnOk r ((fault ≡ None) ⊎ (fault ≡ Some (Kernel TooManyPending))) → IfOk r (λ count. count ≡ 0) → IfErr r (λ other. (fault ≡ Some other) × (other ≢ Kernel TooManyPending)) →
-          DoesSome T fs all n offset bytes (Ok (next bytes)) old new r
-      go (Ok count) many is_zero err = record {
-        few = omega (arith, is_zero);
-        leads = λ z. absurd (z is_zero);
-        stopped = λ z less. absurd (z is_zero);
-        none = λ z any. elim many [ inl none ↦ absurd (there none) | inr e ↦ (stop (Kernel TooManyPending) e).1 ];
+  -- What the files don't say
+  abbrev Inodes : StoreState → (List ℕ → ℕ → Type 0) → Type 0
+  Inodes new Q = (other : List ℕ) → Ok other ≡ write_in (latest old.lives) fs n (offset + length bytes) → (done : ℕ) × Overwrites (latest old.lives) (latest new.lives) fs n other offset bytes done × Q other done
+
+  inodes_by : (new : StoreState) (Q : List ℕ → ℕ → Type 0) → Overwrites (latest old.lives) (latest new.lives) fs n inode offset bytes progress.done → Q inode progress.done → Inodes new Q
+  inodes_by new Q o q other e =
+      subst (λ (m : List ℕ). (done : ℕ) × Overwrites (latest old.lives) (latest new.lives) fs n m offset bytes done × Q m done) (same_ok inode other (is ∙ sym (looked (latest old.lives) fs n (offset + length bytes) other e).0)) (progress.done, o, q)
+
+  overwritten : Overwrites (latest old.lives) (latest middle.lives) fs n inode offset bytes progress.done
+  overwritten =
+      let k = p.puts.wrote inode is in
+      record { others = p.puts.others; after = k.after; file = k.file; mode = k.marks.0; size = λ high. k.size; few = p.few; border = p.border; each = k.each }
+
+  -- the size was raised then, or not
+  overwritten_then : (size : ℕ) → size ≤ 71680 → (new : StoreState) (result : Result (Unit {0}) FfsFault) → MatchResult result (Raises new size) (Stops (RaiseStops new size)) → Overwrites (latest old.lives) (latest new.lives) fs n inode offset bytes progress.done
+  overwritten_then size few new (Ok x) r =
+      let k = p.puts.wrote inode is in
+      record {
+        others = λ d ne. same_on (latest old.lives) (latest middle.lives) (latest new.lives) fs d (p.puts.others d ne) (r.1 d ne);
+        after = r.0.after;
+        file = r.0.file;
+        mode = r.0.marks.0 ∙ k.marks.0;
+        size = λ high. let w = k.size in let s = r.0.sized in omega (arith, w, s, high, few);
+        few = p.few;
+        border = p.border;
+        each = λ at less. r.0.each at less ∙ k.each at less;
       }
-      go (Err other) many is_zero err = let s = stop other err.0 in (err.1, s.0, s.1)
+  overwritten_then size few new (Err fault) stop = subst (λ (s : StoreState). Overwrites (latest old.lives) (latest s.lives) fs n inode offset bytes progress.done) (sym stop.1.1.0) overwritten
+
+  pub write_part_inodes : (fault : FfsFault) → progress.fault ≡ Some fault → Inodes middle (λ m done. WritesTo T fs all n m offset bytes done middle (Err fault))
+  write_part_inodes fault e = inodes_by middle (λ m done. WritesTo T fs all n m offset bytes done middle (Err fault)) overwritten (part_last fault (stopped_by fault e).1)
+
+  pub write_inodes : progress.fault ≡ None → (new : StoreState) (result : Result (Unit {0}) FfsFault) → MatchResult result (Raises new (offset + length bytes)) (Stops (RaiseStops new (offset + length bytes))) →
+      Inodes new (λ m done. WritesTo T fs all n m offset bytes done new result)
+  write_inodes none new result ends = inodes_by new (λ m done. WritesTo T fs all n m offset bytes done new result) (overwritten_then (offset + length bytes) low new result ends) (go result ends)
+    where
+      go : (r : Result (Unit {0}) FfsFault) → MatchResult r (Raises new (offset + length bytes)) (Stops (RaiseStops new (offset + length bytes))) → WritesTo T fs all n inode offset bytes progress.done new r
+      go (Ok x) h = λ ne. all_done (whole none)
+      go (Err fault) h = size_last (all_done (whole none)) new fault h.1.1
+
+  -- `write_some`
+  abbrev Takes : StoreState → Result ℕ FfsFault → Type 0
+  Takes new result = DoesSome T fs all n offset bytes (written all n offset bytes) old new result × Inodes new (λ m done. WritesSomeTo T fs all n m offset bytes done new result)
+
+  takes_by : (new : StoreState) (result : Result ℕ FfsFault) → Overwrites (latest old.lives) (latest new.lives) fs n inode offset bytes progress.done →
+      DoesSome T fs all n offset bytes (Ok (next bytes)) old new result × WritesSomeTo T fs all n inode offset bytes progress.done new result → Takes new result
+  takes_by new result o h = (
+    subst (λ (a : Answer (Unit {0})). DoesSome T fs all n offset bytes a old new result) (sym (some_leads old fs n offset inode is bytes low b.there)) h.0,
+    inodes_by new (λ m done. WritesSomeTo T fs all n m offset bytes done new result) o h.1,
+  )
+
+  -- where it takes no byte
+  abbrev IsTold : Option FfsFault → Result ℕ FfsFault → Type 0
+  IsTold fault result = OnOk result ((fault ≡ None) ⊎ (fault ≡ Some (Kernel TooManyPending))) × IfOk result (λ count. count ≡ 0) × IfErr result (λ other. (fault ≡ Some other) × (other ≢ Kernel TooManyPending))
+
+  takes_none : (new : StoreState) (fault : Option FfsFault) → fault ≢ None → ((x : FfsFault) → fault ≡ Some x → Stops (λ y. RefusesSome T fs all n offset bytes old new y × IsStage T fs new y (place_stages all n offset bytes progress.done)) x) →
+      (result : Result ℕ FfsFault) → IsTold fault result → DoesSome T fs all n offset bytes (Ok (next bytes)) old new result × WritesSomeTo T fs all n inode offset bytes progress.done new result
+  takes_none new fault there stop (Ok count) told = (
+    record { few = let z = told.1 in omega (arith, z); leads = λ ne. absurd (ne told.1); stopped = λ ne less. absurd (ne told.1); none = λ z any. (told_stop told.0).0 },
+    (λ ne. absurd (ne told.1), λ z any. (told_stop told.0).1),
+  )
+    where
+      told_stop : (fault ≡ None) ⊎ (fault ≡ Some (Kernel TooManyPending)) → RefusesSome T fs all n offset bytes old new (Kernel TooManyPending) × IsStage T fs new (Kernel TooManyPending) (place_stages all n offset bytes progress.done)
+      told_stop (inl none) = absurd (there none)
+      told_stop (inr e) = (stop (Kernel TooManyPending) e).1
+  takes_none new fault there stop (Err other) told = let s = stop other told.2.0 in ((told.2.1, s.0, s.1.0), s.1.1)
 
   -- where it takes some
-  some_taken : taken ≢ 0 → (new : StoreState) → Raises new (offset + taken) tt → DoesSome T fs all n offset bytes (written all n offset bytes) old new (Ok taken)
-  some_taken some new r =
-      subst (λ (a : Answer (Unit {0})). DoesSome T fs all n offset bytes a old new (Ok taken)) (sym (some_leads old fs n offset inode is bytes low b.there)) (record {
-        few = few_taken;
-        leads = λ z.
-            let few = few_taken in
-            let long = part_long in
-            subst (λ (a : Answer (Unit {0})). Leads a (latest new.lives) fs tt) (sym (some_leads old fs n offset inode is part (omega (arith, few, long, low)) (λ y. some (sym long ∙ y)))) (raised some new r.0 r.1 tt);
-        stopped = λ z less. stopped less (some_or_none progress.fault);
-        none = λ z any. absurd (some z);
-      })
+  takes_some : taken ≢ 0 → (new : StoreState) → Raises new (offset + taken) tt → TakesSome T fs all n offset bytes old new taken
+  takes_some some new r = record {
+    few = few_taken;
+    leads = λ z.
+        let few = few_taken in
+        let long = part_long in
+        subst (λ (a : Answer (Unit {0})). Leads a (latest new.lives) fs tt) (sym (some_leads old fs n offset inode is part (omega (arith, few, long, low)) (λ y. some (sym long ∙ y)))) (raised some new r.0 r.1 tt);
+    stopped = λ z less. stopped less (some_or_none progress.fault);
+    none = λ z any. absurd (some z);
+  }
     where
       stopped : taken < length bytes → (progress.fault ≡ None) ⊎ ((x : FfsFault) × (progress.fault ≡ Some x)) → (m : StoreState) × (fault : FfsFault) × (is_short fault ≡ true) × IsStage T fs m fault (next_stages all n offset bytes taken)
       stopped less (inl none) = let every = whole none in absurd (omega (arith, every, less))
@@ -357,78 +405,30 @@ module _ (T : Types) (fs : ℕ) (array : ℕ → Option ℕ) (old middle : Store
                 (inl (k.before, first_files old fs n offset inode is k.before bytes progress.done (omega (arith, few)) k.puts ∙ ap (to bytes) here, subst (λ (at : ℕ). StopsPart T fs k.before middle n (at / 512) x.0) here k.told)),
           )
 
-  -- What the files don't say
-  abbrev Inodes : StoreState → (List ℕ → ℕ → Type 0) → Type 0
-  Inodes new Q = (other : List ℕ) → Ok other ≡ write_in (latest old.lives) fs n (offset + length bytes) → (done : ℕ) × Overwrites (latest old.lives) (latest new.lives) fs n other offset bytes done × Q other done
-
-  inodes_by : (new : StoreState) (Q : List ℕ → ℕ → Type 0) → Overwrites (latest old.lives) (latest new.lives) fs n inode offset bytes progress.done → Q inode progress.done → Inodes new Q
-  inodes_by new Q o q other e =
-      subst (λ (m : List ℕ). (done : ℕ) × Overwrites (latest old.lives) (latest new.lives) fs n m offset bytes done × Q m done) (same_ok inode other (is ∙ sym (looked (latest old.lives) fs n (offset + length bytes) other e).0)) (progress.done, o, q)
-
-  raised_inodes : (size : ℕ) → size ≤ 71680 → (new : StoreState) (result : Result (Unit {0}) FfsFault) → MatchResult result (Raises new size) (Stops (RaiseStops new size)) → (Q : List ℕ → ℕ → Type 0) → Q inode progress.done → Inodes new Q
-  raised_inodes size few new result ends Q q = inodes_by new Q (overwrites_by T old middle new fs n inode offset bytes progress.done size is p.puts few result ends) q
-
-  first_inodes : (Q : List ℕ → ℕ → Type 0) → Q inode progress.done → Inodes middle Q
-  first_inodes Q q = inodes_by middle Q (overwrites_first old middle fs n inode offset bytes progress.done is p.puts) q
-
-  pub write_part_inodes : (fault : FfsFault) → progress.fault ≡ Some fault → Inodes middle (λ m done. WritesTo T fs all n m offset bytes done middle (Err fault))
-  write_part_inodes fault e = first_inodes (λ m done. WritesTo T fs all n m offset bytes done middle (Err fault)) (part_place fault (stopped_by fault e).1)
-
-  pub write_inodes : progress.fault ≡ None → (new : StoreState) (result : Result (Unit {0}) FfsFault) → MatchResult result (Raises new (offset + length bytes)) (Stops (RaiseStops new (offset + length bytes))) →
-      Inodes new (λ m done. WritesTo T fs all n m offset bytes done new result)
-  write_inodes none new result ends = raised_inodes (offset + length bytes) low new result ends (λ m done. WritesTo T fs all n m offset bytes done new result) (go result ends)
-    where
-      go : (r : Result (Unit {0}) FfsFault) → MatchResult r (Raises new (offset + length bytes)) (Stops (RaiseStops new (offset + length bytes))) → WritesTo T fs all n inode offset bytes progress.done new r
-      go (Ok x) h = λ ne. all_done (whole none)
-      go (Err fault) h = size_place new fault h.1.1
-
-  none_to : (new : StoreState) (fault : Option FfsFault) → fault ≢ None → ((x : FfsFault) → fault ≡ Some x → IsStage T fs new x (place_stages all n offset bytes progress.done)) → (result : Result ℕ FfsFault) → OnOk result ((fault ≡ None) ⊎ (fault ≡ Some (Kernel TooManyPending))) →
-      IfOk result (λ count. count ≡ 0) → IfErr result (λ other. (fault ≡ Some other) × (other ≢ Kernel TooManyPending)) → WritesSomeTo T fs all n inode offset bytes progress.done new result
-  none_to new fault there stage (Ok count) many is_zero err = (λ ne. absurd (ne is_zero), λ z any. elim many [ inl none ↦ absurd (there none) | inr e ↦ stage (Kernel TooManyPending) e ])
-  none_to new fault there stage (Err other) many is_zero err = stage other err.0
-
   -- by a count
   module _ (count : ℕ) (same : count ≡ taken) where
-    pub count_none : count ≡ 0 → (result : Result ℕ FfsFault) → OnOk result ((progress.fault ≡ None) ⊎ (progress.fault ≡ Some (Kernel TooManyPending))) → IfOk result (λ x. x ≡ 0) →
-        IfErr result (λ other. (progress.fault ≡ Some other) × (other ≢ Kernel TooManyPending)) → DoesSome T fs all n offset bytes (written all n offset bytes) old middle result
-    count_none z =
-        some_none middle progress.fault (λ e. b.there (sym (whole e) ∙ (sym same ∙ z))) (λ x e.
+    pub count_none : count ≡ 0 → (result : Result ℕ FfsFault) → IsTold progress.fault result → Takes middle result
+    count_none z result told =
+        takes_by middle result overwritten (takes_none middle progress.fault (λ e. b.there (sym (whole e) ∙ (sym same ∙ z))) (λ x e.
         let stop = stopped_by x e in
-        (stop.0, (length bytes, omega arith, subst (λ (m : List ℕ). IsRefused T fs old middle x (written_stages all n offset m)) (sym (take_all (length bytes) bytes (omega arith))) (part_refused x stop.1))))
+        (stop.0, ((length bytes, omega arith, subst (λ (m : List ℕ). IsRefused T fs old middle x (written_stages all n offset m)) (sym (take_all (length bytes) bytes (omega arith))) (part_refused x stop.1)), part_place x stop.1))) result told)
 
-    pub count_taken : count ≢ 0 → (new : StoreState) → Raises new (offset + count) tt → DoesSome T fs all n offset bytes (written all n offset bytes) old new (Ok count)
-    count_taken ne new r =
-        subst (λ (k : ℕ). DoesSome T fs all n offset bytes (written all n offset bytes) old new (Ok k)) (sym same) (some_taken (λ z. ne (same ∙ z)) new (subst (λ (k : ℕ). Raises new (offset + k) tt) same r))
-
-    pub count_refused : count ≢ 0 → (new : StoreState) (fault : FfsFault) → Stops (RaiseStops new (offset + count)) fault → (result : Result ℕ FfsFault) → OnOk result ((Some fault ≡ None) ⊎ (Some fault ≡ Some (Kernel TooManyPending))) → IfOk result (λ x. x ≡ 0) →
-        IfErr result (λ other. (Some fault ≡ Some other) × (other ≢ Kernel TooManyPending)) → DoesSome T fs all n offset bytes (written all n offset bytes) old new result
-    count_refused ne new fault stop =
-        some_none new (Some fault) (λ z. never_some fault z) (λ y e. subst (Stops (RefusesSome T fs all n offset bytes old new)) (same_fault fault y e)
-        (stop.0, (taken, few_taken, size_refused (λ z. ne (same ∙ z)) new fault (subst (λ (k : ℕ). word_at after 4 < offset + k) same stop.1.0, stop.1.1))))
-
-    pub count_done : count ≢ 0 → progress.done ≡ (offset - file_end inode) + count
-    count_done ne = subst (λ (k : ℕ). progress.done ≡ (offset - file_end inode) + k) (sym same) (counted (λ z. ne (same ∙ z)))
-
-    pub count_low : offset + count ≤ 71680
+    count_low : offset + count ≤ 71680
     count_low = let few = few_taken in omega (arith, few, low, same)
 
-    abbrev To : StoreState → Result ℕ FfsFault → Type 0
-    To new result = Inodes new (λ m done. WritesSomeTo T fs all n m offset bytes done new result)
+    pub count_taken : count ≢ 0 → (new : StoreState) → Raises new (offset + count) tt → Takes new (Ok count)
+    count_taken ne new r =
+        let some : taken ≢ 0 = λ z. ne (same ∙ z) in
+        takes_by new (Ok count) (overwritten_then (offset + count) count_low new (Ok tt) r) (
+          subst (λ (k : ℕ). TakesSome T fs all n offset bytes old new k) (sym same) (takes_some some new (subst (λ (k : ℕ). Raises new (offset + k) tt) same r)),
+          (λ z. subst (λ (k : ℕ). progress.done ≡ (offset - file_end inode) + k) (sym same) (counted some), λ z. absurd (ne z)),
+        )
 
-    pub none_inodes : count ≡ 0 → (result : Result ℕ FfsFault) → OnOk result ((progress.fault ≡ None) ⊎ (progress.fault ≡ Some (Kernel TooManyPending))) → IfOk result (λ x. x ≡ 0) →
-        IfErr result (λ other. (progress.fault ≡ Some other) × (other ≢ Kernel TooManyPending)) → To middle result
-    none_inodes z result many is_zero err =
-        first_inodes (λ m done. WritesSomeTo T fs all n m offset bytes done middle result) (none_to middle progress.fault (λ e. b.there (sym (whole e) ∙ (sym same ∙ z))) (λ x e. part_place x (stopped_by x e).1) result many is_zero err)
-
-    pub taken_inodes : count ≢ 0 → (new : StoreState) → Raises new (offset + count) tt → To new (Ok count)
-    taken_inodes ne new r =
-        raised_inodes (offset + count) count_low new (Ok tt) r (λ m done. WritesSomeTo T fs all n m offset bytes done new (Ok count)) (count_done, λ z. absurd (ne z))
-
-    pub refused_inodes : count ≢ 0 → (new : StoreState) (fault : FfsFault) → Stops (RaiseStops new (offset + count)) fault → (result : Result ℕ FfsFault) → OnOk result ((Some fault ≡ None) ⊎ (Some fault ≡ Some (Kernel TooManyPending))) → IfOk result (λ x. x ≡ 0) →
-        IfErr result (λ other. (Some fault ≡ Some other) × (other ≢ Kernel TooManyPending)) → To new result
-    refused_inodes ne new fault stop result many is_zero err =
-        raised_inodes (offset + count) count_low new (Err fault) stop (λ m done. WritesSomeTo T fs all n m offset bytes done new result)
-        (none_to new (Some fault) (λ z. never_some fault z) (λ y e. size_place new y (subst (StopsAtHome T fs middle new n) (same_fault fault y e) stop.1.1)) result many is_zero err)
+    pub count_refused : count ≢ 0 → (new : StoreState) (fault : FfsFault) → Stops (RaiseStops new (offset + count)) fault → (result : Result ℕ FfsFault) → IsTold (Some fault) result → Takes new result
+    count_refused ne new fault stop result told =
+        takes_by new result (overwritten_then (offset + count) count_low new (Err fault) stop)
+        (takes_none new (Some fault) (λ z. never_some fault z) (λ y e. subst (Stops (λ x. RefusesSome T fs all n offset bytes old new x × IsStage T fs new x (place_stages all n offset bytes progress.done))) (same_fault fault y e)
+        (stop.0, ((taken, few_taken, size_refused (λ z. ne (same ∙ z)) new fault (subst (λ (k : ℕ). word_at after 4 < offset + k) same stop.1.0, stop.1.1)), size_place new fault stop.1.1))) result told)
 
 -- No bytes
 pub none_does : (T : Types) (fs : ℕ) (old : StoreState) (n : ℕ) (inode : List ℕ) (offset : ℕ) (bytes : List ℕ) → Ok inode ≡ file_in (latest old.lives) fs n → offset + length bytes ≤ 71680 → bytes ≡ [] →

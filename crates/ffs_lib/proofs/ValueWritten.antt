@@ -214,9 +214,6 @@ module _ (old : StoreState) (fs n offset : ℕ) (inode : List ℕ) (is : Ok inod
   pub file_is : file_of (files n) ≡ Ok file
   file_is = sym (ap (mapped (file_parts v)) is ∙ file_found v fs n)
 
-  long_file : length file.1 ≡ file_end inode
-  long_file = length-map-range_with_len (byte_of v inode) 0 (file_end inode)
-
   abbrev next : List ℕ → Bool → Answer (Unit {0})
   next bytes t = if t then Ok (tt, files) else Ok (tt, with_value files n (File file.0 (written_bytes file.1 offset bytes)))
 

@@ -7,13 +7,14 @@
 --     part_stages, size_stages   where a part is asked for; where the size is
 --     if_any                     no stages where there are no bytes
 --     written_stages             the stages of `write`
---     place_stages, next_stages  where so many bytes are written; where `write_some` takes so many
+--     place_stages, last_stages  where so many bytes are written; where `write` ends so
+--     next_stages                where `write_some` takes so many
 --     RefusesSome, TakesSome     a write of the first of the bytes was refused; what `write_some` leaves where it takes some of the bytes, or none
 --     DoesSome                   what `write_some` answers and leaves
 --     WritesTo, WritesSomeTo     how many bytes are written where a write ends, and what is asked there
 --     Overwrites                 what the files don't say of the inodes
 use Rattle.std.specs.Prelude.{◌≡◌, ◌≢◌, ℕ, ◌+◌, ◌-◌, ◌/◌, ◌%◌, ◌<◌, ◌≤◌, ◌==◌, ◌||◌, nat_lt, List, [], ◌∷◌, ◌++◌, length, drop, filter, map, min, take}
-use Rattle.std.specs.Prelude.{Result, Ok, Err, true, MatchResult}
+use Rattle.std.specs.Prelude.{Result, Ok, Err, true, MatchResult, if◌then◌else◌}
 use Rattle.std.specs.List.{range_with_len}
 use Rattle.xn_model.specs.declared.refusal.Refusal.TheVariants.{TooManyPending}
 use Rattle.xn_model.specs.Root.{word_at}
@@ -28,7 +29,7 @@ use Rattle.ffs_lib.specs.Results.{OnlyChanges, byte_written}
 use Rattle.ffs_lib.specs.Stages.{IsRefused, IsStage, OfInode, OfPart, Stages, stages_of}
 use Rattle.ffs_lib.specs.Steps.{newest}
 use Rattle.ffs_lib.specs.Values.{Leads}
-use Rattle.ffs_lib.specs.Writes.{padded}
+use Rattle.ffs_lib.specs.Writes.{IsBorder, padded}
 
 -- The bytes up to a place are what they are to be, those behind it what they were, and the size is as before.
 abbrev pub first_written : List ℕ → List ℕ → ℕ → List ℕ
@@ -68,6 +69,13 @@ place_stages files n offset bytes done =
     stages_of (file_of (files n)) (λ file. part_stages files n offset bytes file ((first_place file offset + done) ∷ [])
     ++ size_stages files n offset bytes file ((first_place file offset + done) ∷ []))
 
+-- there the next part is asked for, if it is not the end, and else the size
+abbrev pub last_stages : Files → ℕ → ℕ → List ℕ → ℕ → Stages
+last_stages files n offset bytes done =
+    stages_of (file_of (files n)) (λ file. if nat_lt (first_place file offset + done) (offset + length bytes)
+    then part_stages files n offset bytes file ((first_place file offset + done) ∷ [])
+    else size_stages files n offset bytes file ((first_place file offset + done) ∷ []))
+
 -- the part behind the first so many of the bytes
 abbrev pub next_stages : Files → ℕ → ℕ → List ℕ → ℕ → Stages
 next_stages files n offset bytes count = stages_of (file_of (files n)) (λ file. part_stages files n offset bytes file ((offset + count) ∷ []))
@@ -93,13 +101,16 @@ DoesSome T fs files n offset bytes (Ok next) old new result =
     (fault ≢ Kernel TooManyPending) × (is_short fault ≡ true) × RefusesSome T fs files n offset bytes old new fault)
 
 -- What the files don't say: all other inodes have their 64 bytes, in use or not, their entries and all their bytes. The file, whose inode was this one, has
--- its mode, the first so many of the zeros and the bytes, and its bytes elsewhere, also behind its end; and its size where that is above what a file may have.
+-- its mode, the first so many of the zeros and the bytes, all or up to where a part begins, and its bytes elsewhere, also behind its end; and its size where
+-- that is above what a file may have.
 pub record Overwrites (old new : ℕ → List ℕ) (fs n : ℕ) (inode : List ℕ) (offset : ℕ) (bytes : List ℕ) (done : ℕ) : Type 0 where
   pub others : OnlyChanges old new fs n
   pub after : List ℕ
   pub file : Ok after ≡ file_in new fs n
   pub mode : inode_mode after ≡ inode_mode inode
   pub size : 71680 ≤ word_at inode 4 → word_at after 4 ≡ word_at inode 4
+  pub few : done ≤ length (padded (file_end inode) offset bytes)
+  pub border : done < length (padded (file_end inode) offset bytes) → IsBorder (file_end inode) offset done
   pub each : (at : ℕ) → at < 71680 → byte_of new after at ≡ byte_written (byte_of old inode) (min (file_end inode) offset)
       (take done (padded (file_end inode) offset bytes)) at
 
@@ -107,7 +118,7 @@ pub record Overwrites (old new : ℕ → List ℕ) (fs n : ℕ) (inode : List �
 abbrev pub WritesTo : Types → ℕ → Files → ℕ → List ℕ → ℕ → List ℕ → ℕ → StoreState → Result (Unit {0}) FfsFault → Type 0
 WritesTo T fs files n inode offset bytes done new result =
     MatchResult result (λ x. bytes ≢ [] → done ≡ length (padded (file_end inode) offset bytes))
-    (λ fault. IsStage T fs new fault (place_stages files n offset bytes done))
+    (λ fault. IsStage T fs new fault (last_stages files n offset bytes done))
 
 -- So many are written as it answers; or there are none; or the next part is asked for there, or the size.
 abbrev pub WritesSomeTo : Types → ℕ → Files → ℕ → List ℕ → ℕ → List ℕ → ℕ → StoreState → Result ℕ FfsFault → Type 0

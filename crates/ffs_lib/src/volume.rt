@@ -394,7 +394,7 @@ impl Volume {
         ensures inodes { let old = newest (S.state_of store.old) in let new = newest (S.state_of store.new) in let fs = self.now.fs.number in
             (file : List ℕ) → Ok file ≡ write_in old fs inode (offset + length bytes.now) → (done : ℕ) × Overwrites old new fs inode file offset bytes.now done
             × WritesTo (S.types_of store.old) fs (files_of old fs) inode file offset bytes.now done (S.state_of store.new) result }
-        ensures none { bytes.now ≡ [] → S.state_of store.new ≡ S.state_of store.old }
+        ensures none { length bytes.now ≡ 0 → S.state_of store.new ≡ S.state_of store.old }
         ensures keeps { IsVolume (S.types_of store.old) (S.state_of store.new) self.now }
     {
         let start = offset as usize;
@@ -431,7 +431,7 @@ impl Volume {
         ensures inodes { let old = newest (S.state_of store.old) in let new = newest (S.state_of store.new) in let fs = self.now.fs.number in
             (file : List ℕ) → Ok file ≡ write_in old fs inode (offset + length bytes.now) → (done : ℕ) × Overwrites old new fs inode file offset bytes.now done
             × WritesSomeTo (S.types_of store.old) fs (files_of old fs) inode file offset bytes.now done (S.state_of store.new) result }
-        ensures none { bytes.now ≡ [] → S.state_of store.new ≡ S.state_of store.old }
+        ensures none { length bytes.now ≡ 0 → S.state_of store.new ≡ S.state_of store.old }
         ensures keeps { IsVolume (S.types_of store.old) (S.state_of store.new) self.now }
     {
         let start = offset as usize;

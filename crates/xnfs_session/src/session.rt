@@ -274,7 +274,7 @@ impl<S: FlushStore + Drop> Session<S> {
         ensures inodes { let old = newest (S.state_of self.old.store) in let new = newest (S.state_of self.new.store) in let fs = self.old.fs in
             (file : List ℕ) → Ok file ≡ write_in old fs inode (offset + length bytes.now) → (done : ℕ) × Overwrites old new fs inode file offset bytes.now done
             × WritesSomeTo (S.types_of self.old.store) fs (files_of old fs) inode file offset bytes.now done (S.state_of self.new.store) result }
-        ensures none { bytes.now ≡ [] → S.state_of self.new.store ≡ S.state_of self.old.store }
+        ensures none { length bytes.now ≡ 0 → S.state_of self.new.store ≡ S.state_of self.old.store }
         ensures few { IfOk result (λ count. count ≤ length bytes.now) }
     {
         self.volume

@@ -1,4 +1,4 @@
-use Rattle.std.proofs.Common.{◌∙◌, ◌+◌, ℕ, List, ap, length, sym, rules}
+use Rattle.std.proofs.Common.{◌∙◌, ◌+◌, ap, length, sym, rules}
 use Rattle.std.proofs.lemmas.Bool.{eqb-false, eqb-true}
 use Rattle.std.proofs.lemmas.List.{nil_from_length}
 use Rattle.ffs_model.specs.Cuts.{latest}
@@ -9,10 +9,18 @@ use Rattle.ffs_lookup.proofs.ForCallers.{written_told}
 use Rattle.ffs_lib.specs.Volumes.{edits_of}
 use Rattle.ffs_lib.specs.Written.{written_stages}
 use Rattle.ffs_lib.proofs.Staged.{does_fault}
-use Rattle.ffs_lib.proofs.StagedWritten.{begun, found_file, none_does, overwrites_none, volume_of, write_done, write_inodes, write_part_inodes, write_refused}
+use Rattle.ffs_lib.proofs.StagedWritten.{Begun, begun, found_file, none_does, overwrites_none, volume_of, write_done, write_inodes, write_part_inodes, write_refused}
 use Rattle.ffs_lib.proofs.Tops.{never}
 use Rattle.ffs_lib.proofs.ValueWritten.{looked}
 use Rattle.ffs_lib.proofs.volume.Volume.write.Goals as goal
+use Rattle.ffs_lib.proofs.volume.Volume.write.Goals.{After-write_parts-progress}
+
+first : (g : _) (c : After-write_parts-progress g) →
+    Begun (g.S.Store.types_of c.args.store.now) c.args.self.now.fs.number (edits_of c.args.self.now.added) (g.S.Store.state_of c.args.store.now) (g.S.Store.state_of c.write_parts-progress.new.store) c.args.inode c.in_ok-end.end c.args.offset c.args.bytes.now
+    c.write_parts-progress.result
+first g c =
+    begun (g.S.Store.types_of c.args.store.now) c.args.self.now (g.S.Store.state_of c.args.store.now) (g.S.Store.state_of c.write_parts-progress.new.store) c.args.inode c.args.offset c.in_ok-end.end c.args.bytes.now c.write_parts-progress.result
+    c.requires c.args.self.now.fs.few c.in_ok-end.ensures.exact (eqb-false (length c.args.bytes.now) 0 (sym c.if-is_empty.ensures)) c.write_parts-progress.ensures.whole c.write_parts-progress.ensures.parts
 
 pub returns-in_err-end-clause-answers : goal.returns-in_err-end-clause-answers
 returns-in_err-end-clause-answers g c =
@@ -41,50 +49,36 @@ returns-then-is_empty-clause-inodes g c = λ file e.
 
 pub returns-in-Some-clause-answers : goal.returns-in-Some-clause-answers
 returns-in-Some-clause-answers g c =
-    let b = begun (g.S.Store.types_of c.args.store.now) c.args.self.now (g.S.Store.state_of c.args.store.now) (g.S.Store.state_of c.write_parts-progress.new.store) c.args.inode c.args.offset c.in_ok-end.end c.args.bytes.now c.write_parts-progress.result
-    c.requires c.args.self.now.fs.few c.in_ok-end.ensures.exact (eqb-false (length c.args.bytes.now) 0 (sym c.if-is_empty.ensures)) c.write_parts-progress.ensures.whole c.write_parts-progress.ensures.parts in
+    let b = first g (goal.at.returns-in-Some-clause-answers g c).After-write_parts-progress in
     write_refused _ _ _ _ _ _ _ _ _ _ b c.in-Some.fault c.in-Some.is
 
 pub returns-in-Some-clause-inodes : goal.returns-in-Some-clause-inodes
 returns-in-Some-clause-inodes g c =
-    let b = begun (g.S.Store.types_of c.args.store.now) c.args.self.now (g.S.Store.state_of c.args.store.now) (g.S.Store.state_of c.write_parts-progress.new.store) c.args.inode c.args.offset c.in_ok-end.end c.args.bytes.now c.write_parts-progress.result
-    c.requires c.args.self.now.fs.few c.in_ok-end.ensures.exact (eqb-false (length c.args.bytes.now) 0 (sym c.if-is_empty.ensures)) c.write_parts-progress.ensures.whole c.write_parts-progress.ensures.parts in
+    let b = first g (goal.at.returns-in-Some-clause-inodes g c).After-write_parts-progress in
     write_part_inodes _ _ _ _ _ _ _ _ _ _ b c.in-Some.fault c.in-Some.is
 
 pub returns-in-Some-clause-keeps : goal.returns-in-Some-clause-keeps
 returns-in-Some-clause-keeps g c =
-    let b = begun (g.S.Store.types_of c.args.store.now) c.args.self.now (g.S.Store.state_of c.args.store.now) (g.S.Store.state_of c.write_parts-progress.new.store) c.args.inode c.args.offset c.in_ok-end.end c.args.bytes.now c.write_parts-progress.result
-    c.requires c.args.self.now.fs.few c.in_ok-end.ensures.exact (eqb-false (length c.args.bytes.now) 0 (sym c.if-is_empty.ensures)) c.write_parts-progress.ensures.whole c.write_parts-progress.ensures.parts in
+    let b = first g (goal.at.returns-in-Some-clause-keeps g c).After-write_parts-progress in
     volume_of (g.S.Store.types_of c.args.store.now) c.args.self.now _ b.first.stage
-
-pub returns-in-Some-clause-none : goal.returns-in-Some-clause-none
-returns-in-Some-clause-none g c = λ none.
-    absurd (eqb-false (length c.args.bytes.now) 0 (sym c.if-is_empty.ensures) (ap (λ (m : List ℕ). length m) none))
 
 pub returns-in-None-clause-answers : goal.returns-in-None-clause-answers
 returns-in-None-clause-answers g c =
-    let b = begun (g.S.Store.types_of c.args.store.now) c.args.self.now (g.S.Store.state_of c.args.store.now) (g.S.Store.state_of c.write_parts-progress.new.store) c.args.inode c.args.offset c.in_ok-end.end c.args.bytes.now c.write_parts-progress.result
-    c.requires c.args.self.now.fs.few c.in_ok-end.ensures.exact (eqb-false (length c.args.bytes.now) 0 (sym c.if-is_empty.ensures)) c.write_parts-progress.ensures.whole c.write_parts-progress.ensures.parts in
+    let b = first g (goal.at.returns-in-None-clause-answers g c).After-write_parts-progress in
     let w = b.first.puts.wrote b.inode b.is in
     let x = c.raise_size.ensures.ends (g.S.Store.types_of c.args.store.now) (edits_of c.args.self.now.added) w.after c.write_parts-progress.ensures.types b.first.stage w.file b.first.given.1 in
     write_done _ _ _ _ _ _ _ _ _ _ b c.in-None.is (g.S.Store.state_of c.raise_size.new.store) c.raise_size.result x.1
 
 pub returns-in-None-clause-inodes : goal.returns-in-None-clause-inodes
 returns-in-None-clause-inodes g c =
-    let b = begun (g.S.Store.types_of c.args.store.now) c.args.self.now (g.S.Store.state_of c.args.store.now) (g.S.Store.state_of c.write_parts-progress.new.store) c.args.inode c.args.offset c.in_ok-end.end c.args.bytes.now c.write_parts-progress.result
-    c.requires c.args.self.now.fs.few c.in_ok-end.ensures.exact (eqb-false (length c.args.bytes.now) 0 (sym c.if-is_empty.ensures)) c.write_parts-progress.ensures.whole c.write_parts-progress.ensures.parts in
+    let b = first g (goal.at.returns-in-None-clause-inodes g c).After-write_parts-progress in
     let w = b.first.puts.wrote b.inode b.is in
     let x = c.raise_size.ensures.ends (g.S.Store.types_of c.args.store.now) (edits_of c.args.self.now.added) w.after c.write_parts-progress.ensures.types b.first.stage w.file b.first.given.1 in
     write_inodes _ _ _ _ _ _ _ _ _ _ b c.in-None.is (g.S.Store.state_of c.raise_size.new.store) c.raise_size.result x.1
 
 pub returns-in-None-clause-keeps : goal.returns-in-None-clause-keeps
 returns-in-None-clause-keeps g c =
-    let b = begun (g.S.Store.types_of c.args.store.now) c.args.self.now (g.S.Store.state_of c.args.store.now) (g.S.Store.state_of c.write_parts-progress.new.store) c.args.inode c.args.offset c.in_ok-end.end c.args.bytes.now c.write_parts-progress.result
-    c.requires c.args.self.now.fs.few c.in_ok-end.ensures.exact (eqb-false (length c.args.bytes.now) 0 (sym c.if-is_empty.ensures)) c.write_parts-progress.ensures.whole c.write_parts-progress.ensures.parts in
+    let b = first g (goal.at.returns-in-None-clause-keeps g c).After-write_parts-progress in
     let w = b.first.puts.wrote b.inode b.is in
     let x = c.raise_size.ensures.ends (g.S.Store.types_of c.args.store.now) (edits_of c.args.self.now.added) w.after c.write_parts-progress.ensures.types b.first.stage w.file b.first.given.1 in
     volume_of (g.S.Store.types_of c.args.store.now) c.args.self.now _ x.0
-
-pub returns-in-None-clause-none : goal.returns-in-None-clause-none
-returns-in-None-clause-none g c = λ none.
-    absurd (eqb-false (length c.args.bytes.now) 0 (sym c.if-is_empty.ensures) (ap (λ (m : List ℕ). length m) none))

@@ -1,4 +1,4 @@
-use Rattle.std.proofs.Common.{◌≡◌, ◌∙◌, ◌+◌, ◌<◌, ℕ, List, true, ap, arith, length, refl, sym, rules}
+use Rattle.std.proofs.Common.{◌≡◌, ◌∙◌, ◌+◌, ◌<◌, true, ap, arith, length, refl, sym, rules}
 use Rattle.std.proofs.lemmas.Bool.{eqb-false, eqb-true}
 use Rattle.std.proofs.lemmas.List.{nil_from_length}
 use Rattle.xn_model.specs.Root.{word_at}
@@ -11,16 +11,24 @@ use Rattle.ffs_lib.specs.Outcomes.{IsRaised}
 use Rattle.ffs_lib.specs.Results.{OnlyChanges}
 use Rattle.ffs_lib.specs.Steps.{StopsAtHome}
 use Rattle.ffs_lib.specs.Volumes.{edits_of}
-use Rattle.ffs_lib.proofs.StagedWritten.{begun, count_none, count_refused, count_taken, fault_takes, found_file, none_inodes, none_takes, overwrites_none, refused_inodes, same_taken, taken_inodes, volume_of}
+use Rattle.ffs_lib.proofs.StagedWritten.{Begun, begun, count_none, count_refused, count_taken, fault_takes, found_file, none_takes, overwrites_none, same_taken, volume_of}
 use Rattle.ffs_lib.proofs.Tops.{never}
 use Rattle.ffs_lib.proofs.ValueWritten.{looked}
 use Rattle.ffs_lib.proofs.volume.Volume.write_some.Goals as goal
+use Rattle.ffs_lib.proofs.volume.Volume.write_some.Goals.{After-write_parts-progress}
 
 pub overflow_add-size : goal.overflow_add-size
 overflow_add-size g c = let few = c.write_parts-progress.ensures.few in let low = c.in_ok-end.ensures.within in omega (arith, few, low)
 
 pub overflow_cast-size : goal.overflow_cast-size
 overflow_cast-size g c = let few = c.write_parts-progress.ensures.few in let low = c.in_ok-end.ensures.within in omega (arith, few, low)
+
+first : (g : _) (c : After-write_parts-progress g) →
+    Begun (g.S.Store.types_of c.args.store.now) c.args.self.now.fs.number (edits_of c.args.self.now.added) (g.S.Store.state_of c.args.store.now) (g.S.Store.state_of c.write_parts-progress.new.store) c.args.inode c.in_ok-end.end c.args.offset c.args.bytes.now
+    c.write_parts-progress.result
+first g c =
+    begun (g.S.Store.types_of c.args.store.now) c.args.self.now (g.S.Store.state_of c.args.store.now) (g.S.Store.state_of c.write_parts-progress.new.store) c.args.inode c.args.offset c.in_ok-end.end c.args.bytes.now c.write_parts-progress.result
+    c.requires c.args.self.now.fs.few c.in_ok-end.ensures.exact (eqb-false (length c.args.bytes.now) 0 (sym c.if-is_empty.ensures)) c.write_parts-progress.ensures.whole c.write_parts-progress.ensures.parts
 
 pub returns-in_err-end-clause-answers : goal.returns-in_err-end-clause-answers
 returns-in_err-end-clause-answers g c =
@@ -49,96 +57,75 @@ returns-then-is_empty-clause-inodes g c = λ file e.
 
 pub returns-then-taken-eq0-clause-answers : goal.returns-then-taken-eq0-clause-answers
 returns-then-taken-eq0-clause-answers g c =
-    let b = begun (g.S.Store.types_of c.args.store.now) c.args.self.now (g.S.Store.state_of c.args.store.now) (g.S.Store.state_of c.write_parts-progress.new.store) c.args.inode c.args.offset c.in_ok-end.end c.args.bytes.now c.write_parts-progress.result
-    c.requires c.args.self.now.fs.few c.in_ok-end.ensures.exact (eqb-false (length c.args.bytes.now) 0 (sym c.if-is_empty.ensures)) c.write_parts-progress.ensures.whole c.write_parts-progress.ensures.parts in
+    let b = first g (goal.at.returns-then-taken-eq0-clause-answers g c).After-write_parts-progress in
     let same = same_taken _ _ _ _ _ _ _ _ _ _ b _ _ c.min.ensures c.saturating_sub-taken.ensures in
-    count_none _ _ _ _ _ _ _ _ _ _ b c.saturating_sub-taken.result same c.if-taken-eq0.true c.none_taken.result c.none_taken.ensures.none c.none_taken.ensures.count c.none_taken.ensures.err
+    (count_none _ _ _ _ _ _ _ _ _ _ b c.saturating_sub-taken.result same c.if-taken-eq0.true c.none_taken.result (c.none_taken.ensures.none, c.none_taken.ensures.count, c.none_taken.ensures.err)).0
 
 pub returns-then-taken-eq0-clause-inodes : goal.returns-then-taken-eq0-clause-inodes
 returns-then-taken-eq0-clause-inodes g c =
-    let b = begun (g.S.Store.types_of c.args.store.now) c.args.self.now (g.S.Store.state_of c.args.store.now) (g.S.Store.state_of c.write_parts-progress.new.store) c.args.inode c.args.offset c.in_ok-end.end c.args.bytes.now c.write_parts-progress.result
-    c.requires c.args.self.now.fs.few c.in_ok-end.ensures.exact (eqb-false (length c.args.bytes.now) 0 (sym c.if-is_empty.ensures)) c.write_parts-progress.ensures.whole c.write_parts-progress.ensures.parts in
+    let b = first g (goal.at.returns-then-taken-eq0-clause-inodes g c).After-write_parts-progress in
     let same = same_taken _ _ _ _ _ _ _ _ _ _ b _ _ c.min.ensures c.saturating_sub-taken.ensures in
-    none_inodes _ _ _ _ _ _ _ _ _ _ b c.saturating_sub-taken.result same c.if-taken-eq0.true c.none_taken.result c.none_taken.ensures.none c.none_taken.ensures.count c.none_taken.ensures.err
+    (count_none _ _ _ _ _ _ _ _ _ _ b c.saturating_sub-taken.result same c.if-taken-eq0.true c.none_taken.result (c.none_taken.ensures.none, c.none_taken.ensures.count, c.none_taken.ensures.err)).1
 
 pub returns-then-taken-eq0-clause-keeps : goal.returns-then-taken-eq0-clause-keeps
 returns-then-taken-eq0-clause-keeps g c =
-    let b = begun (g.S.Store.types_of c.args.store.now) c.args.self.now (g.S.Store.state_of c.args.store.now) (g.S.Store.state_of c.write_parts-progress.new.store) c.args.inode c.args.offset c.in_ok-end.end c.args.bytes.now c.write_parts-progress.result
-    c.requires c.args.self.now.fs.few c.in_ok-end.ensures.exact (eqb-false (length c.args.bytes.now) 0 (sym c.if-is_empty.ensures)) c.write_parts-progress.ensures.whole c.write_parts-progress.ensures.parts in
+    let b = first g (goal.at.returns-then-taken-eq0-clause-keeps g c).After-write_parts-progress in
     volume_of (g.S.Store.types_of c.args.store.now) c.args.self.now _ b.first.stage
-
-pub returns-then-taken-eq0-clause-none : goal.returns-then-taken-eq0-clause-none
-returns-then-taken-eq0-clause-none g c = λ none.
-    absurd (eqb-false (length c.args.bytes.now) 0 (sym c.if-is_empty.ensures) (ap (λ (m : List ℕ). length m) none))
-
-pub returns-in-Ok-clause-none : goal.returns-in-Ok-clause-none
-returns-in-Ok-clause-none g c = λ none.
-    absurd (eqb-false (length c.args.bytes.now) 0 (sym c.if-is_empty.ensures) (ap (λ (m : List ℕ). length m) none))
-
-pub returns-in-Err-clause-none : goal.returns-in-Err-clause-none
-returns-in-Err-clause-none g c = λ none.
-    absurd (eqb-false (length c.args.bytes.now) 0 (sym c.if-is_empty.ensures) (ap (λ (m : List ℕ). length m) none))
 
 pub returns-in-Ok-clause-answers : goal.returns-in-Ok-clause-answers
 returns-in-Ok-clause-answers g c =
-    let b = begun (g.S.Store.types_of c.args.store.now) c.args.self.now (g.S.Store.state_of c.args.store.now) (g.S.Store.state_of c.write_parts-progress.new.store) c.args.inode c.args.offset c.in_ok-end.end c.args.bytes.now c.write_parts-progress.result
-    c.requires c.args.self.now.fs.few c.in_ok-end.ensures.exact (eqb-false (length c.args.bytes.now) 0 (sym c.if-is_empty.ensures)) c.write_parts-progress.ensures.whole c.write_parts-progress.ensures.parts in
+    let b = first g (goal.at.returns-in-Ok-clause-answers g c).After-write_parts-progress in
     let same = same_taken _ _ _ _ _ _ _ _ _ _ b _ _ c.min.ensures c.saturating_sub-taken.ensures in
     let w = b.first.puts.wrote b.inode b.is in
     let middle = latest (g.S.Store.state_of c.write_parts-progress.new.store).lives in
     let new = latest (g.S.Store.state_of c.raise_size.new.store).lives in
     let r : IsRaised middle new c.args.self.now.fs.number c.args.inode w.after (c.args.offset + c.saturating_sub-taken.result) × OnlyChanges middle new c.args.self.now.fs.number c.args.inode =
     (c.in-Ok.ensures.ends (g.S.Store.types_of c.args.store.now) (edits_of c.args.self.now.added) w.after c.write_parts-progress.ensures.types b.first.stage w.file b.first.given.1).1 in
-    count_taken _ _ _ _ _ _ _ _ _ _ b c.saturating_sub-taken.result same c.if-taken-eq0.false (g.S.Store.state_of c.raise_size.new.store) r
+    (count_taken _ _ _ _ _ _ _ _ _ _ b c.saturating_sub-taken.result same c.if-taken-eq0.false (g.S.Store.state_of c.raise_size.new.store) r).0
 
 pub returns-in-Ok-clause-inodes : goal.returns-in-Ok-clause-inodes
 returns-in-Ok-clause-inodes g c =
-    let b = begun (g.S.Store.types_of c.args.store.now) c.args.self.now (g.S.Store.state_of c.args.store.now) (g.S.Store.state_of c.write_parts-progress.new.store) c.args.inode c.args.offset c.in_ok-end.end c.args.bytes.now c.write_parts-progress.result
-    c.requires c.args.self.now.fs.few c.in_ok-end.ensures.exact (eqb-false (length c.args.bytes.now) 0 (sym c.if-is_empty.ensures)) c.write_parts-progress.ensures.whole c.write_parts-progress.ensures.parts in
+    let b = first g (goal.at.returns-in-Ok-clause-inodes g c).After-write_parts-progress in
     let same = same_taken _ _ _ _ _ _ _ _ _ _ b _ _ c.min.ensures c.saturating_sub-taken.ensures in
     let w = b.first.puts.wrote b.inode b.is in
     let middle = latest (g.S.Store.state_of c.write_parts-progress.new.store).lives in
     let new = latest (g.S.Store.state_of c.raise_size.new.store).lives in
     let r : IsRaised middle new c.args.self.now.fs.number c.args.inode w.after (c.args.offset + c.saturating_sub-taken.result) × OnlyChanges middle new c.args.self.now.fs.number c.args.inode =
     (c.in-Ok.ensures.ends (g.S.Store.types_of c.args.store.now) (edits_of c.args.self.now.added) w.after c.write_parts-progress.ensures.types b.first.stage w.file b.first.given.1).1 in
-    taken_inodes _ _ _ _ _ _ _ _ _ _ b c.saturating_sub-taken.result same c.if-taken-eq0.false (g.S.Store.state_of c.raise_size.new.store) r
+    (count_taken _ _ _ _ _ _ _ _ _ _ b c.saturating_sub-taken.result same c.if-taken-eq0.false (g.S.Store.state_of c.raise_size.new.store) r).1
 
 pub returns-in-Ok-clause-keeps : goal.returns-in-Ok-clause-keeps
 returns-in-Ok-clause-keeps g c =
-    let b = begun (g.S.Store.types_of c.args.store.now) c.args.self.now (g.S.Store.state_of c.args.store.now) (g.S.Store.state_of c.write_parts-progress.new.store) c.args.inode c.args.offset c.in_ok-end.end c.args.bytes.now c.write_parts-progress.result
-    c.requires c.args.self.now.fs.few c.in_ok-end.ensures.exact (eqb-false (length c.args.bytes.now) 0 (sym c.if-is_empty.ensures)) c.write_parts-progress.ensures.whole c.write_parts-progress.ensures.parts in
+    let b = first g (goal.at.returns-in-Ok-clause-keeps g c).After-write_parts-progress in
     let w = b.first.puts.wrote b.inode b.is in
     let x = c.raise_size.ensures.ends (g.S.Store.types_of c.args.store.now) (edits_of c.args.self.now.added) w.after c.write_parts-progress.ensures.types b.first.stage w.file b.first.given.1 in
     volume_of (g.S.Store.types_of c.args.store.now) c.args.self.now _ x.0
 
 pub returns-in-Err-clause-answers : goal.returns-in-Err-clause-answers
 returns-in-Err-clause-answers g c =
-    let b = begun (g.S.Store.types_of c.args.store.now) c.args.self.now (g.S.Store.state_of c.args.store.now) (g.S.Store.state_of c.write_parts-progress.new.store) c.args.inode c.args.offset c.in_ok-end.end c.args.bytes.now c.write_parts-progress.result
-    c.requires c.args.self.now.fs.few c.in_ok-end.ensures.exact (eqb-false (length c.args.bytes.now) 0 (sym c.if-is_empty.ensures)) c.write_parts-progress.ensures.whole c.write_parts-progress.ensures.parts in
+    let b = first g (goal.at.returns-in-Err-clause-answers g c).After-write_parts-progress in
     let same = same_taken _ _ _ _ _ _ _ _ _ _ b _ _ c.min.ensures c.saturating_sub-taken.ensures in
     let w = b.first.puts.wrote b.inode b.is in
     let middle = g.S.Store.state_of c.write_parts-progress.new.store in
     let new = g.S.Store.state_of c.raise_size.new.store in
     let stop : (is_short c.in-Err.fault ≡ true) × ((word_at w.after 4 < c.args.offset + c.saturating_sub-taken.result) × StopsAtHome (g.S.Store.types_of c.args.store.now) c.args.self.now.fs.number middle new c.args.inode c.in-Err.fault) =
     (c.in-Err.ensures.ends (g.S.Store.types_of c.args.store.now) (edits_of c.args.self.now.added) w.after c.write_parts-progress.ensures.types b.first.stage w.file b.first.given.1).1 in
-    count_refused _ _ _ _ _ _ _ _ _ _ b c.saturating_sub-taken.result same c.if-taken-eq0.false new c.in-Err.fault stop c.none_taken-in-Err.result c.none_taken-in-Err.ensures.none c.none_taken-in-Err.ensures.count c.none_taken-in-Err.ensures.err
+    (count_refused _ _ _ _ _ _ _ _ _ _ b c.saturating_sub-taken.result same c.if-taken-eq0.false new c.in-Err.fault stop c.none_taken-in-Err.result (c.none_taken-in-Err.ensures.none, c.none_taken-in-Err.ensures.count, c.none_taken-in-Err.ensures.err)).0
 
 pub returns-in-Err-clause-inodes : goal.returns-in-Err-clause-inodes
 returns-in-Err-clause-inodes g c =
-    let b = begun (g.S.Store.types_of c.args.store.now) c.args.self.now (g.S.Store.state_of c.args.store.now) (g.S.Store.state_of c.write_parts-progress.new.store) c.args.inode c.args.offset c.in_ok-end.end c.args.bytes.now c.write_parts-progress.result
-    c.requires c.args.self.now.fs.few c.in_ok-end.ensures.exact (eqb-false (length c.args.bytes.now) 0 (sym c.if-is_empty.ensures)) c.write_parts-progress.ensures.whole c.write_parts-progress.ensures.parts in
+    let b = first g (goal.at.returns-in-Err-clause-inodes g c).After-write_parts-progress in
     let same = same_taken _ _ _ _ _ _ _ _ _ _ b _ _ c.min.ensures c.saturating_sub-taken.ensures in
     let w = b.first.puts.wrote b.inode b.is in
     let middle = g.S.Store.state_of c.write_parts-progress.new.store in
     let new = g.S.Store.state_of c.raise_size.new.store in
     let stop : (is_short c.in-Err.fault ≡ true) × ((word_at w.after 4 < c.args.offset + c.saturating_sub-taken.result) × StopsAtHome (g.S.Store.types_of c.args.store.now) c.args.self.now.fs.number middle new c.args.inode c.in-Err.fault) =
     (c.in-Err.ensures.ends (g.S.Store.types_of c.args.store.now) (edits_of c.args.self.now.added) w.after c.write_parts-progress.ensures.types b.first.stage w.file b.first.given.1).1 in
-    refused_inodes _ _ _ _ _ _ _ _ _ _ b c.saturating_sub-taken.result same c.if-taken-eq0.false new c.in-Err.fault stop c.none_taken-in-Err.result c.none_taken-in-Err.ensures.none c.none_taken-in-Err.ensures.count c.none_taken-in-Err.ensures.err
+    (count_refused _ _ _ _ _ _ _ _ _ _ b c.saturating_sub-taken.result same c.if-taken-eq0.false new c.in-Err.fault stop c.none_taken-in-Err.result (c.none_taken-in-Err.ensures.none, c.none_taken-in-Err.ensures.count, c.none_taken-in-Err.ensures.err)).1
 
 pub returns-in-Err-clause-keeps : goal.returns-in-Err-clause-keeps
 returns-in-Err-clause-keeps g c =
-    let b = begun (g.S.Store.types_of c.args.store.now) c.args.self.now (g.S.Store.state_of c.args.store.now) (g.S.Store.state_of c.write_parts-progress.new.store) c.args.inode c.args.offset c.in_ok-end.end c.args.bytes.now c.write_parts-progress.result
-    c.requires c.args.self.now.fs.few c.in_ok-end.ensures.exact (eqb-false (length c.args.bytes.now) 0 (sym c.if-is_empty.ensures)) c.write_parts-progress.ensures.whole c.write_parts-progress.ensures.parts in
+    let b = first g (goal.at.returns-in-Err-clause-keeps g c).After-write_parts-progress in
     let w = b.first.puts.wrote b.inode b.is in
     let x = c.raise_size.ensures.ends (g.S.Store.types_of c.args.store.now) (edits_of c.args.self.now.added) w.after c.write_parts-progress.ensures.types b.first.stage w.file b.first.given.1 in
     volume_of (g.S.Store.types_of c.args.store.now) c.args.self.now _ x.0
