@@ -48,10 +48,11 @@ pub mod ValueRepairs
 pub mod ValueVolume
 pub mod ValueMoved
 pub mod ValueReplaced
-pub mod Following
+pub mod BlocksOnce
 pub mod ValueWritten
 pub mod Staged
 pub mod StagedNew
+pub mod StagedWritten
 pub mod StagedMoves
 pub mod StagedTurns
 pub mod StagedRepairs

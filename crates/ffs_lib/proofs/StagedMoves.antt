@@ -17,7 +17,7 @@ use Rattle.ffs_lookup.specs.FileValues.{blocks_value, files_of}
 use Rattle.ffs_lookup.proofs.ForCallers.{EntryAt, first_value, renamed_ok}
 use Rattle.ffs_lib.specs.Stages.{IsRefused, Stages, found_stages, moved_stages, renamed_stages, stages_of}
 use Rattle.ffs_lib.specs.Steps.{NamedAgain, StopsNaming, StopsUnnaming}
-use Rattle.ffs_lib.proofs.Following.{blocks_once}
+use Rattle.ffs_lib.proofs.BlocksOnce.{blocks_once}
 use Rattle.ffs_lib.proofs.Renaming.{CanMove}
 use Rattle.ffs_lib.proofs.Staged.{asks_entry, link_stage}
 use Rattle.ffs_lib.proofs.StagedNew.{asks_inode}

@@ -18,7 +18,7 @@ use Rattle.ffs_lib.specs.Stages.{Asks, Does, ForEntry, IsRefused, IsStage, Makes
 use Rattle.ffs_lib.specs.Steps.{Answers, Creates, MadeInode, StopsAtHome, StopsMaking, StopsNew, TakesFree, Wants}
 use Rattle.ffs_lib.specs.Values.{Leads}
 use Rattle.ffs_lib.proofs.Entering.{directory_from, free_none}
-use Rattle.ffs_lib.proofs.Following.{blocks_once}
+use Rattle.ffs_lib.proofs.BlocksOnce.{blocks_once}
 use Rattle.ffs_lib.proofs.Laws.{home_of}
 use Rattle.ffs_lib.proofs.Owners.{number_from, stands_from}
 use Rattle.ffs_lib.proofs.Same.{as_same, new_on, same_on}

@@ -19,7 +19,7 @@ use Rattle.ffs_lib.specs.Replacing.{ReplacedInodes, Turned}
 use Rattle.ffs_lib.specs.Stages.{Does, IsRefused, IsStage, KeptOrEmptied, Stages, cleared_stages, link_stages, replaced_stages, turned_stages}
 use Rattle.ffs_lib.specs.Steps.{AddsLink, Stops, StopsAtHome, StopsTaking, StopsUnnaming, TakesLink, Unnamed, Wants, Clearing}
 use Rattle.ffs_lib.proofs.Entering.{directory_from}
-use Rattle.ffs_lib.proofs.Following.{blocks_once}
+use Rattle.ffs_lib.proofs.BlocksOnce.{blocks_once}
 use Rattle.ffs_lib.proofs.Moving.{same_as}
 use Rattle.ffs_lib.proofs.Owners.{direct_block, stands_from, two_blocks}
 use Rattle.ffs_lib.proofs.Removal.{FindsEntry}

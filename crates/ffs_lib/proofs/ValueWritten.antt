@@ -1,9 +1,9 @@
--- What `write` leaves is what its function of the files says.
-use Rattle.std.proofs.Common.{◌≡◌, ℕ, ◌+◌, ◌-◌, ◌<◌, ◌≤◌, Bool, false, List, ◌++◌, length, map, take, drop, replicate, get_or, Ok, Err, refl, sym, ◌∙◌, ap, inl, inr, arith, eq-eqb, subst, length-append}
+-- What is written into a file by its bytes as a value.
+use Rattle.std.proofs.Common.{◌≡◌, ◌≢◌, [], ℕ, ◌+◌, ◌-◌, ◌<◌, ◌≤◌, Bool, List, ◌++◌, length, map, take, drop, replicate, get_or, Ok, Err, refl, sym, ◌∙◌, ap, inl, inr, arith, subst, length-append}
 use Rattle.std.specs.Prelude.{◌==◌, ◌&&◌, nat_lt, max, min, if◌then◌else◌}
 use Rattle.std.specs.List.{range_with_len}
-use Rattle.std.proofs.lemmas.Bool.{cases_eq, cases_lt, le-leb, le-ltb, lt-leb, lt-ltb, ne_eqb}
-use Rattle.std.proofs.lemmas.List.{get_or-append_right, get_or-drop, get_or-replicate, get_or-take, get_or_append_left, get_or_default, length-drop, length-replicate, length-take, nil_from_length, same_lists}
+use Rattle.std.proofs.lemmas.Bool.{cases_lt, le-leb, le-ltb, lt-leb, lt-ltb, ne_eqb}
+use Rattle.std.proofs.lemmas.List.{get_or-append_right, get_or-drop, get_or-replicate, get_or-take, get_or_append_left, get_or_default, length-drop, length-replicate, length-take, length-take-le, same_lists}
 use Rattle.std.proofs.lemmas.List.FromFn.{get_or-map-range_with_len, length-map-range_with_len}
 use Rattle.xn_model.specs.Lives.{StoreState}
 use Rattle.ffs_model.specs.Cuts.{latest}
@@ -13,15 +13,20 @@ use Rattle.ffs_lookup.specs.Newest.{and_then, byte_of, file_end, file_in, mapped
 use Rattle.ffs_lookup.specs.Files.{Absent, Answer, Directory, File, Files, Free, InodeValue, Unusable, file_of, with_value, written, written_bytes, written_in}
 use Rattle.ffs_lookup.specs.FileValues.{bytes_value, files_of}
 use Rattle.ffs_lookup.proofs.ForCallers.{file_found, file_parts, same_ok}
-use Rattle.ffs_lib.specs.Results.{byte_written}
+use Rattle.xn_model.specs.Root.{word_at}
+use Rattle.ffs_lib.specs.Outcomes.{IsRaised}
+use Rattle.ffs_lib.specs.Results.{OnlyChanges, byte_written}
 use Rattle.ffs_lib.specs.Values.{Leads}
-use Rattle.ffs_lib.specs.Writes.{IsWritten, Wrote}
+use Rattle.ffs_lib.specs.Writes.{Puts, padded}
+use Rattle.ffs_lib.specs.Written.{first_written, written_to}
 use Rattle.ffs_lib.proofs.Owners.{not_first, passed}
-use Rattle.ffs_lib.proofs.ValueSame.{same_value}
+use Rattle.ffs_lib.proofs.Same.{same_on}
+use Rattle.ffs_lib.proofs.ValueSteps.{value_at}
+use Rattle.ffs_lib.proofs.Writing.{end_raised, test_above, test_below, test_in}
 
 -- Bytes
 
-module _ (f g : ℕ → ℕ) (e m : ℕ) (offset : ℕ) (bytes : List ℕ) (size : m ≡ max e (offset + length bytes)) (each : (k : ℕ) → k < m → g k ≡ byte_written f (min e offset) (replicate (offset - e) 0 ++ bytes) k) where
+module _ (f : ℕ → ℕ) (e m : ℕ) (offset : ℕ) (bytes : List ℕ) (size : m ≡ max e (offset + length bytes)) where
   abbrev old_bytes : List ℕ
   old_bytes = map f (range_with_len 0 e)
 
@@ -118,12 +123,62 @@ module _ (f g : ℕ → ℕ) (e m : ℕ) (offset : ℕ) (bytes : List ℕ) (size
     ]
   ]
 
-  pub bytes_are : map g (range_with_len 0 m) ≡ written_bytes old_bytes offset bytes
-  bytes_are =
+  pub bytes_are : (g : ℕ → ℕ) → ((k : ℕ) → k < m → g k ≡ byte_written f (min e offset) (pads ++ bytes) k) → map g (range_with_len 0 m) ≡ all_bytes
+  bytes_are g each =
       same_lists (map g (range_with_len 0 m)) parts (length-map-range_with_len g 0 m ∙ sym long_all) (λ k d low.
       let small : k < m = subst (λ (n : ℕ). k < n) (length-map-range_with_len g 0 m) low in
       get_or-map-range_with_len g 0 m k k d small (omega arith) ∙ (each k small ∙ part k d small))
       ∙ sym same_bytes
+
+  -- the first so many of what is written
+  pub first_are : (g : ℕ → ℕ) (done : ℕ) → done ≤ length (pads ++ bytes) → ((k : ℕ) → k < e → g k ≡ byte_written f (min e offset) (take done (pads ++ bytes)) k) → map g (range_with_len 0 e) ≡ first_written old_bytes all_bytes (min e offset + done)
+  first_are g done low each =
+      same_lists (map g (range_with_len 0 e)) (first_written old_bytes all_bytes at) (length-map-range_with_len g 0 e ∙ sym whole) (λ k d less.
+      let small : k < e = subst (λ (n : ℕ). k < n) (length-map-range_with_len g 0 e) less in
+      get_or-map-range_with_len g 0 e k k d small (omega arith) ∙ (each k small ∙ sym (get_or-take (length old_bytes) (take at all_bytes ++ drop at old_bytes) k d (let l = long in omega (arith, l, small)) ∙ one k d small)))
+    where
+      at : ℕ
+      at = min e offset + done
+
+      long_done : length (take done (pads ++ bytes)) ≡ done
+      long_done = length-take-le done (pads ++ bytes) low
+
+      at_most : at ≤ m
+      at_most = let a = length-append pads bytes in let b = long_pads in omega (arith, a, b, low, size)
+
+      long_front : length (take at all_bytes) ≡ at
+      long_front = length-take-le at all_bytes (let a = at_most in let b = long_all in let c = ap (λ (x : List ℕ). length x) same_bytes in omega (arith, a, b, c))
+
+      whole : length (first_written old_bytes all_bytes at) ≡ e
+      whole =
+          let a = long_front in
+          let b = length-drop at old_bytes in
+          let c = length-append (take at all_bytes) (drop at old_bytes) in
+          let l = long in
+          let t = length-take (length old_bytes) (take at all_bytes ++ drop at old_bytes) in
+          omega (arith, a, b, c, l, t)
+
+      one : (k d : ℕ) → k < e → get_or (take at all_bytes ++ drop at old_bytes) k d ≡ byte_written f (min e offset) (take done (pads ++ bytes)) k
+      one k d small = elim (cases_lt k at) [
+        | inl lt ↦
+            let a = long_front in
+            get_or_append_left (take at all_bytes) (drop at old_bytes) d k (omega (arith, a, lt))
+            ∙ (get_or-take at all_bytes k d lt ∙ (ap (λ (x : List ℕ). get_or x k d) same_bytes ∙ (sym (part k d (omega (arith, small, size))) ∙ sym (front k lt))))
+        | inr ge ↦
+            let a = long_front in
+            let b = long_done in
+            get_or-append_right (take at all_bytes) (drop at old_bytes) at k d a ge
+            ∙ (get_or-drop at old_bytes (k - at) d ∙ (get_or-map-range_with_len f 0 e (at + (k - at)) k d (omega (arith, ge, small)) (omega (arith, ge)) ∙ sym (test_above f (min e offset) (take done (pads ++ bytes)) k (omega (arith, b, ge)))))
+      ]
+        where
+          front : (k : ℕ) → k < at → byte_written f (min e offset) (take done (pads ++ bytes)) k ≡ byte_written f (min e offset) (pads ++ bytes) k
+          front k lt = elim (cases_lt k (min e offset)) [
+            | inl first ↦ test_below f (min e offset) (take done (pads ++ bytes)) k first ∙ sym (test_below f (min e offset) (pads ++ bytes) k first)
+            | inr from ↦
+                let b = long_done in
+                test_in f (min e offset) (take done (pads ++ bytes)) k from (omega (arith, b, lt))
+                ∙ (get_or-take done (pads ++ bytes) (k - min e offset) 0 (omega (arith, from, lt)) ∙ sym (test_in f (min e offset) (pads ++ bytes) k from (omega (arith, lt, low))))
+          ]
 
 -- A file
 
@@ -139,54 +194,62 @@ file_value content fs n inode e = from (files_of content fs n) (inode_links inod
         let same : (links, bytes) ≡ (l, bs) = same_ok (links, bytes) (l, bs) e in
         λ i. File ((sym same i).0) ((sym same i).1)
 
-looked : (content : ℕ → List ℕ) (fs n size : ℕ) (inode : List ℕ) → Ok inode ≡ write_in content fs n size → (Ok inode ≡ file_in content fs n) × (nat_lt 71680 size ≡ false)
+pub looked : (content : ℕ → List ℕ) (fs n size : ℕ) (inode : List ℕ) → Ok inode ≡ write_in content fs n size → (Ok inode ≡ file_in content fs n) × (size ≤ 71680)
 unfolding write_in
 looked content fs n size inode e =
     let p = passed (file_in content fs n) (λ i. if nat_lt 71680 size then Err TooLarge else Ok i) inode e in
     let t = not_first (nat_lt 71680 size) TooLarge (Ok p.0) inode p.2 in
-    (t.1 ∙ p.1, t.0)
+    (t.1 ∙ p.1, elim (cases_lt 71680 size) [ inl lt ↦ absurd (cc (sym (lt-ltb 71680 size lt) ∙ t.0)) | inr ge ↦ ge ])
 
--- fewer bytes fit, too
-pub write_less : (content : ℕ → List ℕ) (fs n size fewer : ℕ) (inode : List ℕ) → fewer ≤ size → Ok inode ≡ write_in content fs n size → Ok inode ≡ write_in content fs n fewer
-unfolding write_in
-write_less content fs n size fewer inode le e =
-    let p = looked content fs n size inode e in
-    let low : size ≤ 71680 = elim (cases_lt 71680 size) [ inl lt ↦ absurd (cc (sym (lt-ltb 71680 size lt) ∙ p.1)) | inr ge ↦ ge ] in
-    sym (ap (λ (t : Bool). if t then Err TooLarge else Ok inode) (le-ltb 71680 fewer (omega (arith, le, low)))) ∙ ap (λ r. and_then r (λ i. if nat_lt 71680 fewer then Err TooLarge else Ok i)) p.0
-
-module _ (old new : StoreState) (fs n offset : ℕ) (bytes inode : List ℕ) (e : Ok inode ≡ write_in (latest old.lives) fs n (offset + length bytes)) where
+module _ (old : StoreState) (fs n offset : ℕ) (inode : List ℕ) (is : Ok inode ≡ file_in (latest old.lives) fs n) where
   abbrev v : ℕ → List ℕ
   v = latest old.lives
 
-  abbrev w : ℕ → List ℕ
-  w = latest new.lives
-
-  abbrev files : Files
+  abbrev pub files : Files
   files = files_of v fs
 
-  abbrev next : Bool → Answer (Unit {0})
-  next t = if t then Ok (tt, files) else Ok (tt, with_value files n (File (inode_links inode) (written_bytes (bytes_value v inode) offset bytes)))
+  abbrev pub file : ℕ × List ℕ
+  file = (inode_links inode, bytes_value v inode)
 
-  answer_is : written files n offset bytes ≡ next (length bytes == 0)
-  answer_is =
-      let l = looked v fs n (offset + length bytes) inode e in
-      ap (λ x. and_then x (written_in files n offset bytes)) (sym (ap (mapped (file_parts v)) l.0 ∙ file_found v fs n))
-      ∙ ap (λ (t : Bool). if t then Err TooLarge else next (length bytes == 0)) l.1
+  pub file_is : file_of (files n) ≡ Ok file
+  file_is = sym (ap (mapped (file_parts v)) is ∙ file_found v fs n)
 
-  at_file : IsWritten v w fs n inode offset bytes → files_of w fs n ≡ File (inode_links inode) (written_bytes (bytes_value v inode) offset bytes)
-  at_file k =
-      file_value w fs n k.after k.file
+  abbrev next : List ℕ → Bool → Answer (Unit {0})
+  next bytes t = if t then Ok (tt, files) else Ok (tt, with_value files n (File file.0 (written_bytes file.1 offset bytes)))
+
+  pub answer_is : (bytes : List ℕ) → offset + length bytes ≤ 71680 → written files n offset bytes ≡ next bytes (length bytes == 0)
+  answer_is bytes low = ap (λ x. and_then x (written_in files n offset bytes)) file_is ∙ ap (λ (t : Bool). if t then Err TooLarge else next bytes (length bytes == 0)) (le-ltb 71680 (offset + length bytes) low)
+
+  -- no bytes
+  pub none_leads : offset ≤ 71680 → written files n offset [] ≡ Ok (tt, files)
+  none_leads low = answer_is [] (omega (arith, low))
+
+  pub some_leads : (bytes : List ℕ) → offset + length bytes ≤ 71680 → length bytes ≢ 0 → written files n offset bytes ≡ Ok (tt, with_value files n (File file.0 (written_bytes file.1 offset bytes)))
+  some_leads bytes low ne = answer_is bytes low ∙ ap (next bytes) (ne_eqb (length bytes) 0 ne)
+
+  -- the bytes are written, and the size is raised
+  pub written_leads : (middle new : StoreState) (bytes bs : List ℕ) → bs ≡ padded (file_end inode) offset bytes → offset + length bytes ≤ 71680 → (a : Puts old middle fs n (min (file_end inode) offset) bs) →
+      IsRaised (latest middle.lives) (latest new.lives) fs n (a.wrote inode is).after (offset + length bytes) → OnlyChanges (latest middle.lives) (latest new.lives) fs n → (x : Unit {0}) →
+      Leads (Ok (tt, with_value files n (File file.0 (written_bytes file.1 offset bytes)))) (latest new.lives) fs x
+  written_leads middle new bytes bs same low a r others x =
+      let w = latest new.lives in
+      let k = a.wrote inode is in
+      let end : file_end r.after ≡ max (file_end inode) (offset + length bytes) = ap (λ s. min s 71680) (r.sized ∙ ap (λ s. max s (offset + length bytes)) k.size) ∙ end_raised (word_at inode 4) (offset + length bytes) low in
+      let each : (at : ℕ) → at < file_end r.after → byte_of w r.after at ≡ byte_written (byte_of v inode) (min (file_end inode) offset) (padded (file_end inode) offset bytes) at = λ at less.
+      r.each at (omega (arith, less)) ∙ (k.each at (omega (arith, less)) ∙ ap (λ (m : List ℕ). byte_written (byte_of v inode) (min (file_end inode) offset) m at) same) in
+      let value : files_of w fs n ≡ File file.0 (written_bytes file.1 offset bytes) = file_value w fs n r.after r.file
+      ∙ (ap (λ l. File l (bytes_value w r.after)) (r.marks.1 ∙ k.marks.1) ∙ ap (File (inode_links inode)) (bytes_are (byte_of v inode) (file_end inode) (file_end r.after) offset bytes end (byte_of w r.after) each)) in
+      (refl, λ i. ap (λ (g : Files). g i) (value_at v w fs n _ value (λ d other. same_on v (latest middle.lives) w fs d (a.others d other) (others d other))))
+
+  -- the first so many are
+  pub first_files : (before : StoreState) (bytes : List ℕ) (done : ℕ) → done ≤ length (padded (file_end inode) offset bytes) → Puts old before fs n (min (file_end inode) offset) (take done (padded (file_end inode) offset bytes)) →
+      files_of (latest before.lives) fs ≡ written_to files n offset bytes file (min (file_end inode) offset + done)
+  first_files before bytes done few a =
+      let w = latest before.lives in
+      let k = a.wrote inode is in
+      let end : file_end k.after ≡ file_end inode = ap (λ s. min s 71680) k.size in
+      let value : files_of w fs n ≡ File file.0 (first_written file.1 (written_bytes file.1 offset bytes) (min (file_end inode) offset + done)) = file_value w fs n k.after k.file
       ∙ (ap (λ l. File l (bytes_value w k.after)) k.marks.1
-      ∙ ap (File (inode_links inode)) (bytes_are (byte_of v inode) (byte_of w k.after) (file_end inode) (file_end k.after) offset bytes k.ends (λ at low. k.each at (omega (arith, low)))))
-
-  pub written_leads : Wrote old new fs n inode offset bytes → (x : Unit {0}) → Leads (written files n offset bytes) w fs x
-  written_leads h x = subst (λ (a : Answer (Unit {0})). Leads a w fs x) (sym answer_is) (elim h [
-    | inl p ↦ subst (λ (t : Bool). Leads (next t) w fs x) (sym (eq-eqb (length bytes) 0 (ap length p.0))) (refl, λ i. ap (λ (s : StoreState). files_of (latest s.lives) fs i) p.1)
-    | inr p ↦ subst (λ (t : Bool). Leads (next t) w fs x) (sym (ne_eqb (length bytes) 0 (λ z. p.0 (nil_from_length bytes z)))) (
-      refl,
-      λ i. elim (cases_eq i n) [
-        | inl z ↦ ap (files_of w fs) z ∙ (at_file p.1 ∙ sym (ap (λ (t : Bool). if t then File (inode_links inode) (written_bytes (bytes_value v inode) offset bytes) else files i) (eq-eqb i n z)))
-        | inr ne ↦ same_value v w fs i (p.2 i ne) ∙ sym (ap (λ (t : Bool). if t then File (inode_links inode) (written_bytes (bytes_value v inode) offset bytes) else files i) (ne_eqb i n ne))
-      ],
-    )
-  ])
+      ∙ (ap (λ l. File (inode_links inode) (map (byte_of w k.after) (range_with_len 0 l))) end
+      ∙ ap (File (inode_links inode)) (first_are (byte_of v inode) (file_end inode) (max (file_end inode) (offset + length bytes)) offset bytes refl (byte_of w k.after) done few (λ at less. k.each at (omega (arith, less)))))) in
+      value_at v w fs n _ value a.others

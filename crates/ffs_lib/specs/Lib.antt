@@ -8,3 +8,4 @@ pub mod Reclaiming
 pub mod Replacing
 pub mod Values
 pub mod Stages
+pub mod Written

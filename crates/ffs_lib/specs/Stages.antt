@@ -27,6 +27,7 @@ use Rattle.ffs_lookup.specs.Newest.{and_then, byte_of, directory_in, inode_in, i
 use Rattle.ffs_lib.specs.Results.{IsAs, IsExtended, OthersSame, SameContents, SameOrNew, new_inode}
 use Rattle.ffs_lib.specs.Steps.{IsHome, StopsEntering, StopsGrowing, Wants, newest}
 use Rattle.ffs_lib.specs.Values.{Leads}
+use Rattle.ffs_lib.specs.Writes.{StopsPart}
 
 abbrev pub more_a_link : InodeValue → InodeValue
 more_a_link (File links bytes) = File (links + 1) bytes
@@ -48,13 +49,14 @@ abbrev pub with_emptied : Files → ℕ → Files
 with_emptied files n = with_value files n (emptied (files n))
 
 -- What is asked: an edit of a directory's block at an index; of the block that has an inode; of that, or of the inode's block of pointers; what an entry
--- more in a directory needs; what a block of inodes more does.
+-- more in a directory needs; what a block of inodes more does; an edit of a file's block at an index, or what a block more there needs.
 pub data Ask : Type 0 where
   OfEntry : (d index : ℕ) → Ask
   OfInode : (n : ℕ) → Ask
   OfLink : (n : ℕ) → Ask
   ForEntry : (d : ℕ) → Ask
   ForInodes : Ask
+  OfPart : (n index : ℕ) → Ask
 
 abbrev pub OfHome : Types → ℕ → ℕ → StoreState → FfsFault → Type 0
 OfHome T fs n state fault = (block : ℕ) → IsHome (newest state) fs n block → Wants T state fs block fault
@@ -69,6 +71,7 @@ Asks T fs (OfInode n) before new fault = (new ≡ before) × OfHome T fs n befor
 Asks T fs (OfLink n) before new fault = (new ≡ before) × (OfHome T fs n before fault ⊎ OfPointers T fs n before fault)
 Asks T fs (ForEntry d) before new fault = StopsEntering T fs before new d fault
 Asks T fs ForInodes before new fault = StopsGrowing T fs before new fault
+Asks T fs (OfPart n index) before new fault = StopsPart T fs before new n index fault
 
 abbrev pub Stages : Type 0
 Stages = List (Files × Ask)

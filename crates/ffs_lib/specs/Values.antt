@@ -1,15 +1,12 @@
 -- What a call answers and leaves, by its function of the files.
 --     Leads        the function answers this, and the files are those that it says
 --     ByAnswer     its fault is answered, and nothing changes; or something is so of what is answered, or the store is short of something
---     Follows      so it is, and the function answers that
---     WritesFirst  the first so many of some bytes are written, if any are
-use Rattle.std.specs.Prelude.{◌≡◌, ◌≢◌, ℕ, ◌≤◌, List, length, take, Result, Ok, Err, true, MatchResult}
+use Rattle.std.specs.Prelude.{◌≡◌, ℕ, List, Result, Ok, Err, true, MatchResult}
 use Rattle.xn_model.specs.Lives.{StoreState}
 use Rattle.ffs_lookup.specs.declared.fault.FfsFault.{FfsFault}
-use Rattle.ffs_lookup.specs.Files.{Answer, Files, written}
+use Rattle.ffs_lookup.specs.Files.{Answer}
 use Rattle.ffs_lookup.specs.FileValues.{files_of}
 use Rattle.ffs_lookup.specs.Newest.{is_short}
-use Rattle.ffs_lib.specs.Steps.{newest}
 
 abbrev pub Leads : {A : Type 0} → Answer A → (ℕ → List ℕ) → ℕ → A → Type 0
 Leads (Err fault) content fs x = ⊥
@@ -18,9 +15,3 @@ Leads (Ok next) content fs x = (x ≡ next.0) × ((n : ℕ) → files_of content
 abbrev pub ByAnswer : {A B : Type 0} → Answer A → (B → Type 0) → StoreState → StoreState → Result B FfsFault → Type 0
 ByAnswer (Err fault) P old new result = (result ≡ Err fault) × (new ≡ old)
 ByAnswer (Ok next) P old new result = MatchResult result P (λ fault. is_short fault ≡ true)
-
-abbrev pub Follows : {A : Type 0} → Answer A → ℕ → StoreState → StoreState → Result A FfsFault → Type 0
-Follows answer fs old new result = ByAnswer answer (Leads answer (newest new) fs) old new result
-
-abbrev pub WritesFirst : Files → (ℕ → List ℕ) → ℕ → ℕ → ℕ → List ℕ → ℕ → Type 0
-WritesFirst files content fs n offset bytes count = (count ≤ length bytes) × (count ≢ 0 → Leads (written files n offset (take count bytes)) content fs tt)

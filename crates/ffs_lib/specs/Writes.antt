@@ -1,29 +1,23 @@
--- What `write` and `write_some` leave.
+-- What the steps of a write leave, and what it asks of the store for a part of a file.
 --     LastGiven                    the numbers of a write's last edits were given
 --     Puts, PutsBy                 bytes are written into a file, by an edit
 --     PointsTo                     a file has a block of pointers, and its bytes stay
 --     StopsThere, StopsAdding      the store refused an edit of a block that a file has; a new block where it had none
 --     StopsPart                    a part of the bytes was refused: no byte changed but what forgetting leaves
---     Parts                        the first of some bytes are written, block after block, maybe up to a refusal
---     padded, padded_from          what a write writes, and from where on: its bytes, and zeros before them from the file's end on
---     Padded                       the first of that is written
---     IsWritten, Wrote             a file after a write; and what else is left
---     StopsWriting                 the first of what a write writes is there, and the store refused the next block, or the size
---     WroteSome                    the first of the bytes are written
---     Writes, WritesSome           the calls
-use Rattle.std.specs.Prelude.{◌≡◌, ◌≢◌, ℕ, ◌+◌, ◌-◌, ◌/◌, ◌%◌, ◌<◌, ◌≤◌, ◌⊎◌, List, [], ◌++◌, length, max, min, replicate, take, Option, None, Some, Result, Ok}
+--     padded                       what a write writes: its bytes, and zeros before them from the file's end on
+--     PartStops                    a part was refused behind the first of that, which are written
+--     Parts                        the first of that are written, part after part, maybe up to a refusal
+use Rattle.std.specs.Prelude.{◌≡◌, ◌≢◌, ℕ, ◌+◌, ◌-◌, ◌/◌, ◌%◌, ◌<◌, ◌≤◌, ◌⊎◌, List, [], ◌++◌, length, min, replicate, take, Option, None, Some, Ok}
 use Rattle.std.specs.Prelude.{IsTrue, IfSome}
-use Rattle.xn_model.specs.declared.refusal.Refusal.TheVariants.{TooManyPending}
 use Rattle.xn_model.specs.Root.{word_at}
 use Rattle.xn_model.specs.Types.{Types}
 use Rattle.xn_model.specs.Lives.{StoreState}
 use Rattle.xn_model.specs.Calls.{was_given}
 use Rattle.ffs_model.specs.Library.{pointer_word, zeros}
 use Rattle.ffs_lookup.specs.declared.fault.FfsFault.{FfsFault}
-use Rattle.ffs_lookup.specs.declared.fault.FfsFault.TheVariants.{Kernel}
-use Rattle.ffs_lookup.specs.Newest.{byte_of, file_block, file_end, file_in, write_in}
-use Rattle.ffs_lib.specs.Results.{OnlyChanges, SameMarks, WroteBytes, byte_written}
-use Rattle.ffs_lib.specs.Steps.{Answers, IsHome, Stage, Stops, StopsAtHome, StopsAttaching, Wants, newest}
+use Rattle.ffs_lookup.specs.Newest.{file_block, file_in}
+use Rattle.ffs_lib.specs.Results.{OnlyChanges, WroteBytes}
+use Rattle.ffs_lib.specs.Steps.{IsHome, Stage, Stops, StopsAttaching, Wants, newest}
 use Rattle.ffs_lib.specs.declared.data.Last.{Last}
 use Rattle.ffs_lib.specs.declared.data.Progress.{Progress}
 
@@ -82,91 +76,29 @@ pub record StopsPart (T : Types) (fs : ℕ) (old new : StoreState) (n index : �
   pub before : StoreState
   pub told : StopsBlock T fs before new n index fault
 
--- Parts of bytes, block after block
+-- What a write writes into a file that ends somewhere, part after part
 
--- at the first of some bytes, or where a block begins
-abbrev pub IsBorder : ℕ → ℕ → Type 0
-IsBorder start at = (at ≡ start) ⊎ (at % 512 ≡ 0)
+abbrev pub padded : ℕ → ℕ → List ℕ → List ℕ
+padded end offset bytes = replicate (offset - end) 0 ++ bytes
 
-pub record Parts (T : Types) (fs : ℕ) (array : ℕ → Option ℕ) (old new : StoreState) (n start : ℕ) (bytes : List ℕ) (progress : Progress) : Type 0 where
+-- where a part begins: the first one, that at the offset, or where a block begins
+abbrev pub IsBorder : ℕ → ℕ → ℕ → Type 0
+IsBorder end offset done = (done ≡ 0) ⊎ (min end offset + done ≡ offset) ⊎ ((min end offset + done) % 512 ≡ 0)
+
+-- The part behind the first so many of the bytes was refused. Where these are none nothing was done before.
+pub record PartStops (T : Types) (fs : ℕ) (old new : StoreState) (n end offset : ℕ) (bytes : List ℕ) (done : ℕ) (fault : FfsFault) : Type 0 where
+  pub low : done < length (padded end offset bytes)
+  pub border : IsBorder end offset done
+  pub before : StoreState
+  pub puts : Puts old before fs n (min end offset) (take done (padded end offset bytes))
+  pub first : done ≡ 0 → before ≡ old
+  pub told : StopsPart T fs before new n ((min end offset + done) / 512) fault
+
+pub record Parts (T : Types) (fs : ℕ) (array : ℕ → Option ℕ) (old new : StoreState) (n end offset : ℕ) (bytes : List ℕ) (progress : Progress) : Type 0 where
   pub stage : Stage T fs array new
-  pub few : progress.taken ≤ length bytes
-  pub puts : Puts old new fs n start (take progress.taken bytes)
+  pub few : progress.done ≤ length (padded end offset bytes)
+  pub border : progress.done < length (padded end offset bytes) → IsBorder end offset progress.done
+  pub puts : Puts old new fs n (min end offset) (take progress.done (padded end offset bytes))
   pub given : LastGiven new progress.last
-  pub border : progress.taken < length bytes → IsBorder start (start + progress.taken)
-  pub ended : IfSome progress.fault (Stops (λ fault.
-      (progress.taken < length bytes) × (before : StoreState) × StopsBlock T fs before new n ((start + progress.taken) / 512) fault))
-
--- What a write writes
-
-abbrev pub padded_from : List ℕ → ℕ → ℕ
-padded_from inode offset = min (file_end inode) offset
-
-abbrev pub padded : List ℕ → ℕ → List ℕ → List ℕ
-padded inode offset bytes = replicate (offset - file_end inode) 0 ++ bytes
-
--- The file whose inode was this one has the bytes at the offset, zeros before them from its old end on, its old bytes elsewhere, and ends with
--- them, if it did not end later. It has its mode and its links.
-pub record IsWritten (old new : ℕ → List ℕ) (fs n : ℕ) (inode : List ℕ) (offset : ℕ) (bytes : List ℕ) : Type 0 where
-  pub after : List ℕ
-  pub file : Ok after ≡ file_in new fs n
-  pub ends : file_end after ≡ max (file_end inode) (offset + length bytes)
-  pub marks : SameMarks inode after
-  pub each : (at : ℕ) → at < 71680 → byte_of new after at ≡ byte_written (byte_of old inode) (padded_from inode offset) (padded inode offset bytes) at
-
--- no bytes make no edit; no other inode changes
-abbrev pub Wrote : StoreState → StoreState → ℕ → ℕ → List ℕ → ℕ → List ℕ → Type 0
-Wrote old new fs n inode offset bytes =
-    ((bytes ≡ []) × (new ≡ old))
-    ⊎ ((bytes ≢ []) × IsWritten (newest old) (newest new) fs n inode offset bytes × OnlyChanges (newest old) (newest new) fs n)
-
--- the next block was refused, where this many bytes from a place on are done; or the size, where all are
-abbrev pub StopsNext : Types → ℕ → StoreState → ℕ → ℕ → ℕ → ℕ → ℕ → FfsFault → Type 0
-StopsNext T fs new n start offset done count fault =
-    ((done < count) × (IsBorder start (start + done) ⊎ (start + done ≡ offset)) × (before : StoreState)
-    × StopsBlock T fs before new n ((start + done) / 512) fault)
-    ⊎ ((done ≡ count) × StopsAtHome T fs new new n fault)
-
--- The first of what it writes is there, up to a block's end, and the file ends where it did.
-pub record StopsWriting (T : Types) (fs : ℕ) (old new : StoreState) (n : ℕ) (inode : List ℕ) (offset : ℕ) (bytes : List ℕ) (fault : FfsFault) : Type 0 where
-  pub done : ℕ
-  pub wrote : WroteBytes (newest old) (newest new) fs n inode (padded_from inode offset) (take done (padded inode offset bytes))
-  pub others : OnlyChanges (newest old) (newest new) fs n
-  pub told : StopsNext T fs new n (padded_from inode offset) offset done (length (padded inode offset bytes)) fault
-
--- in the middle of a write: its size is not raised yet
-pub record Padded (T : Types) (fs : ℕ) (array : ℕ → Option ℕ) (old new : StoreState) (n : ℕ) (inode : List ℕ) (offset : ℕ)
-    (bytes : List ℕ) (progress : Progress) : Type 0 where
-  pub stage : Stage T fs array new
-  pub few : progress.taken ≤ length bytes
-  pub done : ℕ
-  pub counted : progress.taken ≢ 0 → done ≡ (offset - file_end inode) + progress.taken
-  pub puts : Puts old new fs n (padded_from inode offset) (take done (padded inode offset bytes))
-  pub given : LastGiven new progress.last
-  pub whole : progress.fault ≡ None → progress.taken ≡ length bytes
-  pub ended : IfSome progress.fault (Stops (λ fault.
-      (done < length (padded inode offset bytes)) × StopsNext T fs new n (padded_from inode offset) offset done (length (padded inode offset bytes)) fault))
-
--- The calls
-
-abbrev pub Writes : Types → ℕ → ℕ → ℕ → List ℕ → StoreState → StoreState → Result (Unit {0}) FfsFault → Type 0
-Writes T fs n offset bytes old new result =
-    Answers (write_in (newest old) fs n (offset + length bytes)) (λ inode _. Wrote old new fs n inode offset bytes)
-    (λ inode fault. StopsWriting T fs old new n inode offset bytes fault) old new result
-
--- a write of the first so many of the bytes was refused
-abbrev pub StopsSome : Types → ℕ → StoreState → StoreState → ℕ → List ℕ → ℕ → List ℕ → FfsFault → Type 0
-StopsSome T fs old new n inode offset bytes fault = (count : ℕ) × (count ≤ length bytes) × StopsWriting T fs old new n inode offset (take count bytes) fault
-
--- The first so many bytes are written: all, or up to where the store refused a block; or none, where too many edits are pending.
-pub record WroteSome (T : Types) (fs : ℕ) (old new : StoreState) (n : ℕ) (inode : List ℕ) (offset : ℕ) (bytes : List ℕ) (count : ℕ) : Type 0 where
-  pub few : count ≤ length bytes
-  pub some : count ≢ 0 → Wrote old new fs n inode offset (take count bytes)
-  pub stopped : count ≢ 0 → count < length bytes → (middle : StoreState) × (fault : FfsFault) × (stop : StopsWriting T fs old middle n inode offset bytes fault)
-      × (stop.done ≡ (offset - file_end inode) + count)
-  pub none : count ≡ 0 → ((bytes ≡ []) × (new ≡ old)) ⊎ StopsSome T fs old new n inode offset bytes (Kernel TooManyPending)
-
-abbrev pub WritesSome : Types → ℕ → ℕ → ℕ → List ℕ → StoreState → StoreState → Result ℕ FfsFault → Type 0
-WritesSome T fs n offset bytes old new result =
-    Answers (write_in (newest old) fs n (offset + length bytes)) (λ inode count. WroteSome T fs old new n inode offset bytes count)
-    (λ inode fault. (fault ≢ Kernel TooManyPending) × StopsSome T fs old new n inode offset bytes fault) old new result
+  pub first : progress.done ≡ 0 → progress.fault ≡ None → new ≡ old
+  pub ended : IfSome progress.fault (Stops (PartStops T fs old new n end offset bytes progress.done))

@@ -1,7 +1,7 @@
 // The bytes of files.
 
-ghost use Rattle.std.specs.Prelude.{◌≡◌, ◌≢◌, ◌⊎◌, ℕ, ◌<◌, ◌≤◌, ◌+◌, ◌-◌, ◌*◌, ◌/◌, ◌%◌, List, [], length, map, replicate, Option, None, Some, Ok, IfErr, IfOk};
-ghost use Rattle.std.specs.Prelude.{IsOk, IsTrue, OnOk, ◌^◌, ◌↔◌};
+ghost use Rattle.std.specs.Prelude.{◌≡◌, ◌≢◌, ◌⊎◌, ℕ, ◌<◌, ◌≤◌, ◌+◌, ◌-◌, ◌*◌, ◌/◌, ◌%◌, List, [], length, map, replicate, Option, None, Some, Ok};
+ghost use Rattle.std.specs.Prelude.{IfErr, IfOk, IsOk, IsTrue, OnOk, min, ◌^◌, ◌↔◌};
 ghost use Rattle.std.specs.List.{range_with_len};
 ghost use Rattle.xn_model.specs.Root.{word_at};
 ghost use Rattle.xn_model.specs.Calls.{was_given};
@@ -16,7 +16,7 @@ ghost use Rattle.xn_model.specs.declared.refusal.Refusal.TheVariants.{TooManyPen
 ghost use Rattle.ffs_lib.specs.Outcomes.{IsRaised};
 ghost use Rattle.ffs_lib.specs.Results.{OnlyChanges};
 ghost use Rattle.ffs_lib.specs.Steps.{Ends, Stage, StopsAtHome, newest};
-ghost use Rattle.ffs_lib.specs.Writes.{LastGiven, Padded, Parts, PointsTo, Puts, PutsBy, StopsPart};
+ghost use Rattle.ffs_lib.specs.Writes.{LastGiven, Parts, PointsTo, Puts, PutsBy, StopsPart};
 ghost use Rattle.ffs_lookup.specs.Places.{IsFile};
 
 use crate::put::{attach, put, put_inode};
@@ -46,10 +46,10 @@ pub struct Last {
     pub size: Option<EditId>,
 }
 
-/// How far a write came: how many bytes were taken, its last edits, and the fault that ended it.
+/// How far a write came: how many bytes were done, zeros and data, its last edits, and the fault that ended it.
 #[derive(Clone, Copy)]
 pub struct Progress {
-    pub taken: usize,
+    pub done: usize,
     pub last: Last,
     pub fault: Option<FfsFault>,
 }
@@ -314,13 +314,13 @@ fn clear_block<S: Store>(
 
 /// What a part of a write comes to: so many bytes more, or its fault.
 fn step(progress: Progress, count: usize, part: Result<Last, FfsFault>) -> Progress
-    requires { progress.taken + count < 2 ^ 64 }
-    ensures ok { IfOk part (λ last. result ≡ record { taken = progress.taken + count; last = last; fault = progress.fault }) }
-    ensures err { IfErr part (λ fault. result ≡ record { taken = progress.taken; last = progress.last; fault = Some fault }) }
+    requires { progress.done + count < 2 ^ 64 }
+    ensures ok { IfOk part (λ last. result ≡ record { done = progress.done + count; last = last; fault = progress.fault }) }
+    ensures err { IfErr part (λ fault. result ≡ record { done = progress.done; last = progress.last; fault = Some fault }) }
 {
     match part {
         Ok(last) => Progress {
-            taken: progress.taken + count,
+            done: progress.done + count,
             last,
             ..progress
         },
@@ -345,141 +345,56 @@ fn last_if(last: Last, past: bool) -> Last
     }
 }
 
-/// Writes the next of some bytes, up to a block's end. A part before the file's end comes after no edit, and none comes after it.
+/// Writes the next part of some bytes at an offset into a file that ends here, or of the zeros before them, up to a block's end. A part before the
+/// file's end comes after no edit, and none comes after it.
 fn write_part<S: Store>(
     alloc: Global,
     store: &mut S,
     fs: Fs,
     number: u16,
     end: usize,
-    start: usize,
+    offset: usize,
     bytes: &[u8],
     progress: Progress,
 ) -> Progress
-    requires within { start + length bytes.now ≤ 71680 }
-    requires some { progress.taken < length bytes.now }
+    requires within { offset + length bytes.now ≤ 71680 }
+    requires some { min end offset + progress.done < offset + length bytes.now }
     requires none { progress.fault ≡ None }
     ensures types { S.types_of store.new ≡ S.types_of store.old }
-    ensures falls { result.fault ≡ None → progress.taken < result.taken }
-    ensures few { result.taken ≤ length bytes.now }
+    ensures falls { result.fault ≡ None → progress.done < result.done }
+    ensures few { min end offset + result.done ≤ offset + length bytes.now }
     ensures parts { (T : Types) (array : ℕ → Option ℕ) (zeroth : StoreState) → S.types_of store.old ≡ T → IsOk (file_in (newest zeroth) fs.number number) →
-        Parts T fs.number array zeroth (S.state_of store.old) number start bytes.now progress →
-        Parts T fs.number array zeroth (S.state_of store.new) number start bytes.now result }
+        Parts T fs.number array zeroth (S.state_of store.old) number end offset bytes.now progress →
+        Parts T fs.number array zeroth (S.state_of store.new) number end offset bytes.now result }
 {
-    let at = start + progress.taken;
+    let at = end.min(offset) + progress.done;
+    let index = at / BLOCK_LEN;
     let within = at % BLOCK_LEN;
-    let count = (bytes.len() - progress.taken).min(BLOCK_LEN - within);
-    let part = &bytes[progress.taken..progress.taken + count];
+    if at < offset {
+        let count = (offset - at).min(BLOCK_LEN - within);
+        let cleared = clear_block(
+            alloc,
+            store,
+            fs,
+            number,
+            index,
+            within,
+            count,
+            progress.last,
+        );
+        return step(progress, count, cleared);
+    }
+    let from = at - offset;
+    let count = (bytes.len() - from).min(BLOCK_LEN - within);
     let past = at + count > end;
     let last = last_if(progress.last, past);
-    let written = write_block(alloc, store, fs, number, at / BLOCK_LEN, within, part, last);
+    let part = &bytes[from..from + count];
+    let written = write_block(alloc, store, fs, number, index, within, part, last);
     let next = step(progress, count, written);
     Progress {
         last: if past { next.last } else { progress.last },
         ..next
     }
-}
-
-/// Writes bytes into a file that ends here, from a byte on, block after block, and leaves its size.
-pub fn write_parts<S: Store>(
-    alloc: Global,
-    store: &mut S,
-    fs: Fs,
-    number: u16,
-    end: usize,
-    start: usize,
-    bytes: &[u8],
-    last: Last,
-) -> Progress
-    requires within { start + length bytes.now ≤ 71680 }
-    ensures types { S.types_of store.new ≡ S.types_of store.old }
-    ensures few { result.taken ≤ length bytes.now }
-    ensures whole { result.fault ≡ None → result.taken ≡ length bytes.now }
-    ensures parts { (T : Types) (array : ℕ → Option ℕ) → S.types_of store.old ≡ T → Stage T fs.number array (S.state_of store.old) →
-        IsOk (file_in (newest (S.state_of store.old)) fs.number number) → LastGiven (S.state_of store.old) last →
-        Parts T fs.number array (S.state_of store.old) (S.state_of store.new) number start bytes.now result }
-{
-    let mut progress = Progress {
-        taken: 0,
-        last,
-        fault: None,
-    };
-    while progress.taken < bytes.len() {
-        progress = write_part(alloc, store, fs, number, end, start, bytes, progress);
-        if progress.fault.is_some() {
-            return progress;
-        }
-    }
-    progress
-}
-
-/// Writes the next of some zeros, up to a block's end.
-fn clear_part<S: Store>(
-    alloc: Global,
-    store: &mut S,
-    fs: Fs,
-    number: u16,
-    start: usize,
-    end: usize,
-    progress: Progress,
-) -> Progress
-    requires within { end ≤ 71680 }
-    requires some { start + progress.taken < end }
-    requires none { progress.fault ≡ None }
-    ensures types { S.types_of store.new ≡ S.types_of store.old }
-    ensures falls { result.fault ≡ None → progress.taken < result.taken }
-    ensures few { start + result.taken ≤ end }
-    ensures parts { (T : Types) (array : ℕ → Option ℕ) (zeroth : StoreState) → S.types_of store.old ≡ T → IsOk (file_in (newest zeroth) fs.number number) →
-        Parts T fs.number array zeroth (S.state_of store.old) number start (replicate (end - start) 0) progress →
-        Parts T fs.number array zeroth (S.state_of store.new) number start (replicate (end - start) 0) result }
-{
-    let at = start + progress.taken;
-    let within = at % BLOCK_LEN;
-    let count = (end - at).min(BLOCK_LEN - within);
-    let cleared = clear_block(
-        alloc,
-        store,
-        fs,
-        number,
-        at / BLOCK_LEN,
-        within,
-        count,
-        progress.last,
-    );
-    step(progress, count, cleared)
-}
-
-/// Sees to it that a file has zeros from a byte on to another one, where it has blocks, and leaves its size.
-pub fn clear_parts<S: Store>(
-    alloc: Global,
-    store: &mut S,
-    fs: Fs,
-    number: u16,
-    start: usize,
-    end: usize,
-) -> Progress
-    requires within { end ≤ 71680 }
-    ensures types { S.types_of store.new ≡ S.types_of store.old }
-    ensures whole { result.fault ≡ None → result.taken ≡ end - start }
-    ensures parts { (T : Types) (array : ℕ → Option ℕ) → S.types_of store.old ≡ T → Stage T fs.number array (S.state_of store.old) →
-        IsOk (file_in (newest (S.state_of store.old)) fs.number number) →
-        Parts T fs.number array (S.state_of store.old) (S.state_of store.new) number start (replicate (end - start) 0) result }
-{
-    let mut progress = Progress {
-        taken: 0,
-        last: Last {
-            edit: None,
-            size: None,
-        },
-        fault: None,
-    };
-    while progress.taken < end.saturating_sub(start) {
-        progress = clear_part(alloc, store, fs, number, start, end, progress);
-        if progress.fault.is_some() {
-            return progress;
-        }
-    }
-    progress
 }
 
 /// Raises the size of a file to this, where it is below, after an edit.
@@ -497,7 +412,7 @@ pub fn raise_size<S: Store>(
         Ends T fs.number array (S.state_of store.new) result
         (λ _. IsRaised (newest (S.state_of store.old)) (newest (S.state_of store.new)) fs.number number inode size
         × OnlyChanges (newest (S.state_of store.old)) (newest (S.state_of store.new)) fs.number number)
-        (StopsAtHome T fs.number (S.state_of store.old) (S.state_of store.new) number) }
+        (λ fault. (word_at inode 4 < size) × StopsAtHome T fs.number (S.state_of store.old) (S.state_of store.new) number fault) }
 {
     let Found {
         block,
@@ -530,8 +445,8 @@ pub fn look_up_end<S: Store>(
     Ok((file.inode.size() as usize).min(MOST_BYTES))
 }
 
-/// Writes bytes into a file that ends here, and zeros before them from its end on, and leaves its size.
-pub fn write_padded<S: Store>(
+/// Writes bytes at an offset into a file that ends here, and zeros before them from its end on, part after part, and leaves its size.
+pub fn write_parts<S: Store>(
     alloc: Global,
     store: &mut S,
     fs: Fs,
@@ -542,19 +457,27 @@ pub fn write_padded<S: Store>(
 ) -> Progress
     requires within { offset + length bytes.now ≤ 71680 }
     ensures types { S.types_of store.new ≡ S.types_of store.old }
-    ensures few { result.taken ≤ length bytes.now }
-    ensures padded { (T : Types) (array : ℕ → Option ℕ) (inode : List ℕ) → S.types_of store.old ≡ T → Stage T fs.number array (S.state_of store.old) →
-        Ok inode ≡ file_in (newest (S.state_of store.old)) fs.number number → file_end inode ≡ end →
-        Padded T fs.number array (S.state_of store.old) (S.state_of store.new) number inode offset bytes.now result }
+    ensures few { min end offset + result.done ≤ offset + length bytes.now }
+    ensures whole { result.fault ≡ None → min end offset + result.done ≡ offset + length bytes.now }
+    ensures parts { (T : Types) (array : ℕ → Option ℕ) → S.types_of store.old ≡ T → Stage T fs.number array (S.state_of store.old) →
+        IsOk (file_in (newest (S.state_of store.old)) fs.number number) →
+        Parts T fs.number array (S.state_of store.old) (S.state_of store.new) number end offset bytes.now result }
 {
-    let cleared = clear_parts(alloc, store, fs, number, end, offset);
-    if cleared.fault.is_some() {
-        return Progress {
-            taken: 0,
-            ..cleared
-        };
+    let mut progress = Progress {
+        done: 0,
+        last: Last {
+            edit: None,
+            size: None,
+        },
+        fault: None,
+    };
+    while end.min(offset) + progress.done < offset + bytes.len() {
+        progress = write_part(alloc, store, fs, number, end, offset, bytes, progress);
+        if progress.fault.is_some() {
+            return progress;
+        }
     }
-    write_parts(alloc, store, fs, number, end, offset, bytes, cleared.last)
+    progress
 }
 
 /// What is answered where no byte was taken: a fault, but 0 where too many edits are pending.

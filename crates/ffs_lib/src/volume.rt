@@ -1,14 +1,14 @@
 // A volume: the files and directories of a file system.
 
 ghost use Rattle.std.specs.Prelude.{◌≡◌, ◌≢◌, ◌<◌, ◌≤◌, ◌+◌, ◌++◌, ◌==◌, ◌&&◌, not, true, false, ◌⊎◌, Bool, ℕ, List, Option, length, map, Contains, None, Some};
-ghost use Rattle.std.specs.Prelude.{Ok, Err, IfOk, IfErr, OnOk, OnErr, IfSome, IsOk, IsTrue, MatchResult};
+ghost use Rattle.std.specs.Prelude.{[], Ok, Err, IfOk, IfErr, OnOk, OnErr, IfSome, IsOk, IsTrue, MatchResult};
 ghost use Rattle.std.specs.List.{range_with_len};
 ghost use Rattle.ffs_format.specs.Entries.{is_name};
 ghost use Rattle.ffs_model.specs.Cuts.{latest};
 ghost use Rattle.ffs_model.specs.Library.{library_layout, inode_mode, IsLibrary, inode_blocks, inode_links, zeros};
 ghost use Rattle.xn_model.specs.Lists.{put};
 ghost use Rattle.ffs_lookup.specs.Newest.{IsLowest, RefusesAs, TakesEntry, create_in, directory_in, first_named, has_empty_pointer, has_inode, has_room, is_at};
-ghost use Rattle.ffs_lookup.specs.Newest.{mapped, root_in, file_in, listing, named_in, names_at, rename_in, rmdir_in, unlink_in, without_entry, inode_in};
+ghost use Rattle.ffs_lookup.specs.Newest.{mapped, root_in, write_in, listing, named_in, names_at, rename_in, rmdir_in, unlink_in, without_entry, inode_in};
 ghost use Rattle.ffs_lookup.specs.Counts.{if_idle, make_from, open_in};
 ghost use Rattle.ffs_lookup.specs.Repairs.{idle_in, repair_at};
 ghost use Rattle.ffs_lib.specs.Reclaiming.{LeftByRepair, needs, reclaimed, reclaimed_stages};
@@ -20,8 +20,8 @@ ghost use Rattle.ffs_lib.specs.Outcomes.{HasFreePointer, OnlyShort};
 ghost use Rattle.ffs_lib.specs.Replacing.{AreDirect, pair_of};
 ghost use Rattle.ffs_model.specs.Standing.{StayNamed};
 ghost use Rattle.xn_model.specs.Lives.{Lives};
-ghost use Rattle.ffs_lib.specs.Values.{ByAnswer, Follows, Leads, WritesFirst};
-ghost use Rattle.ffs_lib.specs.Writes.{Writes, WritesSome};
+ghost use Rattle.ffs_lib.specs.Values.{ByAnswer, Leads};
+ghost use Rattle.ffs_lib.specs.Written.{DoesSome, Overwrites, WritesSomeTo, WritesTo, written_stages};
 ghost use Rattle.ffs_lookup.specs.FileValues.{files_of};
 ghost use Rattle.ffs_lookup.specs.Files.{Files, created, listed, made, new_directory, new_file, read, read_over, removed, renamed, unlinked, written};
 ghost use Rattle.ffs_lib.specs.Stages.{Does, KeptOrEmptied, Makes, OnlyMade, Unnames, created_stages, removed_stages, renamed_stages};
@@ -35,7 +35,7 @@ ghost use Rattle.ffs_lib.specs.Results.{new_inode, MadeEntry, MovedInodes, OnlyC
 mod replace;
 
 use crate::data::{
-    BLOCK_LEN, MOST_BYTES, look_up_end, none_taken, raise_size, read_part, write_padded,
+    BLOCK_LEN, MOST_BYTES, look_up_end, none_taken, raise_size, read_part, write_parts,
 };
 use crate::put::{add_link, attach, empty_inode, enter, put, put_inode, take_link};
 use crate::reclaim::reclaim_inodes;
@@ -388,9 +388,13 @@ impl Volume {
     ) -> Result<(), FfsFault>
         requires { IsVolume (S.types_of store.old) (S.state_of store.old) self.now }
         ensures types { S.types_of store.new ≡ S.types_of store.old }
-        ensures value { Follows (written (files_of (newest (S.state_of store.old)) self.now.fs.number) inode offset bytes.now)
-            self.now.fs.number (S.state_of store.old) (S.state_of store.new) result }
-        ensures answers { Writes (S.types_of store.old) self.now.fs.number inode offset bytes.now (S.state_of store.old) (S.state_of store.new) result }
+        ensures answers { let files = files_of (newest (S.state_of store.old)) self.now.fs.number in
+            Does (S.types_of store.old) self.now.fs.number (written files inode offset bytes.now) (written_stages files inode offset bytes.now)
+            (S.state_of store.old) (S.state_of store.new) result }
+        ensures inodes { let old = newest (S.state_of store.old) in let new = newest (S.state_of store.new) in let fs = self.now.fs.number in
+            (file : List ℕ) → Ok file ≡ write_in old fs inode (offset + length bytes.now) → (done : ℕ) × Overwrites old new fs inode file offset bytes.now done
+            × WritesTo (S.types_of store.old) fs (files_of old fs) inode file offset bytes.now done (S.state_of store.new) result }
+        ensures none { length bytes.now ≡ 0 → S.state_of store.new ≡ S.state_of store.old }
         ensures keeps { IsVolume (S.types_of store.old) (S.state_of store.new) self.now }
     {
         let start = offset as usize;
@@ -398,7 +402,7 @@ impl Volume {
         if bytes.is_empty() {
             return Ok(());
         }
-        let progress = write_padded(alloc, store, self.fs, inode, end, start, bytes);
+        let progress = write_parts(alloc, store, self.fs, inode, end, start, bytes);
         match progress.fault {
             Some(fault) => Err(fault),
             None => {
@@ -421,11 +425,13 @@ impl Volume {
     ) -> Result<usize, FfsFault>
         requires { IsVolume (S.types_of store.old) (S.state_of store.old) self.now }
         ensures types { S.types_of store.new ≡ S.types_of store.old }
-        ensures value { ByAnswer (written (files_of (newest (S.state_of store.old)) self.now.fs.number) inode offset bytes.now)
-            (WritesFirst (files_of (newest (S.state_of store.old)) self.now.fs.number) (newest (S.state_of store.new)) self.now.fs.number inode offset
-            bytes.now)
+        ensures answers { let files = files_of (newest (S.state_of store.old)) self.now.fs.number in
+            DoesSome (S.types_of store.old) self.now.fs.number files inode offset bytes.now (written files inode offset bytes.now)
             (S.state_of store.old) (S.state_of store.new) result }
-        ensures answers { WritesSome (S.types_of store.old) self.now.fs.number inode offset bytes.now (S.state_of store.old) (S.state_of store.new) result }
+        ensures inodes { let old = newest (S.state_of store.old) in let new = newest (S.state_of store.new) in let fs = self.now.fs.number in
+            (file : List ℕ) → Ok file ≡ write_in old fs inode (offset + length bytes.now) → (done : ℕ) × Overwrites old new fs inode file offset bytes.now done
+            × WritesSomeTo (S.types_of store.old) fs (files_of old fs) inode file offset bytes.now done (S.state_of store.new) result }
+        ensures none { length bytes.now ≡ 0 → S.state_of store.new ≡ S.state_of store.old }
         ensures keeps { IsVolume (S.types_of store.old) (S.state_of store.new) self.now }
     {
         let start = offset as usize;
@@ -433,13 +439,14 @@ impl Volume {
         if bytes.is_empty() {
             return Ok(0);
         }
-        let progress = write_padded(alloc, store, self.fs, inode, end, start, bytes);
-        if progress.taken == 0 {
+        let progress = write_parts(alloc, store, self.fs, inode, end, start, bytes);
+        let taken = (end.min(start) + progress.done).saturating_sub(start);
+        if taken == 0 {
             return none_taken(progress.fault);
         }
-        let size = (start + progress.taken) as u32;
+        let size = (start + taken) as u32;
         match raise_size(alloc, store, self.fs, inode, size, progress.last.size) {
-            Ok(()) => Ok(progress.taken),
+            Ok(()) => Ok(taken),
             Err(fault) => none_taken(Some(fault)),
         }
     }

@@ -1,9 +1,9 @@
 // A store with its open volume.
 
-ghost use Rattle.std.specs.Prelude.{◌≡◌, ◌<◌, ◌≤◌, ◌⊎◌, ℕ, is_some, length, map, IfOk, IsOk, MatchResult, OnErr, OnOk, Ok, Err};
+ghost use Rattle.std.specs.Prelude.{◌≡◌, ◌<◌, ◌≤◌, ◌+◌, ◌⊎◌, ℕ, List, [], is_some, length, map, IfOk, IsOk, MatchResult, OnErr, OnOk, Ok, Err};
 ghost use Rattle.ffs_model.specs.Cuts.{latest};
 ghost use Rattle.ffs_model.specs.Library.{IsLibrary};
-ghost use Rattle.ffs_lookup.specs.Newest.{inode_in, mapped, named_in, rename_in, rmdir_in, unlink_in};
+ghost use Rattle.ffs_lookup.specs.Newest.{inode_in, mapped, named_in, rename_in, rmdir_in, unlink_in, write_in};
 ghost use Rattle.ffs_lookup.specs.declared.places.Slot.{Slot};
 ghost use Rattle.ffs_lookup.specs.Files.{Files, created, listed, new_directory, new_file, read, read_over, removed, renamed, replaced, unlinked, written};
 ghost use Rattle.ffs_lookup.specs.FileValues.{files_of};
@@ -14,9 +14,9 @@ ghost use Rattle.ffs_lib.specs.Replacing.{Replaced, replace_in};
 ghost use Rattle.ffs_lib.specs.Results.{MovedInodes};
 ghost use Rattle.ffs_lib.specs.Stages.{Does, KeptOrEmptied, Makes, OnlyMade, Unnames, created_stages, removed_stages, renamed_stages, replaced_stages};
 ghost use Rattle.ffs_lib.specs.Steps.{newest};
-ghost use Rattle.ffs_lib.specs.Values.{ByAnswer, Follows, WritesFirst};
+ghost use Rattle.ffs_lib.specs.Values.{Follows};
 ghost use Rattle.ffs_lib.specs.Volumes.{NothingPending};
-ghost use Rattle.ffs_lib.specs.Writes.{WritesSome};
+ghost use Rattle.ffs_lib.specs.Written.{DoesSome, Overwrites, WritesSomeTo};
 ghost use Rattle.xn_model.specs.Calls.{free_of, pending_of, tainted_of};
 ghost use Rattle.xn_model.specs.declared.refusal.Refusal.{Refusal};
 ghost use Rattle.xn_state.specs.Awaits.{awaited_of};
@@ -269,11 +269,13 @@ impl<S: FlushStore + Drop> Session<S> {
     ) -> Result<usize, FfsFault>
         ensures types { S.types_of self.new.store ≡ S.types_of self.old.store }
         ensures fs { self.new.fs ≡ self.old.fs }
-        ensures value { ByAnswer (written (files_of (newest (S.state_of self.old.store)) self.old.fs) inode offset bytes.now)
-            (WritesFirst (files_of (newest (S.state_of self.old.store)) self.old.fs) (newest (S.state_of self.new.store)) self.old.fs inode offset bytes.now)
+        ensures answers { let files = files_of (newest (S.state_of self.old.store)) self.old.fs in
+            DoesSome (S.types_of self.old.store) self.old.fs files inode offset bytes.now (written files inode offset bytes.now)
             (S.state_of self.old.store) (S.state_of self.new.store) result }
-        ensures answers { WritesSome (S.types_of self.old.store) self.old.fs inode offset bytes.now (S.state_of self.old.store)
-            (S.state_of self.new.store) result }
+        ensures inodes { let old = newest (S.state_of self.old.store) in let new = newest (S.state_of self.new.store) in let fs = self.old.fs in
+            (file : List ℕ) → Ok file ≡ write_in old fs inode (offset + length bytes.now) → (done : ℕ) × Overwrites old new fs inode file offset bytes.now done
+            × WritesSomeTo (S.types_of self.old.store) fs (files_of old fs) inode file offset bytes.now done (S.state_of self.new.store) result }
+        ensures none { length bytes.now ≡ 0 → S.state_of self.new.store ≡ S.state_of self.old.store }
         ensures few { IfOk result (λ count. count ≤ length bytes.now) }
     {
         self.volume

@@ -25,9 +25,10 @@ returns-in_err-put_inode-clause-ends g c = λ T array inode e s is given.
     let own = c.set_size.new.self in
     let edit = edit_at (64 * found.place) own [] [] c.args.after in
     let p = c.in_err-put_inode.ensures.put T e in
+    let less : word_at found.inode 4 < c.args.size = omega arith in
     fails _ _ (same_stage s p.0) c.from_residual-in_err-put_inode.result _ c.from_residual-in_err-put_inode.ensures.1 (
       short_told (propose_of T old fs found.block edit) (size_short T fs array old s c.args.number found c.in_ok-block.ensures.found exact own c.put_inode.ensures.whole c.args.size c.set_size.ensures.fields c.args.after given) _ p.1,
-      at_home T fs old new c.args.number found.block found.place c.in_ok-block.ensures.found.is.stands p.0 _ (edit, p.1),
+      (subst (λ (m : List ℕ). word_at m 4 < c.args.size) (same_ok found.inode inode (exact ∙ sym is)) less, at_home T fs old new c.args.number found.block found.place c.in_ok-block.ensures.found.is.stands p.0 _ (edit, p.1)),
     )
 
 pub returns-in_ok-put_inode-clause-ends : goal.returns-in_ok-put_inode-clause-ends

@@ -1,9 +1,9 @@
-use Rattle.std.proofs.Common.{◌≡◌, ◌-◌, ◌≤◌, ℕ, Option, None, length}
-use Rattle.std.specs.Prelude.{IsOk}
+use Rattle.std.proofs.Common.{◌≡◌, ◌+◌, ◌-◌, ◌≤◌, ℕ, Option, None, length}
+use Rattle.std.specs.Prelude.{IsOk, min}
 use Rattle.xn_model.specs.Types.{Types}
 use Rattle.ffs_lookup.specs.Newest.{file_in}
 use Rattle.ffs_lib.specs.Steps.{Stage, newest}
-use Rattle.ffs_lib.specs.Writes.{LastGiven, Parts}
+use Rattle.ffs_lib.specs.Writes.{Parts}
 use Rattle.ffs_lib.proofs.data.write_parts.Given as goal
 
 -- the first bytes are written, and no part was refused
@@ -13,10 +13,10 @@ invariant-loop-progress g l =
     record {
       types : g.S.Store.types_of l.store ≡ g.S.Store.types_of l.initial.store;
       none : l.progress.fault ≡ None;
-      few : l.progress.taken ≤ length l.bytes;
-      parts : (T : Types) (array : ℕ → Option ℕ) → g.S.Store.types_of l.initial.store ≡ T → Stage T l.fs.number array old → IsOk (file_in (newest old) l.fs.number l.number) → LastGiven old l.initial.progress.last →
-          Parts T l.fs.number array old (g.S.Store.state_of l.store) l.number l.start l.bytes l.progress;
+      few : min l.end l.offset + l.progress.done ≤ l.offset + length l.bytes;
+      parts : (T : Types) (array : ℕ → Option ℕ) → g.S.Store.types_of l.initial.store ≡ T → Stage T l.fs.number array old → IsOk (file_in (newest old) l.fs.number l.number) →
+          Parts T l.fs.number array old (g.S.Store.state_of l.store) l.number l.end l.offset l.bytes l.progress;
     }
 
 abbrev pub decreases-loop-progress : goal.decreases-loop-progress
-decreases-loop-progress g l = length l.bytes - l.progress.taken
+decreases-loop-progress g l = l.offset + length l.bytes - (min l.end l.offset + l.progress.done)

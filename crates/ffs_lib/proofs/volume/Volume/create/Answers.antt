@@ -1,5 +1,5 @@
 use Rattle.ffs_lookup.specs.Files.{new_file}
-use Rattle.ffs_lib.proofs.Following.{blocks_once}
+use Rattle.ffs_lib.proofs.BlocksOnce.{blocks_once}
 use Rattle.ffs_lib.proofs.StagedNew.{created_does, created_makes, created_stays}
 use Rattle.ffs_lib.proofs.ValueMade.{file_made}
 use Rattle.ffs_lib.proofs.volume.Volume.create.Goals as goal

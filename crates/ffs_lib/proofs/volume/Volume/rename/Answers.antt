@@ -14,7 +14,7 @@ use Rattle.ffs_lib.specs.Stages.{renamed_stages}
 use Rattle.ffs_lib.specs.Steps.{Stops, StopsNaming, StopsUnnaming, Unnamed}
 use Rattle.ffs_lib.specs.Volumes.{edits_of}
 use Rattle.ffs_lib.proofs.Laws.{staged, stops_err}
-use Rattle.ffs_lib.proofs.Following.{blocks_once}
+use Rattle.ffs_lib.proofs.BlocksOnce.{blocks_once}
 use Rattle.ffs_lib.proofs.Linked.{linked_own}
 use Rattle.ffs_lib.proofs.MoveLaws.{moved_inodes, naming_inodes, refused_inodes, still_one, still_there}
 use Rattle.ffs_lib.proofs.Renaming.{can_move}

@@ -1,112 +1,84 @@
-use Rattle.std.proofs.Common.{◌≡◌, ◌≢◌, ◌∙◌, ◌+◌, ℕ, List, Err, Ok, arith, inl, length, refl, rules, subst, sym, take}
+use Rattle.std.proofs.Common.{◌∙◌, ◌+◌, ap, length, sym, rules}
 use Rattle.std.proofs.lemmas.Bool.{eqb-false, eqb-true}
-use Rattle.std.proofs.lemmas.List.{nil_from_length, take_all}
-use Rattle.ffs_lib.specs.Outcomes.{IsRaised}
+use Rattle.std.proofs.lemmas.List.{nil_from_length}
 use Rattle.ffs_model.specs.Cuts.{latest}
-use Rattle.ffs_lookup.specs.Newest.{write_in}
+use Rattle.ffs_lookup.specs.Files.{written}
+use Rattle.ffs_lookup.specs.FileValues.{files_of}
+use Rattle.ffs_lookup.specs.Newest.{file_end, mapped, write_in}
+use Rattle.ffs_lookup.proofs.ForCallers.{written_told}
 use Rattle.ffs_lib.specs.Volumes.{edits_of}
-use Rattle.ffs_lib.specs.Writes.{StopsWriting, Wrote}
-use Rattle.ffs_lib.proofs.Following.{written_follows}
-use Rattle.ffs_lib.proofs.Laws.{answers_ok, match_then, staged}
-use Rattle.ffs_lib.proofs.Parting.{end_found, raise_refused, raised_wrote, stops_writing, write_file}
+use Rattle.ffs_lib.specs.Written.{written_stages}
+use Rattle.ffs_lib.proofs.Staged.{does_fault}
+use Rattle.ffs_lib.proofs.StagedWritten.{Begun, begun, found_file, none_does, overwrites_none, volume_of, write_done, write_inodes, write_part_inodes, write_refused}
+use Rattle.ffs_lib.proofs.Tops.{never}
+use Rattle.ffs_lib.proofs.ValueWritten.{looked}
 use Rattle.ffs_lib.proofs.volume.Volume.write.Goals as goal
+use Rattle.ffs_lib.proofs.volume.Volume.write.Goals.{After-write_parts-progress}
+
+first : (g : _) (c : After-write_parts-progress g) →
+    Begun (g.S.Store.types_of c.args.store.now) c.args.self.now.fs.number (edits_of c.args.self.now.added) (g.S.Store.state_of c.args.store.now) (g.S.Store.state_of c.write_parts-progress.new.store) c.args.inode c.in_ok-end.end c.args.offset c.args.bytes.now
+    c.write_parts-progress.result
+first g c =
+    begun (g.S.Store.types_of c.args.store.now) c.args.self.now (g.S.Store.state_of c.args.store.now) (g.S.Store.state_of c.write_parts-progress.new.store) c.args.inode c.args.offset c.in_ok-end.end c.args.bytes.now c.write_parts-progress.result
+    c.requires c.args.self.now.fs.few c.in_ok-end.ensures.exact (eqb-false (length c.args.bytes.now) 0 (sym c.if-is_empty.ensures)) c.write_parts-progress.ensures.whole c.write_parts-progress.ensures.parts
+
+pub returns-in_err-end-clause-answers : goal.returns-in_err-end-clause-answers
+returns-in_err-end-clause-answers g c =
+    let old = g.S.Store.state_of c.args.store.now in
+    let fs = c.args.self.now.fs.number in
+    let n = c.args.inode in
+    let u = latest old.lives in
+    let bytes = c.args.bytes.now in
+    does_fault (g.S.Store.types_of c.args.store.now) fs (write_in u fs n (c.args.offset + length bytes)) (written (files_of u fs) n c.args.offset bytes) (written_stages (files_of u fs) n c.args.offset bytes) old old c.from_residual.result
+    (written_told u fs n c.args.offset bytes) (search rules)
+
+pub returns-in_err-end-clause-inodes : goal.returns-in_err-end-clause-inodes
+returns-in_err-end-clause-inodes g c = λ file e. absurd (never (file_end file) _ (ap (mapped file_end) e ∙ sym (c.in_err-end.ensures.exact c.requires.library)))
+
+pub returns-then-is_empty-clause-answers : goal.returns-then-is_empty-clause-answers
+returns-then-is_empty-clause-answers g c =
+    let old = g.S.Store.state_of c.args.store.now in
+    let fs = c.args.self.now.fs.number in
+    let bytes = c.args.bytes.now in
+    let f = found_file (latest old.lives) fs c.args.inode (c.args.offset + length bytes) c.in_ok-end.end (c.in_ok-end.ensures.exact c.requires.library) in
+    none_does (g.S.Store.types_of c.args.store.now) fs old c.args.inode f.0 c.args.offset bytes f.1 f.3 (nil_from_length c.args.bytes.now (eqb-true (length c.args.bytes.now) 0 (sym c.is_empty.ensures ∙ c.if-is_empty.true)))
+
+pub returns-then-is_empty-clause-inodes : goal.returns-then-is_empty-clause-inodes
+returns-then-is_empty-clause-inodes g c = λ file e.
+    (0, overwrites_none (g.S.Store.state_of c.args.store.now) c.args.self.now.fs.number c.args.inode file c.args.offset c.args.bytes.now (looked (latest (g.S.Store.state_of c.args.store.now).lives) c.args.self.now.fs.number c.args.inode (c.args.offset + length c.args.bytes.now) file e).0, λ some. absurd (some (nil_from_length c.args.bytes.now (eqb-true (length c.args.bytes.now) 0 (sym c.is_empty.ensures ∙ c.if-is_empty.true)))))
 
 pub returns-in-Some-clause-answers : goal.returns-in-Some-clause-answers
 returns-in-Some-clause-answers g c =
-    let T = g.S.Store.types_of c.args.store.now in
-    let volume = c.args.self.now in
-    let fs = volume.fs.number in
-    let old = g.S.Store.state_of c.args.store.now in
-    let new = g.S.Store.state_of c.write_padded-progress.new.store in
-    let n = c.args.inode in
-    let bytes = c.args.bytes.now in
-    let v = c.requires in
-    let s = staged v volume.fs.few in
-    let f = end_found (write_in (latest old.lives) fs n (c.args.offset + length bytes)) c.in_ok-end.end (c.in_ok-end.ensures.exact v.library) in
-    let is = write_file (latest old.lives) fs n (c.args.offset + length bytes) f.0 f.1 in
-    let p = c.write_padded-progress.ensures.padded T (edits_of volume.added) f.0 refl s is f.2 in
-    let stop = stops_writing T fs (edits_of volume.added) old new n f.0 c.args.offset bytes c.write_padded-progress.result is p c.in-Some.fault c.in-Some.is in
-    answers_ok (write_in (latest old.lives) fs n (c.args.offset + length bytes)) (λ inode _. Wrote old new fs n inode c.args.offset bytes) (λ inode fault. StopsWriting T fs old new n inode c.args.offset bytes fault) (Err c.in-Some.fault) f.0 old new f.1 (stop.0, stop.1.0)
+    let b = first g (goal.at.returns-in-Some-clause-answers g c).After-write_parts-progress in
+    write_refused _ _ _ _ _ _ _ _ _ _ b c.in-Some.fault c.in-Some.is
+
+pub returns-in-Some-clause-inodes : goal.returns-in-Some-clause-inodes
+returns-in-Some-clause-inodes g c =
+    let b = first g (goal.at.returns-in-Some-clause-inodes g c).After-write_parts-progress in
+    write_part_inodes _ _ _ _ _ _ _ _ _ _ b c.in-Some.fault c.in-Some.is
 
 pub returns-in-Some-clause-keeps : goal.returns-in-Some-clause-keeps
 returns-in-Some-clause-keeps g c =
-    let volume = c.args.self.now in
-    let old = g.S.Store.state_of c.args.store.now in
-    let n = c.args.inode in
-    let v = c.requires in
-    let size : ℕ = c.args.offset + length c.args.bytes.now in
-    let f = end_found (write_in (latest old.lives) volume.fs.number n size) c.in_ok-end.end (c.in_ok-end.ensures.exact v.library) in
-    let p = c.write_padded-progress.ensures.padded (g.S.Store.types_of c.args.store.now) (edits_of volume.added) f.0 refl (staged v volume.fs.few) (write_file (latest old.lives) volume.fs.number n size f.0 f.1) f.2 in
-    record { library = v.library; keeps = p.stage.keeps }
+    let b = first g (goal.at.returns-in-Some-clause-keeps g c).After-write_parts-progress in
+    volume_of (g.S.Store.types_of c.args.store.now) c.args.self.now _ b.first.stage
 
 pub returns-in-None-clause-answers : goal.returns-in-None-clause-answers
 returns-in-None-clause-answers g c =
-    let T = g.S.Store.types_of c.args.store.now in
-    let volume = c.args.self.now in
-    let fs = volume.fs.number in
-    let array = edits_of volume.added in
-    let old = g.S.Store.state_of c.args.store.now in
-    let middle = g.S.Store.state_of c.write_padded-progress.new.store in
-    let new = g.S.Store.state_of c.raise_size.new.store in
-    let n = c.args.inode in
-    let offset = c.args.offset in
-    let bytes = c.args.bytes.now in
-    let v = c.requires in
-    let s = staged v volume.fs.few in
-    let f = end_found (write_in (latest old.lives) fs n (offset + length bytes)) c.in_ok-end.end (c.in_ok-end.ensures.exact v.library) in
-    let is = write_file (latest old.lives) fs n (offset + length bytes) f.0 f.1 in
-    let p = c.write_padded-progress.ensures.padded T array f.0 refl s is f.2 in
-    let progress = c.write_padded-progress.result in
-    let all : progress.taken ≡ length bytes = p.whole c.in-None.is in
-    let some : progress.taken ≢ 0 = λ z. eqb-false (length bytes) 0 (sym c.if-is_empty.ensures) (sym all ∙ z) in
-    let w = p.puts.wrote f.0 is in
-    let x = c.raise_size.ensures.ends T array w.after c.write_padded-progress.ensures.types p.stage w.file p.given.1 in
-    let whole : take progress.taken bytes ≡ bytes = take_all progress.taken bytes (omega (arith, all)) in
-    let counted = p.counted some in
-    let low = c.in_ok-end.ensures.within in
-    answers_ok (write_in (latest old.lives) fs n (offset + length bytes)) (λ inode _. Wrote old new fs n inode offset bytes) (λ inode fault. StopsWriting T fs old new n inode offset bytes fault) c.raise_size.result f.0 old new f.1
-    (match_then _ (λ _. Wrote old new fs n f.0 offset bytes) _ (λ fault. StopsWriting T fs old new n f.0 offset bytes fault) c.raise_size.result
-    (λ done r. subst (Wrote old new fs n f.0 offset) whole (raised_wrote T fs array old middle n f.0 offset bytes progress is p counted low some new (subst (λ (k : ℕ). IsRaised (latest middle.lives) (latest new.lives) fs n w.after (offset + k)) (sym all) r.0) r.1))
-    (λ fault stop. subst (λ (m : List ℕ). StopsWriting T fs old new n f.0 offset m fault) whole (raise_refused T fs array old middle n f.0 offset bytes progress is p counted low some new fault stop)) x.1)
+    let b = first g (goal.at.returns-in-None-clause-answers g c).After-write_parts-progress in
+    let w = b.first.puts.wrote b.inode b.is in
+    let x = c.raise_size.ensures.ends (g.S.Store.types_of c.args.store.now) (edits_of c.args.self.now.added) w.after c.write_parts-progress.ensures.types b.first.stage w.file b.first.given.1 in
+    write_done _ _ _ _ _ _ _ _ _ _ b c.in-None.is (g.S.Store.state_of c.raise_size.new.store) c.raise_size.result x.1
+
+pub returns-in-None-clause-inodes : goal.returns-in-None-clause-inodes
+returns-in-None-clause-inodes g c =
+    let b = first g (goal.at.returns-in-None-clause-inodes g c).After-write_parts-progress in
+    let w = b.first.puts.wrote b.inode b.is in
+    let x = c.raise_size.ensures.ends (g.S.Store.types_of c.args.store.now) (edits_of c.args.self.now.added) w.after c.write_parts-progress.ensures.types b.first.stage w.file b.first.given.1 in
+    write_inodes _ _ _ _ _ _ _ _ _ _ b c.in-None.is (g.S.Store.state_of c.raise_size.new.store) c.raise_size.result x.1
 
 pub returns-in-None-clause-keeps : goal.returns-in-None-clause-keeps
 returns-in-None-clause-keeps g c =
-    let volume = c.args.self.now in
-    let old = g.S.Store.state_of c.args.store.now in
-    let n = c.args.inode in
-    let v = c.requires in
-    let size : ℕ = c.args.offset + length c.args.bytes.now in
-    let f = end_found (write_in (latest old.lives) volume.fs.number n size) c.in_ok-end.end (c.in_ok-end.ensures.exact v.library) in
-    let is = write_file (latest old.lives) volume.fs.number n size f.0 f.1 in
-    let p = c.write_padded-progress.ensures.padded (g.S.Store.types_of c.args.store.now) (edits_of volume.added) f.0 refl (staged v volume.fs.few) is f.2 in
-    let w = p.puts.wrote f.0 is in
-    let x = c.raise_size.ensures.ends (g.S.Store.types_of c.args.store.now) (edits_of volume.added) w.after c.write_padded-progress.ensures.types p.stage w.file p.given.1 in
-    record { library = v.library; keeps = x.0.keeps }
-
-pub returns-in-Some-clause-value : goal.returns-in-Some-clause-value
-returns-in-Some-clause-value g c =
-    written_follows (g.S.Store.types_of c.args.store.now) c.args.self.now.fs.number c.args.inode c.args.offset c.args.bytes.now (g.S.Store.state_of c.args.store.now) (g.S.Store.state_of c.write_padded-progress.new.store) _
-    (returns-in-Some-clause-answers g c)
-
-pub returns-in_err-end-clause-value : goal.returns-in_err-end-clause-value
-returns-in_err-end-clause-value g c =
-    let old = g.S.Store.state_of c.args.store.now in
-    written_follows (g.S.Store.types_of c.args.store.now) c.args.self.now.fs.number c.args.inode c.args.offset c.args.bytes.now old old c.from_residual.result (search rules)
-
-pub returns-then-is_empty-clause-value : goal.returns-then-is_empty-clause-value
-returns-then-is_empty-clause-value g c =
-    let T = g.S.Store.types_of c.args.store.now in
-    let fs = c.args.self.now.fs.number in
-    let old = g.S.Store.state_of c.args.store.now in
-    let n = c.args.inode in
-    let bytes = c.args.bytes.now in
-    let looked = write_in (latest old.lives) fs n (c.args.offset + length bytes) in
-    let f = end_found looked c.in_ok-end.end (c.in_ok-end.ensures.exact c.requires.library) in
-    let none : length bytes ≡ 0 = eqb-true (length bytes) 0 (sym c.is_empty.ensures ∙ c.if-is_empty.true) in
-    written_follows T fs n c.args.offset bytes old old (Ok tt)
-    (answers_ok looked (λ inode _. Wrote old old fs n inode c.args.offset bytes) (λ inode fault. StopsWriting T fs old old n inode c.args.offset bytes fault) (Ok tt) f.0 old old f.1 (inl (nil_from_length bytes none, refl)))
-
-pub returns-in-None-clause-value : goal.returns-in-None-clause-value
-returns-in-None-clause-value g c =
-    written_follows (g.S.Store.types_of c.args.store.now) c.args.self.now.fs.number c.args.inode c.args.offset c.args.bytes.now (g.S.Store.state_of c.args.store.now) (g.S.Store.state_of c.raise_size.new.store) c.raise_size.result
-    (returns-in-None-clause-answers g c)
+    let b = first g (goal.at.returns-in-None-clause-keeps g c).After-write_parts-progress in
+    let w = b.first.puts.wrote b.inode b.is in
+    let x = c.raise_size.ensures.ends (g.S.Store.types_of c.args.store.now) (edits_of c.args.self.now.added) w.after c.write_parts-progress.ensures.types b.first.stage w.file b.first.given.1 in
+    volume_of (g.S.Store.types_of c.args.store.now) c.args.self.now _ x.0

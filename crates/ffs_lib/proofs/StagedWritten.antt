@@ -1,0 +1,451 @@
+-- A write does what its function of the files says, or leaves one of its stages.
+use Rattle.std.proofs.Common.{◌≡◌, ◌≢◌, ℕ, zero, suc, ◌+◌, ◌-◌, ◌/◌, ◌%◌, ◌<◌, ◌≤◌, ◌⊎◌, Bool, true, false, List, [], ◌∷◌, ◌++◌, length, map, take, replicate, Option, Some, None, Result, Ok, Err, refl, sym, ◌∙◌, ap, inl, inr, arith, eq-eqb, subst, length-append}
+use Rattle.std.specs.Prelude.{IfErr, IfOk, IfSome, IsOk, MatchResult, OnOk, ◌==◌, ◌||◌, filter, min, nat_lt, if◌then◌else◌}
+use Rattle.std.specs.List.{range_with_len}
+use Rattle.std.proofs.lemmas.Bool.{cases_eq, le-ltb, lt-ltb, or_left, or_right}
+use Rattle.std.proofs.lemmas.List.{length-replicate, length-take-le, take_all}
+use Rattle.std.proofs.Math.Seq.{take-append-add}
+use Rattle.std.proofs.lemmas.List.FromFn.{length-map-range_with_len}
+use Rattle.xn_model.specs.declared.refusal.Refusal.TheVariants.{TooManyPending}
+use Rattle.xn_model.specs.Root.{word_at}
+use Rattle.xn_model.specs.Types.{Types}
+use Rattle.xn_model.specs.Lives.{StoreState}
+use Rattle.ffs_model.specs.Cuts.{latest}
+use Rattle.ffs_model.specs.Library.{IsLibrary}
+use Rattle.ffs_lookup.specs.declared.fault.FfsFault.{FfsFault}
+use Rattle.ffs_lookup.specs.declared.fault.FfsFault.TheVariants.{Kernel}
+use Rattle.ffs_lookup.specs.Files.{Answer, File, Files, told, with_value, written, written_bytes}
+use Rattle.ffs_lookup.specs.FileValues.{files_of}
+use Rattle.ffs_lookup.specs.Newest.{byte_of, file_end, file_in, is_short, mapped, write_in}
+use Rattle.ffs_lookup.proofs.ForCallers.{same_ok}
+use Rattle.ffs_lib.specs.Outcomes.{IsRaised}
+use Rattle.ffs_lib.specs.Results.{OnlyChanges}
+use Rattle.ffs_lib.specs.Stages.{Ask, Asks, Does, IsRefused, IsStage, OfInode, OfPart, Stages, stages_of}
+use Rattle.ffs_lib.specs.Steps.{Answers, Stage, Stops, StopsAtHome}
+use Rattle.ffs_lib.specs.Values.{Leads}
+use Rattle.ffs_lib.specs.Writes.{PartStops, Parts, Puts, StopsPart, padded}
+use Rattle.ffs_lib.specs.Written.{DoesSome, Overwrites, RefusesSome, TakesSome, WritesSomeTo, WritesTo, borders, first_place, if_any, last_stages, next_stages, part_stages, place_stages, size_stages, written_stages, written_to}
+use Rattle.ffs_lib.specs.Volumes.{IsVolume, edits_of}
+use Rattle.ffs_lib.specs.declared.data.Progress.{Progress}
+use Rattle.ffs_lib.specs.declared.volume.Volume.{Volume}
+use Rattle.ffs_lib.proofs.DataLaws.{puts_none}
+use Rattle.ffs_lib.proofs.Laws.{staged}
+use Rattle.ffs_lib.proofs.Parting.{end_found, never_some}
+use Rattle.ffs_lib.proofs.Same.{same_on}
+use Rattle.ffs_lib.proofs.Staged.{does_found}
+use Rattle.ffs_lib.proofs.StagedNew.{asks_inode}
+use Rattle.ffs_lib.proofs.ValueWritten.{file, file_is, files, first_files, looked, none_leads, some_leads, written_leads}
+
+-- One of many stages
+
+module _ (T : Types) (fs : ℕ) (new : StoreState) (fault : FfsFault) where
+  behind : (xs ys : Stages) → IsStage T fs new fault ys → IsStage T fs new fault (xs ++ ys)
+  behind [] ys h = h
+  behind ((f, ask) ∷ xs) ys h = inr (behind xs ys h)
+
+  before_others : (xs ys : Stages) → IsStage T fs new fault xs → IsStage T fs new fault (xs ++ ys)
+  before_others [] ys h = absurd h
+  before_others ((f, ask) ∷ xs) ys h = elim h [ inl x ↦ inl x | inr x ↦ inr (before_others xs ys x) ]
+
+  -- at one of the places from one on that a test picks
+  at_place : (f : ℕ → Files) (ask : ℕ → Ask) (test : ℕ → Bool) (at : ℕ) (before : StoreState) → files_of (latest before.lives) fs ≡ f at → Asks T fs (ask at) before new fault → test at ≡ true → (a k : ℕ) → a ≤ at → at < a + k →
+      IsStage T fs new fault (map (λ x. (f x, ask x)) (filter test (range_with_len a k)))
+  at_place f ask test at before is asks picked a zero low high = absurd (omega (arith, low, high))
+  at_place f ask test at before is asks picked a (suc k) low high = elim (cases_eq a at) [
+    | inl z ↦
+        let here : test a ≡ true = ap test z ∙ picked in
+        subst (λ (t : Bool). IsStage T fs new fault (map (λ x. (f x, ask x)) (if t then a ∷ filter test (range_with_len (a + 1) k) else filter test (range_with_len (a + 1) k)))) (sym here)
+        (inl (before, is ∙ ap f (sym z), subst (λ (x : ℕ). Asks T fs (ask x) before new fault) (sym z) asks))
+    | inr ne ↦ go (test a) (at_place f ask test at before is asks picked (a + 1) k (omega (arith, ne, low)) (omega (arith, high)))
+  ]
+    where
+      go : (t : Bool) → IsStage T fs new fault (map (λ x. (f x, ask x)) (filter test (range_with_len (a + 1) k))) →
+          IsStage T fs new fault (map (λ x. (f x, ask x)) (if t then a ∷ filter test (range_with_len (a + 1) k) else filter test (range_with_len (a + 1) k)))
+      go true h = inr h
+      go false h = h
+
+any_is : (bytes : List ℕ) (stages : Stages) → length bytes ≢ 0 → if_any bytes stages ≡ stages
+any_is [] stages ne = absurd (ne refl)
+any_is (byte ∷ rest) stages ne = refl
+
+-- What the files don't say
+
+pub overwrites_none : (state : StoreState) (fs n : ℕ) (inode : List ℕ) (offset : ℕ) (bytes : List ℕ) → Ok inode ≡ file_in (latest state.lives) fs n → Overwrites (latest state.lives) (latest state.lives) fs n inode offset bytes 0
+overwrites_none state fs n inode offset bytes is =
+    let a = puts_none state fs n (min (file_end inode) offset) in
+    let k = a.wrote inode is in
+    record { others = a.others; after = k.after; file = k.file; mode = k.marks.0; size = λ high. k.size; few = omega arith; border = λ lt. inl refl; each = k.each }
+
+-- The file that is looked up
+pub found_file : (content : ℕ → List ℕ) (fs n size end : ℕ) → Ok end ≡ mapped file_end (write_in content fs n size) → (inode : List ℕ) × (Ok inode ≡ file_in content fs n) × (file_end inode ≡ end) × (size ≤ 71680)
+found_file content fs n size end e =
+    let f = end_found (write_in content fs n size) end e in
+    let l = looked content fs n size f.0 f.1 in
+    (f.0, l.0, f.2, l.1)
+
+some_or_none : (o : Option FfsFault) → (o ≡ None) ⊎ ((x : FfsFault) × (o ≡ Some x))
+some_or_none None = inl refl
+some_or_none (Some x) = inr (x, refl)
+
+same_fault : (x y : FfsFault) → ◌≡◌ {A = Option FfsFault} (Some x) (Some y) → x ≡ y
+same_fault x y e = cc
+
+-- A write that is begun: its first bytes are written, and the size is as before
+pub record Begun (T : Types) (fs : ℕ) (array : ℕ → Option ℕ) (old middle : StoreState) (n end offset : ℕ) (bytes : List ℕ) (progress : Progress) : Type 0 where
+  pub inode : List ℕ
+  pub is : Ok inode ≡ file_in (latest old.lives) fs n
+  pub low : offset + length bytes ≤ 71680
+  pub ends : file_end inode ≡ end
+  pub there : length bytes ≢ 0
+  pub whole : progress.fault ≡ None → min (file_end inode) offset + progress.done ≡ offset + length bytes
+  pub first : Parts T fs array old middle n (file_end inode) offset bytes progress
+
+pub begun : (T : Types) (volume : Volume) (old middle : StoreState) (n offset end : ℕ) (bytes : List ℕ) (progress : Progress) → IsVolume T old volume → volume.fs.number < 32 → (IsLibrary T → Ok end ≡ mapped file_end (write_in (latest old.lives) volume.fs.number n (offset + length bytes))) → length bytes ≢ 0 → (progress.fault ≡ None → min end offset + progress.done ≡ offset + length bytes) →
+    ((made : Types) (array : ℕ → Option ℕ) → T ≡ made → Stage made volume.fs.number array old → IsOk (file_in (latest old.lives) volume.fs.number n) → Parts made volume.fs.number array old middle n end offset bytes progress) →
+    Begun T volume.fs.number (edits_of volume.added) old middle n end offset bytes progress
+begun T volume old middle n offset end bytes progress v few exact there whole parts =
+    let f = found_file (latest old.lives) volume.fs.number n (offset + length bytes) end (exact v.library) in
+    let p = parts T (edits_of volume.added) refl (staged v few) (subst (λ (r : Result (List ℕ) FfsFault). IsOk r) f.1 refl) in
+    record { inode = f.0; is = f.1; low = f.3; ends = f.2; there = there; whole = λ z. ap (λ k. min k offset + progress.done) f.2 ∙ whole z; first = subst (λ (end : ℕ). Parts T volume.fs.number (edits_of volume.added) old middle n end offset bytes progress) (sym f.2) p }
+
+pub volume_of : (T : Types) (volume : Volume) (state : StoreState) → Stage T volume.fs.number (edits_of volume.added) state → IsVolume T state volume
+volume_of T volume state s = record { library = s.library; keeps = s.keeps }
+
+module _ (T : Types) (fs : ℕ) (array : ℕ → Option ℕ) (old middle : StoreState) (n end offset : ℕ) (bytes : List ℕ) (progress : Progress) (b : Begun T fs array old middle n end offset bytes progress) where
+  abbrev inode : List ℕ
+  inode = b.inode
+
+  abbrev is : Ok inode ≡ file_in (latest old.lives) fs n
+  is = b.is
+
+  abbrev p : Parts T fs array old middle n (file_end inode) offset bytes progress
+  p = b.first
+
+  abbrev low : offset + length bytes ≤ 71680
+  low = b.low
+
+  abbrev all : Files
+  all = files old fs n offset inode is
+
+  abbrev own : ℕ × List ℕ
+  own = file old fs n offset inode is
+
+  abbrev start : ℕ
+  start = min (file_end inode) offset
+
+  abbrev pads : List ℕ
+  pads = padded (file_end inode) offset bytes
+
+  abbrev to : List ℕ → ℕ → Files
+  to bs at = written_to all n offset bs own at
+
+  long_own : length own.1 ≡ file_end inode
+  long_own = length-map-range_with_len (byte_of (latest old.lives) inode) 0 (file_end inode)
+
+  start_is : first_place own offset ≡ start
+  start_is = ap (λ x. min x offset) long_own
+
+  long_pads : length pads ≡ (offset - file_end inode) + length bytes
+  long_pads = let a = length-replicate {A = ℕ} (offset - file_end inode) 0 in let b = length-append (replicate (offset - file_end inode) 0) bytes in omega (arith, a, b)
+
+  abbrev is_place : ℕ → Bool
+  is_place at = (at == offset) || (at % 512 == 0)
+
+  abbrev parts_list : List ℕ → ℕ → Stages
+  parts_list bs first = part_stages all n offset bs own (borders first offset (offset + length bs))
+
+  abbrev size_list : List ℕ → Stages
+  size_list bs = size_stages all n offset bs own (filter (nat_lt (length own.1)) ((offset + length bs) ∷ []))
+
+  written_are : (bs : List ℕ) → length bs ≢ 0 → written_stages all n offset bs ≡ parts_list bs (first_place own offset) ++ size_list bs
+  written_are bs ne = ap (λ r. stages_of r (λ f. if_any bs (part_stages all n offset bs f (borders (first_place f offset) offset (offset + length bs)) ++ size_stages all n offset bs f (filter (nat_lt (length f.1)) ((offset + length bs) ∷ [])))))
+      (file_is old fs n offset inode is) ∙ any_is bs (parts_list bs (first_place own offset) ++ size_list bs) ne
+
+  abbrev Stopped : FfsFault → Type 0
+  Stopped fault = PartStops T fs old middle n (file_end inode) offset bytes progress.done fault
+
+  -- a part was refused
+  part_refused : (fault : FfsFault) → Stopped fault → IsRefused T fs old middle fault (written_stages all n offset bytes)
+  part_refused fault k =
+      let few = k.low in
+      let l = long_pads in
+      let done = progress.done in
+      subst (IsRefused T fs old middle fault) (sym (written_are bytes b.there)) (subst (λ (x : ℕ). IsRefused T fs old middle fault (parts_list bytes x ++ size_list bytes)) (sym start_is) (elim (cases_eq done 0) [
+        | inl z ↦
+            let here : start + done ≡ start = omega (arith, z) in
+            inl (subst (λ (s : StoreState). StopsPart T fs s middle n (start / 512) fault) (k.first z) (subst (λ (x : ℕ). StopsPart T fs k.before middle n (x / 512) fault) here k.told))
+        | inr ne ↦
+            let border : is_place (start + done) ≡ true = elim k.border [
+              | inl z ↦ absurd (ne z)
+              | inr (inl e) ↦ or_left (start + done == offset) ((start + done) % 512 == 0) (eq-eqb (start + done) offset e)
+              | inr (inr e) ↦ or_right (start + done == offset) ((start + done) % 512 == 0) (eq-eqb ((start + done) % 512) 0 e)
+            ] in
+            inr (before_others T fs middle fault _ (size_list bytes) (at_place T fs middle fault (to bytes) (λ at. OfPart n (at / 512)) is_place (start + done) k.before (first_files old fs n offset inode is k.before bytes done (omega (arith, few)) k.puts) k.told border
+            (start + 1) (offset + length bytes - (start + 1)) (omega (arith, ne)) (omega (arith, few, l))))
+      ]))
+
+  place_are : (done : ℕ) → place_stages all n offset bytes done ≡ (to bytes (start + done), OfPart n ((start + done) / 512)) ∷ (to bytes (start + done), OfInode n) ∷ []
+  place_are done =
+      ap (λ r. stages_of r (λ f. part_stages all n offset bytes f ((first_place f offset + done) ∷ []) ++ size_stages all n offset bytes f ((first_place f offset + done) ∷ []))) (file_is old fs n offset inode is)
+      ∙ ap (λ x. (to bytes (x + done), OfPart n ((x + done) / 512)) ∷ (to bytes (x + done), OfInode n) ∷ []) start_is
+
+  part_place : (fault : FfsFault) → Stopped fault → IsStage T fs middle fault (place_stages all n offset bytes progress.done)
+  part_place fault k =
+      let few = k.low in
+      subst (IsStage T fs middle fault) (sym (place_are progress.done)) (inl (k.before, first_files old fs n offset inode is k.before bytes progress.done (omega (arith, few)) k.puts, k.told))
+
+  size_place : (new : StoreState) (fault : FfsFault) → StopsAtHome T fs middle new n fault → IsStage T fs new fault (place_stages all n offset bytes progress.done)
+  size_place new fault s = subst (IsStage T fs new fault) (sym (place_are progress.done)) (inr (inl (middle, first_files old fs n offset inode is middle bytes progress.done p.few p.puts, asks_inode T fs n middle new fault s)))
+
+  abbrev last_of : Bool → ℕ → Stages
+  last_of test at = if test then (to bytes at, OfPart n (at / 512)) ∷ [] else (to bytes at, OfInode n) ∷ []
+
+  last_are : (test : Bool) → nat_lt (start + progress.done) (offset + length bytes) ≡ test → last_stages all n offset bytes progress.done ≡ last_of test (start + progress.done)
+  last_are test e =
+      let done = progress.done in
+      ap (λ r. stages_of r (λ f. if nat_lt (first_place f offset + done) (offset + length bytes) then part_stages all n offset bytes f ((first_place f offset + done) ∷ []) else size_stages all n offset bytes f ((first_place f offset + done) ∷ [])))
+      (file_is old fs n offset inode is) ∙ (ap (λ x. last_of (nat_lt (x + done) (offset + length bytes)) (x + done)) start_is ∙ ap (λ t. last_of t (start + done)) e)
+
+  part_last : (fault : FfsFault) → Stopped fault → IsStage T fs middle fault (last_stages all n offset bytes progress.done)
+  part_last fault k =
+      let few = k.low in
+      let l = long_pads in
+      subst (IsStage T fs middle fault) (sym (last_are true (lt-ltb (start + progress.done) (offset + length bytes) (omega (arith, few, l)))))
+      (inl (k.before, first_files old fs n offset inode is k.before bytes progress.done (omega (arith, few)) k.puts, k.told))
+
+  size_last : progress.done ≡ length pads → (new : StoreState) (fault : FfsFault) → StopsAtHome T fs middle new n fault → IsStage T fs new fault (last_stages all n offset bytes progress.done)
+  size_last e new fault s =
+      let l = long_pads in
+      subst (IsStage T fs new fault) (sym (last_are false (le-ltb (start + progress.done) (offset + length bytes) (omega (arith, e, l)))))
+      (inl (middle, first_files old fs n offset inode is middle bytes progress.done p.few p.puts, asks_inode T fs n middle new fault s))
+
+  next_are : (count : ℕ) → next_stages all n offset bytes count ≡ (to bytes (offset + count), OfPart n ((offset + count) / 512)) ∷ []
+  next_are count = ap (λ r. stages_of r (λ f. part_stages all n offset bytes f ((offset + count) ∷ []))) (file_is old fs n offset inode is)
+
+  abbrev next : List ℕ → Unit {0} × Files
+  next bs = (tt, with_value all n (File own.0 (written_bytes own.1 offset bs)))
+
+  abbrev taken : ℕ
+  taken = start + progress.done - offset
+
+  abbrev part : List ℕ
+  part = take taken bytes
+
+  few_taken : taken ≤ length bytes
+  few_taken = let a = p.few in let c = long_pads in omega (arith, a, c)
+
+  part_long : length part ≡ taken
+  part_long = length-take-le taken bytes few_taken
+
+  place : taken ≢ 0 → start + progress.done ≡ offset + taken
+  place some = omega (arith, some)
+
+  counted : taken ≢ 0 → progress.done ≡ (offset - file_end inode) + taken
+  counted some = omega (arith, some)
+
+  -- as it is counted
+  pub same_taken : (least count : ℕ) → least ≡ min end offset → count ≡ least + progress.done - offset → count ≡ taken
+  same_taken least count e f = f ∙ ap (λ k. k + progress.done - offset) (e ∙ ap (λ k. min k offset) (sym b.ends))
+
+  same_part : taken ≢ 0 → take progress.done pads ≡ padded (file_end inode) offset part
+  same_part some =
+      let long = length-replicate {A = ℕ} (offset - file_end inode) 0 in
+      ap (λ x. take x pads) (counted some ∙ ap (λ x. x + taken) (sym long)) ∙ take-append-add (replicate (offset - file_end inode) 0) bytes taken
+
+  abbrev after : List ℕ
+  after = (p.puts.wrote inode is).after
+
+  raised : taken ≢ 0 → (new : StoreState) → IsRaised (latest middle.lives) (latest new.lives) fs n after (offset + taken) → OnlyChanges (latest middle.lives) (latest new.lives) fs n → (x : Unit {0}) → Leads (Ok (next part)) (latest new.lives) fs x
+  raised some new r others x =
+      let few = few_taken in
+      let long = part_long in
+      written_leads old fs n offset inode is middle new part (take progress.done pads) (same_part some) (omega (arith, few, long, low)) p.puts (subst (λ (k : ℕ). IsRaised (latest middle.lives) (latest new.lives) fs n after (offset + k)) (sym long) r) others x
+
+  stopped_by : (fault : FfsFault) → progress.fault ≡ Some fault → Stops Stopped fault
+  stopped_by fault e = subst (λ (o : Option FfsFault). IfSome o (Stops Stopped)) e p.ended
+
+  -- the size was refused, where some bytes are written
+  size_refused : taken ≢ 0 → (new : StoreState) (fault : FfsFault) → (word_at after 4 < offset + taken) × StopsAtHome T fs middle new n fault → IsRefused T fs old new fault (written_stages all n offset part)
+  size_refused some new fault s =
+      let few = few_taken in
+      let long = part_long in
+      let w = (p.puts.wrote inode is).size in
+      let less = s.0 in
+      let below : nat_lt (length own.1) (offset + length part) ≡ true = let l = long_own in lt-ltb (length own.1) (offset + length part) (omega (arith, l, less, w, long, few, low)) in
+      let a : Puts old middle fs n start (padded (file_end inode) offset part) = subst (Puts old middle fs n start) (same_part some) p.puts in
+      let all_part = length-append (replicate (offset - file_end inode) 0) part in
+      let zeros = length-replicate {A = ℕ} (offset - file_end inode) 0 in
+      let count : ℕ = length (padded (file_end inode) offset part) in
+      let here : start + count ≡ offset + length part = omega (arith, all_part, zeros) in
+      let files_are : files_of (latest middle.lives) fs ≡ to part (offset + length part) =
+      first_files old fs n offset inode is middle part count (omega arith) (subst (Puts old middle fs n start) (sym (take_all count (padded (file_end inode) offset part) (omega arith))) a) ∙ ap (to part) here in
+      subst (IsRefused T fs old new fault) (sym (written_are part (λ z. some (sym long ∙ z))))
+      (inr (behind T fs new fault _ (size_list part) (subst (λ (t : Bool). IsStage T fs new fault (size_stages all n offset part own (if t then (offset + length part) ∷ [] else []))) (sym below) (inl (middle, files_are, asks_inode T fs n middle new fault s.1)))))
+
+  pub whole : progress.fault ≡ None → taken ≡ length bytes
+  whole none = let e = b.whole none in omega (arith, e)
+
+  pub all_done : taken ≡ length bytes → progress.done ≡ length pads
+  all_done all = let c = counted (λ z. b.there (sym all ∙ z)) in let l = long_pads in omega (arith, c, l, all)
+
+  -- `write`
+  abbrev Raises : StoreState → ℕ → Unit {0} → Type 0
+  Raises new size x = IsRaised (latest middle.lives) (latest new.lives) fs n after size × OnlyChanges (latest middle.lives) (latest new.lives) fs n
+
+  abbrev RaiseStops : StoreState → ℕ → FfsFault → Type 0
+  RaiseStops new size fault = (word_at after 4 < size) × StopsAtHome T fs middle new n fault
+
+  pub write_refused : (fault : FfsFault) → progress.fault ≡ Some fault → Does T fs (written all n offset bytes) (written_stages all n offset bytes) old middle (Err fault)
+  write_refused fault e =
+      let stop = stopped_by fault e in
+      does_found T fs (written all n offset bytes) (next bytes) (written_stages all n offset bytes) (written_stages all n offset bytes) (λ x. ⊥) (λ x. IsRefused T fs old middle x (written_stages all n offset bytes)) old middle (Err fault)
+      (some_leads old fs n offset inode is bytes low b.there) refl (λ y none. absurd none) (λ x r. r) (stop.0, part_refused fault stop.1)
+
+  pub write_done : progress.fault ≡ None → (new : StoreState) (result : Result (Unit {0}) FfsFault) → MatchResult result (Raises new (offset + length bytes)) (Stops (RaiseStops new (offset + length bytes))) →
+      Does T fs (written all n offset bytes) (written_stages all n offset bytes) old new result
+  write_done none new result ends =
+      let every = whole none in
+      let some : taken ≢ 0 = λ z. b.there (sym every ∙ z) in
+      let same : part ≡ bytes = take_all taken bytes (omega (arith, every)) in
+      does_found T fs (written all n offset bytes) (next bytes) (written_stages all n offset bytes) (written_stages all n offset bytes) (Raises new (offset + length bytes)) (RaiseStops new (offset + length bytes)) old new result
+      (some_leads old fs n offset inode is bytes low b.there) refl
+      (λ y r. subst (λ (m : List ℕ). Leads (Ok (next m)) (latest new.lives) fs y) same (raised some new (subst (λ (k : ℕ). IsRaised (latest middle.lives) (latest new.lives) fs n after (offset + k)) (sym every) r.0) r.1 y))
+      (λ fault s. subst (λ (m : List ℕ). IsRefused T fs old new fault (written_stages all n offset m)) same (size_refused some new fault (subst (λ (k : ℕ). word_at after 4 < offset + k) (sym every) s.0, s.1))) ends
+
+  -- What the files don't say
+  abbrev Inodes : StoreState → (List ℕ → ℕ → Type 0) → Type 0
+  Inodes new Q = (other : List ℕ) → Ok other ≡ write_in (latest old.lives) fs n (offset + length bytes) → (done : ℕ) × Overwrites (latest old.lives) (latest new.lives) fs n other offset bytes done × Q other done
+
+  inodes_by : (new : StoreState) (Q : List ℕ → ℕ → Type 0) → Overwrites (latest old.lives) (latest new.lives) fs n inode offset bytes progress.done → Q inode progress.done → Inodes new Q
+  inodes_by new Q o q other e =
+      subst (λ (m : List ℕ). (done : ℕ) × Overwrites (latest old.lives) (latest new.lives) fs n m offset bytes done × Q m done) (same_ok inode other (is ∙ sym (looked (latest old.lives) fs n (offset + length bytes) other e).0)) (progress.done, o, q)
+
+  overwritten : Overwrites (latest old.lives) (latest middle.lives) fs n inode offset bytes progress.done
+  overwritten =
+      let k = p.puts.wrote inode is in
+      record { others = p.puts.others; after = k.after; file = k.file; mode = k.marks.0; size = λ high. k.size; few = p.few; border = p.border; each = k.each }
+
+  -- the size was raised then, or not
+  overwritten_then : (size : ℕ) → size ≤ 71680 → (new : StoreState) (result : Result (Unit {0}) FfsFault) → MatchResult result (Raises new size) (Stops (RaiseStops new size)) → Overwrites (latest old.lives) (latest new.lives) fs n inode offset bytes progress.done
+  overwritten_then size few new (Ok x) r =
+      let k = p.puts.wrote inode is in
+      record {
+        others = λ d ne. same_on (latest old.lives) (latest middle.lives) (latest new.lives) fs d (p.puts.others d ne) (r.1 d ne);
+        after = r.0.after;
+        file = r.0.file;
+        mode = r.0.marks.0 ∙ k.marks.0;
+        size = λ high. let w = k.size in let s = r.0.sized in omega (arith, w, s, high, few);
+        few = p.few;
+        border = p.border;
+        each = λ at less. r.0.each at less ∙ k.each at less;
+      }
+  overwritten_then size few new (Err fault) stop = subst (λ (s : StoreState). Overwrites (latest old.lives) (latest s.lives) fs n inode offset bytes progress.done) (sym stop.1.1.0) overwritten
+
+  pub write_part_inodes : (fault : FfsFault) → progress.fault ≡ Some fault → Inodes middle (λ m done. WritesTo T fs all n m offset bytes done middle (Err fault))
+  write_part_inodes fault e = inodes_by middle (λ m done. WritesTo T fs all n m offset bytes done middle (Err fault)) overwritten (part_last fault (stopped_by fault e).1)
+
+  pub write_inodes : progress.fault ≡ None → (new : StoreState) (result : Result (Unit {0}) FfsFault) → MatchResult result (Raises new (offset + length bytes)) (Stops (RaiseStops new (offset + length bytes))) →
+      Inodes new (λ m done. WritesTo T fs all n m offset bytes done new result)
+  write_inodes none new result ends = inodes_by new (λ m done. WritesTo T fs all n m offset bytes done new result) (overwritten_then (offset + length bytes) low new result ends) (go result ends)
+    where
+      go : (r : Result (Unit {0}) FfsFault) → MatchResult r (Raises new (offset + length bytes)) (Stops (RaiseStops new (offset + length bytes))) → WritesTo T fs all n inode offset bytes progress.done new r
+      go (Ok x) h = λ ne. all_done (whole none)
+      go (Err fault) h = size_last (all_done (whole none)) new fault h.1.1
+
+  -- `write_some`
+  abbrev Takes : StoreState → Result ℕ FfsFault → Type 0
+  Takes new result = DoesSome T fs all n offset bytes (written all n offset bytes) old new result × Inodes new (λ m done. WritesSomeTo T fs all n m offset bytes done new result)
+
+  takes_by : (new : StoreState) (result : Result ℕ FfsFault) → Overwrites (latest old.lives) (latest new.lives) fs n inode offset bytes progress.done →
+      DoesSome T fs all n offset bytes (Ok (next bytes)) old new result × WritesSomeTo T fs all n inode offset bytes progress.done new result → Takes new result
+  takes_by new result o h = (
+    subst (λ (a : Answer (Unit {0})). DoesSome T fs all n offset bytes a old new result) (sym (some_leads old fs n offset inode is bytes low b.there)) h.0,
+    inodes_by new (λ m done. WritesSomeTo T fs all n m offset bytes done new result) o h.1,
+  )
+
+  -- where it takes no byte
+  abbrev IsTold : Option FfsFault → Result ℕ FfsFault → Type 0
+  IsTold fault result = OnOk result ((fault ≡ None) ⊎ (fault ≡ Some (Kernel TooManyPending))) × IfOk result (λ count. count ≡ 0) × IfErr result (λ other. (fault ≡ Some other) × (other ≢ Kernel TooManyPending))
+
+  takes_none : (new : StoreState) (fault : Option FfsFault) → fault ≢ None → ((x : FfsFault) → fault ≡ Some x → Stops (λ y. RefusesSome T fs all n offset bytes old new y × IsStage T fs new y (place_stages all n offset bytes progress.done)) x) →
+      (result : Result ℕ FfsFault) → IsTold fault result → DoesSome T fs all n offset bytes (Ok (next bytes)) old new result × WritesSomeTo T fs all n inode offset bytes progress.done new result
+  takes_none new fault there stop (Ok count) told = (
+    record { few = let z = told.1 in omega (arith, z); leads = λ ne. absurd (ne told.1); stopped = λ ne less. absurd (ne told.1); none = λ z any. (told_stop told.0).0 },
+    (λ ne. absurd (ne told.1), λ z any. (told_stop told.0).1),
+  )
+    where
+      told_stop : (fault ≡ None) ⊎ (fault ≡ Some (Kernel TooManyPending)) → RefusesSome T fs all n offset bytes old new (Kernel TooManyPending) × IsStage T fs new (Kernel TooManyPending) (place_stages all n offset bytes progress.done)
+      told_stop (inl none) = absurd (there none)
+      told_stop (inr e) = (stop (Kernel TooManyPending) e).1
+  takes_none new fault there stop (Err other) told = let s = stop other told.2.0 in ((told.2.1, s.0, s.1.0), s.1.1)
+
+  -- where it takes some
+  takes_some : taken ≢ 0 → (new : StoreState) → Raises new (offset + taken) tt → TakesSome T fs all n offset bytes old new taken
+  takes_some some new r = record {
+    few = few_taken;
+    leads = λ z.
+        let few = few_taken in
+        let long = part_long in
+        subst (λ (a : Answer (Unit {0})). Leads a (latest new.lives) fs tt) (sym (some_leads old fs n offset inode is part (omega (arith, few, long, low)) (λ y. some (sym long ∙ y)))) (raised some new r.0 r.1 tt);
+    stopped = λ z less. stopped less (some_or_none progress.fault);
+    none = λ z any. absurd (some z);
+  }
+    where
+      stopped : taken < length bytes → (progress.fault ≡ None) ⊎ ((x : FfsFault) × (progress.fault ≡ Some x)) → (m : StoreState) × (fault : FfsFault) × (is_short fault ≡ true) × IsStage T fs m fault (next_stages all n offset bytes taken)
+      stopped less (inl none) = let every = whole none in absurd (omega (arith, every, less))
+      stopped less (inr x) =
+          let stop = stopped_by x.0 x.1 in
+          let k = stop.1 in
+          let few = k.low in
+          let here = place some in (
+            middle,
+            x.0,
+            stop.0,
+            subst (IsStage T fs middle x.0) (sym (next_are taken))
+                (inl (k.before, first_files old fs n offset inode is k.before bytes progress.done (omega (arith, few)) k.puts ∙ ap (to bytes) here, subst (λ (at : ℕ). StopsPart T fs k.before middle n (at / 512) x.0) here k.told)),
+          )
+
+  -- by a count
+  module _ (count : ℕ) (same : count ≡ taken) where
+    pub count_none : count ≡ 0 → (result : Result ℕ FfsFault) → IsTold progress.fault result → Takes middle result
+    count_none z result told =
+        takes_by middle result overwritten (takes_none middle progress.fault (λ e. b.there (sym (whole e) ∙ (sym same ∙ z))) (λ x e.
+        let stop = stopped_by x e in
+        (stop.0, ((length bytes, omega arith, subst (λ (m : List ℕ). IsRefused T fs old middle x (written_stages all n offset m)) (sym (take_all (length bytes) bytes (omega arith))) (part_refused x stop.1)), part_place x stop.1))) result told)
+
+    count_low : offset + count ≤ 71680
+    count_low = let few = few_taken in omega (arith, few, low, same)
+
+    pub count_taken : count ≢ 0 → (new : StoreState) → Raises new (offset + count) tt → Takes new (Ok count)
+    count_taken ne new r =
+        let some : taken ≢ 0 = λ z. ne (same ∙ z) in
+        takes_by new (Ok count) (overwritten_then (offset + count) count_low new (Ok tt) r) (
+          subst (λ (k : ℕ). TakesSome T fs all n offset bytes old new k) (sym same) (takes_some some new (subst (λ (k : ℕ). Raises new (offset + k) tt) same r)),
+          (λ z. subst (λ (k : ℕ). progress.done ≡ (offset - file_end inode) + k) (sym same) (counted some), λ z. absurd (ne z)),
+        )
+
+    pub count_refused : count ≢ 0 → (new : StoreState) (fault : FfsFault) → Stops (RaiseStops new (offset + count)) fault → (result : Result ℕ FfsFault) → IsTold (Some fault) result → Takes new result
+    count_refused ne new fault stop result told =
+        takes_by new result (overwritten_then (offset + count) count_low new (Err fault) stop)
+        (takes_none new (Some fault) (λ z. never_some fault z) (λ y e. subst (Stops (λ x. RefusesSome T fs all n offset bytes old new x × IsStage T fs new x (place_stages all n offset bytes progress.done))) (same_fault fault y e)
+        (stop.0, ((taken, few_taken, size_refused (λ z. ne (same ∙ z)) new fault (subst (λ (k : ℕ). word_at after 4 < offset + k) same stop.1.0, stop.1.1)), size_place new fault stop.1.1))) result told)
+
+-- No bytes
+pub none_does : (T : Types) (fs : ℕ) (old : StoreState) (n : ℕ) (inode : List ℕ) (offset : ℕ) (bytes : List ℕ) → Ok inode ≡ file_in (latest old.lives) fs n → offset + length bytes ≤ 71680 → bytes ≡ [] →
+    Does T fs (written (files_of (latest old.lives) fs) n offset bytes) (written_stages (files_of (latest old.lives) fs) n offset bytes) old old (Ok tt)
+none_does T fs old n inode offset bytes is low none =
+    subst (λ (a : Answer (Unit {0})). Does T fs a (written_stages (files_of (latest old.lives) fs) n offset bytes) old old (Ok tt)) (sym (ap (written (files_of (latest old.lives) fs) n offset) none ∙ none_leads old fs n offset inode is (omega (arith, low)))) (refl, λ i. refl)
+
+pub none_takes : (T : Types) (fs : ℕ) (old : StoreState) (n : ℕ) (inode : List ℕ) (offset : ℕ) (bytes : List ℕ) → Ok inode ≡ file_in (latest old.lives) fs n → offset + length bytes ≤ 71680 → bytes ≡ [] →
+    DoesSome T fs (files_of (latest old.lives) fs) n offset bytes (written (files_of (latest old.lives) fs) n offset bytes) old old (Ok 0)
+none_takes T fs old n inode offset bytes is low none =
+    subst (λ (a : Answer (Unit {0})). DoesSome T fs (files_of (latest old.lives) fs) n offset bytes a old old (Ok 0)) (sym (ap (written (files_of (latest old.lives) fs) n offset) none ∙ none_leads old fs n offset inode is (omega (arith, low))))
+    (record { few = omega arith; leads = λ ne. absurd (ne refl); stopped = λ ne less. absurd (ne refl); none = λ z any. absurd (any none) })
+
+-- Look-ups that fail
+pub fault_takes : (T : Types) (fs : ℕ) (files : Files) (n offset : ℕ) (bytes : List ℕ) (looked : Result (List ℕ) FfsFault) (answer : Answer (Unit {0})) (old new : StoreState) (result : Result ℕ FfsFault) → told looked ≡ told answer →
+    Answers looked (λ x y. ⊥) (λ x fault. ⊥) old new result → DoesSome T fs files n offset bytes answer old new result
+fault_takes T fs files n offset bytes (Err fault) (Err other) old new result e h = let same : fault ≡ other = cc e in (h.0 ∙ ap (λ (f : FfsFault). Err f) same, h.1)
+fault_takes T fs files n offset bytes (Err fault) (Ok next) old new result e h = absurd (cc e)
+fault_takes T fs files n offset bytes (Ok x) answer old new (Ok y) e h = absurd h
+fault_takes T fs files n offset bytes (Ok x) answer old new (Err fault) e h = absurd h.1

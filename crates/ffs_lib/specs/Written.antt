@@ -1,0 +1,128 @@
+-- `write` and `write_some` by the function of the files. A write goes from the file's end, or from its offset where that is before it, to the end of its
+-- bytes, part after part, a block each, and then raises the size. The bytes from the file's end to the offset are zeros.
+--     first_written              the bytes of a file of which the first are written
+--     written_to                 the files with a file's bytes written so far
+--     borders                    where the parts begin
+--     first_place                where the first part begins
+--     part_stages, size_stages   where a part is asked for; where the size is
+--     if_any                     no stages where there are no bytes
+--     written_stages             the stages of `write`
+--     place_stages, last_stages  where so many bytes are written; where `write` ends so
+--     next_stages                where `write_some` takes so many
+--     RefusesSome, TakesSome     a write of the first of the bytes was refused; what `write_some` leaves where it takes some of the bytes, or none
+--     DoesSome                   what `write_some` answers and leaves
+--     WritesTo, WritesSomeTo     how many bytes are written where a write ends, and what is asked there
+--     Overwrites                 what the files don't say of the inodes
+use Rattle.std.specs.Prelude.{◌≡◌, ◌≢◌, ℕ, ◌+◌, ◌-◌, ◌/◌, ◌%◌, ◌<◌, ◌≤◌, ◌==◌, ◌||◌, nat_lt, List, [], ◌∷◌, ◌++◌, length, drop, filter, map, min, take}
+use Rattle.std.specs.Prelude.{Result, Ok, Err, true, MatchResult, if◌then◌else◌}
+use Rattle.std.specs.List.{range_with_len}
+use Rattle.xn_model.specs.declared.refusal.Refusal.TheVariants.{TooManyPending}
+use Rattle.xn_model.specs.Root.{word_at}
+use Rattle.xn_model.specs.Types.{Types}
+use Rattle.xn_model.specs.Lives.{StoreState}
+use Rattle.ffs_model.specs.Library.{inode_mode}
+use Rattle.ffs_lookup.specs.declared.fault.FfsFault.{FfsFault}
+use Rattle.ffs_lookup.specs.declared.fault.FfsFault.TheVariants.{Kernel}
+use Rattle.ffs_lookup.specs.Files.{Answer, File, Files, file_of, with_value, written, written_bytes}
+use Rattle.ffs_lookup.specs.Newest.{byte_of, file_end, file_in, is_short}
+use Rattle.ffs_lib.specs.Results.{OnlyChanges, byte_written}
+use Rattle.ffs_lib.specs.Stages.{IsRefused, IsStage, OfInode, OfPart, Stages, stages_of}
+use Rattle.ffs_lib.specs.Steps.{newest}
+use Rattle.ffs_lib.specs.Values.{Leads}
+use Rattle.ffs_lib.specs.Writes.{IsBorder, padded}
+
+-- The bytes up to a place are what they are to be, those behind it what they were, and the size is as before.
+abbrev pub first_written : List ℕ → List ℕ → ℕ → List ℕ
+first_written old new at = take (length old) (take at new ++ drop at old)
+
+abbrev pub written_to : Files → ℕ → ℕ → List ℕ → ℕ × List ℕ → ℕ → Files
+written_to files n offset bytes file at = with_value files n (File file.0 (first_written file.1 (written_bytes file.1 offset bytes) at))
+
+-- where the first part begins, and from there to an end each place where a block begins, and the offset
+abbrev pub borders : ℕ → ℕ → ℕ → List ℕ
+borders start offset end = start ∷ filter (λ at. (at == offset) || (at % 512 == 0)) (range_with_len (start + 1) (end - (start + 1)))
+
+abbrev pub part_stages : Files → ℕ → ℕ → List ℕ → ℕ × List ℕ → List ℕ → Stages
+part_stages files n offset bytes file places = map (λ at. (written_to files n offset bytes file at, OfPart n (at / 512))) places
+
+abbrev pub size_stages : Files → ℕ → ℕ → List ℕ → ℕ × List ℕ → List ℕ → Stages
+size_stages files n offset bytes file places = map (λ at. (written_to files n offset bytes file at, OfInode n)) places
+
+abbrev pub first_place : ℕ × List ℕ → ℕ → ℕ
+first_place file offset = min (length file.1) offset
+
+-- nothing is asked where there are no bytes
+abbrev pub if_any : List ℕ → Stages → Stages
+if_any [] stages = []
+if_any (byte ∷ rest) stages = stages
+
+-- all parts, then the size, where it is below
+abbrev pub written_stages : Files → ℕ → ℕ → List ℕ → Stages
+written_stages files n offset bytes =
+    stages_of (file_of (files n)) (λ file. if_any bytes
+    (part_stages files n offset bytes file (borders (first_place file offset) offset (offset + length bytes))
+    ++ size_stages files n offset bytes file (filter (nat_lt (length file.1)) ((offset + length bytes) ∷ []))))
+
+-- where the first so many of the zeros and the bytes are written: the next part, or the size
+abbrev pub place_stages : Files → ℕ → ℕ → List ℕ → ℕ → Stages
+place_stages files n offset bytes done =
+    stages_of (file_of (files n)) (λ file. part_stages files n offset bytes file ((first_place file offset + done) ∷ [])
+    ++ size_stages files n offset bytes file ((first_place file offset + done) ∷ []))
+
+-- there the next part is asked for, if it is not the end, and else the size
+abbrev pub last_stages : Files → ℕ → ℕ → List ℕ → ℕ → Stages
+last_stages files n offset bytes done =
+    stages_of (file_of (files n)) (λ file. if nat_lt (first_place file offset + done) (offset + length bytes)
+    then part_stages files n offset bytes file ((first_place file offset + done) ∷ [])
+    else size_stages files n offset bytes file ((first_place file offset + done) ∷ []))
+
+-- the part behind the first so many of the bytes
+abbrev pub next_stages : Files → ℕ → ℕ → List ℕ → ℕ → Stages
+next_stages files n offset bytes count = stages_of (file_of (files n)) (λ file. part_stages files n offset bytes file ((offset + count) ∷ []))
+
+-- a write of the first so many of the bytes was refused
+abbrev pub RefusesSome : Types → ℕ → Files → ℕ → ℕ → List ℕ → StoreState → StoreState → FfsFault → Type 0
+RefusesSome T fs files n offset bytes old new fault =
+    (count : ℕ) × (count ≤ length bytes) × IsRefused T fs old new fault (written_stages files n offset (take count bytes))
+
+-- The first so many of the bytes are written, if any are. These are all of them, or the store was short of something for the next part. None are only where
+-- there are none, or where too many edits are pending for a part, or for the size.
+pub record TakesSome (T : Types) (fs : ℕ) (files : Files) (n offset : ℕ) (bytes : List ℕ) (old new : StoreState) (count : ℕ) : Type 0 where
+  pub few : count ≤ length bytes
+  pub leads : count ≢ 0 → Leads (written files n offset (take count bytes)) (newest new) fs tt
+  pub stopped : count ≢ 0 → count < length bytes → (middle : StoreState) × (fault : FfsFault) × (is_short fault ≡ true)
+      × IsStage T fs middle fault (next_stages files n offset bytes count)
+  pub none : count ≡ 0 → bytes ≢ [] → RefusesSome T fs files n offset bytes old new (Kernel TooManyPending)
+
+abbrev pub DoesSome : Types → ℕ → Files → ℕ → ℕ → List ℕ → Answer (Unit {0}) → StoreState → StoreState → Result ℕ FfsFault → Type 0
+DoesSome T fs files n offset bytes (Err fault) old new result = (result ≡ Err fault) × (new ≡ old)
+DoesSome T fs files n offset bytes (Ok next) old new result =
+    MatchResult result (TakesSome T fs files n offset bytes old new) (λ fault.
+    (fault ≢ Kernel TooManyPending) × (is_short fault ≡ true) × RefusesSome T fs files n offset bytes old new fault)
+
+-- What the files don't say: all other inodes have their 64 bytes, in use or not, their entries and all their bytes. The file, whose inode was this one, has
+-- its mode, the first so many of the zeros and the bytes, all or up to where a part begins, and its bytes elsewhere, also behind its end; and its size where
+-- that is above what a file may have.
+pub record Overwrites (old new : ℕ → List ℕ) (fs n : ℕ) (inode : List ℕ) (offset : ℕ) (bytes : List ℕ) (done : ℕ) : Type 0 where
+  pub others : OnlyChanges old new fs n
+  pub after : List ℕ
+  pub file : Ok after ≡ file_in new fs n
+  pub mode : inode_mode after ≡ inode_mode inode
+  pub size : 71680 ≤ word_at inode 4 → word_at after 4 ≡ word_at inode 4
+  pub few : done ≤ length (padded (file_end inode) offset bytes)
+  pub border : done < length (padded (file_end inode) offset bytes) → IsBorder (file_end inode) offset done
+  pub each : (at : ℕ) → at < 71680 → byte_of new after at ≡ byte_written (byte_of old inode) (min (file_end inode) offset)
+      (take done (padded (file_end inode) offset bytes)) at
+
+-- All are written; or the next part is asked for there, or the size.
+abbrev pub WritesTo : Types → ℕ → Files → ℕ → List ℕ → ℕ → List ℕ → ℕ → StoreState → Result (Unit {0}) FfsFault → Type 0
+WritesTo T fs files n inode offset bytes done new result =
+    MatchResult result (λ x. bytes ≢ [] → done ≡ length (padded (file_end inode) offset bytes))
+    (λ fault. IsStage T fs new fault (last_stages files n offset bytes done))
+
+-- So many are written as it answers; or there are none; or the next part is asked for there, or the size.
+abbrev pub WritesSomeTo : Types → ℕ → Files → ℕ → List ℕ → ℕ → List ℕ → ℕ → StoreState → Result ℕ FfsFault → Type 0
+WritesSomeTo T fs files n inode offset bytes done new result =
+    MatchResult result (λ count. (count ≢ 0 → done ≡ (offset - file_end inode) + count)
+    × (count ≡ 0 → bytes ≢ [] → IsStage T fs new (Kernel TooManyPending) (place_stages files n offset bytes done)))
+    (λ fault. IsStage T fs new fault (place_stages files n offset bytes done))
