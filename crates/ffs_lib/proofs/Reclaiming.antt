@@ -1,5 +1,5 @@
 -- What the edits of `reclaim` leave, and how they come together.
-use Rattle.std.proofs.Common.{◌≡◌, ◌≢◌, ℕ, ◌+◌, ◌-◌, ◌*◌, ◌/◌, ◌%◌, ◌<◌, ◌≤◌, ◌⊎◌, List, [], length, replicate, Option, None, Result, Ok, Err, Bool, refl, sym, ◌∙◌, ap, arith, subst, inl, inr}
+use Rattle.std.proofs.Common.{◌≡◌, ◌≢◌, ℕ, ◌+◌, ◌-◌, ◌*◌, ◌%◌, ◌<◌, ◌≤◌, ◌⊎◌, List, [], length, replicate, Option, None, Result, Ok, Err, Bool, refl, sym, ◌∙◌, ap, arith, subst, inl, inr}
 use Rattle.std.specs.Prelude.{IsErrAnd, flat_map, if◌then◌else◌}
 use Rattle.std.specs.List.{range_with_len}
 use Rattle.std.proofs.lemmas.Bool.{cases_eq, cases_lt, ne_eqb}
@@ -13,7 +13,7 @@ use Rattle.ffs_model.specs.Names.{LeavesRoom, Names}
 use Rattle.ffs_model.specs.Edits.{InodeFreed, LinksTaken}
 use Rattle.ffs_model.specs.Volumes.{KeepsNumber}
 use Rattle.ffs_model.specs.Library.{inode_at, inode_blocks, inode_links, inode_mode, inode_pairs, library_layout, pointed, pointer_word, with_inode, zeros}
-use Rattle.ffs_model.proofs.ForCallers.{inode_unlinked, library_reads, links_read, links_taken, other_number, other_written, pointers_cleared_short, proposed_here, proposed_others, spare_begins, spare_by_freed, spare_by_taken, under_inodes}
+use Rattle.ffs_model.proofs.ForCallers.{inode_unlinked, library_reads, links_read, links_taken, other_number, other_written, pointers_cleared_short, proposed_here, proposed_others, spare_begins, spare_by_freed, spare_by_taken}
 use Rattle.ffs_model.proofs.Rewritten as rewritten
 use Rattle.ffs_format.specs.Fields.{Fields, fields_of}
 use Rattle.ffs_lookup.specs.declared.fault.FfsFault.{FfsFault}

@@ -1,6 +1,6 @@
 -- What `reclaim` does is what its function of the files says, or one of its stages.
-use Rattle.std.proofs.Common.{◌≡◌, ◌≢◌, ℕ, suc, ◌+◌, ◌-◌, ◌<◌, ◌≤◌, ◌⊎◌, Bool, true, false, List, [], ◌∷◌, ◌++◌, Option, Result, Ok, Err, refl, sym, ◌∙◌, ap, arith, subst, inl, inr, eq-eqb}
-use Rattle.std.specs.Prelude.{IsErrAnd, ◌==◌, flat_map, nat_lt, if◌then◌else◌}
+use Rattle.std.proofs.Common.{◌≡◌, ℕ, suc, ◌+◌, ◌-◌, ◌<◌, ◌≤◌, Bool, true, false, List, [], ◌∷◌, ◌++◌, Option, Result, Ok, Err, refl, sym, ◌∙◌, ap, arith, subst, inl, inr, eq-eqb}
+use Rattle.std.specs.Prelude.{IsErrAnd, ◌==◌, flat_map, if◌then◌else◌}
 use Rattle.std.specs.List.{range_with_len}
 use Rattle.std.proofs.lemmas.Bool.{cases_eq, cases_lt, le-ltb, lt-ltb}
 use Rattle.std.proofs.lemmas.Grind.{flat_map-append}
@@ -17,9 +17,9 @@ use Rattle.ffs_lookup.specs.declared.repairs.Repair.{Repair}
 use Rattle.ffs_lookup.specs.declared.repairs.Repair.TheVariants.{Keep, GiveUp, SetLinks}
 use Rattle.ffs_lookup.specs.declared.repairs.Repairs.{Repairs}
 use Rattle.ffs_lookup.specs.Counts.{if_idle}
-use Rattle.ffs_lookup.specs.Files.{Answer, Files, with_value}
+use Rattle.ffs_lookup.specs.Files.{Answer, Files}
 use Rattle.ffs_lookup.specs.FileValues.{files_of}
-use Rattle.ffs_lookup.specs.Newest.{is_short, mapped}
+use Rattle.ffs_lookup.specs.Newest.{is_short}
 use Rattle.ffs_lookup.specs.Repairs.{idle_in, repair_at, repair_in}
 use Rattle.ffs_lookup.proofs.ForCallers.{unnumbered_repair}
 use Rattle.ffs_lib.specs.Reclaiming.{InMiddle, LeftByRepair, Reclaims, Repaired, StopsRepairing, needs, reclaimed, reclaimed_stages, repair_stages, repaired, repaired_below, stages_at}
@@ -30,7 +30,7 @@ use Rattle.ffs_lib.proofs.Reclaiming.{idle_ok, middle_ends, repaired_then}
 use Rattle.ffs_lib.proofs.Same.{same_on}
 use Rattle.ffs_lib.proofs.Staged.{asks_link, kept_or_emptied, same_here, short_at}
 use Rattle.ffs_lib.proofs.StagedTurns.{first_stages}
-use Rattle.ffs_lib.proofs.ValueRepairs.{count_is, need_is, range_split, repaired_value}
+use Rattle.ffs_lib.proofs.ValueRepairs.{need_is, range_split, repaired_value}
 use Rattle.ffs_lib.proofs.ValueSame.{same_value}
 use Rattle.ffs_lib.proofs.ValueSteps.{files_equal, value_at}
 

@@ -1,5 +1,5 @@
 -- What inodes need is what the files say, and one that is repaired is as they say.
-use Rattle.std.proofs.Common.{◌≡◌, ◌≢◌, ℕ, zero, suc, ◌+◌, ◌-◌, ◌/◌, ◌%◌, Bool, true, false, cond, List, [], ◌∷◌, ◌++◌, length, map, Option, Some, None, Result, Ok, Err, refl, sym, ◌∙◌, ap, arith}
+use Rattle.std.proofs.Common.{◌≡◌, ℕ, zero, suc, ◌+◌, ◌-◌, ◌/◌, ◌%◌, Bool, true, false, cond, List, [], ◌∷◌, ◌++◌, length, map, Option, Some, None, Result, Ok, Err, refl, sym, ◌∙◌, ap, arith}
 use Rattle.std.specs.Prelude.{◌==◌, ◌||◌, not, nat_lt, count_by, filter_map, find, flat_map, is_some, if◌then◌else◌}
 use Rattle.std.specs.List.{cons_option, range_with_len}
 use Rattle.std.specs.Result.{result_ok}
@@ -16,7 +16,7 @@ use Rattle.ffs_lookup.specs.Counts.{names_count, numbers_of}
 use Rattle.ffs_lookup.specs.Files.{Absent, Blocks, Directory, Entry, File, Files, Free, InodeValue, Unusable, directory_of, entry_at, is_bare, listed, positions}
 use Rattle.ffs_lookup.specs.FileValues.{blocks_value, bytes_value, files_of, value_in}
 use Rattle.ffs_lookup.specs.Newest.{and_then, directory_in, entries_of, inode_block_in, inode_in, is_free_inode, mapped, name_at, names_in, names_of, unless_unused}
-use Rattle.ffs_lookup.specs.Repairs.{is_bare_in, repair_found, repair_in, repair_of}
+use Rattle.ffs_lookup.specs.Repairs.{repair_found, repair_in, repair_of}
 use Rattle.ffs_lookup.proofs.ForCallers.{given_up, good_number, links_set, listed_told, same_ok, value_by_place}
 use Rattle.ffs_lib.specs.Reclaiming.{Repaired, name_count, need_of, needs, numbers_listed, repair_stages, repaired, stages_at, with_links}
 use Rattle.ffs_lib.specs.Stages.{Stages}
