@@ -14,7 +14,6 @@ ghost use Rattle.ffs_lib.specs.Replacing.{Replaced, replace_in};
 ghost use Rattle.ffs_lib.specs.Results.{MovedInodes};
 ghost use Rattle.ffs_lib.specs.Stages.{Does, KeptOrEmptied, Makes, OnlyMade, Unnames, created_stages, removed_stages, renamed_stages, replaced_stages};
 ghost use Rattle.ffs_lib.specs.Steps.{newest};
-ghost use Rattle.ffs_lib.specs.Values.{Follows};
 ghost use Rattle.ffs_lib.specs.Volumes.{NothingPending};
 ghost use Rattle.ffs_lib.specs.Written.{DoesSome, Overwrites, WritesSomeTo};
 ghost use Rattle.xn_model.specs.Calls.{free_of, pending_of, tainted_of};
