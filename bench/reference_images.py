@@ -1,7 +1,7 @@
 #!/usr/bin/env python3
 """A second implementation of the image check, written from the rules of images alone and with no eye on speed.
 
-It makes the pseudo-random images of the program `random_images` (crates/random_images), checks each of them, and prints what that
+It makes the pseudo-random images of the program `random_inputs` (crates/random_inputs), checks each of them, and prints what that
 program prints: how many there are, how many of them are sound, how many blocks these reach, and a hash of all answers. With
 `--kinds` it also prints how many images have each kind of fault.
 """

@@ -10,7 +10,7 @@ TOP = os.path.dirname(os.path.dirname(os.path.abspath(__file__)))
 XNFS = os.path.join(TOP, "crates/xnfs/out/xnfs")
 XNSIM = os.path.join(TOP, "crates/xnsim/out/xnsim")
 NAMES = ["a", "b", "c", "notes.txt", "data"]
-LENGTHS = [0, 1, 100, 511, 512, 513, 3000, 6144, 6145, 20000, 30000]
+LENGTHS = [0, 1, 100, 511, 512, 513, 3000, 6144, 6145, 20000, 30000, 45000, 71680]
 # Files of the system, by their names: one of each length, and those of a folder.
 SOURCES = {f"source{length}": random.Random(length).randbytes(length) for length in LENGTHS}
 IN_FOLDER = {"one": b"1" * 600, "two": b"2" * 20, "below/three": b"3" * 1500}

@@ -11,7 +11,7 @@ use std::fs::{File, Files};
 use std::thread::Threads;
 use templates::format_image;
 use xn_kernel::Kernel;
-use xnfs_session::{FfsFault, Fs, Session, Stop, StoppingLane};
+use xnfs_session::{FfsFault, Fs, Session, Stop, TestLane};
 
 /// How many bytes the largest disk has.
 const GREATEST: usize = 16_777_216;
@@ -90,17 +90,18 @@ fn open_lanes<L: Lane + Drop>(
     }
 }
 
-/// The session of a file system on a disk in a file, which makes no further write of a block once it is stopped.
-pub fn open_stopping<R: Files<File = File>>(
+/// The session of a file system on a disk in a file for tests, which makes no further write of a block once it is stopped, and a sync only where
+/// it is to be synced.
+pub fn open_for_tests<R: Files<File = File>>(
     rt: &R,
     threads: &(impl Threads + Sync),
     alloc: Global,
     image: &str,
     fs: Fs,
-    stop: &Stop,
-) -> Result<Session<Kernel<StoppingLane<FileLane>>>, Fault> {
+    (stop, is_synced): (&Stop, bool),
+) -> Result<Session<Kernel<TestLane<FileLane>>>, Fault> {
     let disk = FileDisk::open(rt, alloc, image)?;
-    let lanes = stop.lanes(alloc, disk.into_lanes())?;
+    let lanes = stop.lanes(alloc, disk.into_lanes(), is_synced)?;
     open_lanes(threads, alloc, lanes, fs)
 }
 

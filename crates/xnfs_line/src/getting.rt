@@ -4,6 +4,7 @@ use crate::changing::make_folders;
 use crate::fault::{Fault, Reason, at, system};
 use crate::finding::{Place, find, target};
 use crate::looking::bytes_of;
+use crate::progress::Progress;
 use crate::putting::{flush, is_hidden, put_bytes};
 use crate::walking::walk;
 use std::alloc::Global;
@@ -95,6 +96,7 @@ fn put_entries<R: Files<File = File> + AllocGlobal + Clone + Drop, S: FlushStore
     alloc: Global,
     folder: &Waiting,
     waiting: &mut Vec<Waiting>,
+    progress: &mut Progress,
 ) -> Result<(), Fault> {
     let _ = make_folders(session, alloc, &folder.path)?;
     flush(session, alloc)?;
@@ -109,6 +111,7 @@ fn put_entries<R: Files<File = File> + AllocGlobal + Clone + Drop, S: FlushStore
             waiting.push(Waiting { source, path })?;
         } else if *is_file {
             put_file(rt, session, alloc, &source, &path)?;
+            progress.tell();
         } else {
             return Err(at(alloc, &source, Reason::Special));
         }
@@ -116,13 +119,14 @@ fn put_entries<R: Files<File = File> + AllocGlobal + Clone + Drop, S: FlushStore
     Ok(())
 }
 
-/// Puts a folder of the system with all below it at a path.
-fn put_folder<R: Files<File = File> + AllocGlobal + Clone + Drop, S: FlushStore + Drop>(
+/// Puts a folder of the system with all below it at a path, folder by folder.
+fn put_folders<R: Files<File = File> + AllocGlobal + Clone + Drop, S: FlushStore + Drop>(
     rt: &R,
     session: &mut Session<S>,
     alloc: Global,
     source: &str,
     path: &str,
+    progress: &mut Progress,
 ) -> Result<(), Fault> {
     let mut waiting = Vec::new(alloc);
     waiting.push(Waiting {
@@ -133,9 +137,23 @@ fn put_folder<R: Files<File = File> + AllocGlobal + Clone + Drop, S: FlushStore 
         let Some(folder) = waiting.pop() else {
             return Ok(());
         };
-        put_entries(rt, session, alloc, &folder, &mut waiting)?;
+        put_entries(rt, session, alloc, &folder, &mut waiting, progress)?;
     }
     Err(at(alloc, source, Reason::Endless))
+}
+
+/// Puts a folder of the system with all below it at a path.
+fn put_folder<R: Files<File = File> + AllocGlobal + Clone + Drop, S: FlushStore + Drop>(
+    rt: &R,
+    session: &mut Session<S>,
+    alloc: Global,
+    source: &str,
+    path: &str,
+) -> Result<(), Fault> {
+    let mut progress = Progress::new(rt);
+    let done = put_folders(rt, session, alloc, source, path, &mut progress);
+    progress.end();
+    done
 }
 
 /// `put`: brings a file in, or a folder with all below it, or what standard input has.
@@ -224,14 +242,15 @@ fn make_system_folder<R: Files<File = File> + AllocGlobal>(
     }
 }
 
-/// Brings a folder of a volume with all below it out.
-fn get_folder<R: Files<File = File> + AllocGlobal, S: FlushStore + Drop>(
+/// Brings a folder of a volume with all below it out, file by file.
+fn get_entries<R: Files<File = File> + AllocGlobal, S: FlushStore + Drop>(
     rt: &R,
     session: &Session<S>,
     alloc: Global,
     path: &str,
     folder: u16,
     target: &str,
+    progress: &mut Progress,
 ) -> Result<(), Fault> {
     make_system_folder(rt, alloc, target)?;
     let mut above = Vec::new(alloc);
@@ -252,9 +271,25 @@ fn get_folder<R: Files<File = File> + AllocGlobal, S: FlushStore + Drop>(
         } else {
             let bytes = bytes_of(session, alloc, path, &step.node)?;
             replace_file(rt, alloc, &own, &bytes)?;
+            progress.tell();
         }
     }
     Ok(())
+}
+
+/// Brings a folder of a volume with all below it out.
+fn get_folder<R: Files<File = File> + AllocGlobal, S: FlushStore + Drop>(
+    rt: &R,
+    session: &Session<S>,
+    alloc: Global,
+    path: &str,
+    folder: u16,
+    target: &str,
+) -> Result<(), Fault> {
+    let mut progress = Progress::new(rt);
+    let done = get_entries(rt, session, alloc, path, folder, target, &mut progress);
+    progress.end();
+    done
 }
 
 /// `get`: brings a file out, or a folder with all below it; `-` is standard output.

@@ -13,6 +13,7 @@ mod getting;
 mod graphing;
 mod lines;
 mod looking;
+mod progress;
 mod putting;
 mod shell;
 mod walking;

@@ -2,7 +2,7 @@
 
 use crate::changing::{copy, make_folder, make_folders, remove, remove_folder, rename};
 use crate::checking::{check, repair};
-use crate::disks::{format, open, open_stopping};
+use crate::disks::{format, open, open_for_tests};
 use crate::fault::Fault;
 use crate::getting::{get, put};
 use crate::graphing::graph;
@@ -157,19 +157,19 @@ fn run_disk<R: Files<File = File> + AllocGlobal + Clone + Drop, S: FlushStore + 
     Ok(DONE)
 }
 
-/// Does what a line asks for on a disk that makes so many writes of blocks at most, and answers its status.
-fn run_stopping<R: Files<File = File> + AllocGlobal + Clone + Drop>(
+/// Does what a line asks for on a disk that makes so many writes of blocks at most, and syncs where it is told so, and answers its status.
+fn run_test<R: Files<File = File> + AllocGlobal + Clone + Drop>(
     rt: &R,
     threads: &(impl Threads + Sync),
     alloc: Global,
     (image, fs, word): (&str, Fs, Word),
-    writes: u32,
+    (writes, is_synced): (Option<u32>, bool),
     input: &mut impl BufRead,
     out: &mut impl Write,
     err: &mut impl Write,
 ) -> Result<u8, Fault> {
-    let stop = Stop::after(alloc, u64::from(writes))?;
-    let mut session = open_stopping(rt, threads, alloc, image, fs, &stop)?;
+    let stop = Stop::after(alloc, writes.map_or(u64::MAX, u64::from))?;
+    let mut session = open_for_tests(rt, threads, alloc, image, fs, (&stop, is_synced))?;
     let done = run_disk(rt, &mut session, alloc, (image, word), input, out, err);
     if stop.is_over() {
         return Err(Fault::Stopped);
@@ -197,6 +197,7 @@ fn run<R: Files<File = File> + AllocGlobal + Clone + Drop>(
             image,
             fs,
             stop: None,
+            is_synced: true,
             word,
         } => {
             let mut session = open(rt, threads, alloc, image, file_system(fs)?)?;
@@ -205,11 +206,13 @@ fn run<R: Files<File = File> + AllocGlobal + Clone + Drop>(
         Request::Disk {
             image,
             fs,
-            stop: Some(writes),
+            stop,
+            is_synced,
             word,
         } => {
             let line = (image, file_system(fs)?, word);
-            run_stopping(rt, threads, alloc, line, writes, input, out, err)?
+            let test = (stop, is_synced);
+            run_test(rt, threads, alloc, line, test, input, out, err)?
         }
     };
     out.flush()?;

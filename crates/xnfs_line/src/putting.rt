@@ -1,6 +1,8 @@
 // Files that are brought into a volume. A file is made whole beside its place, and then gets its name, which is on the disk only once all of the
 // file is: so what a name names is whole at each moment and after each crash.
 
+ghost use Rattle.std.specs.Prelude.{◌≤◌, IfOk, length};
+
 use crate::fault::{Fault, Reason, at};
 use crate::finding::{Place, naming_fault};
 use std::alloc::Global;
@@ -15,9 +17,24 @@ pub fn is_hidden(name: &[u8]) -> bool {
     name == MADE.as_bytes()
 }
 
+/// How many waves are written between two pieces of a file: its blocks, and what points to them.
+const WAVES_BETWEEN: u32 = 2;
+
 /// Writes all that is pending.
 pub fn flush<S: FlushStore + Drop>(session: &mut Session<S>, alloc: Global) -> Result<(), Fault> {
     match session.flush(alloc) {
+        Ok(_) => Ok(()),
+        Err(refusal) => Err(Fault::Flush(refusal)),
+    }
+}
+
+/// Writes what is pending in so many waves at most.
+fn flush_waves<S: FlushStore + Drop>(
+    session: &mut Session<S>,
+    alloc: Global,
+    most: u32,
+) -> Result<(), Fault> {
+    match session.flush_waves(alloc, most) {
         Ok(_) => Ok(()),
         Err(refusal) => Err(Fault::Flush(refusal)),
     }
@@ -31,8 +48,27 @@ fn blocks_for(bytes: usize) -> u32 {
     if data > 12 { data + 1 } else { data }
 }
 
-/// Writes the bytes of a new file, each time as many as the store takes, which are flushed before the next. So little is pending before that each
-/// time some are taken. The last ones are left pending.
+/// Writes the first of some bytes, as many as the store takes; where it takes none, all that is pending is written first.
+fn write_some<S: FlushStore + Drop>(
+    session: &mut Session<S>,
+    alloc: Global,
+    inode: u16,
+    offset: u32,
+    bytes: &[u8],
+) -> Result<Result<usize, FfsFault>, Fault>
+    ensures few { IfOk result (λ taken. IfOk taken (λ count. count ≤ length bytes.now)) }
+{
+    match session.write_some(alloc, inode, offset, bytes) {
+        Ok(0) => {
+            flush(session, alloc)?;
+            Ok(session.write_some(alloc, inode, offset, bytes))
+        }
+        answer => Ok(answer),
+    }
+}
+
+/// Writes the bytes of a new file, each time as many as the store takes. Between two pieces only so many waves are written as bring the blocks of
+/// the first to the disk and what points to them: its size, which stands behind both, is written with the next piece. The last one is left pending.
 fn fill<S: FlushStore + Drop>(
     session: &mut Session<S>,
     alloc: Global,
@@ -43,9 +79,9 @@ fn fill<S: FlushStore + Drop>(
     let mut rest = bytes;
     while !rest.is_empty() {
         if at > 0 {
-            flush(session, alloc)?;
+            flush_waves(session, alloc, WAVES_BETWEEN)?;
         }
-        let taken = match session.write_some(alloc, inode, at, rest) {
+        let taken = match write_some(session, alloc, inode, at, rest)? {
             Ok(0) => return Ok(Err(FfsFault::Kernel(Refusal::TooManyPending))),
             Ok(taken) => taken,
             Err(fault) => return Ok(Err(fault)),

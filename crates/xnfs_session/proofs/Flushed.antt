@@ -1,9 +1,8 @@
 -- The rules of volumes hold on over the waves of a flush.
 use Rattle.std.proofs.Common.{◌∙◌, ◌≡◌, ap, arith, ℕ, zero, suc, List, true, false, Bool, Some, Result, Ok, Err, sym, inl, inr, subst}
-use Rattle.std.specs.Prelude.{[], ◌∷◌, IfOk, IfErr, IsOk, OnOk}
+use Rattle.std.specs.Prelude.{[], ◌∷◌, IfOk, IfErr, MatchResult, OnOk}
 use Rattle.xn_model.specs.declared.refusal.Refusal.{Refusal}
 use Rattle.std.proofs.lemmas.List.{nil_from_length}
-use Rattle.std.proofs.lemmas.Bool.{false≢true}
 use Rattle.std.proofs.lemmas.Option.{none-some}
 use Rattle.xn_model.specs.Lives.{Lives, StoreState}
 use Rattle.xn_model.specs.Worlds.{all_pending}
@@ -30,11 +29,19 @@ nothing_left (o ∷ os) e zero l at =
     nil_from_length l.pending here
 nothing_left (o ∷ os) e (suc b) l at = nothing_left os (omega arith) b l at
 
--- what is so where one answer is Ok is so where another is that is Ok there alone
-pub on_ok : {A B E F : Type 0} (told : Result A E) (flushed : Result B F) (P Q : Type 0) → OnOk told (IsOk flushed) → OnOk flushed P → (P → Q) → OnOk told Q
-on_ok (Ok x) (Ok y) P Q is p f = f p
-on_ok (Ok x) (Err e) P Q is p f = absurd (false≢true is)
-on_ok (Err e) flushed P Q is p f = tt
+-- what is told of a flush: its waves or its refusal
+
+module _ {S : Type 0} (refusal : S → Refusal) where
+  abbrev pub Tells : Result ℕ Refusal → Result ℕ S → Type 0
+  Tells told flushed = MatchResult flushed (λ waves. told ≡ Ok waves) (λ stop. told ≡ Err (refusal stop))
+
+  pub if_ok : (told : Result ℕ Refusal) (flushed : Result ℕ S) (P Q : ℕ → Type 0) → Tells told flushed → IfOk flushed P → ((n : ℕ) → P n → Q n) → IfOk told Q
+  if_ok told (Ok n) P Q e p f = subst (λ r. IfOk r Q) (sym e) (f n p)
+  if_ok told (Err stop) P Q e p f = subst (λ r. IfOk r Q) (sym e) tt
+
+  pub on_ok : (told : Result ℕ Refusal) (flushed : Result ℕ S) (P Q : Type 0) → Tells told flushed → OnOk flushed P → (P → Q) → OnOk told Q
+  on_ok told (Ok n) P Q e p f = subst (λ r. OnOk r Q) (sym e) (f p)
+  on_ok told (Err stop) P Q e p f = subst (λ r. OnOk r Q) (sym e) tt
 
 -- over one state to another, under the types of each
 abbrev pub Follows : StoreState → StoreState → Type 0

@@ -1,6 +1,6 @@
 // Stores whose pending entries are written in waves.
 
-ghost use Rattle.std.specs.Prelude.{◌≡◌, IsOk, OnOk, is_some};
+ghost use Rattle.std.specs.Prelude.{◌≡◌, ◌<◌, IfOk, MatchResult, OnOk, Ok, Err, is_some};
 ghost use Rattle.xn_model.specs.Calls.{free_of, tainted_of};
 ghost use Rattle.xn_state.specs.Awaits.{awaited_of};
 ghost use Rattle.ffs_lib.specs.Volumes.{NothingPending};
@@ -18,6 +18,12 @@ pub trait FlushStore: Store {
         ensures keeps { KeepsVolumes (Self.types_of self.old) (Self.state_of self.old) (Self.types_of self.new) (Self.state_of self.new) }
         ensures done { OnOk result (NothingPending (Self.state_of self.new).lives) };
 
+    /// Writes what is pending in so many waves at most, and answers how many that took, fewer only where nothing is pending any more. Where it is
+    /// refused the store is left as by `flush`.
+    fn flush_waves(&mut self, alloc: Global, most: u32) -> Result<u32, Refusal>
+        ensures keeps { KeepsVolumes (Self.types_of self.old) (Self.state_of self.old) (Self.types_of self.new) (Self.state_of self.new) }
+        ensures done { IfOk result (λ waves. waves < most → NothingPending (Self.state_of self.new).lives) };
+
     /// How many blocks are free.
     fn free(&self) -> u32
         ensures { result ≡ free_of (Self.state_of self.now) };
@@ -30,7 +36,7 @@ pub trait FlushStore: Store {
 
 /// What a flush answers. The lanes of blocks that could not be finished are given up.
 fn waves_of<L: Lane + Drop>(flushed: Result<u32, FlushStop<L>>) -> Result<u32, Refusal>
-    ensures { OnOk result (IsOk flushed) }
+    ensures { MatchResult flushed (λ waves. result ≡ Ok waves) (λ stop. result ≡ Err stop.refusal) }
 {
     match flushed {
         Ok(waves) => Ok(waves),
@@ -52,6 +58,11 @@ fn waves_of<L: Lane + Drop>(flushed: Result<u32, FlushStop<L>>) -> Result<u32, R
 impl<L: Lane + Drop> FlushStore for Kernel<L> {
     fn flush(&mut self, alloc: Global) -> Result<u32, Refusal> {
         let flushed = Kernel::flush(self, alloc);
+        waves_of(flushed)
+    }
+
+    fn flush_waves(&mut self, alloc: Global, most: u32) -> Result<u32, Refusal> {
+        let flushed = Kernel::flush_waves(self, alloc, most);
         waves_of(flushed)
     }
 

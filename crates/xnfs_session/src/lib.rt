@@ -11,4 +11,4 @@ mod stopping;
 pub use ffs_lib::{FfsFault, Fs, Repair, Repairs};
 pub use flushing::FlushStore;
 pub use session::{MOST_BYTES, MOST_INODES, Node, Owner, Session, Usage};
-pub use stopping::{Stop, StoppingLane};
+pub use stopping::{Stop, TestLane};

@@ -1,6 +1,6 @@
 // A store with its open volume.
 
-ghost use Rattle.std.specs.Prelude.{◌≡◌, ◌≤◌, ◌⊎◌, ℕ, is_some, length, map, IfOk, IsOk, MatchResult, OnErr, OnOk, Ok, Err};
+ghost use Rattle.std.specs.Prelude.{◌≡◌, ◌<◌, ◌≤◌, ◌⊎◌, ℕ, is_some, length, map, IfOk, IsOk, MatchResult, OnErr, OnOk, Ok, Err};
 ghost use Rattle.ffs_model.specs.Cuts.{latest};
 ghost use Rattle.ffs_model.specs.Library.{IsLibrary};
 ghost use Rattle.ffs_lookup.specs.Newest.{inode_in, mapped, named_in, rename_in, rmdir_in, unlink_in};
@@ -175,6 +175,17 @@ impl<S: FlushStore + Drop> Session<S> {
     {
         let _few = self.fs.index();
         self.store.flush(alloc)
+    }
+
+    /// Writes what is pending in so many waves at most, and answers how many that took, fewer only where nothing is pending any more. After a
+    /// refusal the session is of no more use.
+    pub fn flush_waves(&mut self, alloc: Global, most: u32) -> Result<u32, Refusal>
+        ensures fs { self.new.fs ≡ self.old.fs }
+        ensures keeps { KeepsVolumes (S.types_of self.old.store) (S.state_of self.old.store) (S.types_of self.new.store) (S.state_of self.new.store) }
+        ensures done { IfOk result (λ waves. waves < most → NothingPending (S.state_of self.new.store).lives) }
+    {
+        let _few = self.fs.index();
+        self.store.flush_waves(alloc, most)
     }
 
     /// How many entries of its file system are pending.

@@ -1,4 +1,4 @@
-// Lanes that write no more after some writes, as where the program is killed then.
+// Lanes for tests: they write no more after some writes, as where the program is killed then, and may be left without syncs.
 
 use disk::{BLOCK_LEN, DeviceFault, Lane, Lanes};
 use std::alloc::{AllocError, Global};
@@ -69,21 +69,23 @@ impl Stop {
         true
     }
 
-    /// The lanes of a disk, which are all at home, each stopped with the others.
+    /// The lanes of a disk, which are all at home, each stopped with the others. Without `is_synced` none makes a sync.
     pub fn lanes<L: Lane + Drop>(
         &self,
         alloc: Global,
         lanes: Lanes<L>,
-    ) -> Result<Lanes<StoppingLane<L>>, AllocError> {
+        is_synced: bool,
+    ) -> Result<Lanes<TestLane<L>>, AllocError> {
         let mut lanes = lanes;
         let blocks = lanes.blocks();
         let mut stopping = Lanes::new(alloc, blocks as u32)?;
         for block in 0..blocks as u32 {
             if let Some(lane) = lanes.take(block) {
                 let stop = self.again()?;
-                let _ = stopping.give(StoppingLane {
+                let _ = stopping.give(TestLane {
                     lane,
                     faults: 0,
+                    is_synced,
                     stop,
                 });
             }
@@ -92,32 +94,35 @@ impl Stop {
     }
 }
 
-/// A lane that fails where it is to write and no write is left.
-pub struct StoppingLane<L: Lane> {
+/// A lane for tests. It fails where it is to write and no write is left. One that makes no sync answers `Ok` to each: of such a disk a crash is the
+/// end of the program alone, after which the system still has what was written.
+pub struct TestLane<L: Lane> {
     lane: L,
     faults: u64,
+    is_synced: bool,
     stop: Stop,
 }
 
-impl<L: Lane> Model for StoppingLane<L> {
-    ghost use Rattle.xnfs_session.specs.Stopping.{StoppingValue};
+impl<L: Lane> Model for TestLane<L> {
+    ghost use Rattle.xnfs_session.specs.Stopping.{TestLaneValue};
 
-    ghost Value = { StoppingValue L };
+    ghost Value = { TestLaneValue L };
 
-    ghost view = { λ a. record { lane = a.lane; faults = a.faults } };
+    ghost view = { λ a. record { lane = a.lane; faults = a.faults; is_synced = a.is_synced } };
 }
 
-impl<L: Lane + Drop> Drop for StoppingLane<L> {
+impl<L: Lane + Drop> Drop for TestLane<L> {
     fn drop(self) {
-        let StoppingLane {
+        let TestLane {
             lane: _,
             faults: _,
+            is_synced: _,
             stop: _,
         } = self;
     }
 }
 
-impl<L: Lane> StoppingLane<L> {
+impl<L: Lane> TestLane<L> {
     ghost use Rattle.std.specs.Prelude.{◌≡◌, OnOk, OnErr, Result};
     ghost use Rattle.disk.specs.Lanes.{CountsOne};
 
@@ -125,6 +130,7 @@ impl<L: Lane> StoppingLane<L> {
     fn counted(&mut self, answer: Result<(), DeviceFault>) -> Result<(), DeviceFault>
         ensures same { result ≡ answer }
         ensures lane { self.new.lane ≡ self.old.lane }
+        ensures is_synced { self.new.is_synced ≡ self.old.is_synced }
         ensures ok { OnOk result (self.new.faults ≡ self.old.faults) }
         ensures err { OnErr result (CountsOne self.old.faults self.new.faults) }
     {
@@ -135,14 +141,16 @@ impl<L: Lane> StoppingLane<L> {
     }
 }
 
-impl<L: Lane> Lane for StoppingLane<L> {
+impl<L: Lane> Lane for TestLane<L> {
+    ghost use Rattle.xnfs_session.specs.Stopping.{leaves_where};
+
     ghost number_of = { λ a. L.number_of a.lane };
 
     ghost bytes_of = { λ a. L.bytes_of a.lane };
 
     ghost faults_of = { λ a. a.faults };
 
-    ghost crash_leaves = { λ a. L.crash_leaves a.lane };
+    ghost crash_leaves = { λ a. leaves_where a.is_synced (L.crash_leaves a.lane) (L.bytes_of a.lane) };
 
     ghost read_gives = { λ _ _ _. Unit };
 
@@ -172,7 +180,11 @@ impl<L: Lane> Lane for StoppingLane<L> {
         self.counted(answer)
     }
 
+    /// Makes none where the disk isn't to be synced.
     fn sync(&mut self) -> Result<(), DeviceFault> {
+        if !self.is_synced {
+            return Ok(());
+        }
         let answer = self.lane.sync();
         self.counted(answer)
     }

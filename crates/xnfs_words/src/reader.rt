@@ -31,6 +31,13 @@ fn stop<'a>(alloc: Global) -> Arg<'a> {
         .help("for tests: end before block write K + 1, as a kill would")
 }
 
+/// That a line makes no sync.
+fn no_sync<'a>(alloc: Global) -> Arg<'a> {
+    flag(alloc, "no-sync", None).help(
+        "for tests: sync nothing, so that a crash of the system may lose what was done",
+    )
+}
+
 /// A part of a command's line.
 fn part<'a>(alloc: Global, part: &Part) -> Arg<'a> {
     match *part {
@@ -115,6 +122,7 @@ pub fn disk_reader<'a>(alloc: Global) -> Result<Command<'a>, AllocError> {
         .arg(image)?
         .arg(file_system(alloc))?
         .arg(stop(alloc))?
+        .arg(no_sync(alloc))?
         .subcommands(commands(alloc, &LINE_FORMS)?)
 }
 

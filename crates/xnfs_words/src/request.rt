@@ -56,6 +56,8 @@ pub enum Request<'a> {
         fs: u8,
         /// After so many writes of blocks no further one is made.
         stop: Option<u32>,
+        /// Whether what is written is synced.
+        is_synced: bool,
         word: Word<'a>,
     },
 }
@@ -152,6 +154,7 @@ fn read_disk<'a>(alloc: Global, words: &'a [String]) -> Result<Option<Request<'a
     let image = value(&matches, "IMAGE");
     let fs = fs_of(&matches);
     let stop = matches.get_one::<u32>("stop");
+    let is_synced = !matches.get_flag("no-sync");
     let Some((name, found)) = matches.subcommand() else {
         return Ok(None);
     };
@@ -159,6 +162,7 @@ fn read_disk<'a>(alloc: Global, words: &'a [String]) -> Result<Option<Request<'a
         image,
         fs,
         stop,
+        is_synced,
         word,
     }))
 }

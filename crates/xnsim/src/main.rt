@@ -2,12 +2,14 @@
 // verifies programs.
 #![tactic(auto)]
 
+mod files;
+
+use files::SystemFiles;
 use std::alloc::Global;
 use std::io::BufWriter;
 use std::process::ExitCode;
 use std::thread::Threads;
 use std::{env, io};
-use system_files::SystemFiles;
 use xnsim_line::line;
 
 /// How many bytes of memory are taken and given back at the start, before anything else.

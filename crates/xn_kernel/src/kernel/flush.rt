@@ -113,6 +113,22 @@ impl<L: Lane> Kernel<L> {
         ensures err { IfErr result (λ stop. FlushRefuses L.bytes_of L.faults_of L.write_gives L.sync_gives L.read_gives self.old
             stop.waves stop.tickets.items stop.refusal self.new) }
     {
+        let most = self.all_pending();
+        self.flush_waves(alloc, most)
+    }
+
+    /// Writes what is pending in waves as `flush` does, so many at most, with its refusals. Answers how many that took, which are fewer only
+    /// where nothing is pending any more. After it nothing is in flight, and each wave made some entry durable.
+    pub fn flush_waves(&mut self, alloc: Global, most: u32) -> Result<u32, FlushStop<L>>
+        ensures waves { IfOk result (λ waves. Waves L.bytes_of L.faults_of L.write_gives L.sync_gives L.read_gives waves self.old self.new) }
+        ensures idle { OnOk result (IsIdle self.old.state.lives) }
+        ensures rests { OnOk result (IsIdle self.new.state.lives) }
+        ensures few { IfOk result (λ waves. waves ≤ most) }
+        ensures done { IfOk result (λ waves. waves < most → all_pending self.new.state.lives ≡ 0) }
+        ensures less { IfOk result (λ waves. all_pending self.new.state.lives + waves ≤ all_pending self.old.state.lives) }
+        ensures err { IfErr result (λ stop. FlushRefuses L.bytes_of L.faults_of L.write_gives L.sync_gives L.read_gives self.old
+            stop.waves stop.tickets.items stop.refusal self.new) }
+    {
         if self.is_busy() {
             return Err(FlushStop {
                 waves: 0,
@@ -127,7 +143,6 @@ impl<L: Lane> Kernel<L> {
                 refusal: Refusal::NoMemory,
             });
         };
-        let most = self.all_pending();
         for waves in 0..most {
             self.rules();
             let end = self.wave(WAVE_ROOM, &mut failed);

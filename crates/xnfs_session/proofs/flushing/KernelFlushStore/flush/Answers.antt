@@ -12,4 +12,4 @@ returns-clause-keeps g c =
 pub returns-clause-done : goal.returns-clause-done
 returns-clause-done g c =
     let left = c.flush-flushed.new.self.state.lives in
-    on_ok c.waves_of.result c.flush-flushed.result (all_pending left ≡ 0) (NothingPending left) c.waves_of.ensures c.flush-flushed.ensures.done (nothing_left left)
+    on_ok (λ stop. stop.refusal) c.waves_of.result c.flush-flushed.result (all_pending left ≡ 0) (NothingPending left) c.waves_of.ensures c.flush-flushed.ensures.done (nothing_left left)

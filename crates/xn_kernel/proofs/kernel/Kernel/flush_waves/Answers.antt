@@ -5,7 +5,7 @@ use Rattle.xn_state.specs.States.{own_types}
 use Rattle.xn_kernel.specs.Kernels.{KernelValue}
 use Rattle.xn_kernel.proofs.Draining.{idle_from}
 use Rattle.xn_kernel.proofs.Flushing.{none_begun, none_given_out, same_flights, less_pending, is_whole, waves_more, still_idle}
-use Rattle.xn_kernel.proofs.kernel.Kernel.flush.Goals as goal
+use Rattle.xn_kernel.proofs.kernel.Kernel.flush_waves.Goals as goal
 
 pub returns-in_default-clause-err : goal.returns-in_default-clause-err
 returns-in_default-clause-err g c =
@@ -26,7 +26,7 @@ loop-waves-init g c =
     }
 
 pub returns-then-end-eq0-clause-done : goal.returns-then-end-eq0-clause-done
-returns-then-end-eq0-clause-done g c =
+returns-then-end-eq0-clause-done g c early =
     let old = c.loop-waves.self in
     let none = none_begun g.L.Lane.bytes_of g.L.Lane.faults_of g.L.Lane.write_gives g.L.Lane.sync_gives g.L.Lane.read_gives c.wave-end.result.blocks 256 c.wave-end.result.durable old c.loop-waves.failed.items c.wave-end.new.self c.wave-end.new.failed.items
     c.if-end-eq0.true (omega arith) c.wave-end.ensures.wave in

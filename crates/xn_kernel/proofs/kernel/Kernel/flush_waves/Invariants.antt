@@ -2,7 +2,7 @@ use Rattle.std.proofs.Common.{◌≡◌, ◌+◌, ◌≤◌, [], vec_len, vec_ca
 use Rattle.xn_model.specs.Rules.{IsIdle}
 use Rattle.xn_model.specs.Worlds.{all_pending}
 use Rattle.xn_kernel.specs.Flushes.{Waves}
-use Rattle.xn_kernel.proofs.kernel.Kernel.flush.Given as goal
+use Rattle.xn_kernel.proofs.kernel.Kernel.flush_waves.Given as goal
 
 abbrev pub invariant-loop-waves : goal.invariant-loop-waves
 invariant-loop-waves g l = record {

@@ -1,20 +1,14 @@
-// Checks pseudo-random images of disks, many of them damaged, and prints how they were answered. The same are taken in each run.
-// `bench/reference_images.py` prints the same line: it is another implementation, written from the rules of images alone. Then two
-// disks of 32,768 blocks are checked, and the reports compared with what a plain loop says.
-#![tactic(auto)]
+// Checks of pseudo-random images of disks, many of them damaged, and of two disks of 32,768 blocks, whose reports are compared with what a plain
+// loop says.
 
-mod images;
-mod large;
-mod tally;
-
+use crate::images::{random_image, template_blocks};
+use crate::large::{Shape, chain_image, is_plain, tree_image};
+use crate::tally::Tally;
 use crash_check::check;
-use images::{random_image, template_blocks};
-use large::{Shape, chain_image, is_plain, tree_image};
 use pseudo_random::Numbers;
 use std::alloc::{AllocError, Global};
 use std::io;
 use std::thread::Threads;
-use tally::Tally;
 
 /// How many images are checked.
 const IMAGES: usize = 10_000;
@@ -52,12 +46,12 @@ fn print_shape(
     println!(rt; "{name} of {reached} blocks as a plain loop has it: {same}")
 }
 
-fn main(rt: HostRuntime) -> io::Result<()> {
-    let alloc = rt.alloc();
-    let tally = check_all(&rt, alloc)?;
+/// Checks all images, and prints how they were answered.
+pub fn print_images(rt: &(impl Threads + Print + Sync), alloc: Global) -> io::Result<()> {
+    let tally = check_all(rt, alloc)?;
     let (images, sound) = (tally.images, tally.sound);
     let (reached, hash) = (tally.reached, tally.hash);
     println!(rt; "images {images} sound {sound} reached {reached} hash {hash:#x}")?;
-    print_shape(&rt, alloc, "chain", &chain_image(alloc)?, Shape::Chain)?;
-    print_shape(&rt, alloc, "tree", &tree_image(alloc)?, Shape::Tree)
+    print_shape(rt, alloc, "chain", &chain_image(alloc)?, Shape::Chain)?;
+    print_shape(rt, alloc, "tree", &tree_image(alloc)?, Shape::Tree)
 }
