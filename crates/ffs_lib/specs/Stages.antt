@@ -130,7 +130,8 @@ found_stages files d name other new_name both =
 abbrev pub renamed_stages : Files → ℕ → List ℕ → ℕ → List ℕ → Stages
 renamed_stages files d name other new_name = stages_of (both_directories files d name other new_name) (found_stages files d name other new_name)
 
--- A link more of the inode that the first entry names; the second entry names it, too; the first is cleared, and that link taken; then a link of the former one.
+-- A link more of the inode that the first entry names; the second entry names it, too; the first is cleared, and that link taken; then a link of the
+-- former one.
 abbrev pub turned_stages : Files → ℕ → (ℕ × ℕ) × ℕ → ℕ → List ℕ → (ℕ × ℕ) × ℕ → Stages
 turned_stages files d from other other_name to =
     let linked = with_link files from.1 in

@@ -10,7 +10,8 @@ ghost use Rattle.ffs_lib.specs.Results.{AsBefore};
 
 /// An inode that has a name keeps its mode, its size, its bytes and its entries where inodes are reclaimed, also where the store refuses that.
 pub fn named_inodes_stay()
-    ensures { (old new : ℕ → List ℕ) (fs n : ℕ) → LeftByRepair old new fs n (needs (files_of old fs) n) → name_count (files_of old fs) n ≢ 0 → AsBefore old new fs n }
+    ensures { (old new : ℕ → List ℕ) (fs n : ℕ) → LeftByRepair old new fs n (needs (files_of old fs) n) → name_count (files_of old fs) n ≢ 0 →
+        AsBefore old new fs n }
 {}
 
 /// Where no inode has more names than links, in any contents, the names of the file system are good: each inode that is named is in
