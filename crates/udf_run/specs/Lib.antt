@@ -1,4 +1,5 @@
 pub mod Meaning
+pub mod Openings
 pub mod Safe
 pub mod Remains
 pub mod ReadSets

@@ -5,6 +5,7 @@
 
 mod blocks;
 pub mod law;
+mod opening;
 pub mod pair;
 pub mod reads;
 pub mod run;
