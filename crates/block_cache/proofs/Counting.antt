@@ -39,10 +39,6 @@ module _ (f : Option CachedLife → ℕ) (free : f None ≡ 0) where
   sum-new (o ∷ os) zero x = omega arith
   sum-new (o ∷ os) (suc b) x = sum-new os b x
 
-  pub sum-free : (n : ℕ) → sum_by f (replicate n None) ≡ 0
-  sum-free zero = refl
-  sum-free (suc n) = omega (arith, free, sum_by-cons f None (replicate n None), sum-free n)
-
   pub sum-same : (places : List (Option CachedLife)) (b : ℕ) (x : Option CachedLife) → f x ≡ f (place_at places b) → sum_by f (slice_set places b x) ≡ sum_by f places
   sum-same [] b x same = refl
   sum-same (o ∷ os) zero x same = omega (arith, sum_by-cons f x os, sum_by-cons f o os, same)
@@ -60,9 +56,6 @@ few_in_flight (o ∷ os) = omega (arith, sum_by-cons in_flight_of o os, one o, f
     one : (o : Option CachedLife) → in_flight_of o ≤ 1
     one None = omega arith
     one (Some l) = small (is_some l.begun)
-
-pub totals_free : (n : ℕ) → record { pending = 0; in_flight = 0 } ≡ totals_of (replicate n None)
-totals_free n = λ i. record { pending = sym (sum-free pending_count refl n) i; in_flight = sym (sum-free in_flight_of refl n) i }
 
 -- what a change of the counts needs, and what it leaves
 pub record IsExchange (totals before after : Totals) (new : List (Option CachedLife)) : Type 0 where

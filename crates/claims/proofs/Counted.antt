@@ -145,12 +145,6 @@ one_counted counts lives n there h = record {
       omega (arith, here, more, life, was);
 }
 
-pub all_counted : (counts : List ℕ) (lives : Lives) (n : ℕ) → length lives ≤ n → AreCountedTo counts lives n → AreOwnedCounts counts lives
-all_counted counts lives n all h = record {
-  long = h.long;
-  each = λ b within. h.each b within ∙ ap (λ ls. owned_count ls b) (take_all n lives all);
-}
-
 -- a count so far is small
 pub few_counted : (counts : List ℕ) (lives : Lives) (n : ℕ) → n < length lives → AreCountedTo counts lives n → (b : ℕ) → slice_index counts b < length lives
 few_counted counts lives n there h b = elim (cases_lt b (length lives)) [

@@ -204,21 +204,6 @@ accepted_nobody lives oldest b s nobody are = fewer_oldest lives (accepted_at li
 
 -- A number is moved on
 
-pub moved_oldest : (lives : Lives) (oldest : List ℕ) (f x : ℕ) → f < length oldest → AreOldest lives oldest → ((n b : ℕ) → pends_for f n (life_at lives b) ≡ true → slice_index oldest f ≤ n → x ≤ n) →
-    AreOldest lives (slice_set oldest f x)
-moved_oldest lives oldest f x within are on fs n b few here = elim (cases_eq fs f) [
-  | inl same ↦
-      let now : slice_index (slice_set oldest f x) fs ≡ x = ap (slice_index (slice_set oldest f x)) same ∙ get_or-set_same oldest f x 0 within in
-      let bound = are fs n b few here in
-      let at = ap (slice_index oldest) same in
-      let le = on n b (ap (λ (y : ℕ). pends_for y n (life_at lives b)) (sym same) ∙ here) (omega (arith, bound, at)) in
-      omega (arith, now, le)
-  | inr apart ↦
-      let now : slice_index (slice_set oldest f x) fs ≡ slice_index oldest fs = get_or-set_other oldest f fs x 0 apart in
-      let le = are fs n b few here in
-      omega (arith, now, le)
-]
-
 -- At first
 
 zeros : (k i : ℕ) → slice_index (replicate k 0) i ≡ 0

@@ -56,10 +56,6 @@ pub safe_all : (lives : Lives) (o : Option Life) (k : ℕ) → life_pending o �
 safe_all lives None k all = refl
 safe_all lives (Some l) k all = ap (safe_count lives l.ty (take k l.pending)) (drop_all k l.pending all)
 
-pub tainted_is : (lives : Lives) (o : Option Life) → is_tainted lives o ≡ nat_lt (prefix_of lives o) (life_pending o)
-tainted_is lives None = refl
-tainted_is lives (Some l) = refl
-
 pub none_pending : (states : List BlockState) → no_states states ≡ (length states == 0)
 none_pending [] = refl
 none_pending (s ∷ states) = sym (ne_eqb (length (s ∷ states)) 0 (λ e. absurd (omega (arith, e))))

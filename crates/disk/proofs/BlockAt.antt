@@ -18,9 +18,6 @@ pub block_at-take : (image : List ℕ) (n k : ℕ) → 512 * k + 512 ≤ n → n
 block_at-take image n k h long =
     sym (block_at-append_front (take n image) (drop n image) k (grind (arith, common_steps))) ∙ ap (λ xs. block_of_image xs k) (take-append-drop n image)
 
-pub length-block_at : (image : List ℕ) (k : ℕ) → 512 * k + 512 ≤ length image → length (block_of_image image k) ≡ 512
-length-block_at image k h = grind (arith, common_steps)
-
 -- a byte of an image stands in its block
 pub get_or-block_at : (image : List ℕ) (k i : ℕ) → i < 512 → get_or (block_of_image image k) i 0 ≡ get_or image (512 * k + i) 0
 get_or-block_at image k i h =
@@ -41,12 +38,6 @@ block_at-same a b n la lb same = ext_get_or 0 a b (la ∙ sym lb) (λ i h.
 pub length-blocks_of : (image : List ℕ) → length (image_blocks image) ≡ length image / 512
 unfolding image_blocks
 length-blocks_of image = length-map-range_with_len (block_of_image image) 0 (length image / 512)
-
-pub slice_get-blocks_of : (image : List ℕ) (k : ℕ) → k < length image / 512 → slice_get (image_blocks image) k ≡ Some (block_of_image image k)
-unfolding image_blocks
-slice_get-blocks_of image k h =
-    slice_get-get_or (image_blocks image) k (block_of_image image k) (rw (length-blocks_of image) h)
-    ∙ ap Some (get_or-map-range_with_len (block_of_image image) 0 (length image / 512) k k (block_of_image image k) h (omega arith))
 
 -- a block written into an image: that block is the new one, and all others stay
 pub length-with_block : (image : List ℕ) (k : ℕ) (bytes : List ℕ) → 512 * k + 512 ≤ length image → length bytes ≡ 512

@@ -24,35 +24,6 @@ HoldsBytes-fresh image places x = record {
   each = λ k h. (fresh_lane k (block_of_image image k), x.each k h, refl);
 }
 
--- a lane that comes to a place brings its bytes into the image, and all other blocks stay
-pub HoldsBytes-set : {L : Type 0} (bytes_of : L → List ℕ) (places : List (Option L)) (image : List ℕ) (k : ℕ) (lane : L)
-    → HoldsBytes bytes_of places image → k < length places → length (bytes_of lane) ≡ 512
-    → HoldsBytes bytes_of (slice_set places k (Some lane)) (image_with_block image k (bytes_of lane))
-HoldsBytes-set bytes_of places image k lane held within long =
-    let whole = held.whole in
-    let fits : 512 * k + 512 ≤ length image = omega arith in
-    record {
-      whole = length-with_block image k (bytes_of lane) fits long ∙ (whole ∙ ap (λ n. 512 * n) (sym (length-set places k (Some lane))));
-      each = λ j h.
-          let below : j < length places = omega (arith, length-set places k (Some lane)) in
-          elim (cases_eq j k) [
-            | inl same ↦ (
-              lane,
-              ap (slice_get (slice_set places k (Some lane))) same ∙ slice_get-set_same places k (Some lane) within,
-              sym (ap (block_of_image (image_with_block image k (bytes_of lane))) same ∙ block_at-with_block_same image k (bytes_of lane) fits long),
-            )
-            | inr other ↦ let p = held.each j below in
-                (p.0, slice_get-set_other places k j (Some lane) other ∙ p.1, p.2 ∙ sym (block_at-with_block_other image k j (bytes_of lane) fits long other))
-          ];
-    }
-
--- a lane at home holds its block of the image
-pub HoldsBytes-at : {L : Type 0} (bytes_of : L → List ℕ) (places : List (Option L)) (image : List ℕ) (k : ℕ) (lane : L)
-    → HoldsBytes bytes_of places image → slice_get places k ≡ Some (Some lane) → bytes_of lane ≡ block_of_image image k
-HoldsBytes-at bytes_of places image k lane held here =
-    let p = held.each k (slice_get_within places k (Some lane) here) in
-    ap bytes_of (same_Some lane p.0 (same_Some (Some lane) (Some p.0) (sym here ∙ p.1))) ∙ p.2
-
 -- where a place is empty the lanes hold no image
 pub HoldsBytes-missing : {L : Type 0} (bytes_of : L → List ℕ) (places : List (Option L)) (image : List ℕ)
     → Contains places None → HoldsBytes bytes_of places image → ⊥

@@ -57,27 +57,6 @@ edit_claims T state fs b e bytes made =
 
 -- Roots
 
-pub root_claims : (state : StoreState) (fs b : ℕ) (plan : List ℕ × ℕ) → make_root_plan state fs b ≡ Ok plan → MayClaim state.lives 0 ((b, plan.1) ∷ []) []
-root_claims state fs b plan made =
-    let own = own_then state fs b (make_root_plan_at state fs b) plan made in
-    let l : Life = own.0 in
-    let tests = unless_ok (
-    (not ((slot_now state fs).0 == 0), RootTaken)
-    ∷ (not (is_fresh l.status), NotFresh)
-    ∷ (too_many state fs (life_pending (life_at state.lives 0)), TooManyPending)
-    ∷ (exhausted state, Exhausted)
-    ∷ []) (Ok (with_slot (root_now state) fs (b, l.ty), l.ty)) plan own.2 in
-    let fresh = not-false (is_fresh l.status) tests.0.1.0 in
-    record {
-      fresh = λ c i. elim (Contains-cons b [] c i) [
-        | inl e ↦ ap (λ x. alive_and (λ m. is_fresh m.status) (life_at state.lives x)) (sym e) ∙ (ap (alive_and (λ m. is_fresh m.status)) own.1.alive ∙ fresh)
-        | inr none ↦ absurd (Contains-none c none)
-      ];
-      added_once = refl;
-      owned = λ c i. absurd (Contains-none c i);
-      dropped_once = refl;
-    }
-
 -- what a root slot names, block 0 owns
 slot_owned : (T : Types) (state : StoreState) (fs : ℕ) → IsConsistent T state → fs < 32 → ((slot_now state fs).0 ≡ 0 → ⊥) →
     alive_and (λ l. is_owned_by 0 l.status) (life_at state.lives (slot_now state fs).0) ≡ true
@@ -113,19 +92,6 @@ drop_claims T state fs plan h few made =
     }
 
 -- A block that is forgotten
-
-pub forgotten_unowned : (T : Types) (state : StoreState) (fs b : ℕ) (done : Unit {0}) → forget_plan T state fs b ≡ Ok done → IsUnowned (life_at state.lives b)
-forgotten_unowned T state fs b done plan =
-    let own = own_then state fs b (forget_plan_at T) done plan in
-    let l : Life = own.0 in
-    let tests = unless_ok (
-    (not (is_fresh l.status), NotFresh)
-    ∷ (not (owns_nothing T l.ty (current l)), NotEmpty)
-    ∷ (not (is_untouched l), TooManyPending)
-    ∷ (is_some l.begun, InFlight)
-    ∷ []) (Ok tt) done own.2 in
-    let fresh = fresh_from l.status (not-false (is_fresh l.status) tests.0.0) in
-    λ a. ap (alive_and (λ m. is_owned_by a m.status)) own.1.alive ∙ ap (is_owned_by a) fresh
 
 -- Blocks that own nothing
 

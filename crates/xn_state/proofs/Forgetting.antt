@@ -25,10 +25,6 @@ own_is state fs b l e =
     let own = own_then state fs b (λ m. Ok m) l (ap (result_and_then (λ m. Ok m)) e) in
     subst (IsOwn state.lives fs b) (same_ok own.0 l own.2) own.1
 
--- it has a place
-pub own_within : (state : StoreState) (fs b : ℕ) (l : Life) → own_life state fs b ≡ Ok l → b < length state.lives
-own_within state fs b l e = slice_get_within state.lives b (Some l) (place_from state.lives b l (own_is state fs b l e).alive)
-
 -- and there is such a type
 pub own_installed : (T : Types) (state : StoreState) (fs b : ℕ) (l : Life) → IsConsistent T state → own_life state fs b ≡ Ok l → IsTrue (T.installed l.ty)
 own_installed T state fs b l h e = (h.linked b l (own_is state fs b l e).alive).installed
@@ -61,13 +57,6 @@ pub forgotten_keeps : (T : Types) (lives : Lives) (next fs b : ℕ) (done : Unit
 forgotten_keeps T lives next fs b done h e =
     let state = state_of lives next in
     forget_keeps T state h fs b tt (state_of (slice_set lives b None) next) (planned T state b (own_life state fs b) done e)
-
-pub facts_installed : (T : Types) (state : StoreState) (b : ℕ) (facts : Facts) → IsConsistent T state → Some facts ≡ option_map facts_of (life_at state.lives b) → IsTrue (T.installed facts.ty)
-facts_installed T state b facts h e = by (life_at state.lives b) refl e
-  where
-    by : (o : Option Life) → life_at state.lives b ≡ o → Some facts ≡ option_map facts_of o → IsTrue (T.installed facts.ty)
-    by None alive e = absurd (none-some facts (sym e))
-    by (Some l) alive e = subst (λ t. IsTrue (T.installed t)) (sym (ap (λ (f : Facts). f.ty) (same_Some facts (facts_of l) e))) (h.linked b l alive).installed
 
 pub own_facts_installed : (T : Types) (state : StoreState) (fs b : ℕ) (facts : Facts) → IsConsistent T state → Ok facts ≡ result_map facts_of (own_life state fs b) → IsTrue (T.installed facts.ty)
 own_facts_installed T state fs b facts h e =

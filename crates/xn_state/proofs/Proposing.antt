@@ -47,13 +47,6 @@ edit_continues state fs b e bytes h made =
     let new = (accepts state b (accepted_entry state fs bytes e.adds e.drops e.after)).1 in
     continues state new (propose_keeps (own_types state) state h fs b e state.next new (edit_made (own_types state) state fs b e bytes made))
 
--- the bytes that it leaves
-pub bytes_made : (T : Types) (state : StoreState) (fs b : ℕ) (e : Edit) (bytes : List ℕ) → proposed_of T state fs b e ≡ Ok bytes → bytes ≡ patched (life_bytes (life_at state.lives b)) e.patches
-bytes_made T state fs b e bytes made =
-    let own = own_then state fs b (proposed_at T state fs b e) bytes made in
-    let same = given_ok (propose_refusal T state fs b e own.0) (Ok (patched (current own.0) e.patches)) bytes own.2 in
-    sym (same_ok (patched (current own.0) e.patches) bytes same) ∙ ap (λ o. patched (life_bytes o) e.patches) (sym own.1.alive)
-
 pub newest_bytes : (lives : Lives) (b : ℕ) (old : List ℕ) → Some old ≡ option_map current (life_at lives b) → life_bytes (life_at lives b) ≡ old
 newest_bytes lives b old e = by (life_at lives b) e
   where

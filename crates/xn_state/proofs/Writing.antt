@@ -52,14 +52,6 @@ begun_of_place state b = by (begun_place state.lives (slice_get state.lives b))
     by (Ok given) = refl
     by (Err refusal) = refl
 
--- and where it may not begin
-pub begun_refused : (state : StoreState) (b : ℕ) (refusal : Refusal) → result_map (λ (begun : (List ℕ × ℕ) × StoreState). begun.0.1) (begun_of state b) ≡ Err refusal → begun_of state b ≡ Err refusal
-begun_refused state b refusal e = by (begun_of state b) e
-  where
-    by : (r : Result ((List ℕ × ℕ) × StoreState) Refusal) → result_map (λ (begun : (List ℕ × ℕ) × StoreState). begun.0.1) r ≡ Err refusal → r ≡ Err refusal
-    by (Ok given) e = cc
-    by (Err other) e = cc
-
 -- how many entries are durable once bytes are read back
 pub settled_is : (bytes : List ℕ) (p : Option (Option Life)) (facts : Facts) (count : ℕ) (here durable : Bool) → Some facts ≡ option_map facts_of (unwrap_or p None) →
     IsCount facts.begun facts.pending → facts.begun ≡ Some count → here ≡ alive_and (λ l. bytes_eq bytes (image_at count l)) (unwrap_or p None) →
@@ -73,21 +65,3 @@ settled_is bytes (Some (Some l)) facts count here durable e some begun h d =
     let counted = let P : Option ℕ → Type 0 = λ o. IsCount o facts.pending in subst P begun some in
     let landed = h ∙ ap (bytes_eq bytes) (image_of_some l count counted.0 (omega (arith, counted.1, pending))) in
     ap (settled_count l bytes) carries ∙ (λ i. if sym landed i then Ok count else if sym d i then Ok 0 else Err NotMine)
-
--- bytes that may be the durable ones
-pub durable_image : (bytes : List ℕ) (o : Option Life) (facts : Facts) → Some facts ≡ option_map facts_of o → facts.is_durable ≡ true →
-    alive_and (λ l. bytes_eq bytes (image_at 0 l)) o ≡ alive_and (λ l. is_durable bytes l.durable) o
-durable_image bytes None facts e some = refl
-durable_image bytes (Some l) facts e some = by l.durable (sym (ap (λ (f : Facts). f.is_durable) (same_Some facts (facts_of l) e)) ∙ some)
-  where
-    by : (o : Option BlockState) → is_some o ≡ true → bytes_eq bytes (bytes_of o) ≡ is_durable bytes o
-    by None h = absurd (false≢true h)
-    by (Some s) h = refl
-
-pub any_bytes : (bytes : List ℕ) (o : Option Life) (facts : Facts) → Some facts ≡ option_map facts_of o → facts.is_durable ≡ false → true ≡ alive_and (λ l. is_durable bytes l.durable) o
-any_bytes bytes None facts e none = absurd (none-some facts (sym e))
-any_bytes bytes (Some l) facts e none = by l.durable (sym (ap (λ (f : Facts). f.is_durable) (same_Some facts (facts_of l) e)) ∙ none)
-  where
-    by : (o : Option BlockState) → is_some o ≡ false → true ≡ is_durable bytes o
-    by None h = refl
-    by (Some s) h = absurd (false≢true (sym h))
