@@ -13,8 +13,8 @@ use Rattle.block_cache.specs.declared.life.Facts.{Facts}
 use Rattle.block_cache.specs.Views.{facts_of}
 use Rattle.block_cache.specs.Claims.{ClaimValue, claim_of}
 use Rattle.block_set.specs.Members.{HasNoneFrom, IsLeastFrom}
-use Rattle.wait_lists.specs.Waiting.{at, Releases}
-use Rattle.wait_lists.proofs.ForCallers.{at_other, at_same, within}
+use Rattle.dependencies.specs.WaitLists.{at, Releases}
+use Rattle.dependencies.proofs.WaitChains.{at_other, at_same, within}
 use Rattle.dependencies.specs.Candidates.{AreCandidates, CandidatesValue, IsAccounted, Parks, Wakes, is_candidate, is_idle_with_entries}
 use Rattle.dependencies.specs.Pending.{pends}
 use Rattle.dependencies.specs.Safety.{is_claim_safe, is_safe_at, life_type}

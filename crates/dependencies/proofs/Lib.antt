@@ -1,3 +1,4 @@
+pub mod WaitChains
 pub mod Numbered
 pub mod Prefixes
 pub mod Places

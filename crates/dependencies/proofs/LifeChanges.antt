@@ -11,7 +11,7 @@ use Rattle.xn_model.specs.Calls.{life_pending, new_life}
 use Rattle.xn_model.proofs.ForCallers.{Contains-head, Contains-tail, accepted, accepted_is, change_same, each_at, place_from, set_other}
 use Rattle.block_cache.specs.Claims.{ClaimValue}
 use Rattle.block_cache.proofs.ForCallers.{pointer_none}
-use Rattle.wait_lists.specs.Waiting.{at}
+use Rattle.dependencies.specs.WaitLists.{at}
 use Rattle.dependencies.specs.Candidates.{AreCandidates, CandidatesValue, IsAccounted, Wakes, is_candidate, is_idle_with_entries, with_candidate}
 use Rattle.dependencies.specs.Pending.{is_dirty, pends}
 use Rattle.dependencies.specs.Waiting.{Misses, first_of, has_state, is_newest_written}

@@ -3,7 +3,7 @@ use Rattle.std.specs.Prelude.{◌≡◌, ℕ, ◌<◌, ◌≤◌, Bool, true, fa
 use Rattle.std.specs.Prelude.{slice_index_or, slice_set}
 use Rattle.xn_model.specs.Lives.{Life, Lives, alive_and, life_at, no_states}
 use Rattle.block_set.specs.Members.{is_member}
-use Rattle.wait_lists.specs.Waiting.{at}
+use Rattle.dependencies.specs.WaitLists.{at}
 use Rattle.dependencies.specs.Waiting.{WaitsFor}
 
 pub record CandidatesValue : Type 0 where

@@ -10,3 +10,4 @@ pub mod Counts
 pub mod Index
 pub mod Unmet
 pub mod Awaits
+pub mod WaitLists

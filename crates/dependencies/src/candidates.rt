@@ -2,18 +2,18 @@
 
 ghost use Rattle.std.specs.Prelude.{◌≡◌, ◌<◌, ◌≤◌, ◌⊎◌, true, false, cond, count_by, is_some, length, map, replicate, None, IfOk, IfSome, IfNone, IsTrue};
 ghost use Rattle.block_set.specs.Members.{IsLeastFrom, HasNoneFrom, is_member};
-ghost use Rattle.wait_lists.specs.Waiting.{at};
+ghost use Rattle.dependencies.specs.WaitLists.{at};
 ghost use Rattle.dependencies.specs.Candidates.{AreCandidates, CandidatesValue, IsTrimmed, Parks, Wakes, with_candidate};
 ghost use Rattle.dependencies.specs.Homes.{AreHomes};
 ghost use Rattle.dependencies.specs.Pending.{is_dirty};
 
 use crate::homes::Homes;
+use crate::wait_lists::WaitLists;
 use crate::waiting::waits_for;
 use block_cache::Cache;
 use block_set::BlockSet;
 use std::alloc::{AllocError, Global};
 use std::marker::Model;
-use wait_lists::WaitLists;
 
 /// The blocks of which a write may begin, and perhaps more. A block whose first entry waits for another block is on the list of
 /// that one, and is looked at again once a write of it has ended: so no call looks at each block that waits.

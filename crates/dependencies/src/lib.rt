@@ -10,6 +10,7 @@ mod index;
 pub mod law;
 mod oldest;
 mod safe;
+mod wait_lists;
 mod waiting;
 
 pub use counts::TakenOut;

@@ -1,3 +1,4 @@
+pub mod TemplatesRead
 pub mod ScriptRuns
 pub mod SpelledLines
 pub mod BlockWrites

@@ -8,13 +8,13 @@ use Rattle.xnsim_words.specs.declared.invocation.Invocation.TheVariants.{Bare, F
 use Rattle.xnsim_words.specs.declared.fault.Fault.{Fault}
 use Rattle.xnsim_words.specs.declared.fault.Fault.TheVariants.{Usage, CannotRead, Unreadable, Image, CannotWrite, NoMemory, Program, Owns, Size, Template}
 use Rattle.xnsim_words.specs.declared.fault.Fault.TheVariants.{TooManyTemplates, TooManyWords, Stream}
-use Rattle.xnsim_programs.specs.Assembling.{IsTemplateFault, PrintsTemplate}
+use Rattle.xnsim_line.specs.Assembling.{IsTemplateFault, PrintsTemplate}
 use Rattle.udf_verify.specs.declared.fault.Role.{Role}
 use Rattle.xnsim_words.specs.Files.{Held, IsHeld, with_file}
-use Rattle.xnsim_programs.specs.Formatting.{IsSomeFault, IsTooMany, PrintsMade}
+use Rattle.xnsim_line.specs.Formatting.{IsSomeFault, IsTooMany, PrintsMade}
 use Rattle.xnsim_line.specs.Checking.{IsVerdict, PrintsChecked}
 use Rattle.xnsim_words.specs.Lines.{IsLine, IsNoLine}
-use Rattle.xnsim_programs.specs.Programs.{IsProgramFault, PrintsAccepted}
+use Rattle.xnsim_line.specs.Programs.{IsProgramFault, PrintsAccepted}
 use Rattle.xnsim_line.specs.Runs.{fresh_world, IsPrintedRun}
 use Rattle.xnsim_line.specs.Stops.{IsAskedRun}
 use Rattle.script.specs.Scripts.{IsFirstUnreadable, IsScript}

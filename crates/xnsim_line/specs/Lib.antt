@@ -1,6 +1,9 @@
 pub use Rattle.xnsim_words.specs.Files
 pub use Rattle.xnsim_words.specs.Lines
 pub mod Checking
+pub mod Programs
+pub mod Assembling
+pub mod Formatting
 pub mod Runs
 pub mod Stops
 pub mod Done

@@ -5,10 +5,13 @@ ghost use Rattle.std.specs.Str.{IsUtf8};
 ghost use Rattle.std.specs.Io.KnownBytes.{Appends};
 ghost use Rattle.xnsim_line.specs.Done.{IsFaultOf, IsLineDone, IsLineFault, PrintsAssembled, PrintsMounted, PrintsReplies, PrintsVerified};
 ghost use Rattle.xnsim_line.specs.Checking.{PrintsChecked};
-ghost use Rattle.xnsim_programs.specs.Formatting.{made_line, PrintsMade};
+ghost use Rattle.xnsim_line.specs.Formatting.{made_line, PrintsMade};
 ghost use Rattle.xnsim_words.specs.Lines.{IsNoLine};
 
+use crate::assembling::{make_template, print_template};
 use crate::checking::print_report;
+use crate::formatting::{all_templates, made_image, read_files};
+use crate::program::verify_text;
 use crate::replay::{run_on_image, run_script};
 use crash_check::check;
 use disk::BLOCK_LEN;
@@ -19,9 +22,6 @@ use std::thread::Threads;
 use std::{io, str};
 use templates::{MAX_BLOCKS, MIN_BLOCKS, write_block};
 use udf_verify::Role;
-use xnsim_programs::{
-    all_templates, made_image, make_template, print_template, read_files, verify_text,
-};
 use xnsim_words::{Fault, Files, Invocation, Stop, read};
 
 /// How many bytes the image of the largest disk has.

@@ -6,8 +6,11 @@ ghost use Rattle.std.specs.Prelude.{◌≡◌, ◌≤◌, map, string_bytes};
 ghost use Rattle.xnsim_line.specs.Done.{IsLineDone};
 ghost use Rattle.xnsim_words.specs.Lines.{IsNoLine};
 
+mod assembling;
 mod checking;
 mod commands;
+mod formatting;
+mod program;
 mod replay;
 mod stopping;
 

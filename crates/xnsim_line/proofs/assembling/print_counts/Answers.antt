@@ -1,0 +1,5 @@
+use Rattle.std.proofs.lemmas.List.{append_assoc}
+use Rattle.xnsim_line.proofs.assembling.print_counts.Goals as goal
+
+pub returns : goal.returns
+returns g c = simp append_assoc c.writeln.ensures.bytes

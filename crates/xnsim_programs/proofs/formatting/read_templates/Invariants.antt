@@ -1,6 +1,0 @@
-use Rattle.std.proofs.Common.{take}
-use Rattle.xnsim_programs.specs.Formatting.{AreTemplates}
-use Rattle.xnsim_programs.proofs.formatting.read_templates.Given as goal
-
-abbrev pub invariant-loop-place : goal.invariant-loop-place
-invariant-loop-place l = AreTemplates (take l.place l.blocks) l.templates.items
