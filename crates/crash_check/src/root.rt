@@ -47,7 +47,8 @@ fn add_templates(
 ) -> Result<(), ImageFault>
     requires few { count ≤ 32768 }
     requires places { places ≤ 16 }
-    ensures { AnswersAs result (λ _. named.new.entries) (add_all (table_types table.now) count 0 named.old.entries (names_from (template_name root.now) 0 places)) }
+    ensures { AnswersAs result (λ _. named.new.entries)
+        (add_all (table_types table.now) count 0 named.old.entries (names_from (template_name root.now) 0 places)) }
 {
     for place in 0..places {
         add_some(named, table, count, pointer(root, place), 1, None)?;
@@ -84,7 +85,8 @@ fn add_some(
     fs: Option<u8>,
 ) -> Result<(), ImageFault>
     requires { count ≤ 32768 }
-    ensures { AnswersAs result (λ _. named.new.entries) (add_all (table_types table.now) count 0 named.old.entries (option_to_list (some_named fs (block, ty)))) }
+    ensures { AnswersAs result (λ _. named.new.entries)
+        (add_all (table_types table.now) count 0 named.old.entries (option_to_list (some_named fs (block, ty)))) }
 {
     if block == 0 {
         return Ok(());

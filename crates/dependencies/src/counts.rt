@@ -18,7 +18,8 @@ use free_map::FreeMap;
 pub fn discount(pending: &mut [u32; 32], cache: &Cache, block: u32, count: usize) -> Option<Fs>
     requires within { count ≤ life_pending (life_at cache.now block) }
     requires counted { (fs : ℕ) → fs < 32 → count_by (λ s. is_for fs s.fs) (first_pending count (life_at cache.now block)) ≤ slice_index pending.old fs }
-    ensures { (fs : ℕ) → fs < 32 → slice_index pending.new fs + count_by (λ s. is_for fs s.fs) (first_pending count (life_at cache.now block)) ≡ slice_index pending.old fs }
+    ensures { (fs : ℕ) → fs < 32 → slice_index pending.new fs + count_by (λ s. is_for fs s.fs) (first_pending count (life_at cache.now block))
+        ≡ slice_index pending.old fs }
 {
     let mut fs = None;
     for place in 0..count {
@@ -77,7 +78,8 @@ pub fn take_out(
 ) -> TakenOut
     requires within { count ≤ life_pending (life_at cache.now block) }
     requires counted { (fs : ℕ) → fs < 32 → count_by (λ s. is_for fs s.fs) (first_pending count (life_at cache.now block)) ≤ slice_index pending.old fs }
-    ensures pending { (fs : ℕ) → fs < 32 → slice_index pending.new fs + count_by (λ s. is_for fs s.fs) (first_pending count (life_at cache.now block)) ≡ slice_index pending.old fs }
+    ensures pending { (fs : ℕ) → fs < 32 → slice_index pending.new fs + count_by (λ s. is_for fs s.fs) (first_pending count (life_at cache.now block))
+        ≡ slice_index pending.old fs }
     ensures free { free.new ≡ given free.old (drops_of (first_pending count (life_at cache.now block))) }
     ensures drops { result.has_drops ≡ false → drops_of (first_pending count (life_at cache.now block)) ≡ [] }
 {

@@ -2,7 +2,8 @@ ghost use Rattle.std.specs.Prelude.{◌≡◌, ◌≢◌, IsErr, Contains, ◌�
 ghost use Rattle.std.specs.Prelude.{IfErr, IsOk, IsNone, IsSome, IfSome, ◌↔◌, slice_get, slice_set, slice_range, take, IsTrue, true, false};
 ghost use Rattle.disk.specs.Lanes.{CountsOne};
 ghost use Rattle.disk.specs.Images.{HoldsBytes, block_of_image};
-ghost use Rattle.disk.specs.Mem.{MemoryLane, AreFreshLanes, fresh_lane, read_failed, write_failed, sync_failed, synced, crashed_lane, memory_read, memory_write};
+ghost use Rattle.disk.specs.Mem.{MemoryLane, AreFreshLanes, fresh_lane, read_failed, write_failed, sync_failed};
+ghost use Rattle.disk.specs.Mem.{synced, crashed_lane, memory_read, memory_write};
 ghost use Rattle.disk.specs.Mem.{memory_sync, memory_leaves, IsGivenAfterFault};
 
 use crate::blocks::Blocks;

@@ -80,7 +80,8 @@ fn register_and_number(first: u8, second: u8, third: u8) -> Option<(Register, u1
 }
 
 fn register_and_turns(first: u8, second: u8, third: u8) -> Option<(Register, Turns)>
-    ensures { result ≡ when (is_register first && nat_le 1 (number_of_bytes second third) && nat_le (number_of_bytes second third) 512) (first, number_of_bytes second third) }
+    ensures { result ≡ when (is_register first && nat_le 1 (number_of_bytes second third) && nat_le (number_of_bytes second third) 512)
+        (first, number_of_bytes second third) }
 {
     let a = Register::new(first)?;
     let n = Turns::new(LittleEndian::read_u16(&[second, third]))?;

@@ -13,7 +13,8 @@ ghost use Rattle.xn_model.specs.Rules.{Holds, IsInFileSystem};
 ghost use Rattle.xn_model.specs.Rows.{first_row, dropped_row, landed_row, lost_row, installed_row};
 ghost use Rattle.xn_history.specs.Histories.{History, Histories, newest_bytes, histories_after};
 ghost use Rattle.xn_history.specs.Moments.{RunWhere, Anything, IsMoment, AreHistoriesOf};
-ghost use Rattle.xn_history.specs.Promises.{IsReached, EveryImageHas, HoldsAccepted, ImageHolds, StaysTold, LivesOn, IsForgotten, IsDropped, IsLost, IsNamedChain};
+ghost use Rattle.xn_history.specs.Promises.{IsReached, EveryImageHas, HoldsAccepted, ImageHolds, StaysTold};
+ghost use Rattle.xn_history.specs.Promises.{LivesOn, IsForgotten, IsDropped, IsLost, IsNamedChain};
 ghost use Rattle.xn_history.specs.Promises.{Spares, LeavesAlone, IsNoEditBy, IsTold, IsWithoutCrash, AreToldBelow};
 ghost use Rattle.xn_history.specs.Rows.{row_leaves};
 

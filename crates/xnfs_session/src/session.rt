@@ -214,7 +214,8 @@ impl<S: FlushStore + Drop> Session<S> {
     /// The names in a directory and their inodes, in the order of its blocks.
     pub fn list(&self, alloc: Global, directory: u16) -> Result<Vec<(Vec<u8>, u16)>, FfsFault>
         ensures value { MatchResult result
-            (λ names. Ok (map (λ name. (name.0.items, name.1)) names.items) ≡ listed (files_of (newest_block (S.state_of self.now.store)) self.now.fs) directory)
+            (λ names. Ok (map (λ name. (name.0.items, name.1)) names.items)
+            ≡ listed (files_of (newest_block (S.state_of self.now.store)) self.now.fs) directory)
             (λ fault. ((fault ≡ FfsFault.Kernel Refusal.NoMemory) × IsOk (listed (files_of (newest_block (S.state_of self.now.store)) self.now.fs) directory))
             ⊎ (Err fault ≡ listed (files_of (newest_block (S.state_of self.now.store)) self.now.fs) directory)) }
     {
@@ -224,7 +225,8 @@ impl<S: FlushStore + Drop> Session<S> {
     /// Reads a file from an offset on, and answers how many bytes there were.
     pub fn read(&self, inode: u16, offset: u32, bytes: &mut [u8]) -> Result<usize, FfsFault>
         ensures value { result ≡ mapped length (read (files_of (newest_block (S.state_of self.now.store)) self.now.fs) inode offset (length bytes.old)) }
-        ensures bytes { bytes.new ≡ read_over bytes.old (read (files_of (newest_block (S.state_of self.now.store)) self.now.fs) inode offset (length bytes.old)) }
+        ensures bytes { bytes.new ≡ read_over bytes.old (read (files_of (newest_block (S.state_of self.now.store)) self.now.fs)
+            inode offset (length bytes.old)) }
     {
         self.volume.read(&self.store, inode, offset, bytes)
     }

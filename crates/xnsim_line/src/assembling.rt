@@ -38,7 +38,8 @@ fn print_counts<W: Write>(out: &mut W, owns: usize, size: usize) -> io::Result<(
 
 /// Says what was made, with the counts of words.
 pub fn print_template<W: Write>(out: &mut W, template: &Template) -> io::Result<()>
-    ensures { OnOk result (Appends (W.contents out.old) (W.contents out.new) (template_line (length template.now.owns.words) (length template.now.size.words))) }
+    ensures { OnOk result (Appends (W.contents out.old) (W.contents out.new)
+        (template_line (length template.now.owns.words) (length template.now.size.words))) }
 {
     print_counts(
         out,

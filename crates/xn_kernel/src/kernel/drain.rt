@@ -43,7 +43,8 @@ impl<L: Lane> Kernel<L> {
     fn round(&mut self, block: u32) -> Result<(), Option<Ticket<L>>>
         requires picked { pick_of self.old.state ≡ Some block }
         ensures ok { OnOk result (Round L.bytes_of L.faults_of L.write_gives L.sync_gives L.read_gives self.old self.new) }
-        ensures err { IfErr result (λ ticket. StopsAtDevice L.bytes_of L.faults_of L.write_gives L.sync_gives L.read_gives self.old ticket Refusal.Device self.new) }
+        ensures err { IfErr result (λ ticket. StopsAtDevice L.bytes_of L.faults_of L.write_gives L.sync_gives L.read_gives
+            self.old ticket Refusal.Device self.new) }
     {
         self.rules();
         let Ok(mut ticket) = self.begin(block) else {
