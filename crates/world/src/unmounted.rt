@@ -176,7 +176,7 @@ pub fn take_lanes_back(lanes: &mut Lanes<MemLane>, tickets: &mut Tickets)
 
 /// Each lane crashes: the open writes of these blocks are kept, and no others.
 pub fn crash_lanes(lanes: &mut Lanes<MemLane>, kept: &[u32])
-    ensures crashed_lane { HaveCrashed kept.now lanes.old lanes.new }
+    ensures crashed { HaveCrashed kept.now lanes.old lanes.new }
     ensures long { AreLong lanes.new }
 {
     for block in 0..lanes.blocks() as u32 {
@@ -187,7 +187,7 @@ pub fn crash_lanes(lanes: &mut Lanes<MemLane>, kept: &[u32])
 /// The lane of a block crashes.
 fn crash_lane(lanes: &mut Lanes<MemLane>, block: u32, kept: bool)
     requires { block < length lanes.old }
-    ensures crashed_lane { lanes.new ≡ slice_set lanes.old block (option_map (λ lane. crashed_lane lane kept) (lane_at lanes.old block)) }
+    ensures crashed { lanes.new ≡ slice_set lanes.old block (option_map (λ lane. crashed_lane lane kept) (lane_at lanes.old block)) }
     ensures long { IsLong (lane_at lanes.new block) }
 {
     match lanes.take(block) {
