@@ -12,9 +12,9 @@ use Rattle.xn_model.specs.Lives.{BlockState, Life, change_at, on_disk, bytes_of,
 use Rattle.xn_model.specs.Calls.{patched}
 use Rattle.xn_model.specs.Rules.{IsCount}
 use Rattle.block_cache.specs.declared.entry.Entry.{Entry}
-use Rattle.block_cache.specs.Claims.{state_of}
+use Rattle.block_cache.specs.Claims.{claimed_state}
 use Rattle.block_cache.specs.Cached.{CachedLife}
-use Rattle.block_cache.specs.Undone.{before, states_from, entries_of, durable_in, life_with, life_of, lives_of}
+use Rattle.block_cache.specs.Undone.{before, states_from, entries_under, durable_in, life_with, life_of, lives_of}
 use Rattle.block_cache.specs.Kept.{IsApart, AreOf, IsKept, AreKept, AreUsed, place_at, change_place, appended, settled}
 use Rattle.block_cache.specs.Views.{image_at, HasImage}
 use Rattle.block_cache.proofs.Undoing.{before-append, states_from-append, length-states_from, drop-states_from, image_from, last_image}
@@ -24,20 +24,20 @@ use Rattle.block_cache.proofs.WrittenPlaces.{KeepsOthers, lives_of-set, kept-set
 -- Reads
 
 pub length-pending : (slab : Slab Entry) (b : ℕ) (l : CachedLife) → IsKept slab b l → length (life_of slab l).pending ≡ length l.keys
-length-pending slab b l kept = length-states_from (entries_of slab l.keys) l.current ∙ length-entries_of slab b l.keys kept.keys
+length-pending slab b l kept = length-states_from (entries_under slab l.keys) l.current ∙ length-entries_of slab b l.keys kept.keys
 
 durable-some : (d : Bool) (m : List ℕ) → is_some (durable_in d m) ≡ d
 durable-some true m = refl
 durable-some false m = refl
 
 pub is_durable_life : (slab : Slab Entry) (l : CachedLife) → is_some (life_of slab l).durable ≡ l.is_durable
-is_durable_life slab l = durable-some l.is_durable (before (entries_of slab l.keys) l.current)
+is_durable_life slab l = durable-some l.is_durable (before (entries_under slab l.keys) l.current)
 
 -- the bytes with only the first k entries done
 pub image_of_life : (slab : Slab Entry) (b : ℕ) (l : CachedLife) (k : ℕ) → IsKept slab b l → HasImage k (life_of slab l) →
-    before (entries_of slab (drop k l.keys)) l.current ≡ image_at k (life_of slab l)
+    before (entries_under slab (drop k l.keys)) l.current ≡ image_at k (life_of slab l)
 image_of_life slab b l k kept has =
-    let es = entries_of slab l.keys in
+    let es = entries_under slab l.keys in
     let long = length-entries_of slab b l.keys kept.keys in
     let within : k ≤ length es = omega (arith, has.within, length-states_from es l.current) in
     let some : IsTrue (l.is_durable || nat_lt 0 k) = ap (λ d. d || nat_lt 0 k) (sym (is_durable_life slab l)) ∙ has.some in
@@ -46,7 +46,7 @@ image_of_life slab b l k kept has =
 -- the newest bytes are those that are kept
 pub current_of_life : (slab : Slab Entry) (b : ℕ) (l : CachedLife) → IsKept slab b l → current (life_of slab l) ≡ l.current
 current_of_life slab b l kept =
-    let es = entries_of slab l.keys in
+    let es = entries_under slab l.keys in
     let long = length-entries_of slab b l.keys kept.keys in
     let states = length-states_from es l.current in
     let some : IsTrue (l.is_durable || nat_lt 0 (length es)) = ap (λ n. l.is_durable || nat_lt 0 n) long ∙ kept.has_state in
@@ -72,10 +72,10 @@ removed_keeps old new places b ks kept own others c l ne at =
 -- One entry more
 
 pub appended_life : (old new : Slab Entry) (b : ℕ) (l : CachedLife) (k : ℕ) (e : Entry) (bytes : List ℕ) → IsKept old b l → get old k ≡ None →
-    Updates old new k (Some e) → patched bytes e.undo ≡ l.current → life_of new (appended k bytes l) ≡ with_state (state_of e.claim bytes) (life_of old l)
+    Updates old new k (Some e) → patched bytes e.undo ≡ l.current → life_of new (appended k bytes l) ≡ with_state (claimed_state e.claim bytes) (life_of old l)
 appended_life old new b l k e bytes kept vacant updates back =
     let same = updated_same old new k (Some e) l.keys updates (vacant_apart old b k l.keys vacant kept.keys) in
-    let es = entries_of old l.keys in
+    let es = entries_under old l.keys in
     let more = entries_of-append new l.keys k e updates.changed ∙ ap (λ zs. zs ++ e ∷ []) (same_entries old new l.keys same) in
     ap (λ zs. life_with zs (appended k bytes l)) more
     ∙ (λ i. record {
@@ -122,7 +122,7 @@ durable_then : (d : Option BlockState) (es : List Entry) (m : List ℕ) (k : ℕ
 durable_then d es m zero some within = absurd (omega arith)
 durable_then d [] m (suc k) some within = absurd (omega arith)
 durable_then d (e ∷ es) m (suc k) some within =
-    let s = state_of e.claim (before es m) in
+    let s = claimed_state e.claim (before es m) in
     last_durable s (take k (states_from es m))
     ∙ ap (λ z. Some (on_disk z)) (last_image s es m k (omega arith) refl)
 
@@ -133,7 +133,7 @@ settled_same old new b l k kept others = apart_same old new (take k l.keys) (dro
 pub settled_life : (old new : Slab Entry) (b : ℕ) (l : CachedLife) (k : ℕ) → IsKept old b l → 1 ≤ k → k ≤ length l.keys →
     ((q : ℕ) → IsApart q (take k l.keys) → get new q ≡ get old q) → life_of new (settled k l) ≡ settle k (life_of old l)
 settled_life old new b l k kept some within others =
-    let es = entries_of old l.keys in
+    let es = entries_under old l.keys in
     let m = l.current in
     let long = length-entries_of old b l.keys kept.keys in
     let left = same_entries old new (drop k l.keys) (settled_same old new b l k kept others) ∙ sym (drop-entries_of old b k l.keys kept.keys) in
@@ -169,8 +169,8 @@ given_up_life slab l =
       fs = l.fs;
       ty = l.ty;
       status = l.status;
-      durable = durable_same l.is_durable (before (entries_of slab l.keys) l.current) i;
-      pending = states_from (entries_of slab l.keys) l.current;
+      durable = durable_same l.is_durable (before (entries_under slab l.keys) l.current) i;
+      pending = states_from (entries_under slab l.keys) l.current;
       begun = None;
     }
 

@@ -16,8 +16,8 @@ use Rattle.block_cache.specs.Cached.{CachedLife}
 use Rattle.block_cache.specs.Undone.{life_of, lives_of}
 use Rattle.block_cache.specs.declared.new_bytes.NewBytes.{NewBytes}
 use Rattle.block_cache.specs.NewBytes.{appended_by}
-use Rattle.block_cache.specs.Kept.{AreKept, place_at, change_place, settled, started, with_begun, with_status}
-use Rattle.block_cache.specs.Totals.{pending_of, in_flight_of, totals_of, totals_at}
+use Rattle.block_cache.specs.Kept.{AreKept, place_at, change_place, settled, started_life, with_begun, cached_with_status}
+use Rattle.block_cache.specs.Totals.{pending_count, in_flight_of, totals_of, totals_at}
 use Rattle.block_cache.proofs.Changes.{length-pending}
 
 -- A sum in which one summand changes
@@ -62,7 +62,7 @@ few_in_flight (o ∷ os) = omega (arith, sum_by-cons in_flight_of o os, one o, f
     one (Some l) = small (is_some l.begun)
 
 pub totals_free : (n : ℕ) → record { pending = 0; in_flight = 0 } ≡ totals_of (replicate n None)
-totals_free n = λ i. record { pending = sym (sum-free pending_of refl n) i; in_flight = sym (sum-free in_flight_of refl n) i }
+totals_free n = λ i. record { pending = sym (sum-free pending_count refl n) i; in_flight = sym (sum-free in_flight_of refl n) i }
 
 -- what a change of the counts needs, and what it leaves
 pub record IsExchange (totals before after : Totals) (new : List (Option CachedLife)) : Type 0 where
@@ -74,12 +74,12 @@ pub record IsExchange (totals before after : Totals) (new : List (Option CachedL
 
 -- a place is written, and what was counted of its life is exchanged for what is counted of it now
 pub exchange : (places new : List (Option CachedLife)) (b : ℕ) (x : Option CachedLife) (totals before after : Totals) →
-    totals ≡ totals_of places → length places < 2 ^ 64 → sum_by pending_of places + pending_of x < 2 ^ 64 + pending_of (place_at places b) →
+    totals ≡ totals_of places → length places < 2 ^ 64 → sum_by pending_count places + pending_count x < 2 ^ 64 + pending_count (place_at places b) →
     before ≡ totals_at places b → new ≡ slice_set places b x → after ≡ totals_at new b → IsExchange totals before after new
 exchange places new b x totals before after kept long few was written is = record {
-  pending = omega (arith, pending_kept, pending_was, sum-at pending_of refl places b);
+  pending = omega (arith, pending_kept, pending_was, sum-at pending_count refl places b);
   in_flight = omega (arith, in_flight_kept, in_flight_was, sum-at in_flight_of refl places b);
-  few_pending = omega (arith, pending_now, sum-set pending_of refl places b x, sum-new pending_of refl places b x, few);
+  few_pending = omega (arith, pending_now, sum-set pending_count refl places b x, sum-new pending_count refl places b x, few);
   few_in_flight = omega (arith, in_flight_now, few_in_flight (slice_set places b x), length-set places b x, long);
   counted = (λ i. record { pending = pending_now i; in_flight = in_flight_now i }) ∙ ap totals_of (sym written);
 }
@@ -87,41 +87,41 @@ exchange places new b x totals before after kept long few was written is = recor
     now : after ≡ totals_at (slice_set places b x) b
     now = is ∙ ap (λ xs. totals_at xs b) written
 
-    pending_kept : totals.pending ≡ sum_by pending_of places
+    pending_kept : totals.pending ≡ sum_by pending_count places
     pending_kept = ap (λ (t : Totals). t.pending) kept
 
     in_flight_kept : totals.in_flight ≡ sum_by in_flight_of places
     in_flight_kept = ap (λ (t : Totals). t.in_flight) kept
 
-    pending_was : before.pending ≡ pending_of (place_at places b)
+    pending_was : before.pending ≡ pending_count (place_at places b)
     pending_was = ap (λ (t : Totals). t.pending) was
 
     in_flight_was : before.in_flight ≡ in_flight_of (place_at places b)
     in_flight_was = ap (λ (t : Totals). t.in_flight) was
 
-    pending_now : totals.pending - before.pending + after.pending ≡ sum_by pending_of (slice_set places b x)
+    pending_now : totals.pending - before.pending + after.pending ≡ sum_by pending_count (slice_set places b x)
     pending_now =
-        omega (arith, pending_kept, pending_was, ap (λ (t : Totals). t.pending) now, sum-at pending_of refl places b, sum-set pending_of refl places b x)
+        omega (arith, pending_kept, pending_was, ap (λ (t : Totals). t.pending) now, sum-at pending_count refl places b, sum-set pending_count refl places b x)
 
     in_flight_now : totals.in_flight - before.in_flight + after.in_flight ≡ sum_by in_flight_of (slice_set places b x)
     in_flight_now =
         omega (arith, in_flight_kept, in_flight_was, ap (λ (t : Totals). t.in_flight) now, sum-at in_flight_of refl places b, sum-set in_flight_of refl places b x)
 
 -- a status is written, which is not counted
-pub totals_kept : (places : List (Option CachedLife)) (b : ℕ) (status : Status) → totals_of places ≡ totals_of (change_place places b (with_status status))
+pub totals_kept : (places : List (Option CachedLife)) (b : ℕ) (status : Status) → totals_of places ≡ totals_of (change_place places b (cached_with_status status))
 totals_kept places b status = λ i. record {
-  pending = sym (sum-same pending_of refl places b x (pending_same (place_at places b))) i;
+  pending = sym (sum-same pending_count refl places b x (pending_same (place_at places b))) i;
   in_flight = sym (sum-same in_flight_of refl places b x (in_flight_same (place_at places b))) i;
 }
   where
     x : Option CachedLife
-    x = option_map (with_status status) (place_at places b)
+    x = option_map (cached_with_status status) (place_at places b)
 
-    pending_same : (o : Option CachedLife) → pending_of (option_map (with_status status) o) ≡ pending_of o
+    pending_same : (o : Option CachedLife) → pending_count (option_map (cached_with_status status) o) ≡ pending_count o
     pending_same None = refl
     pending_same (Some l) = refl
 
-    in_flight_same : (o : Option CachedLife) → in_flight_of (option_map (with_status status) o) ≡ in_flight_of o
+    in_flight_same : (o : Option CachedLife) → in_flight_of (option_map (cached_with_status status) o) ≡ in_flight_of o
     in_flight_same None = refl
     in_flight_same (Some l) = refl
 
@@ -146,12 +146,12 @@ within_in places seen b view within = omega (arith, within, ap (λ (xs : List (O
 
 -- what is counted of a place that has the life o now
 abbrev totals_in : Option CachedLife → Totals
-totals_in o = record { pending = pending_of o; in_flight = in_flight_of o }
+totals_in o = record { pending = pending_count o; in_flight = in_flight_of o }
 
 pub started_totals : (places new : List (Option CachedLife)) (b k : ℕ) (fs : Option ℕ) (ty : ℕ) (bytes : List ℕ) → b < length places →
-    new ≡ slice_set places b (Some (started k fs ty bytes)) → record { pending = 1; in_flight = 0 } ≡ totals_at new b
+    new ≡ slice_set places b (Some (started_life k fs ty bytes)) → record { pending = 1; in_flight = 0 } ≡ totals_at new b
 started_totals places new b k fs ty bytes within is =
-    sym (ap (λ (xs : List (Option CachedLife)). totals_at xs b) is ∙ ap totals_in (at_set places b (Some (started k fs ty bytes)) within))
+    sym (ap (λ (xs : List (Option CachedLife)). totals_at xs b) is ∙ ap totals_in (at_set places b (Some (started_life k fs ty bytes)) within))
 
 pub free_totals : (places new : List (Option CachedLife)) (b : ℕ) → new ≡ slice_set places b None → record { pending = 0; in_flight = 0 } ≡ totals_at new b
 free_totals places new b is = sym (ap (λ (xs : List (Option CachedLife)). totals_at xs b) is ∙ ap totals_in (none places b))
@@ -167,7 +167,7 @@ appended_totals places new b k bytes before after alive was now is =
     now ∙ (ap (λ (t : Totals). record t { pending = t.pending + 1 }) was ∙ (one (place_at places b) alive
     ∙ sym (ap (λ (xs : List (Option CachedLife)). totals_at xs b) is ∙ ap totals_in (at_change places b (appended_by k bytes)))))
   where
-    one : (o : Option CachedLife) → IsTrue (is_some o) → record { pending = pending_of o + 1; in_flight = in_flight_of o } ≡ totals_in (option_map (appended_by k bytes) o)
+    one : (o : Option CachedLife) → IsTrue (is_some o) → record { pending = pending_count o + 1; in_flight = in_flight_of o } ≡ totals_in (option_map (appended_by k bytes) o)
     one None h = cc
     one (Some l) h = ap (λ n. record { pending = n; in_flight = in_flight_of (Some l) }) (sym (length_push l.keys k))
 
@@ -177,7 +177,7 @@ settled_totals places new b k before after was now is =
     now ∙ (ap (λ (t : Totals). record { pending = t.pending - k; in_flight = 0 }) was ∙ (less (place_at places b)
     ∙ sym (ap (λ (xs : List (Option CachedLife)). totals_at xs b) is ∙ ap totals_in (at_change places b (settled k)))))
   where
-    less : (o : Option CachedLife) → record { pending = pending_of o - k; in_flight = 0 } ≡ totals_in (option_map (settled k) o)
+    less : (o : Option CachedLife) → record { pending = pending_count o - k; in_flight = 0 } ≡ totals_in (option_map (settled k) o)
     less None = ap (λ n. record { pending = n; in_flight = 0 }) (omega arith)
     less (Some l) = ap (λ n. record { pending = n; in_flight = 0 }) (sym (length-drop k l.keys))
 
@@ -188,22 +188,22 @@ begun_totals places new b begun before after alive was now is =
     ∙ sym (ap (λ (xs : List (Option CachedLife)). totals_at xs b) is ∙ ap totals_in (at_change places b (with_begun begun)))))
   where
     same : (begun : Option ℕ) (o : Option CachedLife) → (IsTrue (is_some begun) → IsTrue (is_some o)) →
-        record { pending = pending_of o; in_flight = cond (is_some begun) 1 0 } ≡ totals_in (option_map (with_begun begun) o)
+        record { pending = pending_count o; in_flight = cond (is_some begun) 1 0 } ≡ totals_in (option_map (with_begun begun) o)
     same None None h = refl
     same (Some n) None h = let no = h refl in cc
     same begun (Some l) h = refl
 
 -- How many are pending after a change
 
-pub pending_appended : (k : ℕ) (bytes : NewBytes) (o : Option CachedLife) → pending_of (option_map (appended_by k bytes) o) ≤ pending_of o + 1
+pub pending_appended : (k : ℕ) (bytes : NewBytes) (o : Option CachedLife) → pending_count (option_map (appended_by k bytes) o) ≤ pending_count o + 1
 pending_appended k bytes None = omega arith
 pending_appended k bytes (Some l) = omega (arith, length_push l.keys k)
 
-pub pending_settled : (k : ℕ) (o : Option CachedLife) → pending_of (option_map (settled k) o) ≤ pending_of o
+pub pending_settled : (k : ℕ) (o : Option CachedLife) → pending_count (option_map (settled k) o) ≤ pending_count o
 pending_settled k None = omega arith
 pending_settled k (Some l) = omega (arith, length-drop k l.keys)
 
-pub pending_begun : (begun : Option ℕ) (o : Option CachedLife) → pending_of (option_map (with_begun begun) o) ≤ pending_of o
+pub pending_begun : (begun : Option ℕ) (o : Option CachedLife) → pending_count (option_map (with_begun begun) o) ≤ pending_count o
 pending_begun begun None = omega arith
 pending_begun begun (Some l) = omega arith
 
@@ -211,26 +211,26 @@ pending_begun begun (Some l) = omega arith
 
 module _ (slab : Slab Entry) where
   all_sum : (places : List (Option CachedLife)) → ((b : ℕ) (l : CachedLife) → slice_get places b ≡ Some (Some l) → length (life_of slab l).pending ≡ length l.keys) →
-      sum_by pending_of places ≡ all_pending (lives_of slab places)
+      sum_by pending_count places ≡ all_pending (lives_of slab places)
   all_sum [] h = refl
-  all_sum (o ∷ os) h = omega (arith, sum_by-cons pending_of o os, here o (λ l e. h 0 l (ap (λ x. Some x) e)), all_sum os (λ b. h (suc b)))
+  all_sum (o ∷ os) h = omega (arith, sum_by-cons pending_count o os, here o (λ l e. h 0 l (ap (λ x. Some x) e)), all_sum os (λ b. h (suc b)))
     where
-      here : (o : Option CachedLife) → ((l : CachedLife) → o ≡ Some l → length (life_of slab l).pending ≡ length l.keys) → life_pending (option_map (life_of slab) o) ≡ pending_of o
+      here : (o : Option CachedLife) → ((l : CachedLife) → o ≡ Some l → length (life_of slab l).pending ≡ length l.keys) → life_pending (option_map (life_of slab) o) ≡ pending_count o
       here None h = refl
       here (Some l) h = h l refl
 
-  few_sum : (places : List (Option CachedLife)) → ((b : ℕ) (l : CachedLife) → slice_get places b ≡ Some (Some l) → length l.keys ≤ 64) → sum_by pending_of places ≤ 64 * length places
+  few_sum : (places : List (Option CachedLife)) → ((b : ℕ) (l : CachedLife) → slice_get places b ≡ Some (Some l) → length l.keys ≤ 64) → sum_by pending_count places ≤ 64 * length places
   few_sum [] h = omega arith
-  few_sum (o ∷ os) h = omega (arith, sum_by-cons pending_of o os, here o (λ l e. h 0 l (ap (λ x. Some x) e)), few_sum os (λ b. h (suc b)))
+  few_sum (o ∷ os) h = omega (arith, sum_by-cons pending_count o os, here o (λ l e. h 0 l (ap (λ x. Some x) e)), few_sum os (λ b. h (suc b)))
     where
-      here : (o : Option CachedLife) → ((l : CachedLife) → o ≡ Some l → length l.keys ≤ 64) → pending_of o ≤ 64
+      here : (o : Option CachedLife) → ((l : CachedLife) → o ≡ Some l → length l.keys ≤ 64) → pending_count o ≤ 64
       here None h = omega arith
       here (Some l) h = h l refl
 
-  pub all_pending_is : (places : List (Option CachedLife)) → AreKept slab places → sum_by pending_of places ≡ all_pending (lives_of slab places)
+  pub all_pending_is : (places : List (Option CachedLife)) → AreKept slab places → sum_by pending_count places ≡ all_pending (lives_of slab places)
   all_pending_is places kept = all_sum places (λ b l there. length-pending slab b l (kept.each b l there))
 
-  pub few_of_all : (places : List (Option CachedLife)) → AreKept slab places → sum_by pending_of places ≤ 64 * length places
+  pub few_of_all : (places : List (Option CachedLife)) → AreKept slab places → sum_by pending_count places ≤ 64 * length places
   few_of_all places kept = few_sum places (λ b l there. (kept.each b l there).few)
 
   pub any_in_flight_is : (places : List (Option CachedLife)) → nat_lt 0 (sum_by in_flight_of places) ≡ list_any (alive_and (λ l. is_some l.begun)) (lives_of slab places)

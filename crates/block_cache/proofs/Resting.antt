@@ -11,11 +11,11 @@ use Rattle.block_cache.specs.declared.life.FoundLife.{FoundLife}
 use Rattle.block_cache.specs.Cached.{CachedLife}
 use Rattle.block_cache.specs.Undone.{life_of, lives_of}
 use Rattle.block_cache.specs.Kept.{AreKept, IsKept, resting_at, resting_in}
-use Rattle.block_cache.specs.Totals.{pending_of, in_flight_of, totals_of}
+use Rattle.block_cache.specs.Totals.{pending_count, in_flight_of, totals_of}
 use Rattle.block_cache.specs.Views.{rest_at, rest_in}
 
 module _ (found : List (Option FoundLife)) (blocks : List (List ℕ)) where
-  none_pending : (b : ℕ) (o : Option FoundLife) → pending_of (resting_in blocks b o) ≡ 0
+  none_pending : (b : ℕ) (o : Option FoundLife) → pending_count (resting_in blocks b o) ≡ 0
   none_pending b None = refl
   none_pending b (Some f) = refl
 
@@ -23,10 +23,10 @@ module _ (found : List (Option FoundLife)) (blocks : List (List ℕ)) where
   none_in_flight b None = refl
   none_in_flight b (Some f) = refl
 
-  pending_in_none : (bs : List ℕ) → sum_by pending_of (map (resting_at found blocks) bs) ≡ 0
+  pending_in_none : (bs : List ℕ) → sum_by pending_count (map (resting_at found blocks) bs) ≡ 0
   pending_in_none [] = refl
   pending_in_none (b ∷ bs) =
-      let first = sum_by-cons pending_of (resting_at found blocks b) (map (resting_at found blocks) bs) in
+      let first = sum_by-cons pending_count (resting_at found blocks b) (map (resting_at found blocks) bs) in
       omega (arith, first, none_pending b (slice_index_or found b None), pending_in_none bs)
 
   in_flight_in_none : (bs : List ℕ) → sum_by in_flight_of (map (resting_at found blocks) bs) ≡ 0

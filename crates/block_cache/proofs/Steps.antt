@@ -7,13 +7,13 @@ use Rattle.xn_model.specs.Lives as model
 use Rattle.xn_model.specs.Lives.{Life, Lives, life_at, change_at, with_state, settle, settled_at, begun_at, current, root_on_disk}
 use Rattle.xn_model.specs.Calls.{life_pending, life_bytes, patched}
 use Rattle.block_cache.specs.declared.entry.Entry.{Entry}
-use Rattle.block_cache.specs.Claims.{state_of}
+use Rattle.block_cache.specs.Claims.{claimed_state}
 use Rattle.block_cache.specs.Cached.{CachedLife}
 use Rattle.block_cache.specs.declared.new_bytes.NewBytes.{NewBytes}
 use Rattle.block_cache.specs.NewBytes.{appended_by, new_bytes}
 use Rattle.block_cache.specs.Named.{places_named}
-use Rattle.block_cache.specs.Undone.{before, entries_of, life_of, lives_of}
-use Rattle.block_cache.specs.Kept.{IsApart, IsAmong, AreOf, IsKept, AreKept, IsWhole, place_at, change_place, appended, settled, with_status, with_begun, first_keys}
+use Rattle.block_cache.specs.Undone.{before, entries_under, life_of, lives_of}
+use Rattle.block_cache.specs.Kept.{IsApart, IsAmong, AreOf, IsKept, AreKept, IsWhole, place_at, change_place, appended, settled, cached_with_status, with_begun, first_keys}
 use Rattle.block_cache.specs.Views.{HasImage, image_at}
 use Rattle.block_cache.proofs.Keys.{AreSame, same_keys, take_keys}
 use Rattle.block_cache.proofs.Used.{used_append, used_kept, used_settle}
@@ -48,7 +48,7 @@ pending_there slab places lives b l kept view at =
 -- the bytes with only the first entries done
 pub image_there : (slab : Slab Entry) (places : List (Option CachedLife)) (lives : Lives) (b : ℕ) (l : CachedLife) (k : ℕ) → AreKept slab places → lives_of slab places ≡ lives →
     Some l ≡ place_at places b → IfSome (life_at lives b) (HasImage k) →
-    (k ≤ length l.keys) × (before (entries_of slab (drop k l.keys)) l.current ≡ image_at k (life_of slab l))
+    (k ≤ length l.keys) × (before (entries_under slab (drop k l.keys)) l.current ≡ image_at k (life_of slab l))
 image_there slab places lives b l k kept view at has =
     let here = place_kept slab places b l kept (sym at) in
     let image = let P : Option Life → Type 0 = λ o. IfSome o (HasImage k) in subst P (life_there slab places lives b l view at) has in
@@ -113,27 +113,27 @@ module _ (old new : Slab Entry) (places : List (Option CachedLife)) (lives : Liv
       (λ l at. appended_kept old new b l k e bytes (place_kept old places b l kept at) vacant updates own (omega (arith, room, pending_there old places lives b l kept view (sym at))))
       (used_append old new places b k e bytes kept.used updates own (alive_there old places lives b view alive))
 
-  pub append_view : patched bytes e.undo ≡ life_bytes (life_at lives b) → lives_of new (change_place places b (appended k bytes)) ≡ change_at lives b (with_state (state_of e.claim bytes))
+  pub append_view : patched bytes e.undo ≡ life_bytes (life_at lives b) → lives_of new (change_place places b (appended k bytes)) ≡ change_at lives b (with_state (claimed_state e.claim bytes))
   append_view back =
-      lives_of-change old new places b (appended k bytes) (with_state (state_of e.claim bytes)) keeps
+      lives_of-change old new places b (appended k bytes) (with_state (claimed_state e.claim bytes)) keeps
       (λ l at.
       let here = place_kept old places b l kept at in
       let now = ap life_bytes (life_there old places lives b l view (sym at)) ∙ current_of_life old b l here in
       appended_life old new b l k e bytes here vacant updates (back ∙ now))
-      ∙ ap (λ (ls : Lives). change_at ls b (with_state (state_of e.claim bytes))) view
+      ∙ ap (λ (ls : Lives). change_at ls b (with_state (claimed_state e.claim bytes))) view
 
 -- Status and begun writes
 
 module _ (slab : Slab Entry) (places : List (Option CachedLife)) (lives : Lives) (b : ℕ) (kept : AreKept slab places) (view : lives_of slab places ≡ lives) where
-  pub status_kept : (st : Status) → AreKept slab (change_place places b (with_status st))
+  pub status_kept : (st : Status) → AreKept slab (change_place places b (cached_with_status st))
   status_kept st =
-      kept-change slab slab places b (with_status st) kept (same_slab_keeps slab places b)
+      kept-change slab slab places b (cached_with_status st) kept (same_slab_keeps slab places b)
       (λ l at. let k = place_kept slab places b l kept at in record { keys = k.keys; few = k.few; begun = k.begun; has_state = k.has_state })
-      (used_kept slab places b (with_status st) (λ l. refl) kept.used)
+      (used_kept slab places b (cached_with_status st) (λ l. refl) kept.used)
 
-  pub status_view : (st : Status) → lives_of slab (change_place places b (with_status st)) ≡ change_at lives b (model.with_status st)
+  pub status_view : (st : Status) → lives_of slab (change_place places b (cached_with_status st)) ≡ change_at lives b (model.with_status st)
   status_view st =
-      lives_of-change slab slab places b (with_status st) (model.with_status st) (same_slab_keeps slab places b) (λ l at. refl)
+      lives_of-change slab slab places b (cached_with_status st) (model.with_status st) (same_slab_keeps slab places b) (λ l at. refl)
       ∙ ap (λ (ls : Lives). change_at ls b (model.with_status st)) view
 
   pub begun_kept : (k : ℕ) → 1 ≤ k → k ≤ life_pending (life_at lives b) → AreKept slab (change_place places b (with_begun (Some k)))

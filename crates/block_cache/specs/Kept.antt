@@ -72,8 +72,8 @@ change_place places b f = slice_set places b (option_map f (place_at places b))
 
 -- What a start leaves
 
-abbrev pub started : ℕ → Option ℕ → ℕ → List ℕ → CachedLife
-started k fs ty bytes = record { fs = fs; ty = ty; status = Fresh; current = bytes; is_durable = false; keys = k ∷ []; begun = None }
+abbrev pub started_life : ℕ → Option ℕ → ℕ → List ℕ → CachedLife
+started_life k fs ty bytes = record { fs = fs; ty = ty; status = Fresh; current = bytes; is_durable = false; keys = k ∷ []; begun = None }
 
 abbrev pub resting : FoundLife → List ℕ → CachedLife
 resting found bytes = record {
@@ -102,8 +102,8 @@ appended k bytes l = record l { current = bytes; keys = l.keys ++ k ∷ [] }
 abbrev pub settled : ℕ → CachedLife → CachedLife
 settled k l = record l { is_durable = true; keys = drop k l.keys; begun = None }
 
-abbrev pub with_status : Status → CachedLife → CachedLife
-with_status status l = record l { status = status }
+abbrev pub cached_with_status : Status → CachedLife → CachedLife
+cached_with_status status l = record l { status = status }
 
 abbrev pub with_begun : Option ℕ → CachedLife → CachedLife
 with_begun begun l = record l { begun = begun }

@@ -7,9 +7,9 @@ use Rattle.block_cache.specs.Kept.{place_at}
 use Rattle.block_cache.specs.declared.totals.Totals.{Totals}
 
 -- how many entries of a life are pending
-abbrev pub pending_of : Option CachedLife → ℕ
-pending_of None = 0
-pending_of (Some l) = length l.keys
+abbrev pub pending_count : Option CachedLife → ℕ
+pending_count None = 0
+pending_count (Some l) = length l.keys
 
 -- 1 where a write of it is under way
 abbrev pub in_flight_of : Option CachedLife → ℕ
@@ -17,7 +17,7 @@ in_flight_of None = 0
 in_flight_of (Some l) = cond (is_some l.begun) 1 0
 
 abbrev pub totals_of : List (Option CachedLife) → Totals
-totals_of places = record { pending = sum_by pending_of places; in_flight = sum_by in_flight_of places }
+totals_of places = record { pending = sum_by pending_count places; in_flight = sum_by in_flight_of places }
 
 abbrev pub totals_at : List (Option CachedLife) → ℕ → Totals
-totals_at places b = record { pending = pending_of (place_at places b); in_flight = in_flight_of (place_at places b) }
+totals_at places b = record { pending = pending_count (place_at places b); in_flight = in_flight_of (place_at places b) }

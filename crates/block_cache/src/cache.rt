@@ -13,7 +13,7 @@ ghost use Rattle.xn_model.specs.Rules.{IsCount};
 ghost use Rattle.xn_model.specs.Worlds.{all_pending};
 ghost use Rattle.block_cache.specs.Systems.{system_of};
 ghost use Rattle.block_cache.specs.Named.{places_named};
-ghost use Rattle.block_cache.specs.Claims.{state_of, claim_of};
+ghost use Rattle.block_cache.specs.Claims.{claimed_state, claim_of};
 ghost use Rattle.block_cache.specs.Kept.{IsAmong, IsApart, first_keys, keys_of};
 ghost use Rattle.block_cache.specs.NewBytes.{MayLeave, new_bytes};
 ghost use Rattle.block_cache.specs.Views.{image_at, HasImage, facts_of, pending_at, rest_at};
@@ -257,7 +257,7 @@ impl Cache {
         requires leaves { MayLeave bytes }
         requires undoes { patched (new_bytes bytes (life_bytes (life_at self.old block))) undo ≡ life_bytes (life_at self.old block) }
         ensures ok { OnOk result (self.new ≡
-            change_at self.old block (with_state (state_of claim (new_bytes bytes.entry (life_bytes (life_at self.old block)))))) }
+            change_at self.old block (with_state (claimed_state claim (new_bytes bytes.entry (life_bytes (life_at self.old block)))))) }
         ensures err { OnErr result (self.new ≡ self.old) }
     {
         self.entries.reserve(1)?;

@@ -3,7 +3,7 @@
 ghost use Rattle.std.specs.Prelude.{◌≡◌, ◌≤◌, ◌&&◌, ◌==◌, true, false, is_some, [], ◌∷◌, ◌++◌, length, drop, option_map, Some, None, IfOk, OnOk, OnErr};
 ghost use Rattle.xn_model.specs.Lives.{is_dropped, is_for, is_fresh, is_owned_by};
 ghost use Rattle.block_cache.specs.Systems.{system_of};
-ghost use Rattle.block_cache.specs.Kept.{started, resting};
+ghost use Rattle.block_cache.specs.Kept.{started_life, resting};
 ghost use Rattle.block_cache.specs.NewBytes.{MayLeave, appended_by};
 
 use crate::new_bytes::NewBytes;
@@ -135,7 +135,7 @@ impl Life {
         ty: u32,
         bytes: &[u8; 512],
     ) -> Result<(), AllocError>
-        ensures ok { OnOk result (self.new ≡ started key (system_of fs) ty bytes.now) }
+        ensures ok { OnOk result (self.new ≡ started_life key (system_of fs) ty bytes.now) }
         ensures err { OnErr result (self.new ≡ self.old) }
     {
         self.keys.reserve(1)?;

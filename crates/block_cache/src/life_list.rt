@@ -4,7 +4,7 @@ ghost use Rattle.std.specs.Prelude.{◌≡◌, ◌^◌, ◌<◌, ◌≤◌, leng
 ghost use Rattle.std.specs.List.{range_with_len};
 ghost use Rattle.std.specs.Option.{option_copied};
 ghost use Rattle.block_cache.specs.Systems.{system_of};
-ghost use Rattle.block_cache.specs.Kept.{place_at, change_place, resting_at, settled, started, with_status, with_begun};
+ghost use Rattle.block_cache.specs.Kept.{place_at, change_place, resting_at, settled, started_life, cached_with_status, with_begun};
 ghost use Rattle.block_cache.specs.NewBytes.{MayLeave, appended_by};
 ghost use Rattle.block_cache.specs.Totals.{totals_at};
 
@@ -97,7 +97,7 @@ impl LifeList {
         bytes: &[u8; 512],
     ) -> Result<(), AllocError>
         requires { block < length self.old }
-        ensures ok { OnOk result (self.new ≡ slice_set self.old block (Some (started key (system_of fs) ty bytes.now))) }
+        ensures ok { OnOk result (self.new ≡ slice_set self.old block (Some (started_life key (system_of fs) ty bytes.now))) }
         ensures err { OnErr result (self.new ≡ self.old) }
     {
         self.lives[block as usize].start(key, fs, ty, bytes)
@@ -134,7 +134,7 @@ impl LifeList {
 
     /// Sets the status of a block in use; a free one, or one past the end, has none.
     pub fn set_status(&mut self, block: u32, status: Status)
-        ensures { self.new ≡ change_place self.old block (with_status status) }
+        ensures { self.new ≡ change_place self.old block (cached_with_status status) }
     {
         if (block as usize) < self.lives.len() {
             self.lives[block as usize].set_status(status);

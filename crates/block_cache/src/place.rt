@@ -3,7 +3,7 @@
 ghost use Rattle.std.specs.Prelude.{◌≡◌, ◌≤◌, length, option_map, Some, None, IsTrue, IfSome, OnOk, OnErr, is_some};
 ghost use Rattle.std.specs.Option.{option_copied};
 ghost use Rattle.block_cache.specs.Systems.{system_of};
-ghost use Rattle.block_cache.specs.Kept.{resting, settled, started, with_status, with_begun};
+ghost use Rattle.block_cache.specs.Kept.{resting, settled, started_life, cached_with_status, with_begun};
 ghost use Rattle.block_cache.specs.NewBytes.{MayLeave, appended_by};
 
 use crate::life::{FoundLife, Life};
@@ -67,7 +67,7 @@ impl Place {
         ty: u32,
         bytes: &[u8; 512],
     ) -> Result<(), AllocError>
-        ensures ok { OnOk result (self.new ≡ Some (started key (system_of fs) ty bytes.now)) }
+        ensures ok { OnOk result (self.new ≡ Some (started_life key (system_of fs) ty bytes.now)) }
         ensures err { OnErr result (self.new ≡ self.old) }
     {
         self.life.restart(key, fs, ty, bytes)?;
@@ -104,7 +104,7 @@ impl Place {
 
     /// Sets the status of a block in use.
     pub fn set_status(&mut self, status: Status)
-        ensures { self.new ≡ option_map (with_status status) self.old }
+        ensures { self.new ≡ option_map (cached_with_status status) self.old }
     {
         if self.is_used {
             self.life.set_status(status);

@@ -4,9 +4,9 @@ ghost use Rattle.std.specs.Prelude.{◌≡◌, ◌+◌, ◌^◌, ◌<◌, ◌≤
 ghost use Rattle.std.specs.List.{range_with_len};
 ghost use Rattle.std.specs.Option.{option_copied};
 ghost use Rattle.block_cache.specs.Systems.{system_of};
-ghost use Rattle.block_cache.specs.Kept.{place_at, change_place, resting_at, settled, started, with_status, with_begun};
+ghost use Rattle.block_cache.specs.Kept.{place_at, change_place, resting_at, settled, started_life, cached_with_status, with_begun};
 ghost use Rattle.block_cache.specs.NewBytes.{MayLeave, appended_by};
-ghost use Rattle.block_cache.specs.Totals.{pending_of, in_flight_of};
+ghost use Rattle.block_cache.specs.Totals.{pending_count, in_flight_of};
 
 use crate::life::{FoundLife, Life};
 use crate::life_list::LifeList;
@@ -64,7 +64,7 @@ impl Places {
 
     /// How many entries of all lives are pending.
     pub fn pending(&self) -> usize
-        ensures { result ≡ sum_by pending_of self.now }
+        ensures { result ≡ sum_by pending_count self.now }
     {
         self.totals.pending
     }
@@ -94,8 +94,8 @@ impl Places {
         bytes: &[u8; 512],
     ) -> Result<(), AllocError>
         requires within { block < length self.old }
-        requires few { sum_by pending_of self.old + 1 < 2 ^ 64 }
-        ensures ok { OnOk result (self.new ≡ slice_set self.old block (Some (started key (system_of fs) ty bytes.now))) }
+        requires few { sum_by pending_count self.old + 1 < 2 ^ 64 }
+        ensures ok { OnOk result (self.new ≡ slice_set self.old block (Some (started_life key (system_of fs) ty bytes.now))) }
         ensures err { OnErr result (self.new ≡ self.old) }
     {
         let before = self.lives.totals(block);
@@ -106,7 +106,7 @@ impl Places {
 
     /// Frees a block.
     pub fn end(&mut self, block: u32)
-        requires few { sum_by pending_of self.old < 2 ^ 64 }
+        requires few { sum_by pending_count self.old < 2 ^ 64 }
         ensures { self.new ≡ slice_set self.old block None }
     {
         let before = self.lives.totals(block);
@@ -118,7 +118,7 @@ impl Places {
     pub fn append(&mut self, block: u32, key: usize, bytes: NewBytes<'_>) -> Result<(), AllocError>
         requires alive { IsTrue (is_some (place_at self.old block)) }
         requires leaves { MayLeave bytes }
-        requires few { sum_by pending_of self.old + 1 < 2 ^ 64 }
+        requires few { sum_by pending_count self.old + 1 < 2 ^ 64 }
         ensures ok { OnOk result (self.new ≡ change_place self.old block (appended_by key bytes.entry)) }
         ensures err { OnErr result (self.new ≡ self.old) }
     {
@@ -140,7 +140,7 @@ impl Places {
 
     /// Sets the status of a block in use; a free one, or one past the end, has none.
     pub fn set_status(&mut self, block: u32, status: Status)
-        ensures { self.new ≡ change_place self.old block (with_status status) }
+        ensures { self.new ≡ change_place self.old block (cached_with_status status) }
     {
         self.lives.set_status(block, status);
     }

@@ -2,7 +2,7 @@
 
 ghost use Rattle.std.specs.Prelude.{◌≡◌, ◌+◌, ◌-◌, ◌^◌, ◌<◌, ◌≤◌, cond, is_some};
 ghost use Rattle.std.specs.Option.{option_copied};
-ghost use Rattle.block_cache.specs.Totals.{pending_of, in_flight_of};
+ghost use Rattle.block_cache.specs.Totals.{pending_count, in_flight_of};
 
 use crate::life::Life;
 
@@ -16,7 +16,7 @@ pub struct Totals {
 impl Totals {
     /// Those of a life, or of a free block.
     pub fn of(life: Option<&Life>) -> Totals
-        ensures { result ≡ record { pending = pending_of (option_copied life.entry); in_flight = in_flight_of (option_copied life.entry) } }
+        ensures { result ≡ record { pending = pending_count (option_copied life.entry); in_flight = in_flight_of (option_copied life.entry) } }
     {
         match life {
             Some(life) => Totals {

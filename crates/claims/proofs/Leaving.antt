@@ -10,7 +10,7 @@ use Rattle.xn_model.specs.Lists.{put}
 use Rattle.xn_model.specs.Calls.{Edit, Patch, is_patch, patched, within_limits}
 use Rattle.edit_list.proofs.ForCallers.{length-put, patches_of_edit, put_inside, put_outside}
 use Rattle.udf_run.specs.ReadSets.{AgreeOn}
-use Rattle.claims.specs.Decided.{IsApart, Leaves}
+use Rattle.claims.specs.Decided.{WritesApart, Leaves}
 
 -- a patch lies within a block
 fits : (m : List ℕ) (p : Patch) → length m ≡ 512 → is_patch p ≡ true → p.offset + length p.bytes ≤ length m
@@ -18,7 +18,7 @@ fits m p long is =
     omega (arith, leb-true (p.offset + length p.bytes) 512 (and_parts (nat_lt 0 (length p.bytes)) (nat_le (p.offset + length p.bytes) 512) is).1, long)
 
 -- patches that write into none of the chunks leave what they hold
-agree_patched : (chunks : ℕ) (patches : List Patch) → All (IsApart chunks) patches → list_all is_patch patches ≡ true → (m : List ℕ) → length m ≡ 512 → AgreeOn chunks m (patched m patches)
+agree_patched : (chunks : ℕ) (patches : List Patch) → All (WritesApart chunks) patches → list_all is_patch patches ≡ true → (m : List ℕ) → length m ≡ 512 → AgreeOn chunks m (patched m patches)
 agree_patched chunks [] apart are m long i noted = refl
 agree_patched chunks (p ∷ ps) apart are m long i noted =
     let parts = and_parts (is_patch p) (list_all is_patch ps) are in
@@ -32,7 +32,7 @@ agree_patched chunks (p ∷ ps) apart are m long i noted =
       ]
     ])
 
-pub leaves_from : (chunks : ℕ) (e : Edit) → (length e.adds == 0) ≡ true → (length e.drops == 0) ≡ true → within_limits e ≡ true → All (IsApart chunks) e.patches → Leaves chunks e
+pub leaves_from : (chunks : ℕ) (e : Edit) → (length e.adds == 0) ≡ true → (length e.drops == 0) ≡ true → within_limits e ≡ true → All (WritesApart chunks) e.patches → Leaves chunks e
 leaves_from chunks e adds drops limits apart = record {
   no_adds = nil_from_length e.adds (eqb-true (length e.adds) 0 adds);
   no_drops = nil_from_length e.drops (eqb-true (length e.drops) 0 drops);
@@ -91,7 +91,7 @@ not_written chunks n ps k d i whole are within from inside agree noted =
     let same = same_written (replicate n 0) (replicate n 1) ps k d i zeros ones are within from inside in
     omega (arith, zero_before, one_before, same)
 
-pub apart_from : (chunks : ℕ) (e : Edit) → within_limits e ≡ true → Leaves chunks e → All (IsApart chunks) e.patches
+pub apart_from : (chunks : ℕ) (e : Edit) → within_limits e ≡ true → Leaves chunks e → All (WritesApart chunks) e.patches
 apart_from chunks e limits leaves k d within i from inside = elim (cases_lt (bit_at chunks (i / 8)) 1) [
   | inl clear ↦ omega (arith, clear)
   | inr set ↦

@@ -27,8 +27,8 @@ abbrev pub Decides : Types → Lives → ℕ → List ℕ → Option ReadSet →
 Decides T lives b bytes set = (l : Life) (reads : ReadSet) → life_at lives b ≡ Some l → set ≡ Some reads → DecidesOwned T l.ty bytes reads.chunks
 
 -- the patch writes into none of the chunks
-abbrev pub IsApart : ℕ → Patch → Type 0
-IsApart chunks p = (i : ℕ) → p.offset ≤ i → i < p.offset + length p.bytes → bit_at chunks (i / 8) ≡ 0
+abbrev pub WritesApart : ℕ → Patch → Type 0
+WritesApart chunks p = (i : ℕ) → p.offset ≤ i → i < p.offset + length p.bytes → bit_at chunks (i / 8) ≡ 0
 
 pub record Leaves (chunks : ℕ) (edit : Edit) : Type 0 where
   pub no_adds : edit.adds ≡ []

@@ -4,7 +4,7 @@ ghost use Rattle.std.specs.Prelude.{◌≡◌, ◌≤◌, length, IsTrue};
 ghost use Rattle.xn_model.specs.Lists.{has_pair};
 ghost use Rattle.xn_model.specs.Types.{inside};
 ghost use Rattle.templates.specs.Decided.{DecidesOwned};
-ghost use Rattle.templates.specs.Tables.{types_of};
+ghost use Rattle.templates.specs.Tables.{table_types};
 
 use arrayvec::ArrayVec;
 use templates::Table;
@@ -32,9 +32,9 @@ pub fn owned_pairs(
     ty: u32,
     bytes: &[u8; 512],
 ) -> (ArrayVec<(u32, u32), 128>, ReadSet)
-    requires { IsTrue ((types_of table.now).installed ty) }
-    ensures pairs { result.0.items ≡ (types_of table.now).owned ty bytes.now }
-    ensures reads { DecidesOwned (types_of table.now) ty bytes.now result.1.chunks }
+    requires { IsTrue ((table_types table.now).installed ty) }
+    ensures pairs { result.0.items ≡ (table_types table.now).owned ty bytes.now }
+    ensures reads { DecidesOwned (table_types table.now) ty bytes.now result.1.chunks }
 {
     let mut found = ArrayVec::<Pair, 128>::new();
     let reads = table.owns_tracked(ty, bytes, &mut found);

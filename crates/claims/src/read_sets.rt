@@ -3,7 +3,7 @@
 ghost use Rattle.std.specs.Prelude.{◌≡◌, ◌↔◌, ◌<◌, All, None, length, replicate, slice_index_or, slice_set, IfOk, IsTrue};
 ghost use Rattle.std.specs.List.{list_all};
 ghost use Rattle.xn_model.specs.Calls.{is_patch, within_limits};
-ghost use Rattle.claims.specs.Decided.{IsApart, Leaves};
+ghost use Rattle.claims.specs.Decided.{WritesApart, Leaves};
 
 use edit_list::{Edit, Patch};
 use std::alloc::{AllocError, Global};
@@ -65,7 +65,7 @@ pub fn leaves(reads: ReadSet, edit: &Edit) -> bool
 /// Whether patches write into no chunk of a set.
 fn are_apart(reads: ReadSet, patches: &[Patch]) -> bool
     requires { IsTrue (list_all is_patch patches.now) }
-    ensures { IsTrue result ↔ All (IsApart reads.chunks) patches.now }
+    ensures { IsTrue result ↔ All (WritesApart reads.chunks) patches.now }
 {
     for patch in patches {
         if !is_apart(reads, patch) {
@@ -78,7 +78,7 @@ fn are_apart(reads: ReadSet, patches: &[Patch]) -> bool
 /// Whether a patch writes into no chunk of a set.
 fn is_apart(reads: ReadSet, patch: &Patch) -> bool
     requires { IsTrue (is_patch patch.now) }
-    ensures { IsTrue result ↔ IsApart reads.chunks patch.now }
+    ensures { IsTrue result ↔ WritesApart reads.chunks patch.now }
 {
     let first = usize::from(patch.offset);
     reads.is_apart(first, first + patch.bytes.len() - 1)

@@ -7,7 +7,7 @@ use Rattle.std.proofs.lemmas.Map.Keys.{IsDistinct-head, IsDistinct-tail}
 use Rattle.std.proofs.Permutation.{every_at}
 use Rattle.std.proofs.lemmas.Option.{slice_get_within, get_or_from_slice_get}
 use Rattle.indexmap.specs.IndexMap.{insert_entry}
-use Rattle.image_model.specs.Walk.{Named, pair_of, reached_list}
+use Rattle.image_model.specs.Walk.{Named, pair_of_named, reached_list}
 
 -- a pair whose key is new goes last
 pub inserted : (es : List (ℕ × ℕ)) (k v : ℕ) → list_any (nat_eq k) (keys_of es) ≡ false → insert_entry nat_eq es k v ≡ es ++ (k, v) ∷ []
@@ -29,13 +29,13 @@ new_key (x ∷ xs) (suc i) k once at =
     let head : nat_eq k x ≡ false = nat_eq_equiv.symm k x ∙ subst (λ y. nat_eq x y ≡ false) (get_or_from_slice_get xs i k k at) other in
     λ j. head j || new_key xs i k (IsDistinct-tail nat_eq x xs once) at j
 
-take-keys : (named : List Named) (i : ℕ) → take i (keys_of (map pair_of named)) ≡ keys_of (map pair_of (take i named))
+take-keys : (named : List Named) (i : ℕ) → take i (keys_of (map pair_of_named named)) ≡ keys_of (map pair_of_named (take i named))
 take-keys [] zero = refl
 take-keys [] (suc i) = refl
 take-keys (f ∷ named) zero = refl
 take-keys (f ∷ named) (suc i) = ap (λ l. f.0 ∷ l) (take-keys named i)
 
-get-keys : (named : List Named) (i : ℕ) → slice_get (keys_of (map pair_of named)) i ≡ option_map (λ f. f.0) (slice_get named i)
+get-keys : (named : List Named) (i : ℕ) → slice_get (keys_of (map pair_of_named named)) i ≡ option_map (λ f. f.0) (slice_get named i)
 get-keys [] i = refl
 get-keys (f ∷ named) zero = refl
 get-keys (f ∷ named) (suc i) = get-keys named i

@@ -4,8 +4,8 @@ ghost use Rattle.std.specs.Prelude.{◌≡◌, ◌≤◌, ◌<◌, length};
 ghost use Rattle.std.specs.Option.{option_to_list};
 ghost use Rattle.xn_model.specs.Images.{block_of};
 ghost use Rattle.image_model.specs.Walk.{add_all, some_named, names_from, template_name, slot_name, visit_root};
-ghost use Rattle.templates.specs.Tables.{types_of};
-ghost use Rattle.crash_check.specs.Answers.{Answers};
+ghost use Rattle.templates.specs.Tables.{table_types};
+ghost use Rattle.crash_check.specs.Answers.{AnswersAs};
 
 use crate::blocks::{block, is_blank_from};
 use crate::named::NamedBlocks;
@@ -22,7 +22,7 @@ pub fn visit_root(
 ) -> Result<NamedBlocks, ImageFault>
     requires some { 0 < length blocks.now }
     requires few { length blocks.now ≤ 32768 }
-    ensures { Answers result (λ named. named.entries) (visit_root (types_of table.now) (length blocks.now) (block_of blocks.now)) }
+    ensures { AnswersAs result (λ named. named.entries) (visit_root (table_types table.now) (length blocks.now) (block_of blocks.now)) }
 {
     let root = block(blocks, 0);
     if !is_blank_from(root, table.size(0, root) as usize) {
@@ -47,7 +47,7 @@ fn add_templates(
 ) -> Result<(), ImageFault>
     requires few { count ≤ 32768 }
     requires places { places ≤ 16 }
-    ensures { Answers result (λ _. named.new.entries) (add_all (types_of table.now) count 0 named.old.entries (names_from (template_name root.now) 0 places)) }
+    ensures { AnswersAs result (λ _. named.new.entries) (add_all (table_types table.now) count 0 named.old.entries (names_from (template_name root.now) 0 places)) }
 {
     for place in 0..places {
         add_some(named, table, count, pointer(root, place), 1, None)?;
@@ -65,7 +65,7 @@ fn add_roots(
 ) -> Result<(), ImageFault>
     requires few { count ≤ 32768 }
     requires slots { slots ≤ 32 }
-    ensures { Answers result (λ _. named.new.entries) (add_all (types_of table.now) count 0 named.old.entries (names_from (slot_name root.now) 0 slots)) }
+    ensures { AnswersAs result (λ _. named.new.entries) (add_all (table_types table.now) count 0 named.old.entries (names_from (slot_name root.now) 0 slots)) }
 {
     for slot in 0..slots {
         let pair = root_slot(root, slot);
@@ -84,7 +84,7 @@ fn add_some(
     fs: Option<u8>,
 ) -> Result<(), ImageFault>
     requires { count ≤ 32768 }
-    ensures { Answers result (λ _. named.new.entries) (add_all (types_of table.now) count 0 named.old.entries (option_to_list (some_named fs (block, ty)))) }
+    ensures { AnswersAs result (λ _. named.new.entries) (add_all (table_types table.now) count 0 named.old.entries (option_to_list (some_named fs (block, ty)))) }
 {
     if block == 0 {
         return Ok(());

@@ -8,7 +8,7 @@ use Rattle.xn_model.specs.Root.{has_type}
 use Rattle.xn_model.specs.Lives.{Lives, durable_bytes, is_pending, life_at, root_on_disk}
 use Rattle.block_cache.specs.Claims.{ClaimValue}
 use Rattle.dependencies.specs.Pending.{pends}
-use Rattle.dependencies.specs.Waiting.{WaitsFor, first_of, ComesAfter, IsAddedEarly, IsDroppedEarly, LacksType, Misses, has_state, is_written}
+use Rattle.dependencies.specs.Waiting.{WaitsFor, first_of, ComesAfter, IsAddedEarly, IsDroppedEarly, LacksType, Misses, has_state, is_newest_written}
 use Rattle.dependencies.proofs.HomeChanges.{found_home}
 
 pub none_added_early : (lives : Lives) (adds : List (ℕ × ℕ)) → ((k : ℕ) → k < length adds → has_state (life_at lives (get_or adds k (0, 0)).0) ≡ true) →
@@ -26,12 +26,12 @@ none_lacked lives adds all c lacks =
     let missing = ap (λ j. has_type (durable_bytes (life_at lives j)) lacks.1.1) (sym lacks.0) ∙ lacks.1.3 in
     false≢true (sym missing ∙ (ap (λ (p : ℕ × ℕ). has_type (root_on_disk lives) p.1) (sym there) ∙ all k lacks.1.2.1))
 
-pub none_dropped_early : (lives : Lives) (drops : List ℕ) → ((k : ℕ) → k < length drops → is_written (life_at lives (get_or drops k 0)) ≡ true) →
+pub none_dropped_early : (lives : Lives) (drops : List ℕ) → ((k : ℕ) → k < length drops → is_newest_written (life_at lives (get_or drops k 0)) ≡ true) →
     (c : ℕ) → IsDroppedEarly drops c (life_at lives c) → ⊥
 none_dropped_early lives drops all c early =
     let k = early.0.0 in
     let there = get_or_default drops k 0 c early.0.1 ∙ early.0.2 in
-    false≢true (sym early.1 ∙ (ap (λ j. is_written (life_at lives j)) (sym there) ∙ all k early.0.1))
+    false≢true (sym early.1 ∙ (ap (λ j. is_newest_written (life_at lives j)) (sym there) ∙ all k early.0.1))
 
 pub none_comes_after : (lives : Lives) (r : Option ℕ) (n : ℕ) (after : Option ℕ) → after ≡ Some n → is_some r ≡ is_pending lives n → IfNone r ((c : ℕ) → ComesAfter after (life_at lives c) → ⊥)
 none_comes_after lives None n after is found = λ c comes.

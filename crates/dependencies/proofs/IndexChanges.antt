@@ -5,7 +5,7 @@ use Rattle.xn_model.specs.Lives.{BlockState, Lives, accepted_at, begun_at, drops
 use Rattle.xn_model.specs.Calls.{first_pending, life_pending, new_life}
 use Rattle.dependencies.specs.Candidates.{CandidatesValue, Wakes, with_candidate}
 use Rattle.dependencies.specs.Counts.{counted_for, given, noted_for}
-use Rattle.dependencies.specs.Homes.{with_home}
+use Rattle.dependencies.specs.Homes.{homes_with}
 use Rattle.dependencies.specs.Index.{IndexValue, IsIndex, MayFree}
 use Rattle.dependencies.specs.Pending.{pends}
 use Rattle.dependencies.proofs.Counting.{accepted_counted, accepted_noted, begun_counted, started_counted, started_noted}
@@ -29,7 +29,7 @@ pub started_index : (lives : Lives) (index : IndexValue) (b n : ℕ) (f : Option
       oldest = noted_for f n index.pending index.oldest;
       dirty = slice_set index.dirty b true;
       candidates = with_candidate index.candidates b true;
-      homes = with_home index.homes n b;
+      homes = homes_with index.homes n b;
     })
 started_index lives index b n f ty bytes is pending oldest few room free fresh = record {
   counted = started_counted lives index.free index.pending b n f ty bytes is.counted pending free;
@@ -48,7 +48,7 @@ pub accepted_index : (lives : Lives) (index : IndexValue) (b : ℕ) (s : BlockSt
       oldest = noted_for f s.entry index.pending index.oldest;
       dirty = slice_set index.dirty b true;
       candidates = cond (life_pending (life_at lives b) == 0) (with_candidate index.candidates b true) index.candidates;
-      homes = with_home index.homes s.entry b;
+      homes = homes_with index.homes s.entry b;
     })
 accepted_index lives index b s f is pending oldest few room alive for fresh = record {
   counted = accepted_counted lives index.free index.pending b f s is.counted pending alive for;

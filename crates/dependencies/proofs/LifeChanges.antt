@@ -14,14 +14,14 @@ use Rattle.block_cache.proofs.ForCallers.{pointer_none}
 use Rattle.wait_lists.specs.Waiting.{at}
 use Rattle.dependencies.specs.Candidates.{AreCandidates, CandidatesValue, IsAccounted, Wakes, is_candidate, is_idle_with_entries, with_candidate}
 use Rattle.dependencies.specs.Pending.{is_dirty, pends}
-use Rattle.dependencies.specs.Waiting.{Misses, first_of, has_state, is_written}
+use Rattle.dependencies.specs.Waiting.{Misses, first_of, has_state, is_newest_written}
 use Rattle.dependencies.proofs.Accounts.{set_here, set_there}
 use Rattle.dependencies.proofs.Dirty.{clean_at, pends_not}
 
 -- One block
 
 -- what a block misses, by the life of the other
-misses_if : (claim : ClaimValue) (c : ℕ) (o p : Option Life) → (has_state o ≡ false → has_state p ≡ false) → (is_written o ≡ false → is_written p ≡ false) →
+misses_if : (claim : ClaimValue) (c : ℕ) (o p : Option Life) → (has_state o ≡ false → has_state p ≡ false) → (is_newest_written o ≡ false → is_newest_written p ≡ false) →
     ((n : ℕ) → pends n o ≡ true → pends n p ≡ true) → ((u : ℕ) → has_type (durable_bytes o) u ≡ false → has_type (durable_bytes p) u ≡ false) → Misses claim c o → Misses claim c p
 misses_if claim c o p states written pending types (inl added) = inl (added.0, added.1, states added.2)
 misses_if claim c o p states written pending types (inr (inl lacks)) = inr (inl (lacks.0, (lacks.1.0, lacks.1.1, lacks.1.2, types lacks.1.1 lacks.1.3)))
@@ -221,7 +221,7 @@ started_accounts lives q b n f ty bytes are free = record {
     none : life_at lives b ≡ None
     none = ap (λ o. unwrap_or o None) free
 
-    fresh : (c : ℕ) (claim : ClaimValue) (o : Option Life) → has_state o ≡ false → is_written o ≡ false → ((u : ℕ) → has_type (durable_bytes o) u ≡ has_type [] u) → Misses claim c None → Misses claim c o
+    fresh : (c : ℕ) (claim : ClaimValue) (o : Option Life) → has_state o ≡ false → is_newest_written o ≡ false → ((u : ℕ) → has_type (durable_bytes o) u ≡ has_type [] u) → Misses claim c None → Misses claim c o
     fresh c claim o states written types = misses_if claim c None o (λ e. states) (λ e. written) (λ m e. absurd (false≢true e)) (λ u e. types u ∙ e)
 
     at_new : life_at new b ≡ Some life
@@ -237,7 +237,7 @@ started_accounts lives q b n f ty bytes are free = record {
       | inl same ↦
           let now : life_at new c ≡ Some life = ap (life_at new) same ∙ at_new in
           let was : life_at lives c ≡ None = ap (life_at lives) same ∙ none in
-          fresh c claim (life_at new c) (ap has_state now) (ap is_written now) (λ u. ap (λ (o : Option Life). has_type (durable_bytes o) u) now) (subst (λ (o : Option Life). Misses claim c o) was m)
+          fresh c claim (life_at new c) (ap has_state now) (ap is_newest_written now) (λ u. ap (λ (o : Option Life). has_type (durable_bytes o) u) now) (subst (λ (o : Option Life). Misses claim c o) was m)
       | inr apart ↦ subst (λ (o : Option Life). Misses claim c o) (sym (set_other lives b c (Some life) apart)) m
     ]
 

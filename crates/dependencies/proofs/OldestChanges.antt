@@ -7,7 +7,7 @@ use Rattle.std.proofs.lemmas.List.Sums.{sum_by-cons}
 use Rattle.xn_model.specs.Lives.{BlockState, Life, Lives, accepted_at, begun_at, freed, is_for, life_at, settle, settled_at}
 use Rattle.xn_model.specs.Calls.{new_life, pending_in}
 use Rattle.xn_model.proofs.ForCallers.{accepted, accepted_is, change_same, each_at, set_other}
-use Rattle.dependencies.specs.Oldest.{AreOldest, has_for, is_entry_for, pends_for, with_entry}
+use Rattle.dependencies.specs.Oldest.{AreOldest, has_for, is_entry_for, pends_for, oldest_with_entry}
 use Rattle.dependencies.proofs.LifeChanges.{begun_with, emptied, freed_at}
 
 or_later : (t a : Bool) → a ≡ true → (t || a) ≡ true
@@ -92,11 +92,11 @@ abbrev IsOldOrNew : Lives → Lives → ℕ → ℕ → Type 0
 IsOldOrNew lives new f number = (fs n b : ℕ) → pends_for fs n (life_at new b) ≡ true → (pends_for fs n (life_at lives b) ≡ true) ⊎ ((n ≡ number) × (fs ≡ f))
 
 pub more_oldest : (lives new : Lives) (oldest : List ℕ) (f number pending : ℕ) → f < length oldest → pending ≡ sum_by (pending_in f) lives → AreOldest lives oldest →
-    IsOldOrNew lives new f number → AreOldest new (with_entry oldest f number pending)
+    IsOldOrNew lives new f number → AreOldest new (oldest_with_entry oldest f number pending)
 more_oldest lives new oldest f number pending within count are more fs n b few here = elim (cases_eq fs f) [
   | inl same ↦
-      let now : slice_index (with_entry oldest f number pending) fs ≡ value (pending == 0) =
-      ap (slice_index (with_entry oldest f number pending)) same ∙ get_or-set_same oldest f (value (pending == 0)) 0 within in
+      let now : slice_index (oldest_with_entry oldest f number pending) fs ≡ value (pending == 0) =
+      ap (slice_index (oldest_with_entry oldest f number pending)) same ∙ get_or-set_same oldest f (value (pending == 0)) 0 within in
       elim (more fs n b here) [
         | inl old ↦
             let some : 1 ≤ pending = let one = some_pending f n b lives (ap (λ (x : ℕ). pends_for x n (life_at lives b)) (sym same) ∙ old) in omega (arith, one, count) in
@@ -107,7 +107,7 @@ more_oldest lives new oldest f number pending within count are more fs n b few h
         | inr fresh ↦ let le = at_most (pending == 0) in let is = fresh.0 in omega (arith, now, le, is)
       ]
   | inr apart ↦
-      let now : slice_index (with_entry oldest f number pending) fs ≡ slice_index oldest fs = get_or-set_other oldest f fs (value (pending == 0)) 0 apart in
+      let now : slice_index (oldest_with_entry oldest f number pending) fs ≡ slice_index oldest fs = get_or-set_other oldest f fs (value (pending == 0)) 0 apart in
       elim (more fs n b here) [
         | inl old ↦ let le = are fs n b few old in omega (arith, now, le)
         | inr fresh ↦ absurd (apart fresh.1)
@@ -137,7 +137,7 @@ set_life fs (o ∷ os) zero l n e = e
 set_life fs (o ∷ os) (suc b) l n e = set_life fs os b l n e
 
 pub started_oldest : (lives : Lives) (oldest : List ℕ) (b number f ty : ℕ) (bytes : List ℕ) (pending : ℕ) → f < length oldest → pending ≡ sum_by (pending_in f) lives → AreOldest lives oldest →
-    AreOldest (slice_set lives b (Some (new_life number (Some f) ty bytes))) (with_entry oldest f number pending)
+    AreOldest (slice_set lives b (Some (new_life number (Some f) ty bytes))) (oldest_with_entry oldest f number pending)
 started_oldest lives oldest b number f ty bytes pending within count are =
     let life = new_life number (Some f) ty bytes in
     more_oldest lives (slice_set lives b (Some life)) oldest f number pending within count are (λ fs n x here. elim (cases_eq x b) [
@@ -169,7 +169,7 @@ accepted_pends b x f s fs n (Some l) for e = by (x == b) e
     ]
 
 pub accepted_oldest : (lives : Lives) (oldest : List ℕ) (b f : ℕ) (s : BlockState) (pending : ℕ) → f < length oldest → pending ≡ sum_by (pending_in f) lives → s.fs ≡ Some f → AreOldest lives oldest →
-    AreOldest (accepted_at lives b s) (with_entry oldest f s.entry pending)
+    AreOldest (accepted_at lives b s) (oldest_with_entry oldest f s.entry pending)
 accepted_oldest lives oldest b f s pending within count for are =
     more_oldest lives (accepted_at lives b s) oldest f s.entry pending within count are (λ fs n x here. accepted_pends b x f s fs n (life_at lives x) for
     (sym (ap (pends_for fs n) (ap (λ ls. life_at ls x) (accepted_is lives b s) ∙ each_at (accepted b s) lives x)) ∙ here))

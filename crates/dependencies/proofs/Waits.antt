@@ -13,7 +13,7 @@ use Rattle.xn_model.specs.Root.{has_type}
 use Rattle.xn_model.specs.Lives.{BlockState, Life, StoreState, life_at, has_durable, is_all_durable, is_pending, has_entry, is_after_met, is_type_met, root_on_disk, durable_bytes, bytes_of, safe}
 use Rattle.xn_model.specs.Rules.{IsConsistent, Rises}
 use Rattle.xn_model.proofs.ForCallers.{Contains-head, Contains-tail, Contains-cons, Contains-none, any_from}
-use Rattle.dependencies.specs.Unmet.{entries_at, waits_after, types_unmet, unmet}
+use Rattle.dependencies.specs.Unmet.{pending_entries_at, waits_after, types_unmet, unmet}
 
 -- a count that is 0
 none_missing : (p : ℕ → Bool) (xs : List ℕ) → (count_by (λ c. not (p c)) xs == 0) ≡ list_all p xs
@@ -75,7 +75,7 @@ module _ (T : Types) (state : StoreState) (b : ℕ) (l : Life) (earlier later : 
   after_met None e = refl
   after_met (Some n) e =
       let below = ok.waits.after b l s n alive here e in
-      let own = ap (λ o. has_entry (entries_at o) n) alive ∙ same_entries n below in
+      let own = ap (λ o. has_entry (pending_entries_at o) n) alive ∙ same_entries n below in
       ap (λ h. cond (is_pending state.lives n && not h) 1 0 == 0) own ∙ met (is_pending state.lives n) (has_entry earlier n)
 
   -- the types of what it adds

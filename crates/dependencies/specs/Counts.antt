@@ -2,7 +2,7 @@
 use Rattle.std.specs.Prelude.{ℕ, ◌+◌, Bool, true, List, [], Option, Some, None, slice_index, slice_set}
 use Rattle.std.specs.List.{fold}
 use Rattle.block_cache.specs.Claims.{ClaimValue}
-use Rattle.dependencies.specs.Oldest.{with_entry}
+use Rattle.dependencies.specs.Oldest.{oldest_with_entry}
 
 abbrev pub claim_drops : Option ClaimValue → List ℕ
 claim_drops None = []
@@ -19,4 +19,4 @@ counted_for (Some fs) pending = slice_set pending fs (slice_index pending fs + 1
 
 abbrev pub noted_for : Option ℕ → ℕ → List ℕ → List ℕ → List ℕ
 noted_for None n pending oldest = oldest
-noted_for (Some fs) n pending oldest = with_entry oldest fs n (slice_index pending fs)
+noted_for (Some fs) n pending oldest = oldest_with_entry oldest fs n (slice_index pending fs)

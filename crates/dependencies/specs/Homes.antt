@@ -10,8 +10,8 @@ slot_at homes n = slice_index_or homes (n % length homes) (0, 0)
 abbrev pub home_of : List (ℕ × ℕ) → ℕ → Option ℕ
 home_of homes n = cond ((slot_at homes n).0 == n) (Some (slot_at homes n).1) None
 
-abbrev pub with_home : List (ℕ × ℕ) → ℕ → ℕ → List (ℕ × ℕ)
-with_home homes n b = slice_set homes (n % length homes) (n, b)
+abbrev pub homes_with : List (ℕ × ℕ) → ℕ → ℕ → List (ℕ × ℕ)
+homes_with homes n b = slice_set homes (n % length homes) (n, b)
 
 -- an entry that has a home is pending there, if it is pending anywhere
 abbrev pub AreHomes : Lives → List (ℕ × ℕ) → Type 0

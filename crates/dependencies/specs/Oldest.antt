@@ -27,8 +27,8 @@ abbrev pub AreOldest : Lives → List ℕ → Type 0
 AreOldest lives oldest = (fs n b : ℕ) → fs < 32 → pends_for fs n (life_at lives b) ≡ true → slice_index oldest fs ≤ n
 
 -- the numbers once a new entry of a file system has come, of which so many were pending
-abbrev pub with_entry : List ℕ → ℕ → ℕ → ℕ → List ℕ
-with_entry oldest fs n pending = slice_set oldest fs (cond (pending == 0) n (min n (slice_index oldest fs)))
+abbrev pub oldest_with_entry : List ℕ → ℕ → ℕ → ℕ → List ℕ
+oldest_with_entry oldest fs n pending = slice_set oldest fs (cond (pending == 0) n (min n (slice_index oldest fs)))
 
 -- the entry n of the file system is pending in its home, if that is known
 abbrev pub MayPend : Lives → List (ℕ × ℕ) → ℕ → ℕ → Type 0

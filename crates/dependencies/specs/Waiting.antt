@@ -15,8 +15,8 @@ abbrev pub has_state : Option Life → Bool
 has_state o = alive_and (λ l. is_some l.durable) o
 
 -- the newest state is
-abbrev pub is_written : Option Life → Bool
-is_written o = alive_and (λ l. is_some l.durable && no_states l.pending) o
+abbrev pub is_newest_written : Option Life → Bool
+is_newest_written o = alive_and (λ l. is_some l.durable && no_states l.pending) o
 
 -- a block is added that has no state on the disk
 abbrev pub IsAddedEarly : List (ℕ × ℕ) → ℕ → Option Life → Type 0
@@ -28,7 +28,7 @@ LacksType adds c o = (c ≡ 0) × ((x : ℕ) × (u : ℕ) × Contains adds (x, u
 
 -- a block is dropped whose newest state is not there
 abbrev pub IsDroppedEarly : List ℕ → ℕ → Option Life → Type 0
-IsDroppedEarly drops c o = Contains drops c × (is_written o ≡ false)
+IsDroppedEarly drops c o = Contains drops c × (is_newest_written o ≡ false)
 
 -- the entry comes after one that is pending in a block
 abbrev pub ComesAfter : Option ℕ → Option Life → Type 0

@@ -1,7 +1,7 @@
 // In which block each of the newest entries is pending.
 
 ghost use Rattle.std.specs.Prelude.{◌≡◌, ◌+◌, ◌*◌, ◌%◌, ◌<◌, length, replicate, IfOk};
-ghost use Rattle.dependencies.specs.Homes.{home_of, with_home};
+ghost use Rattle.dependencies.specs.Homes.{home_of, homes_with};
 
 use std::alloc::{AllocError, Global};
 use std::marker::Model;
@@ -51,7 +51,7 @@ impl Homes {
 
     /// Notes the block of a new entry.
     pub fn put(&mut self, number: u64, block: u32)
-        ensures home { self.new ≡ with_home self.old number block }
+        ensures home { self.new ≡ homes_with self.old number block }
         ensures room { number % length self.old < length self.old }
     {
         let place = number % self.slots.len() as u64;

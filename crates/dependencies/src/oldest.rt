@@ -5,7 +5,7 @@ ghost use Rattle.xn_model.specs.Lives.{life_at};
 ghost use Rattle.block_cache.specs.Claims.{claim_of};
 ghost use Rattle.block_cache.specs.Views.{pending_at};
 ghost use Rattle.dependencies.specs.Homes.{AreHomes, home_of};
-ghost use Rattle.dependencies.specs.Oldest.{AreOldest, MayPend, MovesOn, is_number_for, pends_for, with_entry};
+ghost use Rattle.dependencies.specs.Oldest.{AreOldest, MayPend, MovesOn, is_number_for, pends_for, oldest_with_entry};
 
 use crate::homes::Homes;
 use block_cache::{Cache, Fs};
@@ -76,7 +76,7 @@ pub fn home_for(cache: &Cache, homes: &Homes, fs: Fs, number: u64) -> Option<u32
 
 /// Notes a new entry of a file system, of which so many were pending.
 pub fn note_number(oldest: &mut [u64; 32], fs: Fs, number: u64, pending: u32)
-    ensures { oldest.new ≡ with_entry oldest.old fs.number number pending }
+    ensures { oldest.new ≡ oldest_with_entry oldest.old fs.number number pending }
 {
     let place = fs.index();
     if pending == 0 {

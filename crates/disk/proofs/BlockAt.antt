@@ -6,29 +6,29 @@ use Rattle.std.proofs.lemmas.Slice.{drop-append-drop}
 use Rattle.std.proofs.lemmas.Bool.{cases_lt}
 use Rattle.std.proofs.lemmas.List.FromFn.{get_or-map-range_with_len, length-map-range_with_len}
 use Rattle.std.proofs.lemmas.Option.{slice_get-get_or}
-use Rattle.disk.specs.Images.{block_at, blocks_of, with_block}
+use Rattle.disk.specs.Images.{block_of_image, image_blocks, image_with_block}
 
-pub block_at-append_front : (xs ys : List ℕ) (k : ℕ) → 512 * k + 512 ≤ length xs → block_at (xs ++ ys) k ≡ block_at xs k
+pub block_at-append_front : (xs ys : List ℕ) (k : ℕ) → 512 * k + 512 ≤ length xs → block_of_image (xs ++ ys) k ≡ block_of_image xs k
 block_at-append_front xs ys k h = grind (arith, common_steps)
 
-pub block_at-append_last : (xs ys : List ℕ) (k : ℕ) → length xs ≡ 512 * k → length ys ≡ 512 → block_at (xs ++ ys) k ≡ ys
+pub block_at-append_last : (xs ys : List ℕ) (k : ℕ) → length xs ≡ 512 * k → length ys ≡ 512 → block_of_image (xs ++ ys) k ≡ ys
 block_at-append_last xs ys k h i = grind (arith, common_steps)
 
-pub block_at-take : (image : List ℕ) (n k : ℕ) → 512 * k + 512 ≤ n → n ≤ length image → block_at (take n image) k ≡ block_at image k
+pub block_at-take : (image : List ℕ) (n k : ℕ) → 512 * k + 512 ≤ n → n ≤ length image → block_of_image (take n image) k ≡ block_of_image image k
 block_at-take image n k h long =
-    sym (block_at-append_front (take n image) (drop n image) k (grind (arith, common_steps))) ∙ ap (λ xs. block_at xs k) (take-append-drop n image)
+    sym (block_at-append_front (take n image) (drop n image) k (grind (arith, common_steps))) ∙ ap (λ xs. block_of_image xs k) (take-append-drop n image)
 
-pub length-block_at : (image : List ℕ) (k : ℕ) → 512 * k + 512 ≤ length image → length (block_at image k) ≡ 512
+pub length-block_at : (image : List ℕ) (k : ℕ) → 512 * k + 512 ≤ length image → length (block_of_image image k) ≡ 512
 length-block_at image k h = grind (arith, common_steps)
 
 -- a byte of an image stands in its block
-pub get_or-block_at : (image : List ℕ) (k i : ℕ) → i < 512 → get_or (block_at image k) i 0 ≡ get_or image (512 * k + i) 0
+pub get_or-block_at : (image : List ℕ) (k i : ℕ) → i < 512 → get_or (block_of_image image k) i 0 ≡ get_or image (512 * k + i) 0
 get_or-block_at image k i h =
     get_or-take (512 * k + 512 - 512 * k) (drop (512 * k) image) i 0 (omega arith) ∙ get_or-drop (512 * k) image i 0
 
 -- an image of whole blocks is known by its blocks
 pub block_at-same : (a b : List ℕ) (n : ℕ) → length a ≡ 512 * n → length b ≡ 512 * n
-    → ((k : ℕ) → k < n → block_at a k ≡ block_at b k) → a ≡ b
+    → ((k : ℕ) → k < n → block_of_image a k ≡ block_of_image b k) → a ≡ b
 block_at-same a b n la lb same = ext_get_or 0 a b (la ∙ sym lb) (λ i h.
     let whole : 512 * (i / 512) + i % 512 ≡ i = omega arith in
     let rest : i % 512 < 512 = omega arith in
@@ -38,34 +38,34 @@ block_at-same a b n la lb same = ext_get_or 0 a b (la ∙ sym lb) (λ i h.
     ∙ (get_or-block_at b (i / 512) (i % 512) rest ∙ ap (λ j. get_or b j 0) whole))))
 
 -- the list of the blocks, place by place
-pub length-blocks_of : (image : List ℕ) → length (blocks_of image) ≡ length image / 512
-unfolding blocks_of
-length-blocks_of image = length-map-range_with_len (block_at image) 0 (length image / 512)
+pub length-blocks_of : (image : List ℕ) → length (image_blocks image) ≡ length image / 512
+unfolding image_blocks
+length-blocks_of image = length-map-range_with_len (block_of_image image) 0 (length image / 512)
 
-pub slice_get-blocks_of : (image : List ℕ) (k : ℕ) → k < length image / 512 → slice_get (blocks_of image) k ≡ Some (block_at image k)
-unfolding blocks_of
+pub slice_get-blocks_of : (image : List ℕ) (k : ℕ) → k < length image / 512 → slice_get (image_blocks image) k ≡ Some (block_of_image image k)
+unfolding image_blocks
 slice_get-blocks_of image k h =
-    slice_get-get_or (blocks_of image) k (block_at image k) (rw (length-blocks_of image) h)
-    ∙ ap Some (get_or-map-range_with_len (block_at image) 0 (length image / 512) k k (block_at image k) h (omega arith))
+    slice_get-get_or (image_blocks image) k (block_of_image image k) (rw (length-blocks_of image) h)
+    ∙ ap Some (get_or-map-range_with_len (block_of_image image) 0 (length image / 512) k k (block_of_image image k) h (omega arith))
 
 -- a block written into an image: that block is the new one, and all others stay
 pub length-with_block : (image : List ℕ) (k : ℕ) (bytes : List ℕ) → 512 * k + 512 ≤ length image → length bytes ≡ 512
-    → length (with_block image k bytes) ≡ length image
+    → length (image_with_block image k bytes) ≡ length image
 length-with_block image k bytes h l = grind (arith, common_steps)
 
 pub block_at-with_block_same : (image : List ℕ) (k : ℕ) (bytes : List ℕ) → 512 * k + 512 ≤ length image → length bytes ≡ 512
-    → block_at (with_block image k bytes) k ≡ bytes
+    → block_of_image (image_with_block image k bytes) k ≡ bytes
 block_at-with_block_same image k bytes h l = grind (arith, common_steps)
 
 pub block_at-with_block_other : (image : List ℕ) (k j : ℕ) (bytes : List ℕ) → 512 * k + 512 ≤ length image → length bytes ≡ 512
-    → j ≢ k → block_at (with_block image k bytes) j ≡ block_at image j
+    → j ≢ k → block_of_image (image_with_block image k bytes) j ≡ block_of_image image j
 block_at-with_block_other image k j bytes h l n =
     let front = take (512 * k) image in
     let back = drop (512 * k + 512) image in
     elim (cases_lt j k) [
       | inl before ↦
           block_at-append_front (front ++ bytes) back j (grind (arith, common_steps)) ∙ (block_at-append_front front bytes j (grind (arith, common_steps))
-          ∙ (sym (block_at-append_front front (drop (512 * k) image) j (grind (arith, common_steps))) ∙ ap (λ xs. block_at xs j) (take-append-drop (512 * k) image)))
+          ∙ (sym (block_at-append_front front (drop (512 * k) image) j (grind (arith, common_steps))) ∙ ap (λ xs. block_of_image xs j) (take-append-drop (512 * k) image)))
       | inr after ↦
           let past : 512 * k + 512 ≤ 512 * j = omega arith in
           ap (take (512 * j + 512 - 512 * j)) (drop-append-drop (512 * k + 512) image (front ++ bytes) (512 * j) past (grind (arith, common_steps)))

@@ -4,7 +4,7 @@ use Rattle.std.proofs.lemmas.Bool.{cases_eq}
 use Rattle.std.proofs.lemmas.List.{length-set}
 use Rattle.std.proofs.lemmas.Option.{same_Some, none-some, get_or_from_slice_get, slice_get_within}
 use Rattle.disk.specs.Lanes.{AreLanes}
-use Rattle.disk.specs.Images.{HoldsBytes, block_at, with_block}
+use Rattle.disk.specs.Images.{HoldsBytes, block_of_image, image_with_block}
 use Rattle.disk.specs.Mem.{MemoryLane, AreFreshLanes, fresh_lane}
 use Rattle.disk.proofs.SliceGet.{slice_get-set_same, slice_get-set_other, slice_get-push_front, slice_get-push_last}
 use Rattle.disk.proofs.BlockAt.{block_at-same, length-with_block, block_at-with_block_same, block_at-with_block_other}
@@ -21,13 +21,13 @@ HoldsBytes-same bytes_of places a b x y = block_at-same a b (length places) x.wh
 pub HoldsBytes-fresh : (image : List ℕ) (places : List (Option MemoryLane)) → AreFreshLanes image places → HoldsBytes (λ lane. lane.bytes) places image
 HoldsBytes-fresh image places x = record {
   whole = x.whole;
-  each = λ k h. (fresh_lane k (block_at image k), x.each k h, refl);
+  each = λ k h. (fresh_lane k (block_of_image image k), x.each k h, refl);
 }
 
 -- a lane that comes to a place brings its bytes into the image, and all other blocks stay
 pub HoldsBytes-set : {L : Type 0} (bytes_of : L → List ℕ) (places : List (Option L)) (image : List ℕ) (k : ℕ) (lane : L)
     → HoldsBytes bytes_of places image → k < length places → length (bytes_of lane) ≡ 512
-    → HoldsBytes bytes_of (slice_set places k (Some lane)) (with_block image k (bytes_of lane))
+    → HoldsBytes bytes_of (slice_set places k (Some lane)) (image_with_block image k (bytes_of lane))
 HoldsBytes-set bytes_of places image k lane held within long =
     let whole = held.whole in
     let fits : 512 * k + 512 ≤ length image = omega arith in
@@ -39,7 +39,7 @@ HoldsBytes-set bytes_of places image k lane held within long =
             | inl same ↦ (
               lane,
               ap (slice_get (slice_set places k (Some lane))) same ∙ slice_get-set_same places k (Some lane) within,
-              sym (ap (block_at (with_block image k (bytes_of lane))) same ∙ block_at-with_block_same image k (bytes_of lane) fits long),
+              sym (ap (block_of_image (image_with_block image k (bytes_of lane))) same ∙ block_at-with_block_same image k (bytes_of lane) fits long),
             )
             | inr other ↦ let p = held.each j below in
                 (p.0, slice_get-set_other places k j (Some lane) other ∙ p.1, p.2 ∙ sym (block_at-with_block_other image k j (bytes_of lane) fits long other))
@@ -48,7 +48,7 @@ HoldsBytes-set bytes_of places image k lane held within long =
 
 -- a lane at home holds its block of the image
 pub HoldsBytes-at : {L : Type 0} (bytes_of : L → List ℕ) (places : List (Option L)) (image : List ℕ) (k : ℕ) (lane : L)
-    → HoldsBytes bytes_of places image → slice_get places k ≡ Some (Some lane) → bytes_of lane ≡ block_at image k
+    → HoldsBytes bytes_of places image → slice_get places k ≡ Some (Some lane) → bytes_of lane ≡ block_of_image image k
 HoldsBytes-at bytes_of places image k lane held here =
     let p = held.each k (slice_get_within places k (Some lane) here) in
     ap bytes_of (same_Some lane p.0 (same_Some (Some lane) (Some p.0) (sym here ∙ p.1))) ∙ p.2
@@ -61,10 +61,10 @@ HoldsBytes-missing bytes_of places image missing held =
     none-some p.0 (sym missing.2 ∙ get_or_from_slice_get places missing.0 (Some p.0) None p.1)
 
 -- fresh lanes over the first blocks of an image, in a list that grows
-module _ (image : List ℕ) (places : List (Option MemoryLane)) (n : ℕ) (long : length places ≡ n) (each : (k : ℕ) → k < n → slice_get places k ≡ Some (Some (fresh_lane k (block_at image k)))) where
-  pub fresh-more : (lane : MemoryLane) → lane ≡ fresh_lane n (block_at image n) → (k : ℕ) → k < n + 1 → slice_get (places ++ Some lane ∷ []) k ≡ Some (Some (fresh_lane k (block_at image k)))
+module _ (image : List ℕ) (places : List (Option MemoryLane)) (n : ℕ) (long : length places ≡ n) (each : (k : ℕ) → k < n → slice_get places k ≡ Some (Some (fresh_lane k (block_of_image image k)))) where
+  pub fresh-more : (lane : MemoryLane) → lane ≡ fresh_lane n (block_of_image image n) → (k : ℕ) → k < n + 1 → slice_get (places ++ Some lane ∷ []) k ≡ Some (Some (fresh_lane k (block_of_image image k)))
   fresh-more lane is k lt = elim (cases_eq k n) [
-    | inl same ↦ slice_get-push_last places (Some lane) k (long ∙ sym same) ∙ ap (λ l. Some (Some l)) (is ∙ ap (λ j. fresh_lane j (block_at image j)) (sym same))
+    | inl same ↦ slice_get-push_last places (Some lane) k (long ∙ sym same) ∙ ap (λ l. Some (Some l)) (is ∙ ap (λ j. fresh_lane j (block_of_image image j)) (sym same))
     | inr other ↦ slice_get-push_front places (Some lane) k (omega arith) ∙ each k (omega arith)
   ]
 
@@ -73,7 +73,7 @@ module _ (image : List ℕ) (places : List (Option MemoryLane)) (n : ℕ) (long 
     few = omega arith;
     at_home = λ k lane at.
         let within : k < n = let h = slice_get_within places k (Some lane) at in omega arith in
-        ap (λ (l : MemoryLane). l.number) (same_Some lane (fresh_lane k (block_at image k)) (same_Some (Some lane) (Some (fresh_lane k (block_at image k))) (sym at ∙ each k within)));
+        ap (λ (l : MemoryLane). l.number) (same_Some lane (fresh_lane k (block_of_image image k)) (same_Some (Some lane) (Some (fresh_lane k (block_of_image image k))) (sym at ∙ each k within)));
   }
 
   pub fresh-all : length image ≡ 512 * n → AreFreshLanes image places
@@ -82,20 +82,20 @@ module _ (image : List ℕ) (places : List (Option MemoryLane)) (n : ℕ) (long 
 -- fresh lanes over the last blocks of an image, in places that are filled from the last one down
 module _ (image : List ℕ) (places : List (Option MemoryLane)) (n done b : ℕ) (at : b + done + 1 ≡ n) (count : length places ≡ n)
     (empty : (k : ℕ) → k + done < n → slice_get places k ≡ Some None)
-    (each : (k : ℕ) → n ≤ k + done → k < n → slice_get places k ≡ Some (Some (fresh_lane k (block_at image k)))) where
+    (each : (k : ℕ) → n ≤ k + done → k < n → slice_get places k ≡ Some (Some (fresh_lane k (block_of_image image k)))) where
   abbrev filled : List (Option MemoryLane)
-  filled = slice_set places b (Some (fresh_lane b (block_at image b)))
+  filled = slice_set places b (Some (fresh_lane b (block_of_image image b)))
 
   pub filled-count : length filled ≡ n
-  filled-count = length-set places b (Some (fresh_lane b (block_at image b))) ∙ count
+  filled-count = length-set places b (Some (fresh_lane b (block_of_image image b))) ∙ count
 
   pub filled-empty : (k : ℕ) → k + (done + 1) < n → slice_get filled k ≡ Some None
-  filled-empty k lt = slice_get-set_other places b k (Some (fresh_lane b (block_at image b))) (omega arith) ∙ empty k (omega arith)
+  filled-empty k lt = slice_get-set_other places b k (Some (fresh_lane b (block_of_image image b))) (omega arith) ∙ empty k (omega arith)
 
-  pub filled-each : (k : ℕ) → n ≤ k + (done + 1) → k < n → slice_get filled k ≡ Some (Some (fresh_lane k (block_at image k)))
+  pub filled-each : (k : ℕ) → n ≤ k + (done + 1) → k < n → slice_get filled k ≡ Some (Some (fresh_lane k (block_of_image image k)))
   filled-each k past lt = elim (cases_eq k b) [
     | inl same ↦
         ap (slice_get filled) same
-        ∙ (slice_get-set_same places b (Some (fresh_lane b (block_at image b))) (omega arith) ∙ ap (λ j. Some (Some (fresh_lane j (block_at image j)))) (sym same))
-    | inr other ↦ slice_get-set_other places b k (Some (fresh_lane b (block_at image b))) other ∙ each k (omega arith) lt
+        ∙ (slice_get-set_same places b (Some (fresh_lane b (block_of_image image b))) (omega arith) ∙ ap (λ j. Some (Some (fresh_lane j (block_of_image image j)))) (sym same))
+    | inr other ↦ slice_get-set_other places b k (Some (fresh_lane b (block_of_image image b))) other ∙ each k (omega arith) lt
   ]

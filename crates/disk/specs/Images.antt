@@ -2,18 +2,18 @@ use Rattle.std.specs.Prelude.{◌≡◌, ℕ, ◌+◌, ◌*◌, ◌/◌, ◌<◌
 use Rattle.std.specs.List.{range_with_len}
 
 -- the bytes of one block of an image
-abbrev pub block_at : List ℕ → ℕ → List ℕ
-block_at image block = slice_range image (512 * block) (512 * block + 512)
+abbrev pub block_of_image : List ℕ → ℕ → List ℕ
+block_of_image image block = slice_range image (512 * block) (512 * block + 512)
 
 -- the blocks of an image, in order
-unfoldable pub blocks_of : List ℕ → List (List ℕ)
-blocks_of image = map (block_at image) (range_with_len 0 (length image / 512))
+unfoldable pub image_blocks : List ℕ → List (List ℕ)
+image_blocks image = map (block_of_image image) (range_with_len 0 (length image / 512))
 
 -- the image with one block replaced
-abbrev pub with_block : List ℕ → ℕ → List ℕ → List ℕ
-with_block image block bytes = take (512 * block) image ++ bytes ++ drop (512 * block + 512) image
+abbrev pub image_with_block : List ℕ → ℕ → List ℕ → List ℕ
+image_with_block image block bytes = take (512 * block) image ++ bytes ++ drop (512 * block + 512) image
 
 -- Every place has its lane, and the bytes of the lanes, one after another, are the image.
 pub record HoldsBytes {L : Type 0} (bytes_of : L → List ℕ) (places : List (Option L)) (image : List ℕ) : Type 0 where
   pub whole : length image ≡ 512 * length places
-  pub each : (k : ℕ) → k < length places → (lane : L) × (slice_get places k ≡ Some (Some lane)) × (bytes_of lane ≡ block_at image k)
+  pub each : (k : ℕ) → k < length places → (lane : L) × (slice_get places k ≡ Some (Some lane)) × (bytes_of lane ≡ block_of_image image k)

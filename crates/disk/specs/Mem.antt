@@ -1,6 +1,6 @@
 use Rattle.std.specs.Prelude.{◌≡◌, ◌≢◌, ℕ, ◌+◌, ◌*◌, ◌%◌, ◌^◌, ◌<◌, List, length, Option, Some, None, Bool, true, false, Result, Ok, Err, IsSome, slice_get}
 use Rattle.std.specs.Prelude.{unwrap_or, cond, ◌⊎◌}
-use Rattle.disk.specs.Images.{block_at}
+use Rattle.disk.specs.Images.{block_of_image}
 
 -- A lane in memory, as contracts see it. `write_fault` is what the next write is to do: fail, and keep the new bytes or not.
 pub record MemoryLane : Type 0 where
@@ -36,8 +36,8 @@ memory_leaves lane bytes = (bytes ≡ lane.settled) ⊎ (lane.given ≡ Some byt
 abbrev pub bytes_left : MemoryLane → Bool → List ℕ
 bytes_left lane kept = cond kept (unwrap_or lane.given lane.settled) lane.settled
 
-abbrev pub crashed : MemoryLane → Bool → MemoryLane
-crashed lane kept = record lane { bytes = bytes_left lane kept; settled = bytes_left lane kept; given = None }
+abbrev pub crashed_lane : MemoryLane → Bool → MemoryLane
+crashed_lane lane kept = record lane { bytes = bytes_left lane kept; settled = bytes_left lane kept; given = None }
 
 -- the count of faults after one more
 abbrev pub next_count : ℕ → ℕ
@@ -79,7 +79,7 @@ sync_failed lane = record lane { faults = next_count lane.faults; sync_fault = f
 -- every place has a lane, fresh, over its block of the image
 pub record AreFreshLanes (image : List ℕ) (places : List (Option MemoryLane)) : Type 0 where
   pub whole : length image ≡ 512 * length places
-  pub each : (k : ℕ) → k < length places → slice_get places k ≡ Some (Some (fresh_lane k (block_at image k)))
+  pub each : (k : ℕ) → k < length places → slice_get places k ≡ Some (Some (fresh_lane k (block_of_image image k)))
 
 -- what a read, a write and a sync of such a lane answer: they fail exactly where they were told to
 abbrev pub memory_read : {E : Type 0} → MemoryLane → Result (Unit {0}) E → MemoryLane → Type 0

@@ -1,8 +1,8 @@
 ghost use Rattle.std.specs.Prelude.{◌≡◌, ◌≢◌, IsErr, Contains, ◌⊎◌, ℕ, ◌+◌, ◌*◌, ◌/◌, ◌%◌, ◌^◌, ◌<◌, ◌≤◌, List, length, Option, Some, None, IfOk, OnOk, OnErr};
 ghost use Rattle.std.specs.Prelude.{IfErr, IsOk, IsNone, IsSome, IfSome, ◌↔◌, slice_get, slice_set, slice_range, take, IsTrue, true, false};
 ghost use Rattle.disk.specs.Lanes.{CountsOne};
-ghost use Rattle.disk.specs.Images.{HoldsBytes, block_at};
-ghost use Rattle.disk.specs.Mem.{MemoryLane, AreFreshLanes, fresh_lane, read_failed, write_failed, sync_failed, synced, crashed, memory_read, memory_write};
+ghost use Rattle.disk.specs.Images.{HoldsBytes, block_of_image};
+ghost use Rattle.disk.specs.Mem.{MemoryLane, AreFreshLanes, fresh_lane, read_failed, write_failed, sync_failed, synced, crashed_lane, memory_read, memory_write};
 ghost use Rattle.disk.specs.Mem.{memory_sync, memory_leaves, IsGivenAfterFault};
 
 use crate::blocks::Blocks;
@@ -111,7 +111,7 @@ impl MemLane {
     /// Crashes: the block then has the last bytes that were given to a write since its last good sync, where there are such
     /// and they are kept, and else its settled ones.
     pub fn crash(&mut self, kept: bool)
-        ensures { self.new ≡ crashed self.old kept }
+        ensures { self.new ≡ crashed_lane self.old kept }
     {
         match self.held.open_write {
             OpenWrite::Absent => {}
@@ -373,7 +373,7 @@ fn bytes_of_all(alloc: Global, lanes: &Lanes<MemLane>) -> Option<Vec<u8>>
 /// The bytes of one block of an image.
 fn block_of(image: &[u8], block: u32) -> &[u8; BLOCK_LEN]
     requires { 512 * block + 512 ≤ length image.now }
-    ensures { result.now ≡ block_at image.now block }
+    ensures { result.now ≡ block_of_image image.now block }
 {
     let start = BLOCK_LEN * block as usize;
     match image[start..start + BLOCK_LEN].as_array() {

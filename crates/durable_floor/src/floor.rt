@@ -2,7 +2,7 @@
 
 ghost use Rattle.std.specs.Prelude.{◌≡◌, ◌≤◌, ◌<◌, max, slice_index, slice_set, replicate, IfOk};
 ghost use Rattle.durable_floor.specs.Floors.{Knows};
-ghost use Rattle.durable_floor.specs.Rules.{zeros};
+ghost use Rattle.durable_floor.specs.Rules.{zero_floor};
 
 use crate::rule::{Law, Meeting, Meets, Newcomer, Raises, Reads, View};
 use atomic_table::{Seat, Table};
@@ -88,8 +88,8 @@ impl Floor {
     /// A floor of zeros, the one who raises it, and so many readers, which have seen nothing. `Err` comes only for want of
     /// memory.
     pub fn new(alloc: Global, readers: usize) -> Result<(Floor, Publisher, Vec<Reader>), AllocError>
-        ensures publisher { IfOk result (λ r. r.1 ≡ record { floor = r.0; seen = zeros }) }
-        ensures readers { IfOk result (λ r. r.2.items ≡ replicate readers (record { floor = r.0; seen = zeros })) }
+        ensures publisher { IfOk result (λ r. r.1 ≡ record { floor = r.0; seen = zero_floor }) }
+        ensures readers { IfOk result (λ r. r.2.items ≡ replicate readers (record { floor = r.0; seen = zero_floor })) }
     {
         let (table, mut seat) = Table::of_words(alloc, &[0; 32], &())?;
         let mut all = Vec::with_capacity(alloc, readers)?;

@@ -72,9 +72,9 @@ impl Join<View> for Meeting {
 }
 
 impl Split<View> for Meeting {
-    ghost use Rattle.durable_floor.specs.Rules.{alone, parted};
+    ghost use Rattle.durable_floor.specs.Rules.{alone, watched};
 
     ghost left = { alone };
 
-    ghost right = { parted };
+    ghost right = { watched };
 }

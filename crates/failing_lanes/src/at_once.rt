@@ -1,7 +1,7 @@
 // Four workers at once, beside two flushers or before a flush under the lock, over lanes of which one fails.
 
 ghost use Rattle.std.specs.Prelude.{◌≡◌, All};
-ghost use Rattle.durable_floor.specs.Rules.{zeros};
+ghost use Rattle.durable_floor.specs.Rules.{zero_floor};
 
 use crate::alone::{Ended, How, Told, end_of, mounted, settle};
 use crate::calls::edit_of;
@@ -216,7 +216,7 @@ fn share<L: Lane + Drop, K: Naming>(
     publisher: Publisher,
 ) -> Option<Shared<L, Open, K>>
     requires floor { floor ≡ K.floor }
-    requires publisher { publisher ≡ record { floor = floor; seen = zeros } }
+    requires publisher { publisher ≡ record { floor = floor; seen = zero_floor } }
 {
     let floor = Arc::new(alloc, floor).ok()?;
     let hub = Hub::new(kernel, publisher, Arc::try_clone(&floor).ok()?);
@@ -252,7 +252,7 @@ fn scene<L: Lane + Drop + Send, K: Naming + Send + Sync, R: Threads + Wait + Syn
     writer: Writer,
 ) -> Option<(Ended, u32)>
     requires floor { floor ≡ K.floor }
-    requires publisher { publisher ≡ record { floor = floor; seen = zeros } }
+    requires publisher { publisher ≡ record { floor = floor; seen = zero_floor } }
     requires readers { All (λ reader. reader.floor ≡ K.floor) readers.items }
 {
     let shared: Shared<L, Open, K> = share(alloc, kernel, floor, publisher)?;

@@ -8,11 +8,11 @@ use Rattle.std.proofs.lemmas.List.{map-append}
 use Rattle.udf_code.specs.declared.word.Word.TheVariants.{Set, Add, Mul, Load4, Emit}
 use Rattle.udf_code.specs.Tree.{Tree, Stop, Plain, If, Loop, Less}
 use Rattle.udf_run.specs.declared.pair.Pair.{Pair}
-use Rattle.udf_run.specs.Meaning.{machine, reset, write, number_at, meaning}
+use Rattle.udf_run.specs.Meaning.{machine, reset, write_register, number_at, meaning}
 use Rattle.xn_model.specs.Root.{word_at, unless_empty}
-use Rattle.templates.specs.Meaning.{answer_of, pair_of, pairs_after, owned_by}
+use Rattle.templates.specs.Meaning.{answer_of, numbers_of_pair, pairs_after, owned_by}
 use Rattle.ffs_model.specs.Library.{pointed, pointer_word, direct_word, inode_pairs}
-use Rattle.ffs_format.specs.Library.{root_template, inode_template, pointer_template}
+use Rattle.ffs_format.specs.Library.{library_root, inode_template, pointer_template}
 use Rattle.ffs_format.proofs.Turns.{number_is_word, written, plain, looped, named, named_pairs, length-named, emitted, Turned, all_turns, one_by_one}
 
 -- registers that a loop changes
@@ -36,7 +36,7 @@ abbrev root_body : Tree
 root_body = Plain (Mul 3 2 1) root_load
 
 root_turn : (m : List ℕ) (k : ℕ) (r : Three) (es : List Pair) → k < 16 → length es ≤ 0 + 1 * k →
-    Turned root_registers (meaning root_body m (write (machine (root_registers r) es) 2 k)) (map pair_of es ++ option_to_list (unless_empty (pointer_word m k, 4))) (0 + 1 * suc k)
+    Turned root_registers (meaning root_body m (write_register (machine (root_registers r) es) 2 k)) (map numbers_of_pair es ++ option_to_list (unless_empty (pointer_word m k, 4))) (0 + 1 * suc k)
 root_turn m k r es lt few =
     let place = k * 4 in
     let word = number_at 4 m place in
@@ -53,7 +53,7 @@ root_turn m k r es lt few =
       ends = plain m (Mul 3 2 1) root_load start placed (written (nat_lt place (2 ^ 32)) start 3 place (lt-ltb place (2 ^ 32) (omega arith)))
           ∙ (plain m (Load4 4 3) root_test placed (machine (root_registers last) es) (written (nat_le place 508) placed 4 word (le-leb place 508 (omega arith)))
           ∙ emitted m (root_registers last) es word 4 (omega arith) (nat_lt 0 word));
-      has = map-append pair_of es (named word 4) ∙ ap (λ l. map pair_of es ++ l) (named_pairs word 4 ∙ ap (λ x. option_to_list (unless_empty (x, 4))) is);
+      has = map-append numbers_of_pair es (named word 4) ∙ ap (λ l. map numbers_of_pair es ++ l) (named_pairs word 4 ∙ ap (λ x. option_to_list (unless_empty (x, 4))) is);
       few = omega arith;
     }
 
@@ -71,8 +71,8 @@ root_pairs m n h =
 root_program_owns : (m : List ℕ) (n : ℕ) → n ≡ 16 → pairs_after (meaning (root_program n) m reset) ≡ pointed (pointer_word m) 16 4
 root_program_owns m n e = root_pairs m n (omega arith) ∙ ap (λ k. pointed (pointer_word m) k 4) e
 
-pub root_owns : (m : List ℕ) → owned_by root_template.owns m ≡ pointed (pointer_word m) 16 4
-unfolding owned_by root_template
+pub root_owns : (m : List ℕ) → owned_by library_root.owns m ≡ pointed (pointer_word m) 16 4
+unfolding owned_by library_root
 root_owns m = root_program_owns m 16 refl
 
 -- Type 5
@@ -90,7 +90,7 @@ abbrev pointer_body : Tree
 pointer_body = Plain (Mul 4 3 1) pointer_load
 
 pointer_turn : (m : List ℕ) (k : ℕ) (r : Three) (es : List Pair) → k < 128 → length es ≤ 0 + 1 * k →
-    Turned pointer_registers (meaning pointer_body m (write (machine (pointer_registers r) es) 3 k)) (map pair_of es ++ option_to_list (unless_empty (pointer_word m k, 2))) (0 + 1 * suc k)
+    Turned pointer_registers (meaning pointer_body m (write_register (machine (pointer_registers r) es) 3 k)) (map numbers_of_pair es ++ option_to_list (unless_empty (pointer_word m k, 2))) (0 + 1 * suc k)
 pointer_turn m k r es lt few =
     let place = k * 4 in
     let word = number_at 4 m place in
@@ -107,7 +107,7 @@ pointer_turn m k r es lt few =
       ends = plain m (Mul 4 3 1) pointer_load start placed (written (nat_lt place (2 ^ 32)) start 4 place (lt-ltb place (2 ^ 32) (omega arith)))
           ∙ (plain m (Load4 5 4) pointer_test placed (machine (pointer_registers last) es) (written (nat_le place 508) placed 5 word (le-leb place 508 (omega arith)))
           ∙ emitted m (pointer_registers last) es word 2 (omega arith) (nat_lt 0 word));
-      has = map-append pair_of es (named word 2) ∙ ap (λ l. map pair_of es ++ l) (named_pairs word 2 ∙ ap (λ x. option_to_list (unless_empty (x, 2))) is);
+      has = map-append numbers_of_pair es (named word 2) ∙ ap (λ l. map numbers_of_pair es ++ l) (named_pairs word 2 ∙ ap (λ x. option_to_list (unless_empty (x, 2))) is);
       few = omega arith;
     }
 
@@ -162,7 +162,7 @@ abbrev direct_body : Tree
 direct_body = Plain (Mul 11 10 2) direct_add
 
 direct_turn : (m : List ℕ) (p : ℕ) → p < 8 → (base : ℕ) → base ≤ 13 * p → (k : ℕ) (r : Inner) (es : List Pair) → k < 12 → length es ≤ base + 1 * k →
-    Turned (inner_registers p) (meaning direct_body m (write (machine (inner_registers p r) es) 10 k)) (map pair_of es ++ option_to_list (unless_empty (direct_word m p k, 2))) (base + 1 * suc k)
+    Turned (inner_registers p) (meaning direct_body m (write_register (machine (inner_registers p r) es) 10 k)) (map numbers_of_pair es ++ option_to_list (unless_empty (direct_word m p k, 2))) (base + 1 * suc k)
 direct_turn m p within base low k r es lt few =
     let place = k * 4 + (p * 64 + 8) in
     let word = number_at 4 m place in
@@ -181,7 +181,7 @@ direct_turn m p within base low k r es lt few =
           ∙ (plain m (Add 11 11 9) direct_load scaled placed (written (nat_lt place (2 ^ 32)) scaled 11 place (lt-ltb place (2 ^ 32) (omega arith)))
           ∙ (plain m (Load4 12 11) direct_test placed (machine (inner_registers p last) es) (written (nat_le place 508) placed 12 word (le-leb place 508 (omega arith)))
           ∙ emitted m (inner_registers p last) es word 2 (omega arith) (nat_lt 0 word)));
-      has = map-append pair_of es (named word 2) ∙ ap (λ l. map pair_of es ++ l) (named_pairs word 2 ∙ ap (λ x. option_to_list (unless_empty (x, 2))) is);
+      has = map-append numbers_of_pair es (named word 2) ∙ ap (λ l. map numbers_of_pair es ++ l) (named_pairs word 2 ∙ ap (λ x. option_to_list (unless_empty (x, 2))) is);
       few = omega arith;
     }
 
@@ -208,7 +208,7 @@ abbrev pairs_of_inode : List ℕ → ℕ → ℕ → List (ℕ × ℕ)
 pairs_of_inode m n p = pointed (direct_word m p) n 2 ++ option_to_list (unless_empty (word_at m (64 * p + 56), 5))
 
 inode_turn : (m : List ℕ) (n : ℕ) → n ≡ 12 → (p : ℕ) (r : Outer) (es : List Pair) → p < 8 → length es ≤ 0 + 13 * p →
-    Turned outer_registers (meaning (inode_body n) m (write (machine (outer_registers r) es) 7 p)) (map pair_of es ++ pairs_of_inode m n p) (0 + 13 * suc p)
+    Turned outer_registers (meaning (inode_body n) m (write_register (machine (outer_registers r) es) 7 p)) (map numbers_of_pair es ++ pairs_of_inode m n p) (0 + 13 * suc p)
 inode_turn m n all p r es lt few =
     let start = machine (outer_registers (record { a = p; b = r.b; c = r.c; d = r.d; e = r.e; f = r.f })) es in
     let scaled = machine (outer_registers (record { a = p; b = p * 64; c = r.c; d = r.d; e = r.e; f = r.f })) es in
@@ -235,10 +235,10 @@ inode_turn m n all p r es lt few =
           ∙ (plain m (Add 9 8 6) last_load turned placed (written (nat_lt place (2 ^ 32)) turned 9 place (lt-ltb place (2 ^ 32) (omega arith)))
           ∙ (plain m (Load4 12 9) last_test placed (machine (outer_registers last) end.es) (written (nat_le place 508) placed 12 word (le-leb place 508 (omega arith)))
           ∙ emitted m (outer_registers last) end.es word 5 (omega arith) (nat_lt 0 word)))));
-      has = map-append pair_of end.es (named word 5)
-          ∙ ((λ i. (end.has ∙ ap (λ l. map pair_of es ++ l) (one_by_one (λ k. unless_empty (direct_word m p k, 2)) (range_with_len 0 n))) i
+      has = map-append numbers_of_pair end.es (named word 5)
+          ∙ ((λ i. (end.has ∙ ap (λ l. map numbers_of_pair es ++ l) (one_by_one (λ k. unless_empty (direct_word m p k, 2)) (range_with_len 0 n))) i
           ++ (named_pairs word 5 ∙ ap (λ x. option_to_list (unless_empty (x, 5))) is) i)
-          ∙ append_assoc (map pair_of es) (pointed (direct_word m p) n 2) (option_to_list (unless_empty (word_at m (64 * p + 56), 5))));
+          ∙ append_assoc (map numbers_of_pair es) (pointed (direct_word m p) n 2) (option_to_list (unless_empty (word_at m (64 * p + 56), 5))));
       few = omega arith;
     }
 
@@ -260,8 +260,8 @@ inodes_own m = inode_program_owns m 8 12 refl refl
 
 -- From which byte on a block is 0
 
-pub root_sized : (m : List ℕ) → answer_of root_template.size m ≡ 64
-unfolding answer_of root_template
+pub root_sized : (m : List ℕ) → answer_of library_root.size m ≡ 64
+unfolding answer_of library_root
 root_sized m = refl
 
 pub inodes_sized : (m : List ℕ) → answer_of inode_template.size m ≡ 512

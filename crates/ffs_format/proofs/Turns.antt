@@ -10,9 +10,9 @@ use Rattle.std.proofs.Math.Dec.{eqb-suc-zero}
 use Rattle.udf_code.specs.declared.word.Word.{Word}
 use Rattle.udf_code.specs.Tree.{Tree, Claim, Stop, Plain, Loop}
 use Rattle.udf_run.specs.declared.pair.Pair.{Pair}
-use Rattle.udf_run.specs.Meaning.{Machine, machine, write, write_if, emit_if, number_at, step, turns, meaning, ◌>>=◌}
+use Rattle.udf_run.specs.Meaning.{Machine, machine, write_register, write_if, emit_if, number_at, step, turns, meaning, ◌>>=◌}
 use Rattle.xn_model.specs.Root.{word_at, unless_empty}
-use Rattle.templates.specs.Meaning.{pair_of}
+use Rattle.templates.specs.Meaning.{numbers_of_pair}
 use Rattle.templates.proofs.ForCallers.{range-more}
 
 -- a load is the number at its place
@@ -30,25 +30,25 @@ number_is_word m at =
 
 -- Steps
 
-pub written : (fine : Bool) (m : Machine) (r v : ℕ) → fine ≡ true → write_if fine m r v ≡ Some (write m r v)
+pub written : (fine : Bool) (m : Machine) (r v : ℕ) → fine ≡ true → write_if fine m r v ≡ Some (write_register m r v)
 written fine m r v h = ap (λ b. write_if b m r v) h
 
 module _ (block : List ℕ) where
   pub plain : (word : Word) (rest : Tree) (m after : Machine) → step word block m ≡ Some after → meaning (Plain word rest) block m ≡ meaning rest block after
   plain word rest m after h = ap (λ o. o >>= meaning rest block) h
 
-  pub looped : (a n : ℕ) (claims : List Claim) (body rest : Tree) (m after : Machine) → turns (meaning body block) a n m ≡ Some after → meaning (Loop a n claims body rest) block m ≡ meaning rest block (write after a (n - 1))
-  looped a n claims body rest m after h = ap (λ o. o >>= (λ end. meaning rest block (write end a (n - 1)))) h
+  pub looped : (a n : ℕ) (claims : List Claim) (body rest : Tree) (m after : Machine) → turns (meaning body block) a n m ≡ Some after → meaning (Loop a n claims body rest) block m ≡ meaning rest block (write_register after a (n - 1))
+  looped a n claims body rest m after h = ap (λ o. o >>= (λ end. meaning rest block (write_register end a (n - 1)))) h
 
 -- A word that is not 0 is emitted, with its type
 
 abbrev pub named : ℕ → ℕ → List Pair
 named block ty = cond (nat_lt 0 block) (record { block = block; ty = ty } ∷ []) []
 
-pub named_pairs : (block ty : ℕ) → map pair_of (named block ty) ≡ option_to_list (unless_empty (block, ty))
+pub named_pairs : (block ty : ℕ) → map numbers_of_pair (named block ty) ≡ option_to_list (unless_empty (block, ty))
 named_pairs zero ty = refl
 named_pairs (suc n) ty =
-    ap (λ b. map pair_of (cond b (record { block = suc n; ty = ty } ∷ []) [])) (lt-ltb 0 (suc n) (omega arith))
+    ap (λ b. map numbers_of_pair (cond b (record { block = suc n; ty = ty } ∷ []) [])) (lt-ltb 0 (suc n) (omega arith))
     ∙ sym (ap (λ b. option_to_list (cond b None (Some (suc n, ty)))) (eqb-suc-zero n))
 
 pub length-named : (block ty : ℕ) → length (named block ty) ≤ 1
@@ -71,7 +71,7 @@ pub record Turned {R : Type 0} (registers : R → List ℕ) (o : Option Machine)
   pub at : R
   pub es : List Pair
   pub ends : o ≡ Some (machine (registers at) es)
-  pub has : map pair_of es ≡ pairs
+  pub has : map numbers_of_pair es ≡ pairs
   pub few : length es ≤ most
 
 pub more_pairs : (f : ℕ → List (ℕ × ℕ)) (n : ℕ) → flat_map f (range_with_len 0 (suc n)) ≡ flat_map f (range_with_len 0 n) ++ f n
@@ -82,23 +82,23 @@ more_pairs f n =
 
 module _ {R : Type 0} (registers : R → List ℕ) (body : Machine → Option Machine) (a : ℕ) (f : ℕ → List (ℕ × ℕ)) (base each limit : ℕ)
     (turn : (k : ℕ) (r : R) (es : List Pair) → k < limit → length es ≤ base + each * k →
-    Turned registers (body (write (machine (registers r) es) a k)) (map pair_of es ++ f k) (base + each * suc k))
+    Turned registers (body (write_register (machine (registers r) es) a k)) (map numbers_of_pair es ++ f k) (base + each * suc k))
     (r0 : R) (before : List Pair) (room : length before ≤ base)
   where
-    next : (n : ℕ) → n < limit → Turned registers (turns body a n (machine (registers r0) before)) (map pair_of before ++ flat_map f (range_with_len 0 n)) (base + each * n) →
-        Turned registers (turns body a (suc n) (machine (registers r0) before)) (map pair_of before ++ flat_map f (range_with_len 0 (suc n))) (base + each * suc n)
+    next : (n : ℕ) → n < limit → Turned registers (turns body a n (machine (registers r0) before)) (map numbers_of_pair before ++ flat_map f (range_with_len 0 n)) (base + each * n) →
+        Turned registers (turns body a (suc n) (machine (registers r0) before)) (map numbers_of_pair before ++ flat_map f (range_with_len 0 (suc n))) (base + each * suc n)
     next n lt p =
         let one = turn n p.at p.es lt p.few in
         record {
           at = one.at;
           es = one.es;
-          ends = ap (λ o. o >>= (λ m. body (write m a n))) p.ends ∙ one.ends;
-          has = one.has ∙ (ap (λ l. l ++ f n) p.has ∙ (append_assoc (map pair_of before) (flat_map f (range_with_len 0 n)) (f n) ∙ ap (λ l. map pair_of before ++ l) (sym (more_pairs f n))));
+          ends = ap (λ o. o >>= (λ m. body (write_register m a n))) p.ends ∙ one.ends;
+          has = one.has ∙ (ap (λ l. l ++ f n) p.has ∙ (append_assoc (map numbers_of_pair before) (flat_map f (range_with_len 0 n)) (f n) ∙ ap (λ l. map numbers_of_pair before ++ l) (sym (more_pairs f n))));
           few = one.few;
         }
 
-    pub all_turns : (n : ℕ) → n ≤ limit → Turned registers (turns body a n (machine (registers r0) before)) (map pair_of before ++ flat_map f (range_with_len 0 n)) (base + each * n)
-    all_turns zero h = record { at = r0; es = before; ends = refl; has = sym (append-nil (map pair_of before)); few = omega arith }
+    pub all_turns : (n : ℕ) → n ≤ limit → Turned registers (turns body a n (machine (registers r0) before)) (map numbers_of_pair before ++ flat_map f (range_with_len 0 n)) (base + each * n)
+    all_turns zero h = record { at = r0; es = before; ends = refl; has = sym (append-nil (map numbers_of_pair before)); few = omega arith }
     all_turns (suc n) h = next n (omega arith) (all_turns n (omega arith))
 
 -- the pairs of words, one by one

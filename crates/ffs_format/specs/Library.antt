@@ -70,8 +70,8 @@ pointer_words =
     ∷ End
     ∷ []
 
-unfoldable pub root_template : TemplateValue
-root_template = with_size root_words 64
+unfoldable pub library_root : TemplateValue
+library_root = with_size root_words 64
 
 unfoldable pub inode_template : TemplateValue
 inode_template = with_size inode_words 512
@@ -80,7 +80,7 @@ unfoldable pub pointer_template : TemplateValue
 pointer_template = with_size pointer_words 512
 
 abbrev pub file_system_templates : List TemplateValue
-file_system_templates = root_template ∷ inode_template ∷ pointer_template ∷ []
+file_system_templates = library_root ∷ inode_template ∷ pointer_template ∷ []
 
 abbrev pub HasAnother : Types → ℕ → Type 0
 HasAnother T place = (found : Option TemplateValue) × TellsTemplate T (3 + place) found × (found ≢ slice_get file_system_templates place)

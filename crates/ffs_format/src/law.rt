@@ -6,7 +6,7 @@ ghost use Rattle.xn_model.specs.Lists.{put};
 ghost use Rattle.xn_model.specs.Types.{Types};
 ghost use Rattle.ffs_model.specs.Library.{half_at, inode_at, pointer_word, IsLibrary};
 ghost use Rattle.templates.specs.Formats.{table_of};
-ghost use Rattle.templates.specs.Tables.{HasTemplate, TableValue, types_of};
+ghost use Rattle.templates.specs.Tables.{HasTemplate, TableValue, table_types};
 ghost use Rattle.templates.specs.Templates.{TemplateValue};
 ghost use Rattle.ffs_format.specs.Entries.{entry_of, is_name, is_name_length, name_in};
 ghost use Rattle.ffs_format.specs.Fields.{fields_of};
@@ -58,7 +58,7 @@ pub fn numbers_are_the_layouts()
 /// 64, 512 and 512 bytes of their blocks.
 /// So it is on a disk that is formatted with these three first, and wherever types 3 to 5 have them.
 pub fn templates_are_the_librarys()
-    ensures table { (table : TableValue) → take 3 table ≡ map Some file_system_templates → IsLibrary (types_of table) }
-    ensures formatted { (others : List TemplateValue) → IsLibrary (types_of (table_of (file_system_templates ++ others))) }
+    ensures table { (table : TableValue) → take 3 table ≡ map Some file_system_templates → IsLibrary (table_types table) }
+    ensures formatted { (others : List TemplateValue) → IsLibrary (table_types (table_of (file_system_templates ++ others))) }
     ensures types { (T : Types) → ((i : ℕ) (t : TemplateValue) → slice_get file_system_templates i ≡ Some t → HasTemplate T (3 + i) t) → IsLibrary T }
 {}

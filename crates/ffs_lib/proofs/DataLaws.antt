@@ -11,7 +11,7 @@ use Rattle.xn_model.specs.Lives.{StoreState, life_at}
 use Rattle.xn_model.specs.Calls.{forget_of, init_of, propose_of, was_given}
 use Rattle.xn_model.proofs.ForCallers.{Contains-head}
 use Rattle.ffs_model.specs.Cuts.{Under, latest}
-use Rattle.ffs_model.specs.Library.{inode_blocks, inode_links, inode_mode, library_layout, pointer_word, zeros}
+use Rattle.ffs_model.specs.Library.{inode_blocks, inode_links, inode_mode, library_layout, pointer_word, zero_block}
 use Rattle.ffs_model.proofs.ForCallers.{begun_next, data_short, given_later, latest_reached, library_reads, one_later, pointer_set_short, proposed_given, proposed_next, proposed_others, started, started_here, started_keeps, under_inodes, zero_word}
 use Rattle.ffs_format.specs.Fields.{Fields, direct_in, fields_of}
 use Rattle.ffs_lookup.specs.declared.fault.FfsFault.{FfsFault}
@@ -146,7 +146,7 @@ module _ (T : Types) (fs : ℕ) (array : ℕ → Option ℕ) (old : StoreState) 
 -- A new block
 
 pub not_begun : (T : Types) (fs : ℕ) (old new : StoreState) (n index : ℕ) (inode : List ℕ) → Ok inode ≡ file_in (latest old.lives) fs n → file_block (latest old.lives) inode index ≡ 0 → (owner : ℕ) → IsHome (latest old.lives) fs n owner ⊎ (owner ≡ word_at inode 56) →
-    (ty : ℕ) (bytes : List ℕ) → (ty ≡ 2) ⊎ ((ty ≡ 5) × (bytes ≡ zeros)) → new ≡ old → (fault : FfsFault) → Tells (init_of T old fs ty bytes) fault → StopsPart T fs old new n index fault
+    (ty : ℕ) (bytes : List ℕ) → (ty ≡ 2) ⊎ ((ty ≡ 5) × (bytes ≡ zero_block)) → new ≡ old → (fault : FfsFault) → Tells (init_of T old fs ty bytes) fault → StopsPart T fs old new n index fault
 not_begun T fs old new n index inode is hole owner of ty bytes kind same fault told = subst (λ (s : StoreState). StopsPart T fs old s n index fault) (sym same) (record {
   same = puts_none old fs n 0;
   before = old;
@@ -175,7 +175,7 @@ module _ (T : Types) (fs : ℕ) (array : ℕ → Option ℕ) (zeroth first : Sto
   pub begun_puts : Puts zeroth first fs n 0 []
   begun_puts = all_same zeroth first fs n begun_all begun_later
 
-  pub undone_part : (new : StoreState) (index owner : ℕ) (fault : FfsFault) → file_block (latest zeroth.lives) inode index ≡ 0 → IsHome (latest zeroth.lives) fs n owner ⊎ (owner ≡ word_at inode 56) → (ty ≡ 2) ⊎ ((ty ≡ 5) × (bytes ≡ zeros)) →
+  pub undone_part : (new : StoreState) (index owner : ℕ) (fault : FfsFault) → file_block (latest zeroth.lives) inode index ≡ 0 → IsHome (latest zeroth.lives) fs n owner ⊎ (owner ≡ word_at inode 56) → (ty ≡ 2) ⊎ ((ty ≡ 5) × (bytes ≡ zero_block)) →
       new ≡ left_by (forget_of T first fs block) first → Wants T first fs owner fault → StopsPart T fs zeroth new n index fault
   undone_part new index owner fault hole of kind left wants = record {
     same = all_same zeroth new fs n (λ d. subst (λ (m : StoreState). SameInode (latest zeroth.lives) (latest m.lives) fs d) (sym left) (undone_same T s.library zeroth first s.keeps.consistent fs s.few ty bytes block number done d))
@@ -209,24 +209,24 @@ module _ (T : Types) (fs : ℕ) (array : ℕ → Option ℕ) (zeroth first : Sto
 -- A new block of data, to which the inode points
 
 module _ (T : Types) (fs : ℕ) (array : ℕ → Option ℕ) (zeroth first : StoreState) (s : Stage T fs array zeroth) (n : ℕ) (inode : List ℕ) (is : Ok inode ≡ file_in (latest zeroth.lives) fs n)
-    (index at : ℕ) (bytes : List ℕ) (low : index < 12) (hole : direct_in inode index ≡ 0) (fit : at + length bytes ≤ 512) (block number : ℕ) (done : init_of T zeroth fs 2 (put zeros at bytes) ≡ Ok ((block, number), first))
+    (index at : ℕ) (bytes : List ℕ) (low : index < 12) (hole : direct_in inode index ≡ 0) (fit : at + length bytes ≤ 512) (block number : ℕ) (done : init_of T zeroth fs 2 (put zero_block at bytes) ≡ Ok ((block, number), first))
     (after : Option ℕ) (given : IsTrue (was_given zeroth after)) (found : Found) (file : IsFile first fs n found) (exact : Ok found.inode ≡ file_in (latest first.lives) fs n)
     (own : List ℕ) (whole : length own ≡ 64) (set : fields_of own ≡ record (fields_of found.inode) { direct = slice_set (fields_of found.inode).direct index block }) where
   pub direct_short : ShortEdit T first fs found.block (edit_at (64 * found.place) own ((block, 2) ∷ []) [] after)
   direct_short =
-      direct_refused T first after (can_edit (begun_stage T fs array zeroth first s n inode is 2 (put zeros at bytes) block number done) (begun_given T fs array zeroth first s n inode is 2 (put zeros at bytes) block number done after given))
-      fs s.few n found file own whole index block low (ap (λ (f : Fields). f.direct) set) (ap (λ (f : Fields). f.indirect) set) (ap (λ i. direct_in i index) (begun_mine T fs array zeroth first s n inode is 2 (put zeros at bytes) block number done found exact) ∙ hole)
-      (begun_addable T zeroth first fs 2 block number (put zeros at bytes) (gives_of (init_of T zeroth fs 2 (put zeros at bytes)) zeroth first (block, number) done))
+      direct_refused T first after (can_edit (begun_stage T fs array zeroth first s n inode is 2 (put zero_block at bytes) block number done) (begun_given T fs array zeroth first s n inode is 2 (put zero_block at bytes) block number done after given))
+      fs s.few n found file own whole index block low (ap (λ (f : Fields). f.direct) set) (ap (λ (f : Fields). f.indirect) set) (ap (λ i. direct_in i index) (begun_mine T fs array zeroth first s n inode is 2 (put zero_block at bytes) block number done found exact) ∙ hole)
+      (begun_addable T zeroth first fs 2 block number (put zero_block at bytes) (gives_of (init_of T zeroth fs 2 (put zero_block at bytes)) zeroth first (block, number) done))
 
   pub direct_undone : (new : StoreState) → new ≡ left_by (forget_of T first fs block) first → (fault : FfsFault) → Wants T first fs found.block fault → StopsPart T fs zeroth new n index fault
   direct_undone new left fault wants =
-      undone_part T fs array zeroth first s n inode is 2 (put zeros at bytes) block number done new index found.block fault (direct_block (latest zeroth.lives) inode index low ∙ hole)
-      (inl (begun_home T fs array zeroth first s n inode is 2 (put zeros at bytes) block number done found file)) (inl refl) left wants
+      undone_part T fs array zeroth first s n inode is 2 (put zero_block at bytes) block number done new index found.block fault (direct_block (latest zeroth.lives) inode index low ∙ hole)
+      (inl (begun_home T fs array zeroth first s n inode is 2 (put zero_block at bytes) block number done found file)) (inl refl) left wants
 
   pub adds_direct : (second : StoreState) (entry : ℕ) → propose_of T first fs found.block (edit_at (64 * found.place) own ((block, 2) ∷ []) [] after) ≡ Ok (entry, second) → Stage T fs array second × PutsBy zeroth second fs n (512 * index + at) bytes entry
   adds_direct second entry put_done =
       let h = s.keeps.consistent in
-      let s1 = begun_stage T fs array zeroth first s n inode is 2 (put zeros at bytes) block number done in
+      let s1 = begun_stage T fs array zeroth first s n inode is 2 (put zero_block at bytes) block number done in
       let h1 = s1.keeps.consistent in
       let mode = ap (λ (f : Fields). f.mode) set in
       let links = ap (λ (f : Fields). f.links) set in
@@ -247,8 +247,8 @@ module _ (T : Types) (fs : ℕ) (array : ℕ → Option ℕ) (zeroth first : Sto
         (
           record {
             wrote = λ other i. subst (λ (x : List ℕ). WroteBytes (latest zeroth.lives) (latest second.lives) fs n x (512 * index + at) bytes) (same_ok inode other (is ∙ sym i)) wrote;
-            others = λ d ne. same_on (latest zeroth.lives) (latest first.lives) (latest second.lives) fs d (begun_all T fs array zeroth first s n inode is 2 (put zeros at bytes) block number done d) (g.others d ne);
-            later = later_on zeroth.next first.next second.next (begun_later T fs array zeroth first s n inode is 2 (put zeros at bytes) block number done) (one_later second.next first.next (proposed_next T first second fs found.block edit entry put_done));
+            others = λ d ne. same_on (latest zeroth.lives) (latest first.lives) (latest second.lives) fs d (begun_all T fs array zeroth first s n inode is 2 (put zero_block at bytes) block number done d) (g.others d ne);
+            later = later_on zeroth.next first.next second.next (begun_later T fs array zeroth first s n inode is 2 (put zero_block at bytes) block number done) (one_later second.next first.next (proposed_next T first second fs found.block edit entry put_done));
           },
           proposed_given T first second h1 fs found.block edit entry put_done,
         ),
@@ -258,40 +258,40 @@ module _ (T : Types) (fs : ℕ) (array : ℕ → Option ℕ) (zeroth first : Sto
 
 module _ (T : Types) (fs : ℕ) (array : ℕ → Option ℕ) (zeroth first : StoreState) (s : Stage T fs array zeroth) (n : ℕ) (inode : List ℕ) (is : Ok inode ≡ file_in (latest zeroth.lives) fs n)
     (last place at : ℕ) (bytes : List ℕ) (points : word_at inode 56 ≡ last) (there : last ≢ 0) (low : place < 128) (long : length (latest zeroth.lives last) ≡ 512) (none : pointer_word (latest zeroth.lives last) place ≡ 0) (fit : at + length bytes ≤ 512)
-    (block number : ℕ) (small : block < 2 ^ 32) (done : init_of T zeroth fs 2 (put zeros at bytes) ≡ Ok ((block, number), first)) (after : Option ℕ) (given : IsTrue (was_given zeroth after)) where
+    (block number : ℕ) (small : block < 2 ^ 32) (done : init_of T zeroth fs 2 (put zero_block at bytes) ≡ Ok ((block, number), first)) (after : Option ℕ) (given : IsTrue (was_given zeroth after)) where
   reached : Under T (latest zeroth.lives) fs last 5
   reached = pointers_at T s.library zeroth s.keeps.consistent fs s.few n inode (stands_from (latest zeroth.lives) fs n inode (file_from (latest zeroth.lives) fs n inode is)) last points there
 
   stays : latest first.lives last ≡ latest zeroth.lives last
   stays =
-      let t = begun_touches T fs array zeroth first s n inode is 2 (put zeros at bytes) block number done in
+      let t = begun_touches T fs array zeroth first s n inode is 2 (put zero_block at bytes) block number done in
       t.others last 5 reached (t.apart last 5 reached (λ z. omega (arith, z)))
 
   still_reached : Under T (latest first.lives) fs last 5
   still_reached =
-      let s1 = begun_stage T fs array zeroth first s n inode is 2 (put zeros at bytes) block number done in
-      pointers_at T s.library first s1.keeps.consistent fs s.few n inode (begun_own T fs array zeroth first s n inode is 2 (put zeros at bytes) block number done) last points there
+      let s1 = begun_stage T fs array zeroth first s n inode is 2 (put zero_block at bytes) block number done in
+      pointers_at T s.library first s1.keeps.consistent fs s.few n inode (begun_own T fs array zeroth first s n inode is 2 (put zero_block at bytes) block number done) last points there
 
   pub pointed_short : ShortEdit T first fs last (edit_at (4 * place) (to_le_bytes w32 block) ((block, 2) ∷ []) [] after)
   pointed_short =
-      let s1 = begun_stage T fs array zeroth first s n inode is 2 (put zeros at bytes) block number done in
-      pointer_set_short T s.library first s1.keeps.consistent fs s.few last (ap length stays ∙ long) after (begun_given T fs array zeroth first s n inode is 2 (put zeros at bytes) block number done after given) still_reached place block low small
-      (ap (λ (m : List ℕ). pointer_word m place) stays ∙ none) (begun_addable T zeroth first fs 2 block number (put zeros at bytes) (gives_of (init_of T zeroth fs 2 (put zeros at bytes)) zeroth first (block, number) done))
+      let s1 = begun_stage T fs array zeroth first s n inode is 2 (put zero_block at bytes) block number done in
+      pointer_set_short T s.library first s1.keeps.consistent fs s.few last (ap length stays ∙ long) after (begun_given T fs array zeroth first s n inode is 2 (put zero_block at bytes) block number done after given) still_reached place block low small
+      (ap (λ (m : List ℕ). pointer_word m place) stays ∙ none) (begun_addable T zeroth first fs 2 block number (put zero_block at bytes) (gives_of (init_of T zeroth fs 2 (put zero_block at bytes)) zeroth first (block, number) done))
 
   pointed_hole : file_block (latest zeroth.lives) inode (12 + place) ≡ 0
   pointed_hole = indirect_block (latest zeroth.lives) inode last place points there ∙ none
 
   pub pointed_undone : (new : StoreState) → new ≡ left_by (forget_of T first fs block) first → (fault : FfsFault) → Wants T first fs last fault → StopsPart T fs zeroth new n (12 + place) fault
   pointed_undone new left fault wants =
-      undone_part T fs array zeroth first s n inode is 2 (put zeros at bytes) block number done new (12 + place) last fault pointed_hole (inr (sym points)) (inl refl) left wants
+      undone_part T fs array zeroth first s n inode is 2 (put zero_block at bytes) block number done new (12 + place) last fault pointed_hole (inr (sym points)) (inl refl) left wants
 
   pub adds_pointed : (second : StoreState) (entry : ℕ) → propose_of T first fs last (edit_at (4 * place) (to_le_bytes w32 block) ((block, 2) ∷ []) [] after) ≡ Ok (entry, second) →
       Stage T fs array second × PutsBy zeroth second fs n (512 * (12 + place) + at) bytes entry
   adds_pointed second entry put_done =
       let h = s.keeps.consistent in
-      let s1 = begun_stage T fs array zeroth first s n inode is 2 (put zeros at bytes) block number done in
+      let s1 = begun_stage T fs array zeroth first s n inode is 2 (put zero_block at bytes) block number done in
       let h1 = s1.keeps.consistent in
-      let again = begun_again T fs array zeroth first s n inode is 2 (put zeros at bytes) block number done in
+      let again = begun_again T fs array zeroth first s n inode is 2 (put zero_block at bytes) block number done in
       let edit = edit_at (4 * place) (to_le_bytes w32 block) ((block, 2) ∷ []) [] after in
       let g : HasBlock T (latest first.lives) (latest second.lives) fs n inode (12 + place) block =
       data_attached T s.library first second h1 fs s.few n inode again last place block entry points there low (ap length stays ∙ long) small after put_done in
@@ -300,8 +300,8 @@ module _ (T : Types) (fs : ℕ) (array : ℕ → Option ℕ) (zeroth first : Sto
         (
           record {
             wrote = λ other i. subst (λ (x : List ℕ). WroteBytes (latest zeroth.lives) (latest second.lives) fs n x (512 * (12 + place) + at) bytes) (same_ok inode other (is ∙ sym i)) wrote;
-            others = λ d ne. same_on (latest zeroth.lives) (latest first.lives) (latest second.lives) fs d (begun_all T fs array zeroth first s n inode is 2 (put zeros at bytes) block number done d) (g.others d ne);
-            later = later_on zeroth.next first.next second.next (begun_later T fs array zeroth first s n inode is 2 (put zeros at bytes) block number done) (one_later second.next first.next (proposed_next T first second fs last edit entry put_done));
+            others = λ d ne. same_on (latest zeroth.lives) (latest first.lives) (latest second.lives) fs d (begun_all T fs array zeroth first s n inode is 2 (put zero_block at bytes) block number done d) (g.others d ne);
+            later = later_on zeroth.next first.next second.next (begun_later T fs array zeroth first s n inode is 2 (put zero_block at bytes) block number done) (one_later second.next first.next (proposed_next T first second fs last edit entry put_done));
           },
           proposed_given T first second h1 fs last edit entry put_done,
         ),
@@ -310,46 +310,46 @@ module _ (T : Types) (fs : ℕ) (array : ℕ → Option ℕ) (zeroth first : Sto
 -- A new block of pointers
 
 module _ (T : Types) (fs : ℕ) (array : ℕ → Option ℕ) (zeroth first : StoreState) (s : Stage T fs array zeroth) (n : ℕ) (inode : List ℕ) (is : Ok inode ≡ file_in (latest zeroth.lives) fs n) (none : word_at inode 56 ≡ 0)
-    (block number : ℕ) (done : init_of T zeroth fs 5 zeros ≡ Ok ((block, number), first)) (after : Option ℕ) (given : IsTrue (was_given zeroth after)) (found : Found) (file : IsFile first fs n found) (exact : Ok found.inode ≡ file_in (latest first.lives) fs n)
+    (block number : ℕ) (done : init_of T zeroth fs 5 zero_block ≡ Ok ((block, number), first)) (after : Option ℕ) (given : IsTrue (was_given zeroth after)) (found : Found) (file : IsFile first fs n found) (exact : Ok found.inode ≡ file_in (latest first.lives) fs n)
     (own : List ℕ) (whole : length own ≡ 64) (set : fields_of own ≡ record (fields_of found.inode) { indirect = block }) where
   same : found.inode ≡ inode
-  same = begun_mine T fs array zeroth first s n inode is 5 zeros block number done found exact
+  same = begun_mine T fs array zeroth first s n inode is 5 zero_block block number done found exact
 
   pub pointers_short : ShortEdit T first fs found.block (edit_at (64 * found.place) own ((block, 5) ∷ []) [] after)
   pointers_short =
-      pointers_refused T first after (can_edit (begun_stage T fs array zeroth first s n inode is 5 zeros block number done) (begun_given T fs array zeroth first s n inode is 5 zeros block number done after given))
+      pointers_refused T first after (can_edit (begun_stage T fs array zeroth first s n inode is 5 zero_block block number done) (begun_given T fs array zeroth first s n inode is 5 zero_block block number done after given))
       fs s.few n found file own whole block (ap (λ (f : Fields). f.direct) set) (ap (λ (f : Fields). f.indirect) set) (ap (λ i. word_at i 56) same ∙ none)
-      (begun_addable T zeroth first fs 5 block number zeros (gives_of (init_of T zeroth fs 5 zeros) zeroth first (block, number) done))
+      (begun_addable T zeroth first fs 5 block number zero_block (gives_of (init_of T zeroth fs 5 zero_block) zeroth first (block, number) done))
 
   pub pointers_undone : (new : StoreState) → new ≡ left_by (forget_of T first fs block) first → (index : ℕ) → 12 ≤ index → (fault : FfsFault) → Wants T first fs found.block fault → StopsPart T fs zeroth new n index fault
   pointers_undone new left index far fault wants =
-      undone_part T fs array zeroth first s n inode is 5 zeros block number done new index found.block fault (no_pointers (latest zeroth.lives) inode index far none)
-      (inl (begun_home T fs array zeroth first s n inode is 5 zeros block number done found file)) (inr (refl, refl)) left wants
+      undone_part T fs array zeroth first s n inode is 5 zero_block block number done new index found.block fault (no_pointers (latest zeroth.lives) inode index far none)
+      (inl (begun_home T fs array zeroth first s n inode is 5 zero_block block number done found file)) (inr (refl, refl)) left wants
 
   apart : (c k : ℕ) → Under T (latest zeroth.lives) fs c k → c ≢ block
   apart c k r e =
       let y = latest_reached T zeroth s.keeps.consistent fs s.few c k r in
-      let m = started T zeroth first fs 5 zeros (block, number) done in
+      let m = started T zeroth first fs 5 zero_block (block, number) done in
       none-some y.life (sym m.free ∙ (ap (life_at zeroth.lives) (sym e) ∙ y.alive))
 
   home_apart : found.block ≢ block
   home_apart =
-      let t = begun_touches T fs array zeroth first s n inode is 5 zeros block number done in
+      let t = begun_touches T fs array zeroth first s n inode is 5 zero_block block number done in
       let at = under_inodes T library_layout (library_reads T s.library) (latest first.lives) fs (library_layout.home n).0 found.block file.is.stands.inodes in
       apart found.block 4 (reached_before T (latest zeroth.lives) (latest first.lives) fs block 9 t apart found.block 4 at)
 
   pub adds_pointers : (second : StoreState) (entry : ℕ) → propose_of T first fs found.block (edit_at (64 * found.place) own ((block, 5) ∷ []) [] after) ≡ Ok (entry, second) →
       Stage T fs array second × PointsTo zeroth second fs n inode block
   adds_pointers second entry put_done =
-      let s1 = begun_stage T fs array zeroth first s n inode is 5 zeros block number done in
+      let s1 = begun_stage T fs array zeroth first s n inode is 5 zero_block block number done in
       let h1 = s1.keeps.consistent in
       let mode = ap (λ (f : Fields). f.mode) set in
       let links = ap (λ (f : Fields). f.links) set in
       let direct = ap (λ (f : Fields). f.direct) set in
       let last = ap (λ (f : Fields). f.indirect) set in
       let edit = edit_at (64 * found.place) own ((block, 5) ∷ []) [] after in
-      let bare = started_here T zeroth first fs 5 zeros (block, number) done in
-      let now : latest second.lives block ≡ zeros = proposed_others T first second h1 fs found.block edit entry put_done block (λ e. home_apart (sym e)) ∙ bare in
+      let bare = started_here T zeroth first fs 5 zero_block (block, number) done in
+      let now : latest second.lives block ≡ zero_block = proposed_others T first second h1 fs found.block edit entry put_done block (λ e. home_apart (sym e)) ∙ bare in
       let wrote = pointers_attached T s.library first second h1 fs s.few n found file exact own whole mode ((block, 5) ∷ []) after entry put_done links block direct last (ap (λ (f : Fields). f.size) set) bare home_apart (ap (λ i. word_at i 56) same ∙ none) in
       let puts : Puts first second fs n 0 [] = record {
         wrote = λ other i. subst (λ (x : List ℕ). WroteBytes (latest first.lives) (latest second.lives) fs n x 0 []) (same_ok found.inode other (exact ∙ sym i)) wrote;
@@ -363,11 +363,11 @@ module _ (T : Types) (fs : ℕ) (array : ℕ → Option ℕ) (zeroth first : Sto
               (λ b m. inl (subst (λ xs. Contains xs b) (same_blocks found.inode own direct ∙ ap inode_blocks file.is.bytes) m));
         },
         record {
-          puts = puts_after zeroth first second fs n 0 [] (begun_puts T fs array zeroth first s n inode is 5 zeros block number done) puts;
+          puts = puts_after zeroth first second fs n 0 [] (begun_puts T fs array zeroth first s n inode is 5 zero_block block number done) puts;
           after = own;
           file = file_now T s.library first second h1 fs s.few n found file exact own whole mode ((block, 5) ∷ []) after entry put_done;
           points = last;
-          there = begun_some T zeroth first s.keeps.consistent fs 5 zeros (block, number) done;
+          there = begun_some T zeroth first s.keeps.consistent fs 5 zero_block (block, number) done;
           long = ap length now ∙ length-replicate {A = ℕ} 512 0;
           holes = λ index far low hole. ap (λ m. pointer_word m (index - 12)) now ∙ zero_word (4 * (index - 12));
         },

@@ -8,7 +8,7 @@ use Rattle.xn_model.specs.Root.{word_at}
 use Rattle.xn_model.specs.Lives.{StoreState}
 use Rattle.xn_model.specs.Calls.{may_add}
 use Rattle.xn_model.proofs.ForCallers.{addable, length_put}
-use Rattle.ffs_model.specs.Library.{inode_pairs, zeros}
+use Rattle.ffs_model.specs.Library.{inode_pairs, zero_block}
 use Rattle.ffs_model.proofs.ForCallers.{Replaces, indirect_set}
 use Rattle.ffs_format.specs.Fields.{direct_in, fields_of}
 use Rattle.ffs_lookup.specs.declared.places.Found.{Found}
@@ -20,8 +20,8 @@ use Rattle.ffs_lib.proofs.Short.{ShortEdit, attached_short, kept_short, pairs_ke
 
 -- New blocks
 
-pub block_long : (at : ℕ) (bytes : List ℕ) → at + length bytes ≤ 512 → length (put zeros at bytes) ≡ 512
-block_long at bytes fits = let whole : length zeros ≡ 512 = length-replicate {A = ℕ} 512 0 in length_put zeros at bytes (omega arith) ∙ whole
+pub block_long : (at : ℕ) (bytes : List ℕ) → at + length bytes ≤ 512 → length (put zero_block at bytes) ≡ 512
+block_long at bytes fits = let whole : length zero_block ≡ 512 = length-replicate {A = ℕ} 512 0 in length_put zero_block at bytes (omega arith) ∙ whole
 
 -- A file's inode
 

@@ -6,7 +6,7 @@ use Rattle.std.proofs.lemmas.List.{append-nil, drop_all, length-append, map-appe
 use Rattle.xn_model.specs.Types.{Types}
 use Rattle.xn_model.specs.Lists.{blocks_of, put}
 use Rattle.xn_model.specs.Root.{unless_empty}
-use Rattle.ffs_model.specs.Library.{IsLibrary, pointed, pointer_word, zeros}
+use Rattle.ffs_model.specs.Library.{IsLibrary, pointed, pointer_word, zero_block}
 use Rattle.ffs_model.proofs.ForCallers.{is_not_empty, pointed_none, word_within, zero_word}
 
 cons_append : (o : Option (ℕ × ℕ)) (xs ys : List (ℕ × ℕ)) → cons_option o (xs ++ ys) ≡ cons_option o xs ++ ys
@@ -55,7 +55,7 @@ put_whole [] bs e = ap (λ d. bs ++ d) (drop_all {X = ℕ} (0 + length bs) [] (o
 put_whole (x ∷ xs) bs e = ap (λ d. bs ++ d) (drop_all (0 + length bs) (x ∷ xs) (omega (arith, e))) ∙ append-nil bs
 
 -- a block of pointers that was cleared owns nothing
-pub cleared_owns : (T : Types) → IsLibrary T → (m : List ℕ) → length m ≡ 512 → T.owned 5 (put m 0 zeros) ≡ []
+pub cleared_owns : (T : Types) → IsLibrary T → (m : List ℕ) → length m ≡ 512 → T.owned 5 (put m 0 zero_block) ≡ []
 cleared_owns T lib m long =
-    lib.indirect (put m 0 zeros)
-    ∙ pointed_none (pointer_word (put m 0 zeros)) 128 2 (λ i low. word_within m 0 zeros (omega (arith, long)) (4 * i) (4 * i) (omega arith) (omega (arith, low)) ∙ zero_word (4 * i))
+    lib.indirect (put m 0 zero_block)
+    ∙ pointed_none (pointer_word (put m 0 zero_block)) 128 2 (λ i low. word_within m 0 zero_block (omega (arith, long)) (4 * i) (4 * i) (omega arith) (omega (arith, low)) ∙ zero_word (4 * i))

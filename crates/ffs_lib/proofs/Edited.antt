@@ -13,7 +13,7 @@ use Rattle.ffs_model.specs.Names.{IsRoot, IsInodes, IsInFile}
 use Rattle.xn_model.specs.Lists.{put}
 use Rattle.ffs_model.specs.Edits.{EntryMade, HoldsOnly, OneEntry, InodeMade, LinkAdded, LinkTaken, InodeFreed, InodeKept}
 use Rattle.ffs_model.specs.Volumes.{Reads, VolumeKeeps, CanName, CanUnlink, with_edit}
-use Rattle.ffs_model.specs.Library.{library_layout, IsLibrary, half_at, inode_at, inode_blocks, inode_links, inode_mode, pointer_word, with_inode, zeros}
+use Rattle.ffs_model.specs.Library.{library_layout, IsLibrary, half_at, inode_at, inode_blocks, inode_links, inode_mode, pointer_word, with_inode, zero_block}
 use Rattle.ffs_model.proofs.ForCallers.{below_written, data_owned, directory_grown, entry_cleared, entry_made, entry_turned, entry_written, file_written, freed_waits, indirect_owned, indirect_reached, inode_forgets, inode_freed, inode_kept, inode_made, inodes_set, library_reads, link_added, link_taken, links_read, mode_read, number_written, other_spare, other_waits, other_written, pointer_set, pointer_written, proposed_others, slot_waits, taken_waits, under_direct, word_part, zeros_direct, zeros_mode, zeros_pointer}
 use Rattle.ffs_model.proofs.Rewritten as rewritten
 use Rattle.ffs_lookup.specs.declared.places.Found.{Found}
@@ -134,7 +134,7 @@ module _ (T : Types) (lib : IsLibrary T) (fs : ℕ) (few : fs < 32) (array : ℕ
 
   -- a block of inodes is attached
   pub attached : (root index block first entry : ℕ) → IsRoot (latest state.lives) fs root → IsEmptyPointer state fs index → block < 2 ^ 32 → IsInodes library_layout (latest state.lives) fs 0 first →
-      HoldsOnly state.lives block zeros → latest state.lives block ≡ zeros → block ≢ 0 →
+      HoldsOnly state.lives block zero_block → latest state.lives block ≡ zero_block → block ≢ 0 →
       propose_of T state fs root (edit_at (4 * index) (to_le_bytes w32 block) ((block, 4) ∷ []) [] None) ≡ Ok (entry, new) → IsAdded T fs array index block entry new
   attached root index block first entry is_root empty small top only holds there done =
       let edit = edit_at (4 * index) (to_le_bytes w32 block) ((block, 4) ∷ []) [] None in
@@ -143,11 +143,11 @@ module _ (T : Types) (lib : IsLibrary T) (fs : ℕ) (few : fs < 32) (array : ℕ
       let set = pointer_written m (ap (λ r. length (latest state.lives r)) (sym same) ∙ empty.long) index empty.few block small
       (pointer_is m index empty.few ∙ (ap (λ r. pointer_word (latest state.lives r) index) (sym same) ∙ empty.empty)) in
       let apart : block ≢ root = λ e.
-      let bytes : m ≡ zeros = ap (latest state.lives) (sym e) ∙ holds in
+      let bytes : m ≡ zero_block = ap (latest state.lives) (sym e) ∙ holds in
       let one = same_root (latest state.lives) fs top.root root top.is_root is_root in
       top.there (sym top.points ∙ (ap (λ r. library_layout.pointer (latest state.lives r) 0) one ∙ (ap (λ b. library_layout.pointer b 0) bytes ∙ zeros_pointer 0))) in
       record {
-        keeps = pointer_set T library_layout reads fs few array state new v root edit entry done index block zeros is_root set there only zeros_direct (with_edit array index entry)
+        keeps = pointer_set T library_layout reads fs few array state new v root edit entry done index block zero_block is_root set there only zeros_direct (with_edit array index entry)
             (λ i ne. ap (λ t. if t then Some entry else array i) (ne_eqb i index ne))
             (inr ((first, top), ap (λ t. if t then Some entry else array index) (eq-eqb index index refl), zeros_mode));
         inodes = (inodes_set T library_layout reads fs few array state new v root edit entry done index block is_root set there).0;

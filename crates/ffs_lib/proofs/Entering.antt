@@ -11,7 +11,7 @@ use Rattle.xn_model.specs.Calls.{init_of, propose_of}
 use Rattle.xn_model.specs.Rules.{IsConsistent}
 use Rattle.ffs_model.specs.Cuts.{latest}
 use Rattle.ffs_model.specs.Names.{IsInodes}
-use Rattle.ffs_model.specs.Library.{IsLibrary, direct_word, half_at, inode_at, inode_blocks, inode_links, inode_mode, library_layout, pointed, zeros}
+use Rattle.ffs_model.specs.Library.{IsLibrary, direct_word, half_at, inode_at, inode_blocks, inode_links, inode_mode, library_layout, pointed, zero_block}
 use Rattle.ffs_model.proofs.ForCallers.{blocks_read, bytes_within, direct_distinct, direct_where, library_reads, one_type, proposed_here, started_here, under_inodes}
 use Rattle.ffs_format.specs.Entries.{entry_of, is_name}
 use Rattle.ffs_format.specs.Fields.{direct_in, fields_of}
@@ -157,7 +157,7 @@ module _ (T : Types) (lib : IsLibrary T) (state new : StoreState) (h : IsConsist
 -- A new block with one entry is attached
 
 module _ (T : Types) (lib : IsLibrary T) (zeroth first second : StoreState) (h : IsConsistent T zeroth) (h1 : IsConsistent T first) (fs : ℕ) (few : fs < 32) (b number : ℕ) (bytes : List ℕ)
-    (done : init_of T zeroth fs 2 (put zeros 0 bytes) ≡ Ok ((b, number), first)) where
+    (done : init_of T zeroth fs 2 (put zero_block 0 bytes) ≡ Ok ((b, number), first)) where
   abbrev v0 : ℕ → List ℕ
   v0 = latest zeroth.lives
 
@@ -168,7 +168,7 @@ module _ (T : Types) (lib : IsLibrary T) (zeroth first second : StoreState) (h :
   v2 = latest second.lives
 
   new_block : Touches T v0 v1 fs b 9
-  new_block = begun T zeroth first h fs few 2 9 (put zeros 0 bytes) (b, number) done
+  new_block = begun T zeroth first h fs few 2 9 (put zero_block 0 bytes) (b, number) done
 
   pub begun_same : (e : ℕ) → SameInode v0 v1 fs e
   begun_same = none_touched T lib zeroth h fs few v1 b 9 new_block (λ z. omega (arith, z)) (λ z. omega (arith, z)) (λ z. omega (arith, z)) (λ z. omega (arith, z))
@@ -196,7 +196,7 @@ module _ (T : Types) (lib : IsLibrary T) (zeroth first second : StoreState) (h :
       g.bytes c (λ z.
       let four : 2 ≡ 4 = one_type T first h1 fs c 2 4 few at (under_inodes T library_layout (library_reads T lib) v1 fs ((d - 1) / 8) c z) in
       omega (arith, four)) in
-      let new_bytes : v2 b ≡ put zeros 0 bytes = g.bytes b (no_inodes ((d - 1) / 8) (omega (arith, number_low))) ∙ started_here T zeroth first fs 2 (put zeros 0 bytes) (b, number) done in
+      let new_bytes : v2 b ≡ put zero_block 0 bytes = g.bytes b (no_inodes ((d - 1) / 8) (omega (arith, number_low))) ∙ started_here T zeroth first fs 2 (put zero_block 0 bytes) (b, number) done in
       let entry : Slot = record { block = b; place = 0; inode = n } in
       let ws = (fields_of inode).direct in
       let words = words_more ws index b low (get_mapped (direct_in inode) 12 0 index low ∙ (ap (λ k. direct_in inode k) (let z : 0 + index ≡ index = omega arith in z) ∙ (ap (λ m. direct_in m index) one ∙ gap))) there in

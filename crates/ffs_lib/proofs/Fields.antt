@@ -6,7 +6,7 @@ use Rattle.std.proofs.lemmas.List.{drop-replicate, take-replicate}
 use Rattle.xn_model.specs.Lists.{blocks_of}
 use Rattle.xn_model.specs.Root.{word_at, unless_empty}
 use Rattle.xn_model.proofs.ForCallers.{Contains-cons, Contains-head, Contains-tail}
-use Rattle.ffs_model.specs.Library.{half_at, inode_at, inode_blocks, inode_mode, zeros}
+use Rattle.ffs_model.specs.Library.{half_at, inode_at, inode_blocks, inode_mode, zero_block}
 use Rattle.std.proofs.lemmas.Nat.{from_le_bytes-to_le_bytes_2}
 use Rattle.ffs_format.specs.Entries.{entry_of}
 use Rattle.ffs_format.specs.Fields.{fields_of, direct_in}
@@ -66,8 +66,8 @@ pub free_mode : inode_mode (replicate 64 0) ≡ 0
 unfolding half_at
 free_mode = refl
 
--- the inodes of a block of zeros
-pub zeros_inode : (p : ℕ) → p < 8 → inode_at zeros p ≡ replicate 64 0
+-- the inodes of a block of zero_block
+pub zeros_inode : (p : ℕ) → p < 8 → inode_at zero_block p ≡ replicate 64 0
 zeros_inode p few = ap (take 64) (drop-replicate (64 * p) 512 0) ∙ take-replicate 64 (512 - 64 * p) 0 (omega (arith, few))
 
 -- the inode of an entry

@@ -16,7 +16,7 @@ use Rattle.ffs_model.specs.Library.{IsLibrary, half_at, inode_blocks}
 use Rattle.ffs_model.proofs.ForCallers.{bytes_apart, bytes_within, half_apart, half_within, proposed_others}
 use Rattle.ffs_format.specs.Entries.{name_in}
 use Rattle.ffs_lookup.specs.declared.places.Slot.{Slot}
-use Rattle.ffs_lookup.specs.Newest.{entries_in, entry_at, is_at, listing, name_at, used_entry, without_entry}
+use Rattle.ffs_lookup.specs.Newest.{slots_in_block, entry_at, is_at, listing, name_at, used_entry, without_entry}
 
 -- Bytes written at a place, and those apart from it
 
@@ -74,11 +74,11 @@ listed_places content b [] = refl
 listed_places content b (x ∷ xs) =
     listed_step content b x (filter_map (λ place. used_entry (entry_at content b place)) xs) (half_at (content b) (32 * x) == 0) ∙ ap (cons_option (listed_at b (content b) x)) (listed_places content b xs)
 
-pub listed_blocks : (content : ℕ → List ℕ) (bs : List ℕ) → map {B = Slot × List ℕ} (λ (e : Slot). (e, name_at content e)) (flat_map (entries_in content) bs) ≡ flat_map (listed_in content) bs
+pub listed_blocks : (content : ℕ → List ℕ) (bs : List ℕ) → map {B = Slot × List ℕ} (λ (e : Slot). (e, name_at content e)) (flat_map (slots_in_block content) bs) ≡ flat_map (listed_in content) bs
 listed_blocks content [] = refl
 listed_blocks content (b ∷ bs) =
-    map-append (λ (e : Slot). (e, name_at content e)) (entries_in content b) (flat_map (entries_in content) bs)
-    ∙ (ap (λ xs. xs ++ map {B = Slot × List ℕ} (λ (e : Slot). (e, name_at content e)) (flat_map (entries_in content) bs)) (listed_places content b (range_with_len 0 16))
+    map-append (λ (e : Slot). (e, name_at content e)) (slots_in_block content b) (flat_map (slots_in_block content) bs)
+    ∙ (ap (λ xs. xs ++ map {B = Slot × List ℕ} (λ (e : Slot). (e, name_at content e)) (flat_map (slots_in_block content) bs)) (listed_places content b (range_with_len 0 16))
     ∙ ap (λ xs. listed_in content b ++ xs) (listed_blocks content bs))
 
 pub same_listed : (v w : ℕ → List ℕ) (bs : List ℕ) → ((b : ℕ) → Contains bs b → v b ≡ w b) → flat_map (listed_in v) bs ≡ flat_map (listed_in w) bs

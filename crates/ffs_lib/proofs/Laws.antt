@@ -11,7 +11,7 @@ use Rattle.xn_model.specs.Lives.{StoreState}
 use Rattle.xn_model.specs.Results.{Gives, GivesExactly}
 use Rattle.xn_model.specs.Calls.{Edit, forget_of, init_of, propose_of, was_given}
 use Rattle.ffs_model.specs.Cuts.{Under, latest}
-use Rattle.ffs_model.specs.Library.{inode_blocks, inode_links, inode_mode, inode_pairs, library_layout, pointed, pointer_word, zeros}
+use Rattle.ffs_model.specs.Library.{inode_blocks, inode_links, inode_mode, inode_pairs, library_layout, pointed, pointer_word, zero_block}
 use Rattle.ffs_model.specs.Shortages.{is_shortage}
 use Rattle.ffs_model.specs.Volumes.{CanUnlink}
 use Rattle.ffs_model.proofs.ForCallers.{pointers_cleared_short, proposed_given, proposed_here, proposed_others}
@@ -292,7 +292,7 @@ module _ (T : Types) (fs : ℕ) (array : ℕ → Option ℕ) (old : StoreState) 
         none = λ ne. ap (λ b. T.owned 5 (latest new.lives b)) points ∙ ap (T.owned 5) (proposed_here T old new h fs block edit e x.2) ∙ cleared_owns T s.library (latest old.lives block) x.1;
         left = λ few. inr (record {
           last = few;
-          cleared = ap (latest new.lives) points ∙ (proposed_here T old new h fs block edit e x.2 ∙ put_whole (latest old.lives block) zeros (x.1));
+          cleared = ap (latest new.lives) points ∙ (proposed_here T old new h fs block edit e x.2 ∙ put_whole (latest old.lives block) zero_block (x.1));
           others = λ c ne. proposed_others T old new h fs block edit e x.2 c (λ z. ne (z ∙ sym points));
         });
       }

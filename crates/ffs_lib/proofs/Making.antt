@@ -12,7 +12,7 @@ use Rattle.ffs_model.specs.Cuts.{latest}
 use Rattle.ffs_model.specs.Names.{IsRoot}
 use Rattle.ffs_model.specs.Edits.{HoldsOnly}
 use Rattle.ffs_model.specs.Volumes.{VolumeKeeps, no_edits}
-use Rattle.ffs_model.specs.Library.{library_layout, IsLibrary, pointer_word, zeros}
+use Rattle.ffs_model.specs.Library.{library_layout, IsLibrary, pointer_word, zero_block}
 use Rattle.ffs_model.proofs.ForCallers.{library_reads, pointer_set, pointer_written, root_made, rooted, started, started_holds, started_keeps, zeros_pointer}
 use Rattle.ffs_lookup.specs.declared.fault.FfsFault.{FfsFault}
 use Rattle.ffs_lib.specs.Edits.{edit_at}
@@ -57,30 +57,30 @@ rooted_then T fs few block entry old new given lib array v only =
     let done = gives_ok (make_root_of old fs block) old new entry given in
     let r = rooted old new fs block entry done in
     let s = root_state old fs (block, r.life.ty) ((block, r.life.ty) ∷ []) [] in (
-      root_made T library_layout (library_reads T lib) fs few array old new v block entry zeros done only zeros_pointer,
+      root_made T library_layout (library_reads T lib) fs few array old new v block entry zero_block done only zeros_pointer,
       λ other bytes ne h. subst (λ (xs : Lives). HoldsOnly xs other bytes) (sym r.lives) (holds_accepted old.lives s other bytes ne h),
     )
 
 -- a root block: begun, set, and forgotten where that was refused
-module _ (T : Types) (fs : ℕ) (few : fs < 32) (block number : ℕ) (zeroth first second third : StoreState) (given : Gives (init_of T zeroth fs 3 zeros) zeroth first (Ok (block, number))) where
+module _ (T : Types) (fs : ℕ) (few : fs < 32) (block number : ℕ) (zeroth first second third : StoreState) (given : Gives (init_of T zeroth fs 3 zero_block) zeroth first (Ok (block, number))) where
   pub root_keeps : {A : Type 0} (made : Result A FfsFault) → OnOk made (Roots T fs first second block) → OnErr made (second ≡ first) → Keeps T fs second third → Keeps T fs zeroth third
   root_keeps (Ok x) ok err kept lib array v =
-      let done = gives_ok (init_of T zeroth fs 3 zeros) zeroth first (block, number) given in
-      kept lib array (ok lib array (started_keeps T library_layout (library_reads T lib) fs few array zeroth first v fs 3 zeros (block, number) done)
-      (started_holds T library_layout (library_reads T lib) fs few array zeroth first v fs 3 zeros (block, number) done)).0
+      let done = gives_ok (init_of T zeroth fs 3 zero_block) zeroth first (block, number) given in
+      kept lib array (ok lib array (started_keeps T library_layout (library_reads T lib) fs few array zeroth first v fs 3 zero_block (block, number) done)
+      (started_holds T library_layout (library_reads T lib) fs few array zeroth first v fs 3 zero_block (block, number) done)).0
   root_keeps (Err e) ok err kept lib array v =
-      let done = gives_ok (init_of T zeroth fs 3 zeros) zeroth first (block, number) given in
-      kept lib array (subst (VolumeKeeps T library_layout fs array) (sym err) (started_keeps T library_layout (library_reads T lib) fs few array zeroth first v fs 3 zeros (block, number) done))
+      let done = gives_ok (init_of T zeroth fs 3 zero_block) zeroth first (block, number) given in
+      kept lib array (subst (VolumeKeeps T library_layout fs array) (sym err) (started_keeps T library_layout (library_reads T lib) fs few array zeroth first v fs 3 zero_block (block, number) done))
 
   pub root_leaves : {A : Type 0} (made result : Result A FfsFault) → result ≡ made → OnOk made (Roots T fs first second block) → OnOk result (third ≡ second) → OnOk result (Leaves T fs zeroth third)
   root_leaves made (Err e) is ok same = tt
   root_leaves {A} made (Ok x) is ok same = λ lib array other bytes v ne h.
-      let done = gives_ok (init_of T zeroth fs 3 zeros) zeroth first (block, number) given in
+      let done = gives_ok (init_of T zeroth fs 3 zero_block) zeroth first (block, number) given in
       let roots = subst (λ (r : Result A FfsFault). OnOk r (Roots T fs first second block)) (sym is) ok in
       let reads = library_reads T lib in
       subst (λ (s : StoreState). HoldsOnly s.lives other bytes) (sym same)
-      ((roots lib array (started_keeps T library_layout reads fs few array zeroth first v fs 3 zeros (block, number) done)
-      (started_holds T library_layout reads fs few array zeroth first v fs 3 zeros (block, number) done)).1 other bytes ne (holds_started T zeroth first fs 3 zeros (block, number) done other bytes h))
+      ((roots lib array (started_keeps T library_layout reads fs few array zeroth first v fs 3 zero_block (block, number) done)
+      (started_holds T library_layout reads fs few array zeroth first v fs 3 zero_block (block, number) done)).1 other bytes ne (holds_started T zeroth first fs 3 zero_block (block, number) done other bytes h))
 
 -- the first block of inodes is attached
 pub first_then : (T : Types) (fs : ℕ) → fs < 32 → (root block entry : ℕ) (old new : StoreState) (top : List ℕ) → IsRoot (latest old.lives) fs root → latest old.lives root ≡ top → length top ≡ 512 → pointer_word top 0 ≡ 0 → block < 2 ^ 32 →

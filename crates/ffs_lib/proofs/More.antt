@@ -9,7 +9,7 @@ use Rattle.std.proofs.lemmas.List.Concat.{flat_map-append}
 use Rattle.xn_model.specs.Lists.{blocks_of, distinct, has_number, put}
 use Rattle.xn_model.specs.Root.{unless_empty}
 use Rattle.xn_model.proofs.ForCallers.{Contains-cons, Contains-head, Contains-none, Contains-tail, has_number_from}
-use Rattle.ffs_model.specs.Library.{half_at, zeros}
+use Rattle.ffs_model.specs.Library.{half_at, zero_block}
 use Rattle.ffs_model.proofs.ForCallers.{bytes_within, half_within, zero_half}
 use Rattle.ffs_format.specs.Entries.{entry_of, is_dots, is_name, is_name_byte, is_name_length, name_in}
 use Rattle.ffs_lib.proofs.Fields.{set_words}
@@ -160,11 +160,11 @@ module _ (m : List ℕ) (long : length m ≡ 512) (p : ℕ) (few : p < 16) (n : 
         (ap (λ (t : Bool). if t then None else Some (record { block = b; place = p; inode = half_at m (32 * p) }, name_in m (32 * p))) (eq-eqb (half_at m (32 * p)) 0 empty))
         listed_here listed_apart 16 0 (omega arith) (omega (arith, few))
 
--- no entry in zeros
-none_listed : (b : ℕ) (xs : List ℕ) → filter_map (listed_at b zeros) xs ≡ []
+-- no entry in zero_block
+none_listed : (b : ℕ) (xs : List ℕ) → filter_map (listed_at b zero_block) xs ≡ []
 none_listed b [] = refl
 none_listed b (x ∷ xs) =
-    ap (λ (t : Bool). cons_option (if t then None else Some (record { block = b; place = x; inode = half_at zeros (32 * x) }, name_in zeros (32 * x))) (filter_map (listed_at b zeros) xs)) (eq-eqb (half_at zeros (32 * x)) 0 (zero_half (32 * x)))
+    ap (λ (t : Bool). cons_option (if t then None else Some (record { block = b; place = x; inode = half_at zero_block (32 * x) }, name_in zero_block (32 * x))) (filter_map (listed_at b zero_block) xs)) (eq-eqb (half_at zero_block (32 * x)) 0 (zero_half (32 * x)))
     ∙ none_listed b xs
 
 only_one : {A : Type 0} (front back new : List A) (y : A) → [] ≡ front ++ back → new ≡ front ++ y ∷ back → new ≡ y ∷ []
@@ -174,7 +174,7 @@ only_one (x ∷ xs) back new y e f = absurd (cc e)
 
 -- a directory's first entry in a block
 pub one_listed : (n : ℕ) (name bs : List ℕ) → bs ≡ entry_of n name → length bs ≡ 32 → IsTrue (is_name name) → half_at bs 0 ≡ n → n ≢ 0 → (b : ℕ) →
-    filter_map (listed_at b (put zeros 0 bs)) (range_with_len 0 16) ≡ (record { block = b; place = 0; inode = n }, name) ∷ []
+    filter_map (listed_at b (put zero_block 0 bs)) (range_with_len 0 16) ≡ (record { block = b; place = 0; inode = n }, name) ∷ []
 one_listed n name bs is whole named half some b =
-    let more = block_more zeros refl 0 (omega arith) n name bs is whole named half some b (zero_half 0) in
+    let more = block_more zero_block refl 0 (omega arith) n name bs is whole named half some b (zero_half 0) in
     only_one more.front more.back _ (record { block = b; place = 0; inode = n }, name) (sym (none_listed b (range_with_len 0 16)) ∙ more.was) more.is

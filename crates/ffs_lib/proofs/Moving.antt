@@ -22,7 +22,7 @@ use Rattle.ffs_lookup.specs.declared.fault.FfsFault.TheVariants.{BadName, NoEntr
 use Rattle.ffs_lookup.specs.declared.places.Found.{Found}
 use Rattle.ffs_lookup.specs.declared.places.Slot.{Slot}
 use Rattle.ffs_lib.specs.Edits.{edit_at}
-use Rattle.ffs_lookup.specs.Newest.{byte_in, byte_of, directory_in, file_block, entries_in, entry_at, entry_named, named_in, used_entry, first_named, has_name, inode_in, listing, name_at, without_entry}
+use Rattle.ffs_lookup.specs.Newest.{byte_in, byte_of, directory_in, file_block, slots_in_block, entry_at, entry_named, named_in, used_entry, first_named, has_name, inode_in, listing, name_at, without_entry}
 use Rattle.ffs_lookup.specs.Places.{IsFound, IsSlot}
 use Rattle.ffs_lib.specs.Results.{AsBefore, IsAs, SameInode}
 use Rattle.ffs_lib.proofs.Entering.{directory_from, inode_put}
@@ -103,7 +103,7 @@ relinked T lib state new h fs few n found is exact bytes whole mode direct last 
     }
       where
         listing_of : (ℕ → List ℕ) → List ℕ → List (Slot × List ℕ)
-        listing_of content bs = map {B = Slot × List ℕ} (λ (e : Slot). (e, name_at content e)) (flat_map (entries_in content) bs)
+        listing_of content bs = map {B = Slot × List ℕ} (λ (e : Slot). (e, name_at content e)) (flat_map (slots_in_block content) bs)
 
 -- what an inode was before and is now
 pub was_and_is : (v w : ℕ → List ℕ) (fs n : ℕ) (old new inode after : List ℕ) → Ok old ≡ inode_in v fs n → inode_in w fs n ≡ Ok new → Ok inode ≡ inode_in v fs n → Ok after ≡ inode_in w fs n → (inode ≡ old) × (after ≡ new)
@@ -142,11 +142,11 @@ entry_stands content p b s (x ∷ xs) e = go (half_at (content b) (32 * x) == 0)
     go true rest later f = later f
     go false rest later f = here rest later (p (entry_at content b x)) f
 
-block_stands : (content : ℕ → List ℕ) (p : Slot → Bool) (s : Slot) (bs : List ℕ) → Some s ≡ find p (flat_map (entries_in content) bs) → Contains bs s.block
+block_stands : (content : ℕ → List ℕ) (p : Slot → Bool) (s : Slot) (bs : List ℕ) → Some s ≡ find p (flat_map (slots_in_block content) bs) → Contains bs s.block
 block_stands content p s [] e = absurd (none-some s (sym e))
-block_stands content p s (b ∷ bs) e = go (find p (entries_in content b)) refl (block_stands content p s bs) (e ∙ find-append p (entries_in content b) (flat_map (entries_in content) bs))
+block_stands content p s (b ∷ bs) e = go (find p (slots_in_block content b)) refl (block_stands content p s bs) (e ∙ find-append p (slots_in_block content b) (flat_map (slots_in_block content) bs))
   where
-    go : (o : Option Slot) → o ≡ find p (entries_in content b) → (Some s ≡ find p (flat_map (entries_in content) bs) → Contains bs s.block) → Some s ≡ option_or o (find p (flat_map (entries_in content) bs)) → Contains (b ∷ bs) s.block
+    go : (o : Option Slot) → o ≡ find p (slots_in_block content b) → (Some s ≡ find p (flat_map (slots_in_block content) bs) → Contains bs s.block) → Some s ≡ option_or o (find p (flat_map (slots_in_block content) bs)) → Contains (b ∷ bs) s.block
     go None f later g = Contains-tail b bs s.block (later g)
     go (Some y) f later g = subst (λ z. Contains (b ∷ bs) z) (sym (entry_stands content p b s (range_with_len 0 16) (g ∙ f))) (Contains-head b bs)
 

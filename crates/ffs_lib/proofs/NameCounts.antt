@@ -12,8 +12,8 @@ use Rattle.ffs_model.specs.Library.{half_at, inode_at, inode_blocks, inode_links
 use Rattle.ffs_model.proofs.ForCallers.{blocks_read, links_read, mode_read, one_more}
 use Rattle.ffs_lookup.specs.declared.fault.FfsFault.{FfsFault}
 use Rattle.ffs_lookup.specs.declared.places.Slot.{Slot}
-use Rattle.ffs_lookup.specs.Newest.{directory_in, entries_in, entries_of, entry_at, inode_in, used_entry}
-use Rattle.ffs_lookup.specs.Counts.{all_entries, directories_in, is_over, links_in, links_or_none, named_numbers, names_count, numbers_of, over_named}
+use Rattle.ffs_lookup.specs.Newest.{directory_in, slots_in_block, slots_of, entry_at, inode_in, used_entry}
+use Rattle.ffs_lookup.specs.Counts.{all_entries, directory_inodes_in, is_over, links_in, links_or_none, named_numbers, names_count, numbers_of, over_named}
 use Rattle.ffs_lookup.proofs.ForCallers.{directory_is, in_directory, least_none}
 use Rattle.ffs_lib.proofs.Owners.{stands_from, stands_to}
 
@@ -120,14 +120,14 @@ module _ (content : ℕ → List ℕ) (fs n : ℕ) (y : ℕ × ℕ) (some : n �
       let few = index_few in
       let low = place_few in
       let read = under_test (nat_lt y.1 16) (half_at (content y.0) (32 * y.1)) n x.names some in
-      let there : Contains (directories_in content fs) inode =
+      let there : Contains (directory_inodes_in content fs) inode =
       filter_map_has (λ k. result_ok (directory_in content fs k)) (range_with_len 1 128) number inode (range_has 128 1 number (omega arith) (omega (arith, few, low))) (ap result_ok (sym found)) in
       let has : Contains (inode_blocks inode) y.0 = subst (λ xs. Contains xs y.0) (blocks_read (content x.block) x.place place_few) x.has in
       let is : used_entry (entry_at content y.0 y.1) ≡ Some slot =
       ap (λ (t : Bool). if t then None else Some (entry_at content y.0 y.1)) (ne_eqb (half_at (content y.0) (32 * y.1)) 0 (λ z. some (sym read.1 ∙ z)))
       ∙ ap (λ k. Some (record { block = y.0; place = y.1; inode = k })) read.1 in
-      flat_map_has (entries_of content) (directories_in content fs) inode slot there
-      (flat_map_has (entries_in content) (inode_blocks inode) y.0 slot has
+      flat_map_has (slots_of content) (directory_inodes_in content fs) inode slot there
+      (flat_map_has (slots_in_block content) (inode_blocks inode) y.0 slot has
       (filter_map_has (λ place. used_entry (entry_at content y.0 place)) (range_with_len 0 16) y.1 slot (range_has 16 0 y.1 (omega arith) (is_less y.1 16 read.0)) is))
 
 -- How many there are

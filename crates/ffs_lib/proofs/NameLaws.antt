@@ -12,7 +12,7 @@ use Rattle.xn_model.proofs.ForCallers.{Contains-head}
 use Rattle.ffs_model.specs.Cuts.{latest}
 use Rattle.ffs_model.specs.Edits.{OneEntry}
 use Rattle.ffs_model.specs.Names.{IsInodes, IsRoot}
-use Rattle.ffs_model.specs.Library.{inode_at, inode_blocks, inode_links, inode_mode, inode_pairs, library_layout, pointer_word, zeros}
+use Rattle.ffs_model.specs.Library.{inode_at, inode_blocks, inode_links, inode_mode, inode_pairs, library_layout, pointer_word, zero_block}
 use Rattle.ffs_model.proofs.ForCallers.{Replaces, blocks_read, begun_next, given_later, library_reads, mode_read, one_entry, one_later, proposed_given, proposed_others, started_here, started_holds, started_keeps, started_names, under_direct, zeros_mode, zeros_pointer}
 use Rattle.ffs_format.specs.Fields.{Fields, direct_in, fields_of}
 use Rattle.ffs_lookup.specs.declared.places.Found.{Found}
@@ -79,9 +79,9 @@ not_begun T fs old new d inode dir same index room bytes home at fault told = re
 -- A new block with one entry
 
 module _ (T : Types) (fs : ℕ) (array : ℕ → Option ℕ) (zeroth first : StoreState) (s : Stage T fs array zeroth) (d : ℕ) (inode : List ℕ) (dir : Ok inode ≡ directory_in (latest zeroth.lives) fs d) (n e : ℕ) (m : MayName zeroth fs n e)
-    (bytes name : List ℕ) (b : IsEntry bytes n name) (index : ℕ) (low : index < 12) (empty : Some (Pointer index) ≡ room_in (latest zeroth.lives) inode) (gap : direct_in inode index ≡ 0) (block number : ℕ) (done : init_of T zeroth fs 2 (put zeros 0 bytes) ≡ Ok ((block, number), first)) where
+    (bytes name : List ℕ) (b : IsEntry bytes n name) (index : ℕ) (low : index < 12) (empty : Some (Pointer index) ≡ room_in (latest zeroth.lives) inode) (gap : direct_in inode index ≡ 0) (block number : ℕ) (done : init_of T zeroth fs 2 (put zero_block 0 bytes) ≡ Ok ((block, number), first)) where
   pub grow_stage : Stage T fs array first
-  grow_stage = record { library = s.library; few = s.few; keeps = started_keeps T library_layout (library_reads T s.library) fs s.few array zeroth first s.keeps fs 2 (put zeros 0 bytes) (block, number) done }
+  grow_stage = record { library = s.library; few = s.few; keeps = started_keeps T library_layout (library_reads T s.library) fs s.few array zeroth first s.keeps fs 2 (put zero_block 0 bytes) (block, number) done }
 
   begins : (x : ℕ) → SameInode (latest zeroth.lives) (latest first.lives) fs x
   unfolding grow_stage
@@ -91,7 +91,7 @@ module _ (T : Types) (fs : ℕ) (array : ℕ → Option ℕ) (zeroth first : Sto
   grow_again = dir ∙ sym (directory_same (latest zeroth.lives) (latest first.lives) fs d (begins d).0)
 
   given1 : IsTrue (was_given first (Some e))
-  given1 = given_later zeroth first (one_later first.next zeroth.next (begun_next T zeroth first fs 2 (put zeros 0 bytes) (block, number) done)) (Some e) m.given
+  given1 = given_later zeroth first (one_later first.next zeroth.next (begun_next T zeroth first fs 2 (put zero_block 0 bytes) (block, number) done)) (Some e) m.given
 
   module _ (found : Found) (at : IsDirectory first fs d found) (exact : Ok found.inode ≡ directory_in (latest first.lives) fs d) (after : List ℕ) (whole : length after ≡ 64) (size : ℕ)
       (set : fields_of after ≡ record (fields_of found.inode) { direct = slice_set (fields_of found.inode).direct index block; size = size }) where
@@ -99,27 +99,27 @@ module _ (T : Types) (fs : ℕ) (array : ℕ → Option ℕ) (zeroth first : Sto
     mine = same_ok found.inode inode (exact ∙ sym grow_again)
 
     there : block ≢ 0
-    there = begun_some T zeroth first s.keeps.consistent fs 2 (put zeros 0 bytes) (block, number) done
+    there = begun_some T zeroth first s.keeps.consistent fs 2 (put zero_block 0 bytes) (block, number) done
 
     pub grow_short : ShortEdit T first fs found.block (edit_at (64 * found.place) after ((block, 2) ∷ []) [] (Some e))
     grow_short =
         let pairs : Replaces (inode_pairs found.inode 0) (inode_pairs after 0) [] ((block, 2) ∷ []) =
         pairs_set found.inode after (ap (λ (f : Fields). f.indirect) set) index block low (ap (λ (f : Fields). f.direct) set) (ap (λ i. direct_in i index) mine ∙ gap) there in
-        attached_short T first (Some e) (can_edit grow_stage given1) fs s.few d found.block found.place at.is.stands after whole block 2 (begun_addable T zeroth first fs 2 block number (put zeros 0 bytes) (gives_of (init_of T zeroth fs 2 (put zeros 0 bytes)) zeroth first (block, number) done))
+        attached_short T first (Some e) (can_edit grow_stage given1) fs s.few d found.block found.place at.is.stands after whole block 2 (begun_addable T zeroth first fs 2 block number (put zero_block 0 bytes) (gives_of (init_of T zeroth fs 2 (put zero_block 0 bytes)) zeroth first (block, number) done))
         (subst (λ (i : List ℕ). Replaces (inode_pairs i 0) (inode_pairs after 0) [] ((block, 2) ∷ [])) at.is.bytes pairs)
 
     pub grow_undone : (new : StoreState) → new ≡ left_by (forget_of T first fs block) first → (fault : FfsFault) → Wants T first fs found.block fault → StopsEntering T fs zeroth new d fault
     grow_undone new left fault wants = record {
-      same = λ x. subst (λ (s : StoreState). SameInode (latest zeroth.lives) (latest s.lives) fs x) (sym left) (undone_same T s.library zeroth first s.keeps.consistent fs s.few 2 (put zeros 0 bytes) block number done x);
+      same = λ x. subst (λ (s : StoreState). SameInode (latest zeroth.lives) (latest s.lives) fs x) (sym left) (undone_same T s.library zeroth first s.keeps.consistent fs s.few 2 (put zero_block 0 bytes) block number done x);
       told = at_ok (directory_in (latest zeroth.lives) fs d) inode (λ i. StopsAtRoom T fs zeroth new d fault (room_in (latest zeroth.lives) i)) dir (subst (StopsAtRoom T fs zeroth new d fault) empty
           (at_ok (inode_block_in (latest zeroth.lives) fs ((d - 1) / 8)) found.block (λ owner. (m : List ℕ) × StopsAttaching T fs zeroth new 2 m owner fault) home_begun
-          (put zeros 0 bytes, attach_undone T fs zeroth first new 2 (put zeros 0 bytes) block number found.block done left fault wants)));
+          (put zero_block 0 bytes, attach_undone T fs zeroth first new 2 (put zero_block 0 bytes) block number found.block done left fault wants)));
     }
       where
         home_begun : IsHome (latest zeroth.lives) fs d found.block
         home_begun =
             home_of first fs d found.block found.place at.is.stands
-            ∙ block_same T s.library (latest zeroth.lives) (latest first.lives) fs block 6 (begun T zeroth first s.keeps.consistent fs s.few 2 6 (put zeros 0 bytes) (block, number) done) (λ z. omega (arith, z)) ((d - 1) / 8)
+            ∙ block_same T s.library (latest zeroth.lives) (latest first.lives) fs block 6 (begun T zeroth first s.keeps.consistent fs s.few 2 6 (put zero_block 0 bytes) (block, number) done) (λ z. omega (arith, z)) ((d - 1) / 8)
 
     pub grows : (second : StoreState) (entry : ℕ) → size ≡ 512 * length (inode_blocks after) → propose_of T first fs found.block (edit_at (64 * found.place) after ((block, 2) ∷ []) [] (Some e)) ≡ Ok (entry, second) →
         Stage T fs array second × (Entered (latest zeroth.lives) (latest second.lives) fs d name n × IsTrue (was_given second (Some entry)))
@@ -135,10 +135,10 @@ module _ (T : Types) (fs : ℕ) (array : ℕ → Option ℕ) (zeroth first : Sto
         let links = ap (λ (f : Fields). f.links) set in
         let direct = ap (λ (f : Fields). f.direct) set in
         let own = stands_from v1 fs d found.inode (directory_from v1 fs d found.inode exact).0 in
-        let one : OneEntry library_layout (put zeros 0 bytes) n = subst (OneEntry library_layout (put zeros 0 bytes)) b.half (one_entry bytes b.whole) in
-        let holds = started_holds T library_layout reads fs s.few array zeroth first s.keeps fs 2 (put zeros 0 bytes) (block, number) done in
-        let names = started_names T library_layout reads fs s.few array zeroth first s.keeps fs 2 (put zeros 0 bytes) (block, number) done n e m.can in
-        let k = grown T s.library fs s.few array first second s1.keeps d found.block found.place stands after whole ((block, 2) ∷ []) [] (Some e) entry put_done block n e (put zeros 0 bytes)
+        let one : OneEntry library_layout (put zero_block 0 bytes) n = subst (OneEntry library_layout (put zero_block 0 bytes)) b.half (one_entry bytes b.whole) in
+        let holds = started_holds T library_layout reads fs s.few array zeroth first s.keeps fs 2 (put zero_block 0 bytes) (block, number) done in
+        let names = started_names T library_layout reads fs s.few array zeroth first s.keeps fs 2 (put zero_block 0 bytes) (block, number) done n e m.can in
+        let k = grown T s.library fs s.few array first second s1.keeps d found.block found.place stands after whole ((block, 2) ∷ []) [] (Some e) entry put_done block n e (put zero_block 0 bytes)
         (ap inode_mode (sym at.is.bytes) ∙ at.directory) mode (links ∙ ap inode_links at.is.bytes)
         (λ c i. elim (one_more found.inode after index block c direct i) [ inl j ↦ inl (subst (λ (x : List ℕ). Contains (inode_blocks x) c) at.is.bytes j) | inr z ↦ inr z ])
         m.some holds one (Contains-head (block, 2) []) names refl in
@@ -200,21 +200,21 @@ named_once v w fs d n inode dir free others =
 
 -- A new block of inodes
 
-pub not_added : (T : Types) (fs : ℕ) (old new : StoreState) → HasFreePointer (latest old.lives) fs → new ≡ old → (fault : FfsFault) → Tells (init_of T old fs 4 zeros) fault → StopsGrowing T fs old new fault
+pub not_added : (T : Types) (fs : ℕ) (old new : StoreState) → HasFreePointer (latest old.lives) fs → new ≡ old → (fault : FfsFault) → Tells (init_of T old fs 4 zero_block) fault → StopsGrowing T fs old new fault
 not_added T fs old new free same fault told = record {
   same = λ x. subst (λ (s : StoreState). SameInode (latest old.lives) (latest s.lives) fs x) (sym same) (refl, λ i e. (refl, λ at low. refl), λ some few. refl);
-  told = at_ok (root_in (latest old.lives) fs) free.root (λ root. StopsAttaching T fs old new 4 zeros root fault) free.is_root (inl (same, told));
+  told = at_ok (root_in (latest old.lives) fs) free.root (λ root. StopsAttaching T fs old new 4 zero_block root fault) free.is_root (inl (same, told));
 }
 
-no_mode : (p : ℕ) → p < 8 → inode_mode (inode_at zeros p) ≡ 0
-no_mode p lt = sym (mode_read zeros p lt) ∙ zeros_mode p
+no_mode : (p : ℕ) → p < 8 → inode_mode (inode_at zero_block p) ≡ 0
+no_mode p lt = sym (mode_read zero_block p lt) ∙ zeros_mode p
 
-module _ (T : Types) (fs : ℕ) (array : ℕ → Option ℕ) (zeroth first : StoreState) (s : Stage T fs array zeroth) (free : HasFreePointer (latest zeroth.lives) fs) (block number : ℕ) (done : init_of T zeroth fs 4 zeros ≡ Ok ((block, number), first)) where
+module _ (T : Types) (fs : ℕ) (array : ℕ → Option ℕ) (zeroth first : StoreState) (s : Stage T fs array zeroth) (free : HasFreePointer (latest zeroth.lives) fs) (block number : ℕ) (done : init_of T zeroth fs 4 zero_block ≡ Ok ((block, number), first)) where
   pub point_stage : Stage T fs array first
-  point_stage = record { library = s.library; few = s.few; keeps = started_keeps T library_layout (library_reads T s.library) fs s.few array zeroth first s.keeps fs 4 zeros (block, number) done }
+  point_stage = record { library = s.library; few = s.few; keeps = started_keeps T library_layout (library_reads T s.library) fs s.few array zeroth first s.keeps fs 4 zero_block (block, number) done }
 
   touched : Touches T (latest zeroth.lives) (latest first.lives) fs block 6
-  touched = begun T zeroth first s.keeps.consistent fs s.few 4 6 zeros (block, number) done
+  touched = begun T zeroth first s.keeps.consistent fs s.few 4 6 zero_block (block, number) done
 
   pub point_free : HasFreePointer (latest first.lives) fs
   point_free =
@@ -241,13 +241,13 @@ module _ (T : Types) (fs : ℕ) (array : ℕ → Option ℕ) (zeroth first : Sto
 
   module _ (root : ℕ) (is_root : IsRoot (latest first.lives) fs root) (index : ℕ) (e : IsEmptyPointer first fs index) (small : block < 2 ^ 32) where
     pub point_short : ShortEdit T first fs root (edit_at (4 * index) (to_le_bytes w32 block) ((block, 4) ∷ []) [] None)
-    point_short = pointer_short T first None (can_edit point_stage refl) fs s.few root index block is_root e small (begun_addable T zeroth first fs 4 block number zeros (gives_of (init_of T zeroth fs 4 zeros) zeroth first (block, number) done))
+    point_short = pointer_short T first None (can_edit point_stage refl) fs s.few root index block is_root e small (begun_addable T zeroth first fs 4 block number zero_block (gives_of (init_of T zeroth fs 4 zero_block) zeroth first (block, number) done))
 
     pub point_undone : (new : StoreState) → new ≡ left_by (forget_of T first fs block) first → (fault : FfsFault) → Wants T first fs root fault → StopsGrowing T fs zeroth new fault
     point_undone new left fault wants = record {
-      same = λ x. subst (λ (m : StoreState). SameInode (latest zeroth.lives) (latest m.lives) fs x) (sym left) (undone_same T s.library zeroth first s.keeps.consistent fs s.few 4 zeros block number done x);
-      told = at_ok (root_in (latest zeroth.lives) fs) root (λ r. StopsAttaching T fs zeroth new 4 zeros r fault)
-          (root_again (latest first.lives) fs root is_root ∙ root_same T s.library (latest zeroth.lives) (latest first.lives) fs block 6 touched) (attach_undone T fs zeroth first new 4 zeros block number root done left fault wants);
+      same = λ x. subst (λ (m : StoreState). SameInode (latest zeroth.lives) (latest m.lives) fs x) (sym left) (undone_same T s.library zeroth first s.keeps.consistent fs s.few 4 zero_block block number done x);
+      told = at_ok (root_in (latest zeroth.lives) fs) root (λ r. StopsAttaching T fs zeroth new 4 zero_block r fault)
+          (root_again (latest first.lives) fs root is_root ∙ root_same T s.library (latest zeroth.lives) (latest first.lives) fs block 6 touched) (attach_undone T fs zeroth first new 4 zero_block block number root done left fault wants);
     }
 
     pub points : (second : StoreState) (entry : ℕ) → propose_of T first fs root (edit_at (4 * index) (to_le_bytes w32 block) ((block, 4) ∷ []) [] None) ≡ Ok (entry, second) →
@@ -258,9 +258,9 @@ module _ (T : Types) (fs : ℕ) (array : ℕ → Option ℕ) (zeroth first : Sto
         let v = latest zeroth.lives in
         let w = latest first.lives in
         let top = block_from w fs 0 point_free.first (omega arith) point_free.inodes in
-        let bare = started_here T zeroth first fs 4 zeros (block, number) done in
-        let there = begun_some T zeroth first h fs 4 zeros (block, number) done in
-        let only = started_holds T library_layout (library_reads T s.library) fs s.few array zeroth first s.keeps fs 4 zeros (block, number) done in
+        let bare = started_here T zeroth first fs 4 zero_block (block, number) done in
+        let there = begun_some T zeroth first h fs 4 zero_block (block, number) done in
+        let only = started_holds T library_layout (library_reads T s.library) fs s.few array zeroth first s.keeps fs 4 zero_block (block, number) done in
         let same = same_root w fs e.root root e.is_root is_root in
         let apart : block ≢ root = λ z.
         let one = same_root w fs top.root root top.is_root is_root in

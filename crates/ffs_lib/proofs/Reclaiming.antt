@@ -12,7 +12,7 @@ use Rattle.ffs_model.specs.Cuts.{Under, latest}
 use Rattle.ffs_model.specs.Names.{LeavesRoom, Names}
 use Rattle.ffs_model.specs.Edits.{InodeFreed, LinksTaken}
 use Rattle.ffs_model.specs.Volumes.{KeepsNumber}
-use Rattle.ffs_model.specs.Library.{inode_at, inode_blocks, inode_links, inode_mode, inode_pairs, library_layout, pointed, pointer_word, with_inode, zeros}
+use Rattle.ffs_model.specs.Library.{inode_at, inode_blocks, inode_links, inode_mode, inode_pairs, library_layout, pointed, pointer_word, with_inode, zero_block}
 use Rattle.ffs_model.proofs.ForCallers.{inode_unlinked, library_reads, links_read, links_taken, other_number, other_written, pointers_cleared_short, proposed_here, proposed_others, spare_begins, spare_by_freed, spare_by_taken}
 use Rattle.ffs_model.proofs.Rewritten as rewritten
 use Rattle.ffs_format.specs.Fields.{Fields, fields_of}
@@ -172,7 +172,7 @@ module _ (T : Types) (fs : ℕ) (array : ℕ → Option ℕ) (old : StoreState) 
         spares = λ i m some k. other_number T library_layout reads fs s.few array old s.keeps block new edit e done 5 i (λ z. absurd (omega (arith, z))) (λ z. absurd (omega (arith, z))) (λ z. absurd (omega (arith, z))) at some None m k;
         none = λ ne. ap (λ b. T.owned 5 (latest new.lives b)) points ∙ ap (T.owned 5) (proposed_here T old new h fs block edit e done) ∙ cleared_owns T lib (latest old.lives block) x.1;
         left = inr (record {
-          cleared = ap (latest new.lives) points ∙ (proposed_here T old new h fs block edit e done ∙ put_whole (latest old.lives block) zeros (x.1));
+          cleared = ap (latest new.lives) points ∙ (proposed_here T old new h fs block edit e done ∙ put_whole (latest old.lives block) zero_block (x.1));
           others = λ c ne. proposed_others T old new h fs block edit e done c (λ z. ne (z ∙ sym points));
         });
       }

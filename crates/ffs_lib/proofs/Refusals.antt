@@ -8,7 +8,7 @@ use Rattle.ffs_format.specs.Entries.{is_name}
 use Rattle.ffs_lookup.specs.declared.fault.FfsFault.{FfsFault}
 use Rattle.ffs_lookup.specs.declared.fault.FfsFault.TheVariants.{BadName, DirNotEmpty, NoEntry, TooLarge}
 use Rattle.ffs_lookup.specs.declared.places.Slot.{Slot}
-use Rattle.ffs_lookup.specs.Newest.{RefusesAs, and_then, directory_in, entries_of, entry_named, file_in, has_name, if_empty, is_own, mapped, named_in, rmdir_in, unlink_in, write_in}
+use Rattle.ffs_lookup.specs.Newest.{RefusesAs, and_then, directory_in, slots_of, entry_named, file_in, has_name, if_empty, is_own, mapped, named_in, rmdir_in, unlink_in, write_in}
 
 module _ {A B : Type 0} (looked : Result A FfsFault) (result : Result B FfsFault) where
   pub refuses : (fault : FfsFault) (state : StoreState) → Err fault ≡ looked → result ≡ Err fault → RefusesAs looked state state result
@@ -36,12 +36,12 @@ module _ (content : ℕ → List ℕ) (fs d : ℕ) (name : List ℕ) where
       ap (λ (x : Result (List ℕ) FfsFault). and_then x (if_empty content entry)) f
       ∙ ap (λ (x : Result Slot FfsFault). and_then x (λ entry. and_then (directory_in content fs entry.inode) (if_empty content entry))) e
 
-module _ (content : ℕ → List ℕ) (entry : Slot) (inode : List ℕ) (empty : Bool) (is : ◌≡◌ {A = Result Bool FfsFault} (Ok empty) (Ok (length (entries_of content inode) == 0))) where
+module _ (content : ℕ → List ℕ) (entry : Slot) (inode : List ℕ) (empty : Bool) (is : ◌≡◌ {A = Result Bool FfsFault} (Ok empty) (Ok (length (slots_of content inode) == 0))) where
   pub entries_left : empty ≡ false → Err DirNotEmpty ≡ if_empty content entry inode
-  entries_left e = let t : (length (entries_of content inode) == 0) ≡ false = cc in sym (ap (λ (x : Bool). if x then Ok entry else Err DirNotEmpty) t)
+  entries_left e = let t : (length (slots_of content inode) == 0) ≡ false = cc in sym (ap (λ (x : Bool). if x then Ok entry else Err DirNotEmpty) t)
 
   pub none_left : empty ≡ true → Ok entry ≡ if_empty content entry inode
-  none_left e = let t : (length (entries_of content inode) == 0) ≡ true = cc in sym (ap (λ (x : Bool). if x then Ok entry else Err DirNotEmpty) t)
+  none_left e = let t : (length (slots_of content inode) == 0) ≡ true = cc in sym (ap (λ (x : Bool). if x then Ok entry else Err DirNotEmpty) t)
 
 module _ (content : ℕ → List ℕ) (fs n size : ℕ) where
   pub write_nothing : (fault : FfsFault) → Err fault ≡ file_in content fs n → Err fault ≡ write_in content fs n size
@@ -70,7 +70,7 @@ bare_named p entry t (x ∷ xs) b e = not_true (sym (ne_eqb (length (x ∷ xs)) 
     not_true : false ≡ true → ⊥
     not_true f = cc
 
-pub not_bare : (content : ℕ → List ℕ) (fs n : ℕ) (name inode : List ℕ) (entry : Slot) → Ok inode ≡ directory_in content fs n → Ok entry ≡ named_in content fs n name → (length (entries_of content inode) == 0) ≡ true → ⊥
+pub not_bare : (content : ℕ → List ℕ) (fs n : ℕ) (name inode : List ℕ) (entry : Slot) → Ok inode ≡ directory_in content fs n → Ok entry ≡ named_in content fs n name → (length (slots_of content inode) == 0) ≡ true → ⊥
 unfolding named_in
 not_bare content fs n name inode entry is named bare =
-    bare_named (has_name content name) entry (is_name name) (entries_of content inode) bare (named ∙ sym (ap (λ (r : Result (List ℕ) FfsFault). and_then r (entry_named content name)) is))
+    bare_named (has_name content name) entry (is_name name) (slots_of content inode) bare (named ∙ sym (ap (λ (r : Result (List ℕ) FfsFault). and_then r (entry_named content name)) is))

@@ -6,7 +6,7 @@ use Rattle.ffs_format.specs.Entries.{is_name}
 use Rattle.ffs_lookup.specs.declared.fault.FfsFault.{FfsFault}
 use Rattle.ffs_lookup.specs.declared.fault.FfsFault.TheVariants.{BadName, DirNotEmpty, NoEntry}
 use Rattle.ffs_lookup.specs.declared.places.Slot.{Slot}
-use Rattle.ffs_lookup.specs.Newest.{and_then, directory_in, entries_of, entry_named, file_in, first_named, if_empty, inode_in, mapped, named_in, rmdir_in, unlink_in}
+use Rattle.ffs_lookup.specs.Newest.{and_then, directory_in, slots_of, entry_named, file_in, first_named, if_empty, inode_in, mapped, named_in, rmdir_in, unlink_in}
 use Rattle.ffs_lookup.proofs.ForCallers.{EntryAt, first_value, not_both}
 use Rattle.ffs_lib.proofs.Entering.{directory_from}
 use Rattle.ffs_lib.proofs.Moving.{named_from}
@@ -54,5 +54,5 @@ module _ (content : ℕ → List ℕ) (fs d : ℕ) (name : List ℕ) (entry : Sl
   rmdir_value e =
       let r = passed (named_in content fs d name) (λ x. and_then (directory_in content fs x.inode) (if_empty content x)) entry e in
       let f = passed (directory_in content fs r.0.inode) (if_empty content r.0) entry r.2 in
-      let b = only_first (length (entries_of content f.0) == 0) r.0 entry DirNotEmpty f.2 in
+      let b = only_first (length (slots_of content f.0) == 0) r.0 entry DirNotEmpty f.2 in
       value_of r.0 r.1 b.1 f.0 (directory_from content fs r.0.inode f.0 f.1).0 (λ z. not_bare content fs d name f.0 r.0 (f.1 ∙ sym (ap (directory_in content fs) z)) r.1 b.0)

@@ -10,7 +10,7 @@ use Rattle.ffs_model.specs.Cuts.{latest}
 use Rattle.ffs_model.specs.Library.{IsLibrary, inode_blocks, inode_links, library_layout}
 use Rattle.ffs_lookup.specs.declared.fault.FfsFault.{FfsFault}
 use Rattle.ffs_lookup.specs.declared.places.Slot.{Slot}
-use Rattle.ffs_lookup.specs.Newest.{directory_in, entries_of, file_in, inode_in, is_at, listing, named_in}
+use Rattle.ffs_lookup.specs.Newest.{directory_in, slots_of, file_in, inode_in, is_at, listing, named_in}
 use Rattle.ffs_lookup.specs.Places.{IsSlot}
 use Rattle.ffs_lookup.proofs.ForCallers.{EntryAt, direct_has, first_value, not_both, same_ok}
 use Rattle.ffs_lib.specs.Replacing.{AreDirect, Replaced, ReplacedInodes, Turned, pair_of, turned_entry}
@@ -158,7 +158,7 @@ module _ (u : ℕ → List ℕ) (fs d : ℕ) (name : List ℕ) (other : ℕ) (ot
     -- the second entry is still the first with its name
     pub target_named : Ok to ≡ named_in v1 fs other other_name
     target_named = named_to v1 fs other other_name x.target to (there1 other x.target x.is_target) x.other_good
-        (x.second ∙ (find_listed u other_name (entries_of u x.target) ∙ (ap (named_among other_name) (sym (listing1 other x.target x.is_target)) ∙ sym (find_listed v1 other_name (entries_of v1 x.target)))))
+        (x.second ∙ (find_listed u other_name (slots_of u x.target) ∙ (ap (named_among other_name) (sym (listing1 other x.target x.is_target)) ∙ sym (find_listed v1 other_name (slots_of v1 x.target)))))
 
     module _ (v2 : ℕ → List ℕ) (t : Turned v1 v2 fs to n) (places : is_at to from ≡ false) where
       pub there2 : (e : ℕ) (inode : List ℕ) → Ok inode ≡ directory_in u fs e → Ok inode ≡ directory_in v2 fs e
@@ -170,7 +170,7 @@ module _ (u : ℕ → List ℕ) (fs d : ℕ) (name : List ℕ) (other : ℕ) (ot
       -- so is the first entry
       pub home_named : Ok from ≡ named_in v2 fs d name
       home_named = named_to v2 fs d name x.home from (there2 d x.home x.is_home) x.good
-          (still_first to n from name (listing u x.home) places (x.first ∙ find_listed u name (entries_of u x.home)) ∙ (ap (named_among name) (sym (listing2 d x.home x.is_home)) ∙ sym (find_listed v2 name (entries_of v2 x.home))))
+          (still_first to n from name (listing u x.home) places (x.first ∙ find_listed u name (slots_of u x.home)) ∙ (ap (named_among name) (sym (listing2 d x.home x.is_home)) ∙ sym (find_listed v2 name (slots_of v2 x.home))))
 
       -- and neither directory has the entries that it had
       pub turned_listed : listing v2 x.target ≡ listing u x.target → ⊥

@@ -19,7 +19,7 @@ use Rattle.ffs_lookup.specs.declared.fault.FfsFault.{FfsFault}
 use Rattle.ffs_lookup.specs.declared.fault.FfsFault.TheVariants.{BadName, NoEntry}
 use Rattle.ffs_lookup.specs.declared.places.Slot.{Slot}
 use Rattle.ffs_lookup.specs.Newest.{and_then, byte_in, byte_of, directory_in, file_block, file_end, inode_in, name_of_place}
-use Rattle.ffs_lookup.specs.Files.{Answer, Blocks, Directory, File, Files, cleared, directory_of, entry_named, look_up, told, with_entry, without_link}
+use Rattle.ffs_lookup.specs.Files.{Answer, Blocks, Directory, File, Files, cleared, directory_of, entry_named, look_up, fault_told, with_entry, without_link}
 use Rattle.ffs_lookup.specs.FileValues.{blocks_value, bytes_value, files_of}
 use Rattle.ffs_lookup.proofs.ForCallers.{IsPlaceOf, direct_has, map_on, same_ok}
 use Rattle.ffs_lib.specs.Results.{IsAs, OnlyChanges, SameContents, SameInode}
@@ -42,7 +42,7 @@ pub same_here : (v : ℕ → List ℕ) (fs x : ℕ) → SameInode v v fs x
 same_here v fs x = (refl, λ inode i. (refl, λ at low. refl), λ some low. refl)
 
 -- a call whose look-ups fail has the fault that its function has
-pub does_fault : {A B : Type 0} (T : Types) (fs : ℕ) (looked : Result B FfsFault) (answer : Answer A) (stages : Stages) (old new : StoreState) (result : Result A FfsFault) → told looked ≡ told answer →
+pub does_fault : {A B : Type 0} (T : Types) (fs : ℕ) (looked : Result B FfsFault) (answer : Answer A) (stages : Stages) (old new : StoreState) (result : Result A FfsFault) → fault_told looked ≡ fault_told answer →
     Answers looked (λ x y. ⊥) (λ x fault. ⊥) old new result → Does T fs answer stages old new result
 does_fault T fs (Err fault) (Err other) stages old new result e h = let same : fault ≡ other = cc e in (h.0 ∙ ap (λ (f : FfsFault). Err f) same, h.1)
 does_fault T fs (Err fault) (Ok next) stages old new result e h = absurd (cc e)

@@ -10,7 +10,7 @@ use Rattle.ffs_lookup.specs.declared.fault.FfsFault.{FfsFault}
 use Rattle.ffs_lookup.specs.declared.fault.FfsFault.TheVariants.{NoEntry}
 use Rattle.ffs_lookup.specs.declared.places.Free.{Free}
 use Rattle.ffs_lookup.specs.Newest.{and_then, create_in, directory_in, inode_in}
-use Rattle.ffs_lookup.specs.Files.{Answer, Files, InodeValue, created, is_absent, made_at, room, told, with_block, with_value}
+use Rattle.ffs_lookup.specs.Files.{Answer, Files, InodeValue, created, is_absent, made_at, room, fault_told, with_block, with_value}
 use Rattle.ffs_lookup.specs.FileValues.{AreBlocksOnce, blocks_value, files_of, inode_value, place_in, value_in}
 use Rattle.ffs_lookup.proofs.ForCallers.{block_again, created_ok, created_told, good_number, has_root, same_ok, value_by_place, value_found, value_outside}
 use Rattle.ffs_lib.specs.Results.{IsExtended, IsLowestNumber, MadeEntry, SameOrNew, new_inode}
@@ -38,7 +38,7 @@ number_is : (u : ℕ → List ℕ) (fs d : ℕ) (name : List ℕ) (value : Inode
 number_is u fs d name value inode found next a n low =
     let own = create_found u fs d name inode found in
     let r = has_root u fs d own.0 own.1 in
-    let k = created_ok u fs value d name own.0 r.0 n own.1 (ap told found) r.1 (low r.0 r.1) in
+    let k = created_ok u fs value d name own.0 r.0 n own.1 (ap fault_told found) r.1 (low r.0 r.1) in
     sym (ap (λ (p : ℕ × Files). p.0) (same_ok next (made_at value (files_of u fs) d name n k.0) (a ∙ k.2)))
 
 -- a free inode was found, or a block of them added
@@ -119,10 +119,10 @@ module _ (T : Types) (lib : IsLibrary T) (fs : ℕ) (few : fs < 32) (d : ℕ) (n
       Answers looked (λ _ n. MadeEntry u w fs d name mode n × IsLowestNumber u fs n) (λ _ fault. StopsMaking T fs old new d mode fault) old new result →
       Does T fs answer (stages_of answer (λ next. made_stages value files d next.0)) old new result
   by_looked after (Err fault) l (Err other) a result h =
-      let same : fault ≡ other = cc (ap told l ∙ (created_told u fs value d name ∙ sym (ap told a))) in
+      let same : fault ≡ other = cc (ap fault_told l ∙ (created_told u fs value d name ∙ sym (ap fault_told a))) in
       (h.0 ∙ ap (λ (f : FfsFault). Err f) same, h.1)
-  by_looked after (Err fault) l (Ok next) a result h = absurd (cc (ap told l ∙ (created_told u fs value d name ∙ sym (ap told a))))
-  by_looked after (Ok inode) l (Err other) a result h = absurd (cc (ap told l ∙ (created_told u fs value d name ∙ sym (ap told a))))
+  by_looked after (Err fault) l (Ok next) a result h = absurd (cc (ap fault_told l ∙ (created_told u fs value d name ∙ sym (ap fault_told a))))
+  by_looked after (Ok inode) l (Err other) a result h = absurd (cc (ap fault_told l ∙ (created_told u fs value d name ∙ sym (ap fault_told a))))
   by_looked after (Ok inode) l (Ok next) a (Ok n) h =
       subst (λ (r : Answer ℕ). Leads r w fs n) (sym a) (created_leads u w fs d n mode name inode l h.0 h.1 (blocks_once T lib new after fs few) value (is w))
   by_looked after (Ok inode) l (Ok next) a (Err fault) h = (h.0, refused inode l next a fault h.1)
@@ -205,11 +205,11 @@ module _ (T : Types) (fs d : ℕ) (name : List ℕ) (mode : ℕ) (old new : Stor
     where
       go : (looked : Result (List ℕ) FfsFault) → looked ≡ create_in u2 fs d name → (r : Result ℕ FfsFault) →
           Answers looked (λ _ n. MadeEntry u2 w2 fs d name mode n × IsLowestNumber u2 fs n) (λ _ fault. StopsMaking T fs old new d mode fault) old new r → Makes u2 w2 fs d mode next.0
-      go (Err fault) l r h = absurd (cc (ap told l ∙ (created_told u2 fs value d name ∙ ap told e)))
+      go (Err fault) l r h = absurd (cc (ap fault_told l ∙ (created_told u2 fs value d name ∙ ap fault_told e)))
       go (Ok inode) l (Ok n) h =
           let own = create_found u2 fs d name inode l in
           let root = has_root u2 fs d own.0 own.1 in
-          let k = created_ok u2 fs value d name own.0 root.0 n own.1 (ap told l) root.1 (h.1 root.0 root.1) in
+          let k = created_ok u2 fs value d name own.0 root.0 n own.1 (ap fault_told l) root.1 (h.1 root.0 root.1) in
           subst (Makes u2 w2 fs d mode) (number_is u2 fs d name value inode l next (sym e) n h.1) (entry_makes n own.0 own.1 k.0 k.1 h.0)
       go (Ok inode) l (Err fault) h = elim h.1 [
         | inl growing ↦ all_same u2 w2 fs d mode next.0 (λ x. as_same u2 w2 fs next.0 x (growing.same x))
@@ -222,7 +222,7 @@ module _ (T : Types) (fs d : ℕ) (name : List ℕ) (mode : ℕ) (old new : Stor
     where
       go : (looked : Result (List ℕ) FfsFault) → looked ≡ create_in u2 fs d name →
           Answers looked (λ _ n. MadeEntry u2 w2 fs d name mode n × IsLowestNumber u2 fs n) (λ _ fault. StopsMaking T fs old new d mode fault) old new (Err fault) → OnlyMade u2 w2 fs next.0
-      go (Err other) l h = absurd (cc (ap told l ∙ (created_told u2 fs value d name ∙ ap told e)))
+      go (Err other) l h = absurd (cc (ap fault_told l ∙ (created_told u2 fs value d name ∙ ap fault_told e)))
       go (Ok inode) l h = elim h.1 [
         | inl growing ↦ λ x ne. as_same u2 w2 fs next.0 x (growing.same x)
         | inr q ↦ subst (OnlyMade u2 w2 fs) (number_is u2 fs d name value inode l next (sym e) q.1.number q.2.lowest) (new_stays fault q.0 q.1 q.2 q.3)

@@ -14,7 +14,7 @@ use Rattle.ffs_model.specs.Cuts.{latest}
 use Rattle.ffs_model.specs.Library.{IsLibrary}
 use Rattle.ffs_lookup.specs.declared.fault.FfsFault.{FfsFault}
 use Rattle.ffs_lookup.specs.declared.fault.FfsFault.TheVariants.{Kernel}
-use Rattle.ffs_lookup.specs.Files.{Answer, File, Files, told, with_value, written, written_bytes}
+use Rattle.ffs_lookup.specs.Files.{Answer, File, Files, fault_told, with_value, written, written_bytes}
 use Rattle.ffs_lookup.specs.FileValues.{files_of}
 use Rattle.ffs_lookup.specs.Newest.{byte_of, file_end, file_in, is_short, mapped, write_in}
 use Rattle.ffs_lookup.proofs.ForCallers.{same_ok}
@@ -369,15 +369,15 @@ module _ (T : Types) (fs : ℕ) (array : ℕ → Option ℕ) (old middle : Store
 
   takes_none : (new : StoreState) (fault : Option FfsFault) → fault ≢ None → ((x : FfsFault) → fault ≡ Some x → Stops (λ y. RefusesSome T fs all n offset bytes old new y × IsStage T fs new y (place_stages all n offset bytes progress.done)) x) →
       (result : Result ℕ FfsFault) → IsTold fault result → DoesSome T fs all n offset bytes (Ok (next bytes)) old new result × WritesSomeTo T fs all n inode offset bytes progress.done new result
-  takes_none new fault there stop (Ok count) told = (
-    record { few = let z = told.1 in omega (arith, z); leads = λ ne. absurd (ne told.1); stopped = λ ne less. absurd (ne told.1); none = λ z any. (told_stop told.0).0 },
-    (λ ne. absurd (ne told.1), λ z any. (told_stop told.0).1),
+  takes_none new fault there stop (Ok count) fault_told = (
+    record { few = let z = fault_told.1 in omega (arith, z); leads = λ ne. absurd (ne fault_told.1); stopped = λ ne less. absurd (ne fault_told.1); none = λ z any. (told_stop fault_told.0).0 },
+    (λ ne. absurd (ne fault_told.1), λ z any. (told_stop fault_told.0).1),
   )
     where
       told_stop : (fault ≡ None) ⊎ (fault ≡ Some (Kernel TooManyPending)) → RefusesSome T fs all n offset bytes old new (Kernel TooManyPending) × IsStage T fs new (Kernel TooManyPending) (place_stages all n offset bytes progress.done)
       told_stop (inl none) = absurd (there none)
       told_stop (inr e) = (stop (Kernel TooManyPending) e).1
-  takes_none new fault there stop (Err other) told = let s = stop other told.2.0 in ((told.2.1, s.0, s.1.0), s.1.1)
+  takes_none new fault there stop (Err other) fault_told = let s = stop other fault_told.2.0 in ((fault_told.2.1, s.0, s.1.0), s.1.1)
 
   -- where it takes some
   takes_some : taken ≢ 0 → (new : StoreState) → Raises new (offset + taken) tt → TakesSome T fs all n offset bytes old new taken
@@ -408,10 +408,10 @@ module _ (T : Types) (fs : ℕ) (array : ℕ → Option ℕ) (old middle : Store
   -- by a count
   module _ (count : ℕ) (same : count ≡ taken) where
     pub count_none : count ≡ 0 → (result : Result ℕ FfsFault) → IsTold progress.fault result → Takes middle result
-    count_none z result told =
+    count_none z result fault_told =
         takes_by middle result overwritten (takes_none middle progress.fault (λ e. b.there (sym (whole e) ∙ (sym same ∙ z))) (λ x e.
         let stop = stopped_by x e in
-        (stop.0, ((length bytes, omega arith, subst (λ (m : List ℕ). IsRefused T fs old middle x (written_stages all n offset m)) (sym (take_all (length bytes) bytes (omega arith))) (part_refused x stop.1)), part_place x stop.1))) result told)
+        (stop.0, ((length bytes, omega arith, subst (λ (m : List ℕ). IsRefused T fs old middle x (written_stages all n offset m)) (sym (take_all (length bytes) bytes (omega arith))) (part_refused x stop.1)), part_place x stop.1))) result fault_told)
 
     count_low : offset + count ≤ 71680
     count_low = let few = few_taken in omega (arith, few, low, same)
@@ -425,10 +425,10 @@ module _ (T : Types) (fs : ℕ) (array : ℕ → Option ℕ) (old middle : Store
         )
 
     pub count_refused : count ≢ 0 → (new : StoreState) (fault : FfsFault) → Stops (RaiseStops new (offset + count)) fault → (result : Result ℕ FfsFault) → IsTold (Some fault) result → Takes new result
-    count_refused ne new fault stop result told =
+    count_refused ne new fault stop result fault_told =
         takes_by new result (overwritten_then (offset + count) count_low new (Err fault) stop)
         (takes_none new (Some fault) (λ z. never_some fault z) (λ y e. subst (Stops (λ x. RefusesSome T fs all n offset bytes old new x × IsStage T fs new x (place_stages all n offset bytes progress.done))) (same_fault fault y e)
-        (stop.0, ((taken, few_taken, size_refused (λ z. ne (same ∙ z)) new fault (subst (λ (k : ℕ). word_at after 4 < offset + k) same stop.1.0, stop.1.1)), size_place new fault stop.1.1))) result told)
+        (stop.0, ((taken, few_taken, size_refused (λ z. ne (same ∙ z)) new fault (subst (λ (k : ℕ). word_at after 4 < offset + k) same stop.1.0, stop.1.1)), size_place new fault stop.1.1))) result fault_told)
 
 -- No bytes
 pub none_does : (T : Types) (fs : ℕ) (old : StoreState) (n : ℕ) (inode : List ℕ) (offset : ℕ) (bytes : List ℕ) → Ok inode ≡ file_in (latest old.lives) fs n → offset + length bytes ≤ 71680 → bytes ≡ [] →
@@ -443,7 +443,7 @@ none_takes T fs old n inode offset bytes is low none =
     (record { few = omega arith; leads = λ ne. absurd (ne refl); stopped = λ ne less. absurd (ne refl); none = λ z any. absurd (any none) })
 
 -- Look-ups that fail
-pub fault_takes : (T : Types) (fs : ℕ) (files : Files) (n offset : ℕ) (bytes : List ℕ) (looked : Result (List ℕ) FfsFault) (answer : Answer (Unit {0})) (old new : StoreState) (result : Result ℕ FfsFault) → told looked ≡ told answer →
+pub fault_takes : (T : Types) (fs : ℕ) (files : Files) (n offset : ℕ) (bytes : List ℕ) (looked : Result (List ℕ) FfsFault) (answer : Answer (Unit {0})) (old new : StoreState) (result : Result ℕ FfsFault) → fault_told looked ≡ fault_told answer →
     Answers looked (λ x y. ⊥) (λ x fault. ⊥) old new result → DoesSome T fs files n offset bytes answer old new result
 fault_takes T fs files n offset bytes (Err fault) (Err other) old new result e h = let same : fault ≡ other = cc e in (h.0 ∙ ap (λ (f : FfsFault). Err f) same, h.1)
 fault_takes T fs files n offset bytes (Err fault) (Ok next) old new result e h = absurd (cc e)

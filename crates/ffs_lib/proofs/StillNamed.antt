@@ -8,7 +8,7 @@ use Rattle.ffs_format.specs.Entries.{is_name}
 use Rattle.ffs_lookup.specs.declared.fault.FfsFault.{FfsFault}
 use Rattle.ffs_lookup.specs.declared.fault.FfsFault.TheVariants.{BadName, NoEntry}
 use Rattle.ffs_lookup.specs.declared.places.Slot.{Slot}
-use Rattle.ffs_lookup.specs.Newest.{and_then, directory_in, entries_of, entry_named, first_named, listing, named_in}
+use Rattle.ffs_lookup.specs.Newest.{and_then, directory_in, slots_of, entry_named, first_named, listing, named_in}
 use Rattle.ffs_lookup.proofs.ForCallers.{same_ok}
 use Rattle.ffs_lib.specs.Results.{AsBefore, HasMore, IsAs, SameInode}
 use Rattle.ffs_lib.proofs.Entering.{directory_from, directory_same}
@@ -34,7 +34,7 @@ module _ (u0 u1 u2 : ℕ → List ℕ) (fs d : ℕ) (name : List ℕ) (other : �
   to_there = directory_to u1 fs other to1.after to1.found (to1.mode ∙ (directory_from u0 fs other to is_to).1)
 
   by_listing : (inode : List ℕ) → named_among name (listing u2 inode) ≡ named_among name (listing u0 from) → Some slot ≡ first_named u2 inode name
-  by_listing inode e = first ∙ (find_listed u0 name (entries_of u0 from) ∙ (sym e ∙ sym (find_listed u2 name (entries_of u2 inode))))
+  by_listing inode e = first ∙ (find_listed u0 name (slots_of u0 from) ∙ (sym e ∙ sym (find_listed u2 name (slots_of u2 inode))))
 
   apart : d ≢ other → Ok slot ≡ named_in u2 fs d name
   apart ne =

@@ -19,7 +19,7 @@ use Rattle.xn_model.proofs.ForCallers.{Contains-cons, Contains-head, Contains-no
 use Rattle.ffs_model.specs.Cuts.{Under, latest, root}
 use Rattle.ffs_model.specs.Names.{IsInodes, IsRoot}
 use Rattle.ffs_model.specs.Shortages.{is_shortage}
-use Rattle.ffs_model.specs.Library.{IsLibrary, direct_word, inode_at, inode_pairs, library_layout, pointer_word, zeros}
+use Rattle.ffs_model.specs.Library.{IsLibrary, direct_word, inode_at, inode_pairs, library_layout, pointer_word, zero_block}
 use Rattle.ffs_model.proofs.ForCallers.{bytes_apart, gives_short, pointed_none, rooted, rooted_here, rooted_others, started, started_here, started_others, word_apart, zero_word, zeros_pointer}
 use Rattle.ffs_lookup.specs.declared.fault.FfsFault.{FfsFault}
 use Rattle.ffs_lookup.specs.declared.fault.FfsFault.TheVariants.{BadName, DirNotEmpty, Exists, IsDir, Kernel, NoEntry, NoInode, NotDir, Pending, TooLarge, Unsound}
@@ -223,7 +223,7 @@ sets_root T fs few block entry old new given h l alive =
     let done = gives_ok (make_root_of old fs block) old new entry given in
     (rooted_here T old new h fs few block entry done l alive, rooted_others T old new h fs few block entry done, still_addable old new fs block entry done)
 
-module _ (T : Types) (fs : ℕ) (block number : ℕ) (zeroth first second third : StoreState) (given : Gives (init_of T zeroth fs 3 zeros) zeroth first (Ok (block, number))) (rules : IsConsistent T first) where
+module _ (T : Types) (fs : ℕ) (block number : ℕ) (zeroth first second third : StoreState) (given : Gives (init_of T zeroth fs 3 zero_block) zeroth first (Ok (block, number))) (rules : IsConsistent T first) where
   pub gets_root : {A : Type 0} (made result : Result A FfsFault) → result ≡ made → OnOk made (SetsRoot T fs block first second) → OnOk result (third ≡ second) → OnOk result (GetsRoot T fs false zeroth third)
   gets_root made (Err e) is ok same = tt
   gets_root {A} made (Ok x) is ok same = λ lib h none. subst (λ (s : StoreState). IsReady zeroth s fs) (sym same) (ready h none)
@@ -231,36 +231,36 @@ module _ (T : Types) (fs : ℕ) (block number : ℕ) (zeroth first second third 
       made_ok : SetsRoot T fs block first second
       made_ok = subst (λ (r : Result A FfsFault). OnOk r (SetsRoot T fs block first second)) (sym is) ok
 
-      done : init_of T zeroth fs 3 zeros ≡ Ok ((block, number), first)
-      done = gives_ok (init_of T zeroth fs 3 zeros) zeroth first (block, number) given
+      done : init_of T zeroth fs 3 zero_block ≡ Ok ((block, number), first)
+      done = gives_ok (init_of T zeroth fs 3 zero_block) zeroth first (block, number) given
 
       there : IsConsistent T zeroth → block ≢ 0
-      there h = begun_some T zeroth first h fs 3 zeros (block, number) done
+      there h = begun_some T zeroth first h fs 3 zero_block (block, number) done
 
       set : (slot (latest second.lives 0) fs ≡ (block, 3)) × ((c : ℕ) → c ≢ 0 → latest second.lives c ≡ latest first.lives c) × ((p : ℕ × ℕ) → p.0 ≢ block → may_add second fs p ≡ may_add first fs p)
       set =
-          let r = started T zeroth first fs 3 zeros (block, number) done in
-          made_ok rules (new_life zeroth.next (Some fs) 3 zeros) (ap (λ xs. life_at xs block) r.lives ∙ set_same zeroth.lives block (Some (new_life zeroth.next (Some fs) 3 zeros)) r.within)
+          let r = started T zeroth first fs 3 zero_block (block, number) done in
+          made_ok rules (new_life zeroth.next (Some fs) 3 zero_block) (ap (λ xs. life_at xs block) r.lives ∙ set_same zeroth.lives block (Some (new_life zeroth.next (Some fs) 3 zero_block)) r.within)
 
       is_root : IsConsistent T zeroth → IsRoot (latest second.lives) fs block
       is_root h = record { at = set.0; there = there h }
 
-      bytes : IsConsistent T zeroth → latest second.lives block ≡ zeros
-      bytes h = set.1 block (there h) ∙ started_here T zeroth first fs 3 zeros (block, number) done
+      bytes : IsConsistent T zeroth → latest second.lives block ≡ zero_block
+      bytes h = set.1 block (there h) ∙ started_here T zeroth first fs 3 zero_block (block, number) done
 
       no_pointer : IsConsistent T zeroth → (j : ℕ) → j < 16 → pointer_word (latest second.lives block) j ≡ 0
-      no_pointer h j low = ap (λ m. pointer_word m j) (bytes h) ∙ (sym (pointer_is zeros j low) ∙ zeros_pointer j)
+      no_pointer h j low = ap (λ m. pointer_word m j) (bytes h) ∙ (sym (pointer_is zero_block j low) ∙ zeros_pointer j)
 
       ready : IsConsistent T zeroth → Ok false ≡ make_in (latest zeroth.lives) fs → IsReady zeroth second fs
       ready h none = record {
         ready = bare_to (latest second.lives) fs block (is_root h) (no_pointer h 0 (omega arith)) (none_set (latest second.lives block) (no_pointer h));
         kept = λ c l ne alive.
-            let r = started T zeroth first fs 3 zeros (block, number) done in
-            set.1 c ne ∙ started_others T zeroth first fs 3 zeros (block, number) done c (λ z. none-some l (sym r.free ∙ (ap (life_at zeroth.lives) (sym z) ∙ alive)));
+            let r = started T zeroth first fs 3 zero_block (block, number) done in
+            set.1 c ne ∙ started_others T zeroth first fs 3 zero_block (block, number) done c (λ z. none-some l (sym r.free ∙ (ap (life_at zeroth.lives) (sym z) ∙ alive)));
         addable = λ p may.
-            let r = started T zeroth first fs 3 zeros (block, number) done in
+            let r = started T zeroth first fs 3 zero_block (block, number) done in
             let ne : p.0 ≢ block = λ z. not_free (λ l. is_fresh l.status && ((l.ty == p.1) && is_for fs l.fs)) (life_at zeroth.lives p.0) (ap (life_at zeroth.lives) z ∙ r.free) may in
-            set.2 p ne ∙ (ap (alive_and (λ l. is_fresh l.status && ((l.ty == p.1) && is_for fs l.fs))) (ap (λ xs. life_at xs p.0) r.lives ∙ set_other zeroth.lives block p.0 (Some (new_life zeroth.next (Some fs) 3 zeros)) ne) ∙ may);
+            set.2 p ne ∙ (ap (alive_and (λ l. is_fresh l.status && ((l.ty == p.1) && is_for fs l.fs))) (ap (λ xs. life_at xs p.0) r.lives ∙ set_other zeroth.lives block p.0 (Some (new_life zeroth.next (Some fs) 3 zero_block)) ne) ∙ may);
       }
         where
           not_free : (P : Life → Bool) (o : Option Life) → o ≡ None → alive_and P o ≡ true → ⊥
@@ -307,30 +307,30 @@ refused_short T old new fs b edit same refusal e given short = gives_short (prop
 
 -- The first block of inodes is attached
 
-pub top_there : inode_at (put zeros 0 (new_inode 2)) 0 ≡ new_inode 2
+pub top_there : inode_at (put zero_block 0 (new_inode 2)) 0 ≡ new_inode 2
 top_there = refl
 
-pub free_beside : (p : ℕ) → p ≢ 0 → p < 8 → inode_at (put zeros 0 (new_inode 2)) p ≡ replicate 64 0
-free_beside p some low = bytes_apart zeros 0 (new_inode 2) (omega arith) 64 (64 * p) (inr (omega (arith, some))) ∙ zeros_inode p low
+pub free_beside : (p : ℕ) → p ≢ 0 → p < 8 → inode_at (put zero_block 0 (new_inode 2)) p ≡ replicate 64 0
+free_beside p some low = bytes_apart zero_block 0 (new_inode 2) (omega arith) 64 (64 * p) (inr (omega (arith, some))) ∙ zeros_inode p low
 
 -- a mode stands at the start
-some_word : pointer_word (put zeros 0 (new_inode 2)) 0 ≡ 0 → ⊥
+some_word : pointer_word (put zero_block 0 (new_inode 2)) 0 ≡ 0 → ⊥
 unfolding word_at
 some_word z = omega (arith, z)
 
 -- that block points to nothing
-pub top_bare : (m : List ℕ) → m ≡ put zeros 0 (new_inode 2) → (p : ℕ) → p < 8 → inode_pairs m p ≡ []
+pub top_bare : (m : List ℕ) → m ≡ put zero_block 0 (new_inode 2) → (p : ℕ) → p < 8 → inode_pairs m p ≡ []
 top_bare m is p low = λ i. pointed_none (direct_word m p) 12 2 (λ k lt. word (64 * p + 8 + 4 * k) (omega arith) (omega arith)) i ++ option_to_list (unless_empty (word (64 * p + 56) (omega arith) (omega arith) i, 5))
   where
-    start : put zeros 0 (new_inode 2) ≡ put zeros 0 (2 ∷ 0 ∷ 1 ∷ 0 ∷ [])
+    start : put zero_block 0 (new_inode 2) ≡ put zero_block 0 (2 ∷ 0 ∷ 1 ∷ 0 ∷ [])
     start = refl
 
     word : (k : ℕ) → 4 ≤ k → k + 4 ≤ 512 → word_at m k ≡ 0
-    word k past fits = ap (λ b. word_at b k) (is ∙ start) ∙ (word_apart zeros 0 (2 ∷ 0 ∷ 1 ∷ 0 ∷ []) (omega arith) k (inr (omega (arith, past))) ∙ zero_word k)
+    word k past fits = ap (λ b. word_at b k) (is ∙ start) ∙ (word_apart zero_block 0 (2 ∷ 0 ∷ 1 ∷ 0 ∷ []) (omega arith) k (inr (omega (arith, past))) ∙ zero_word k)
 
 pub makes_top : (T : Types) (lib : IsLibrary T) (old new : StoreState) (h : IsConsistent T old) (fs : ℕ) (few : fs < 32) (top b entry : ℕ) → IsRoot (latest old.lives) fs top → pointer_word (latest old.lives top) 0 ≡ 0 → length (latest old.lives top) ≡ 512 →
-    b < 2 ^ 32 → b ≢ 0 → latest old.lives b ≡ put zeros 0 (new_inode 2) → propose_of T old fs top (edit_at 0 (to_le_bytes w32 b) ((b, 4) ∷ []) [] None) ≡ Ok (entry, new) →
-    FirstInodes (latest old.lives) (latest new.lives) fs (put zeros 0 (new_inode 2))
+    b < 2 ^ 32 → b ≢ 0 → latest old.lives b ≡ put zero_block 0 (new_inode 2) → propose_of T old fs top (edit_at 0 (to_le_bytes w32 b) ((b, 4) ∷ []) [] None) ≡ Ok (entry, new) →
+    FirstInodes (latest old.lives) (latest new.lives) fs (put zero_block 0 (new_inode 2))
 makes_top T lib old new h fs few top b entry is_root empty long small there bytes done =
     record {
       first = λ n low index. (place_added T lib old new h fs few top 0 b entry is_root (omega arith) empty long small there done apart n index).1 ∙ ap (λ (m : List ℕ). Ok (inode_at m ((n - 1) % 8))) bytes;
@@ -368,7 +368,7 @@ found_still T fs few block number ty zeroth first h bytes given =
     (begun T zeroth first h fs few ty 6 bytes (block, number) (gives_ok (init_of T zeroth fs ty bytes) zeroth first (block, number) given)) (λ z. omega (arith, z))
 
 module _ (T : Types) (lib : IsLibrary T) (fs : ℕ) (few : fs < 32) (block number : ℕ) (zeroth first second : StoreState) (h : IsConsistent T zeroth) (h1 : IsConsistent T first) (h2 : IsConsistent T second)
-    (bytes : List ℕ) (is : bytes ≡ put zeros 0 (new_inode 2)) (given : Gives (init_of T zeroth fs 4 bytes) zeroth first (Ok (block, number))) (begins : Bool) (found : Ok begins ≡ make_in (latest zeroth.lives) fs)
+    (bytes : List ℕ) (is : bytes ≡ put zero_block 0 (new_inode 2)) (given : Gives (init_of T zeroth fs 4 bytes) zeroth first (Ok (block, number))) (begins : Bool) (found : Ok begins ≡ make_in (latest zeroth.lives) fs)
     (prepared : GetsRoot T fs begins first second) where
   done : init_of T zeroth fs 4 bytes ≡ Ok ((block, number), first)
   done = gives_ok (init_of T zeroth fs 4 bytes) zeroth first (block, number) given
@@ -379,7 +379,7 @@ module _ (T : Types) (lib : IsLibrary T) (fs : ℕ) (few : fs < 32) (block numbe
   ready : IsReady first second fs
   ready = prepared lib h1 (found ∙ sym (found_still T fs few block number 4 zeroth first h bytes given))
 
-  holds : latest second.lives block ≡ put zeros 0 (new_inode 2)
+  holds : latest second.lives block ≡ put zero_block 0 (new_inode 2)
   holds =
       let r = started T zeroth first fs 4 bytes (block, number) done in
       ready.kept block (new_life zeroth.next (Some fs) 4 bytes) there (ap (λ xs. life_at xs block) r.lives ∙ set_same zeroth.lives block (Some (new_life zeroth.next (Some fs) 4 bytes)) r.within)
@@ -387,10 +387,10 @@ module _ (T : Types) (lib : IsLibrary T) (fs : ℕ) (few : fs < 32) (block numbe
 
   -- so there is a volume
   pub made_volume : {A : Type 0} (third fourth : StoreState) (attached : Result A FfsFault) (x : A) → Ok x ≡ attached → OnOk attached (MakesTop T fs block second third) → fourth ≡ third →
-      (Ok true ≡ make_in (latest second.lives) fs) × FirstInodes (latest second.lives) (latest fourth.lives) fs (put zeros 0 (new_inode 2))
+      (Ok true ≡ make_in (latest second.lives) fs) × FirstInodes (latest second.lives) (latest fourth.lives) fs (put zero_block 0 (new_inode 2))
   made_volume {A} third fourth attached x is_ok tops same =
       let top : MakesTop T fs block second third = subst (λ (r : Result A FfsFault). OnOk r (MakesTop T fs block second third)) (sym is_ok) tops in
-      (ready.ready, subst (λ (s : StoreState). FirstInodes (latest second.lives) (latest s.lives) fs (put zeros 0 (new_inode 2))) (sym same) (top lib h2 holds there))
+      (ready.ready, subst (λ (s : StoreState). FirstInodes (latest second.lives) (latest s.lives) fs (put zero_block 0 (new_inode 2))) (sym same) (top lib h2 holds there))
 
   pub attached_short : {A : Type 0} (result : Result A FfsFault) → (IsLibrary T → IsConsistent T second → Ok true ≡ make_in (latest second.lives) fs → may_add second fs (block, 4) ≡ true → OnlyShort result) → OnlyShort result
   attached_short result short = short lib h2 ready.ready (ready.addable (block, 4) (new_addable T fs zeroth first h few 4 block number bytes given))

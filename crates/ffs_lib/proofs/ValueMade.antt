@@ -12,7 +12,7 @@ use Rattle.ffs_lookup.specs.declared.fault.FfsFault.{FfsFault}
 use Rattle.ffs_lookup.specs.declared.fault.FfsFault.TheVariants.{NoEntry}
 use Rattle.ffs_lookup.specs.declared.places.Room.TheVariants.{Entry as InBlock, Pointer}
 use Rattle.ffs_lookup.specs.Newest.{create_in, directory_in, if_new, inode_in, listing, name_of_place, room_in}
-use Rattle.ffs_lookup.specs.Files.{Answer, Files, InodeValue, File, Directory, created, is_absent, made_at, new_directory, new_file, put_entry, room, told, with_block, with_entry_in}
+use Rattle.ffs_lookup.specs.Files.{Answer, Files, InodeValue, File, Directory, created, is_absent, made_at, new_directory, new_file, put_entry, room, fault_told, with_block, with_entry_in}
 use Rattle.ffs_lookup.specs.FileValues.{AreBlocksOnce, HasBlocksOnce, blocks_value, bytes_value, files_of, inode_value, value_in}
 use Rattle.ffs_lookup.proofs.ForCallers.{created_ok, direct_has, good_number, has_root, put_is, room_is, room_known, room_of, value_by_place, value_found, value_outside, value_there, value_used}
 use Rattle.ffs_lib.specs.Results.{HasMore, IsLowestNumber, MadeEntry, new_inode}
@@ -279,7 +279,7 @@ pub created_value : (v w : ℕ → List ℕ) (fs d n mode : ℕ) (name inode : L
 created_value v w fs d n mode name inode e m low once value is =
     let found = create_found v fs d name inode e in
     let r = has_root v fs d found.0 found.1 in
-    let k = created_ok v fs value d name found.0 r.0 n found.1 (ap told e) r.1 (low r.0 r.1) in
+    let k = created_ok v fs value d name found.0 r.0 n found.1 (ap fault_told e) r.1 (low r.0 r.1) in
     (made_at value (files_of v fs) d name n k.0, k.2, refl, made_value v w fs d n mode name found.0 found.1 m once value is k.0 k.1)
 
 pub created_leads : (v w : ℕ → List ℕ) (fs d n mode : ℕ) (name inode : List ℕ) → Ok inode ≡ create_in v fs d name → MadeEntry v w fs d name mode n → IsLowestNumber v fs n → AreBlocksOnce w fs → (value : InodeValue) → inode_value w (new_inode mode) ≡ value →

@@ -15,7 +15,7 @@ use Rattle.ffs_lookup.specs.declared.repairs.Repair.TheVariants.{Keep, GiveUp, S
 use Rattle.ffs_lookup.specs.Counts.{names_count, numbers_of}
 use Rattle.ffs_lookup.specs.Files.{Absent, Blocks, Directory, Entry, File, Files, Free, InodeValue, Unusable, directory_of, entry_at, is_bare, listed, positions}
 use Rattle.ffs_lookup.specs.FileValues.{blocks_value, bytes_value, files_of, value_in}
-use Rattle.ffs_lookup.specs.Newest.{and_then, directory_in, entries_of, inode_block_in, inode_in, is_free_inode, mapped, name_at, names_in, names_of, unless_unused}
+use Rattle.ffs_lookup.specs.Newest.{and_then, directory_in, slots_of, inode_block_in, inode_in, is_free_inode, mapped, name_at, names_in, names_of, unless_unused}
 use Rattle.ffs_lookup.specs.Repairs.{repair_found, repair_in, repair_of}
 use Rattle.ffs_lookup.proofs.ForCallers.{given_up, good_number, links_set, listed_told, same_ok, value_by_place}
 use Rattle.ffs_lib.specs.Reclaiming.{Repaired, name_count, need_of, needs, numbers_listed, repair_stages, repaired, stages_at, with_links}
@@ -50,19 +50,19 @@ module _ (content : ℕ → List ℕ) (fs : ℕ) where
   second_of [] = refl
   second_of (x ∷ xs) = ap (λ l. x.inode ∷ l) (second_of xs)
 
-  numbers_are : (xs : List ℕ) → numbers_of (flat_map (entries_of content) (filter_map (λ n. result_ok (directory_in content fs n)) xs)) ≡ flat_map (λ d. numbers_listed (listed files d)) xs
+  numbers_are : (xs : List ℕ) → numbers_of (flat_map (slots_of content) (filter_map (λ n. result_ok (directory_in content fs n)) xs)) ≡ flat_map (λ d. numbers_listed (listed files d)) xs
   numbers_are [] = refl
   numbers_are (d ∷ xs) = go (numbers_are xs) (directory_in content fs d) (told d)
     where
       rest : List (List ℕ)
       rest = filter_map (λ n. result_ok (directory_in content fs n)) xs
 
-      go : numbers_of (flat_map (entries_of content) rest) ≡ flat_map (λ e. numbers_listed (listed files e)) xs → (r : Result (List ℕ) FfsFault) → mapped (names_of content) r ≡ listed files d →
-          numbers_of (flat_map (entries_of content) (cons_option (result_ok r) rest)) ≡ numbers_listed (listed files d) ++ flat_map (λ e. numbers_listed (listed files e)) xs
+      go : numbers_of (flat_map (slots_of content) rest) ≡ flat_map (λ e. numbers_listed (listed files e)) xs → (r : Result (List ℕ) FfsFault) → mapped (names_of content) r ≡ listed files d →
+          numbers_of (flat_map (slots_of content) (cons_option (result_ok r) rest)) ≡ numbers_listed (listed files d) ++ flat_map (λ e. numbers_listed (listed files e)) xs
       go more (Err fault) h = more ∙ ap (λ l. numbers_listed l ++ flat_map (λ e. numbers_listed (listed files e)) xs) h
       go more (Ok inode) h =
-          map-append (λ (e : Slot). e.inode) (entries_of content inode) (flat_map (entries_of content) rest)
-          ∙ (ap (λ l. l ++ numbers_of (flat_map (entries_of content) rest)) (second_of (entries_of content inode))
+          map-append (λ (e : Slot). e.inode) (slots_of content inode) (flat_map (slots_of content) rest)
+          ∙ (ap (λ l. l ++ numbers_of (flat_map (slots_of content) rest)) (second_of (slots_of content inode))
           ∙ (ap (λ l. map (λ (p : Entry). p.1) (names_of content inode) ++ l) more ∙ ap (λ l. numbers_listed l ++ flat_map (λ e. numbers_listed (listed files e)) xs) h))
 
   pub count_is : (n : ℕ) → names_count content fs n ≡ name_count files n
@@ -70,14 +70,14 @@ module _ (content : ℕ → List ℕ) (fs : ℕ) where
 
   -- What one needs
 
-  bare_is : (n : ℕ) (inode : List ℕ) → Ok inode ≡ inode_in content fs n → inode_mode inode ≡ 2 → (length (entries_of content inode) == 0) ≡ is_bare (inode_links inode, blocks_value content inode)
+  bare_is : (n : ℕ) (inode : List ℕ) → Ok inode ≡ inode_in content fs n → inode_mode inode ≡ 2 → (length (slots_of content inode) == 0) ≡ is_bare (inode_links inode, blocks_value content inode)
   bare_is n inode e mode =
       let is = directory_to content fs n inode e mode in
       let bs = blocks_value content inode in
       let list : names_of content inode ≡ filter_map (entry_at bs) (positions bs) = same_ok (names_of content inode) (filter_map (entry_at bs) (positions bs))
       (ap (mapped (names_of content)) is
       ∙ (told n ∙ ap (λ (v : InodeValue). mapped (λ (directory : ℕ × Blocks). filter_map (entry_at directory.1) (positions directory.1)) (directory_of v)) (directory_value content fs n inode is))) in
-      ap (λ k. k == 0) (sym (length-map (entries_of content inode) (λ (entry : Slot). (name_at content entry, entry.inode))) ∙ ap length list) ∙ bare_list (entry_at bs) (positions bs)
+      ap (λ k. k == 0) (sym (length-map (slots_of content inode) (λ (entry : Slot). (name_at content entry, entry.inode))) ∙ ap length list) ∙ bare_list (entry_at bs) (positions bs)
 
   unused : (count n : ℕ) (fault : FfsFault) → Err fault ≡ inode_in content fs n → Keep ≡ need_of count (files_of content fs n)
   unfolding inode_in files_of
@@ -102,8 +102,8 @@ module _ (content : ℕ → List ℕ) (fs : ℕ) where
   used count n inode e = two (inode_mode inode == 2) refl ∙ sym (ap (need_of count) (kind_is content content fs n inode e content inode e))
     where
       two : (t : Bool) → (inode_mode inode == 2) ≡ t → repair_of content count inode ≡ need_of count (kind content content fs n inode e content inode t)
-      two true f = ap (λ t. by_bare count (inode_links inode) (not t || (length (entries_of content inode) == 0))) f ∙ ap (by_bare count (inode_links inode)) (bare_is n inode e (eqb-true (inode_mode inode) 2 f))
-      two false f = ap (λ t. by_bare count (inode_links inode) (not t || (length (entries_of content inode) == 0))) f
+      two true f = ap (λ t. by_bare count (inode_links inode) (not t || (length (slots_of content inode) == 0))) f ∙ ap (by_bare count (inode_links inode)) (bare_is n inode e (eqb-true (inode_mode inode) 2 f))
+      two false f = ap (λ t. by_bare count (inode_links inode) (not t || (length (slots_of content inode) == 0))) f
 
   found_is : (count n : ℕ) → repair_found content count (inode_in content fs n) ≡ need_of count (files n)
   found_is count n = go (inode_in content fs n) refl

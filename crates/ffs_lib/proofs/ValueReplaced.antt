@@ -10,7 +10,7 @@ use Rattle.ffs_lookup.specs.declared.fault.FfsFault.{FfsFault}
 use Rattle.ffs_lookup.specs.declared.fault.FfsFault.TheVariants.{BadName, NoEntry, TooLarge}
 use Rattle.ffs_lookup.specs.declared.places.Slot.{Slot}
 use Rattle.ffs_lookup.specs.Newest.{and_then, directory_in, file_in, first_named, inode_in, is_at, mapped}
-use Rattle.ffs_lookup.specs.Files.{Answer, Blocks, Directory, Files, both_directories, cleared, directories, file_of, in_use, is_same, links_of, look_up, replaced, replaced_in, told, turned, with_entry, without_link}
+use Rattle.ffs_lookup.specs.Files.{Answer, Blocks, Directory, Files, both_directories, cleared, directories, file_of, in_use, is_same, links_of, look_up, replaced, replaced_in, fault_told, turned, with_entry, without_link}
 use Rattle.ffs_lookup.specs.FileValues.{AreBlocksOnce, blocks_value, files_of}
 use Rattle.ffs_lookup.proofs.ForCallers.{EntryAt, both_found, both_parts, file_found, file_parts, if_both, named_told, same_ok}
 use Rattle.ffs_lib.specs.Replacing.{Turned, directories_in, files_in, is_full_for, replace_in}
@@ -54,40 +54,40 @@ module _ (u : ℕ → List ℕ) (fs d : ℕ) (name : List ℕ) (other : ℕ) (ot
   abbrev unless_full : Slot → Slot → Bool → Result (Slot × Slot) FfsFault
   unless_full from to full = if full then Err TooLarge else Ok (from, to)
 
-  files_told : (from to : Slot) (a b : ℕ × ℕ) → told (files_in u fs from to) ≡ told (found_both (a, from.inode) (b, to.inode))
+  files_told : (from to : Slot) (a b : ℕ × ℕ) → fault_told (files_in u fs from to) ≡ fault_told (found_both (a, from.inode) (b, to.inode))
   unfolding files_in
   files_told from to a b = first (file_in u fs from.inode) refl (file_found u fs from.inode)
     where
-      tests : (full same one : Bool) → told (unless_full from to full) ≡ told (by_tests (a, from.inode) (b, to.inode) full same one)
+      tests : (full same one : Bool) → fault_told (unless_full from to full) ≡ fault_told (by_tests (a, from.inode) (b, to.inode) full same one)
       tests true same one = refl
       tests false true one = refl
       tests false false true = refl
       tests false false false = refl
 
       second : (inode : List ℕ) → Ok inode ≡ file_in u fs from.inode → (r : Result (List ℕ) FfsFault) → mapped (file_parts u) r ≡ file_of (files to.inode) →
-          told (and_then r (λ x. unless_full from to (is_full_for from to inode))) ≡ told (and_then (file_of (files to.inode)) (found_former (a, from.inode) (b, to.inode)))
-      second inode is (Err fault) h = ap (λ x. told (and_then x (found_former (a, from.inode) (b, to.inode)))) h
+          fault_told (and_then r (λ x. unless_full from to (is_full_for from to inode))) ≡ fault_told (and_then (file_of (files to.inode)) (found_former (a, from.inode) (b, to.inode)))
+      second inode is (Err fault) h = ap (λ x. fault_told (and_then x (found_former (a, from.inode) (b, to.inode)))) h
       second inode is (Ok former) h =
-          ap (λ (l : ℕ). told (unless_full from to (not (from.inode == to.inode) && (l == 65535)))) (sym (inode_linked u fs from.inode inode (file_from u fs from.inode inode is)))
-          ∙ (tests (not (from.inode == to.inode) && (links_of (files from.inode) == 65535)) (is_same d (a, from.inode) other (b, to.inode)) (from.inode == to.inode) ∙ ap (λ x. told (and_then x (found_former (a, from.inode) (b, to.inode)))) h)
+          ap (λ (l : ℕ). fault_told (unless_full from to (not (from.inode == to.inode) && (l == 65535)))) (sym (inode_linked u fs from.inode inode (file_from u fs from.inode inode is)))
+          ∙ (tests (not (from.inode == to.inode) && (links_of (files from.inode) == 65535)) (is_same d (a, from.inode) other (b, to.inode)) (from.inode == to.inode) ∙ ap (λ x. fault_told (and_then x (found_former (a, from.inode) (b, to.inode)))) h)
 
       first : (r : Result (List ℕ) FfsFault) → r ≡ file_in u fs from.inode → mapped (file_parts u) r ≡ file_of (files from.inode) →
-          told (and_then r (λ inode. and_then (file_in u fs to.inode) (λ x. unless_full from to (is_full_for from to inode)))) ≡ told (and_then (file_of (files from.inode)) (found_file (a, from.inode) (b, to.inode)))
-      first (Err fault) s h = ap (λ x. told (and_then x (found_file (a, from.inode) (b, to.inode)))) h
-      first (Ok inode) s h = second inode s (file_in u fs to.inode) (file_found u fs to.inode) ∙ ap (λ x. told (and_then x (found_file (a, from.inode) (b, to.inode)))) h
+          fault_told (and_then r (λ inode. and_then (file_in u fs to.inode) (λ x. unless_full from to (is_full_for from to inode)))) ≡ fault_told (and_then (file_of (files from.inode)) (found_file (a, from.inode) (b, to.inode)))
+      first (Err fault) s h = ap (λ x. fault_told (and_then x (found_file (a, from.inode) (b, to.inode)))) h
+      first (Ok inode) s h = second inode s (file_in u fs to.inode) (file_found u fs to.inode) ∙ ap (λ x. fault_told (and_then x (found_file (a, from.inode) (b, to.inode)))) h
 
-  pub replaced_told : told (replace_in u fs d name other other_name) ≡ told (replaced files d name other other_name)
+  pub replaced_told : fault_told (replace_in u fs d name other other_name) ≡ fault_told (replaced files d name other other_name)
   unfolding replace_in directories_in
   replaced_told = go (and_then (inode_in u fs d) (λ from. and_then (inode_in u fs other) (if_both u fs d name other other_name from))) (both_found u fs d name other other_name)
     where
       go : (r : Result (List ℕ × List ℕ) FfsFault) → mapped (both_parts u) r ≡ both_directories files d name other other_name →
-          told (and_then r (λ p. and_then (ok_or (first_named u p.0 name) NoEntry) (λ from. and_then (ok_or (first_named u p.1 other_name) NoEntry) (files_in u fs from))))
-          ≡ told (and_then (both_directories files d name other other_name) found_directories)
-      go (Err fault) h = ap (λ x. told (and_then x found_directories)) h
+          fault_told (and_then r (λ p. and_then (ok_or (first_named u p.0 name) NoEntry) (λ from. and_then (ok_or (first_named u p.1 other_name) NoEntry) (files_in u fs from))))
+          ≡ fault_told (and_then (both_directories files d name other other_name) found_directories)
+      go (Err fault) h = ap (λ x. fault_told (and_then x found_directories)) h
       go (Ok p) h =
           named_told u p.0 name (λ from. and_then (ok_or (first_named u p.1 other_name) NoEntry) (files_in u fs from)) (found_first (both_parts u p))
           (λ from k. named_told u p.1 other_name (files_in u fs from) (found_both (k.at, from.inode)) (λ to l. files_told from to k.at l.at))
-          ∙ ap (λ x. told (and_then x found_directories)) h
+          ∙ ap (λ x. fault_told (and_then x found_directories)) h
 
   -- What it comes to where they pass
   module _ (from to : Slot) (x : CanReplace u fs d name other other_name from to) (k : EntryAt u x.home name from) (l : EntryAt u x.target other_name to) where

@@ -8,7 +8,7 @@ use Rattle.xn_model.specs.Root.{slot}
 use Rattle.xn_model.specs.Calls.{pending_of}
 use Rattle.xn_model.specs.Lives.{StoreState}
 use Rattle.ffs_model.specs.Cuts.{latest}
-use Rattle.ffs_model.specs.Library.{inode_at, pointer_word, zeros}
+use Rattle.ffs_model.specs.Library.{inode_at, pointer_word, zero_block}
 use Rattle.ffs_lookup.specs.declared.fault.FfsFault.{FfsFault}
 use Rattle.ffs_lookup.specs.declared.fault.FfsFault.TheVariants.{Exists, Kernel, NoEntry, Pending, Unsound}
 use Rattle.ffs_lookup.specs.Counts.{make_from}
@@ -65,7 +65,7 @@ stands v fs e = ap (λ (t : Bool). if t then Ok (tt, empty_volume) else Err Exis
         ap is_absent (value_by_place v fs 1 refl ∙ ap (λ (b : Result ℕ FfsFault). value_in v (and_then b (λ block. Ok (inode_at (v block) 0)))) (first_block v fs x.0 x.1 x.2)) ∙ value_there v (inode_at (v (pointer_word (v (slot (v 0) fs).0) 0)) 0)
 
 -- the first block of inodes makes an empty volume
-pub empty_there : (v w : ℕ → List ℕ) (fs : ℕ) → Ok true ≡ make_in v fs → FirstInodes v w fs (put zeros 0 (new_inode 2)) → (n : ℕ) → files_of w fs n ≡ empty_volume n
+pub empty_there : (v w : ℕ → List ℕ) (fs : ℕ) → Ok true ≡ make_in v fs → FirstInodes v w fs (put zero_block 0 (new_inode 2)) → (n : ℕ) → files_of w fs n ≡ empty_volume n
 empty_there v w fs ready f n = go ((n == 0) || nat_lt 128 n) refl
   where
     past : n ≢ 1 → 8 < n → empty_volume n ≡ Absent
@@ -81,9 +81,9 @@ empty_there v w fs ready f n = go ((n == 0) || nat_lt 128 n) refl
         right : n ≢ 0 → n ≤ 128 → (n == 0) || nat_lt 128 n ≡ false
         right some low = good_number n some low
 
-    within : (n ≡ 1) ⊎ (n ≢ 1) → n ≢ 0 → n ≤ 8 → inode_value w (inode_at (put zeros 0 (new_inode 2)) ((n - 1) % 8)) ≡ empty_volume n
+    within : (n ≡ 1) ⊎ (n ≢ 1) → n ≢ 0 → n ≤ 8 → inode_value w (inode_at (put zero_block 0 (new_inode 2)) ((n - 1) % 8)) ≡ empty_volume n
     within (inl z) some low =
-        ap (λ (k : ℕ). inode_value w (inode_at (put zeros 0 (new_inode 2)) ((k - 1) % 8))) z ∙ (ap (inode_value w) top_there ∙ (directory_made w ∙ ap empty_volume (sym z)))
+        ap (λ (k : ℕ). inode_value w (inode_at (put zero_block 0 (new_inode 2)) ((k - 1) % 8))) z ∙ (ap (inode_value w) top_there ∙ (directory_made w ∙ ap empty_volume (sym z)))
     within (inr ne) some low =
         ap (inode_value w) (free_beside ((n - 1) % 8) (λ z. omega (arith, z, ne, some, low)) (omega arith))
         ∙ sym (ap (λ (t : Bool). if t then new_directory else if not (n == 0) && nat_le n 8 then Free else Absent) (ne_eqb n 1 ne)

@@ -13,7 +13,7 @@ use Rattle.xn_model.specs.Lives.{StoreState, life_at}
 use Rattle.xn_model.specs.Calls.{Edit, init_of, propose_of}
 use Rattle.xn_model.specs.Rules.{IsConsistent}
 use Rattle.ffs_model.specs.Cuts.{Under, latest}
-use Rattle.ffs_model.specs.Library.{IsLibrary, inode_mode, library_layout, pointer_word, zeros, inode_links}
+use Rattle.ffs_model.specs.Library.{IsLibrary, inode_mode, library_layout, pointer_word, zero_block, inode_links}
 use Rattle.ffs_model.proofs.ForCallers.{latest_reached, library_reads, one_type, started, proposed_here, proposed_others, started_here, under_inodes, word_apart, word_within, zero_word}
 use Rattle.ffs_format.specs.Fields.{direct_in, fields_of}
 use Rattle.ffs_lookup.specs.declared.places.Found.{Found}
@@ -179,7 +179,7 @@ module _ (T : Types) (lib : IsLibrary T) (state new : StoreState) (h : IsConsist
 
 -- A file has a new block with bytes
 module _ (T : Types) (lib : IsLibrary T) (zeroth first second : StoreState) (h : IsConsistent T zeroth) (h1 : IsConsistent T first) (fs : ℕ) (few : fs < 32) (b number at : ℕ) (bytes : List ℕ)
-    (done : init_of T zeroth fs 2 (put zeros at bytes) ≡ Ok ((b, number), first)) where
+    (done : init_of T zeroth fs 2 (put zero_block at bytes) ≡ Ok ((b, number), first)) where
   abbrev v0 : ℕ → List ℕ
   v0 = latest zeroth.lives
 
@@ -190,12 +190,12 @@ module _ (T : Types) (lib : IsLibrary T) (zeroth first second : StoreState) (h :
   v2 = latest second.lives
 
   fresh : Touches T v0 v1 fs b 9
-  fresh = begun T zeroth first h fs few 2 9 (put zeros at bytes) (b, number) done
+  fresh = begun T zeroth first h fs few 2 9 (put zero_block at bytes) (b, number) done
 
   unreached : (c u : ℕ) → Under T v0 fs c u → c ≢ b
   unreached c u r e =
       let y = latest_reached T zeroth h fs few c u r in
-      let s = started T zeroth first fs 2 (put zeros at bytes) (b, number) done in
+      let s = started T zeroth first fs 2 (put zero_block at bytes) (b, number) done in
       none-some y.life (sym s.free ∙ (ap (life_at zeroth.lives) (sym e) ∙ y.alive))
 
   pub fresh_same : (d : ℕ) → SameInode v0 v1 fs d
@@ -205,7 +205,7 @@ module _ (T : Types) (lib : IsLibrary T) (zeroth first second : StoreState) (h :
       WroteBytes v0 v2 fs n inode0 (512 * index + at) bytes
   block_written n index inode0 inode is low hole fit again g =
       let same = fresh_same n in
-      let there : b ≢ 0 = begun_some T zeroth first h fs 2 (put zeros at bytes) (b, number) done in
+      let there : b ≢ 0 = begun_some T zeroth first h fs 2 (put zero_block at bytes) (b, number) done in
       let one : inode ≡ inode0 = same_ok inode inode0 (again ∙ (file_same v0 v1 fs n same.0 ∙ sym is)) in
       let kept = same.1 inode0 (file_from v0 fs n inode0 is) in
       let own0 = stands_from v0 fs n inode0 (file_from v0 fs n inode0 is) in
@@ -213,14 +213,14 @@ module _ (T : Types) (lib : IsLibrary T) (zeroth first second : StoreState) (h :
       let no : file_block v1 inode index ≡ 0 = ap (λ m. file_block v1 m index) one
       ∙ (file_block_same T lib zeroth h fs few v1 b 9 fresh n inode0 own0 (avoids T lib zeroth h fs few v1 b 9 fresh n inode0 own0 (λ z. omega (arith, z)) (λ z. omega (arith, z))) index ∙ hole) in
       let apart : b ≢ g.home = λ e. unreached b g.type_of (reached_before T v0 v1 fs b 9 fresh unreached b g.type_of (subst (λ z. Under T v1 fs z g.type_of) (sym e) g.reached)) refl in
-      let there_bytes : v2 b ≡ put zeros at bytes = g.bytes b apart ∙ started_here T zeroth first fs 2 (put zeros at bytes) (b, number) done in
+      let there_bytes : v2 b ≡ put zero_block at bytes = g.bytes b apart ∙ started_here T zeroth first fs 2 (put zero_block at bytes) (b, number) done in
       let others : (i k : ℕ) → i < 140 → i ≢ index → byte_in v2 (file_block v2 g.after i) k ≡ byte_in v1 (file_block v1 inode i) k =
       λ i k less ne. ap (λ c. byte_in v2 c k) (g.elsewhere i less ne) ∙ byte_same v1 v2 (file_block v1 inode i) k (λ some. g.bytes (file_block v1 inode i) (λ e.
       g.no_data (one_type T first h1 fs (file_block v1 inode i) g.type_of 2 few (subst (λ z. Under T v1 fs z g.type_of) (sym e) g.reached) (block_at T lib first h1 fs few n inode own i (file_block v1 inode i) less refl some)))) in
       let put_here : (k : ℕ) → k < 512 → byte_in v2 (file_block v2 g.after index) k ≡ byte_written (byte_in v1 (file_block v1 inode index)) at bytes k =
       λ k less.
-      ap (λ c. byte_in v2 c k) g.here ∙ (byte_there v2 b k there ∙ (ap (λ m. get_or m k 0) there_bytes ∙ (put_byte zeros at bytes fit k
-      ∙ written_same (λ x. get_or zeros x 0) (byte_in v1 (file_block v1 inode index)) at bytes k (get_or-replicate 512 k 0 0 less ∙ sym (ap (λ c. byte_in v1 c k) no))))) in
+      ap (λ c. byte_in v2 c k) g.here ∙ (byte_there v2 b k there ∙ (ap (λ m. get_or m k 0) there_bytes ∙ (put_byte zero_block at bytes fit k
+      ∙ written_same (λ x. get_or zero_block x 0) (byte_in v1 (file_block v1 inode index)) at bytes k (get_or-replicate 512 k 0 0 less ∙ sym (ap (λ c. byte_in v1 c k) no))))) in
       record {
         after = g.after;
         file = g.file;
@@ -320,7 +320,7 @@ module _ (T : Types) (lib : IsLibrary T) (state new : StoreState) (h : IsConsist
   }
 
   -- a block of pointers that are all 0
-  pub pointers_attached : inode_links bytes ≡ inode_links found.inode → (block : ℕ) → (fields_of bytes).direct ≡ (fields_of found.inode).direct → word_at bytes 56 ≡ block → word_at bytes 4 ≡ word_at found.inode 4 → v3 block ≡ zeros → found.block ≢ block → word_at found.inode 56 ≡ 0 →
+  pub pointers_attached : inode_links bytes ≡ inode_links found.inode → (block : ℕ) → (fields_of bytes).direct ≡ (fields_of found.inode).direct → word_at bytes 56 ≡ block → word_at bytes 4 ≡ word_at found.inode 4 → v3 block ≡ zero_block → found.block ≢ block → word_at found.inode 56 ≡ 0 →
       WroteBytes v3 v4 fs n found.inode 0 []
   pointers_attached links block direct last size bare apart none = record {
     after = bytes;

@@ -12,7 +12,7 @@ use Rattle.ffs_model.specs.Cuts.{Under, latest}
 use Rattle.ffs_model.specs.Names.{IsInodes}
 use Rattle.ffs_model.specs.Edits.{HoldsOnly}
 use Rattle.ffs_model.specs.Volumes.{VolumeKeeps, CanName, with_edit, without_edit}
-use Rattle.ffs_model.specs.Library.{inode_at, inode_blocks, inode_links, library_layout, IsLibrary, zeros}
+use Rattle.ffs_model.specs.Library.{inode_at, inode_blocks, inode_links, library_layout, IsLibrary, zero_block}
 use Rattle.xn_model.specs.Rules.{IsConsistent}
 use Rattle.ffs_lookup.specs.declared.fault.FfsFault.{FfsFault}
 use Rattle.ffs_format.specs.Fields.{fields_of}
@@ -33,16 +33,16 @@ pub record IsMade (T : Types) (fs : ℕ) (array : ℕ → Option ℕ) (n entry :
 pub record IsAdded (T : Types) (fs : ℕ) (array : ℕ → Option ℕ) (index block entry : ℕ) (new : StoreState) : Type 0 where
   pub keeps : VolumeKeeps T library_layout fs (with_edit array index entry) new
   pub inodes : IsInodes library_layout (latest new.lives) fs index block
-  pub empty : latest new.lives block ≡ zeros
+  pub empty : latest new.lives block ≡ zero_block
 
 -- what holds only some bytes still does
 abbrev pub Leaves : Types → ℕ → StoreState → StoreState → Type 0
 Leaves T fs old new = IsLibrary T → (array : ℕ → Option ℕ) (block : ℕ) (bytes : List ℕ) → VolumeKeeps T library_layout fs array old → block ≢ 0 →
     HoldsOnly old.lives block bytes → HoldsOnly new.lives block bytes
 
--- the root slot was set to a block of zeros
+-- the root slot was set to a block of zero_block
 abbrev pub Roots : Types → ℕ → StoreState → StoreState → ℕ → Type 0
-Roots T fs old new block = IsLibrary T → (array : ℕ → Option ℕ) → VolumeKeeps T library_layout fs array old → HoldsOnly old.lives block zeros →
+Roots T fs old new block = IsLibrary T → (array : ℕ → Option ℕ) → VolumeKeeps T library_layout fs array old → HoldsOnly old.lives block zero_block →
     VolumeKeeps T library_layout fs array new × ((other : ℕ) (bytes : List ℕ) → other ≢ 0 → HoldsOnly old.lives other bytes → HoldsOnly new.lives other bytes)
 
 -- the first block of inodes was attached, which point to nothing
@@ -125,8 +125,8 @@ abbrev pub GetsRoot : Types → ℕ → Bool → StoreState → StoreState → T
 GetsRoot T fs begun old new = IsLibrary T → IsConsistent T old → Ok begun ≡ make_in (latest old.lives) fs → IsReady old new fs
 
 abbrev pub MakesTop : Types → ℕ → ℕ → StoreState → StoreState → Type 0
-MakesTop T fs block old new = IsLibrary T → IsConsistent T old → latest old.lives block ≡ put zeros 0 (new_inode 2) → block ≢ 0 →
-    FirstInodes (latest old.lives) (latest new.lives) fs (put zeros 0 (new_inode 2))
+MakesTop T fs block old new = IsLibrary T → IsConsistent T old → latest old.lives block ≡ put zero_block 0 (new_inode 2) → block ≢ 0 →
+    FirstInodes (latest old.lives) (latest new.lives) fs (put zero_block 0 (new_inode 2))
 
 -- Which edits are refused for want of something alone
 --     CanEdit     a call may propose an edit that comes after this one

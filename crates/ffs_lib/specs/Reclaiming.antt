@@ -18,7 +18,7 @@ use Rattle.xn_model.specs.Root.{word_at}
 use Rattle.xn_model.specs.Types.{Types}
 use Rattle.xn_model.specs.Lives.{StoreState}
 use Rattle.xn_model.specs.Calls.{Edit, propose_of}
-use Rattle.ffs_model.specs.Library.{inode_links, library_layout, zeros}
+use Rattle.ffs_model.specs.Library.{inode_links, library_layout, zero_block}
 use Rattle.ffs_model.specs.Volumes.{KeepsNumber}
 use Rattle.ffs_lookup.specs.declared.fault.FfsFault.{FfsFault}
 use Rattle.ffs_lookup.specs.declared.fault.FfsFault.TheVariants.{NoEntry}
@@ -33,7 +33,7 @@ use Rattle.ffs_lookup.specs.Repairs.{repair_at, repair_in}
 use Rattle.ffs_lib.specs.Edits.{data_of_pointers, edit_at}
 use Rattle.ffs_lib.specs.Results.{AsBefore, IsLinked, OnlyChanges, SameInode}
 use Rattle.ffs_lib.specs.Stages.{Does, KeptOrEmptied, OfLink, Stages, cut_short}
-use Rattle.ffs_lib.specs.Steps.{IsHome, Stage, Tells, Wants, newest}
+use Rattle.ffs_lib.specs.Steps.{IsHome, Stage, Tells, Wants, newest_block}
 
 -- The call as a function of the files
 
@@ -94,7 +94,7 @@ LeftByRepair old new fs n (SetLinks links) = AsBefore old new fs n
 
 -- One inode
 
--- kept as it is, or free, which is 64 zeros, or with so many links and all else as before
+-- kept as it is, or free, which is 64 zero_block, or with so many links and all else as before
 abbrev pub Repaired : (ℕ → List ℕ) → (ℕ → List ℕ) → ℕ → ℕ → Repair → Type 0
 Repaired old new fs n Keep = SameInode old new fs n
 Repaired old new fs n GiveUp = (inode_in new fs n ≡ Err NoEntry) × (place_in new fs n ≡ Ok (replicate 64 0))
@@ -104,7 +104,7 @@ Repaired old new fs n (SetLinks links) = (inode : List ℕ) → Ok inode ≡ ino
 pub record HasSpare (state : StoreState) (fs n : ℕ) (spare : ℕ → ℕ) : Type 0 where
   pub some : n ≢ 0
   pub inode : List ℕ
-  pub found : Ok inode ≡ inode_in (newest state) fs n
+  pub found : Ok inode ≡ inode_in (newest_block state) fs n
   pub spares : KeepsNumber library_layout state.lives fs None (spare (inode_links inode)) n
 
 abbrev pub MayRepair : StoreState → ℕ → ℕ → Repair → Type 0
@@ -113,50 +113,50 @@ MayRepair state fs n GiveUp = HasSpare state fs n (λ links. links)
 MayRepair state fs n (SetLinks left) = (has : HasSpare state fs n (λ links. links - left)) × (left < inode_links has.inode)
 
 pub record RepairedOne (old new : StoreState) (fs n : ℕ) (repair : Repair) : Type 0 where
-  pub repaired : Repaired (newest old) (newest new) fs n repair
-  pub others : OnlyChanges (newest old) (newest new) fs n
+  pub repaired : Repaired (newest_block old) (newest_block new) fs n repair
+  pub others : OnlyChanges (newest_block old) (newest_block new) fs n
   pub nothing : repair ≡ Keep → new ≡ old
   pub spares : (i m : ℕ) → i ≢ 0 → i ≢ n → KeepsNumber library_layout old.lives fs None m i → KeepsNumber library_layout new.lives fs None m i
 
 abbrev pub emptying : StoreState → ℕ → Edit
-emptying old block = edit_at 0 zeros [] (data_of_pointers (newest old block)) None
+emptying old block = edit_at 0 zero_block [] (data_of_pointers (newest_block old block)) None
 
 abbrev pub Emptied : Types → ℕ → ℕ → StoreState → StoreState → Result (Unit {0}) FfsFault → Type 0
 Emptied T fs block old new (Ok done) =
-    ((new ≡ old) × ((block ≡ 0) ⊎ (data_of_pointers (newest old block) ≡ [])))
-    ⊎ ((block ≢ 0) × (length (newest old block) ≡ 512) × (entry : ℕ) × (propose_of T old fs block (emptying old block) ≡ Ok (entry, new)))
+    ((new ≡ old) × ((block ≡ 0) ⊎ (data_of_pointers (newest_block old block) ≡ [])))
+    ⊎ ((block ≢ 0) × (length (newest_block old block) ≡ 512) × (entry : ℕ) × (propose_of T old fs block (emptying old block) ≡ Ok (entry, new)))
 Emptied T fs block old new (Err fault) =
-    (new ≡ old) × (block ≢ 0) × (length (newest old block) ≡ 512) × Tells (propose_of T old fs block (emptying old block)) fault
+    (new ≡ old) × (block ≢ 0) × (length (newest_block old block) ≡ 512) × Tells (propose_of T old fs block (emptying old block)) fault
 
 -- only the block of pointers of an inode changed, which owns nothing now
 pub record PointersEmptied (old new : ℕ → List ℕ) (inode : List ℕ) : Type 0 where
-  pub cleared : new (word_at inode 56) ≡ zeros
+  pub cleared : new (word_at inode 56) ≡ zero_block
   pub others : (c : ℕ) → c ≢ word_at inode 56 → new c ≡ old c
 
 -- its 64 bytes are as before, and so are all others; of one that was to be given up the block of pointers may be cleared
 pub record StopsRepairing (T : Types) (fs : ℕ) (old new : StoreState) (n : ℕ) (repair : Repair) (fault : FfsFault) : Type 0 where
   pub needed : repair ≢ Keep
-  pub others : OnlyChanges (newest old) (newest new) fs n
+  pub others : OnlyChanges (newest_block old) (newest_block new) fs n
   pub inode : List ℕ
-  pub was : Ok inode ≡ inode_in (newest old) fs n
-  pub is : Ok inode ≡ inode_in (newest new) fs n
-  pub stage : (new ≡ old) ⊎ ((repair ≡ GiveUp) × PointersEmptied (newest old) (newest new) inode)
+  pub was : Ok inode ≡ inode_in (newest_block old) fs n
+  pub is : Ok inode ≡ inode_in (newest_block new) fs n
+  pub stage : (new ≡ old) ⊎ ((repair ≡ GiveUp) × PointersEmptied (newest_block old) (newest_block new) inode)
   pub block : ℕ
-  pub of_inode : IsHome (newest new) fs n block ⊎ (block ≡ word_at inode 56)
+  pub of_inode : IsHome (newest_block new) fs n block ⊎ (block ≡ word_at inode 56)
   pub wants : Wants T new fs block fault
 
 -- All inodes
 
 pub record InMiddle (T : Types) (fs : ℕ) (array : ℕ → Option ℕ) (old new : StoreState) (done : ℕ) : Type 0 where
   pub stage : Stage T fs array new
-  pub before : (i : ℕ) → i ≢ 0 → i ≤ done → Repaired (newest old) (newest new) fs i (repair_in (newest old) fs i)
-  pub later : (i : ℕ) → (i ≡ 0) ⊎ (done < i) → SameInode (newest old) (newest new) fs i
-  pub nothing : flat_map (stages_at (files_of (newest old) fs)) (range_with_len 1 done) ≡ [] → new ≡ old
+  pub before : (i : ℕ) → i ≢ 0 → i ≤ done → Repaired (newest_block old) (newest_block new) fs i (repair_in (newest_block old) fs i)
+  pub later : (i : ℕ) → (i ≡ 0) ⊎ (done < i) → SameInode (newest_block old) (newest_block new) fs i
+  pub nothing : flat_map (stages_at (files_of (newest_block old) fs)) (range_with_len 1 done) ≡ [] → new ≡ old
   pub spares : (i m : ℕ) → done < i → KeepsNumber library_layout old.lives fs None m i → KeepsNumber library_layout new.lives fs None m i
 
 -- The call: `Pending` where something of the file system is pending, else what its function says, with what the files don't say.
 abbrev pub Reclaims : Types → ℕ → StoreState → StoreState → Result Repairs FfsFault → Type 0
 Reclaims T fs old new result =
-    Does T fs (if_idle old fs (reclaimed (files_of (newest old) fs))) (reclaimed_stages (files_of (newest old) fs)) old new
+    Does T fs (if_idle old fs (reclaimed (files_of (newest_block old) fs))) (reclaimed_stages (files_of (newest_block old) fs)) old new
     (mapped (λ repairs. repair_at repairs.each) result)
-    × ((n : ℕ) → LeftByRepair (newest old) (newest new) fs n (needs (files_of (newest old) fs) n))
+    × ((n : ℕ) → LeftByRepair (newest_block old) (newest_block new) fs n (needs (files_of (newest_block old) fs) n))

@@ -19,7 +19,7 @@ use Rattle.ffs_lookup.specs.declared.places.Slot.{Slot}
 use Rattle.ffs_lookup.specs.Newest.{and_then, directory_in, file_in, first_named, inode_in, is_at, listing}
 use Rattle.ffs_lib.specs.Results.{AsBefore, IsAs, SameInode}
 use Rattle.ffs_lib.specs.Stages.{KeptOrEmptied, Unnames}
-use Rattle.ffs_lib.specs.Steps.{newest}
+use Rattle.ffs_lib.specs.Steps.{newest_block}
 
 -- What it looks up: both directories, both names, both entries, both files; then whether the first inode may have a link more, if the second
 -- entry names another one.
@@ -89,10 +89,10 @@ pub record AreDirect (content : ℕ → List ℕ) (fs : ℕ) (p : SlotPair) : Ty
 -- what two slots name in the cuts they name on
 abbrev pub KeepsPairs : ℕ → StoreState → StoreState → Type 0
 KeepsPairs fs old new =
-    (first : Lives) (p : SlotPair) (after : Option ℕ) → AreDirect (newest old) fs p → StayNamed library_layout first old.lives p after →
+    (first : Lives) (p : SlotPair) (after : Option ℕ) → AreDirect (newest_block old) fs p → StayNamed library_layout first old.lives p after →
     StayNamed library_layout first new.lives p after
 
--- In every cut that has the second entry's block as it was newest at the call, or later, this entry names one of the two files; and in every one that
+-- In every cut that has the second entry's block as it was newest_block at the call, or later, this entry names one of the two files; and in every one that
 -- has both blocks so, one of the entries names the moved one.
 abbrev pub NamesStand : StoreState → StoreState → Slot → Slot → Type 0
 NamesStand old new from to = AreNamed library_layout old.lives new.lives (pair_of from to)
@@ -104,6 +104,6 @@ NamesStand old new from to = AreNamed library_layout old.lives new.lives (pair_o
 pub record Replaced (old new : StoreState) (fs d : ℕ) (from : Slot) (other : ℕ) (to : Slot) (result : Result (Unit {0}) FfsFault) : Type 0 where
   pub itself : from ≡ to → new ≡ old
   pub same : from ≢ to → from.inode ≡ to.inode →
-      Unnames (newest old) (newest new) fs d from.inode × OnErr result (KeptOrEmptied (newest old) (newest new) fs from.inode)
+      Unnames (newest_block old) (newest_block new) fs d from.inode × OnErr result (KeptOrEmptied (newest_block old) (newest_block new) fs from.inode)
   pub another : from.inode ≢ to.inode →
-      ReplacedInodes (newest old) (newest new) fs d from other to × OnErr result (KeptOrEmptied (newest old) (newest new) fs to.inode)
+      ReplacedInodes (newest_block old) (newest_block new) fs d from other to × OnErr result (KeptOrEmptied (newest_block old) (newest_block new) fs to.inode)

@@ -25,7 +25,7 @@ use Rattle.ffs_lookup.specs.Files.{with_block, with_entry, with_value, without_l
 use Rattle.ffs_lookup.specs.FileValues.{files_of, place_in}
 use Rattle.ffs_lookup.specs.Newest.{and_then, byte_of, directory_in, inode_in, is_short, listing}
 use Rattle.ffs_lib.specs.Results.{IsAs, IsExtended, OthersSame, SameContents, SameOrNew, new_inode}
-use Rattle.ffs_lib.specs.Steps.{IsHome, StopsEntering, StopsGrowing, Wants, newest}
+use Rattle.ffs_lib.specs.Steps.{IsHome, StopsEntering, StopsGrowing, Wants, newest_block}
 use Rattle.ffs_lib.specs.Values.{Leads}
 use Rattle.ffs_lib.specs.Writes.{StopsPart}
 
@@ -59,14 +59,14 @@ pub data Ask : Type 0 where
   OfPart : (n index : ℕ) → Ask
 
 abbrev pub OfHome : Types → ℕ → ℕ → StoreState → FfsFault → Type 0
-OfHome T fs n state fault = (block : ℕ) → IsHome (newest state) fs n block → Wants T state fs block fault
+OfHome T fs n state fault = (block : ℕ) → IsHome (newest_block state) fs n block → Wants T state fs block fault
 
 abbrev pub OfPointers : Types → ℕ → ℕ → StoreState → FfsFault → Type 0
-OfPointers T fs n state fault = (inode : List ℕ) → Ok inode ≡ inode_in (newest state) fs n → Wants T state fs (word_at inode 56) fault
+OfPointers T fs n state fault = (inode : List ℕ) → Ok inode ≡ inode_in (newest_block state) fs n → Wants T state fs (word_at inode 56) fault
 
 abbrev pub Asks : Types → ℕ → Ask → StoreState → StoreState → FfsFault → Type 0
 Asks T fs (OfEntry d index) before new fault =
-    (new ≡ before) × ((inode : List ℕ) → Ok inode ≡ directory_in (newest before) fs d → Wants T before fs (direct_in inode index) fault)
+    (new ≡ before) × ((inode : List ℕ) → Ok inode ≡ directory_in (newest_block before) fs d → Wants T before fs (direct_in inode index) fault)
 Asks T fs (OfInode n) before new fault = (new ≡ before) × OfHome T fs n before fault
 Asks T fs (OfLink n) before new fault = (new ≡ before) × (OfHome T fs n before fault ⊎ OfPointers T fs n before fault)
 Asks T fs (ForEntry d) before new fault = StopsEntering T fs before new d fault
@@ -79,7 +79,7 @@ Stages = List (Files × Ask)
 abbrev pub IsStage : Types → ℕ → StoreState → FfsFault → Stages → Type 0
 IsStage T fs new fault [] = ⊥
 IsStage T fs new fault ((files, ask) ∷ rest) =
-    ((before : StoreState) × (files_of (newest before) fs ≡ files) × Asks T fs ask before new fault) ⊎ IsStage T fs new fault rest
+    ((before : StoreState) × (files_of (newest_block before) fs ≡ files) × Asks T fs ask before new fault) ⊎ IsStage T fs new fault rest
 
 abbrev pub stages_of : {A : Type 0} → Result A FfsFault → (A → Stages) → Stages
 stages_of (Ok x) f = f x
@@ -95,7 +95,7 @@ IsRefused T fs old new fault ((files, ask) ∷ rest) = Asks T fs ask old new fau
 abbrev pub Does : {A : Type 0} → Types → ℕ → Answer A → Stages → StoreState → StoreState → Result A FfsFault → Type 0
 Does T fs (Err fault) stages old new result = (result ≡ Err fault) × (new ≡ old)
 Does T fs (Ok next) stages old new result =
-    MatchResult result (Leads (Ok next) (newest new) fs) (λ fault. (is_short fault ≡ true) × IsRefused T fs old new fault stages)
+    MatchResult result (Leads (Ok next) (newest_block new) fs) (λ fault. (is_short fault ≡ true) × IsRefused T fs old new fault stages)
 
 -- Stages of the calls
 

@@ -1,5 +1,5 @@
 -- What a step of a call leaves, and what a part of a call does.
---     newest state        the newest bytes of each block
+--     newest_block state        the newest_block bytes of each block
 --     Tells, Wants        a fault that tells why the store refuses something; an edit of a block
 --     left_by             what a call of the store leaves, or what was there where that is refused
 --     ShortEdit           the store refuses an edit for want of something alone
@@ -19,7 +19,7 @@ use Rattle.xn_model.specs.Types.{Types}
 use Rattle.xn_model.specs.Lives.{StoreState}
 use Rattle.xn_model.specs.Calls.{Edit, forget_of, init_of, propose_of, was_given}
 use Rattle.ffs_model.specs.Cuts.{latest}
-use Rattle.ffs_model.specs.Library.{IsLibrary, half_at, inode_blocks, inode_links, library_layout, zeros}
+use Rattle.ffs_model.specs.Library.{IsLibrary, half_at, inode_blocks, inode_links, library_layout, zero_block}
 use Rattle.ffs_model.specs.Shortages.{is_shortage}
 use Rattle.ffs_model.specs.Volumes.{CanName, CanUnlink, VolumeKeeps}
 use Rattle.ffs_lookup.specs.declared.fault.FfsFault.{FfsFault}
@@ -36,8 +36,8 @@ use Rattle.ffs_lib.specs.Volumes.{IsVolume}
 use Rattle.ffs_lib.specs.declared.volume.Volume.{Volume}
 use Rattle.ffs_lib.specs.Results.{AsBefore, HasMore, IsLowestNumber, MadeEntry, OnlyChanges, OthersSame, SameInode, SameOrNew, TookLink, new_inode}
 
-abbrev pub newest : StoreState → ℕ → List ℕ
-newest state = latest state.lives
+abbrev pub newest_block : StoreState → ℕ → List ℕ
+newest_block state = latest state.lives
 
 -- Refusals
 
@@ -63,14 +63,14 @@ Proposed T fs block edit old new (Ok entry) = propose_of T old fs block edit ≡
 Proposed T fs block edit old new (Err fault) = (new ≡ old) × Tells (propose_of T old fs block edit) fault
 
 abbrev pub clearing : StoreState → ℕ → ℕ → Edit
-clearing old block after = edit_at 0 zeros [] (data_of_pointers (newest old block)) (Some after)
+clearing old block after = edit_at 0 zero_block [] (data_of_pointers (newest_block old block)) (Some after)
 
 abbrev pub Dropped : Types → ℕ → ℕ → ℕ → StoreState → StoreState → Result ℕ FfsFault → Type 0
 Dropped T fs block after old new (Ok entry) =
-    ((new ≡ old) × (entry ≡ after) × ((block ≡ 0) ⊎ (data_of_pointers (newest old block) ≡ [])))
-    ⊎ ((block ≢ 0) × (length (newest old block) ≡ 512) × (propose_of T old fs block (clearing old block after) ≡ Ok (entry, new)))
+    ((new ≡ old) × (entry ≡ after) × ((block ≡ 0) ⊎ (data_of_pointers (newest_block old block) ≡ [])))
+    ⊎ ((block ≢ 0) × (length (newest_block old block) ≡ 512) × (propose_of T old fs block (clearing old block after) ≡ Ok (entry, new)))
 Dropped T fs block after old new (Err fault) =
-    (new ≡ old) × (block ≢ 0) × (length (newest old block) ≡ 512) × Tells (propose_of T old fs block (clearing old block after)) fault
+    (new ≡ old) × (block ≢ 0) × (length (newest_block old block) ≡ 512) × Tells (propose_of T old fs block (clearing old block after)) fault
 
 -- the same of an edit that attaches a new block, which is forgotten where that is refused, if the store takes that
 abbrev pub Attached : Types → ℕ → ℕ → ℕ → Edit → StoreState → StoreState → Result ℕ FfsFault → Type 0
@@ -109,7 +109,7 @@ pub record MayLose (state : StoreState) (fs n after : ℕ) : Type 0 where
   pub can : CanUnlink library_layout state.lives fs n after
   pub given : IsTrue (was_given state (Some after))
   pub inode : List ℕ
-  pub found : Ok inode ≡ inode_in (newest state) fs n
+  pub found : Ok inode ≡ inode_in (newest_block state) fs n
   pub linked : 1 ≤ inode_links inode
 
 pub record TakesLink (old new : ℕ → List ℕ) (fs n : ℕ) : Type 0 where
@@ -159,13 +159,13 @@ pub record Entered (old new : ℕ → List ℕ) (fs d : ℕ) (name : List ℕ) (
 
 -- and an edit may come after that
 abbrev pub Enters : StoreState → StoreState → ℕ → ℕ → List ℕ → ℕ → ℕ → Type 0
-Enters old new fs d name n entry = Entered (newest old) (newest new) fs d name n × IsTrue (was_given new (Some entry))
+Enters old new fs d name n entry = Entered (newest_block old) (newest_block new) fs d name n × IsTrue (was_given new (Some entry))
 
 -- the lowest free inode, and all inodes are as before, or free in its new block of inodes
 pub record TakesFree (old new : StoreState) (fs : ℕ) (free : Free) : Type 0 where
   pub is : IsFree new fs free
-  pub lowest : IsLowestNumber (newest old) fs free.number
-  pub stays : (x : ℕ) → SameOrNew (newest old) (newest new) fs free.number x
+  pub lowest : IsLowestNumber (newest_block old) fs free.number
+  pub stays : (x : ℕ) → SameOrNew (newest_block old) (newest_block new) fs free.number x
 
 -- an inode has a link more; then a directory names it
 pub record AddsLink (old new : ℕ → List ℕ) (fs n : ℕ) : Type 0 where
@@ -179,7 +179,7 @@ pub record NamedAgain (old new : ℕ → List ℕ) (fs d : ℕ) (name : List ℕ
   pub entered : Entered middle new fs d name n
 
 abbrev pub NamesAgain : StoreState → StoreState → ℕ → ℕ → List ℕ → ℕ → ℕ → Type 0
-NamesAgain old new fs d name n entry = NamedAgain (newest old) (newest new) fs d name n × IsTrue (was_given new (Some entry))
+NamesAgain old new fs d name n entry = NamedAgain (newest_block old) (newest_block new) fs d name n × IsTrue (was_given new (Some entry))
 
 -- a free inode came into use
 pub record MadeInode (old new : ℕ → List ℕ) (fs mode n : ℕ) : Type 0 where
@@ -195,7 +195,7 @@ pub record Unlisted (old new : ℕ → List ℕ) (fs d : ℕ) (entry : Slot) : T
 -- What is left where a part of a call is refused, and of what the fault tells
 
 abbrev pub AllSame : StoreState → StoreState → ℕ → Type 0
-AllSame old new fs = (d : ℕ) → SameInode (newest old) (newest new) fs d
+AllSame old new fs = (d : ℕ) → SameInode (newest_block old) (newest_block new) fs d
 
 -- the block of an inode
 abbrev pub IsHome : (ℕ → List ℕ) → ℕ → ℕ → ℕ → Type 0
@@ -203,7 +203,7 @@ IsHome content fs n block = Ok block ≡ inode_block_in content fs ((n - 1) / 8)
 
 -- nothing, for an edit of an inode's block
 abbrev pub StopsAtHome : Types → ℕ → StoreState → StoreState → ℕ → FfsFault → Type 0
-StopsAtHome T fs old new n fault = (new ≡ old) × (block : ℕ) × IsHome (newest old) fs n block × Wants T old fs block fault
+StopsAtHome T fs old new n fault = (new ≡ old) × (block : ℕ) × IsHome (newest_block old) fs n block × Wants T old fs block fault
 
 -- a block was forgotten last, if the store takes that
 abbrev pub LastForgets : Types → ℕ → ℕ → StoreState → Type 0
@@ -222,51 +222,51 @@ StopsAttaching T fs old new ty bytes home fault =
 -- a block of inodes was to be added
 pub record StopsGrowing (T : Types) (fs : ℕ) (old new : StoreState) (fault : FfsFault) : Type 0 where
   pub same : AllSame old new fs
-  pub told : MatchResult (root_in (newest old) fs) (λ root. StopsAttaching T fs old new 4 zeros root fault) (λ other. ⊥)
+  pub told : MatchResult (root_in (newest_block old) fs) (λ root. StopsAttaching T fs old new 4 zero_block root fault) (λ other. ⊥)
 
 -- an entry was to be written where a directory has room, or into a new block of it
 abbrev pub StopsAtRoom : Types → ℕ → StoreState → StoreState → ℕ → FfsFault → Option Room → Type 0
 StopsAtRoom T fs old new d fault (Some (Entry block place)) = (new ≡ old) × Wants T old fs block fault
 StopsAtRoom T fs old new d fault (Some (Pointer index)) =
-    MatchResult (inode_block_in (newest old) fs ((d - 1) / 8)) (λ home. (bytes : List ℕ) × StopsAttaching T fs old new 2 bytes home fault) (λ other. ⊥)
+    MatchResult (inode_block_in (newest_block old) fs ((d - 1) / 8)) (λ home. (bytes : List ℕ) × StopsAttaching T fs old new 2 bytes home fault) (λ other. ⊥)
 StopsAtRoom T fs old new d fault None = ⊥
 
 pub record StopsEntering (T : Types) (fs : ℕ) (old new : StoreState) (d : ℕ) (fault : FfsFault) : Type 0 where
   pub same : AllSame old new fs
-  pub told : MatchResult (directory_in (newest old) fs d) (λ inode. StopsAtRoom T fs old new d fault (room_in (newest old) inode)) (λ other. ⊥)
+  pub told : MatchResult (directory_in (newest_block old) fs d) (λ inode. StopsAtRoom T fs old new d fault (room_in (newest_block old) inode)) (λ other. ⊥)
 
 -- only the block of pointers of an inode changed, which owns nothing now
 pub record ClearedPointers (old new : ℕ → List ℕ) (inode : List ℕ) : Type 0 where
   pub last : inode_links inode ≤ 1
-  pub cleared : new (word_at inode 56) ≡ zeros
+  pub cleared : new (word_at inode 56) ≡ zero_block
   pub others : (c : ℕ) → c ≢ word_at inode 56 → new c ≡ old c
 
 -- a link was to be taken from an inode: its 64 bytes are as before, and so are all others
 pub record StopsTaking (T : Types) (fs : ℕ) (old new : StoreState) (n : ℕ) (fault : FfsFault) : Type 0 where
-  pub others : OnlyChanges (newest old) (newest new) fs n
+  pub others : OnlyChanges (newest_block old) (newest_block new) fs n
   pub inode : List ℕ
-  pub was : Ok inode ≡ inode_in (newest old) fs n
-  pub is : Ok inode ≡ inode_in (newest new) fs n
-  pub stage : (new ≡ old) ⊎ ClearedPointers (newest old) (newest new) inode
+  pub was : Ok inode ≡ inode_in (newest_block old) fs n
+  pub is : Ok inode ≡ inode_in (newest_block new) fs n
+  pub stage : (new ≡ old) ⊎ ClearedPointers (newest_block old) (newest_block new) inode
   pub block : ℕ
-  pub of_inode : IsHome (newest new) fs n block ⊎ (block ≡ word_at inode 56)
+  pub of_inode : IsHome (newest_block new) fs n block ⊎ (block ≡ word_at inode 56)
   pub wants : Wants T new fs block fault
 
 -- an entry was to be cleared, and then a link taken
 abbrev pub StopsUnnaming : Types → ℕ → StoreState → StoreState → Slot → FfsFault → Type 0
 StopsUnnaming T fs old new slot fault =
     ((new ≡ old) × Wants T old fs slot.block fault)
-    ⊎ ((middle : StoreState) × Clearing (newest old) (newest middle) fs slot × StopsTaking T fs middle new slot.inode fault)
+    ⊎ ((middle : StoreState) × Clearing (newest_block old) (newest_block middle) fs slot × StopsTaking T fs middle new slot.inode fault)
 
 -- a link was to be added, and then an entry written
 abbrev pub StopsNaming : Types → ℕ → StoreState → StoreState → ℕ → ℕ → FfsFault → Type 0
 StopsNaming T fs old new d n fault =
-    StopsAtHome T fs old new n fault ⊎ ((middle : StoreState) × AddsLink (newest old) (newest middle) fs n × StopsEntering T fs middle new d fault)
+    StopsAtHome T fs old new n fault ⊎ ((middle : StoreState) × AddsLink (newest_block old) (newest_block middle) fs n × StopsEntering T fs middle new d fault)
 
 -- an inode was to be taken into use, and then an entry written
 abbrev pub StopsNew : Types → ℕ → StoreState → StoreState → ℕ → ℕ → ℕ → FfsFault → Type 0
 StopsNew T fs old new d mode n fault =
-    StopsAtHome T fs old new n fault ⊎ ((middle : StoreState) × MadeInode (newest old) (newest middle) fs mode n × StopsEntering T fs middle new d fault)
+    StopsAtHome T fs old new n fault ⊎ ((middle : StoreState) × MadeInode (newest_block old) (newest_block middle) fs mode n × StopsEntering T fs middle new d fault)
 
 -- before that a block of inodes, where no inode was free
 abbrev pub StopsMaking : Types → ℕ → StoreState → StoreState → ℕ → ℕ → FfsFault → Type 0
@@ -278,5 +278,5 @@ StopsMaking T fs old new d mode fault =
 
 abbrev pub Creates : Types → ℕ → ℕ → List ℕ → ℕ → StoreState → StoreState → Result ℕ FfsFault → Type 0
 Creates T fs d name mode old new result =
-    Answers (create_in (newest old) fs d name) (λ _ n. MadeEntry (newest old) (newest new) fs d name mode n × IsLowestNumber (newest old) fs n)
+    Answers (create_in (newest_block old) fs d name) (λ _ n. MadeEntry (newest_block old) (newest_block new) fs d name mode n × IsLowestNumber (newest_block old) fs n)
     (λ _ fault. StopsMaking T fs old new d mode fault) old new result

@@ -4,7 +4,7 @@
 --     PointsTo                     a file has a block of pointers, and its bytes stay
 --     StopsThere, StopsAdding      the store refused an edit of a block that a file has; a new block where it had none
 --     StopsPart                    a part of the bytes was refused: no byte changed but what forgetting leaves
---     padded                       what a write writes: its bytes, and zeros before them from the file's end on
+--     padded                       what a write writes: its bytes, and zero_block before them from the file's end on
 --     PartStops                    a part was refused behind the first of that, which are written
 --     Parts                        the first of that are written, part after part, maybe up to a refusal
 use Rattle.std.specs.Prelude.{◌≡◌, ◌≢◌, ℕ, ◌+◌, ◌-◌, ◌/◌, ◌%◌, ◌<◌, ◌≤◌, ◌⊎◌, List, [], ◌++◌, length, min, replicate, take, Option, None, Some, Ok}
@@ -13,11 +13,11 @@ use Rattle.xn_model.specs.Root.{word_at}
 use Rattle.xn_model.specs.Types.{Types}
 use Rattle.xn_model.specs.Lives.{StoreState}
 use Rattle.xn_model.specs.Calls.{was_given}
-use Rattle.ffs_model.specs.Library.{pointer_word, zeros}
+use Rattle.ffs_model.specs.Library.{pointer_word, zero_block}
 use Rattle.ffs_lookup.specs.declared.fault.FfsFault.{FfsFault}
 use Rattle.ffs_lookup.specs.Newest.{file_block, file_in}
 use Rattle.ffs_lib.specs.Results.{OnlyChanges, WroteBytes}
-use Rattle.ffs_lib.specs.Steps.{IsHome, Stage, Stops, StopsAttaching, Wants, newest}
+use Rattle.ffs_lib.specs.Steps.{IsHome, Stage, Stops, StopsAttaching, Wants, newest_block}
 use Rattle.ffs_lib.specs.declared.data.Last.{Last}
 use Rattle.ffs_lib.specs.declared.data.Progress.{Progress}
 
@@ -28,8 +28,8 @@ LastGiven state last = IsTrue (was_given state last.edit) × IsTrue (was_given s
 
 -- bytes are written into a file, its size stays, and so does every other inode
 pub record Puts (old new : StoreState) (fs n start : ℕ) (bytes : List ℕ) : Type 0 where
-  pub wrote : (inode : List ℕ) → Ok inode ≡ file_in (newest old) fs n → WroteBytes (newest old) (newest new) fs n inode start bytes
-  pub others : OnlyChanges (newest old) (newest new) fs n
+  pub wrote : (inode : List ℕ) → Ok inode ≡ file_in (newest_block old) fs n → WroteBytes (newest_block old) (newest_block new) fs n inode start bytes
+  pub others : OnlyChanges (newest_block old) (newest_block new) fs n
   pub later : old.next ≤ new.next
 
 abbrev pub PutsBy : StoreState → StoreState → ℕ → ℕ → ℕ → List ℕ → ℕ → Type 0
@@ -39,11 +39,11 @@ PutsBy old new fs n start bytes entry = Puts old new fs n start bytes × IsTrue 
 pub record PointsTo (old new : StoreState) (fs n : ℕ) (inode : List ℕ) (block : ℕ) : Type 0 where
   pub puts : Puts old new fs n 0 []
   pub after : List ℕ
-  pub file : Ok after ≡ file_in (newest new) fs n
+  pub file : Ok after ≡ file_in (newest_block new) fs n
   pub points : word_at after 56 ≡ block
   pub there : block ≢ 0
-  pub long : length (newest new block) ≡ 512
-  pub holes : (index : ℕ) → 12 ≤ index → index < 140 → file_block (newest old) inode index ≡ 0 → pointer_word (newest new block) (index - 12) ≡ 0
+  pub long : length (newest_block new block) ≡ 512
+  pub holes : (index : ℕ) → 12 ≤ index → index < 140 → file_block (newest_block old) inode index ≡ 0 → pointer_word (newest_block new block) (index - 12) ≡ 0
 
 -- What is left where a block is refused
 
@@ -51,20 +51,20 @@ pub record PointsTo (old new : StoreState) (fs n : ℕ) (inode : List ℕ) (bloc
 pub record StopsThere (T : Types) (fs : ℕ) (old new : StoreState) (n index : ℕ) (fault : FfsFault) : Type 0 where
   pub same : new ≡ old
   pub inode : List ℕ
-  pub file : Ok inode ≡ file_in (newest old) fs n
-  pub there : file_block (newest old) inode index ≢ 0
-  pub wants : Wants T old fs (file_block (newest old) inode index) fault
+  pub file : Ok inode ≡ file_in (newest_block old) fs n
+  pub there : file_block (newest_block old) inode index ≢ 0
+  pub wants : Wants T old fs (file_block (newest_block old) inode index) fault
 
 -- A new block where it had none: of data, or of pointers, all 0. The inode's block or the block of pointers was to own it.
 pub record StopsAdding (T : Types) (fs : ℕ) (old new : StoreState) (n index : ℕ) (fault : FfsFault) : Type 0 where
   pub inode : List ℕ
-  pub file : Ok inode ≡ file_in (newest old) fs n
-  pub hole : file_block (newest old) inode index ≡ 0
+  pub file : Ok inode ≡ file_in (newest_block old) fs n
+  pub hole : file_block (newest_block old) inode index ≡ 0
   pub owner : ℕ
-  pub of_inode : IsHome (newest old) fs n owner ⊎ (owner ≡ word_at inode 56)
+  pub of_inode : IsHome (newest_block old) fs n owner ⊎ (owner ≡ word_at inode 56)
   pub ty : ℕ
   pub bytes : List ℕ
-  pub kind : (ty ≡ 2) ⊎ ((ty ≡ 5) × (bytes ≡ zeros))
+  pub kind : (ty ≡ 2) ⊎ ((ty ≡ 5) × (bytes ≡ zero_block))
   pub told : StopsAttaching T fs old new ty bytes owner fault
 
 abbrev pub StopsBlock : Types → ℕ → StoreState → StoreState → ℕ → ℕ → FfsFault → Type 0

@@ -27,7 +27,7 @@ use Rattle.ffs_lookup.specs.Files.{Answer, File, Files, file_of, with_value, wri
 use Rattle.ffs_lookup.specs.Newest.{byte_of, file_end, file_in, is_short}
 use Rattle.ffs_lib.specs.Results.{OnlyChanges, byte_written}
 use Rattle.ffs_lib.specs.Stages.{IsRefused, IsStage, OfInode, OfPart, Stages, stages_of}
-use Rattle.ffs_lib.specs.Steps.{newest}
+use Rattle.ffs_lib.specs.Steps.{newest_block}
 use Rattle.ffs_lib.specs.Values.{Leads}
 use Rattle.ffs_lib.specs.Writes.{IsBorder, padded}
 
@@ -89,7 +89,7 @@ RefusesSome T fs files n offset bytes old new fault =
 -- there are none, or where too many edits are pending for a part, or for the size.
 pub record TakesSome (T : Types) (fs : ℕ) (files : Files) (n offset : ℕ) (bytes : List ℕ) (old new : StoreState) (count : ℕ) : Type 0 where
   pub few : count ≤ length bytes
-  pub leads : count ≢ 0 → Leads (written files n offset (take count bytes)) (newest new) fs tt
+  pub leads : count ≢ 0 → Leads (written files n offset (take count bytes)) (newest_block new) fs tt
   pub stopped : count ≢ 0 → count < length bytes → (middle : StoreState) × (fault : FfsFault) × (is_short fault ≡ true)
       × IsStage T fs middle fault (next_stages files n offset bytes count)
   pub none : count ≡ 0 → bytes ≢ [] → RefusesSome T fs files n offset bytes old new (Kernel TooManyPending)

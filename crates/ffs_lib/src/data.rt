@@ -15,7 +15,7 @@ ghost use Rattle.ffs_lookup.specs.declared.fault.FfsFault.TheVariants.{Kernel};
 ghost use Rattle.xn_model.specs.declared.refusal.Refusal.TheVariants.{TooManyPending};
 ghost use Rattle.ffs_lib.specs.Outcomes.{IsRaised};
 ghost use Rattle.ffs_lib.specs.Results.{OnlyChanges};
-ghost use Rattle.ffs_lib.specs.Steps.{Ends, Stage, StopsAtHome, newest};
+ghost use Rattle.ffs_lib.specs.Steps.{Ends, Stage, StopsAtHome, newest_block};
 ghost use Rattle.ffs_lib.specs.Writes.{LastGiven, Parts, PointsTo, Puts, PutsBy, StopsPart};
 ghost use Rattle.ffs_lookup.specs.Places.{IsFile};
 
@@ -80,7 +80,7 @@ fn add_direct<S: Store>(
     requires within { at + length bytes.now ≤ 512 }
     ensures types { S.types_of store.new ≡ S.types_of store.old }
     ensures ends { (T : Types) (array : ℕ → Option ℕ) (inode : List ℕ) → S.types_of store.old ≡ T → Stage T fs.number array (S.state_of store.old) →
-        Ok inode ≡ file_in (newest (S.state_of store.old)) fs.number number → direct_in inode index ≡ 0 → IsTrue (was_given (S.state_of store.old) after) →
+        Ok inode ≡ file_in (newest_block (S.state_of store.old)) fs.number number → direct_in inode index ≡ 0 → IsTrue (was_given (S.state_of store.old) after) →
         Ends T fs.number array (S.state_of store.new) result
         (PutsBy (S.state_of store.old) (S.state_of store.new) fs.number number (512 * index + at) bytes.now)
         (StopsPart T fs.number (S.state_of store.old) (S.state_of store.new) number index) }
@@ -116,7 +116,7 @@ fn add_pointers<S: Store>(
     ensures types { S.types_of store.new ≡ S.types_of store.old }
     ensures ends { (T : Types) (array : ℕ → Option ℕ) (inode : List ℕ) (index : ℕ) → 12 ≤ index → S.types_of store.old ≡ T →
         Stage T fs.number array (S.state_of store.old) →
-        Ok inode ≡ file_in (newest (S.state_of store.old)) fs.number number → word_at inode 56 ≡ 0 → IsTrue (was_given (S.state_of store.old) after) →
+        Ok inode ≡ file_in (newest_block (S.state_of store.old)) fs.number number → word_at inode 56 ≡ 0 → IsTrue (was_given (S.state_of store.old) after) →
         Ends T fs.number array (S.state_of store.new) result
         (PointsTo (S.state_of store.old) (S.state_of store.new) fs.number number inode)
         (StopsPart T fs.number (S.state_of store.old) (S.state_of store.new) number index) }
@@ -153,8 +153,8 @@ fn pointers_of<S: Store>(
     ensures types { S.types_of store.new ≡ S.types_of store.old }
     ensures ends { (T : Types) (array : ℕ → Option ℕ) (inode : List ℕ) (index : ℕ) → 12 ≤ index → S.types_of store.old ≡ T →
         Stage T fs.number array (S.state_of store.old) →
-        Ok inode ≡ file_in (newest (S.state_of store.old)) fs.number number →
-        (word_at inode 56 ≢ 0 → length (newest (S.state_of store.old) (word_at inode 56)) ≡ 512) → IsTrue (was_given (S.state_of store.old) after) →
+        Ok inode ≡ file_in (newest_block (S.state_of store.old)) fs.number number →
+        (word_at inode 56 ≢ 0 → length (newest_block (S.state_of store.old) (word_at inode 56)) ≡ 512) → IsTrue (was_given (S.state_of store.old) after) →
         Ends T fs.number array (S.state_of store.new) result
         (PointsTo (S.state_of store.old) (S.state_of store.new) fs.number number inode)
         (StopsPart T fs.number (S.state_of store.old) (S.state_of store.new) number index) }
@@ -182,8 +182,8 @@ fn add_pointed<S: Store>(
     requires within { at + length bytes.now ≤ 512 }
     ensures types { S.types_of store.new ≡ S.types_of store.old }
     ensures ends { (T : Types) (array : ℕ → Option ℕ) (n : ℕ) (inode : List ℕ) → S.types_of store.old ≡ T → Stage T fs.number array (S.state_of store.old) →
-        Ok inode ≡ file_in (newest (S.state_of store.old)) fs.number n → word_at inode 56 ≡ pointers → pointers ≢ 0 →
-        length (newest (S.state_of store.old) pointers) ≡ 512 → pointer_word (newest (S.state_of store.old) pointers) (index - 12) ≡ 0 →
+        Ok inode ≡ file_in (newest_block (S.state_of store.old)) fs.number n → word_at inode 56 ≡ pointers → pointers ≢ 0 →
+        length (newest_block (S.state_of store.old) pointers) ≡ 512 → pointer_word (newest_block (S.state_of store.old) pointers) (index - 12) ≡ 0 →
         IsTrue (was_given (S.state_of store.old) after) →
         Ends T fs.number array (S.state_of store.new) result
         (PutsBy (S.state_of store.old) (S.state_of store.new) fs.number n (512 * index + at) bytes.now)
@@ -219,8 +219,8 @@ fn add_block<S: Store>(
     requires within { at + length bytes.now ≤ 512 }
     ensures types { S.types_of store.new ≡ S.types_of store.old }
     ensures ends { (T : Types) (array : ℕ → Option ℕ) (inode : List ℕ) → S.types_of store.old ≡ T → Stage T fs.number array (S.state_of store.old) →
-        Ok inode ≡ file_in (newest (S.state_of store.old)) fs.number number → file_block (newest (S.state_of store.old)) inode index ≡ 0 →
-        (12 ≤ index → word_at inode 56 ≢ 0 → length (newest (S.state_of store.old) (word_at inode 56)) ≡ 512) →
+        Ok inode ≡ file_in (newest_block (S.state_of store.old)) fs.number number → file_block (newest_block (S.state_of store.old)) inode index ≡ 0 →
+        (12 ≤ index → word_at inode 56 ≢ 0 → length (newest_block (S.state_of store.old) (word_at inode 56)) ≡ 512) →
         LastGiven (S.state_of store.old) last → Ends T fs.number array (S.state_of store.new) result
         (λ next. Puts (S.state_of store.old) (S.state_of store.new) fs.number number (512 * index + at) bytes.now × LastGiven (S.state_of store.new) next)
         (StopsPart T fs.number (S.state_of store.old) (S.state_of store.new) number index) }
@@ -253,7 +253,7 @@ fn write_block<S: Store>(
     requires some { 0 < length bytes.now }
     ensures types { S.types_of store.new ≡ S.types_of store.old }
     ensures ends { (T : Types) (array : ℕ → Option ℕ) (inode : List ℕ) → S.types_of store.old ≡ T → Stage T fs.number array (S.state_of store.old) →
-        Ok inode ≡ file_in (newest (S.state_of store.old)) fs.number number → LastGiven (S.state_of store.old) last →
+        Ok inode ≡ file_in (newest_block (S.state_of store.old)) fs.number number → LastGiven (S.state_of store.old) last →
         Ends T fs.number array (S.state_of store.new) result
         (λ next. Puts (S.state_of store.old) (S.state_of store.new) fs.number number (512 * index + at) bytes.now × LastGiven (S.state_of store.new) next)
         (StopsPart T fs.number (S.state_of store.old) (S.state_of store.new) number index) }
@@ -292,7 +292,7 @@ fn clear_block<S: Store>(
     requires some { 0 < count }
     ensures types { S.types_of store.new ≡ S.types_of store.old }
     ensures ends { (T : Types) (array : ℕ → Option ℕ) (inode : List ℕ) → S.types_of store.old ≡ T → Stage T fs.number array (S.state_of store.old) →
-        Ok inode ≡ file_in (newest (S.state_of store.old)) fs.number number → LastGiven (S.state_of store.old) last →
+        Ok inode ≡ file_in (newest_block (S.state_of store.old)) fs.number number → LastGiven (S.state_of store.old) last →
         Ends T fs.number array (S.state_of store.new) result
         (λ next. Puts (S.state_of store.old) (S.state_of store.new) fs.number number (512 * index + at) (replicate count 0)
         × LastGiven (S.state_of store.new) next)
@@ -363,7 +363,7 @@ fn write_part<S: Store>(
     ensures types { S.types_of store.new ≡ S.types_of store.old }
     ensures falls { result.fault ≡ None → progress.done < result.done }
     ensures few { min end offset + result.done ≤ offset + length bytes.now }
-    ensures parts { (T : Types) (array : ℕ → Option ℕ) (zeroth : StoreState) → S.types_of store.old ≡ T → IsOk (file_in (newest zeroth) fs.number number) →
+    ensures parts { (T : Types) (array : ℕ → Option ℕ) (zeroth : StoreState) → S.types_of store.old ≡ T → IsOk (file_in (newest_block zeroth) fs.number number) →
         Parts T fs.number array zeroth (S.state_of store.old) number end offset bytes.now progress →
         Parts T fs.number array zeroth (S.state_of store.new) number end offset bytes.now result }
 {
@@ -408,10 +408,10 @@ pub fn raise_size<S: Store>(
 ) -> Result<(), FfsFault>
     ensures types { S.types_of store.new ≡ S.types_of store.old }
     ensures ends { (T : Types) (array : ℕ → Option ℕ) (inode : List ℕ) → S.types_of store.old ≡ T → Stage T fs.number array (S.state_of store.old) →
-        Ok inode ≡ file_in (newest (S.state_of store.old)) fs.number number → IsTrue (was_given (S.state_of store.old) after) →
+        Ok inode ≡ file_in (newest_block (S.state_of store.old)) fs.number number → IsTrue (was_given (S.state_of store.old) after) →
         Ends T fs.number array (S.state_of store.new) result
-        (λ _. IsRaised (newest (S.state_of store.old)) (newest (S.state_of store.new)) fs.number number inode size
-        × OnlyChanges (newest (S.state_of store.old)) (newest (S.state_of store.new)) fs.number number)
+        (λ _. IsRaised (newest_block (S.state_of store.old)) (newest_block (S.state_of store.new)) fs.number number inode size
+        × OnlyChanges (newest_block (S.state_of store.old)) (newest_block (S.state_of store.new)) fs.number number)
         (λ fault. (word_at inode 4 < size) × StopsAtHome T fs.number (S.state_of store.old) (S.state_of store.new) number fault) }
 {
     let Found {
@@ -436,7 +436,7 @@ pub fn look_up_end<S: Store>(
 ) -> Result<usize, FfsFault>
     ensures within { OnOk result (offset + count ≤ 71680) }
     ensures few { IfOk result (λ end. end ≤ 71680) }
-    ensures exact { IsLibrary (S.types_of store.now) → result ≡ mapped file_end (write_in (newest (S.state_of store.now)) fs.number number (offset + count)) }
+    ensures exact { IsLibrary (S.types_of store.now) → result ≡ mapped file_end (write_in (newest_block (S.state_of store.now)) fs.number number (offset + count)) }
 {
     let file = find_file(store, fs, number)?;
     if offset > MOST_BYTES || count > MOST_BYTES - offset {
@@ -460,7 +460,7 @@ pub fn write_parts<S: Store>(
     ensures few { min end offset + result.done ≤ offset + length bytes.now }
     ensures whole { result.fault ≡ None → min end offset + result.done ≡ offset + length bytes.now }
     ensures parts { (T : Types) (array : ℕ → Option ℕ) → S.types_of store.old ≡ T → Stage T fs.number array (S.state_of store.old) →
-        IsOk (file_in (newest (S.state_of store.old)) fs.number number) →
+        IsOk (file_in (newest_block (S.state_of store.old)) fs.number number) →
         Parts T fs.number array (S.state_of store.old) (S.state_of store.new) number end offset bytes.now result }
 {
     let mut progress = Progress {

@@ -11,7 +11,7 @@ ghost use Rattle.ffs_model.specs.Cuts.{Under};
 ghost use Rattle.ffs_lib.specs.Edits.{edit_at};
 ghost use Rattle.ffs_lib.specs.Replacing.{KeepsPairs};
 ghost use Rattle.ffs_lib.specs.Steps.{AddsLink, Attached, Dropped, Ends, Enters, IsEntry, MayLose, MayName, Proposed, Stage, StopsAtHome, StopsEntering};
-ghost use Rattle.ffs_lib.specs.Steps.{StopsTaking, TakesLink, newest};
+ghost use Rattle.ffs_lib.specs.Steps.{StopsTaking, TakesLink, newest_block};
 
 use crate::steps::{DATA, block_with, blocks_in, blocks_of, count_blocks, forgotten};
 use edit_list::{Edit, EditId, Fs, Patch};
@@ -128,7 +128,7 @@ pub fn drop_data<S: Store>(
     after: EditId,
 ) -> Result<EditId, FfsFault>
     ensures types { S.types_of store.new ≡ S.types_of store.old }
-    ensures put { (T : Types) → S.types_of store.old ≡ T → (block ≢ 0 → Under T (newest (S.state_of store.old)) fs.number block 5) →
+    ensures put { (T : Types) → S.types_of store.old ≡ T → (block ≢ 0 → Under T (newest_block (S.state_of store.old)) fs.number block 5) →
         Dropped T fs.number block after (S.state_of store.old) (S.state_of store.new) result }
 {
     if block == 0 {
@@ -162,7 +162,7 @@ pub fn take_link<S: Store>(
     ensures types { S.types_of store.new ≡ S.types_of store.old }
     ensures ends { (T : Types) (array : ℕ → Option ℕ) → S.types_of store.old ≡ T → Stage T fs.number array (S.state_of store.old) →
         MayLose (S.state_of store.old) fs.number number after → Ends T fs.number array (S.state_of store.new) result
-        (λ _. TakesLink (newest (S.state_of store.old)) (newest (S.state_of store.new)) fs.number number)
+        (λ _. TakesLink (newest_block (S.state_of store.old)) (newest_block (S.state_of store.new)) fs.number number)
         (StopsTaking T fs.number (S.state_of store.old) (S.state_of store.new) number) }
     ensures waits { (T : Types) (array : ℕ → Option ℕ) (n e : ℕ) → S.types_of store.old ≡ T → Stage T fs.number array (S.state_of store.old) →
         MayLose (S.state_of store.old) fs.number number after → n ≢ number → MayLose (S.state_of store.old) fs.number n e →
@@ -220,8 +220,8 @@ fn grow<S: Store>(
     ensures types { S.types_of store.new ≡ S.types_of store.old }
     ensures ends { (T : Types) (array : ℕ → Option ℕ) (directory name : List ℕ) (n : ℕ) → S.types_of store.old ≡ T →
         Stage T fs.number array (S.state_of store.old) →
-        MayName (S.state_of store.old) fs.number n after → Ok directory ≡ directory_in (newest (S.state_of store.old)) fs.number number →
-        Some (Room.Pointer index) ≡ room_in (newest (S.state_of store.old)) directory → direct_in directory index ≡ 0 → IsEntry entry.now n name →
+        MayName (S.state_of store.old) fs.number n after → Ok directory ≡ directory_in (newest_block (S.state_of store.old)) fs.number number →
+        Some (Room.Pointer index) ≡ room_in (newest_block (S.state_of store.old)) directory → direct_in directory index ≡ 0 → IsEntry entry.now n name →
         Ends T fs.number array (S.state_of store.new) result
         (Enters (S.state_of store.old) (S.state_of store.new) fs.number number name n)
         (StopsEntering T fs.number (S.state_of store.old) (S.state_of store.new) number) }
@@ -261,8 +261,8 @@ pub fn enter<S: Store>(
     requires { IsTrue (is_name name.now) }
     ensures types { S.types_of store.new ≡ S.types_of store.old }
     ensures ends { (T : Types) (array : ℕ → Option ℕ) (directory : List ℕ) → S.types_of store.old ≡ T → Stage T fs.number array (S.state_of store.old) →
-        MayName (S.state_of store.old) fs.number inode after → Ok directory ≡ directory_in (newest (S.state_of store.old)) fs.number number →
-        has_room (newest (S.state_of store.old)) directory ≡ true → Ends T fs.number array (S.state_of store.new) result
+        MayName (S.state_of store.old) fs.number inode after → Ok directory ≡ directory_in (newest_block (S.state_of store.old)) fs.number number →
+        has_room (newest_block (S.state_of store.old)) directory ≡ true → Ends T fs.number array (S.state_of store.new) result
         (Enters (S.state_of store.old) (S.state_of store.new) fs.number number name.now inode)
         (StopsEntering T fs.number (S.state_of store.old) (S.state_of store.new) number) }
 {
@@ -306,9 +306,9 @@ pub fn add_link<S: Store>(
 ) -> Result<EditId, FfsFault>
     ensures types { S.types_of store.new ≡ S.types_of store.old }
     ensures ends { (T : Types) (array : ℕ → Option ℕ) (inode : List ℕ) → S.types_of store.old ≡ T → Stage T fs.number array (S.state_of store.old) →
-        Ok inode ≡ inode_in (newest (S.state_of store.old)) fs.number number → inode_links inode ≢ 65535 →
+        Ok inode ≡ inode_in (newest_block (S.state_of store.old)) fs.number number → inode_links inode ≢ 65535 →
         Ends T fs.number array (S.state_of store.new) result
-        (λ e. MayName (S.state_of store.new) fs.number number e × AddsLink (newest (S.state_of store.old)) (newest (S.state_of store.new)) fs.number number)
+        (λ e. MayName (S.state_of store.new) fs.number number e × AddsLink (newest_block (S.state_of store.old)) (newest_block (S.state_of store.new)) fs.number number)
         (StopsAtHome T fs.number (S.state_of store.old) (S.state_of store.new) number) }
     ensures pairs { (T : Types) (array : ℕ → Option ℕ) → S.types_of store.old ≡ T → Stage T fs.number array (S.state_of store.old) →
         KeepsPairs fs.number (S.state_of store.old) (S.state_of store.new) }

@@ -4,7 +4,7 @@ ghost use Rattle.std.specs.Prelude.{◌≡◌, ◌≢◌, ℕ, Option};
 ghost use Rattle.xn_model.specs.Types.{Types};
 ghost use Rattle.ffs_model.specs.Cuts.{Under};
 ghost use Rattle.ffs_lib.specs.Reclaiming.{Emptied, MayRepair, Reclaims, RepairedOne, StopsRepairing};
-ghost use Rattle.ffs_lib.specs.Steps.{Ends, Stage, newest};
+ghost use Rattle.ffs_lib.specs.Steps.{Ends, Stage, newest_block};
 
 use crate::put::{put, put_inode};
 use crate::steps::{blocks_in, blocks_of};
@@ -25,7 +25,7 @@ fn empty_pointers<S: Store>(
     block: u32,
 ) -> Result<(), FfsFault>
     ensures types { S.types_of store.new ≡ S.types_of store.old }
-    ensures put { (T : Types) → S.types_of store.old ≡ T → (block ≢ 0 → Under T (newest (S.state_of store.old)) fs.number block 5) →
+    ensures put { (T : Types) → S.types_of store.old ≡ T → (block ≢ 0 → Under T (newest_block (S.state_of store.old)) fs.number block 5) →
         Emptied T fs.number block (S.state_of store.old) (S.state_of store.new) result }
 {
     if block == 0 {

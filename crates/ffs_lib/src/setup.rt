@@ -6,7 +6,7 @@ ghost use Rattle.xn_model.specs.Lives.{Life, is_fresh};
 ghost use Rattle.xn_model.specs.Calls.{may_add, own_life, slot_now};
 ghost use Rattle.xn_model.specs.Rules.{IsConsistent};
 ghost use Rattle.ffs_model.specs.Cuts.{latest};
-ghost use Rattle.ffs_model.specs.Library.{library_layout, zeros, IsLibrary};
+ghost use Rattle.ffs_model.specs.Library.{library_layout, zero_block, IsLibrary};
 ghost use Rattle.ffs_lookup.specs.Newest.{has_pointer, make_in};
 ghost use Rattle.ffs_lookup.specs.Counts.{make_from};
 ghost use Rattle.ffs_lib.specs.Outcomes.{GetsRoot, Keeps, Leaves, MakesTop, OnlyShort, Roots, SetsRoot, Starts};
@@ -62,7 +62,7 @@ pub fn look_up_root<S: Store>(store: &S, fs: Fs) -> Result<bool, FfsFault>
 
 /// The first inode block, with the top directory, which has no block yet.
 pub fn first_inodes() -> [u8; 512]
-    ensures exact { result ≡ put zeros 0 (new_inode 2) }
+    ensures exact { result ≡ put zero_block 0 (new_inode 2) }
     ensures bare { (p block : ℕ) → Contains (library_layout.direct result p) block → ⊥ }
 {
     let mut inode = Inode::free();

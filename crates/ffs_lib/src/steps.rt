@@ -3,7 +3,7 @@
 ghost use Rattle.std.specs.Prelude.{◌≡◌, ◌<◌, ◌≤◌, ◌^◌, ◌+◌, IfOk, OnOk, OnErr, length};
 ghost use Rattle.xn_model.specs.Calls.{forget_of};
 ghost use Rattle.xn_model.specs.Lists.{put};
-ghost use Rattle.ffs_model.specs.Library.{inode_blocks, zeros};
+ghost use Rattle.ffs_model.specs.Library.{inode_blocks, zero_block};
 ghost use Rattle.ffs_lib.specs.Edits.{data_of_inode, data_of_pointers};
 ghost use Rattle.ffs_lib.specs.Outcomes.{Keeps};
 ghost use Rattle.ffs_lib.specs.Steps.{left_by};
@@ -71,7 +71,7 @@ pub fn count_blocks(inode: &Inode) -> u32
 /// A block of zeros with bytes written at a place.
 pub fn block_with(at: usize, bytes: &[u8]) -> [u8; 512]
     requires { at + length bytes.now ≤ 512 }
-    ensures { result ≡ put zeros at bytes.now }
+    ensures { result ≡ put zero_block at bytes.now }
 {
     let mut block = [0; 512];
     block[at..at + bytes.len()].copy_from_slice(bytes);

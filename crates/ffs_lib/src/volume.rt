@@ -5,7 +5,7 @@ ghost use Rattle.std.specs.Prelude.{[], Ok, Err, IfOk, IfErr, OnOk, OnErr, IfSom
 ghost use Rattle.std.specs.List.{range_with_len};
 ghost use Rattle.ffs_format.specs.Entries.{is_name};
 ghost use Rattle.ffs_model.specs.Cuts.{latest};
-ghost use Rattle.ffs_model.specs.Library.{library_layout, inode_mode, IsLibrary, inode_blocks, inode_links, zeros};
+ghost use Rattle.ffs_model.specs.Library.{library_layout, inode_mode, IsLibrary, inode_blocks, inode_links, zero_block};
 ghost use Rattle.xn_model.specs.Lists.{put};
 ghost use Rattle.ffs_lookup.specs.Newest.{IsLowest, RefusesAs, TakesEntry, create_in, directory_in, first_named, has_empty_pointer, has_inode, has_room, is_at};
 ghost use Rattle.ffs_lookup.specs.Newest.{mapped, root_in, write_in, listing, named_in, names_at, rename_in, rmdir_in, unlink_in, without_entry, inode_in};
@@ -26,7 +26,7 @@ ghost use Rattle.ffs_lookup.specs.FileValues.{files_of};
 ghost use Rattle.ffs_lookup.specs.Files.{Files, created, listed, made, new_directory, new_file, read, read_over, removed, renamed, unlinked, written};
 ghost use Rattle.ffs_lib.specs.Stages.{Does, KeptOrEmptied, Makes, OnlyMade, Unnames, created_stages, removed_stages, renamed_stages};
 ghost use Rattle.ffs_lib.specs.Steps.{Creates, Ends, Leaves, MayLose, NamesAgain, Stage, StopsGrowing, StopsNaming, StopsNew, StopsUnnaming, TakesFree, Undoes};
-ghost use Rattle.ffs_lib.specs.Steps.{Unnamed, newest};
+ghost use Rattle.ffs_lib.specs.Steps.{Unnamed, newest_block};
 ghost use Rattle.xn_model.specs.Types.{Types};
 ghost use Rattle.xn_model.specs.declared.refusal.Refusal.{Refusal};
 ghost use Rattle.xn_model.specs.Calls.{was_given};
@@ -174,13 +174,13 @@ impl Volume {
         ensures faults { RefusesAs (make_from (S.state_of store.old) fs.number) (S.state_of store.old) (S.state_of store.new) result }
         ensures short { (begun : Bool) → Ok begun ≡ make_from (S.state_of store.old) fs.number → OnlyShort result }
         ensures value { (make_from (S.state_of store.old) fs.number ≡ Err FfsFault.Exists) ⊎ IsOk (make_from (S.state_of store.old) fs.number) →
-            ByAnswer (made (files_of (newest (S.state_of store.old)) fs.number))
-            (λ volume. Leads (made (files_of (newest (S.state_of store.old)) fs.number)) (newest (S.state_of store.new)) fs.number tt)
+            ByAnswer (made (files_of (newest_block (S.state_of store.old)) fs.number))
+            (λ volume. Leads (made (files_of (newest_block (S.state_of store.old)) fs.number)) (newest_block (S.state_of store.new)) fs.number tt)
             (S.state_of store.old) (S.state_of store.new) result }
         ensures err { (begun : Bool) → Ok begun ≡ make_from (S.state_of store.old) fs.number →
             OnErr result (VolumeKeeps (S.types_of store.old) library_layout fs.number no_edits (S.state_of store.new)) }
         ensures forgotten { OnErr result (Undoes (S.types_of store.old) fs.number (S.state_of store.old)
-            (S.state_of store.new) INODE_BLOCK (put zeros 0 (new_inode 2))) }
+            (S.state_of store.new) INODE_BLOCK (put zero_block 0 (new_inode 2))) }
     {
         let begun = look_up_root(store, fs)?;
         let (block, _) = store.init(fs, INODE_BLOCK, &first_inodes())?;
@@ -222,10 +222,10 @@ impl Volume {
         requires { IsVolume (S.types_of store.old) (S.state_of store.old) self.old }
         ensures types { S.types_of store.new ≡ S.types_of store.old }
         ensures fs { self.new.fs ≡ self.old.fs }
-        ensures answers { let files = files_of (newest (S.state_of store.old)) self.old.fs.number in
+        ensures answers { let files = files_of (newest_block (S.state_of store.old)) self.old.fs.number in
             Does (S.types_of store.old) self.old.fs.number (created new_file files directory name.now) (created_stages new_file files directory name.now)
             (S.state_of store.old) (S.state_of store.new) result }
-        ensures inodes { let old = newest (S.state_of store.old) in let new = newest (S.state_of store.new) in let fs = self.old.fs.number in
+        ensures inodes { let old = newest_block (S.state_of store.old) in let new = newest_block (S.state_of store.new) in let fs = self.old.fs.number in
             (next : ℕ × Files) → created new_file (files_of old fs) directory name.now ≡ Ok next →
             Makes old new fs directory FILE next.0 × OnErr result (OnlyMade old new fs next.0) }
         ensures keeps { IsVolume (S.types_of store.old) (S.state_of store.new) self.new }
@@ -244,10 +244,10 @@ impl Volume {
         requires { IsVolume (S.types_of store.old) (S.state_of store.old) self.old }
         ensures types { S.types_of store.new ≡ S.types_of store.old }
         ensures fs { self.new.fs ≡ self.old.fs }
-        ensures answers { let files = files_of (newest (S.state_of store.old)) self.old.fs.number in
+        ensures answers { let files = files_of (newest_block (S.state_of store.old)) self.old.fs.number in
             Does (S.types_of store.old) self.old.fs.number (created new_directory files directory name.now)
             (created_stages new_directory files directory name.now) (S.state_of store.old) (S.state_of store.new) result }
-        ensures inodes { let old = newest (S.state_of store.old) in let new = newest (S.state_of store.new) in let fs = self.old.fs.number in
+        ensures inodes { let old = newest_block (S.state_of store.old) in let new = newest_block (S.state_of store.new) in let fs = self.old.fs.number in
             (next : ℕ × Files) → created new_directory (files_of old fs) directory name.now ≡ Ok next →
             Makes old new fs directory DIRECTORY next.0 × OnErr result (OnlyMade old new fs next.0) }
         ensures keeps { IsVolume (S.types_of store.old) (S.state_of store.new) self.new }
@@ -285,8 +285,8 @@ impl Volume {
     ) -> Result<Free, FfsFault>
         requires volume { IsVolume (S.types_of store.old) (S.state_of store.old) self.old }
         requires free { IfSome found (λ free. IsFree (S.state_of store.old) self.old.fs.number free) }
-        requires room { found ≡ None → HasFreePointer (newest (S.state_of store.old)) self.old.fs.number }
-        requires lowest { IsLowest (newest (S.state_of store.old)) self.old.fs.number found }
+        requires room { found ≡ None → HasFreePointer (newest_block (S.state_of store.old)) self.old.fs.number }
+        requires lowest { IsLowest (newest_block (S.state_of store.old)) self.old.fs.number found }
         ensures types { S.types_of store.new ≡ S.types_of store.old }
         ensures fs { self.new.fs ≡ self.old.fs }
         ensures leaves { Leaves (S.types_of store.old) self.new (S.state_of store.new) result
@@ -315,9 +315,9 @@ impl Volume {
         requires used { mode ≢ 0 }
         ensures types { S.types_of store.new ≡ S.types_of store.old }
         ensures fs { self.new.fs ≡ self.old.fs }
-        ensures leaves { (inode : List ℕ) → Ok inode ≡ directory_in (newest (S.state_of store.old)) self.old.fs.number directory →
-            has_room (newest (S.state_of store.old)) inode ≡ true → Leaves (S.types_of store.old) self.new (S.state_of store.new) result
-            (λ n. MadeEntry (newest (S.state_of store.old)) (newest (S.state_of store.new)) self.old.fs.number directory name.now mode n × (n ≡ free.number))
+        ensures leaves { (inode : List ℕ) → Ok inode ≡ directory_in (newest_block (S.state_of store.old)) self.old.fs.number directory →
+            has_room (newest_block (S.state_of store.old)) inode ≡ true → Leaves (S.types_of store.old) self.new (S.state_of store.new) result
+            (λ n. MadeEntry (newest_block (S.state_of store.old)) (newest_block (S.state_of store.new)) self.old.fs.number directory name.now mode n × (n ≡ free.number))
             (StopsNew (S.types_of store.old) self.old.fs.number (S.state_of store.old) (S.state_of store.new) directory mode free.number) }
     {
         has_places(&self.added);
@@ -343,8 +343,8 @@ impl Volume {
     /// Makes an inode block, and answers its first inode.
     fn add_inodes<S: Store>(&mut self, alloc: Global, store: &mut S) -> Result<Free, FfsFault>
         requires volume { IsVolume (S.types_of store.old) (S.state_of store.old) self.old }
-        requires room { HasFreePointer (newest (S.state_of store.old)) self.old.fs.number }
-        requires full { IsLowest (newest (S.state_of store.old)) self.old.fs.number None }
+        requires room { HasFreePointer (newest_block (S.state_of store.old)) self.old.fs.number }
+        requires full { IsLowest (newest_block (S.state_of store.old)) self.old.fs.number None }
         ensures types { S.types_of store.new ≡ S.types_of store.old }
         ensures fs { self.new.fs ≡ self.old.fs }
         ensures leaves { Leaves (S.types_of store.old) self.new (S.state_of store.new) result
@@ -388,10 +388,10 @@ impl Volume {
     ) -> Result<(), FfsFault>
         requires { IsVolume (S.types_of store.old) (S.state_of store.old) self.now }
         ensures types { S.types_of store.new ≡ S.types_of store.old }
-        ensures answers { let files = files_of (newest (S.state_of store.old)) self.now.fs.number in
+        ensures answers { let files = files_of (newest_block (S.state_of store.old)) self.now.fs.number in
             Does (S.types_of store.old) self.now.fs.number (written files inode offset bytes.now) (written_stages files inode offset bytes.now)
             (S.state_of store.old) (S.state_of store.new) result }
-        ensures inodes { let old = newest (S.state_of store.old) in let new = newest (S.state_of store.new) in let fs = self.now.fs.number in
+        ensures inodes { let old = newest_block (S.state_of store.old) in let new = newest_block (S.state_of store.new) in let fs = self.now.fs.number in
             (file : List ℕ) → Ok file ≡ write_in old fs inode (offset + length bytes.now) → (done : ℕ) × Overwrites old new fs inode file offset bytes.now done
             × WritesTo (S.types_of store.old) fs (files_of old fs) inode file offset bytes.now done (S.state_of store.new) result }
         ensures none { length bytes.now ≡ 0 → S.state_of store.new ≡ S.state_of store.old }
@@ -425,10 +425,10 @@ impl Volume {
     ) -> Result<usize, FfsFault>
         requires { IsVolume (S.types_of store.old) (S.state_of store.old) self.now }
         ensures types { S.types_of store.new ≡ S.types_of store.old }
-        ensures answers { let files = files_of (newest (S.state_of store.old)) self.now.fs.number in
+        ensures answers { let files = files_of (newest_block (S.state_of store.old)) self.now.fs.number in
             DoesSome (S.types_of store.old) self.now.fs.number files inode offset bytes.now (written files inode offset bytes.now)
             (S.state_of store.old) (S.state_of store.new) result }
-        ensures inodes { let old = newest (S.state_of store.old) in let new = newest (S.state_of store.new) in let fs = self.now.fs.number in
+        ensures inodes { let old = newest_block (S.state_of store.old) in let new = newest_block (S.state_of store.new) in let fs = self.now.fs.number in
             (file : List ℕ) → Ok file ≡ write_in old fs inode (offset + length bytes.now) → (done : ℕ) × Overwrites old new fs inode file offset bytes.now done
             × WritesSomeTo (S.types_of store.old) fs (files_of old fs) inode file offset bytes.now done (S.state_of store.new) result }
         ensures none { length bytes.now ≡ 0 → S.state_of store.new ≡ S.state_of store.old }
@@ -461,9 +461,9 @@ impl Volume {
         bytes: &mut [u8],
     ) -> Result<usize, FfsFault>
         ensures value { IsLibrary (S.types_of store.now) →
-            result ≡ mapped length (read (files_of (newest (S.state_of store.now)) self.now.fs.number) inode offset (length bytes.old)) }
+            result ≡ mapped length (read (files_of (newest_block (S.state_of store.now)) self.now.fs.number) inode offset (length bytes.old)) }
         ensures bytes { IsLibrary (S.types_of store.now) →
-            bytes.new ≡ read_over bytes.old (read (files_of (newest (S.state_of store.now)) self.now.fs.number) inode offset (length bytes.old)) }
+            bytes.new ≡ read_over bytes.old (read (files_of (newest_block (S.state_of store.now)) self.now.fs.number) inode offset (length bytes.old)) }
     {
         let file = find_file(store, self.fs, inode)?;
         let end = (file.inode.size() as usize).min(MOST_BYTES);
@@ -508,7 +508,7 @@ impl Volume {
         name: &[u8],
     ) -> Result<Slot, FfsFault>
         ensures slot { IfOk result (λ slot. IsSlot (S.state_of store.now) self.now.fs.number slot) }
-        ensures exact { IsLibrary (S.types_of store.now) → result ≡ unlink_in (newest (S.state_of store.now)) self.now.fs.number directory name.now }
+        ensures exact { IsLibrary (S.types_of store.now) → result ≡ unlink_in (newest_block (S.state_of store.now)) self.now.fs.number directory name.now }
     {
         let slot = self.named(store, directory, name)?;
         let _ = find_file(store, self.fs, slot.inode)?;
@@ -523,7 +523,7 @@ impl Volume {
         name: &[u8],
     ) -> Result<Slot, FfsFault>
         ensures slot { IfOk result (λ slot. IsSlot (S.state_of store.now) self.now.fs.number slot) }
-        ensures exact { IsLibrary (S.types_of store.now) → result ≡ rmdir_in (newest (S.state_of store.now)) self.now.fs.number directory name.now }
+        ensures exact { IsLibrary (S.types_of store.now) → result ≡ rmdir_in (newest_block (S.state_of store.now)) self.now.fs.number directory name.now }
     {
         let slot = self.named(store, directory, name)?;
         let found = find_directory(store, self.fs, slot.inode)?;
@@ -545,10 +545,10 @@ impl Volume {
     ) -> Result<(), FfsFault>
         requires { IsVolume (S.types_of store.old) (S.state_of store.old) self.now }
         ensures types { S.types_of store.new ≡ S.types_of store.old }
-        ensures answers { let files = files_of (newest (S.state_of store.old)) self.now.fs.number in
+        ensures answers { let files = files_of (newest_block (S.state_of store.old)) self.now.fs.number in
             Does (S.types_of store.old) self.now.fs.number (unlinked files directory name.now) (removed_stages files directory name.now)
             (S.state_of store.old) (S.state_of store.new) result }
-        ensures inodes { let old = newest (S.state_of store.old) in let new = newest (S.state_of store.new) in let fs = self.now.fs.number in
+        ensures inodes { let old = newest_block (S.state_of store.old) in let new = newest_block (S.state_of store.new) in let fs = self.now.fs.number in
             (slot : Slot) → Ok slot ≡ unlink_in old fs directory name.now →
             Unnames old new fs directory slot.inode × OnErr result (KeptOrEmptied old new fs slot.inode) }
         ensures keeps { IsVolume (S.types_of store.old) (S.state_of store.new) self.now }
@@ -568,10 +568,10 @@ impl Volume {
     ) -> Result<(), FfsFault>
         requires { IsVolume (S.types_of store.old) (S.state_of store.old) self.now }
         ensures types { S.types_of store.new ≡ S.types_of store.old }
-        ensures answers { let files = files_of (newest (S.state_of store.old)) self.now.fs.number in
+        ensures answers { let files = files_of (newest_block (S.state_of store.old)) self.now.fs.number in
             Does (S.types_of store.old) self.now.fs.number (removed files directory name.now) (removed_stages files directory name.now)
             (S.state_of store.old) (S.state_of store.new) result }
-        ensures inodes { let old = newest (S.state_of store.old) in let new = newest (S.state_of store.new) in let fs = self.now.fs.number in
+        ensures inodes { let old = newest_block (S.state_of store.old) in let new = newest_block (S.state_of store.new) in let fs = self.now.fs.number in
             (slot : Slot) → Ok slot ≡ rmdir_in old fs directory name.now →
             Unnames old new fs directory slot.inode × OnErr result (KeptOrEmptied old new fs slot.inode) }
         ensures keeps { IsVolume (S.types_of store.old) (S.state_of store.new) self.now }
@@ -586,7 +586,7 @@ impl Volume {
     pub fn reclaimable<S: Store>(&self, store: &S) -> Result<Repairs, FfsFault>
         ensures exact { IsLibrary (S.types_of store.now) → mapped (λ repairs. tt) result ≡ idle_in (S.state_of store.now) self.now.fs.number }
         ensures each { IsLibrary (S.types_of store.now) → IfOk result (λ repairs. (n : ℕ) →
-            repair_at repairs.each n ≡ needs (files_of (newest (S.state_of store.now)) self.now.fs.number) n) }
+            repair_at repairs.each n ≡ needs (files_of (newest_block (S.state_of store.now)) self.now.fs.number) n) }
     {
         look_up_repairs(store, self.fs)
     }
@@ -597,10 +597,10 @@ impl Volume {
     pub fn reclaim<S: Store>(&self, alloc: Global, store: &mut S) -> Result<Repairs, FfsFault>
         requires { IsVolume (S.types_of store.old) (S.state_of store.old) self.now }
         ensures types { S.types_of store.new ≡ S.types_of store.old }
-        ensures answers { let files = files_of (newest (S.state_of store.old)) self.now.fs.number in
+        ensures answers { let files = files_of (newest_block (S.state_of store.old)) self.now.fs.number in
             Does (S.types_of store.old) self.now.fs.number (if_idle (S.state_of store.old) self.now.fs.number (reclaimed files)) (reclaimed_stages files)
             (S.state_of store.old) (S.state_of store.new) (mapped (λ repairs. repair_at repairs.each) result) }
-        ensures inodes { let old = newest (S.state_of store.old) in let new = newest (S.state_of store.new) in let fs = self.now.fs.number in
+        ensures inodes { let old = newest_block (S.state_of store.old) in let new = newest_block (S.state_of store.new) in let fs = self.now.fs.number in
             (n : ℕ) → LeftByRepair old new fs n (needs (files_of old fs) n) }
         ensures keeps { IsVolume (S.types_of store.old) (S.state_of store.new) self.now }
     {
@@ -620,14 +620,14 @@ impl Volume {
         ensures ends { (T : Types) (array : ℕ → Option ℕ) → S.types_of store.old ≡ T → Stage T self.now.fs.number array (S.state_of store.old) →
             IsTrue (was_given (S.state_of store.old) after) →
             Ends T self.now.fs.number array (S.state_of store.new) result
-            (λ _. Unnamed (newest (S.state_of store.old)) (newest (S.state_of store.new)) self.now.fs.number slot)
+            (λ _. Unnamed (newest_block (S.state_of store.old)) (newest_block (S.state_of store.new)) self.now.fs.number slot)
             (StopsUnnaming T self.now.fs.number (S.state_of store.old) (S.state_of store.new) slot) }
         ensures waits { (T : Types) (array : ℕ → Option ℕ) (n e : ℕ) → S.types_of store.old ≡ T → Stage T self.now.fs.number array (S.state_of store.old) →
             IsTrue (was_given (S.state_of store.old) after) → n ≢ slot.inode → MayLose (S.state_of store.old) self.now.fs.number n e →
             OnOk result (MayLose (S.state_of store.new) self.now.fs.number n e) }
         ensures pairs { (T : Types) (array : ℕ → Option ℕ) (first : Lives) (to : Slot) (e : ℕ) → S.types_of store.old ≡ T →
             Stage T self.now.fs.number array (S.state_of store.old) → after ≡ Some e →
-            AreDirect (newest (S.state_of store.old)) self.now.fs.number (pair_of slot to) → is_at to slot ≡ false →
+            AreDirect (newest_block (S.state_of store.old)) self.now.fs.number (pair_of slot to) → is_at to slot ≡ false →
             StayNamed library_layout first (S.state_of store.old).lives (pair_of slot to) after →
             StayNamed library_layout first (S.state_of store.new).lives (pair_of slot to) after }
     {
@@ -699,10 +699,10 @@ impl Volume {
     ) -> Result<(), FfsFault>
         requires { IsVolume (S.types_of store.old) (S.state_of store.old) self.now }
         ensures types { S.types_of store.new ≡ S.types_of store.old }
-        ensures answers { let files = files_of (newest (S.state_of store.old)) self.now.fs.number in
+        ensures answers { let files = files_of (newest_block (S.state_of store.old)) self.now.fs.number in
             Does (S.types_of store.old) self.now.fs.number (renamed files directory name.now other new_name.now)
             (renamed_stages files directory name.now other new_name.now) (S.state_of store.old) (S.state_of store.new) result }
-        ensures inodes { let old = newest (S.state_of store.old) in let new = newest (S.state_of store.new) in let fs = self.now.fs.number in
+        ensures inodes { let old = newest_block (S.state_of store.old) in let new = newest_block (S.state_of store.new) in let fs = self.now.fs.number in
             (slot : Slot) → Ok slot ≡ rename_in old fs directory name.now other new_name.now → MovedInodes old new fs directory other slot.inode }
         ensures keeps { IsVolume (S.types_of store.old) (S.state_of store.new) self.now }
     {
@@ -725,8 +725,8 @@ impl Volume {
         ensures types { S.types_of store.new ≡ S.types_of store.old }
         ensures ends { (T : Types) (array : ℕ → Option ℕ) (own to : List ℕ) → S.types_of store.old ≡ T →
             Stage T self.now.fs.number array (S.state_of store.old) →
-            Ok own ≡ inode_in (newest (S.state_of store.old)) self.now.fs.number inode → inode_links own ≢ 65535 →
-            Ok to ≡ directory_in (newest (S.state_of store.old)) self.now.fs.number directory → has_room (newest (S.state_of store.old)) to ≡ true →
+            Ok own ≡ inode_in (newest_block (S.state_of store.old)) self.now.fs.number inode → inode_links own ≢ 65535 →
+            Ok to ≡ directory_in (newest_block (S.state_of store.old)) self.now.fs.number directory → has_room (newest_block (S.state_of store.old)) to ≡ true →
             Ends T self.now.fs.number array (S.state_of store.new) result
             (NamesAgain (S.state_of store.old) (S.state_of store.new) self.now.fs.number directory name.now inode)
             (StopsNaming T self.now.fs.number (S.state_of store.old) (S.state_of store.new) directory inode) }
@@ -743,10 +743,10 @@ impl Volume {
         directory: u16,
     ) -> Result<Vec<(Vec<u8>, u16)>, FfsFault>
         ensures value { IsLibrary (S.types_of store.now) → MatchResult result
-            (λ names. Ok (map (λ name. (name.0.items, name.1)) names.items) ≡ listed (files_of (newest (S.state_of store.now)) self.now.fs.number) directory)
+            (λ names. Ok (map (λ name. (name.0.items, name.1)) names.items) ≡ listed (files_of (newest_block (S.state_of store.now)) self.now.fs.number) directory)
             (λ fault. ((fault ≡ FfsFault.Kernel Refusal.NoMemory)
-            × IsOk (listed (files_of (newest (S.state_of store.now)) self.now.fs.number) directory))
-            ⊎ (Err fault ≡ listed (files_of (newest (S.state_of store.now)) self.now.fs.number) directory)) }
+            × IsOk (listed (files_of (newest_block (S.state_of store.now)) self.now.fs.number) directory))
+            ⊎ (Err fault ≡ listed (files_of (newest_block (S.state_of store.now)) self.now.fs.number) directory)) }
     {
         let found = find_directory(store, self.fs, directory)?;
         let mut names = Vec::new(alloc);

@@ -14,7 +14,7 @@ use Rattle.ffs_format.specs.Fields.{direct_in}
 use Rattle.ffs_lookup.specs.declared.fault.FfsFault.{FfsFault}
 use Rattle.ffs_lookup.specs.declared.places.Slot.{Slot}
 use Rattle.ffs_lookup.specs.declared.counts.NameCounts.{NameCounts}
-use Rattle.ffs_lookup.specs.Newest.{directory_in, entries_in, entries_of, entry_at, used_entry}
+use Rattle.ffs_lookup.specs.Newest.{directory_in, slots_in_block, slots_of, entry_at, used_entry}
 use Rattle.ffs_lookup.specs.Counts.{AreCounts, is_over, least, least_with, links_in, links_or_none, named, named_numbers, names_count, numbers_at, numbers_in, numbers_of, over_named}
 use Rattle.ffs_lookup.proofs.Newest.{bad_number, no_number}
 use Rattle.ffs_lookup.proofs.Walks.{entries_more, entries_past, first_entries, range_more}
@@ -169,35 +169,35 @@ module _ (content : ℕ → List ℕ) (inode : List ℕ) (n m : ℕ) (s : n + 1 
   pub directory_more : (b : ℕ) (bytes : List ℕ) → direct_in inode n ≡ b → b ≢ 0 → content b ≡ bytes → first_numbers content inode m ≡ first_numbers content inode n ++ numbers_in bytes
   directory_more b bytes e there are =
       ap numbers_of (entries_more content inode n m b s e there)
-      ∙ (map-append (λ (entry : Slot). entry.inode) (first_entries content inode n) (entries_in content b)
+      ∙ (map-append (λ (entry : Slot). entry.inode) (first_entries content inode n) (slots_in_block content b)
       ∙ ap (λ xs. first_numbers content inode n ++ xs) (entry_numbers content b (range_with_len 0 16) ∙ ap numbers_in are))
 
 -- A file system's, number after number
 
 abbrev pub numbers_below : (ℕ → List ℕ) → ℕ → ℕ → List ℕ
-numbers_below content fs k = numbers_of (flat_map (entries_of content) (filter_map (λ n. result_ok (directory_in content fs n)) (range_with_len 1 k)))
+numbers_below content fs k = numbers_of (flat_map (slots_of content) (filter_map (λ n. result_ok (directory_in content fs n)) (range_with_len 1 k)))
 
 module _ (content : ℕ → List ℕ) (fs n k : ℕ) (s : n + 1 ≡ k) where
-  below_more : numbers_below content fs k ≡ numbers_below content fs n ++ numbers_of (flat_map (entries_of content) (cons_option (result_ok (directory_in content fs k)) []))
+  below_more : numbers_below content fs k ≡ numbers_below content fs n ++ numbers_of (flat_map (slots_of content) (cons_option (result_ok (directory_in content fs k)) []))
   below_more =
       let e : k ≡ suc n = omega (arith, s) in
       let z : 1 + n ≡ k = omega (arith, s) in
       let f = λ (x : ℕ). result_ok (directory_in content fs x) in
       ap (numbers_below content fs) e
-      ∙ (ap (λ xs. numbers_of (flat_map (entries_of content) (filter_map f xs))) (range_more 1 n ∙ ap (λ x. range_with_len 1 n ++ x ∷ []) z)
-      ∙ (ap (λ xs. numbers_of (flat_map (entries_of content) xs)) (filter_map-append f (range_with_len 1 n) (k ∷ []))
-      ∙ (ap numbers_of (flat_map-append (entries_of content) (filter_map f (range_with_len 1 n)) (cons_option (f k) []))
-      ∙ map-append (λ (entry : Slot). entry.inode) (flat_map (entries_of content) (filter_map f (range_with_len 1 n))) (flat_map (entries_of content) (cons_option (f k) [])))))
+      ∙ (ap (λ xs. numbers_of (flat_map (slots_of content) (filter_map f xs))) (range_more 1 n ∙ ap (λ x. range_with_len 1 n ++ x ∷ []) z)
+      ∙ (ap (λ xs. numbers_of (flat_map (slots_of content) xs)) (filter_map-append f (range_with_len 1 n) (k ∷ []))
+      ∙ (ap numbers_of (flat_map-append (slots_of content) (filter_map f (range_with_len 1 n)) (cons_option (f k) []))
+      ∙ map-append (λ (entry : Slot). entry.inode) (flat_map (slots_of content) (filter_map f (range_with_len 1 n))) (flat_map (slots_of content) (cons_option (f k) [])))))
 
   pub no_directory : (fault : FfsFault) → Err fault ≡ directory_in content fs k → numbers_below content fs k ≡ numbers_below content fs n
   no_directory fault e =
-      below_more ∙ (ap (λ (r : Result (List ℕ) FfsFault). numbers_below content fs n ++ numbers_of (flat_map (entries_of content) (cons_option (result_ok r) []))) (sym e) ∙ append-nil (numbers_below content fs n))
+      below_more ∙ (ap (λ (r : Result (List ℕ) FfsFault). numbers_below content fs n ++ numbers_of (flat_map (slots_of content) (cons_option (result_ok r) []))) (sym e) ∙ append-nil (numbers_below content fs n))
 
-  pub a_directory : (inode : List ℕ) → Ok inode ≡ directory_in content fs k → numbers_below content fs k ≡ numbers_below content fs n ++ numbers_of (entries_of content inode)
+  pub a_directory : (inode : List ℕ) → Ok inode ≡ directory_in content fs k → numbers_below content fs k ≡ numbers_below content fs n ++ numbers_of (slots_of content inode)
   a_directory inode e =
       below_more
-      ∙ (ap (λ (r : Result (List ℕ) FfsFault). numbers_below content fs n ++ numbers_of (flat_map (entries_of content) (cons_option (result_ok r) []))) (sym e)
-      ∙ ap (λ xs. numbers_below content fs n ++ numbers_of xs) (append-nil (entries_of content inode)))
+      ∙ (ap (λ (r : Result (List ℕ) FfsFault). numbers_below content fs n ++ numbers_of (flat_map (slots_of content) (cons_option (result_ok r) []))) (sym e)
+      ∙ ap (λ xs. numbers_below content fs n ++ numbers_of xs) (append-nil (slots_of content inode)))
 
 -- Which inode has too few links
 

@@ -8,17 +8,17 @@ use Rattle.ffs_lookup.specs.declared.fault.FfsFault.{FfsFault}
 use Rattle.ffs_lookup.specs.declared.fault.FfsFault.TheVariants.{NoEntry}
 use Rattle.ffs_lookup.specs.declared.repairs.Repair.{Repair}
 use Rattle.ffs_lookup.specs.declared.repairs.Repair.TheVariants.{Keep, GiveUp, SetLinks}
-use Rattle.ffs_lookup.specs.Newest.{entries_of, inode_in}
+use Rattle.ffs_lookup.specs.Newest.{slots_of, inode_in}
 use Rattle.ffs_lookup.specs.Counts.{names_count}
 use Rattle.ffs_lookup.specs.Repairs.{is_bare_in, repair_at, repair_found, repair_in, repair_of}
 use Rattle.ffs_lookup.proofs.Newest.{bad_number, no_number}
 
 module _ (content : ℕ → List ℕ) (inode : List ℕ) where
-  pub bare_directory : inode_mode inode ≡ 2 → (length (entries_of content inode) == 0) ≡ is_bare_in content inode
-  bare_directory two = ap (λ (t : Bool). not t || (length (entries_of content inode) == 0)) (sym (eq-eqb (inode_mode inode) 2 two))
+  pub bare_directory : inode_mode inode ≡ 2 → (length (slots_of content inode) == 0) ≡ is_bare_in content inode
+  bare_directory two = ap (λ (t : Bool). not t || (length (slots_of content inode) == 0)) (sym (eq-eqb (inode_mode inode) 2 two))
 
   pub bare_file : inode_mode inode ≢ 2 → true ≡ is_bare_in content inode
-  bare_file ne = ap (λ (t : Bool). not t || (length (entries_of content inode) == 0)) (sym (ne_eqb (inode_mode inode) 2 ne))
+  bare_file ne = ap (λ (t : Bool). not t || (length (slots_of content inode) == 0)) (sym (ne_eqb (inode_mode inode) 2 ne))
 
   pub unnamed_repair : (count : ℕ) → count ≡ 0 → (bare : Bool) → bare ≡ is_bare_in content inode → (if bare then GiveUp else Keep) ≡ repair_of content count inode
   unnamed_repair count none bare is =

@@ -11,7 +11,7 @@ use Rattle.ffs_format.specs.Entries.{is_name}
 use Rattle.ffs_lookup.specs.declared.fault.FfsFault.{FfsFault}
 use Rattle.ffs_lookup.specs.declared.fault.FfsFault.TheVariants.{NoEntry, Exists, NotDir, IsDir, DirNotEmpty, BadName, TooLarge, NoInode}
 use Rattle.ffs_lookup.specs.Newest.{and_then, mapped}
-use Rattle.ffs_lookup.specs.Files.{Absent, Answer, AreSingle, Blocks, Directory, Entry, File, Files, Free, InodeValue, IsPlace, IsSingle, Unusable, block_at, both_directories, cleared, created, directories, directory_of, empty_volume, entry_at, entry_named, file_of, free_number, in_use, is_absent, is_bare, is_directory, is_named, is_same, less_a_link, links_of, look_up, made_at, made_in, moved, moved_in, new_directory, new_file, positions, positions_in, put_entry, removed, renamed, replaced, replaced_in, room, turned, unlinked, with_block, with_entry, with_entry_in, with_value, without_link, written, written_bytes, written_in}
+use Rattle.ffs_lookup.specs.Files.{Absent, Answer, AreSingle, Blocks, Directory, Entry, File, Files, Free, InodeValue, IsPlace, IsSingle, Unusable, directory_block, both_directories, cleared, created, directories, directory_of, empty_volume, entry_at, entry_named, file_of, free_number, in_use, is_absent, is_bare, is_directory, is_named, is_same, less_a_link, links_of, look_up, made_at, made_in, moved, moved_in, new_directory, new_file, positions, positions_in, put_entry, removed, renamed, replaced, replaced_in, room, turned, unlinked, with_block, with_entry, with_entry_in, with_value, without_link, written, written_bytes, written_in}
 use Rattle.ffs_lookup.proofs.Finds.{find_flat, find_map, first_of, first_within, found_holds, found_within}
 
 -- What an answer came from
@@ -53,13 +53,13 @@ none_replicated (suc n) (suc p) = none_replicated n p
 
 module _ (bs : Blocks) (at : ℕ × ℕ) (entry : Option Entry) where
   abbrev old_places : List (Option Entry)
-  old_places = unwrap_or (block_at bs at.0) (replicate 16 None)
+  old_places = unwrap_or (directory_block bs at.0) (replicate 16 None)
 
   abbrev new_places : List (Option Entry)
   new_places = slice_set old_places at.1 entry
 
   old_entry : (p : ℕ) (f : Entry) → slice_index_or old_places p None ≡ Some f → entry_at bs (at.0, p) ≡ Some f
-  old_entry p f = go (block_at bs at.0)
+  old_entry p f = go (directory_block bs at.0)
     where
       go : (o : Option (List (Option Entry))) → slice_index_or (unwrap_or o (replicate 16 None)) p None ≡ Some f → option_and_then (λ places. slice_index_or places p None) o ≡ Some f
       go None e = absurd (none-some f (sym (none_replicated 16 p) ∙ e))
@@ -149,10 +149,10 @@ module _ (bs : Blocks) (name : List ℕ) where
   none_named : is_some (look_up name bs) ≡ false → (x : ℕ × ℕ) (f : Entry) → IsPlace x → entry_at bs x ≡ Some f → f.0 ≡ name → ⊥
   none_named none x f at e same =
       let low = at.0 in
-      let all = sym (find_flat named_at (λ (i : ℕ). positions_in i (block_at bs i)) (range_with_len 0 12)) ∙ found_then (find named_at (positions bs)) refl none in
+      let all = sym (find_flat named_at (λ (i : ℕ). positions_in i (directory_block bs i)) (range_with_len 0 12)) ∙ found_then (find named_at (positions bs)) refl none in
       let z : x.0 ≡ 0 + x.0 = omega arith in
-      let all_in : (i : ℕ) → Option (ℕ × ℕ) = λ i. find named_at (positions_in i (block_at bs i)) in
-      block (block_at bs x.0) refl (ap all_in z ∙ none_first all_in 0 12 x.0 all low)
+      let all_in : (i : ℕ) → Option (ℕ × ℕ) = λ i. find named_at (positions_in i (directory_block bs i)) in
+      block (directory_block bs x.0) refl (ap all_in z ∙ none_first all_in 0 12 x.0 all low)
     where
       named : is_named name (entry_at bs x) ≡ true
       named = ap (is_named name) e ∙ (bytes_eq-Decides f.0 name).1 same
@@ -167,7 +167,7 @@ module _ (bs : Blocks) (name : List ℕ) where
           mapped_none None h = refl
           mapped_none (Some p) h = absurd (none-some (x.0, p) (sym h))
 
-      block : (o : Option (List (Option Entry))) → block_at bs x.0 ≡ o → find named_at (positions_in x.0 (block_at bs x.0)) ≡ None → ⊥
+      block : (o : Option (List (Option Entry))) → directory_block bs x.0 ≡ o → find named_at (positions_in x.0 (directory_block bs x.0)) ≡ None → ⊥
       block None is g = absurd (none-some f (sym (ap (option_and_then (λ (places : List (Option Entry)). slice_index_or places x.1 None)) is) ∙ e))
       block (Some ps) is g = places (sym (ap (λ o. find named_at (positions_in x.0 o)) is) ∙ g)
 
@@ -188,9 +188,9 @@ module _ (bs : Blocks) (name : List ℕ) where
 
       place : (at : ℕ × ℕ) → find named_at (positions bs) ≡ Some at → IsPlace at
       place at g =
-          let r = first_within (λ (i : ℕ). find named_at (positions_in i (block_at bs i))) 0 12 at (sym (find_flat named_at (λ (i : ℕ). positions_in i (block_at bs i)) (range_with_len 0 12)) ∙ g) in
+          let r = first_within (λ (i : ℕ). find named_at (positions_in i (directory_block bs i))) 0 12 at (sym (find_flat named_at (λ (i : ℕ). positions_in i (directory_block bs i)) (range_with_len 0 12)) ∙ g) in
           let low = r.1 in
-          of_block at r.0 (omega (arith, low)) (block_at bs r.0) r.2
+          of_block at r.0 (omega (arith, low)) (directory_block bs r.0) r.2
 
       there : (at : ℕ × ℕ) (o : Option Entry) → IsPlace at → entry_at bs at ≡ o → is_named name o ≡ true → with_place at o ≡ Some found → (f : Entry) × IsPlace found.0 × (entry_at bs found.0 ≡ Some f) × (f.0 ≡ name)
       there at None k is h g = absurd (cc h)

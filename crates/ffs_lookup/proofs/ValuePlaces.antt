@@ -13,8 +13,8 @@ use Rattle.ffs_format.specs.Fields.{direct_in}
 use Rattle.ffs_lookup.specs.declared.places.Slot.{Slot}
 use Rattle.ffs_lookup.specs.declared.places.Room.{Room}
 use Rattle.ffs_lookup.specs.declared.places.Room.TheVariants.{Entry as InBlock, Pointer}
-use Rattle.ffs_lookup.specs.Newest.{entries_in, entry_at as slot_in, first_named, has_gap, has_name, has_room, name_at, name_of_place, names_of, room_from, room_in, used_entry}
-use Rattle.ffs_lookup.specs.Files.{Blocks, Entry, block_at, entry_at, is_named, look_up, positions, positions_in, put_entry, room}
+use Rattle.ffs_lookup.specs.Newest.{slots_in_block, entry_at as slot_in, first_named, has_gap, has_name, has_room, name_at, name_of_place, names_of, room_from, room_in, used_entry}
+use Rattle.ffs_lookup.specs.Files.{Blocks, Entry, directory_block, entry_at, is_named, look_up, positions, positions_in, put_entry, room}
 use Rattle.ffs_lookup.specs.FileValues.{block_value, blocks_value}
 use Rattle.ffs_lookup.proofs.Finds.{filter_map_flat, filter_map_map, filter_map_on, map_flat, map_on, any_is_found, find_flat, find_map, find_on, find_pointed, first_found, first_map, first_of, first_on, flat_map_on, flat_pointed, first_within, found_holds, found_within, is_some_mapped, map_twice}
 use Rattle.ffs_lookup.proofs.Walks.{found_in, is_named as is_named_at}
@@ -42,7 +42,7 @@ module _ (content : ℕ → List ℕ) (inode : List ℕ) where
   word = direct_in inode
 
   -- the block at an index, and the entry at a place of it
-  pub block_here : (i : ℕ) → i < 12 → block_at blocks i ≡ block_value content (word i)
+  pub block_here : (i : ℕ) → i < 12 → directory_block blocks i ≡ block_value content (word i)
   block_here i lt = get_or-map-range_with_len (λ index. block_value content (direct_in inode index)) 0 12 i i None lt (omega arith)
 
   pub entry_here : (i p : ℕ) → i < 12 → p < 16 → entry_at blocks (i, p) ≡ (if word i == 0 then None else name_of_place (content (word i)) p)
@@ -54,7 +54,7 @@ module _ (content : ℕ → List ℕ) (inode : List ℕ) where
       go false = get_or-map-range_with_len (name_of_place (content (word i))) 0 16 p p None lt' (omega arith)
 
   positions_are : positions blocks ≡ flat_map (λ i. positions_in i (block_value content (word i))) (range_with_len 0 12)
-  positions_are = flat_map_on (λ i. positions_in i (block_at blocks i)) (λ i. positions_in i (block_value content (word i))) 0 12 (λ i low high. ap (positions_in i) (block_here i (omega (arith, high))))
+  positions_are = flat_map_on (λ i. positions_in i (directory_block blocks i)) (λ i. positions_in i (block_value content (word i))) 0 12 (λ i low high. ap (positions_in i) (block_here i (omega (arith, high))))
 
   -- the first place whose entry, or none, passes a test
   module _ (test : Option Entry → Bool) where
@@ -93,15 +93,15 @@ module _ (content : ℕ → List ℕ) (inode : List ℕ) where
 
     pub first_is : first_named content inode name ≡ option_map slot_of (find (λ at. is_named name (entry_at blocks at)) (positions blocks))
     first_is =
-        ap (find (has_name content name)) (flat_pointed (entries_in content) word (range_with_len 0 12))
-        ∙ (find_flat (has_name content name) (λ i. if word i == 0 then [] else entries_in content (word i)) (range_with_len 0 12)
-        ∙ (first_on (λ i. find (has_name content name) (if word i == 0 then [] else entries_in content (word i))) (λ i. option_map slot_of (found_at (is_named name) i)) 0 12 (λ i low high. one i)
+        ap (find (has_name content name)) (flat_pointed (slots_in_block content) word (range_with_len 0 12))
+        ∙ (find_flat (has_name content name) (λ i. if word i == 0 then [] else slots_in_block content (word i)) (range_with_len 0 12)
+        ∙ (first_on (λ i. find (has_name content name) (if word i == 0 then [] else slots_in_block content (word i))) (λ i. option_map slot_of (found_at (is_named name) i)) 0 12 (λ i low high. one i)
         ∙ (sym (first_map slot_of (found_at (is_named name)) (range_with_len 0 12)) ∙ ap (option_map slot_of) (sym (find_value (is_named name))))))
       where
-        one : (i : ℕ) → find (has_name content name) (if word i == 0 then [] else entries_in content (word i)) ≡ option_map slot_of (found_at (is_named name) i)
+        one : (i : ℕ) → find (has_name content name) (if word i == 0 then [] else slots_in_block content (word i)) ≡ option_map slot_of (found_at (is_named name) i)
         one i = go (word i == 0)
           where
-            go : (t : Bool) → find (has_name content name) (if t then [] else entries_in content (word i))
+            go : (t : Bool) → find (has_name content name) (if t then [] else slots_in_block content (word i))
                 ≡ option_map slot_of (if t then None else option_map (λ p. (i, p)) (find (λ p. is_named name (name_of_place (content (word i)) p)) (range_with_len 0 16)))
             go true = refl
             go false =
@@ -214,8 +214,8 @@ module _ (content : ℕ → List ℕ) (inode : List ℕ) where
   abbrev pub room_of : ℕ × ℕ → Room
   room_of at = if word at.0 == 0 then Pointer at.0 else InBlock (word at.0) at.1
 
-  missing_is : find (λ i. not (is_some (block_at blocks i))) (range_with_len 0 12) ≡ find (λ i. word i == 0) (range_with_len 0 12)
-  missing_is = find_on (λ i. not (is_some (block_at blocks i))) (λ i. word i == 0) 0 12 (λ i low high. ap (λ b. not (is_some b)) (block_here i (omega (arith, high))) ∙ go i (word i == 0))
+  missing_is : find (λ i. not (is_some (directory_block blocks i))) (range_with_len 0 12) ≡ find (λ i. word i == 0) (range_with_len 0 12)
+  missing_is = find_on (λ i. not (is_some (directory_block blocks i))) (λ i. word i == 0) 0 12 (λ i low high. ap (λ b. not (is_some b)) (block_here i (omega (arith, high))) ∙ go i (word i == 0))
     where
       go : (i : ℕ) (t : Bool) → not (is_some (if t then None else Some (map (name_of_place (content (word i))) (range_with_len 0 16)))) ≡ t
       go i true = refl
@@ -275,7 +275,7 @@ module _ (content : ℕ → List ℕ) (inode : List ℕ) where
 
   -- where there is room is a place, the first one of a block that is not there yet
   pub room_known : (at : ℕ × ℕ) → Some at ≡ room blocks → (at.0 < 12) × (at.1 < 16) × (word at.0 ≡ 0 → at.1 ≡ 0)
-  room_known at e = go (find gap_at (range_with_len 0 12)) refl (e ∙ (ap (λ o. option_or o (option_map (λ i. (i, 0)) (find (λ i. not (is_some (block_at blocks i))) (range_with_len 0 12)))) free_is
+  room_known at e = go (find gap_at (range_with_len 0 12)) refl (e ∙ (ap (λ o. option_or o (option_map (λ i. (i, 0)) (find (λ i. not (is_some (directory_block blocks i))) (range_with_len 0 12)))) free_is
       ∙ ap (λ o. option_or (option_and_then (found_at is_gap) (find gap_at (range_with_len 0 12))) (option_map (λ i. (i, 0)) o)) missing_is))
     where
       first : (i : ℕ) → missing ≡ Some i → Some at ≡ Some (i, 0) → (at.0 < 12) × (at.1 < 16) × (word at.0 ≡ 0 → at.1 ≡ 0)
@@ -324,15 +324,15 @@ module _ (content : ℕ → List ℕ) (inode : List ℕ) where
   -- the names of a directory are those of its value
   pub listed_is : names_of content inode ≡ filter_map (entry_at (blocks content inode)) (positions (blocks content inode))
   listed_is =
-      ap (map (λ (entry : Slot). (name_at content entry, entry.inode))) (flat_pointed (entries_in content) (word content inode) (range_with_len 0 12))
-      ∙ (map_flat (λ (entry : Slot). (name_at content entry, entry.inode)) (λ i. if word content inode i == 0 then [] else entries_in content (word content inode i)) (range_with_len 0 12)
-      ∙ (flat_map_on (λ i. map (λ (entry : Slot). (name_at content entry, entry.inode)) (if word content inode i == 0 then [] else entries_in content (word content inode i)))
+      ap (map (λ (entry : Slot). (name_at content entry, entry.inode))) (flat_pointed (slots_in_block content) (word content inode) (range_with_len 0 12))
+      ∙ (map_flat (λ (entry : Slot). (name_at content entry, entry.inode)) (λ i. if word content inode i == 0 then [] else slots_in_block content (word content inode i)) (range_with_len 0 12)
+      ∙ (flat_map_on (λ i. map (λ (entry : Slot). (name_at content entry, entry.inode)) (if word content inode i == 0 then [] else slots_in_block content (word content inode i)))
       (λ i. filter_map (entry_at (blocks content inode)) (positions_in i (block_value content (word content inode i)))) 0 12 (λ i low high. one i (omega (arith, high)) (word content inode i == 0) refl)
       ∙ (sym (filter_map_flat (entry_at (blocks content inode)) (λ i. positions_in i (block_value content (word content inode i))) (range_with_len 0 12))
       ∙ ap (filter_map (entry_at (blocks content inode))) (sym (positions_are content inode)))))
     where
       one : (i : ℕ) → i < 12 → (t : Bool) → (word content inode i == 0) ≡ t →
-          map (λ (entry : Slot). (name_at content entry, entry.inode)) (if t then [] else entries_in content (word content inode i))
+          map (λ (entry : Slot). (name_at content entry, entry.inode)) (if t then [] else slots_in_block content (word content inode i))
           ≡ filter_map (entry_at (blocks content inode)) (positions_in i (if t then None else Some (map (name_of_place (content (word content inode i))) (range_with_len 0 16))))
       one i lt true e = refl
       one i lt false e =
@@ -365,7 +365,7 @@ module _ (v w : ℕ → List ℕ) (inode after : List ℕ) (k place : ℕ) (low 
       go false = refl
 
   abbrev new_places : List (Option Entry)
-  new_places = slice_set (unwrap_or (block_at (blocks_value v inode) k) (replicate 16 None)) place entry
+  new_places = slice_set (unwrap_or (directory_block (blocks_value v inode) k) (replicate 16 None)) place entry
 
   -- The blocks of a directory whose entry at one place is another one, in a block that may be new.
   pub put_is : ((i : ℕ) → i < 12 → i ≢ k → direct_in after i ≡ direct_in inode i) → direct_in after k ≢ 0 →

@@ -14,7 +14,7 @@ use Rattle.ffs_model.specs.Library.{half_at, inode_blocks, pointed}
 use Rattle.ffs_format.specs.Entries.{name_in}
 use Rattle.ffs_format.specs.Fields.{direct_in}
 use Rattle.ffs_lookup.specs.declared.places.Slot.{Slot}
-use Rattle.ffs_lookup.specs.Newest.{entries_in, entries_of, entry_at, first_named, has_name, name_at, name_of_place, names_at, names_in, names_of, named_in, entry_named, and_then, directory_in, mapped, used_entry}
+use Rattle.ffs_lookup.specs.Newest.{slots_in_block, slots_of, entry_at, first_named, has_name, name_at, name_of_place, names_at, names_in, names_of, named_in, entry_named, and_then, directory_in, mapped, used_entry}
 use Rattle.ffs_lookup.specs.declared.fault.FfsFault.TheVariants.{BadName, NoEntry}
 use Rattle.ffs_format.specs.Entries.{is_name}
 use Rattle.ffs_lookup.specs.declared.fault.FfsFault.{FfsFault}
@@ -81,31 +81,31 @@ module _ (inode : List ℕ) where
 
 module _ (content : ℕ → List ℕ) (inode : List ℕ) where
   abbrev pub first_entries : ℕ → List Slot
-  first_entries n = flat_map (entries_in content) (first_blocks inode n)
+  first_entries n = flat_map (slots_in_block content) (first_blocks inode n)
 
   pub entries_past : (n m : ℕ) → n + 1 ≡ m → direct_in inode n ≡ 0 → first_entries m ≡ first_entries n
-  entries_past n m s e = ap first_entries (sym s ∙ add-one n) ∙ (ap (flat_map (entries_in content)) (blocks_more inode n ∙ ap (λ xs. first_blocks inode n ++ xs) (no_block inode n e))
-      ∙ (flat_map-append (entries_in content) (first_blocks inode n) [] ∙ append_none (first_entries n)))
+  entries_past n m s e = ap first_entries (sym s ∙ add-one n) ∙ (ap (flat_map (slots_in_block content)) (blocks_more inode n ∙ ap (λ xs. first_blocks inode n ++ xs) (no_block inode n e))
+      ∙ (flat_map-append (slots_in_block content) (first_blocks inode n) [] ∙ append_none (first_entries n)))
     where
       append_none : (xs : List Slot) → xs ++ [] ≡ xs
       append_none [] = refl
       append_none (x ∷ xs) = ap (λ ys. x ∷ ys) (append_none xs)
 
-  pub entries_more : (n m b : ℕ) → n + 1 ≡ m → direct_in inode n ≡ b → b ≢ 0 → first_entries m ≡ first_entries n ++ entries_in content b
-  entries_more n m b s e ne = ap first_entries (sym s ∙ add-one n) ∙ (ap (flat_map (entries_in content)) (blocks_more inode n ∙ ap (λ xs. first_blocks inode n ++ xs) (one_block inode n b e ne))
-      ∙ (flat_map-append (entries_in content) (first_blocks inode n) (b ∷ []) ∙ ap (λ xs. first_entries n ++ xs) (append_none (entries_in content b))))
+  pub entries_more : (n m b : ℕ) → n + 1 ≡ m → direct_in inode n ≡ b → b ≢ 0 → first_entries m ≡ first_entries n ++ slots_in_block content b
+  entries_more n m b s e ne = ap first_entries (sym s ∙ add-one n) ∙ (ap (flat_map (slots_in_block content)) (blocks_more inode n ∙ ap (λ xs. first_blocks inode n ++ xs) (one_block inode n b e ne))
+      ∙ (flat_map-append (slots_in_block content) (first_blocks inode n) (b ∷ []) ∙ ap (λ xs. first_entries n ++ xs) (append_none (slots_in_block content b))))
     where
       append_none : (xs : List Slot) → xs ++ [] ≡ xs
       append_none [] = refl
       append_none (x ∷ xs) = ap (λ ys. x ∷ ys) (append_none xs)
 
   -- the rest of all entries
-  pub entries_front : (n : ℕ) → n ≤ 12 → (rest : List Slot) × (entries_of content inode ≡ first_entries n ++ rest)
+  pub entries_front : (n : ℕ) → n ≤ 12 → (rest : List Slot) × (slots_of content inode ≡ first_entries n ++ rest)
   entries_front n few =
       let r = front inode n (12 - n) in
       let e : 12 ≡ 12 - n + n = omega arith in (
-        flat_map (entries_in content) r.0,
-        ap first_entries e ∙ (ap (flat_map (entries_in content)) r.1 ∙ flat_map-append (entries_in content) (first_blocks inode n) r.0),
+        flat_map (slots_in_block content) r.0,
+        ap first_entries e ∙ (ap (flat_map (slots_in_block content)) r.1 ∙ flat_map-append (slots_in_block content) (first_blocks inode n) r.0),
       )
 
 -- Names in a block
@@ -129,7 +129,7 @@ find_places content name b (x ∷ xs) =
 
 -- the first entry with a name in a block, by what was found among its bytes
 pub found_in : (content : ℕ → List ℕ) (name : List ℕ) (b : ℕ) (m : List ℕ) (r : Option ℕ) → content b ≡ m → r ≡ find (is_named m name) (range_with_len 0 16) →
-    find (has_name content name) (entries_in content b) ≡ option_map (entry_at content b) r
+    find (has_name content name) (slots_in_block content b) ≡ option_map (entry_at content b) r
 found_in content name b m r are e =
     find_places content name b (range_with_len 0 16) ∙ ap (option_map (entry_at content b)) (ap (λ x. find (is_named x name) (range_with_len 0 16)) are ∙ sym e)
 
@@ -140,9 +140,9 @@ module _ (content : ℕ → List ℕ) (inode name : List ℕ) (n m : ℕ) (s : n
   none_past e = ap (find (has_name content name)) (entries_past content inode n m s e) ∙ none
 
   module _ (b : ℕ) (bytes : List ℕ) (e : direct_in inode n ≡ b) (there : b ≢ 0) (are : content b ≡ bytes) where
-    more : find (has_name content name) (first_entries content inode m) ≡ find (has_name content name) (entries_in content b)
-    more = ap (find (has_name content name)) (entries_more content inode n m b s e there) ∙ (find-append (has_name content name) (first_entries content inode n) (entries_in content b)
-        ∙ ap (λ (o : Option Slot). option_or o (find (has_name content name) (entries_in content b))) none)
+    more : find (has_name content name) (first_entries content inode m) ≡ find (has_name content name) (slots_in_block content b)
+    more = ap (find (has_name content name)) (entries_more content inode n m b s e there) ∙ (find-append (has_name content name) (first_entries content inode n) (slots_in_block content b)
+        ∙ ap (λ (o : Option Slot). option_or o (find (has_name content name) (slots_in_block content b))) none)
 
     pub none_more : None ≡ find (is_named bytes name) (range_with_len 0 16) → find (has_name content name) (first_entries content inode m) ≡ None
     none_more h = more ∙ found_in content name b bytes None are h
@@ -191,18 +191,18 @@ module _ (content : ℕ → List ℕ) (inode : List ℕ) (n m : ℕ) (s : n + 1 
     pub empty_more : list_any (is_used bytes) (range_with_len 0 16) ≡ false → first_entries content inode m ≡ []
     empty_more h =
         entries_more content inode n m b s e there
-        ∙ (ap (λ xs. xs ++ entries_in content b) none ∙ none_places content b (range_with_len 0 16) (ap (λ x. list_any (is_used x) (range_with_len 0 16)) are ∙ h))
+        ∙ (ap (λ xs. xs ++ slots_in_block content b) none ∙ none_places content b (range_with_len 0 16) (ap (λ x. list_any (is_used x) (range_with_len 0 16)) are ∙ h))
 
-    pub not_empty : m ≤ 12 → list_any (is_used bytes) (range_with_len 0 16) ≡ true → false ≡ (length (entries_of content inode) == 0)
+    pub not_empty : m ≤ 12 → list_any (is_used bytes) (range_with_len 0 16) ≡ true → false ≡ (length (slots_of content inode) == 0)
     not_empty few h =
         let rest = entries_front content inode m few in
         let some = some_places content b (range_with_len 0 16) (ap (λ x. list_any (is_used x) (range_with_len 0 16)) are ∙ h) in
-        let long : length (entries_of content inode) ≡ length (entries_in content b) + length rest.0 =
-        ap length (rest.1 ∙ ap (λ xs. xs ++ rest.0) (entries_more content inode n m b s e there ∙ ap (λ xs. xs ++ entries_in content b) none)) ∙ length-append (entries_in content b) rest.0 in
-        sym (ne_eqb (length (entries_of content inode)) 0 (λ z. some (omega (arith, long, z))))
+        let long : length (slots_of content inode) ≡ length (slots_in_block content b) + length rest.0 =
+        ap length (rest.1 ∙ ap (λ xs. xs ++ rest.0) (entries_more content inode n m b s e there ∙ ap (λ xs. xs ++ slots_in_block content b) none)) ∙ length-append (slots_in_block content b) rest.0 in
+        sym (ne_eqb (length (slots_of content inode)) 0 (λ z. some (omega (arith, long, z))))
 
-pub empty_all : (content : ℕ → List ℕ) (inode : List ℕ) (n : ℕ) → n ≡ 12 → first_entries content inode n ≡ [] → true ≡ (length (entries_of content inode) == 0)
-empty_all content inode n all none = sym (eq-eqb (length (entries_of content inode)) 0 (ap length (ap (first_entries content inode) (sym all) ∙ none)))
+pub empty_all : (content : ℕ → List ℕ) (inode : List ℕ) (n : ℕ) → n ≡ 12 → first_entries content inode n ≡ [] → true ≡ (length (slots_of content inode) == 0)
+empty_all content inode n all none = sym (eq-eqb (length (slots_of content inode)) 0 (ap length (ap (first_entries content inode) (sym all) ∙ none)))
 
 -- Names with what they name
 
@@ -230,7 +230,7 @@ module _ (content : ℕ → List ℕ) (inode : List ℕ) (n m : ℕ) (s : n + 1 
   pub names_more : (b : ℕ) (bytes : List ℕ) → direct_in inode n ≡ b → b ≢ 0 → content b ≡ bytes → first_names content inode n ++ names_at bytes (range_with_len 0 16) ≡ first_names content inode m
   names_more b bytes e there are = sym (
       ap (map (λ (e : Slot). (name_at content e, e.inode))) (entries_more content inode n m b s e there)
-      ∙ (map-append (λ (e : Slot). (name_at content e, e.inode)) (first_entries content inode n) (entries_in content b)
+      ∙ (map-append (λ (e : Slot). (name_at content e, e.inode)) (first_entries content inode n) (slots_in_block content b)
       ∙ ap (λ xs. first_names content inode n ++ xs) (plain_places content b (range_with_len 0 16) ∙ ap (λ x. names_at x (range_with_len 0 16)) are))
       )
 

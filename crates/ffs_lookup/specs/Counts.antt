@@ -1,5 +1,5 @@
 -- How many entries of a file system's directories name an inode, and whether it has links for them.
---     directories_in             the inodes of its directories, by number
+--     directory_inodes_in             the inodes of its directories, by number
 --     all_entries                their entries
 --     numbers_of, named_numbers  the inodes that some entries name; that all of them name
 --     names_count, links_in      how many entries name an inode; the links that it has, 0 where none is in use
@@ -18,13 +18,13 @@ use Rattle.ffs_lookup.specs.declared.fault.FfsFault.{FfsFault}
 use Rattle.ffs_lookup.specs.declared.fault.FfsFault.TheVariants.{Unsound, Pending}
 use Rattle.ffs_lookup.specs.declared.places.Slot.{Slot}
 use Rattle.ffs_lookup.specs.declared.counts.NameCounts.{NameCounts}
-use Rattle.ffs_lookup.specs.Newest.{and_then, directory_in, entries_of, inode_block_in, inode_in, make_in}
+use Rattle.ffs_lookup.specs.Newest.{and_then, directory_in, slots_of, inode_block_in, inode_in, make_in}
 
-abbrev pub directories_in : (ℕ → List ℕ) → ℕ → List (List ℕ)
-directories_in content fs = filter_map (λ n. result_ok (directory_in content fs n)) (range_with_len 1 128)
+abbrev pub directory_inodes_in : (ℕ → List ℕ) → ℕ → List (List ℕ)
+directory_inodes_in content fs = filter_map (λ n. result_ok (directory_in content fs n)) (range_with_len 1 128)
 
 abbrev pub all_entries : (ℕ → List ℕ) → ℕ → List Slot
-all_entries content fs = flat_map (entries_of content) (directories_in content fs)
+all_entries content fs = flat_map (slots_of content) (directory_inodes_in content fs)
 
 abbrev pub numbers_of : List Slot → List ℕ
 numbers_of entries = map (λ entry. entry.inode) entries

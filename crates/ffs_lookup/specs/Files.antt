@@ -1,9 +1,9 @@
 -- The files of a volume as a value, and each call as a function of it. An inode has a number from 1 to 128, and eight stand in a block of inodes. A
 -- directory has up to 12 blocks, at the indices 0 to 11, each of 16 places for entries. Faults come in the order of the tests.
 --     Entry, Blocks, InodeValue, Files            an entry; the blocks of a directory; what an inode is; what each one is, by its number
---     told                                        the fault of a look-up
+--     fault_told                                        the fault of a look-up
 --     in_use, directory_of, file_of               an inode in use; the links and the blocks of a directory; the links and the bytes of a file
---     block_at, positions, entry_at               a block of a directory; the places of all blocks, in order; the entry at one
+--     directory_block, positions, entry_at               a block of a directory; the places of all blocks, in order; the entry at one
 --     look_up, room                               where the first entry with a name stands, and what it names; where an entry more goes
 --     free_number                                 the inode that is taken for a new file or directory
 --     with_value, with_entry, with_block, without_link    the files with one changed: another value; an entry put or cleared; a new block of inodes;
@@ -49,8 +49,8 @@ abbrev pub Answer : Type 0 → Type 0
 Answer A = Result (A × (ℕ → InodeValue)) FfsFault
 
 -- the fault of a look-up, if there is one
-abbrev pub told : {A : Type 0} → Result A FfsFault → Result (Unit {0}) FfsFault
-told r = mapped (λ x. tt) r
+abbrev pub fault_told : {A : Type 0} → Result A FfsFault → Result (Unit {0}) FfsFault
+fault_told r = mapped (λ x. tt) r
 
 -- What is found
 
@@ -88,8 +88,8 @@ is_absent other = false
 
 -- Places of a directory: the index of a block, and the place in it
 
-abbrev pub block_at : Blocks → ℕ → Option (List (Option Entry))
-block_at blocks index = slice_index_or blocks index None
+abbrev pub directory_block : Blocks → ℕ → Option (List (Option Entry))
+directory_block blocks index = slice_index_or blocks index None
 
 abbrev pub positions_in : ℕ → Option (List (Option Entry)) → List (ℕ × ℕ)
 positions_in index None = []
@@ -97,10 +97,10 @@ positions_in index (Some places) = map (λ place. (index, place)) (range_with_le
 
 -- block after block
 abbrev pub positions : Blocks → List (ℕ × ℕ)
-positions blocks = flat_map (λ index. positions_in index (block_at blocks index)) (range_with_len 0 12)
+positions blocks = flat_map (λ index. positions_in index (directory_block blocks index)) (range_with_len 0 12)
 
 abbrev pub entry_at : Blocks → ℕ × ℕ → Option Entry
-entry_at blocks at = option_and_then (λ places. slice_index_or places at.1 None) (block_at blocks at.0)
+entry_at blocks at = option_and_then (λ places. slice_index_or places at.1 None) (directory_block blocks at.0)
 
 abbrev pub is_named : List ℕ → Option Entry → Bool
 is_named name None = false
@@ -116,11 +116,11 @@ look_up name blocks =
 abbrev pub room : Blocks → Option (ℕ × ℕ)
 room blocks =
     option_or (find (λ at. not (is_some (entry_at blocks at))) (positions blocks))
-    (option_map (λ index. (index, 0)) (find (λ index. not (is_some (block_at blocks index))) (range_with_len 0 12)))
+    (option_map (λ index. (index, 0)) (find (λ index. not (is_some (directory_block blocks index))) (range_with_len 0 12)))
 
 -- with an entry, or none, at a place, in a new block of free places where there was none
 abbrev pub put_entry : Blocks → ℕ × ℕ → Option Entry → Blocks
-put_entry blocks at entry = slice_set blocks at.0 (Some (slice_set (unwrap_or (block_at blocks at.0) (replicate 16 None)) at.1 entry))
+put_entry blocks at entry = slice_set blocks at.0 (Some (slice_set (unwrap_or (directory_block blocks at.0) (replicate 16 None)) at.1 entry))
 
 -- The lowest free inode, or else the lowest of those that are in no block of inodes yet.
 abbrev pub free_number : Files → Option ℕ

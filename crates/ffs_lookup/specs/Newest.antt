@@ -2,7 +2,7 @@
 -- tests.
 --     root_in, inode_block_in                     the root block; the block of inodes at an index
 --     inode_in, directory_in, file_in             the 64 bytes of the inode in use with a number; of a directory; of a file
---     entries_in, entries_of                      the entries of a block, by place; of a directory, block after block as its inode has them
+--     slots_in_block, slots_of                      the entries of a block, by place; of a directory, block after block as its inode has them
 --     name_at, first_named, named_in              an entry's name; the first entry with a name, as `None` or as a fault where there is none
 --     listing, without_entry                      the entries of a directory with their names; without one of them
 --     names_of, names_in                          the names of a directory and the inodes that they name
@@ -85,12 +85,12 @@ entry_at content block place = record { block = block; place = place; inode = ha
 abbrev pub used_entry : Slot → Option Slot
 used_entry entry = if entry.inode == 0 then None else Some entry
 
-abbrev pub entries_in : (ℕ → List ℕ) → ℕ → List Slot
-entries_in content block = filter_map (λ place. used_entry (entry_at content block place)) (range_with_len 0 16)
+abbrev pub slots_in_block : (ℕ → List ℕ) → ℕ → List Slot
+slots_in_block content block = filter_map (λ place. used_entry (entry_at content block place)) (range_with_len 0 16)
 
 -- of the directory with this inode
-abbrev pub entries_of : (ℕ → List ℕ) → List ℕ → List Slot
-entries_of content inode = flat_map (entries_in content) (inode_blocks inode)
+abbrev pub slots_of : (ℕ → List ℕ) → List ℕ → List Slot
+slots_of content inode = flat_map (slots_in_block content) (inode_blocks inode)
 
 abbrev pub name_at : (ℕ → List ℕ) → Slot → List ℕ
 name_at content entry = name_in (content entry.block) (32 * entry.place)
@@ -99,7 +99,7 @@ abbrev pub has_name : (ℕ → List ℕ) → List ℕ → Slot → Bool
 has_name content name entry = bytes_eq (name_at content entry) name
 
 abbrev pub first_named : (ℕ → List ℕ) → List ℕ → List ℕ → Option Slot
-first_named content inode name = find (has_name content name) (entries_of content inode)
+first_named content inode name = find (has_name content name) (slots_of content inode)
 
 abbrev pub entry_named : (ℕ → List ℕ) → List ℕ → List ℕ → Result Slot FfsFault
 entry_named content name inode = if is_name name then ok_or (first_named content inode name) NoEntry else Err BadName
@@ -110,7 +110,7 @@ named_in content fs n name = and_then (directory_in content fs n) (entry_named c
 
 -- each name with the inode that it names
 abbrev pub names_of : (ℕ → List ℕ) → List ℕ → List (List ℕ × ℕ)
-names_of content inode = map (λ entry. (name_at content entry, entry.inode)) (entries_of content inode)
+names_of content inode = map (λ entry. (name_at content entry, entry.inode)) (slots_of content inode)
 
 -- the same of one block's bytes, of the entries at these places
 abbrev pub name_of_place : List ℕ → ℕ → Option (List ℕ × ℕ)
@@ -124,7 +124,7 @@ names_in content fs n = mapped (names_of content) (directory_in content fs n)
 
 -- each entry with its name
 abbrev pub listing : (ℕ → List ℕ) → List ℕ → List (Slot × List ℕ)
-listing content inode = map (λ entry. (entry, name_at content entry)) (entries_of content inode)
+listing content inode = map (λ entry. (entry, name_at content entry)) (slots_of content inode)
 
 abbrev pub is_at : Slot → Slot → Bool
 is_at entry other = (other.block == entry.block) && (other.place == entry.place)
@@ -186,7 +186,7 @@ unfoldable pub unlink_in : (ℕ → List ℕ) → ℕ → ℕ → List ℕ → R
 unlink_in content fs n name = and_then (named_in content fs n name) (λ entry. mapped (λ inode. entry) (file_in content fs entry.inode))
 
 abbrev pub if_empty : (ℕ → List ℕ) → Slot → List ℕ → Result Slot FfsFault
-if_empty content entry inode = if length (entries_of content inode) == 0 then Ok entry else Err DirNotEmpty
+if_empty content entry inode = if length (slots_of content inode) == 0 then Ok entry else Err DirNotEmpty
 
 unfoldable pub rmdir_in : (ℕ → List ℕ) → ℕ → ℕ → List ℕ → Result Slot FfsFault
 rmdir_in content fs n name = and_then (named_in content fs n name) (λ entry. and_then (directory_in content fs entry.inode) (if_empty content entry))

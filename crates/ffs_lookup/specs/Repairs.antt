@@ -10,11 +10,11 @@ use Rattle.ffs_model.specs.Library.{inode_links, inode_mode}
 use Rattle.ffs_lookup.specs.declared.fault.FfsFault.{FfsFault}
 use Rattle.ffs_lookup.specs.declared.repairs.Repair.{Repair}
 use Rattle.ffs_lookup.specs.declared.repairs.Repair.TheVariants.{Keep, GiveUp, SetLinks}
-use Rattle.ffs_lookup.specs.Newest.{entries_of, inode_in}
+use Rattle.ffs_lookup.specs.Newest.{slots_of, inode_in}
 use Rattle.ffs_lookup.specs.Counts.{if_idle, names_count}
 
 abbrev pub is_bare_in : (ℕ → List ℕ) → List ℕ → Bool
-is_bare_in content inode = not (inode_mode inode == 2) || (length (entries_of content inode) == 0)
+is_bare_in content inode = not (inode_mode inode == 2) || (length (slots_of content inode) == 0)
 
 -- of one in use: without names it is given up, unless it is a directory with entries; it has no more links than names
 abbrev pub repair_of : (ℕ → List ℕ) → ℕ → List ℕ → Repair

@@ -4,7 +4,7 @@ ghost use Rattle.std.specs.Prelude.{◌≡◌, ◌≤◌, ◌-◌, ◌++◌, ℕ
 ghost use Rattle.xn_model.specs.Rules.{IsConsistent};
 ghost use Rattle.ffs_model.specs.Cuts.{latest};
 ghost use Rattle.ffs_model.specs.Library.{IsLibrary};
-ghost use Rattle.ffs_lookup.specs.Newest.{entries_of};
+ghost use Rattle.ffs_lookup.specs.Newest.{slots_of};
 ghost use Rattle.ffs_lookup.specs.Counts.{AreCounts, least_with, links_in, named, named_numbers, numbers_in, numbers_of, open_in, over_named};
 ghost use Rattle.ffs_lookup.specs.Places.{IsDirectory};
 
@@ -80,7 +80,7 @@ impl NameCounts {
         requires { IsDirectory (S.state_of store.now) fs.number number directory.now }
         ensures done { IsLibrary (S.types_of store.now) → IsOk result }
         ensures counts { OnOk result ((numbers : List ℕ) → AreCounts numbers self.old →
-            AreCounts (numbers ++ numbers_of (entries_of (latest (S.state_of store.now).lives) directory.now.inode)) self.new) }
+            AreCounts (numbers ++ numbers_of (slots_of (latest (S.state_of store.now).lives) directory.now.inode)) self.new) }
     {
         for i in 0..DIRECT_POINTERS {
             let block = directory.inode.direct(i);

@@ -8,7 +8,7 @@ ghost use Rattle.ffs_format.specs.Fields.{direct_in};
 ghost use Rattle.ffs_model.specs.Cuts.{Under, latest};
 ghost use Rattle.ffs_model.specs.Names.{IsRoot, IsInodes};
 ghost use Rattle.ffs_model.specs.Library.{library_layout, half_at, inode_at, inode_mode, pointer_word, IsLibrary};
-ghost use Rattle.ffs_lookup.specs.Newest.{mapped, root_in, inode_block_in, inode_in, directory_in, file_in, entries_of, first_named, has_room, has_free_inode};
+ghost use Rattle.ffs_lookup.specs.Newest.{mapped, root_in, inode_block_in, inode_in, directory_in, file_in, slots_of, first_named, has_room, has_free_inode};
 ghost use Rattle.ffs_lookup.specs.Newest.{has_empty_pointer, is_free_inode, room_in, IsLowest};
 ghost use Rattle.ffs_lookup.specs.Places.{IsFound, IsDirectory, IsFile, IsFree, IsEmptyPointer, IsSlot, IsRoom};
 
@@ -252,7 +252,7 @@ fn has_entries(block: &[u8; 512]) -> bool
 /// Whether a directory has no entry.
 pub fn is_empty<S: Store>(store: &S, fs: Fs, directory: &Found) -> Result<bool, FfsFault>
     ensures { (number : ℕ) → IsLibrary (S.types_of store.now) → IsDirectory (S.state_of store.now) fs.number number directory.now →
-        result ≡ Ok (length (entries_of (latest (S.state_of store.now).lives) directory.now.inode) == 0) }
+        result ≡ Ok (length (slots_of (latest (S.state_of store.now).lives) directory.now.inode) == 0) }
 {
     for i in 0..DIRECT_POINTERS {
         let block = directory.inode.direct(i);

@@ -17,7 +17,7 @@ use Rattle.xn_model.specs.Calls.{Edit, init_of, may_add, propose_of, was_given, 
 use Rattle.xn_model.specs.Rules.{IsConsistent}
 use Rattle.xn_model.proofs.ForCallers.{Contains-cons, Contains-none, addable, bytes_apart, length_put}
 use Rattle.ffs_model.specs.Cuts.{Under, latest}
-use Rattle.ffs_model.specs.Library.{IsLibrary, direct_word, inode_at, inode_pairs, pointed, pointer_word, zeros}
+use Rattle.ffs_model.specs.Library.{IsLibrary, direct_word, inode_at, inode_pairs, pointed, pointer_word, zero_block}
 use Rattle.ffs_model.specs.Shortages.{is_shortage}
 use Rattle.ffs_model.proofs.Library.{is_not_empty, pointed_at}
 use Rattle.ffs_model.proofs.Patches.{word_apart, word_part, word_within}
@@ -101,22 +101,22 @@ module _ (T : Types) (lib : IsLibrary T) where
   pub inodes_none : (bytes : List ℕ) → ((p : ℕ) → p < 8 → inode_pairs bytes p ≡ []) → T.owned 4 bytes ≡ []
   inodes_none bytes none = lib.inodes bytes ∙ flat_kept (λ p. []) (inode_pairs bytes) 8 none
 
-  zeros_bare : (p : ℕ) → inode_pairs zeros p ≡ []
-  zeros_bare p = λ i. pointed_none (direct_word zeros p) 12 2 (λ k lt. zero_word (64 * p + 8 + 4 * k)) i ++ option_to_list (unless_empty (zero_word (64 * p + 56) i, 5))
+  zeros_bare : (p : ℕ) → inode_pairs zero_block p ≡ []
+  zeros_bare p = λ i. pointed_none (direct_word zero_block p) 12 2 (λ k lt. zero_word (64 * p + 8 + 4 * k)) i ++ option_to_list (unless_empty (zero_word (64 * p + 56) i, 5))
 
-  pub root_begun : (state : StoreState) (fs : ℕ) (r : Refusal) → init_of T state fs 3 zeros ≡ Err r → is_shortage r ≡ true
-  root_begun state fs = init_short T state fs 3 zeros (omega arith) (lib.installed 3 (omega arith) (omega arith)) (ap (λ n. blank (drop n zeros)) (lib.root_size zeros)) (lib.root zeros ∙ pointed_none (pointer_word zeros) 16 4 (λ i lt. zero_word (4 * i)))
+  pub root_begun : (state : StoreState) (fs : ℕ) (r : Refusal) → init_of T state fs 3 zero_block ≡ Err r → is_shortage r ≡ true
+  root_begun state fs = init_short T state fs 3 zero_block (omega arith) (lib.installed 3 (omega arith) (omega arith)) (ap (λ n. blank (drop n zero_block)) (lib.root_size zero_block)) (lib.root zero_block ∙ pointed_none (pointer_word zero_block) 16 4 (λ i lt. zero_word (4 * i)))
 
   pub inodes_begun : (state : StoreState) (fs : ℕ) (bytes : List ℕ) → length bytes ≡ 512 → ((p : ℕ) → p < 8 → inode_pairs bytes p ≡ []) → (r : Refusal) → init_of T state fs 4 bytes ≡ Err r → is_shortage r ≡ true
   inodes_begun state fs bytes long none =
       init_short T state fs 4 bytes (omega arith) (lib.installed 4 (omega arith) (omega arith)) (whole_size T 4 bytes (lib.inodes_size bytes) (omega arith)) (inodes_none bytes none)
 
-  pub free_begun : (state : StoreState) (fs : ℕ) (r : Refusal) → init_of T state fs 4 zeros ≡ Err r → is_shortage r ≡ true
-  free_begun state fs = inodes_begun state fs zeros (length-replicate {A = ℕ} 512 0) (λ p few. zeros_bare p)
+  pub free_begun : (state : StoreState) (fs : ℕ) (r : Refusal) → init_of T state fs 4 zero_block ≡ Err r → is_shortage r ≡ true
+  free_begun state fs = inodes_begun state fs zero_block (length-replicate {A = ℕ} 512 0) (λ p few. zeros_bare p)
 
-  pub pointers_begun : (state : StoreState) (fs : ℕ) (r : Refusal) → init_of T state fs 5 zeros ≡ Err r → is_shortage r ≡ true
-  pointers_begun state fs = init_short T state fs 5 zeros (omega arith) (lib.installed 5 (omega arith) (omega arith)) (whole_size T 5 zeros (lib.indirect_size zeros) (let e : length zeros ≡ 512 = length-replicate {A = ℕ} 512 0 in omega arith))
-      (lib.indirect zeros ∙ pointed_none (pointer_word zeros) 128 2 (λ i lt. zero_word (4 * i)))
+  pub pointers_begun : (state : StoreState) (fs : ℕ) (r : Refusal) → init_of T state fs 5 zero_block ≡ Err r → is_shortage r ≡ true
+  pointers_begun state fs = init_short T state fs 5 zero_block (omega arith) (lib.installed 5 (omega arith) (omega arith)) (whole_size T 5 zero_block (lib.indirect_size zero_block) (let e : length zero_block ≡ 512 = length-replicate {A = ℕ} 512 0 in omega arith))
+      (lib.indirect zero_block ∙ pointed_none (pointer_word zero_block) 128 2 (λ i lt. zero_word (4 * i)))
 
   -- Edits of what is reached
   module _ (state : StoreState) (h : IsConsistent T state) (fs : ℕ) (few : fs < 32) (b t : ℕ) (at : Under T (latest state.lives) fs b t) (long : length (latest state.lives b) ≡ 512)
@@ -242,16 +242,16 @@ module _ (T : Types) (lib : IsLibrary T) where
 
     -- it is cleared
     pub pointers_cleared_short : Under T (latest state.lives) fs b 5 →
-        (r : Refusal) → propose_of T state fs b (one_patch 0 zeros [] (blocks_of (pointed (pointer_word (latest state.lives b)) 128 2)) after) ≡ Err r → is_shortage r ≡ true
+        (r : Refusal) → propose_of T state fs b (one_patch 0 zero_block [] (blocks_of (pointed (pointer_word (latest state.lives b)) 128 2)) after) ≡ Err r → is_shortage r ≡ true
     pointers_cleared_short at =
         let m = latest state.lives b in
         let zs = pointed (pointer_word m) 128 2 in
-        let whole : length zeros ≡ 512 = length-replicate {A = ℕ} 512 0 in
-        let new = put m 0 zeros in
-        let within : 0 + length zeros ≤ length m = omega arith in
-        let new_long : length new ≡ 512 = length_put m 0 zeros within ∙ long in
-        let bare : pointed (pointer_word new) 128 2 ≡ [] = pointed_none (pointer_word new) 128 2 (λ i lt. word_within m 0 zeros within (4 * i) (4 * i) (omega arith) (omega arith) ∙ zero_word (4 * i)) in
-        drop_short state h fs few b 5 at long 0 zeros (omega arith) (omega arith) after given zs (rw length-map (pointed_few (pointer_word m) 128 2))
+        let whole : length zero_block ≡ 512 = length-replicate {A = ℕ} 512 0 in
+        let new = put m 0 zero_block in
+        let within : 0 + length zero_block ≤ length m = omega arith in
+        let new_long : length new ≡ 512 = length_put m 0 zero_block within ∙ long in
+        let bare : pointed (pointer_word new) 128 2 ≡ [] = pointed_none (pointer_word new) 128 2 (λ i lt. word_within m 0 zero_block within (4 * i) (4 * i) (omega arith) (omega arith) ∙ zero_word (4 * i)) in
+        drop_short state h fs few b 5 at long 0 zero_block (omega arith) (omega arith) after given zs (rw length-map (pointed_few (pointer_word m) 128 2))
         (λ c u i. let q = pointed_at (pointer_word m) 2 128 c u i in ap (λ k. T.owned k (latest state.lives c)) q.0 ∙ h.built_ins.data_owns (latest state.lives c))
         (replaces_in zs (T.owned 5 m) [] (T.owned 5 new) zs [] (lib.indirect m) (lib.indirect new ∙ bare) (all_of zs [])) (whole_size T 5 new (lib.indirect_size new) (omega arith))
 

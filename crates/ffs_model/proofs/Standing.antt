@@ -12,7 +12,7 @@ use Rattle.ffs_model.specs.Cuts.{Choice, IsCut, Takes, Under, seen, latest}
 use Rattle.ffs_model.specs.Edits.{EntryMade, InodeFreed, LinkAdded, LinkTaken}
 use Rattle.ffs_model.specs.Names.{IsInodes, Layout, Names}
 use Rattle.ffs_model.specs.Volumes.{Reads, VolumeKeeps}
-use Rattle.ffs_model.specs.Laws.{written}
+use Rattle.ffs_model.specs.Laws.{bytes_written_by}
 use Rattle.ffs_model.specs.Standing.{AreNamed, KeepsNamed, SlotPair, StayNamed, TakesAll, named_at}
 use Rattle.ffs_model.proofs.Chosen.{full_seen}
 use Rattle.ffs_model.proofs.Given.{Proposed, proposed}
@@ -49,7 +49,7 @@ module _ (T : Types) (L : Layout) (first : Lives) (state new : StoreState) (h : 
   takes k e t = takes_before T state h c given.life s given.own.alive refl k e t
 
   -- the bytes of the block where its new state is taken
-  took : (k : Choice) → IsCut after k → length given.life.pending < k c → seen after k c ≡ written state.lives c edit
+  took : (k : Choice) → IsCut after k → length given.life.pending < k c → seen after k c ≡ bytes_written_by state.lives c edit
   took k cut lt = seen_new T state h c given.life s given.own.alive refl k cut lt ∙ sym (ap (λ o. patched o edit.patches) (latest_old T state h c given.life s given.own.alive refl))
 
   other : (k : Choice) (b : ℕ) → b ≢ c → seen after k b ≡ seen state.lives k b
@@ -91,7 +91,7 @@ module _ (T : Types) (L : Layout) (first : Lives) (state new : StoreState) (h : 
       to k = ap (λ m. L.entry m p.to.1) (other k p.to.0 ne')
 
   -- of the second slot, which comes to name the moved inode
-  pub stands_turned : p.to.0 ≡ c → L.entry (written state.lives c edit) p.to.1 ≡ p.moved → StayNamed L first state.lives p None → StayNamed L first new.lives p (Some entry)
+  pub stands_turned : p.to.0 ≡ c → L.entry (bytes_written_by state.lives c edit) p.to.1 ≡ p.moved → StayNamed L first state.lives p None → StayNamed L first new.lives p (Some entry)
   stands_turned is now x = turn (Some entry) (record {
     cuts = unless_taken x.cuts (λ k cut lt. turned k cut lt);
     later = λ e k same cut t. turned k cut (takes_took T state h c given.life s given.own.alive refl k (subst (Takes after k) (sym (same_Some entry e same) ∙ given.entry_is) t));
@@ -101,7 +101,7 @@ module _ (T : Types) (L : Layout) (first : Lives) (state new : StoreState) (h : 
       turned k cut lt = ap (λ b. L.entry (seen after k b) p.to.1) is ∙ (ap (λ m. L.entry m p.to.1) (took k cut lt) ∙ now)
 
   -- of the first slot, after that one
-  pub stands_cleared : (e : ℕ) → p.from.0 ≡ c → edit.after ≡ Some e → (p.to.0 ≡ c → L.entry (written state.lives c edit) p.to.1 ≡ L.entry (latest state.lives c) p.to.1) →
+  pub stands_cleared : (e : ℕ) → p.from.0 ≡ c → edit.after ≡ Some e → (p.to.0 ≡ c → L.entry (bytes_written_by state.lives c edit) p.to.1 ≡ L.entry (latest state.lives c) p.to.1) →
       StayNamed L first state.lives p (Some e) → StayNamed L first new.lives p (Some e)
   stands_cleared e is comes kept x = turn (Some e) (record {
     cuts = unless_taken x.cuts (λ k cut lt. still k cut (takes k e (took_now T state h c given.life s given.own.alive refl k cut lt e comes)));
@@ -125,12 +125,12 @@ module _ (T : Types) (L : Layout) (first : Lives) (state new : StoreState) (h : 
 -- The five edits of replace
 module _ (T : Types) (L : Layout) (reads : Reads T L) (fs : ℕ) (few : fs < 32) (array : ℕ → Option ℕ) (s0 s1 s2 s3 s4 s5 : StoreState) (v : VolumeKeeps T L fs array s0) (n m a g d x c z : ℕ) (some : n ≢ 0) (former : m ≢ 0) (apart : m ≢ n)
     (at : IsInodes L (latest s0.lives) fs (L.home n).0 a) (at' : IsInodes L (latest s0.lives) fs (L.home m).0 g) (edit1 edit2 edit3 edit4 edit5 : Edit) (entry1 entry2 entry3 entry4 entry5 : ℕ)
-    (done1 : propose_of T s0 fs a edit1 ≡ Ok (entry1, s1)) (used : L.mode (latest s0.lives a) (L.home n).1 ≢ 0) (added : LinkAdded L (latest s0.lives a) (written s0.lives a edit1) (L.home n).1)
-    (done2 : propose_of T s1 fs d edit2 ≡ Ok (entry2, s2)) (comes2 : edit2.after ≡ Some entry1) (named : Names L (latest s1.lives) fs m (d, x)) (made : EntryMade L (latest s1.lives d) (written s1.lives d edit2) x n)
-    (done3 : propose_of T s2 fs c edit3 ≡ Ok (entry3, s3)) (named' : Names L (latest s2.lives) fs n (c, z)) (other : c ≡ d → z ≢ x) (comes3 : edit3.after ≡ Some entry2) (cleared : EntryMade L (latest s2.lives c) (written s2.lives c edit3) z 0)
-    (done4 : propose_of T s3 fs a edit4 ≡ Ok (entry4, s4)) (comes4 : edit4.after ≡ Some entry3) (taken : LinkTaken L (latest s3.lives a) (written s3.lives a edit4) (L.home n).1)
+    (done1 : propose_of T s0 fs a edit1 ≡ Ok (entry1, s1)) (used : L.mode (latest s0.lives a) (L.home n).1 ≢ 0) (added : LinkAdded L (latest s0.lives a) (bytes_written_by s0.lives a edit1) (L.home n).1)
+    (done2 : propose_of T s1 fs d edit2 ≡ Ok (entry2, s2)) (comes2 : edit2.after ≡ Some entry1) (named : Names L (latest s1.lives) fs m (d, x)) (made : EntryMade L (latest s1.lives d) (bytes_written_by s1.lives d edit2) x n)
+    (done3 : propose_of T s2 fs c edit3 ≡ Ok (entry3, s3)) (named' : Names L (latest s2.lives) fs n (c, z)) (other : c ≡ d → z ≢ x) (comes3 : edit3.after ≡ Some entry2) (cleared : EntryMade L (latest s2.lives c) (bytes_written_by s2.lives c edit3) z 0)
+    (done4 : propose_of T s3 fs a edit4 ≡ Ok (entry4, s4)) (comes4 : edit4.after ≡ Some entry3) (taken : LinkTaken L (latest s3.lives a) (bytes_written_by s3.lives a edit4) (L.home n).1)
     (done5 : propose_of T s4 fs g edit5 ≡ Ok (entry5, s5)) (comes5 : edit5.after ≡ Some entry2)
-    (last : LinkTaken L (latest s4.lives g) (written s4.lives g edit5) (L.home m).1 ⊎ ((L.links (latest s4.lives g) (L.home m).1 ≡ 1) × InodeFreed L (latest s4.lives g) (written s4.lives g edit5) (L.home m).1)) where
+    (last : LinkTaken L (latest s4.lives g) (bytes_written_by s4.lives g edit5) (L.home m).1 ⊎ ((L.links (latest s4.lives g) (L.home m).1 ≡ 1) × InodeFreed L (latest s4.lives g) (bytes_written_by s4.lives g edit5) (L.home m).1)) where
   abbrev p : SlotPair
   p = record { from = (c, z); to = (d, x); moved = n; former = m }
 

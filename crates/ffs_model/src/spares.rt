@@ -8,7 +8,7 @@ ghost use Rattle.ffs_model.specs.Cuts.{Choice, IsCut, Under, seen, latest};
 ghost use Rattle.ffs_model.specs.Names.{Layout, IsInodes, LeavesRoom, Names};
 ghost use Rattle.ffs_model.specs.Volumes.{KeepsNumber, VolumeKeeps};
 ghost use Rattle.ffs_model.specs.Edits.{InodeFreed, LinksTaken};
-ghost use Rattle.ffs_model.specs.Laws.{Proposes, written};
+ghost use Rattle.ffs_model.specs.Laws.{Proposes, bytes_written_by};
 
 /// Where nothing of a file system is pending, each cut has no name that the newest bytes lack. So what an inode's links are more than
 /// its newest names is to spare in every cut.
@@ -25,12 +25,12 @@ pub fn spares_begin()
 pub fn spares_may_go()
     ensures links { (T : Types) (L : Layout) (fs : ℕ) (array : ℕ → Option ℕ) (state new : StoreState) (block : ℕ) (edit : Edit) (entry n m : ℕ) →
         Proposes T L fs array state block edit entry new → n ≢ 0 → IsInodes L (latest state.lives) fs (L.home n).0 block →
-        KeepsNumber L state.lives fs edit.after m n → LinksTaken L (latest state.lives block) (written state.lives block edit) (L.home n).1 m →
+        KeepsNumber L state.lives fs edit.after m n → LinksTaken L (latest state.lives block) (bytes_written_by state.lives block edit) (L.home n).1 m →
         VolumeKeeps T L fs array new }
     ensures inode { (T : Types) (L : Layout) (fs : ℕ) (array : ℕ → Option ℕ) (state new : StoreState) (block : ℕ) (edit : Edit) (entry n m : ℕ) →
         Proposes T L fs array state block edit entry new → n ≢ 0 → IsInodes L (latest state.lives) fs (L.home n).0 block →
         KeepsNumber L state.lives fs edit.after m n → L.links (latest state.lives block) (L.home n).1 ≡ m →
-        InodeFreed L (latest state.lives block) (written state.lives block edit) (L.home n).1 → VolumeKeeps T L fs array new }
+        InodeFreed L (latest state.lives block) (bytes_written_by state.lives block edit) (L.home n).1 → VolumeKeeps T L fs array new }
 {}
 
 /// What another inode has to spare it keeps over such an edit, and over one of a block of another type, as an indirect one.
@@ -38,12 +38,12 @@ pub fn spares_stay()
     ensures links { (T : Types) (L : Layout) (fs : ℕ) (array : ℕ → Option ℕ) (state new : StoreState) (block : ℕ) (edit : Edit) (entry n q i m : ℕ)
         (g : Option ℕ) →
         Proposes T L fs array state block edit entry new → n ≢ 0 → IsInodes L (latest state.lives) fs (L.home n).0 block →
-        LinksTaken L (latest state.lives block) (written state.lives block edit) (L.home n).1 q → i ≢ 0 → i ≢ n →
+        LinksTaken L (latest state.lives block) (bytes_written_by state.lives block edit) (L.home n).1 q → i ≢ 0 → i ≢ n →
         KeepsNumber L state.lives fs g m i → KeepsNumber L new.lives fs g m i }
     ensures inode { (T : Types) (L : Layout) (fs : ℕ) (array : ℕ → Option ℕ) (state new : StoreState) (block : ℕ) (edit : Edit) (entry n i m : ℕ)
         (g : Option ℕ) →
         Proposes T L fs array state block edit entry new → n ≢ 0 → IsInodes L (latest state.lives) fs (L.home n).0 block →
-        InodeFreed L (latest state.lives block) (written state.lives block edit) (L.home n).1 → i ≢ 0 → i ≢ n →
+        InodeFreed L (latest state.lives block) (bytes_written_by state.lives block edit) (L.home n).1 → i ≢ 0 → i ≢ n →
         KeepsNumber L state.lives fs g m i → KeepsNumber L new.lives fs g m i }
     ensures indirect { (T : Types) (L : Layout) (fs : ℕ) (array : ℕ → Option ℕ) (state new : StoreState) (block : ℕ) (edit : Edit) (entry ty i m : ℕ)
         (g : Option ℕ) →

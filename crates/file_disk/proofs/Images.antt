@@ -3,7 +3,7 @@ use Rattle.std.proofs.Common.{◌≡◌, ℕ, zero, suc, ◌+◌, ◌*◌, ◌<�
 use Rattle.std.proofs.lemmas.Bool.{cases_eq}
 use Rattle.std.proofs.lemmas.Grind.{common_steps}
 use Rattle.std.proofs.lemmas.Option.{same_Some, slice_get_within}
-use Rattle.disk.specs.Images.{block_at}
+use Rattle.disk.specs.Images.{block_of_image}
 use Rattle.disk.specs.Lanes.{LeavesOnly}
 use Rattle.disk.proofs.ForCallers.{block_at-append_front, block_at-append_last}
 use Rattle.file_disk.specs.File.{FileBlock, fresh_block, file_leaves}
@@ -18,7 +18,7 @@ module _ (blocks : ℕ) (places : List (Option FileBlock)) (each : (k : ℕ) →
   record Part (n : ℕ) : Type 0 where
     image : List ℕ
     whole : length image ≡ 512 * n
-    held : (k : ℕ) → k < n → (lane : FileBlock) × (slice_get places k ≡ Some (Some lane)) × (lane.bytes ≡ block_at image k)
+    held : (k : ℕ) → k < n → (lane : FileBlock) × (slice_get places k ≡ Some (Some lane)) × (lane.bytes ≡ block_of_image image k)
 
   part : (n : ℕ) → n ≤ blocks → Part n
   part zero le = record { image = []; whole = refl; held = λ k h. absurd (omega arith) }
@@ -34,7 +34,7 @@ module _ (blocks : ℕ) (places : List (Option FileBlock)) (each : (k : ℕ) →
         held = λ k h. elim (cases_eq k n) [
           | inl same ↦
               let e : slice_get places k ≡ Some (Some (fresh_block n x.bytes)) = ap (slice_get places) same ∙ x.here in
-              (fresh_block n x.bytes, e, sym (ap (block_at (before.image ++ x.bytes)) same ∙ block_at-append_last before.image x.bytes n whole long))
+              (fresh_block n x.bytes, e, sym (ap (block_of_image (before.image ++ x.bytes)) same ∙ block_at-append_last before.image x.bytes n whole long))
           | inr other ↦
               let p = before.held k (omega arith) in
               let fits : 512 * k + 512 ≤ length before.image = omega arith in

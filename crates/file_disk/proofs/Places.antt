@@ -4,13 +4,13 @@ use Rattle.std.proofs.lemmas.Bool.{cases_eq}
 use Rattle.std.proofs.lemmas.Grind.{common_steps}
 use Rattle.std.proofs.lemmas.List.{length-set}
 use Rattle.std.proofs.lemmas.Option.{same_Some, gets}
-use Rattle.disk.specs.Images.{block_at}
+use Rattle.disk.specs.Images.{block_of_image}
 use Rattle.file_disk.specs.File.{FileBlock, fresh_block}
 use Rattle.file_disk.specs.Opened.{IsOpened}
 
 -- in this place is a lane that has the bytes of this block of the image
 abbrev pub HasBlock : List ℕ → ℕ → Option (Option FileBlock) → Type 0
-HasBlock image k place = (lane : FileBlock) × (place ≡ Some (Some lane)) × (lane.bytes ≡ block_at image k)
+HasBlock image k place = (lane : FileBlock) × (place ≡ Some (Some lane)) × (lane.bytes ≡ block_of_image image k)
 
 pub ok_gives : {T E P : Type 0} (r : Result T E) → IsOk r → OnOk r P → P
 ok_gives (Ok x) ok p = p

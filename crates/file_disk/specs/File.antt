@@ -21,13 +21,13 @@ abbrev pub fresh_block : ℕ → List ℕ → FileBlock
 fresh_block number bytes = record { number = number; bytes = bytes; may_leave = bytes ∷ []; faults = 0 }
 
 -- these bytes stand in the list
-abbrev pub IsAmong : List (List ℕ) → List ℕ → Type 0
-IsAmong [] bytes = ⊥
-IsAmong (x ∷ xs) bytes = IsAmong xs bytes ⊎ (bytes ≡ x)
+abbrev pub StandsAmong : List (List ℕ) → List ℕ → Type 0
+StandsAmong [] bytes = ⊥
+StandsAmong (x ∷ xs) bytes = StandsAmong xs bytes ⊎ (bytes ≡ x)
 
 -- what a crash may leave in a block
 abbrev pub file_leaves : FileBlock → List ℕ → Type 0
-file_leaves block bytes = IsAmong block.may_leave bytes
+file_leaves block bytes = StandsAmong block.may_leave bytes
 
 -- the block after one fault more
 abbrev pub with_fault : FileBlock → FileBlock

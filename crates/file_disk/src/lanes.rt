@@ -1,6 +1,6 @@
 // The lanes of a file that was just opened, or made.
 ghost use Rattle.std.specs.Prelude.{◌≡◌, ◌≤◌, ◌+◌, ◌*◌, ◌/◌, ◌%◌, length, Some, IfOk};
-ghost use Rattle.disk.specs.Images.{HoldsBytes, block_at};
+ghost use Rattle.disk.specs.Images.{HoldsBytes, block_of_image};
 ghost use Rattle.file_disk.specs.Opened.{AreOpened, IsOpened};
 
 use crate::fault::FileFault;
@@ -87,7 +87,7 @@ fn written_lane(
 ) -> Result<FileLane, FileFault>
     requires { 512 * block + 512 ≤ length image.now }
     ensures opened { IfOk result (λ lane. IsOpened block (Some (Some lane))) }
-    ensures bytes { IfOk result (λ lane. lane.bytes ≡ block_at image.now block) }
+    ensures bytes { IfOk result (λ lane. lane.bytes ≡ block_of_image image.now block) }
 {
     let start = BLOCK_LEN * block as usize;
     let bytes = match image[start..start + BLOCK_LEN].as_array() {

@@ -1,7 +1,7 @@
 // Volumes under a lock: the rows, and two threads that make calls at once, each of a file system of its own.
 
 ghost use Rattle.std.specs.Prelude.{◌≡◌};
-ghost use Rattle.durable_floor.specs.Rules.{zeros};
+ghost use Rattle.durable_floor.specs.Rules.{zero_floor};
 
 use crate::callers::{Caller, Locking};
 use crate::rows::print_rows;
@@ -105,7 +105,7 @@ fn print_locked<K: Naming, R: Threads + Wait + Print + Sync>(
     publisher: Publisher,
 ) -> io::Result<()>
     requires floor { floor ≡ K.floor }
-    requires publisher { publisher ≡ record { floor = floor; seen = zeros } }
+    requires publisher { publisher ≡ record { floor = floor; seen = zero_floor } }
 {
     let files: SharedFiles<K> = share(rt, alloc, 32, systems, floor, publisher)?;
     println!(rt; "over a kernel under a lock:")?;
@@ -121,7 +121,7 @@ fn print_at_once<K: Naming + Send + Sync, R: Threads + Wait + Print + Sync>(
     publisher: Publisher,
 ) -> io::Result<()>
     requires floor { floor ≡ K.floor }
-    requires publisher { publisher ≡ record { floor = floor; seen = zeros } }
+    requires publisher { publisher ≡ record { floor = floor; seen = zero_floor } }
 {
     let files: SharedFiles<K> = share(rt, alloc, BLOCKS, systems, floor, publisher)?;
     print_two(rt, alloc, &files, systems[0], systems[1])

@@ -2,7 +2,7 @@
 
 ghost use Rattle.std.specs.Prelude.{◌≡◌, IfSome};
 ghost use Rattle.std.specs.Arc.{arc_value};
-ghost use Rattle.durable_floor.specs.Rules.{zeros};
+ghost use Rattle.durable_floor.specs.Rules.{zero_floor};
 
 use crash_check::mount;
 use disk::{MemLane, fresh_lanes};
@@ -52,7 +52,7 @@ pub fn hub_of<K: Naming>(
     publisher: Publisher,
 ) -> Option<(Hub<MemLane, K>, Arc<Floor, Global>)>
     requires floor { floor ≡ K.floor }
-    requires publisher { publisher ≡ record { floor = floor; seen = zeros } }
+    requires publisher { publisher ≡ record { floor = floor; seen = zero_floor } }
     ensures { IfSome result (λ made. arc_value made.1 ≡ K.floor) }
 {
     let floor = Arc::new(alloc, floor).ok()?;
@@ -78,7 +78,7 @@ fn is_answered<K: Naming, R: Wait>(
     kernel: Kernel<MemLane>,
 ) -> Option<bool>
     requires floor { floor ≡ K.floor }
-    requires publisher { publisher ≡ record { floor = floor; seen = zeros } }
+    requires publisher { publisher ≡ record { floor = floor; seen = zero_floor } }
 {
     let fs = Fs::new(0)?;
     let (hub, floor) = hub_of(alloc, kernel, floor, publisher)?;

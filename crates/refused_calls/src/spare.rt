@@ -1,7 +1,7 @@
 // Calls that take no memory, and a line before them. They do what they should also where no memory is left from that line on.
 
 ghost use Rattle.std.specs.Prelude.{◌≡◌};
-ghost use Rattle.durable_floor.specs.Rules.{zeros};
+ghost use Rattle.durable_floor.specs.Rules.{zero_floor};
 
 use crate::clients::hub_of;
 use crate::programs::Programs;
@@ -79,7 +79,7 @@ fn print_calls<K: Naming>(
     spare: Spare,
 ) -> io::Result<bool>
     requires floor { floor ≡ K.floor }
-    requires publisher { publisher ≡ record { floor = floor; seen = zeros } }
+    requires publisher { publisher ≡ record { floor = floor; seen = zero_floor } }
     requires reader { reader.floor ≡ floor }
 {
     let Spare {

@@ -11,11 +11,11 @@ use Rattle.std.proofs.lemmas.List.Sums.{fails_before_first}
 use Rattle.std.proofs.lemmas.Str.Pattern.{IsSplitOnceResult, split_once_first}
 use Rattle.script.specs.Events.{SpellNothing}
 use Rattle.script_words.proofs.ForCallers.{zip_push}
-use Rattle.script.specs.Scripts.{is_passed_over, words_of, lines_of, event_lines, LineSpells, SpellEvents, SpellsSome, IsReadable, IsFirstUnreadable}
+use Rattle.script.specs.Scripts.{is_passed_over, line_words, lines_of, event_lines, LineSpells, SpellEvents, SpellsSome, IsReadable, IsFirstUnreadable}
 
 -- the first word of a text, and those behind it
 pub first_cut : (text : List ℕ) (cut : Option (Bor (List ℕ) × Bor (List ℕ))) → IsSplitOnceResult 32 text cut →
-    MatchOption cut (words_of text ≡ text ∷ []) (λ parts. words_of text ≡ parts.0.now ∷ words_of parts.1.now)
+    MatchOption cut (line_words text ≡ text ∷ []) (λ parts. line_words text ≡ parts.0.now ∷ line_words parts.1.now)
 first_cut text None cut =
     let whole = split_once_first 32 text None cut (omega arith) in
     slice_split_none (λ b. eqb b 32) text (λ k d h. fails_before_first (λ b. eqb b 32) text k d (omega (arith, whole, h)))
@@ -90,7 +90,7 @@ all_read text place kept last so_far =
 
 -- at the first line that is unreadable
 pub first_unreadable : (text : List ℕ) (place number : ℕ) (kept : List (List ℕ)) → place < length (lines_of text) → number ≡ place + 1 →
-    is_passed_over (get_or (lines_of text) place []) ≡ false → SpellNothing (words_of (get_or (lines_of text) place [])) → IsReadTo (lines_of text) place kept → IsFirstUnreadable text number
+    is_passed_over (get_or (lines_of text) place []) ≡ false → SpellNothing (line_words (get_or (lines_of text) place [])) → IsReadTo (lines_of text) place kept → IsFirstUnreadable text number
 first_unreadable text place number kept within counted read none so_far = record {
   place = place;
   counted = counted;

@@ -6,10 +6,10 @@ use Rattle.events.specs.declared.event.Event.TheVariants as event
 use Rattle.script.specs.declared.told.LineEvent.{LineEvent}
 use Rattle.script.specs.declared.told.LineEvent.TheVariants as line
 use Rattle.script.specs.Events.{Spells}
-use Rattle.script.specs.Told.{IsSpelledOut, Tells}
+use Rattle.script.specs.Told.{IsSpelledOut, SpellsEvent}
 
 -- any but a fresh block and a template
-pub told_event : (words : List (List ℕ)) (told : LineEvent) → ((fs : _) (ty : _) (text : _) → told ≡ line.Init fs ty text → ⊥) → ((text : _) → told ≡ line.Install text → ⊥) → Tells words told → (e : Event) × Spells words e
+pub told_event : (words : List (List ℕ)) (told : LineEvent) → ((fs : _) (ty : _) (text : _) → told ≡ line.Init fs ty text → ⊥) → ((text : _) → told ≡ line.Install text → ⊥) → SpellsEvent words told → (e : Event) × Spells words e
 told_event words (line.Init fs ty text) other more tells = absurd (other fs ty text refl)
 told_event words (line.Edit fs block edit) other more tells = (event.Call fs (Propose block edit.value), tells)
 told_event words (line.MakeRoot fs block) other more tells = (event.Call fs (MakeRoot block), tells)

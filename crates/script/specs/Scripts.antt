@@ -11,13 +11,13 @@ abbrev pub lines_of : List ℕ → List (List ℕ)
 lines_of text = slice_split (λ byte. byte == 10) text
 
 -- the words of a line, which is split at each space
-abbrev pub words_of : List ℕ → List (List ℕ)
-words_of line = slice_split (λ byte. byte == 32) line
+abbrev pub line_words : List ℕ → List (List ℕ)
+line_words line = slice_split (λ byte. byte == 32) line
 
 -- the words of a text, or none where there is no text
 abbrev pub words_in : Option (List ℕ) → List (List ℕ)
 words_in None = []
-words_in (Some text) = words_of text
+words_in (Some text) = line_words text
 
 -- an empty line, or one that begins with `#`
 abbrev pub is_passed_over : List ℕ → Bool
@@ -25,7 +25,7 @@ is_passed_over [] = true
 is_passed_over (byte ∷ line) = byte == 35
 
 abbrev pub LineSpells : List ℕ → Event → Type 0
-LineSpells line event = Spells (words_of line) event
+LineSpells line event = Spells (line_words line) event
 
 -- a line that spells an event
 abbrev pub SpellsSome : List ℕ → Type 0
@@ -54,7 +54,7 @@ IsReadable line = (is_passed_over line ≡ true) ⊎ SpellsSome line
 -- a line that is neither
 pub record IsUnreadable (line : List ℕ) : Type 0 where
   pub read : is_passed_over line ≡ false
-  pub no_event : SpellNothing (words_of line)
+  pub no_event : SpellNothing (line_words line)
 
 -- the first line that is neither has this number, from 1
 pub record IsFirstUnreadable (text : List ℕ) (number : ℕ) : Type 0 where

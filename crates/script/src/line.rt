@@ -4,8 +4,8 @@ ghost use Rattle.std.specs.Prelude.{◌≡◌, ◌↔◌, List, IfNone, IfOk, If
 ghost use Rattle.script_words.specs.Hex.{IsHex, SpellsBlock};
 ghost use Rattle.events.specs.declared.event.Event.{Event};
 ghost use Rattle.script.specs.Events.{Spells, SpellNothing};
-ghost use Rattle.script.specs.Scripts.{LineSpells, SpellsSome, words_of};
-ghost use Rattle.script.specs.Told.{IsSpelledOut, Tells};
+ghost use Rattle.script.specs.Scripts.{LineSpells, SpellsSome, line_words};
+ghost use Rattle.script.specs.Told.{IsSpelledOut, SpellsEvent};
 
 use crate::told::LineEvent;
 use crate::words::read_line;
@@ -53,8 +53,8 @@ fn parse_template(text: &str) -> Option<[u8; 512]>
 /// Whether what a line tells is an event: the text of a fresh block's bytes or of a template's has to spell them.
 fn is_event(told: &LineEvent) -> bool
     ensures { MatchBool result
-        (IsSpelledOut told.now × ((words : List (List ℕ)) → Tells words told.now → (event : Event) × Spells words event))
-        ((words : List (List ℕ)) → Tells words told.now → SpellNothing words) }
+        (IsSpelledOut told.now × ((words : List (List ℕ)) → SpellsEvent words told.now → (event : Event) × Spells words event))
+        ((words : List (List ℕ)) → SpellsEvent words told.now → SpellNothing words) }
 {
     match told {
         LineEvent::Init(_, _, text) => match parse_block(text) {
@@ -85,7 +85,7 @@ fn install_event(text: &str) -> Event
 #[inline(never)]
 fn told_event(told: LineEvent) -> Event
     requires { IsSpelledOut told }
-    ensures { (words : List (List ℕ)) → Tells words told.entry → Spells words result }
+    ensures { (words : List (List ℕ)) → SpellsEvent words told.entry → Spells words result }
 {
     match told {
         LineEvent::Init(fs, ty, text) => {
@@ -121,7 +121,7 @@ impl<'a> ScriptLine<'a> {
     /// Reads a line. `None` is for one that spells no event.
     pub fn read(alloc: Global, text: &'a str) -> Result<Option<ScriptLine<'a>>, AllocError>
         ensures some { IfOk result (λ read. IfSome read (λ line. (line ≡ text.now) × SpellsSome text.now)) }
-        ensures none { IfOk result (λ read. IfNone read (SpellNothing (words_of text.now))) }
+        ensures none { IfOk result (λ read. IfNone read (SpellNothing (line_words text.now))) }
     {
         let Some(told) = read_line(alloc, text)? else {
             return Ok(None);

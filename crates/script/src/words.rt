@@ -4,8 +4,8 @@ ghost use Rattle.std.specs.Prelude.{◌≡◌, ◌≢◌, ◌<◌, ◌==◌, ℕ
 ghost use Rattle.std.specs.Fmt.{decimal};
 ghost use Rattle.std.specs.List.{slice_split};
 ghost use Rattle.script.specs.Events.{SpellNothing, IsNoWrite};
-ghost use Rattle.script.specs.Told.{Tells};
-ghost use Rattle.script.specs.Scripts.{words_in, words_of};
+ghost use Rattle.script.specs.Told.{SpellsEvent};
+ghost use Rattle.script.specs.Scripts.{words_in, line_words};
 
 use crate::told::LineEvent;
 use script_words::{parse_edit, parse_number, parse_numbers, parse_u32};
@@ -23,7 +23,7 @@ fn parse_fs(word: &str) -> Option<Fs>
 
 /// The event of the words `init`, these two and the words behind them.
 fn parse_init<'a>(fs: &str, ty: &str, words: &[&'a str]) -> Option<LineEvent<'a>>
-    ensures some { IfSome result (Tells (codes "init" ∷ fs.now ∷ ty.now ∷ map (λ word. word.now) words.now)) }
+    ensures some { IfSome result (SpellsEvent (codes "init" ∷ fs.now ∷ ty.now ∷ map (λ word. word.now) words.now)) }
     ensures none { IfNone result (SpellNothing (codes "init" ∷ fs.now ∷ ty.now ∷ map (λ word. word.now) words.now)) }
 {
     let [bytes] = words else {
@@ -39,7 +39,7 @@ fn parse_edit_event<'a>(
     block: &str,
     words: &[&str],
 ) -> Result<Option<LineEvent<'a>>, AllocError>
-    ensures some { IfOk result (λ read. IfSome read (Tells (codes "edit" ∷ fs.now ∷ block.now ∷ map (λ word. word.now) words.now))) }
+    ensures some { IfOk result (λ read. IfSome read (SpellsEvent (codes "edit" ∷ fs.now ∷ block.now ∷ map (λ word. word.now) words.now))) }
     ensures none { IfOk result (λ read. IfNone read (SpellNothing (codes "edit" ∷ fs.now ∷ block.now ∷ map (λ word. word.now) words.now))) }
 {
     let (Some(fs), Some(block)) = (parse_fs(fs), parse_u32(block)) else {
@@ -53,7 +53,7 @@ fn parse_edit_event<'a>(
 
 /// The event of a name and two words behind it, a file system and a block.
 fn parse_place<'a>(name: &str, fs: &str, block: &str) -> Option<LineEvent<'a>>
-    ensures some { IfSome result (Tells (name.now ∷ fs.now ∷ block.now ∷ [])) }
+    ensures some { IfSome result (SpellsEvent (name.now ∷ fs.now ∷ block.now ∷ [])) }
     ensures none { IfNone result (name.now ≢ codes "edit" → name.now ≢ codes "fail" → name.now ≢ codes "crash" →
         SpellNothing (name.now ∷ fs.now ∷ block.now ∷ [])) }
 {
@@ -69,7 +69,7 @@ fn parse_place<'a>(name: &str, fs: &str, block: &str) -> Option<LineEvent<'a>>
 
 /// The event of the word `fail` and two words behind it, a block and which bytes stay.
 fn parse_fail<'a>(block: &str, bytes: &str) -> Option<LineEvent<'a>>
-    ensures some { IfSome result (Tells (codes "fail" ∷ block.now ∷ bytes.now ∷ [])) }
+    ensures some { IfSome result (SpellsEvent (codes "fail" ∷ block.now ∷ bytes.now ∷ [])) }
     ensures none { IfNone result (SpellNothing (codes "fail" ∷ block.now ∷ bytes.now ∷ [])) }
 {
     let block = parse_u32(block)?;
@@ -82,7 +82,7 @@ fn parse_fail<'a>(block: &str, bytes: &str) -> Option<LineEvent<'a>>
 
 /// The event of a name and two words behind it.
 fn parse_triple<'a>(name: &str, first: &str, second: &str) -> Option<LineEvent<'a>>
-    ensures some { IfSome result (Tells (name.now ∷ first.now ∷ second.now ∷ [])) }
+    ensures some { IfSome result (SpellsEvent (name.now ∷ first.now ∷ second.now ∷ [])) }
     ensures none { IfNone result (name.now ≢ codes "edit" → name.now ≢ codes "crash" → SpellNothing (name.now ∷ first.now ∷ second.now ∷ [])) }
 {
     if name == "fail" {
@@ -94,7 +94,7 @@ fn parse_triple<'a>(name: &str, first: &str, second: &str) -> Option<LineEvent<'
 
 /// The event of a name and one word behind it, a file system.
 fn parse_system<'a>(name: &str, word: &str) -> Option<LineEvent<'a>>
-    ensures some { IfSome result (Tells (name.now ∷ word.now ∷ [])) }
+    ensures some { IfSome result (SpellsEvent (name.now ∷ word.now ∷ [])) }
     ensures none { IfNone result (IsNoWrite name.now → name.now ≢ codes "install" → name.now ≢ codes "crash" → SpellNothing (name.now ∷ word.now ∷ [])) }
 {
     let fs = parse_fs(word)?;
@@ -108,7 +108,7 @@ fn parse_system<'a>(name: &str, word: &str) -> Option<LineEvent<'a>>
 
 /// The event of a name and one word behind it.
 fn parse_short<'a>(name: &str, word: &'a str) -> Option<LineEvent<'a>>
-    ensures some { IfSome result (Tells (name.now ∷ word.now ∷ [])) }
+    ensures some { IfSome result (SpellsEvent (name.now ∷ word.now ∷ [])) }
     ensures none { IfNone result (name.now ≢ codes "crash" → SpellNothing (name.now ∷ word.now ∷ [])) }
 {
     match name {
@@ -124,7 +124,7 @@ fn parse_short<'a>(name: &str, word: &'a str) -> Option<LineEvent<'a>>
 
 /// The event of a name alone, a call of file system 0.
 fn parse_name<'a>(name: &str) -> Option<LineEvent<'a>>
-    ensures some { IfSome result (Tells (name.now ∷ [])) }
+    ensures some { IfSome result (SpellsEvent (name.now ∷ [])) }
     ensures none { IfNone result (name.now ≢ codes "crash" → SpellNothing (name.now ∷ [])) }
 {
     let Some(fs) = Fs::new(0) else { unreachable!() };
@@ -143,7 +143,7 @@ fn parse_long<'a>(
     second: &str,
     rest: &[&'a str],
 ) -> Result<Option<LineEvent<'a>>, AllocError>
-    ensures some { IfOk result (λ read. IfSome read (Tells (name.now ∷ first.now ∷ second.now ∷ map (λ word. word.now) rest.now))) }
+    ensures some { IfOk result (λ read. IfSome read (SpellsEvent (name.now ∷ first.now ∷ second.now ∷ map (λ word. word.now) rest.now))) }
     ensures none { IfOk result (λ read. IfNone read
         (name.now ≢ codes "crash" → SpellNothing (name.now ∷ first.now ∷ second.now ∷ map (λ word. word.now) rest.now))) }
 {
@@ -157,7 +157,7 @@ fn parse_long<'a>(
 
 /// The event of the word `crash` and the words behind it, blocks.
 fn parse_crash<'a>(alloc: Global, words: &[&str]) -> Result<Option<LineEvent<'a>>, AllocError>
-    ensures some { IfOk result (λ read. IfSome read (Tells (codes "crash" ∷ map (λ word. word.now) words.now))) }
+    ensures some { IfOk result (λ read. IfSome read (SpellsEvent (codes "crash" ∷ map (λ word. word.now) words.now))) }
     ensures none { IfOk result (λ read. IfNone read (SpellNothing (codes "crash" ∷ map (λ word. word.now) words.now))) }
 {
     match parse_numbers(alloc, words)? {
@@ -176,7 +176,7 @@ fn cut<'a>(alloc: Global, text: &'a str, separator: char) -> Result<Vec<&'a str>
 
 /// The first word of a text, and what stands behind the space after it, where there is one.
 fn first_word(text: &str) -> (&str, Option<&str>)
-    ensures { words_of text.now ≡ result.0.now ∷ words_in (option_copied result.1) }
+    ensures { line_words text.now ≡ result.0.now ∷ words_in (option_copied result.1) }
 {
     match text.split_once(' ') {
         Some((word, rest)) => (word, Some(rest)),
@@ -200,7 +200,7 @@ fn read_words<'a>(
     name: &str,
     rest: Option<&'a str>,
 ) -> Result<Option<LineEvent<'a>>, AllocError>
-    ensures some { IfOk result (λ read. IfSome read (Tells (name.now ∷ words_in (option_copied rest.entry)))) }
+    ensures some { IfOk result (λ read. IfSome read (SpellsEvent (name.now ∷ words_in (option_copied rest.entry)))) }
     ensures none { IfOk result (λ read. IfNone read (name.now ≢ codes "crash" → SpellNothing (name.now ∷ words_in (option_copied rest.entry)))) }
 {
     let Some(rest) = rest else {
@@ -217,8 +217,8 @@ fn read_words<'a>(
 
 /// The event of a line as it tells it, or `None` where it tells none. Crashes come last, as few lines are such.
 pub fn read_line(alloc: Global, line: &str) -> Result<Option<LineEvent>, AllocError>
-    ensures some { IfOk result (λ read. IfSome read (Tells (words_of line.now))) }
-    ensures none { IfOk result (λ read. IfNone read (SpellNothing (words_of line.now))) }
+    ensures some { IfOk result (λ read. IfSome read (SpellsEvent (line_words line.now))) }
+    ensures none { IfOk result (λ read. IfNone read (SpellNothing (line_words line.now))) }
 {
     let (name, rest) = first_word(line);
     match read_words(alloc, name, rest)? {

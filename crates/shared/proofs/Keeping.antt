@@ -9,11 +9,11 @@ use Rattle.xn_model.specs.Calls.{Edit, init_of, propose_of, make_root_of, drop_r
 use Rattle.xn_state.specs.declared.call.Call.{Call}
 use Rattle.xn_state.specs.declared.call.Call.TheVariants.{Init, Propose, MakeRoot, DropRoot, Forget, Read, Root, Kind, Tainted, Pending, Floor, Free, Pick, Drain}
 use Rattle.xn_state.specs.declared.answer.Answer.{Answer}
-use Rattle.xn_state.specs.Answers.{Answers}
+use Rattle.xn_state.specs.Answers.{StateAnswers}
 use Rattle.xn_kernel.specs.Kernels.{KernelValue, TicketValue, result_map_err}
-use Rattle.xn_kernel.specs.Drains.{Reads, WritesTo, Round, Rounds, Stops, Refuses}
+use Rattle.xn_kernel.specs.Drains.{Reads, WriteRelation, Round, Rounds, StopsAtDevice, Refuses}
 use Rattle.disk.specs.declared.lane.DeviceFault.{DeviceFault}
-use Rattle.xn_kernel.specs.Flushes.{Ends, FlushRefuses, Wave, Waves, wave_room, with_begun}
+use Rattle.xn_kernel.specs.Flushes.{WriteEnds, FlushRefuses, Wave, Waves, wave_room, kernel_with_begun}
 use Rattle.shared.specs.Floors.{FloorsRise}
 use Rattle.shared.specs.Hubs.{NoWordAbove}
 use Rattle.shared.proofs.Floors.{init_rises, propose_rises, make_root_rises, drop_root_rises, forget_rises, begun_rises, settled_rises, rises_by, rises_on, begun_ok_rises, settled_ok_rises}
@@ -21,7 +21,7 @@ use Rattle.shared.proofs.Floors.{init_rises, propose_rises, make_root_rises, dro
 pub below : (words : List ℕ) (old new : StoreState) → NoWordAbove words old → FloorsRise old new → NoWordAbove words new
 below words old new h rise fs = omega (arith, h fs, rise fs)
 
-answers_rise : (T : Types) (old new : StoreState) (fs : ℕ) (call : Call) (a : Answer) → Answers T old fs call new a → FloorsRise old new
+answers_rise : (T : Types) (old new : StoreState) (fs : ℕ) (call : Call) (a : Answer) → StateAnswers T old fs call new a → FloorsRise old new
 answers_rise T old new fs (Init ty bytes) a h = init_rises T old new fs ty bytes h.0 h.2
 answers_rise T old new fs (Propose b edit) a h = propose_rises T old new fs b edit h.0 h.2
 answers_rise T old new fs (MakeRoot b) a h = make_root_rises old new fs b h.0 h.2
@@ -37,7 +37,7 @@ answers_rise T old new fs Free a h = rises_by old new h.1
 answers_rise T old new fs Pick a h = rises_by old new h.1
 answers_rise T old new fs Drain a h = absurd h
 
-pub call_below : (words : List ℕ) (T : Types) (old new : StoreState) (fs : ℕ) (call : Call) (a : Answer) → NoWordAbove words old → Answers T old fs call new a → NoWordAbove words new
+pub call_below : (words : List ℕ) (T : Types) (old new : StoreState) (fs : ℕ) (call : Call) (a : Answer) → NoWordAbove words old → StateAnswers T old fs call new a → NoWordAbove words new
 call_below words T old new fs call a h answers = below words old new h (answers_rise T old new fs call a answers)
 
 pub init_below : (words : List ℕ) (T : Types) (old new : StoreState) (fs t : ℕ) (bytes : List ℕ) (r : Result (ℕ × ℕ) Refusal) → NoWordAbove words old → Gives (init_of T old fs t bytes) old new r → NoWordAbove words new
@@ -73,7 +73,7 @@ finish_rises old new false unsynced b bytes (Ok landed) counts refusal Foreign U
 
 -- A drain
 
-module _ {L : Type 0} (bytes : L → List ℕ) (faults : L → ℕ) (writes : WritesTo L) (syncs reads : Reads L) where
+module _ {L : Type 0} (bytes : L → List ℕ) (faults : L → ℕ) (writes : WriteRelation L) (syncs reads : Reads L) where
   round_rises : (old new : KernelValue L) → Round bytes faults writes syncs reads old new → FloorsRise old.state new.state
   round_rises old new r =
       let one = begun_ok_rises old.state r.begun r.ticket.block (r.ticket.bytes, r.ticket.count) r.written.begins in
@@ -89,7 +89,7 @@ module _ {L : Type 0} (bytes : L → List ℕ) (faults : L → ℕ) (writes : Wr
   begins_then : (old begun new : StoreState) (b : ℕ) (what : List ℕ × ℕ) → begun_of old b ≡ Ok (what, begun) → new ≡ begun → FloorsRise old new
   begins_then old begun new b what begins next = rises_on old begun new (begun_ok_rises old begun b what begins) (rises_by begun new next)
 
-  stops_rise : (old new : KernelValue L) (ticket : Option (TicketValue L)) (refusal : Refusal) → Stops bytes faults writes syncs reads old ticket refusal new → FloorsRise old.state new.state
+  stops_rise : (old new : KernelValue L) (ticket : Option (TicketValue L)) (refusal : Refusal) → StopsAtDevice bytes faults writes syncs reads old ticket refusal new → FloorsRise old.state new.state
   stops_rise old new None refusal s =
       let u = s.1 in
       let one = begun_ok_rises old.state u.begun u.ticket.block (u.ticket.bytes, u.ticket.count) u.written.begins in
@@ -116,7 +116,7 @@ module _ {L : Type 0} (bytes : L → List ℕ) (faults : L → ℕ) (writes : Wr
   -- A flush
 
   ends_rise : (answer : Result (Unit {0}) DeviceFault) (home : L) (ticket : TicketValue L) (old : KernelValue L) (before : List (TicketValue L)) (is_durable : Bool) (new : KernelValue L) (after : List (TicketValue L)) →
-      Ends bytes faults syncs reads answer home ticket old before is_durable new after → FloorsRise old.state new.state
+      WriteEnds bytes faults syncs reads answer home ticket old before is_durable new after → FloorsRise old.state new.state
   ends_rise answer home ticket old before true new after e =
       let x = e.0 in
       rises_on old.state x.store new.state (settled_ok_rises old.state x.store ticket.block ticket.bytes (ticket.count, x.freed) x.settles) (rises_by x.store new.state (ap (λ k. k.state) x.next))
@@ -132,7 +132,7 @@ module _ {L : Type 0} (bytes : L → List ℕ) (faults : L → ℕ) (writes : Wr
   wave_rises zero room durable old before new after w = rises_by old.state new.state (ap (λ k. k.state) w.1)
   wave_rises (suc n) room durable old before new after w =
       let one = begun_ok_rises old.state w.begun w.ticket.block (w.ticket.bytes, w.ticket.count) w.written.begins in
-      let two = wave_rises n w.left w.others (with_begun old w.ticket.block w.begun) before w.mid w.between w.rest in
+      let two = wave_rises n w.left w.others (kernel_with_begun old w.ticket.block w.begun) before w.mid w.between w.rest in
       let three = ends_rise w.answer w.written.home w.ticket w.mid w.between w.is_durable new after w.ends in
       rises_on old.state w.begun new.state one (rises_on w.begun w.mid.state new.state two three)
 

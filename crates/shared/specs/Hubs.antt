@@ -8,7 +8,7 @@ use Rattle.xn_model.specs.Lives.{StoreState}
 use Rattle.xn_model.specs.Calls.{floor_of}
 use Rattle.xn_state.specs.declared.call.Call.{Call}
 use Rattle.xn_state.specs.declared.answer.Answer.{Answer}
-use Rattle.xn_state.specs.Answers.{Answers}
+use Rattle.xn_state.specs.Answers.{StateAnswers}
 use Rattle.xn_state.specs.States.{own_types}
 use Rattle.xn_kernel.specs.Kernels.{KernelValue, IsKernel}
 
@@ -38,5 +38,5 @@ pub record MayAnswer {L : Type 0} (bytes_of : L → List ℕ) (crash_leaves : L 
   pub found : HubValue L
   pub left : HubValue L
   pub sound : IsHub bytes_of crash_leaves found
-  pub answers : Answers (own_types found.kernel.state) found.kernel.state fs call left.kernel.state answer
+  pub answers : StateAnswers (own_types found.kernel.state) found.kernel.state fs call left.kernel.state answer
   pub rest : left ≡ with_store found left.kernel.state

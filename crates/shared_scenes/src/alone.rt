@@ -1,7 +1,7 @@
 // One thread: a start, a flush, a meeting, a call, a block that is forgotten.
 
 ghost use Rattle.std.specs.Prelude.{◌≡◌};
-ghost use Rattle.durable_floor.specs.Rules.{zeros};
+ghost use Rattle.durable_floor.specs.Rules.{zero_floor};
 
 use crate::disks::{bare_lanes, file_system, letters, mounted};
 use crate::hold::Open;
@@ -78,7 +78,7 @@ fn flushes<K: Naming, R: Wait + Abort>(
     kernel: Kernel<MemLane>,
 ) -> Result<(), Fail>
     requires floor { floor ≡ K.floor }
-    requires publisher { publisher ≡ record { floor = floor; seen = zeros } }
+    requires publisher { publisher ≡ record { floor = floor; seen = zero_floor } }
     requires stranger { stranger.floor ≡ floor }
     requires reader { reader.floor ≡ floor }
 {
@@ -98,7 +98,7 @@ fn fails<K: Naming, R: Wait + Abort>(
     kernel: Kernel<MemLane>,
 ) -> Result<(), Fail>
     requires floor { floor ≡ K.floor }
-    requires publisher { publisher ≡ record { floor = floor; seen = zeros } }
+    requires publisher { publisher ≡ record { floor = floor; seen = zero_floor } }
 {
     let shared: Shared<MemLane, Open, K> = share(alloc, kernel, floor, publisher, Open)?;
     starts(rt, &shared)?;
@@ -118,7 +118,7 @@ fn forgets<K: Naming, R: Wait + Abort>(
     kernel: Kernel<MemLane>,
 ) -> Result<(), Fail>
     requires floor { floor ≡ K.floor }
-    requires publisher { publisher ≡ record { floor = floor; seen = zeros } }
+    requires publisher { publisher ≡ record { floor = floor; seen = zero_floor } }
     requires reader { reader.floor ≡ floor }
 {
     let mut reader = reader;

@@ -1,7 +1,7 @@
 // Four workers and two flushers at once.
 
 ghost use Rattle.std.specs.Prelude.{◌≡◌, ◌≢◌, All, IfOk};
-ghost use Rattle.durable_floor.specs.Rules.{zeros};
+ghost use Rattle.durable_floor.specs.Rules.{zero_floor};
 ghost use Rattle.xn_state.specs.declared.call.Call.TheVariants.{Drain};
 
 use crate::disks::{bare_lanes, disk_of, edit_of, file_system, mounted};
@@ -236,7 +236,7 @@ fn at_once<K: Naming + Send + Sync, R: Threads + Wait + Abort + Sync>(
     kernel: Kernel<MemLane>,
 ) -> Result<(), Fail>
     requires floor { floor ≡ K.floor }
-    requires publisher { publisher ≡ record { floor = floor; seen = zeros } }
+    requires publisher { publisher ≡ record { floor = floor; seen = zero_floor } }
     requires stranger { stranger.floor ≡ floor }
     requires reader { reader.floor ≡ floor }
 {

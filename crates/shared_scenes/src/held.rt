@@ -1,7 +1,7 @@
 // A flusher is held in the middle of a write or of its sync, and an edit of its block is answered meanwhile.
 
 ghost use Rattle.std.specs.Prelude.{◌≡◌};
-ghost use Rattle.durable_floor.specs.Rules.{zeros};
+ghost use Rattle.durable_floor.specs.Rules.{zero_floor};
 
 use crate::disks::{bare_lanes, edit_of, file_system, letters, mounted};
 use crate::hold::{HeldIn, HeldLane, Hold, Holding, Open};
@@ -100,7 +100,7 @@ fn edits_of<
     hold: &Hold<C>,
 ) -> Result<(), Fail>
     requires floor { floor ≡ K.floor }
-    requires publisher { publisher ≡ record { floor = floor; seen = zeros } }
+    requires publisher { publisher ≡ record { floor = floor; seen = zero_floor } }
 {
     let shared: Shared<L, G, K> = share(alloc, kernel, floor, publisher, gate)?;
     let edit = edit_of(alloc, 0, 0x5a)?;
@@ -173,7 +173,7 @@ fn edits_of_two<
     hold: &Hold<C>,
 ) -> Result<(), Fail>
     requires floor { floor ≡ K.floor }
-    requires publisher { publisher ≡ record { floor = floor; seen = zeros } }
+    requires publisher { publisher ≡ record { floor = floor; seen = zero_floor } }
 {
     let shared: Shared<L, Open, K> = share(alloc, kernel, floor, publisher, Open)?;
     let edit = edit_of(alloc, 0, 0x5a)?;

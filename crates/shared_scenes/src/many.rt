@@ -2,7 +2,7 @@
 
 ghost use Rattle.std.specs.Prelude.{◌≡◌};
 ghost use Rattle.disk.specs.Mem.{memory_leaves};
-ghost use Rattle.durable_floor.specs.Rules.{zeros};
+ghost use Rattle.durable_floor.specs.Rules.{zero_floor};
 
 use crate::disks::{bare_lanes, file_system, mounted};
 use crate::hold::Open;
@@ -378,7 +378,7 @@ fn many<K: Naming + Send + Sync, R: Threads + Wait + Abort + Sync>(
     kernel: Kernel<FailingLane>,
 ) -> Result<(), Fail>
     requires floor { floor ≡ K.floor }
-    requires publisher { publisher ≡ record { floor = floor; seen = zeros } }
+    requires publisher { publisher ≡ record { floor = floor; seen = zero_floor } }
     requires reader { reader.floor ≡ floor }
 {
     let shared: Shared<FailingLane, Open, K> = share(alloc, kernel, floor, publisher, Open)?;

@@ -1,7 +1,7 @@
 // How a kernel comes to be shared, how a flusher ends, and how a write is finished by hand.
 
 ghost use Rattle.std.specs.Prelude.{◌≡◌};
-ghost use Rattle.durable_floor.specs.Rules.{zeros};
+ghost use Rattle.durable_floor.specs.Rules.{zero_floor};
 
 use disk::Lane;
 use durable_floor::{Floor, Naming, Publisher};
@@ -20,7 +20,7 @@ pub fn share<L: Lane + Drop, G: Gate + Drop, K: Naming>(
     gate: G,
 ) -> Result<Shared<L, G, K>, AllocError>
     requires floor { floor ≡ K.floor }
-    requires publisher { publisher ≡ record { floor = floor; seen = zeros } }
+    requires publisher { publisher ≡ record { floor = floor; seen = zero_floor } }
 {
     let floor = Arc::new(alloc, floor)?;
     let hub = Hub::new(kernel, publisher, Arc::try_clone(&floor)?);

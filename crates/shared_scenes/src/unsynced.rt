@@ -2,7 +2,7 @@
 
 ghost use Rattle.std.specs.Prelude.{◌≡◌};
 ghost use Rattle.disk.specs.Mem.{memory_leaves};
-ghost use Rattle.durable_floor.specs.Rules.{zeros};
+ghost use Rattle.durable_floor.specs.Rules.{zero_floor};
 
 use crate::alone::starts;
 use crate::disks::{bare_lanes, mounted};
@@ -130,7 +130,7 @@ fn unsynced<K: Naming, R: Wait + Abort>(
     kernel: Kernel<UnsyncedLane>,
 ) -> Result<(), Fail>
     requires floor { floor ≡ K.floor }
-    requires publisher { publisher ≡ record { floor = floor; seen = zeros } }
+    requires publisher { publisher ≡ record { floor = floor; seen = zero_floor } }
 {
     let shared: Shared<UnsyncedLane, Open, K> = share(alloc, kernel, floor, publisher, Open)?;
     starts(rt, &shared)?;

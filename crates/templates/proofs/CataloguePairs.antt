@@ -10,10 +10,10 @@ use Rattle.udf_code.specs.declared.word.Word.{Word}
 use Rattle.udf_code.specs.declared.word.Word.TheVariants.{Set, Add, Mul, Load4, Emit}
 use Rattle.udf_code.specs.Tree.{Tree, Claim, Stop, Plain, IfElse, Loop, Equal}
 use Rattle.udf_run.specs.declared.pair.Pair.{Pair}
-use Rattle.udf_run.specs.Meaning.{Machine, machine, reset, write, write_if, emit_if, number_at, step, turns, meaning, ◌>>=◌}
+use Rattle.udf_run.specs.Meaning.{Machine, machine, reset, write_register, write_if, emit_if, number_at, step, turns, meaning, ◌>>=◌}
 use Rattle.xn_model.specs.Root.{word_at, pointer, slot, unless_empty, templates_of, roots_of, owned_by_root}
-use Rattle.templates.specs.BuiltIns.{root_template}
-use Rattle.templates.specs.Meaning.{pair_of, pairs_after, owned_by}
+use Rattle.templates.specs.BuiltIns.{built_in_root}
+use Rattle.templates.specs.Meaning.{numbers_of_pair, pairs_after, owned_by}
 use Rattle.templates.proofs.Ranges.{upto-more}
 
 -- A load is the number at its place
@@ -32,15 +32,15 @@ number_at-word m at =
 
 -- Steps of a run
 
-written : (fine : Bool) (m : Machine) (r v : ℕ) → fine ≡ true → write_if fine m r v ≡ Some (write m r v)
+written : (fine : Bool) (m : Machine) (r v : ℕ) → fine ≡ true → write_if fine m r v ≡ Some (write_register m r v)
 written fine m r v h = ap (λ b. write_if b m r v) h
 
 module _ (block : List ℕ) where
   plain : (word : Word) (rest : Tree) (m after : Machine) → step word block m ≡ Some after → meaning (Plain word rest) block m ≡ meaning rest block after
   plain word rest m after h = ap (λ o. o >>= meaning rest block) h
 
-  looped : (a n : ℕ) (claims : List Claim) (body rest : Tree) (m after : Machine) → turns (meaning body block) a n m ≡ Some after → meaning (Loop a n claims body rest) block m ≡ meaning rest block (write after a (n - 1))
-  looped a n claims body rest m after h = ap (λ o. o >>= (λ end. meaning rest block (write end a (n - 1)))) h
+  looped : (a n : ℕ) (claims : List Claim) (body rest : Tree) (m after : Machine) → turns (meaning body block) a n m ≡ Some after → meaning (Loop a n claims body rest) block m ≡ meaning rest block (write_register after a (n - 1))
+  looped a n claims body rest m after h = ap (λ o. o >>= (λ end. meaning rest block (write_register end a (n - 1)))) h
 
 -- registers 1 to 7; the others are 0
 abbrev registers : ℕ → ℕ → ℕ → ℕ → ℕ → ℕ → ℕ → List ℕ
@@ -50,10 +50,10 @@ registers r1 r2 r3 r4 r5 r6 r7 = 0 ∷ r1 ∷ r2 ∷ r3 ∷ r4 ∷ r5 ∷ r6 ∷
 abbrev found : ℕ → ℕ → List Pair
 found block ty = cond (block == 0) [] (record { block = block; ty = ty } ∷ [])
 
-found-pairs : (block ty : ℕ) → map pair_of (found block ty) ≡ option_to_list (unless_empty (block, ty))
+found-pairs : (block ty : ℕ) → map numbers_of_pair (found block ty) ≡ option_to_list (unless_empty (block, ty))
 found-pairs block ty = by (block == 0)
   where
-    by : (b : Bool) → map pair_of (cond b [] (record { block = block; ty = ty } ∷ [])) ≡ option_to_list (cond b None (Some (block, ty)))
+    by : (b : Bool) → map numbers_of_pair (cond b [] (record { block = block; ty = ty } ∷ [])) ≡ option_to_list (cond b None (Some (block, ty)))
     by true = refl
     by false = refl
 
@@ -115,7 +115,7 @@ record Pointers (m : List ℕ) (n : ℕ) : Type 0 where
   c : ℕ
   es : List Pair
   turned : turns (meaning pointer_body m) 4 n (machine (registers 4 8 1 0 0 0 0) []) ≡ Some (machine (registers 4 8 1 k b c 0) es)
-  pairs : map pair_of es ≡ filter_map (λ i. unless_empty (pointer m i, 1)) (range_with_len 0 n)
+  pairs : map numbers_of_pair es ≡ filter_map (λ i. unless_empty (pointer m i, 1)) (range_with_len 0 n)
   few : length es ≤ n
 
 one_pointer : (m : List ℕ) (n : ℕ) → n < 16 → Pointers m n → Pointers m (suc n)
@@ -132,8 +132,8 @@ one_pointer m n within p =
       b = n * 4 + 8;
       c = name;
       es = p.es ++ found name 1;
-      turned = ap (λ o. o >>= (λ before. meaning pointer_body m (write before 4 n))) p.turned ∙ pointer_turn m n p.b p.c p.es within p.few;
-      pairs = map-append pair_of p.es (found name 1)
+      turned = ap (λ o. o >>= (λ before. meaning pointer_body m (write_register before 4 n))) p.turned ∙ pointer_turn m n p.b p.c p.es within p.few;
+      pairs = map-append numbers_of_pair p.es (found name 1)
           ∙ ((λ i. p.pairs i ++ (found-pairs name 1 ∙ ap (λ x. option_to_list (unless_empty (x, 1))) is) i) ∙ sym (upto-more (λ i. unless_empty (pointer m i, 1)) n));
       few = omega arith;
     }
@@ -250,7 +250,7 @@ record Slots (m : List ℕ) (k0 b0 c0 : ℕ) (before : List Pair) (n : ℕ) : Ty
   d : ℕ
   es : List Pair
   turned : turns (meaning slot_body m) 4 n (machine (registers 8 72 1 k0 b0 c0 0) before) ≡ Some (machine (registers 8 72 a k b c d) es)
-  pairs : map pair_of es ≡ map pair_of before ++ filter_map (λ i. unless_empty (slot m i)) (range_with_len 0 n)
+  pairs : map numbers_of_pair es ≡ map numbers_of_pair before ++ filter_map (λ i. unless_empty (slot m i)) (range_with_len 0 n)
   few : length es ≤ 16 + n
 
 one_slot : (m : List ℕ) (k0 b0 c0 : ℕ) (before : List Pair) (n : ℕ) → n < 32 → Slots m k0 b0 c0 before n → Slots m k0 b0 c0 before (suc n)
@@ -267,11 +267,11 @@ one_slot m k0 b0 c0 before n within p =
       c = turn.r6;
       d = turn.r7;
       es = p.es ++ one;
-      turned = ap (λ o. o >>= (λ before. meaning slot_body m (write before 4 n))) p.turned ∙ turn.ends;
-      pairs = map-append pair_of p.es one
+      turned = ap (λ o. o >>= (λ before. meaning slot_body m (write_register before 4 n))) p.turned ∙ turn.ends;
+      pairs = map-append numbers_of_pair p.es one
           ∙ ((λ i. p.pairs i ++ found-pairs (slot m n).0 (slot m n).1 i)
-          ∙ (append_assoc (map pair_of before) (filter_map (λ i. unless_empty (slot m i)) (range_with_len 0 n)) (option_to_list (unless_empty (slot m n)))
-          ∙ ap (λ l. map pair_of before ++ l) (sym (upto-more (λ i. unless_empty (slot m i)) n))));
+          ∙ (append_assoc (map numbers_of_pair before) (filter_map (λ i. unless_empty (slot m i)) (range_with_len 0 n)) (option_to_list (unless_empty (slot m n)))
+          ∙ ap (λ l. map numbers_of_pair before ++ l) (sym (upto-more (λ i. unless_empty (slot m i)) n))));
       few = omega arith;
     }
 
@@ -284,7 +284,7 @@ slots m k0 b0 c0 before few zero h = record {
   d = 0;
   es = before;
   turned = refl;
-  pairs = sym (append-nil (map pair_of before));
+  pairs = sym (append-nil (map numbers_of_pair before));
   few = omega arith;
 }
 slots m k0 b0 c0 before few (suc n) h = one_slot m k0 b0 c0 before n (omega arith) (slots m k0 b0 c0 before few n (omega arith))
@@ -329,6 +329,6 @@ program_owns : (m : List ℕ) (p n : ℕ) → p ≡ 16 → n ≡ 32 → pairs_af
 unfolding owned_by_root
 program_owns m p n e f = program_pairs m p n (omega arith) (omega arith) ∙ (λ i. all_pointers m p e i ++ all_slots m n f i)
 
-pub catalogue_owns : (m : List ℕ) → owned_by root_template.owns m ≡ owned_by_root m
-unfolding owned_by root_template
+pub catalogue_owns : (m : List ℕ) → owned_by built_in_root.owns m ≡ owned_by_root m
+unfolding owned_by built_in_root
 catalogue_owns m = program_owns m 16 32 refl refl

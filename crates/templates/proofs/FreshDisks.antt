@@ -11,17 +11,17 @@ use Rattle.std.proofs.lemmas.List.FromFn.{fill_by_all, length-range_with_len}
 use Rattle.xn_model.specs.Lists.{distinct, blank, blocks_of}
 use Rattle.xn_model.specs.Types.{Types, fits}
 use Rattle.xn_model.specs.Root.{marked, pointer, slot, unless_empty, templates_of, owned_by_root, HasBuiltIns}
-use Rattle.xn_model.specs.Mounts.{IsRecovered, recovered, found, found_by, found_in, found_in_slot, walk}
+use Rattle.xn_model.specs.Mounts.{IsRecovered, recovered, found, found_by, found_in, found_in_slot, mount_walk}
 use Rattle.xn_model.specs.Images.{Reach, root, step, HasOneOwner, IsSound, IsDiskSize, block_of}
 use Rattle.xn_model.proofs.ForCallers.{Contains-none, mount_holds, recovered_is}
 use Rattle.xn_model.specs.BareDisks.{zeros, bare_root, bare_disk, mounted_disk}
 use Rattle.xn_model.specs.Rules.{Holds}
 use Rattle.templates.specs.Templates.{TemplateValue, IsTemplate, template_bytes}
-use Rattle.templates.specs.BuiltIns.{root_template}
+use Rattle.templates.specs.BuiltIns.{built_in_root}
 use Rattle.templates.specs.Reading.{template_of_bytes}
 use Rattle.xn_model.specs.Languages.{types_in}
 use Rattle.templates.specs.Language.{language}
-use Rattle.templates.specs.Tables.{types_of, template_named, table_of_image}
+use Rattle.templates.specs.Tables.{table_types, template_named, table_of_image}
 use Rattle.templates.proofs.Meanings.{tables_are_catalogues}
 use Rattle.templates.specs.Formats.{formatted_root, formatted, root_found, template_found, fresh_found, table_of}
 use Rattle.templates.proofs.TablePlaces.{get_or-none}
@@ -47,7 +47,7 @@ module _ (count : ℕ) (ts : List TemplateValue) (size : IsDiskSize count) (few 
   root_bytes = formatted_root count n
 
   abbrev at : ℕ → TemplateValue
-  at i = get_or ts i root_template
+  at i = get_or ts i built_in_root
 
   content_root : content 0 ≡ root_bytes
   unfolding formatted
@@ -58,10 +58,10 @@ module _ (count : ℕ) (ts : List TemplateValue) (size : IsDiskSize count) (few 
   content_template b i e lt =
       let next : b ≡ suc i = omega arith in
       let long = length-map ts template_bytes in
-      ap content next ∙ (get_or_append_left (map template_bytes ts) (replicate (count - 1 - n) (zeros 512)) [] i (omega arith) ∙ get_or-map template_bytes ts i root_template [] lt)
+      ap content next ∙ (get_or_append_left (map template_bytes ts) (replicate (count - 1 - n) (zeros 512)) [] i (omega arith) ∙ get_or-map template_bytes ts i built_in_root [] lt)
 
   template_read : (b i : ℕ) → b ≡ 1 + i → i < n → template_of_bytes (content b) ≡ Ok (at i)
-  template_read b i e lt = ap template_of_bytes (content_template b i e lt) ∙ templates_are_read (at i) (all i root_template lt)
+  template_read b i e lt = ap template_of_bytes (content_template b i e lt) ∙ templates_are_read (at i) (all i built_in_root lt)
 
   place_named : (k b : ℕ) → b ≡ 1 + k → k < n → template_named content b ≡ Some (at k)
   place_named k b e lt =
@@ -75,7 +75,7 @@ module _ (count : ℕ) (ts : List TemplateValue) (size : IsDiskSize count) (few 
     | inl lt ↦
         let long = length-map ts (λ (t : TemplateValue). Some t) in
         get_or_append_left (map Some ts) (replicate (16 - n) None) None k (omega arith)
-        ∙ (get_or-map (λ (t : TemplateValue). Some t) ts k root_template None lt
+        ∙ (get_or-map (λ (t : TemplateValue). Some t) ts k built_in_root None lt
         ∙ sym (place_named k (pointer (content 0) k) (pointers_of k ∙ pointer_named count n few k lt) lt))
     | inr past ↦
         get_or-append_right (map Some ts) (replicate (16 - n) None) n k None (length-map ts (λ (t : TemplateValue). Some t)) past
@@ -93,8 +93,8 @@ module _ (count : ℕ) (ts : List TemplateValue) (size : IsDiskSize count) (few 
   places_are i x h = elim (cases_lt i n) [
     | inl lt ↦
         let long = length-map ts (λ (t : TemplateValue). Some t) in
-        let is = get_or_append_left (map Some ts) (replicate (16 - n) None) None i (omega arith) ∙ get_or-map (λ (t : TemplateValue). Some t) ts i root_template None lt in
-        subst IsTemplate (same_Some (at i) x (sym is ∙ h)) (all i root_template lt)
+        let is = get_or_append_left (map Some ts) (replicate (16 - n) None) None i (omega arith) ∙ get_or-map (λ (t : TemplateValue). Some t) ts i built_in_root None lt in
+        subst IsTemplate (same_Some (at i) x (sym is ∙ h)) (all i built_in_root lt)
     | inr past ↦
         let is = get_or-append_right (map Some ts) (replicate (16 - n) None) n i None (length-map ts (λ (t : TemplateValue). Some t)) past ∙ get_or-none (16 - n) (i - n) in
         absurd (none-some x (sym is ∙ h))
@@ -119,8 +119,8 @@ module _ (count : ℕ) (ts : List TemplateValue) (size : IsDiskSize count) (few 
   behind_root i d lt = elim (cases_lt i n) [
     | inl named ↦
         let front = length-map ts template_bytes in
-        ap length (get_or_append_left (map template_bytes ts) (replicate (count - 1 - n) (zeros 512)) d i (omega arith) ∙ get_or-map template_bytes ts i root_template d named)
-        ∙ length-template_bytes (at i) (all i root_template named)
+        ap length (get_or_append_left (map template_bytes ts) (replicate (count - 1 - n) (zeros 512)) d i (omega arith) ∙ get_or-map template_bytes ts i built_in_root d named)
+        ∙ length-template_bytes (at i) (all i built_in_root named)
     | inr past ↦
         ap length (get_or-append_right (map template_bytes ts) (replicate (count - 1 - n) (zeros 512)) n i d (length-map ts template_bytes) past
         ∙ get_or-replicate (count - 1 - n) (i - n) (zeros 512) d (omega arith))
@@ -135,7 +135,7 @@ module _ (count : ℕ) (ts : List TemplateValue) (size : IsDiskSize count) (few 
   -- What is reached: block 0, and each template's block
 
   abbrev T : Types
-  T = types_of (table_of ts)
+  T = table_types (table_of ts)
 
   pub built_ins : HasBuiltIns T
   built_ins = tables_have_built_ins (table_of ts) (record { places = table_length; templates = places_are })
@@ -176,7 +176,7 @@ module _ (count : ℕ) (ts : List TemplateValue) (size : IsDiskSize count) (few 
 
   template_fits : (b i : ℕ) → b ≡ 1 + i → i < n → fits T 1 (content b) ≡ true
   template_fits b i e lt =
-      let long = ap length (content_template b i e lt) ∙ length-template_bytes (at i) (all i root_template lt) in
+      let long = ap length (content_template b i e lt) ∙ length-template_bytes (at i) (all i built_in_root lt) in
       and_from _ _ (ap (λ ps. distinct (blocks_of ps)) (built_ins.template_owns (content b)))
       (ap (λ k. blank (drop k (content b))) (template_size (table_of ts) (content b)) ∙ ap blank (drop_all 512 (content b) (omega arith)))
 
@@ -218,7 +218,7 @@ module _ (count : ℕ) (ts : List TemplateValue) (size : IsDiskSize count) (few 
   named_by b t c u r h = known_named c u (known_owns b t c u (reached b t r) h)
 
   sound : IsSound T count content
-  unfolding types_of
+  unfolding table_types
   sound = record {
     size = size;
     long = ap length content_root ∙ root_length count n few;
@@ -263,18 +263,18 @@ module _ (count : ℕ) (ts : List TemplateValue) (size : IsDiskSize count) (few 
       ap (λ t. cond t (found_by (Some 0) None (templates_of (content 0)) ++ flat_map (found_in_slot (content 0)) (range_with_len 0 32)) (found_by (Some (1 + i)) None (T.owned 1 (content (1 + i))))) (ne_eqb (1 + i) 0 (λ z. absurd (omega arith)))
       ∙ ap (found_by (Some (1 + i)) None) (built_ins.template_owns (content (1 + i)))
 
-  walk_templates : (m : ℕ) (is : List ℕ) → length is ≤ m → walk m T image (map template_found is) ≡ map template_found is
+  walk_templates : (m : ℕ) (is : List ℕ) → length is ≤ m → mount_walk m T image (map template_found is) ≡ map template_found is
   walk_templates zero [] h = refl
   walk_templates zero (i ∷ is) h = absurd (omega arith)
   walk_templates (suc m) [] h = refl
   walk_templates (suc m) (i ∷ is) h = ap (λ fs. template_found i ∷ fs)
-      (ap (walk m T image) (ap (λ fs. map template_found is ++ fs) (template_finds i) ∙ append-nil (map template_found is)) ∙ walk_templates m is (omega arith))
+      (ap (mount_walk m T image) (ap (λ fs. map template_found is ++ fs) (template_finds i) ∙ append-nil (map template_found is)) ∙ walk_templates m is (omega arith))
 
-  walk_root : (m : ℕ) → n + 1 ≤ m → walk m T image (root_found ∷ []) ≡ fresh_found n
+  walk_root : (m : ℕ) → n + 1 ≤ m → mount_walk m T image (root_found ∷ []) ≡ fresh_found n
   walk_root zero h = absurd (omega arith)
   walk_root (suc m) h =
       let long = length-range_with_len 0 n in
-      ap (λ fs. root_found ∷ fs) (ap (walk m T image) root_finds ∙ walk_templates m (range_with_len 0 n) (omega arith))
+      ap (λ fs. root_found ∷ fs) (ap (mount_walk m T image) root_finds ∙ walk_templates m (range_with_len 0 n) (omega arith))
 
   found_are : found T image ≡ fresh_found n
   found_are = let whole = blocks_count in let least = size.0 in walk_root (length image) (omega arith)
@@ -287,7 +287,7 @@ module _ (count : ℕ) (ts : List TemplateValue) (size : IsDiskSize count) (few 
 
   -- the types are those of its catalogue
   types_are : T ≡ types_in language content
-  types_are = ap types_of (sym table_is) ∙ tables_are_catalogues content
+  types_are = ap table_types (sym table_is) ∙ tables_are_catalogues content
 
   pub holds : Holds (mounted_disk language image)
   holds = mount_holds (mounted_disk language image) (subst (λ S. IsSound S (length image) content) types_are whole_sound) (recovered (types_in language content) image)
@@ -298,7 +298,7 @@ pub formatted_holds : (count : ℕ) (templates : List TemplateValue) → IsDiskS
 formatted_holds = holds
 
 pub formatted_is_found : (count : ℕ) (templates : List TemplateValue) → IsDiskSize count → length templates ≤ 16 → All IsTemplate templates →
-    found (types_of (table_of templates)) (formatted count templates) ≡ fresh_found (length templates)
+    found (table_types (table_of templates)) (formatted count templates) ≡ fresh_found (length templates)
 formatted_is_found = found_are
 
 pub formatted_has_its_blocks : (count : ℕ) (templates : List TemplateValue) → IsDiskSize count → length templates ≤ 16 → All IsTemplate templates →
@@ -310,5 +310,5 @@ pub formatted_has_its_templates : (count : ℕ) (templates : List TemplateValue)
 formatted_has_its_templates = table_is
 
 pub formatted_is_sound : (count : ℕ) (templates : List TemplateValue) → IsDiskSize count → length templates ≤ 16 → All IsTemplate templates →
-    IsSound (types_of (table_of templates)) count (block_of (formatted count templates))
+    IsSound (table_types (table_of templates)) count (block_of (formatted count templates))
 formatted_is_sound = sound

@@ -12,7 +12,7 @@ use Rattle.xn_model.specs.Root.{pointer}
 use Rattle.templates.specs.declared.fault.TemplateFault.{TemplateFault}
 use Rattle.templates.specs.Templates.{TemplateValue}
 use Rattle.templates.specs.Reading.{template_of_bytes}
-use Rattle.templates.specs.Tables.{TableValue, template_of, types_of, owned_under, size_under}
+use Rattle.templates.specs.Tables.{TableValue, template_of, table_types, owned_under, size_under}
 use Rattle.templates.specs.Language.{language, meaning_of}
 use Rattle.templates.proofs.TablePlaces.{at_place}
 
@@ -34,24 +34,24 @@ language_some m h = go (template_of_bytes m) h
     go (Err f) h = absurd (false≢true h)
 
 -- a type whose place is empty is not installed
-pub none_there : (table : TableValue) (content : ℕ → List ℕ) (i : ℕ) → i < 16 → types_of table ≡ types_in language content → pointer (content 0) i ≡ 0 → template_of table (3 + i) ≡ None
-unfolding types_of types_in
+pub none_there : (table : TableValue) (content : ℕ → List ℕ) (i : ℕ) → i < 16 → table_types table ≡ types_in language content → pointer (content 0) i ≡ 0 → template_of table (3 + i) ≡ None
+unfolding table_types types_in
 none_there table content i few same empty = go (template_of table (3 + i)) (ap (λ (T : Types). T.installed (3 + i)) same ∙ ap is_some none)
   where
-    none : model.template_of language content (3 + i) ≡ None
+    none : model.language_template language content (3 + i) ≡ None
     none =
         cond-false (3 + i == 0) (Some model.root_template) _ (ne_eqb (3 + i) 0 (λ z. absurd (omega (arith, z))))
         ∙ (cond-false (nat_lt (3 + i) 3) (Some model.data_template) _ (le-ltb (3 + i) 3 (omega arith))
-        ∙ (cond-true (nat_lt (3 + i) 19) (model.template_named language content (pointer (content 0) (3 + i - 3))) None (lt-ltb (3 + i) 19 (omega (arith, few)))
-        ∙ (ap (λ j. model.template_named language content (pointer (content 0) j)) (let back : 3 + i - 3 ≡ i = omega arith in back)
-        ∙ ap (model.template_named language content) empty)))
+        ∙ (cond-true (nat_lt (3 + i) 19) (model.language_template_named language content (pointer (content 0) (3 + i - 3))) None (lt-ltb (3 + i) 19 (omega (arith, few)))
+        ∙ (ap (λ j. model.language_template_named language content (pointer (content 0) j)) (let back : 3 + i - 3 ≡ i = omega arith in back)
+        ∙ ap (model.language_template_named language content) empty)))
 
     go : (o : Option TemplateValue) → is_some o ≡ false → o ≡ None
     go None e = refl
     go (Some t) e = absurd (false≢true (sym e))
 
-module _ (table : TableValue) (v w : ℕ → List ℕ) (i : ℕ) (t : TemplateValue) (long : length table ≡ 16) (few : i < 16) (before : types_of table ≡ types_in language v)
-    (own : model.template_of language w (3 + i) ≡ Some (meaning_of t)) (others : (u : ℕ) → u ≢ 3 + i → model.template_of language w u ≡ model.template_of language v u) where
+module _ (table : TableValue) (v w : ℕ → List ℕ) (i : ℕ) (t : TemplateValue) (long : length table ≡ 16) (few : i < 16) (before : table_types table ≡ types_in language v)
+    (own : model.language_template language w (3 + i) ≡ Some (meaning_of t)) (others : (u : ℕ) → u ≢ 3 + i → model.language_template language w u ≡ model.language_template language v u) where
   abbrev after : TableValue
   after = slice_set table i (Some t)
 
@@ -71,32 +71,32 @@ module _ (table : TableValue) (v w : ℕ → List ℕ) (i : ℕ) (t : TemplateVa
         ∙ at_place table u ge)
   ]
 
-  installed_is : (u : ℕ) → (types_of after).installed u ≡ (types_in language w).installed u
-  unfolding types_of types_in
+  installed_is : (u : ℕ) → (table_types after).installed u ≡ (types_in language w).installed u
+  unfolding table_types types_in
   installed_is u = elim (cases_eq u (3 + i)) [
-    | inl e ↦ ap (λ x. is_some (template_of after x)) e ∙ (ap is_some new_place ∙ sym (ap (λ x. is_some (model.template_of language w x)) e ∙ ap is_some own))
+    | inl e ↦ ap (λ x. is_some (template_of after x)) e ∙ (ap is_some new_place ∙ sym (ap (λ x. is_some (model.language_template language w x)) e ∙ ap is_some own))
     | inr ne ↦ ap is_some (other_place u ne) ∙ (ap (λ (T : Types). T.installed u) before ∙ sym (same_installed language v w u (others u ne)))
   ]
 
-  owned_is : (u : ℕ) → (types_of after).owned u ≡ (types_in language w).owned u
-  unfolding types_of types_in
+  owned_is : (u : ℕ) → (table_types after).owned u ≡ (types_in language w).owned u
+  unfolding table_types types_in
   owned_is u = elim (cases_eq u (3 + i)) [
-    | inl e ↦ (λ j m. owned_under (template_of after (e j)) m) ∙ ((λ j m. owned_under (new_place j) m) ∙ sym ((λ j m. model.owned_under (model.template_of language w (e j)) m) ∙ (λ j m. model.owned_under (own j) m)))
+    | inl e ↦ (λ j m. owned_under (template_of after (e j)) m) ∙ ((λ j m. owned_under (new_place j) m) ∙ sym ((λ j m. model.owned_by_template (model.language_template language w (e j)) m) ∙ (λ j m. model.owned_by_template (own j) m)))
     | inr ne ↦ (λ j m. owned_under (other_place u ne j) m) ∙ (ap (λ (T : Types). T.owned u) before ∙ sym (same_owned language v w u (others u ne)))
   ]
 
-  size_is : (u : ℕ) → (types_of after).size u ≡ (types_in language w).size u
-  unfolding types_of types_in
+  size_is : (u : ℕ) → (table_types after).size u ≡ (types_in language w).size u
+  unfolding table_types types_in
   size_is u = elim (cases_eq u (3 + i)) [
-    | inl e ↦ (λ j m. size_under (template_of after (e j)) m) ∙ ((λ j m. size_under (new_place j) m) ∙ sym ((λ j m. model.size_under (model.template_of language w (e j)) m) ∙ (λ j m. model.size_under (own j) m)))
+    | inl e ↦ (λ j m. size_under (template_of after (e j)) m) ∙ ((λ j m. size_under (new_place j) m) ∙ sym ((λ j m. model.size_by_template (model.language_template language w (e j)) m) ∙ (λ j m. model.size_by_template (own j) m)))
     | inr ne ↦ (λ j m. size_under (other_place u ne j) m) ∙ (ap (λ (T : Types). T.size u) before ∙ sym (same_size language v w u (others u ne)))
   ]
 
-  template_is : (types_of after).template ≡ (types_in language w).template
-  unfolding types_of types_in
+  template_is : (table_types after).template ≡ (types_in language w).template
+  unfolding table_types types_in
   template_is = ap (λ (T : Types). T.template) before
 
-  pub put_types : types_of after ≡ types_in language w
+  pub put_types : table_types after ≡ types_in language w
   put_types = λ j. record {
     installed = λ u. installed_is u j;
     owned = λ u. owned_is u j;

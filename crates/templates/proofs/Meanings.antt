@@ -11,7 +11,7 @@ use Rattle.xn_model.specs.Languages.{Template, types_in, root_template, data_tem
 use Rattle.xn_model.specs.Languages as model
 use Rattle.templates.specs.Templates.{TemplateValue}
 use Rattle.templates.specs.Reading.{template_of_bytes}
-use Rattle.templates.specs.Tables.{types_of, template_of, template_named, table_of_image, owned_under, size_under}
+use Rattle.templates.specs.Tables.{table_types, template_of, template_named, table_of_image, owned_under, size_under}
 use Rattle.templates.specs.Language.{language, meaning_of}
 use Rattle.templates.proofs.TablePlaces.{at_place}
 use Rattle.templates.proofs.BuiltInTypes.{root_size, leaf_size, leaf_owns}
@@ -23,10 +23,10 @@ module _ (content : ℕ → List ℕ) where
   ours t = template_of (table_of_image content) t
 
   abbrev theirs : ℕ → Option Template
-  theirs t = model.template_of language content t
+  theirs t = model.language_template language content t
 
   -- a type of the catalogue
-  named_same : (p : ℕ) → model.template_named language content p ≡ option_map meaning_of (template_named content p)
+  named_same : (p : ℕ) → model.language_template_named language content p ≡ option_map meaning_of (template_named content p)
   unfolding language
   named_same p = go (p == 0)
     where
@@ -45,7 +45,7 @@ module _ (content : ℕ → List ℕ) where
 
   later : (t : ℕ) → 3 ≤ t → theirs t ≡ option_map meaning_of (ours t)
   later t le =
-      let named = model.template_named language content (pointer (content 0) (t - 3)) in
+      let named = model.language_template_named language content (pointer (content 0) (t - 3)) in
       let rest = cond (nat_lt t 19) named None in
       cond-false (t == 0) (Some root_template) (cond (nat_lt t 3) (Some data_template) rest) (ne_eqb t 0 (λ z. absurd (omega arith)))
       ∙ (cond-false (nat_lt t 3) (Some data_template) rest (le-ltb t 3 le)
@@ -58,11 +58,11 @@ module _ (content : ℕ → List ℕ) where
             ∙ ap (option_map meaning_of) (sym (past_is (t - 3) (omega arith)) ∙ at_place (table_of_image content) t le)
       ])
 
-  under : (o : Option TemplateValue) (m : List ℕ) → model.owned_under (option_map meaning_of o) m ≡ owned_under o m
+  under : (o : Option TemplateValue) (m : List ℕ) → model.owned_by_template (option_map meaning_of o) m ≡ owned_under o m
   under None m = refl
   under (Some t) m = refl
 
-  size_of : (o : Option TemplateValue) (m : List ℕ) → model.size_under (option_map meaning_of o) m ≡ size_under o m
+  size_of : (o : Option TemplateValue) (m : List ℕ) → model.size_by_template (option_map meaning_of o) m ≡ size_under o m
   size_of None m = refl
   size_of (Some t) m = refl
 
@@ -77,19 +77,19 @@ module _ (content : ℕ → List ℕ) where
   installed_same (suc (suc zero)) = refl
   installed_same (suc (suc (suc t))) = sym (some_of (ours (suc (suc (suc t))))) ∙ ap is_some (sym (later (suc (suc (suc t))) (omega arith)))
 
-  owned_same : (t : ℕ) (m : List ℕ) → owned_under (ours t) m ≡ model.owned_under (theirs t) m
+  owned_same : (t : ℕ) (m : List ℕ) → owned_under (ours t) m ≡ model.owned_by_template (theirs t) m
   unfolding template_of
   owned_same zero m = catalogue_owns m
   owned_same (suc zero) m = leaf_owns m
   owned_same (suc (suc zero)) m = leaf_owns m
-  owned_same (suc (suc (suc t))) m = sym (under (ours (suc (suc (suc t)))) m) ∙ ap (λ o. model.owned_under o m) (sym (later (suc (suc (suc t))) (omega arith)))
+  owned_same (suc (suc (suc t))) m = sym (under (ours (suc (suc (suc t)))) m) ∙ ap (λ o. model.owned_by_template o m) (sym (later (suc (suc (suc t))) (omega arith)))
 
-  size_same : (t : ℕ) (m : List ℕ) → size_under (ours t) m ≡ model.size_under (theirs t) m
+  size_same : (t : ℕ) (m : List ℕ) → size_under (ours t) m ≡ model.size_by_template (theirs t) m
   unfolding template_of
   size_same zero m = root_size m
   size_same (suc zero) m = leaf_size m
   size_same (suc (suc zero)) m = leaf_size m
-  size_same (suc (suc (suc t))) m = sym (size_of (ours (suc (suc (suc t)))) m) ∙ ap (λ o. model.size_under o m) (sym (later (suc (suc (suc t))) (omega arith)))
+  size_same (suc (suc (suc t))) m = sym (size_of (ours (suc (suc (suc t)))) m) ∙ ap (λ o. model.size_by_template o m) (sym (later (suc (suc (suc t))) (omega arith)))
 
   template_same : (m : List ℕ) → is_ok (template_of_bytes m) ≡ is_some (language m)
   unfolding language
@@ -99,8 +99,8 @@ module _ (content : ℕ → List ℕ) where
       go (Ok t) = refl
       go (Err e) = refl
 
-  pub tables_are_catalogues : types_of (table_of_image content) ≡ types_in language content
-  unfolding types_of types_in
+  pub tables_are_catalogues : table_types (table_of_image content) ≡ types_in language content
+  unfolding table_types types_in
   tables_are_catalogues = λ i. record {
     installed = λ t. installed_same t i;
     owned = λ t m. owned_same t m i;

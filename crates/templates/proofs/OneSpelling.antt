@@ -19,13 +19,13 @@ use Rattle.udf_verify.specs.declared.fault.Role.TheVariants as role
 use Rattle.udf_verify.specs.declared.fault.VerifyFault.{VerifyFault}
 use Rattle.udf_verify.specs.Intervals.{Interval}
 use Rattle.udf_verify.specs.Program.{Program, IsChecked, tree}
-use Rattle.udf_verify.specs.Verdict.{verdict}
+use Rattle.udf_verify.specs.Verdict.{program_verdict}
 use Rattle.xn_model.specs.Lists.{blank}
 use Rattle.xn_model.specs.BareDisks.{zeros}
 use Rattle.templates.specs.declared.fault.TemplateFault.{TemplateFault}
 use Rattle.templates.specs.declared.fault.TemplateFault.TheVariants.{NoMemory, BadMark, BadCode, NotVerified, BytesAfter}
 use Rattle.templates.specs.Templates.{TemplateValue, IsTemplate, template_mark, template_bytes}
-use Rattle.templates.specs.Reading.{demand, owns_count, size_count, owns_end, size_end, head_of, words_of_code, program_of_words, template_of_code, template_of_bytes}
+use Rattle.templates.specs.Reading.{fault_unless, owns_count, size_count, owns_end, size_end, head_of, words_of_code, program_of_words, template_of_code, template_of_bytes}
 use Rattle.templates.proofs.ReadSteps.{head_wants_no_memory, demand_met, programs_read, block_read}
 use Rattle.templates.proofs.WordsWritten.{length-encoded_words}
 
@@ -39,7 +39,7 @@ map_never : {A B E : Type 0} (r : Result A E) (f : A → B) (fault : TemplateFau
 map_never (Ok x) f fault ne = λ k. cc
 map_never (Err e) f fault ne = λ k. let same : fault ≡ NoMemory = cc in ne same
 
-demand_never : (t : Bool) (fault : TemplateFault) → fault ≢ NoMemory → demand t fault ≢ Err NoMemory
+demand_never : (t : Bool) (fault : TemplateFault) → fault ≢ NoMemory → fault_unless t fault ≢ Err NoMemory
 demand_never true fault ne = λ k. cc
 demand_never false fault ne = λ k. let same : fault ≡ NoMemory = cc in ne same
 
@@ -51,8 +51,8 @@ unfolding template_of_code
 code_never owns size =
     step_never _ _ (map_never (decoded owns) (λ words. words) BadCode (λ k. cc))
     (λ owns_words. step_never _ _ (map_never (decoded size) (λ words. words) BadCode (λ k. cc))
-    (λ size_words. step_never _ _ (map_never (verdict role.Owns (tree_of owns_words)) _ NotVerified (λ k. cc))
-    (λ program. step_never _ _ (map_never (verdict role.Size (tree_of size_words)) _ NotVerified (λ k. cc)) (λ answer. ok_never _))))
+    (λ size_words. step_never _ _ (map_never (program_verdict role.Owns (tree_of owns_words)) _ NotVerified (λ k. cc))
+    (λ program. step_never _ _ (map_never (program_verdict role.Size (tree_of size_words)) _ NotVerified (λ k. cc)) (λ answer. ok_never _))))
 
 pub blocks_want_no_memory : (m : List ℕ) → template_of_bytes m ≢ Err NoMemory
 unfolding template_of_bytes
@@ -76,7 +76,7 @@ blank_is (x ∷ xs) h =
 -- A template is read from its block
 
 program_back : (p : Program) (r : Role) → p.role ≡ r → IsChecked p → program_of_words r p.words ≡ Ok p
-program_back p r e is = subst (λ x. program_of_words x p.words ≡ Ok p) e (by (verdict p.role (tree p)) is.accepted)
+program_back p r e is = subst (λ x. program_of_words x p.words ≡ Ok p) e (by (program_verdict p.role (tree p)) is.accepted)
   where
     by : {A E : Type 0} (v : Result A E) → IsOk v → result_map_both (λ final. p) (λ fault. NotVerified) v ≡ Ok p
     by (Ok x) h = refl
@@ -147,7 +147,7 @@ templates_are_read = template_back
 
 -- What is read from a block is the template of that block
 
-demand_ok : (t : Bool) (fault : TemplateFault) (x : Unit {0}) → demand t fault ≡ Ok x → t ≡ true
+demand_ok : (t : Bool) (fault : TemplateFault) (x : Unit {0}) → fault_unless t fault ≡ Ok x → t ≡ true
 demand_ok true fault x h = refl
 demand_ok false fault x h = absurd (cc)
 
@@ -164,12 +164,12 @@ words_read code words bytes h = decoded_is_code code bytes words (by (decoded co
 -- the program of these words, accepted for this role
 record Accepted (r : Role) (words : List Word) (p : Program) : Type 0 where
   is : p ≡ record { words = words; role = r }
-  accepted : IsOk (verdict r (tree_of words))
+  accepted : IsOk (program_verdict r (tree_of words))
 
 program_read : (r : Role) (words : List Word) (p : Program) → program_of_words r words ≡ Ok p → Accepted r words p
-program_read r words p h = by (verdict r (tree_of words)) refl h
+program_read r words p h = by (program_verdict r (tree_of words)) refl h
   where
-    by : (v : Result (List Interval) VerifyFault) → verdict r (tree_of words) ≡ v → result_map_both (λ final. record { words = words; role = r }) (λ fault. NotVerified) v ≡ Ok p → Accepted r words p
+    by : (v : Result (List Interval) VerifyFault) → program_verdict r (tree_of words) ≡ v → result_map_both (λ final. record { words = words; role = r }) (λ fault. NotVerified) v ≡ Ok p → Accepted r words p
     by (Ok x) e g = record { is = sym (ok_same _ p g); accepted = ap is_ok e }
     by (Err f) e g = absurd (cc)
 
@@ -233,8 +233,8 @@ module _ (m : List ℕ) (t : TemplateValue) (long : length m ≡ 512) (bytes : A
   steps h =
       let a = bind_ok (head_of m) _ t h in
       let b = bind_ok (template_of_code (slice_range m 4 (owns_end m)) (slice_range m (owns_end m) (size_end m))) _ t a.2 in
-      let c = bind_ok (demand (blank (drop (size_end m) m)) BytesAfter) _ t b.2 in
-      let d = bind_ok (demand (bytes_eq (take 2 m) template_mark) BadMark) _ a.0 a.1 in
+      let c = bind_ok (fault_unless (blank (drop (size_end m) m)) BytesAfter) _ t b.2 in
+      let d = bind_ok (fault_unless (bytes_eq (take 2 m) template_mark) BadMark) _ a.0 a.1 in
       record {
         mark = demand_ok _ BadMark d.0 d.1;
         few = leb-true (owns_count m + size_count m) 127 (demand_ok _ BadCode a.0 d.2);

@@ -10,7 +10,7 @@ use Rattle.xn_model.specs.Lists.{blank}
 use Rattle.templates.specs.declared.fault.TemplateFault.{TemplateFault}
 use Rattle.templates.specs.declared.fault.TemplateFault.TheVariants.{NoMemory, BadMark, BadCode, BytesAfter}
 use Rattle.templates.specs.Templates.{TemplateValue, template_mark}
-use Rattle.templates.specs.Reading.{demand, owns_count, size_count, owns_end, size_end, head_of, words_of_code, program_of_words, template_of_code, template_of_bytes}
+use Rattle.templates.specs.Reading.{fault_unless, owns_count, size_count, owns_end, size_end, head_of, words_of_code, program_of_words, template_of_code, template_of_bytes}
 
 -- a step that fails, and one that is done
 step_err : {A B E : Type 0} (r : Result A E) (f : A → Result B E) (e : E) → r ≡ Err e → (r >>= f) ≡ Err e
@@ -19,11 +19,11 @@ step_err r f e h = ap (λ x. x >>= f) h
 step_ok : {A B E : Type 0} (r : Result A E) (f : A → Result B E) (x : A) → r ≡ Ok x → (r >>= f) ≡ f x
 step_ok r f x h = ap (λ y. y >>= f) h
 
-pub demand_met : (t : Bool) (f : TemplateFault) → t ≡ true → demand t f ≡ Ok (tt {0})
-demand_met t f h = ap (λ b. demand b f) h
+pub demand_met : (t : Bool) (f : TemplateFault) → t ≡ true → fault_unless t f ≡ Ok (tt {0})
+demand_met t f h = ap (λ b. fault_unless b f) h
 
-demand_unmet : (t : Bool) (f : TemplateFault) → t ≡ false → demand t f ≡ Err f
-demand_unmet t f h = ap (λ b. demand b f) h
+demand_unmet : (t : Bool) (f : TemplateFault) → t ≡ false → fault_unless t f ≡ Err f
+demand_unmet t f h = ap (λ b. fault_unless b f) h
 
 -- The first four bytes
 
@@ -36,7 +36,7 @@ module _ (m mark : List ℕ) (ne : Bool) (is : mark ≡ template_mark) (test : n
   bad_mark h = step_err _ _ BadMark (demand_unmet _ BadMark (not-true _ (sym differs ∙ h)))
 
   module _ (h : ne ≡ false) where
-    right : demand (bytes_eq (take 2 m) template_mark) BadMark ≡ Ok (tt {0})
+    right : fault_unless (bytes_eq (take 2 m) template_mark) BadMark ≡ Ok (tt {0})
     right = demand_met _ BadMark (not-false _ (sym differs ∙ h))
 
     pub bad_counts : 127 < owns_count m + size_count m → head_of m ≡ Err BadCode
@@ -47,7 +47,7 @@ module _ (m mark : List ℕ) (ne : Bool) (is : mark ≡ template_mark) (test : n
     unfolding head_of
     good_head few = step_ok _ _ (tt {0}) right ∙ demand_met _ BadCode (le-leb (owns_count m + size_count m) 127 few)
 
-demand_fault : (t : Bool) (f g : TemplateFault) → demand t f ≡ Err g → f ≡ g
+demand_fault : (t : Bool) (f g : TemplateFault) → fault_unless t f ≡ Err g → f ≡ g
 demand_fault true f g h = absurd (cc)
 demand_fault false f g h = cc
 
@@ -55,7 +55,7 @@ pub head_wants_no_memory : (m : List ℕ) → head_of m ≢ Err NoMemory
 unfolding head_of
 head_wants_no_memory m h = by (bytes_eq (take 2 m) template_mark) h
   where
-    by : (t : Bool) → (demand t BadMark >>= (λ _. demand (nat_le (owns_count m + size_count m) 127) BadCode)) ≡ Err NoMemory → ⊥
+    by : (t : Bool) → (fault_unless t BadMark >>= (λ _. fault_unless (nat_le (owns_count m + size_count m) 127) BadCode)) ≡ Err NoMemory → ⊥
     by true h = let e = demand_fault _ BadCode NoMemory h in cc
     by false h = cc
 
@@ -103,7 +103,7 @@ module _ (m : List ℕ) where
     code_fault f h = step_ok _ _ (tt {0}) head ∙ step_err _ _ f (ap code_of (sym are) ∙ h)
 
     module _ (t : TemplateValue) (read : code_of ends ≡ Ok t) where
-      at_rest : template_of_bytes m ≡ (demand (blank (drop (size_end m) m)) BytesAfter >>= (λ _. Ok t))
+      at_rest : template_of_bytes m ≡ (fault_unless (blank (drop (size_end m) m)) BytesAfter >>= (λ _. Ok t))
       unfolding template_of_bytes
       at_rest = step_ok _ _ (tt {0}) head ∙ step_ok _ _ t (ap code_of (sym are) ∙ read)
 

@@ -11,12 +11,12 @@ use Rattle.udf_run.specs.Meaning.{Machine, meaning, reset}
 use Rattle.udf_run.specs.ReadSets.{DecidesRun}
 use Rattle.templates.specs.Decided.{DecidesOwned}
 use Rattle.templates.specs.Templates.{TemplateValue, IsTemplate}
-use Rattle.templates.specs.BuiltIns.{root_template, leaf_template, built_in}
-use Rattle.templates.specs.Meaning.{pair_of, pairs_after, answer_after, owned_by, answer_of}
-use Rattle.templates.specs.Tables.{TableValue, IsTable, TellsTemplate, template_of, owned_under, size_under, types_of}
+use Rattle.templates.specs.BuiltIns.{built_in_root, leaf_template, built_in}
+use Rattle.templates.specs.Meaning.{numbers_of_pair, pairs_after, answer_after, owned_by, answer_of}
+use Rattle.templates.specs.Tables.{TableValue, IsTable, TellsTemplate, template_of, owned_under, size_under, table_types}
 
 module _ (table : TableValue) (t : ℕ) where
-  pub at_root : (root : TemplateValue) → root ≡ root_template → t ≡ 0 → Some root ≡ template_of table t
+  pub at_root : (root : TemplateValue) → root ≡ built_in_root → t ≡ 0 → Some root ≡ template_of table t
   unfolding template_of
   at_root root is e = ap Some is ∙ sym (ap (template_of table) e)
 
@@ -24,7 +24,7 @@ module _ (table : TableValue) (t : ℕ) where
   unfolding template_of
   at_leaf leaf is ne lt =
       ap Some is
-      ∙ (sym (ap (λ b. Some (cond b root_template leaf_template)) (ne_eqb t 0 ne))
+      ∙ (sym (ap (λ b. Some (cond b built_in_root leaf_template)) (ne_eqb t 0 ne))
       ∙ sym (ap (λ b. cond b (Some (built_in t)) (get_or table (t - 3) None)) (lt-ltb t 3 lt)))
 
   pub at_place : 3 ≤ t → get_or table (t - 3) None ≡ template_of table t
@@ -33,12 +33,12 @@ module _ (table : TableValue) (t : ℕ) where
 
 -- What a look-up in a table tells of its types
 
-under_table : (table : TableValue) (t : ℕ) (found : Option TemplateValue) → template_of table t ≡ found → TellsTemplate (types_of table) t found
-unfolding types_of
+under_table : (table : TableValue) (t : ℕ) (found : Option TemplateValue) → template_of table t ≡ found → TellsTemplate (table_types table) t found
+unfolding table_types
 under_table table t (Some x) e = record { installed = ap is_some e; owned = λ m. ap (λ o. owned_under o m) e; size = λ m. ap (λ o. size_under o m) e }
 under_table table t None e = ap is_some e
 
-pub tells : (table : TableValue) (T : Types) (t : ℕ) (found : Option TemplateValue) → found ≡ template_of table t → types_of table ≡ T → TellsTemplate T t found
+pub tells : (table : TableValue) (T : Types) (t : ℕ) (found : Option TemplateValue) → found ≡ template_of table t → table_types table ≡ T → TellsTemplate T t found
 tells table T t found e same = subst (λ U. TellsTemplate U t found) same (under_table table t found (sym e))
 
 -- A table without templates, and one more template in a table
@@ -67,28 +67,28 @@ table_put table i t within is good = record {
 -- What a type means
 
 module _ (table : TableValue) (t : ℕ) where
-  pub not_absent : IsTrue ((types_of table).installed t) → template_of table t ≡ None → ⊥
-  unfolding types_of
+  pub not_absent : IsTrue ((table_types table).installed t) → template_of table t ≡ None → ⊥
+  unfolding table_types
   not_absent is none = false≢true (sym (ap is_some none) ∙ is)
 
   module _ (x : TemplateValue) (at : template_of table t ≡ Some x) where
-    pub owned_is : (program : Program) (m : List ℕ) (ps : List Pair) → program ≡ x.owns → IsSomeAnd (meaning (tree program) m reset) (λ end. ps ≡ end.emitted) → map pair_of ps ≡ (types_of table).owned t m
-    unfolding types_of owned_by
+    pub owned_is : (program : Program) (m : List ℕ) (ps : List Pair) → program ≡ x.owns → IsSomeAnd (meaning (tree program) m reset) (λ end. ps ≡ end.emitted) → map numbers_of_pair ps ≡ (table_types table).owned t m
+    unfolding table_types owned_by
     owned_is program m ps is run = by (meaning (tree program) m reset) refl run
       where
-        by : (o : Option Machine) → meaning (tree program) m reset ≡ o → IsSomeAnd o (λ end. ps ≡ end.emitted) → map pair_of ps ≡ owned_under (template_of table t) m
+        by : (o : Option Machine) → meaning (tree program) m reset ≡ o → IsSomeAnd o (λ end. ps ≡ end.emitted) → map numbers_of_pair ps ≡ owned_under (template_of table t) m
         by None e h = absurd h
         by (Some end) e h =
-            ap (map pair_of) h ∙ (sym (ap pairs_after e) ∙ (ap (λ (p : Program). pairs_after (meaning (tree p) m reset)) is ∙ sym (ap (λ o. owned_under o m) at)))
+            ap (map numbers_of_pair) h ∙ (sym (ap pairs_after e) ∙ (ap (λ (p : Program). pairs_after (meaning (tree p) m reset)) is ∙ sym (ap (λ o. owned_under o m) at)))
 
-    pub decided_is : (program : Program) (m : List ℕ) (chunks : ℕ) → program ≡ x.owns → DecidesRun program m chunks → DecidesOwned (types_of table) t m chunks
-    unfolding types_of owned_by
+    pub decided_is : (program : Program) (m : List ℕ) (chunks : ℕ) → program ≡ x.owns → DecidesRun program m chunks → DecidesOwned (table_types table) t m chunks
+    unfolding table_types owned_by
     decided_is program m chunks is same other bytes agrees =
         let owned : (n : List ℕ) → owned_under (template_of table t) n ≡ pairs_after (meaning (tree program) n reset) = λ n. ap (λ o. owned_under o n) at ∙ ap (λ (p : Program). pairs_after (meaning (tree p) n reset)) (sym is) in
         owned other ∙ (ap pairs_after (same other bytes agrees) ∙ sym (owned m))
 
-    pub size_is : (program : Program) (m : List ℕ) (n : ℕ) → program ≡ x.size → IsSomeAnd (meaning (tree program) m reset) (λ end. n ≡ slice_index end.registers 0) → n ≡ (types_of table).size t m
-    unfolding types_of answer_of
+    pub size_is : (program : Program) (m : List ℕ) (n : ℕ) → program ≡ x.size → IsSomeAnd (meaning (tree program) m reset) (λ end. n ≡ slice_index end.registers 0) → n ≡ (table_types table).size t m
+    unfolding table_types answer_of
     size_is program m n is run = by (meaning (tree program) m reset) refl run
       where
         by : (o : Option Machine) → meaning (tree program) m reset ≡ o → IsSomeAnd o (λ end. n ≡ slice_index end.registers 0) → n ≡ size_under (template_of table t) m
@@ -99,16 +99,16 @@ module _ (table : TableValue) (t : ℕ) where
 -- A leaf points to nothing, and may use all its bytes
 
 module _ (table : TableValue) (t : ℕ) (leaf : (t ≡ 1) ⊎ (t ≡ 2)) (m : List ℕ) where
-  pub leaf_owned : [] ≡ (types_of table).owned t m
-  unfolding types_of template_of owned_by leaf_template
+  pub leaf_owned : [] ≡ (table_types table).owned t m
+  unfolding table_types template_of owned_by leaf_template
   leaf_owned = elim leaf [
-    | inl e ↦ sym (ap (λ ty. (types_of table).owned ty m) e)
-    | inr e ↦ sym (ap (λ ty. (types_of table).owned ty m) e)
+    | inl e ↦ sym (ap (λ ty. (table_types table).owned ty m) e)
+    | inr e ↦ sym (ap (λ ty. (table_types table).owned ty m) e)
   ]
 
-  pub leaf_size : 512 ≡ (types_of table).size t m
-  unfolding types_of template_of answer_of leaf_template
+  pub leaf_size : 512 ≡ (table_types table).size t m
+  unfolding table_types template_of answer_of leaf_template
   leaf_size = elim leaf [
-    | inl e ↦ sym (ap (λ ty. (types_of table).size ty m) e)
-    | inr e ↦ sym (ap (λ ty. (types_of table).size ty m) e)
+    | inl e ↦ sym (ap (λ ty. (table_types table).size ty m) e)
+    | inr e ↦ sym (ap (λ ty. (table_types table).size ty m) e)
   ]

@@ -44,12 +44,12 @@ catalogue_words =
 abbrev pub fixed_size : ℕ → Program
 fixed_size n = record { words = Set 0 n ∷ []; role = role.Size }
 
-unfoldable pub root_template : TemplateValue
-root_template = record { owns = record { words = catalogue_words; role = role.Owns }; size = fixed_size 328 }
+unfoldable pub built_in_root : TemplateValue
+built_in_root = record { owns = record { words = catalogue_words; role = role.Owns }; size = fixed_size 328 }
 
 unfoldable pub leaf_template : TemplateValue
 leaf_template = record { owns = record { words = []; role = role.Owns }; size = fixed_size 512 }
 
 -- the template of type 0, 1 or 2
 abbrev pub built_in : ℕ → TemplateValue
-built_in t = if t == 0 then root_template else leaf_template
+built_in t = if t == 0 then built_in_root else leaf_template

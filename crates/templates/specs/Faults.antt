@@ -6,20 +6,20 @@ use Rattle.templates.specs.declared.fault.TemplateFault.{TemplateFault}
 use Rattle.templates.specs.declared.fault.TemplateFault.TheVariants.{NoMemory, BadMark, BadCode, NotVerified, BytesAfter}
 
 -- the number of what is wrong with a template's block
-abbrev pub fault_number : TemplateFault → ℕ
-fault_number NoMemory = 1
-fault_number BadMark = 2
-fault_number BadCode = 3
-fault_number NotVerified = 4
-fault_number BytesAfter = 5
+abbrev pub template_fault_number : TemplateFault → ℕ
+template_fault_number NoMemory = 1
+template_fault_number BadMark = 2
+template_fault_number BadCode = 3
+template_fault_number NotVerified = 4
+template_fault_number BytesAfter = 5
 
 -- the name of what is wrong with a template's block
-abbrev pub fault_name : TemplateFault → List ℕ
-fault_name NoMemory = codes "NoMemory"
-fault_name BadMark = codes "BadMark"
-fault_name BadCode = codes "BadCode"
-fault_name NotVerified = codes "NotVerified"
-fault_name BytesAfter = codes "BytesAfter"
+abbrev pub template_fault_name : TemplateFault → List ℕ
+template_fault_name NoMemory = codes "NoMemory"
+template_fault_name BadMark = codes "BadMark"
+template_fault_name BadCode = codes "BadCode"
+template_fault_name NotVerified = codes "NotVerified"
+template_fault_name BytesAfter = codes "BytesAfter"
 
 -- the same of why no image is made
 abbrev pub format_number : FormatFault → ℕ

@@ -4,13 +4,13 @@ use Rattle.udf_verify.specs.Program.{Program, tree}
 use Rattle.udf_run.specs.declared.pair.Pair.{Pair}
 use Rattle.udf_run.specs.Meaning.{Machine, meaning, reset}
 
-abbrev pub pair_of : Pair → ℕ × ℕ
-pair_of p = (p.block, p.ty)
+abbrev pub numbers_of_pair : Pair → ℕ × ℕ
+numbers_of_pair p = (p.block, p.ty)
 
 -- the pairs that a run leaves, and none where it traps
 abbrev pub pairs_after : Option Machine → List (ℕ × ℕ)
 pairs_after None = []
-pairs_after (Some end) = map pair_of end.emitted
+pairs_after (Some end) = map numbers_of_pair end.emitted
 
 -- register 0 at the end of a run, and 0 where it traps
 abbrev pub answer_after : Option Machine → ℕ

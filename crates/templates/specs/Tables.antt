@@ -37,8 +37,8 @@ size_under None m = 512
 size_under (Some t) m = answer_of t.size m
 
 -- the meaning of type numbers that a table gives
-unfoldable pub types_of : TableValue → Types
-types_of table = record {
+unfoldable pub table_types : TableValue → Types
+table_types table = record {
   installed = λ t. is_some (template_of table t);
   owned = λ t m. owned_under (template_of table t) m;
   size = λ t m. size_under (template_of table t) m;

@@ -20,18 +20,18 @@ pub enum TemplateFault {
 
 impl TemplateFault {
     ghost use Rattle.std.specs.Prelude.{◌≡◌};
-    ghost use Rattle.templates.specs.Faults.{fault_name, fault_number};
+    ghost use Rattle.templates.specs.Faults.{template_fault_name, template_fault_number};
 
     /// Its number.
     pub fn number(self) -> u8
-        ensures { result ≡ fault_number self }
+        ensures { result ≡ template_fault_number self }
     {
         self as u8
     }
 
     /// Its name.
     pub fn name(self) -> &'static str
-        ensures { result.now ≡ fault_name self }
+        ensures { result.now ≡ template_fault_name self }
     {
         match self {
             TemplateFault::NoMemory => "NoMemory",
@@ -46,9 +46,9 @@ impl TemplateFault {
 /// Its name.
 impl fmt::Display for TemplateFault {
     ghost use Rattle.std.specs.Prelude.{Some};
-    ghost use Rattle.templates.specs.Faults.{fault_name};
+    ghost use Rattle.templates.specs.Faults.{template_fault_name};
 
-    ghost output = { λ fault. Some (fault_name fault) };
+    ghost output = { λ fault. Some (template_fault_name fault) };
 
     fn fmt<W: fmt::Write>(&self, f: &mut fmt::Formatter<W>) -> fmt::Result {
         f.write_str(self.name())

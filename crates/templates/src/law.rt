@@ -10,7 +10,7 @@ ghost use Rattle.xn_model.specs.Mounts.{found};
 ghost use Rattle.templates.specs.declared.fault.TemplateFault.TheVariants.{NoMemory};
 ghost use Rattle.templates.specs.Templates.{TemplateValue, IsTemplate, template_bytes};
 ghost use Rattle.templates.specs.Reading.{template_of_bytes};
-ghost use Rattle.templates.specs.Tables.{TableValue, IsTable, no_templates, types_of, table_of_image};
+ghost use Rattle.templates.specs.Tables.{TableValue, IsTable, no_templates, table_types, table_of_image};
 ghost use Rattle.templates.specs.Language.{language};
 ghost use Rattle.templates.specs.Formats.{formatted, fresh_found, table_of};
 
@@ -32,18 +32,18 @@ pub fn blocks_want_no_memory()
 
 /// Every table gives the built-in types their meaning.
 pub fn tables_have_built_ins()
-    ensures { (table : TableValue) → IsTable table → HasBuiltIns (types_of table) }
+    ensures { (table : TableValue) → IsTable table → HasBuiltIns (table_types table) }
 {}
 
 /// The table of an image gives the types that the model takes from the image's catalogue.
 pub fn tables_are_catalogues()
-    ensures { (content : ℕ → List ℕ) → types_of (table_of_image content) ≡ types_in language content }
+    ensures { (content : ℕ → List ℕ) → table_types (table_of_image content) ≡ types_in language content }
 {}
 
 /// A table without templates has the built-in types alone.
 pub fn empty_tables_have_built_ins()
-    ensures { (t : ℕ) (m : List ℕ) → ((types_of no_templates).installed t ≡ built_ins.installed t)
-        × ((types_of no_templates).owned t m ≡ built_ins.owned t m) × ((types_of no_templates).size t m ≡ built_ins.size t m) }
+    ensures { (t : ℕ) (m : List ℕ) → ((table_types no_templates).installed t ≡ built_ins.installed t)
+        × ((table_types no_templates).owned t m ≡ built_ins.owned t m) × ((table_types no_templates).size t m ≡ built_ins.size t m) }
 {}
 
 /// A fresh disk without templates is a bare one.
@@ -66,13 +66,13 @@ pub fn formatted_has_its_templates()
 /// A fresh disk is sound under the types that its catalogue names.
 pub fn formatted_is_sound()
     ensures { (count : ℕ) (templates : List TemplateValue) → IsDiskSize count → length templates ≤ 16 → All IsTemplate templates →
-        IsSound (types_of (table_of templates)) count (block_of (formatted count templates)) }
+        IsSound (table_types (table_of templates)) count (block_of (formatted count templates)) }
 {}
 
 /// A mount of it finds block 0 and the templates' blocks.
 pub fn formatted_is_found()
     ensures { (count : ℕ) (templates : List TemplateValue) → IsDiskSize count → length templates ≤ 16 → All IsTemplate templates →
-        found (types_of (table_of templates)) (formatted count templates) ≡ fresh_found (length templates) }
+        found (table_types (table_of templates)) (formatted count templates) ≡ fresh_found (length templates) }
 {}
 
 /// So its first mount begins with the rules.

@@ -5,7 +5,7 @@ ghost use Rattle.std.specs.Prelude.{IfSome, ◌≡◌, ◌+◌, ◌*◌, ◌<◌
 ghost use Rattle.std.specs.Int.{w32, to_le_bytes};
 ghost use Rattle.xn_model.specs.Root.{word_at, marked, pointer, slot, with_pointer, with_slot};
 ghost use Rattle.xn_model.specs.Calls.{empty_place};
-ghost use Rattle.templates.specs.Meaning.{pair_of};
+ghost use Rattle.templates.specs.Meaning.{numbers_of_pair};
 ghost use Rattle.templates.specs.RootFields.{has_mark, slot_bytes};
 
 use byteorder::{ByteOrder, LittleEndian};
@@ -109,7 +109,7 @@ pub fn slot_start(i: usize) -> usize
 /// The root of file system `i`, from 0 to 31, with its type; the slot is empty where the block is 0.
 pub fn root_slot(block: &[u8; 512], i: usize) -> Pair
     requires { i < 32 }
-    ensures { pair_of result ≡ slot block.now i }
+    ensures { numbers_of_pair result ≡ slot block.now i }
 {
     let at = slot_start(i);
     Pair {
@@ -121,7 +121,7 @@ pub fn root_slot(block: &[u8; 512], i: usize) -> Pair
 /// The block with the root of file system `i`, from 0 to 31, set.
 pub fn with_root_slot(block: &[u8; 512], i: usize, root: Pair) -> [u8; 512]
     requires { i < 32 }
-    ensures { result ≡ with_slot block.now i (pair_of root) }
+    ensures { result ≡ with_slot block.now i (numbers_of_pair root) }
 {
     let mut bytes = *block;
     let at = slot_start(i);
@@ -131,7 +131,7 @@ pub fn with_root_slot(block: &[u8; 512], i: usize, root: Pair) -> [u8; 512]
 
 /// A root slot as its eight bytes.
 pub fn root_bytes(root: Pair) -> [u8; 8]
-    ensures { result ≡ slot_bytes (pair_of root) }
+    ensures { result ≡ slot_bytes (numbers_of_pair root) }
 {
     let mut bytes = [0u8; 8];
     LittleEndian::write_u32(&mut bytes, root.block);

@@ -3,8 +3,8 @@
 ghost use Rattle.std.specs.Prelude.{◌≡◌, ◌⊎◌, ◌↔◌, ◌-◌, ◌≤◌, map, slice_set, Some, None, IsTrue, IfOk};
 ghost use Rattle.std.specs.Option.{option_copied};
 ghost use Rattle.templates.specs.Decided.{DecidesOwned};
-ghost use Rattle.templates.specs.Meaning.{pair_of};
-ghost use Rattle.templates.specs.Tables.{IsTable, no_templates, template_of, types_of};
+ghost use Rattle.templates.specs.Meaning.{numbers_of_pair};
+ghost use Rattle.templates.specs.Tables.{IsTable, no_templates, template_of, table_types};
 
 use crate::built_ins::builtin;
 use crate::root::CATALOGUE_PLACES;
@@ -38,13 +38,13 @@ pub struct Table {
 impl Model for Table {
     ghost use Rattle.std.specs.Prelude.{◌≡◌};
     ghost use Rattle.templates.specs.Tables.{TableValue, IsTable};
-    ghost use Rattle.templates.specs.BuiltIns.{root_template, leaf_template};
+    ghost use Rattle.templates.specs.BuiltIns.{built_in_root, leaf_template};
 
     ghost Value = { TableValue };
 
     ghost view = { λ t. t.places.items };
 
-    ghost invariant = { λ t. IsTable t.places.items × (t.root ≡ root_template) × (t.leaf ≡ leaf_template) };
+    ghost invariant = { λ t. IsTable t.places.items × (t.root ≡ built_in_root) × (t.leaf ≡ leaf_template) };
 }
 
 /// Written by hand, so that a function that drops one calls this: a derived drop is proved anew in each such function.
@@ -107,7 +107,7 @@ impl Table {
 
     /// Whether there is such a type.
     pub fn is_installed(&self, ty: u32) -> bool
-        ensures { result ≡ (types_of self.now).installed ty }
+        ensures { result ≡ (table_types self.now).installed ty }
     {
         self.get(ty).is_some()
     }
@@ -115,8 +115,8 @@ impl Table {
     /// Leaves in `out` the blocks that a block of an installed type points to, each with its type, in the order of its
     /// owns program, whatever stood there.
     pub fn owns(&self, ty: u32, block: &[u8; 512], out: &mut ArrayVec<Pair, 128>)
-        requires { IsTrue ((types_of self.now).installed ty) }
-        ensures { map pair_of out.new.items ≡ (types_of self.now).owned ty block.now }
+        requires { IsTrue ((table_types self.now).installed ty) }
+        ensures { map numbers_of_pair out.new.items ≡ (table_types self.now).owned ty block.now }
     {
         if is_leaf(ty) {
             return out.clear();
@@ -129,9 +129,9 @@ impl Table {
 
     /// The same, and which chunks of the block decide it.
     pub fn owns_tracked(&self, ty: u32, block: &[u8; 512], out: &mut ArrayVec<Pair, 128>) -> ReadSet
-        requires { IsTrue ((types_of self.now).installed ty) }
-        ensures pairs { map pair_of out.new.items ≡ (types_of self.now).owned ty block.now }
-        ensures reads { DecidesOwned (types_of self.now) ty block.now result.chunks }
+        requires { IsTrue ((table_types self.now).installed ty) }
+        ensures pairs { map numbers_of_pair out.new.items ≡ (table_types self.now).owned ty block.now }
+        ensures reads { DecidesOwned (table_types self.now) ty block.now result.chunks }
     {
         match self.get(ty) {
             Some(template) => owns_tracked(template.owns(), block, out),
@@ -141,8 +141,8 @@ impl Table {
 
     /// From which byte on a block of an installed type is zero, at most 512.
     pub fn size(&self, ty: u32, block: &[u8; 512]) -> u16
-        requires { IsTrue ((types_of self.now).installed ty) }
-        ensures value { result ≡ (types_of self.now).size ty block.now }
+        requires { IsTrue ((table_types self.now).installed ty) }
+        ensures value { result ≡ (table_types self.now).size ty block.now }
         ensures small { result ≤ 512 }
     {
         if is_leaf(ty) {

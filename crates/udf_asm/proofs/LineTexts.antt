@@ -16,7 +16,7 @@ use Rattle.udf_code.specs.Structure.{◌>>=◌}
 use Rattle.udf_code.proofs.ForCallers.{bind_ok}
 use Rattle.udf_asm.specs.declared.fault.AsmKind.TheVariants.{BadName, BadCount, BadNumber}
 use Rattle.udf_asm.specs.Names.{name_of, op_named}
-use Rattle.udf_asm.specs.Numbers.{number_of, numbers_of}
+use Rattle.udf_asm.specs.Numbers.{number_of, numbers_of_all}
 use Rattle.udf_asm.specs.Numbers as numbers
 use Rattle.udf_asm.specs.Operands.{operand_count, operands_of, word_with}
 use Rattle.udf_asm.specs.Assembly.{is_space, operands_read, parts_read, line_read}
@@ -43,12 +43,12 @@ ok_or_ok None e v h = absurd (cc)
 ok_or_ok (Some x) e v h = cc
 
 -- texts that are numbers are their decimals
-numbers_text : (texts : List (List ℕ)) (ns : List ℕ) → numbers_of texts ≡ Some ns → (flat_map (λ t. 32 ∷ t) texts ≡ flat_map operand_text ns) × AreSmall ns
+numbers_text : (texts : List (List ℕ)) (ns : List ℕ) → numbers_of_all texts ≡ Some ns → (flat_map (λ t. 32 ∷ t) texts ≡ flat_map operand_text ns) × AreSmall ns
 numbers_text [] [] h = (refl, tt)
 numbers_text [] (n ∷ ns) h = absurd (cc)
 numbers_text (text ∷ texts) ns h =
-    let a = bind_some (number_of text) (λ n. numbers.◌>>=◌ (numbers_of texts) (λ rest. Some (n ∷ rest))) ns h in
-    let b = bind_some (numbers_of texts) (λ rest. Some (a.0 ∷ rest)) ns a.2 in
+    let a = bind_some (number_of text) (λ n. numbers.◌>>=◌ (numbers_of_all texts) (λ rest. Some (n ∷ rest))) ns h in
+    let b = bind_some (numbers_of_all texts) (λ rest. Some (a.0 ∷ rest)) ns a.2 in
     let d = decimal-number_of text a.0 a.1 in
     let r = numbers_text texts b.0 b.1 in
     let same : a.0 ∷ b.0 ≡ ns = let e = b.2 in cc in
@@ -60,10 +60,10 @@ pub record IsLine (line : List ℕ) (word : Word) : Type 0 where
   pub written : line ≡ body_of word
   pub in_range : InRange word
 
-counted : (o : Op) (operands : List (List ℕ)) (word : Word) → operands_read o operands ≡ Ok word → numbers.◌>>=◌ (numbers_of operands) (word_with o) ≡ Some word
+counted : (o : Op) (operands : List (List ℕ)) (word : Word) → operands_read o operands ≡ Ok word → numbers.◌>>=◌ (numbers_of_all operands) (word_with o) ≡ Some word
 counted o operands word h = by_test (length operands == operand_count o) h
   where
-    by_test : (t : Bool) → cond t (ok_or (numbers.◌>>=◌ (numbers_of operands) (word_with o)) BadNumber) (Err BadCount) ≡ Ok word → numbers.◌>>=◌ (numbers_of operands) (word_with o) ≡ Some word
+    by_test : (t : Bool) → cond t (ok_or (numbers.◌>>=◌ (numbers_of_all operands) (word_with o)) BadNumber) (Err BadCount) ≡ Ok word → numbers.◌>>=◌ (numbers_of_all operands) (word_with o) ≡ Some word
     by_test true k = ok_or_ok _ BadNumber word k
     by_test false k = absurd (cc)
 
@@ -72,7 +72,7 @@ parts_line [] word h = absurd (cc)
 parts_line (name ∷ operands) word h =
     let a = bind_ok (ok_or (op_named name) BadName) (λ o. operands_read o operands) word h in
     let named = name_of-op_named name a.0 (ok_or_ok (op_named name) BadName a.0 a.1) in
-    let b = bind_some (numbers_of operands) (word_with a.0) word (counted a.0 operands word a.2) in
+    let b = bind_some (numbers_of_all operands) (word_with a.0) word (counted a.0 operands word a.2) in
     let n = numbers_text operands b.0 b.1 in
     let w = word_with-reads a.0 b.0 word n.1 b.2 in
     record {
@@ -102,10 +102,10 @@ line_parts name (n ∷ ns) h s =
     slice_split_at is_space name 32 (decimal n ++ flat_map operand_text ns) (none_is 32 name h) refl
     ∙ ap (λ parts. name ∷ parts) (line_parts (decimal n) ns (decimal_high n s.0) s.1)
 
-numbers_of-decimals : (ns : List ℕ) → AreSmall ns → numbers_of (map decimal ns) ≡ Some ns
+numbers_of-decimals : (ns : List ℕ) → AreSmall ns → numbers_of_all (map decimal ns) ≡ Some ns
 numbers_of-decimals [] s = refl
 numbers_of-decimals (n ∷ ns) s =
-    ap (λ o. numbers.◌>>=◌ o (λ m. numbers.◌>>=◌ (numbers_of (map decimal ns)) (λ rest. Some (m ∷ rest)))) (number_of-decimal n s.0)
+    ap (λ o. numbers.◌>>=◌ o (λ m. numbers.◌>>=◌ (numbers_of_all (map decimal ns)) (λ rest. Some (m ∷ rest)))) (number_of-decimal n s.0)
     ∙ ap (λ o. numbers.◌>>=◌ o (λ rest. Some (n ∷ rest))) (numbers_of-decimals ns s.1)
 
 length-decimals : (ns : List ℕ) → length (map decimal ns) ≡ length ns
@@ -119,7 +119,7 @@ line_read-body_of word r =
     let o = op_of word in
     line_read-name o (flat_map operand_text ns) ∙ ap parts_read (line_parts (name_of o) ns (name_high o) s)
     ∙ ap (λ n. ok_or n BadName >>= (λ p. operands_read p (map decimal ns))) (op_named-name_of o)
-    ∙ ap (λ t. cond t (ok_or (numbers.◌>>=◌ (numbers_of (map decimal ns)) (word_with o)) BadNumber) (Err BadCount)) (eq-eqb _ _ (length-decimals ns ∙ length-operands_of word))
+    ∙ ap (λ t. cond t (ok_or (numbers.◌>>=◌ (numbers_of_all (map decimal ns)) (word_with o)) BadNumber) (Err BadCount)) (eq-eqb _ _ (length-decimals ns ∙ length-operands_of word))
     ∙ ap (λ n. ok_or (numbers.◌>>=◌ n (word_with o)) BadNumber) (numbers_of-decimals ns s)
     ∙ ap (λ n. ok_or n BadNumber) (word_with-operands_of word r)
 

@@ -12,7 +12,7 @@ use Rattle.udf_asm.specs.declared.fault.AsmKind.{AsmKind}
 use Rattle.udf_asm.specs.declared.fault.AsmKind.TheVariants.{NoMemory, BadLine, BadName, BadCount, BadNumber, Code}
 use Rattle.udf_asm.specs.declared.fault.AsmFault.{AsmFault}
 use Rattle.udf_asm.specs.Names.{op_named}
-use Rattle.udf_asm.specs.Numbers.{numbers_of}
+use Rattle.udf_asm.specs.Numbers.{numbers_of_all}
 use Rattle.udf_asm.specs.Numbers as numbers
 use Rattle.udf_asm.specs.Operands.{operand_count, word_with}
 
@@ -30,7 +30,7 @@ parts_after test (Some rest) = slice_split test rest
 -- the word of an operation with these operands
 abbrev pub operands_read : Op → List (List ℕ) → Result Word AsmKind
 operands_read op operands =
-    if length operands == operand_count op then ok_or (numbers.◌>>=◌ (numbers_of operands) (word_with op)) BadNumber else Err BadCount
+    if length operands == operand_count op then ok_or (numbers.◌>>=◌ (numbers_of_all operands) (word_with op)) BadNumber else Err BadCount
 
 -- the word of a name and its operands
 abbrev pub parts_read : List (List ℕ) → Result Word AsmKind

@@ -16,5 +16,5 @@ kind_name BadNumber = codes "BadNumber"
 kind_name (Code fault) = code.fault_name fault
 
 -- the line, and what is wrong with it
-abbrev pub fault_text : AsmFault → List ℕ
-fault_text fault = codes "line " ++ decimal fault.line ++ codes ": " ++ kind_name fault.kind
+abbrev pub asm_fault_text : AsmFault → List ℕ
+asm_fault_text fault = codes "line " ++ decimal fault.line ++ codes ": " ++ kind_name fault.kind

@@ -26,6 +26,6 @@ None >>= f = None
 (Some x) >>= f = f x
 
 -- the numbers that texts are, where each is one
-abbrev pub numbers_of : List (List ℕ) → Option (List ℕ)
-numbers_of [] = Some []
-numbers_of (text ∷ texts) = number_of text >>= λ number. numbers_of texts >>= λ numbers. Some (number ∷ numbers)
+abbrev pub numbers_of_all : List (List ℕ) → Option (List ℕ)
+numbers_of_all [] = Some []
+numbers_of_all (text ∷ texts) = number_of text >>= λ number. numbers_of_all texts >>= λ numbers. Some (number ∷ numbers)

@@ -62,9 +62,9 @@ impl fmt::Display for AsmKind {
 /// The line, and what is wrong with it.
 impl fmt::Display for AsmFault {
     ghost use Rattle.std.specs.Prelude.{Some};
-    ghost use Rattle.udf_asm.specs.Faults.{fault_text};
+    ghost use Rattle.udf_asm.specs.Faults.{asm_fault_text};
 
-    ghost output = { λ fault. Some (fault_text fault) };
+    ghost output = { λ fault. Some (asm_fault_text fault) };
 
     fn fmt<W: fmt::Write>(&self, f: &mut fmt::Formatter<W>) -> fmt::Result {
         write!(f, "line {}: {}", self.line, self.kind)

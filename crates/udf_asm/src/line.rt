@@ -3,7 +3,7 @@
 ghost use Rattle.std.specs.Prelude.{◌≡◌, ◌+◌, ◌<◌, ◌≤◌, ◌==◌, ◌∷◌, length, MatchOption, IfSome, Some, None, count_by, position};
 ghost use Rattle.std.specs.List.{slice_split};
 ghost use Rattle.std.specs.Option.{option_copied};
-ghost use Rattle.udf_asm.specs.Numbers.{numbers_of};
+ghost use Rattle.udf_asm.specs.Numbers.{numbers_of_all};
 ghost use Rattle.udf_asm.specs.Assembly.{is_space, line_read, operands_read, parts_after};
 
 use crate::fault::AsmKind;
@@ -57,8 +57,8 @@ fn spaces(bytes: &[u8]) -> usize
 fn all_numbers(operands: Option<&[u8]>) -> Option<Operands>
     requires { length (parts_after is_space (option_copied operands)) ≤ 3 }
     ensures { MatchOption result
-        (numbers_of (parts_after is_space (option_copied operands.entry)) ≡ None)
-        (λ numbers. numbers_of (parts_after is_space (option_copied operands.entry)) ≡ Some numbers.items) }
+        (numbers_of_all (parts_after is_space (option_copied operands.entry)) ≡ None)
+        (λ numbers. numbers_of_all (parts_after is_space (option_copied operands.entry)) ≡ Some numbers.items) }
 {
     match operands {
         Some(operands) => numbers(operands),
@@ -70,8 +70,8 @@ fn all_numbers(operands: Option<&[u8]>) -> Option<Operands>
 fn numbers(operands: &[u8]) -> Option<Operands>
     requires { length (slice_split is_space operands.now) ≤ 3 }
     ensures { MatchOption result
-        (numbers_of (slice_split is_space operands.now) ≡ None)
-        (λ numbers. numbers_of (slice_split is_space operands.now) ≡ Some numbers.items) }
+        (numbers_of_all (slice_split is_space operands.now) ≡ None)
+        (λ numbers. numbers_of_all (slice_split is_space operands.now) ≡ Some numbers.items) }
 {
     let mut numbers = Operands::new();
     let mut rest = operands;

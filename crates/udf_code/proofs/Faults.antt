@@ -11,7 +11,7 @@ use Rattle.udf_code.specs.declared.opening.Opening.{Opening}
 use Rattle.udf_code.specs.declared.opening.Opening.TheVariants.{First, Other, Turn}
 use Rattle.udf_code.specs.Structure.{Place, place, parted, closed, after_word, all_closed, ◌>>=◌}
 use Rattle.udf_code.specs.Codes.{op_of_code}
-use Rattle.udf_code.specs.Decoding.{word_of, word_at, decoded_from, decoded}
+use Rattle.udf_code.specs.Decoding.{word_of, decoded_word, decoded_from, decoded}
 
 bound : {A B : Type 0} (r : Result A CodeFault) (f : A → Result B CodeFault) → r ≢ Err NoMemory → ((x : A) → f x ≢ Err NoMemory) → (r >>= f) ≢ Err NoMemory
 bound (Ok x) f h g = g x
@@ -67,7 +67,7 @@ one_word at End p = closes at p.blocks
 one_word at (For a n) p = tested _ _ (TooDeep at) (λ k. absurd (cc))
 one_word at (Keep a n) p = tested _ _ (MisplacedKeep at) (λ k. absurd (cc))
 
-read_word : (at code x y z : ℕ) → word_at at code x y z ≢ Err NoMemory
+read_word : (at code x y z : ℕ) → decoded_word at code x y z ≢ Err NoMemory
 read_word at code x y z = bound (ok_or (op_of_code code) (BadOp at)) _ (or_fault _ _ (λ k. absurd (cc))) (λ o. or_fault (word_of o x y z) (BadOperand at) (λ k. absurd (cc)))
 
 from_here : (at : ℕ) (bytes : List ℕ) (p : Place) → decoded_from at bytes p ≢ Err NoMemory
@@ -76,7 +76,7 @@ from_here at (a ∷ []) p = λ k. absurd (cc)
 from_here at (a ∷ b ∷ []) p = λ k. absurd (cc)
 from_here at (a ∷ b ∷ c ∷ []) p = λ k. absurd (cc)
 from_here at (code ∷ x ∷ y ∷ z ∷ bytes) p =
-    bound (word_at at code x y z) _ (read_word at code x y z)
+    bound (decoded_word at code x y z) _ (read_word at code x y z)
     (λ word. bound (after_word at word p) _ (one_word at word p) (λ next. mapped (λ words. word ∷ words) (decoded_from (at + 1) bytes next) (from_here (at + 1) bytes next)))
 
 by_test : (t : Bool) (r s : Result (List Word) CodeFault) → r ≢ Err NoMemory → s ≢ Err NoMemory → cond t r s ≢ Err NoMemory

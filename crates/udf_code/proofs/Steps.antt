@@ -7,7 +7,7 @@ use Rattle.std.proofs.lemmas.List.{drop-drop}
 use Rattle.udf_code.specs.declared.word.Word.{Word}
 use Rattle.udf_code.specs.declared.fault.CodeFault.{CodeFault}
 use Rattle.udf_code.specs.Structure.{Place, after_word, ◌>>=◌}
-use Rattle.udf_code.specs.Decoding.{word_at, decoded_from}
+use Rattle.udf_code.specs.Decoding.{decoded_word, decoded_from}
 use Rattle.udf_code.proofs.Coding.{with_word}
 
 -- the words so far, in front of those that were decoded
@@ -21,7 +21,7 @@ after_words-word words word (Err fault) = refl
 
 -- the word in these four bytes
 abbrev pub word_in : ℕ → List ℕ → Result Word CodeFault
-word_in at piece = word_at at (get_or piece 0 0) (get_or piece 1 0) (get_or piece 2 0) (get_or piece 3 0)
+word_in at piece = decoded_word at (get_or piece 0 0) (get_or piece 1 0) (get_or piece 2 0) (get_or piece 3 0)
 
 -- the first of four bytes and more
 first_word : (r : List ℕ) (at : ℕ) (p q : Place) (word : Word) → 4 ≤ length r → word_in at (take 4 r) ≡ Ok word → after_word at word p ≡ Ok q → decoded_from at r p ≡ with_word word (decoded_from (at + 1) (drop 4 r) q)

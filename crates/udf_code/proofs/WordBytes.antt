@@ -8,7 +8,7 @@ use Rattle.udf_code.specs.declared.word.Word.{Word}
 use Rattle.udf_code.specs.declared.word.Word.TheVariants.{Set, Mov, Add, Sub, Mul, Div, Rem, And, Shr, Load1, Load2, Load4, Emit, IfLess, IfEqual, Else, End, For, Keep}
 use Rattle.udf_code.specs.Words.{InRange}
 use Rattle.udf_code.specs.Codes.{op_of, code_of, op_of_code}
-use Rattle.udf_code.specs.Bytes.{low_byte, high_byte, number_of, operand_bytes}
+use Rattle.udf_code.specs.Bytes.{low_byte, high_byte, number_of_bytes, operand_bytes}
 use Rattle.udf_code.specs.Decoding.{when, is_register, word_of}
 
 -- an operation is found by its code
@@ -34,13 +34,13 @@ op_of_code-code_of op.For = refl
 op_of_code-code_of op.Keep = refl
 
 -- a number is what its two bytes are, and two bytes are those of their number
-number_of-bytes : (n : ℕ) → number_of (low_byte n) (high_byte n) ≡ n
+number_of-bytes : (n : ℕ) → number_of_bytes (low_byte n) (high_byte n) ≡ n
 number_of-bytes n = omega arith
 
-low_byte-number_of : (x y : ℕ) → x < 256 → low_byte (number_of x y) ≡ x
+low_byte-number_of : (x y : ℕ) → x < 256 → low_byte (number_of_bytes x y) ≡ x
 low_byte-number_of x y h = omega arith
 
-high_byte-number_of : (x y : ℕ) → x < 256 → high_byte (number_of x y) ≡ y
+high_byte-number_of : (x y : ℕ) → x < 256 → high_byte (number_of_bytes x y) ≡ y
 high_byte-number_of x y h = omega arith
 
 -- the three bytes after a word's code, and what is read from them
@@ -94,7 +94,7 @@ operands (For a n) r = record {
   y = low_byte n;
   z = high_byte n;
   written = refl;
-  read = turns a (number_of (low_byte n) (high_byte n)) n (number_of-bytes n) r.0 r.1 r.2;
+  read = turns a (number_of_bytes (low_byte n) (high_byte n)) n (number_of-bytes n) r.0 r.1 r.2;
 }
 operands (Keep a n) r = record { x = a; y = low_byte n; z = high_byte n; written = refl; read = when_true _ _ _ (register a r.0) (ap (Keep a) (number_of-bytes n)) }
 
@@ -141,19 +141,19 @@ module _ (o : Op) (x y z : ℕ) (word : Word) where
       (λ t. let k = and_true _ _ t in let l = and_true _ _ k.0 in
       record { op_is = e; written = w; in_range = r (ltb-true x 16 l.0) (ltb-true y 16 l.1) (ltb-true z 32 k.1) })
 
-  number_read : (made : Word) → op_of made ≡ o → operand_bytes made ≡ x ∷ low_byte (number_of y z) ∷ high_byte (number_of y z) ∷ [] → y < 256 → z < 256 → (x < 16 → number_of y z < 2 ^ 16 → InRange made) → when (is_register x) made ≡ Some word → Reads o x y z word
+  number_read : (made : Word) → op_of made ≡ o → operand_bytes made ≡ x ∷ low_byte (number_of_bytes y z) ∷ high_byte (number_of_bytes y z) ∷ [] → y < 256 → z < 256 → (x < 16 → number_of_bytes y z < 2 ^ 16 → InRange made) → when (is_register x) made ≡ Some word → Reads o x y z word
   number_read made e w g i r h =
       by_test _ made h
-      (λ t. record { op_is = e; written = w ∙ ap (λ n. x ∷ n ∷ high_byte (number_of y z) ∷ []) (low_byte-number_of y z g) ∙ ap (λ n. x ∷ y ∷ n ∷ []) (high_byte-number_of y z g); in_range = r (ltb-true x 16 t) (omega arith) })
+      (λ t. record { op_is = e; written = w ∙ ap (λ n. x ∷ n ∷ high_byte (number_of_bytes y z) ∷ []) (low_byte-number_of y z g) ∙ ap (λ n. x ∷ y ∷ n ∷ []) (high_byte-number_of y z g); in_range = r (ltb-true x 16 t) (omega arith) })
 
-  turns_read : (made : Word) → op_of made ≡ o → operand_bytes made ≡ x ∷ low_byte (number_of y z) ∷ high_byte (number_of y z) ∷ [] → y < 256 → (x < 16 → 1 ≤ number_of y z → number_of y z ≤ 512 → InRange made) → when (is_register x && nat_le 1 (number_of y z) && nat_le (number_of y z) 512) made ≡ Some word → Reads o x y z word
+  turns_read : (made : Word) → op_of made ≡ o → operand_bytes made ≡ x ∷ low_byte (number_of_bytes y z) ∷ high_byte (number_of_bytes y z) ∷ [] → y < 256 → (x < 16 → 1 ≤ number_of_bytes y z → number_of_bytes y z ≤ 512 → InRange made) → when (is_register x && nat_le 1 (number_of_bytes y z) && nat_le (number_of_bytes y z) 512) made ≡ Some word → Reads o x y z word
   turns_read made e w g r h =
       by_test _ made h
       (λ t. let k = and_true _ _ t in let l = and_true _ _ k.0 in
-      record { op_is = e; written = w ∙ ap (λ n. x ∷ n ∷ high_byte (number_of y z) ∷ []) (low_byte-number_of y z g) ∙ ap (λ n. x ∷ y ∷ n ∷ []) (high_byte-number_of y z g); in_range = r (ltb-true x 16 l.0) (leb-true 1 _ l.1) (leb-true _ 512 k.1) })
+      record { op_is = e; written = w ∙ ap (λ n. x ∷ n ∷ high_byte (number_of_bytes y z) ∷ []) (low_byte-number_of y z g) ∙ ap (λ n. x ∷ y ∷ n ∷ []) (high_byte-number_of y z g); in_range = r (ltb-true x 16 l.0) (leb-true 1 _ l.1) (leb-true _ 512 k.1) })
 
 pub reads : (o : Op) (x y z : ℕ) (word : Word) → y < 256 → z < 256 → word_of o x y z ≡ Some word → Reads o x y z word
-reads op.Set x y z word g i h = number_read op.Set x y z word (Set x (number_of y z)) refl refl g i (λ p q. (p, q)) h
+reads op.Set x y z word g i h = number_read op.Set x y z word (Set x (number_of_bytes y z)) refl refl g i (λ p q. (p, q)) h
 reads op.Mov x y z word g i h = two_read op.Mov x y z word (Mov x y) refl refl (λ p q. (p, q)) h
 reads op.Add x y z word g i h = three_read op.Add x y z word (Add x y z) refl refl (λ p q r. (p, q, r)) h
 reads op.Sub x y z word g i h = three_read op.Sub x y z word (Sub x y z) refl refl (λ p q r. (p, q, r)) h
@@ -170,8 +170,8 @@ reads op.IfLess x y z word g i h = two_read op.IfLess x y z word (IfLess x y) re
 reads op.IfEqual x y z word g i h = two_read op.IfEqual x y z word (IfEqual x y) refl refl (λ p q. (p, q)) h
 reads op.Else x y z word g i h = no_operand_read op.Else x y z word Else refl refl tt h
 reads op.End x y z word g i h = no_operand_read op.End x y z word End refl refl tt h
-reads op.For x y z word g i h = turns_read op.For x y z word (For x (number_of y z)) refl refl g (λ p q r. (p, q, r)) h
-reads op.Keep x y z word g i h = number_read op.Keep x y z word (Keep x (number_of y z)) refl refl g i (λ p q. (p, q)) h
+reads op.For x y z word g i h = turns_read op.For x y z word (For x (number_of_bytes y z)) refl refl g (λ p q r. (p, q, r)) h
+reads op.Keep x y z word g i h = number_read op.Keep x y z word (Keep x (number_of_bytes y z)) refl refl g i (λ p q. (p, q)) h
 
 -- an operation that is found by a code has that code
 else_if : (n code : ℕ) (o' : Op) (rest : Option Op) (o : Op) → code_of o' ≡ n → (rest ≡ Some o → code_of o ≡ code) → cond (code == n) (Some o') rest ≡ Some o → code_of o ≡ code

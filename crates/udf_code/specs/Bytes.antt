@@ -15,8 +15,8 @@ low_byte n = n % 256
 abbrev pub high_byte : ℕ → ℕ
 high_byte n = n / 256
 
-abbrev pub number_of : ℕ → ℕ → ℕ
-number_of low high = low + 256 * high
+abbrev pub number_of_bytes : ℕ → ℕ → ℕ
+number_of_bytes low high = low + 256 * high
 
 -- the three bytes after a word's code: its operands, and zeros
 abbrev pub operand_bytes : Word → List ℕ

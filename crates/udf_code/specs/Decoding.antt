@@ -11,7 +11,7 @@ use Rattle.udf_code.specs.declared.word.Word.TheVariants.{For, Keep}
 use Rattle.udf_code.specs.declared.fault.CodeFault.{CodeFault}
 use Rattle.udf_code.specs.declared.fault.CodeFault.TheVariants.{OddLength, BadOp, BadOperand, TooLong}
 use Rattle.udf_code.specs.Codes.{op_of_code}
-use Rattle.udf_code.specs.Bytes.{number_of}
+use Rattle.udf_code.specs.Bytes.{number_of_bytes}
 use Rattle.udf_code.specs.Structure.{Place, place, after_word, all_closed, ◌>>=◌}
 
 -- the value, where a test holds
@@ -35,10 +35,10 @@ abbrev pub shifted_register : (ℕ → ℕ → ℕ → Word) → ℕ → ℕ →
 shifted_register word x y z = when (is_register x && is_register y && nat_lt z 32) (word x y z)
 
 abbrev pub register_and_number : (ℕ → ℕ → Word) → ℕ → ℕ → ℕ → Option Word
-register_and_number word x y z = when (is_register x) (word x (number_of y z))
+register_and_number word x y z = when (is_register x) (word x (number_of_bytes y z))
 
 abbrev pub register_and_turns : (ℕ → ℕ → Word) → ℕ → ℕ → ℕ → Option Word
-register_and_turns word x y z = when (is_register x && nat_le 1 (number_of y z) && nat_le (number_of y z) 512) (word x (number_of y z))
+register_and_turns word x y z = when (is_register x && nat_le 1 (number_of_bytes y z) && nat_le (number_of_bytes y z) 512) (word x (number_of_bytes y z))
 
 -- the word of an operation with these three bytes, where they are in range
 abbrev pub word_of : Op → ℕ → ℕ → ℕ → Option Word
@@ -63,14 +63,14 @@ word_of op.For = register_and_turns For
 word_of op.Keep = register_and_number Keep
 
 -- the word in four bytes
-abbrev pub word_at : ℕ → ℕ → ℕ → ℕ → ℕ → Result Word CodeFault
-word_at at code x y z = ok_or (op_of_code code) (BadOp at) >>= λ o. ok_or (word_of o x y z) (BadOperand at)
+abbrev pub decoded_word : ℕ → ℕ → ℕ → ℕ → ℕ → Result Word CodeFault
+decoded_word at code x y z = ok_or (op_of_code code) (BadOp at) >>= λ o. ok_or (word_of o x y z) (BadOperand at)
 
 -- the words from this place on: each is read and then put in its place, before the next one is looked at
 abbrev pub decoded_from : ℕ → List ℕ → Place → Result (List Word) CodeFault
 decoded_from at [] p = result_map_both (λ _. []) (λ fault. fault) (all_closed at p.blocks)
 decoded_from at (code ∷ x ∷ y ∷ z ∷ bytes) p =
-    word_at at code x y z >>= λ word. after_word at word p >>= λ next. result_map_both (λ words. word ∷
+    decoded_word at code x y z >>= λ word. after_word at word p >>= λ next. result_map_both (λ words. word ∷
     words) (λ fault. fault) (decoded_from (at + 1) bytes next)
 decoded_from at bytes p = Err (OddLength (4 * at))
 

@@ -5,7 +5,7 @@ ghost use Rattle.udf_code.specs.declared.word.Word.{Word};
 ghost use Rattle.udf_code.specs.declared.fault.CodeFault.TheVariants.{NoMemory};
 ghost use Rattle.udf_code.specs.Bytes.{IsCode, encoded};
 ghost use Rattle.udf_code.specs.Structure.{place};
-ghost use Rattle.udf_code.specs.Decoding.{decoded, decoded_from, word_at};
+ghost use Rattle.udf_code.specs.Decoding.{decoded, decoded_from, decoded_word};
 
 use crate::fault::CodeFault;
 use crate::op::Op;
@@ -103,7 +103,7 @@ fn read_words(bytes: &[u8], words: &mut ArrayVec<Word, 127>) -> Result<(), CodeF
 /// The word in four bytes, the `at`th of a program.
 fn read_word(at: usize, bytes: &[u8]) -> Result<Word, CodeFault>
     requires { length bytes.now ≡ 4 }
-    ensures { result ≡ word_at at (slice_index bytes.now 0) (slice_index bytes.now 1) (slice_index bytes.now 2) (slice_index bytes.now 3) }
+    ensures { result ≡ decoded_word at (slice_index bytes.now 0) (slice_index bytes.now 1) (slice_index bytes.now 2) (slice_index bytes.now 3) }
 {
     let op = Op::of_code(bytes[0]).ok_or(CodeFault::BadOp(at))?;
     operands::read(op, bytes[1], bytes[2], bytes[3]).ok_or(CodeFault::BadOperand(at))

@@ -1,7 +1,7 @@
 // The operands of a word, in the three bytes after its code.
 
 ghost use Rattle.std.specs.Prelude.{◌≡◌, ◌&&◌, ◌==◌, ◌∷◌, [], nat_le, nat_lt};
-ghost use Rattle.udf_code.specs.Bytes.{high_byte, low_byte, number_of, operand_bytes};
+ghost use Rattle.udf_code.specs.Bytes.{high_byte, low_byte, number_of_bytes, operand_bytes};
 ghost use Rattle.udf_code.specs.Decoding.{is_register, when, word_of};
 
 use crate::op::Op;
@@ -73,14 +73,14 @@ fn shifted_register(first: u8, second: u8, third: u8) -> Option<(Register, Regis
 }
 
 fn register_and_number(first: u8, second: u8, third: u8) -> Option<(Register, u16)>
-    ensures { result ≡ when (is_register first) (first, number_of second third) }
+    ensures { result ≡ when (is_register first) (first, number_of_bytes second third) }
 {
     let a = Register::new(first)?;
     Some((a, LittleEndian::read_u16(&[second, third])))
 }
 
 fn register_and_turns(first: u8, second: u8, third: u8) -> Option<(Register, Turns)>
-    ensures { result ≡ when (is_register first && nat_le 1 (number_of second third) && nat_le (number_of second third) 512) (first, number_of second third) }
+    ensures { result ≡ when (is_register first && nat_le 1 (number_of_bytes second third) && nat_le (number_of_bytes second third) 512) (first, number_of_bytes second third) }
 {
     let a = Register::new(first)?;
     let n = Turns::new(LittleEndian::read_u16(&[second, third]))?;

@@ -7,7 +7,7 @@ use Rattle.std.proofs.lemmas.Bool.{eqb-false, ltb-true, ltb-false}
 use Rattle.std.proofs.lemmas.Bool.Decides.{eqb_tells, nat_tests}
 use Rattle.udf_code.specs.Tree.{Test, Less, Equal}
 use Rattle.udf_verify.specs.Intervals.{Interval}
-use Rattle.udf_verify.specs.Intervals.{between, full, interval_of, IsIn, Within, join, merge, widen, without, apart, first_a, first_b, other_a, other_b}
+use Rattle.udf_verify.specs.Intervals.{between, full, interval_of, IsIn, Within, join, merge, widen, without_end, apart, first_a, first_b, other_a, other_b}
 use Rattle.udf_verify.specs.Bounds.{with_two}
 use Rattle.udf_run.specs.Meaning.{holds}
 
@@ -113,7 +113,7 @@ in_first_b : (test : Test) (x y : ℕ) (i j : Interval) → holds test x y ≡ t
 in_first_b Less x y i j t p q = record { above = let h = ltb-true x y t in omega arith; below = q.below }
 in_first_b Equal x y i j t p q = record { above = grind (arith, nat_tests); below = grind (arith, nat_tests) }
 
-in_without : (v x : ℕ) (i : Interval) → x ≢ v → IsIn x i → IsIn x (without v i)
+in_without : (v x : ℕ) (i : Interval) → x ≢ v → IsIn x i → IsIn x (without_end v i)
 in_without v x i ne p =
     ⊎_elim (λ l. subst (λ b. IsIn x (cond b (between (v + 1) i.high) (cond (eqb i.high v) (between i.low (v - 1)) i))) (sym l.0) (record { above = omega arith; below = p.below }))
     (λ l. subst (λ b. IsIn x (cond b (between (v + 1) i.high) (cond (eqb i.high v) (between i.low (v - 1)) i))) (sym l.0)
@@ -124,8 +124,8 @@ in_without v x i ne p =
 
 in_apart : (x y : ℕ) (i j : Interval) → x ≢ y → IsIn x i → IsIn y j → IsIn x (apart i j)
 in_apart x y i j ne p q =
-    ⊎_elim (λ l. subst (λ b. IsIn x (cond b (without j.low i) i)) (sym l.0) (in_without j.low x i (omega arith) p))
-    (λ l. subst (λ b. IsIn x (cond b (without j.low i) i)) (sym l.0) p)
+    ⊎_elim (λ l. subst (λ b. IsIn x (cond b (without_end j.low i) i)) (sym l.0) (in_without j.low x i (omega arith) p))
+    (λ l. subst (λ b. IsIn x (cond b (without_end j.low i) i)) (sym l.0) p)
     (eqb_tells j.low j.high)
 
 in_other_a : (test : Test) (x y : ℕ) (i j : Interval) → holds test x y ≡ false → IsIn x i → IsIn y j → IsIn x (other_a test i j)

@@ -9,17 +9,17 @@ use Rattle.udf_verify.specs.declared.fault.FaultKind.TheVariants as kind
 use Rattle.udf_verify.specs.Intervals.{Interval}
 use Rattle.udf_verify.specs.Intervals.{start}
 use Rattle.udf_verify.specs.Bounds.{demand, placed, size, no_register, bounds}
-use Rattle.udf_verify.specs.Verdict.{cost, emits, verdict, cost_limit, answer_fits}
+use Rattle.udf_verify.specs.Verdict.{cost, emits, program_verdict, cost_limit, answer_fits}
 use Rattle.udf_verify.proofs.Parts.{bind_ok, placed_ok, demand_ok}
 
--- what a verdict that is Ok is
+-- what a program_verdict that is Ok is
 pub record IsGood (role : Role) (tree : Tree) (final : List Interval) : Type 0 where
   pub bounded : bounds role no_register 0 tree start ≡ Ok final
   pub few : emits tree ≤ 128
   pub cheap : cost tree ≤ cost_limit role
   pub fits : answer_fits role final ≡ true
 
-pub verdict_ok : (role : Role) (tree : Tree) (final : List Interval) → verdict role tree ≡ Ok final → IsGood role tree final
+pub verdict_ok : (role : Role) (tree : Tree) (final : List Interval) → program_verdict role tree ≡ Ok final → IsGood role tree final
 verdict_ok role tree final h =
     let few = demand (leb (emits tree) 128) kind.Emits (tt {0}) in
     let cheap = demand (leb (cost tree) (cost_limit role)) kind.Cost (tt {0}) in

@@ -11,14 +11,14 @@ use Rattle.udf_verify.specs.declared.fault.VerifyFault.{VerifyFault}
 use Rattle.udf_verify.specs.Intervals.{Interval, merge}
 use Rattle.udf_verify.specs.Bounds.{◌>>=◌, placed, plain_row, unless_counter, Split, split_row, size, bounds}
 use Rattle.udf_verify.specs.Layout.{IsBlockAt}
-use Rattle.udf_verify.specs.Checks.{Answer, Checks, IsOpening, branches, BranchChecks}
+use Rattle.udf_verify.specs.Checks.{CheckAnswer, Checks, IsOpening, branches, BranchChecks}
 use Rattle.udf_verify.proofs.Laid.{some_is, within_list, read_is, size-If, size-IfElse}
 
 -- what a first step's Ok and Err make of the answer
-pub first_ok : {A : Type 0} (o : Result A VerifyFault) (f : A → Answer) (x : A) (answer : Answer) → (o >>= f) ≡ answer → o ≡ Ok x → f x ≡ answer
+pub first_ok : {A : Type 0} (o : Result A VerifyFault) (f : A → CheckAnswer) (x : A) (answer : CheckAnswer) → (o >>= f) ≡ answer → o ≡ Ok x → f x ≡ answer
 first_ok o f x answer e h = sym (ap (λ r. r >>= f) h) ∙ e
 
-pub first_err : {A : Type 0} (o : Result A VerifyFault) (f : A → Answer) (x : VerifyFault) (answer : Answer) → (o >>= f) ≡ answer → o ≡ Err x → answer ≡ Err x
+pub first_err : {A : Type 0} (o : Result A VerifyFault) (f : A → CheckAnswer) (x : VerifyFault) (answer : CheckAnswer) → (o >>= f) ≡ answer → o ≡ Err x → answer ≡ Err x
 first_err o f x answer e h = sym e ∙ ap (λ r. r >>= f) h
 
 -- two IFs are one word only where they are alike
@@ -36,7 +36,7 @@ pub for_if : (test : Test) (c k a b : ℕ) → For c k ≡ if_word test a b → 
 for_if Less c k a b e = cc
 for_if Equal c k a b e = cc
 
-module _ (words : List Word) (targets : List ℕ) (at to : ℕ) (role : Role) (counters : List Bool) (ivs : List Interval) (answer : Answer) (more : at < to) where
+module _ (words : List Word) (targets : List ℕ) (at to : ℕ) (role : Role) (counters : List Bool) (ivs : List Interval) (answer : CheckAnswer) (more : at < to) where
   some_word : (tree : Tree) → IsBlockAt words targets at to [] tree → (w : Word) × (slice_get words at ≡ Some w)
   some_word Stop h = absurd (omega (arith, h.ends))
   some_word (Plain word rest) h = (word, h.stands.0)
@@ -107,33 +107,33 @@ module _ (words : List Word) (targets : List ℕ) (at to : ℕ) (role : Role) (c
   at_if test a b g r = if_by test a b g r.0 r.1 r.2
 
 -- An IF behind its test, with no ELSE.
-pub record IfChecks (words : List Word) (targets : List ℕ) (at to : ℕ) (role : Role) (counters : List Bool) (one two : List Interval) (answer : Answer) (close : ℕ) : Type 0 where
+pub record IfChecks (words : List Word) (targets : List ℕ) (at to : ℕ) (role : Role) (counters : List Bool) (one two : List Interval) (answer : CheckAnswer) (close : ℕ) : Type 0 where
   pub readable : at < length targets
   pub ending : slice_get words close ≡ Some End
   pub after : at < close
   pub before : close < to
-  pub first_answer : Answer
+  pub first_answer : CheckAnswer
   pub first : Checks words targets (at + 1) close role counters one first_answer
   pub err : (fault : VerifyFault) → first_answer ≡ Err fault → answer ≡ Err fault
   pub ok : (x : List Interval) → first_answer ≡ Ok x → Checks words targets (close + 1) to role counters (merge x two) answer
 
 -- An IF behind its test, with an ELSE.
-pub record IfElseChecks (words : List Word) (targets : List ℕ) (at to : ℕ) (role : Role) (counters : List Bool) (one two : List Interval) (answer : Answer) (part : ℕ) : Type 0 where
+pub record IfElseChecks (words : List Word) (targets : List ℕ) (at to : ℕ) (role : Role) (counters : List Bool) (one two : List Interval) (answer : CheckAnswer) (part : ℕ) : Type 0 where
   pub readable : at < length targets
   pub parting : slice_get words part ≡ Some Else
   pub part_readable : part < length targets
   pub after : at < part
   pub part_after : part < get_or targets part 0
   pub before : get_or targets part 0 < to
-  pub first_answer : Answer
+  pub first_answer : CheckAnswer
   pub first : Checks words targets (at + 1) part role counters one first_answer
   pub err : (fault : VerifyFault) → first_answer ≡ Err fault → answer ≡ Err fault
-  pub other_answer : Answer
+  pub other_answer : CheckAnswer
   pub other : Checks words targets (part + 1) (get_or targets part 0) role counters two other_answer
   pub other_err : (x : List Interval) → first_answer ≡ Ok x → (fault : VerifyFault) → other_answer ≡ Err fault → answer ≡ Err fault
   pub ok : (x y : List Interval) → first_answer ≡ Ok x → other_answer ≡ Ok y → Checks words targets (get_or targets part 0 + 1) to role counters (merge x y) answer
 
-module _ (words : List Word) (targets : List ℕ) (at to : ℕ) (role : Role) (counters : List Bool) (one two : List Interval) (answer : Answer) where
+module _ (words : List Word) (targets : List ℕ) (at to : ℕ) (role : Role) (counters : List Bool) (one two : List Interval) (answer : CheckAnswer) where
   abbrev BranchParts : Type 0
   BranchParts = IfChecks words targets at to role counters one two answer (get_or targets at 0) ⊎ IfElseChecks words targets at to role counters one two answer (get_or targets at 0)
 
@@ -201,7 +201,7 @@ module _ (words : List Word) (targets : List ℕ) (at to : ℕ) (role : Role) (c
     part_before = ⊎_elim (λ p. p.before) (λ p. let x = p.part_after in let y = p.before in omega arith) (branch_parts r)
 
     -- the first branch's check, and what its fault means
-    pub first_checks : (o : Answer) × Checks words targets (at + 1) (get_or targets at 0) role counters one o × ((fault : VerifyFault) → o ≡ Err fault → answer ≡ Err fault)
+    pub first_checks : (o : CheckAnswer) × Checks words targets (at + 1) (get_or targets at 0) role counters one o × ((fault : VerifyFault) → o ≡ Err fault → answer ≡ Err fault)
     first_checks = ⊎_elim (λ p. (p.first_answer, p.first, p.err)) (λ p. (p.first_answer, p.first, p.err)) (branch_parts r)
 
     pub with_else : (w d : Word) → w ≡ get_or words (get_or targets at 0) d → w ≡ Else → IfElseChecks words targets at to role counters one two answer (get_or targets at 0)
@@ -211,7 +211,7 @@ module _ (words : List Word) (targets : List ℕ) (at to : ℕ) (role : Role) (c
     without_else w d e h = ⊎_elim (λ p. p) (λ p. absurd (h (read_is words _ Else w d p.parting e))) (branch_parts r)
 
 -- nothing is left
-pub at_end : (words : List Word) (targets : List ℕ) (at to : ℕ) (role : Role) (counters : List Bool) (ivs : List Interval) (answer : Answer) → to ≤ at → Checks words targets at to role counters ivs answer → answer ≡ Ok ivs
+pub at_end : (words : List Word) (targets : List ℕ) (at to : ℕ) (role : Role) (counters : List Bool) (ivs : List Interval) (answer : CheckAnswer) → to ≤ at → Checks words targets at to role counters ivs answer → answer ≡ Ok ivs
 at_end words targets at to role counters ivs answer past r = ended r.0 r.1 r.2
   where
     ended : (tree : Tree) → IsBlockAt words targets at to [] tree → bounds role counters at tree ivs ≡ answer → answer ≡ Ok ivs
@@ -221,5 +221,5 @@ at_end words targets at to role counters ivs answer past r = ended r.0 r.1 r.2
     ended (IfElse test a b first other rest) h e = absurd (omega (arith, h.ends))
     ended (Loop a n claims body rest) h e = absurd (omega (arith, h.ends))
 
-pub at_same : (words : List Word) (targets : List ℕ) (at to : ℕ) (role : Role) (counters : List Bool) (ivs js : List Interval) (answer : Answer) → ivs ≡ js → Checks words targets at to role counters js answer → Checks words targets at to role counters ivs answer
+pub at_same : (words : List Word) (targets : List ℕ) (at to : ℕ) (role : Role) (counters : List Bool) (ivs js : List Interval) (answer : CheckAnswer) → ivs ≡ js → Checks words targets at to role counters js answer → Checks words targets at to role counters ivs answer
 at_same words targets at to role counters ivs js answer e r = subst (λ x. Checks words targets at to role counters x answer) (sym e) r

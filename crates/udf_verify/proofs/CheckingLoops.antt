@@ -13,7 +13,7 @@ use Rattle.udf_verify.specs.declared.fault.VerifyFault.{VerifyFault}
 use Rattle.udf_verify.specs.Intervals.{Interval, between, widen}
 use Rattle.udf_verify.specs.Bounds.{◌>>=◌, demand, placed, in_loop, size, bounds, claims_row, are_kept, claimed, no_register}
 use Rattle.udf_verify.specs.Layout.{AfterClaims, Stands, IsBlockAt}
-use Rattle.udf_verify.specs.Checks.{Answer, Checks}
+use Rattle.udf_verify.specs.Checks.{CheckAnswer, Checks}
 use Rattle.udf_verify.proofs.Widening.{widen_same}
 use Rattle.udf_verify.proofs.Laid.{some_is, within_list, read_is, size-Loop, size-If, size-IfElse}
 use Rattle.std.proofs.lemmas.List.{length-map}
@@ -79,7 +79,7 @@ inside_is words targets claims body at h =
     ∙ ap (λ n. take n (inner ++ next)) len ∙ take_all inner next
 
 -- a FOR
-pub record LoopChecks (words : List Word) (targets : List ℕ) (at to : ℕ) (role : Role) (counters : List Bool) (ivs : List Interval) (answer : Answer) (a n close : ℕ) : Type 0 where
+pub record LoopChecks (words : List Word) (targets : List ℕ) (at to : ℕ) (role : Role) (counters : List Bool) (ivs : List Interval) (answer : CheckAnswer) (a n close : ℕ) : Type 0 where
   pub readable : at < length targets
   pub ending : slice_get words close ≡ Some End
   pub busy : get_or counters a false ≡ true → answer ≡ Err (record { at = at; kind = kind.Counter })
@@ -89,14 +89,14 @@ pub record LoopChecks (words : List Word) (targets : List ℕ) (at to : ℕ) (ro
   pub closes : at + 1 + length claims + size body ≡ close
   pub before : close < to
   pub inside : take (close - (at + 1)) (drop (at + 1) words) ≡ map keep_word claims ++ words_of body
-  pub turned : Answer
+  pub turned : CheckAnswer
   pub inner : Checks words targets (at + 1 + length claims) close role (set counters a true) (in_loop a (between 0 (n - 1)) claims body ivs) turned
   pub claim_err : get_or counters a false ≡ false → (fault : VerifyFault) → claims_row (at + 1) (set no_register a true) claims ivs ≡ Err fault → answer ≡ Err fault
   pub err : get_or counters a false ≡ false → claims_row (at + 1) (set no_register a true) claims ivs ≡ Ok tt → (fault : VerifyFault) → turned ≡ Err fault → answer ≡ Err fault
   pub unkept : get_or counters a false ≡ false → claims_row (at + 1) (set no_register a true) claims ivs ≡ Ok tt → (x : List Interval) → turned ≡ Ok x → are_kept claims x ≡ false → answer ≡ Err (record { at = close; kind = kind.Keep })
   pub ok : get_or counters a false ≡ false → claims_row (at + 1) (set no_register a true) claims ivs ≡ Ok tt → (x : List Interval) → turned ≡ Ok x → are_kept claims x ≡ true → Checks words targets (close + 1) to role counters (in_loop a (between (n - 1) (n - 1)) claims body ivs) answer
 
-module _ (words : List Word) (targets : List ℕ) (at to : ℕ) (role : Role) (counters : List Bool) (ivs : List Interval) (answer : Answer) (more : at < to) where
+module _ (words : List Word) (targets : List ℕ) (at to : ℕ) (role : Role) (counters : List Bool) (ivs : List Interval) (answer : CheckAnswer) (more : at < to) where
   module _ (a n : ℕ) (claims : List Claim) (body rest : Tree) (h : IsBlockAt words targets at to [] (Loop a n claims body rest)) (e : bounds role counters at (Loop a n claims body rest) ivs ≡ answer) where
     abbrev close : ℕ
     close = at + 1 + length claims + size body
@@ -107,22 +107,22 @@ module _ (words : List Word) (targets : List ℕ) (at to : ℕ) (role : Role) (c
     abbrev entry : Result (Unit {0}) VerifyFault
     entry = claims_row (at + 1) (set no_register a true) claims ivs
 
-    abbrev inside : Answer
+    abbrev inside : CheckAnswer
     inside = bounds role (set counters a true) (at + 1 + length claims) body (in_loop a (between 0 (n - 1)) claims body ivs)
 
     abbrev keeping : Bool → Result (Unit {0}) VerifyFault
     keeping b = placed close (demand b kind.Keep (tt {0}))
 
-    abbrev outside : Unit {0} → Answer
+    abbrev outside : Unit {0} → CheckAnswer
     outside u = bounds role counters (close + 1) rest (in_loop a (between (n - 1) (n - 1)) claims body ivs)
 
-    abbrev at_end_of_turn : List Interval → Answer
+    abbrev at_end_of_turn : List Interval → CheckAnswer
     at_end_of_turn x = keeping (are_kept claims x) >>= outside
 
-    abbrev behind_claims : Unit {0} → Answer
+    abbrev behind_claims : Unit {0} → CheckAnswer
     behind_claims u = inside >>= at_end_of_turn
 
-    abbrev behind_gate : Unit {0} → Answer
+    abbrev behind_gate : Unit {0} → CheckAnswer
     behind_gate u = entry >>= behind_claims
 
     open' : get_or counters a false ≡ false → behind_gate (tt {0}) ≡ answer
@@ -195,7 +195,7 @@ parted inside front back count claims body e n f b =
     }
 
 -- the check at the same place, with the same counters and intervals
-pub checks_same : (words : List Word) (targets : List ℕ) (from start to : ℕ) (role : Role) (counters busy : List Bool) (ivs js : List Interval) (answer : Answer) → from ≡ start → counters ≡ busy → ivs ≡ js → Checks words targets start to role busy js answer → Checks words targets from to role counters ivs answer
+pub checks_same : (words : List Word) (targets : List ℕ) (from start to : ℕ) (role : Role) (counters busy : List Bool) (ivs js : List Interval) (answer : CheckAnswer) → from ≡ start → counters ≡ busy → ivs ≡ js → Checks words targets start to role busy js answer → Checks words targets from to role counters ivs answer
 checks_same words targets from start to role counters busy ivs js answer p b e r =
     subst (λ f. Checks words targets f to role counters ivs answer) (sym p)
     (subst (λ x. Checks words targets start to role x ivs answer) (sym b)

@@ -1,4 +1,4 @@
--- The verdict, step by step.
+-- The program_verdict, step by step.
 use Rattle.std.proofs.Common.{◌≡◌, ℕ, ◌<◌, ◌≤◌, min, Bool, true, false, List, refl, sym, ap, ◌∙◌, subst, arith}
 use Rattle.std.specs.Prelude.{Result, Ok, Err, IsOk, nat_le, ◌↔◌}
 use Rattle.std.proofs.lemmas.Bool.{lt-leb, le-leb}
@@ -14,7 +14,7 @@ use Rattle.udf_verify.specs.declared.fault.VerifyFault.{VerifyFault}
 use Rattle.udf_verify.specs.Intervals.{Interval, start}
 use Rattle.udf_verify.specs.Bounds.{◌>>=◌, demand, placed, size, no_register, bounds}
 use Rattle.udf_verify.specs.Surveyed.{ceiling}
-use Rattle.udf_verify.specs.Verdict.{cost, emits, cost_limit, answer_fits, verdict, IsAccepted}
+use Rattle.udf_verify.specs.Verdict.{cost, emits, cost_limit, answer_fits, program_verdict, IsAccepted}
 
 limit_low : (r : Role) → cost_limit r ≤ 8192
 limit_low role.Owns = omega arith
@@ -39,26 +39,26 @@ module _ (r : Role) (tree : Tree) (n : ℕ) (len : size tree ≡ n) where
   abbrev after_bounds : List Interval → Verdict
   after_bounds final = emits_step (nat_le (emits tree) 128) >>= after_emits final
 
-  pub at_word : (fault : VerifyFault) → bounds r no_register 0 tree start ≡ Err fault → verdict r tree ≡ Err fault
+  pub at_word : (fault : VerifyFault) → bounds r no_register 0 tree start ≡ Err fault → program_verdict r tree ≡ Err fault
   at_word fault e = ap (λ b. b >>= after_bounds) e
 
   module _ (final : List Interval) (e : bounds r no_register 0 tree start ≡ Ok final) where
-    bounded : verdict r tree ≡ after_bounds final
+    bounded : program_verdict r tree ≡ after_bounds final
     bounded = ap (λ b. b >>= after_bounds) e
 
-    pub too_many : 128 < emits tree → verdict r tree ≡ Err (record { at = n; kind = kind.Emits })
+    pub too_many : 128 < emits tree → program_verdict r tree ≡ Err (record { at = n; kind = kind.Emits })
     too_many h = bounded ∙ ap (λ b. emits_step b >>= after_emits final) (lt-leb (emits tree) 128 h) ∙ ap (λ k. Err (record { at = k; kind = kind.Emits })) len
 
-    few : emits tree ≤ 128 → verdict r tree ≡ after_emits final (tt {0})
+    few : emits tree ≤ 128 → program_verdict r tree ≡ after_emits final (tt {0})
     few h = bounded ∙ ap (λ b. emits_step b >>= after_emits final) (le-leb (emits tree) 128 h)
 
-    pub too_dear : emits tree ≤ 128 → cost_limit r < cost tree → verdict r tree ≡ Err (record { at = n; kind = kind.Cost })
+    pub too_dear : emits tree ≤ 128 → cost_limit r < cost tree → program_verdict r tree ≡ Err (record { at = n; kind = kind.Cost })
     too_dear h k = few h ∙ ap (λ b. cost_step b >>= (λ v. last_step final (answer_fits r final))) (lt-leb (cost tree) (cost_limit r) k) ∙ ap (λ m. Err (record { at = m; kind = kind.Cost })) len
 
-    cheap : emits tree ≤ 128 → cost tree ≤ cost_limit r → verdict r tree ≡ last_step final (answer_fits r final)
+    cheap : emits tree ≤ 128 → cost tree ≤ cost_limit r → program_verdict r tree ≡ last_step final (answer_fits r final)
     cheap h k = few h ∙ ap (λ b. cost_step b >>= (λ v. last_step final (answer_fits r final))) (le-leb (cost tree) (cost_limit r) k)
 
-    pub too_large : emits tree ≤ 128 → cost tree ≤ cost_limit r → answer_fits r final ≡ false → verdict r tree ≡ Err (record { at = n; kind = kind.SizeAnswer })
+    pub too_large : emits tree ≤ 128 → cost tree ≤ cost_limit r → answer_fits r final ≡ false → program_verdict r tree ≡ Err (record { at = n; kind = kind.SizeAnswer })
     too_large h k l = cheap h k ∙ ap (last_step final) l ∙ ap (λ m. Err (record { at = m; kind = kind.SizeAnswer })) len
 
     pub fine : emits tree ≤ 128 → cost tree ≤ cost_limit r → answer_fits r final ≡ true → IsAccepted r tree

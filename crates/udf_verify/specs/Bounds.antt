@@ -11,7 +11,7 @@ use Rattle.udf_verify.specs.declared.fault.FaultKind.{FaultKind}
 use Rattle.udf_verify.specs.declared.fault.FaultKind.TheVariants as kind
 use Rattle.udf_verify.specs.declared.fault.VerifyFault.{VerifyFault}
 use Rattle.udf_verify.specs.Intervals.{Interval}
-use Rattle.udf_verify.specs.Intervals.{between, largest, full, interval_of, low_of, high_of, is_empty, merge, widen, first_a, first_b, other_a, other_b}
+use Rattle.udf_verify.specs.Intervals.{between, largest, full, interval_of, low_of, high_of, is_empty_interval, merge, widen, first_a, first_b, other_a, other_b}
 
 infixl 10 ◌>>=◌
 abbrev pub ◌>>=◌ : {A B E : Type 0} → Result A E → (A → Result B E) → Result B E
@@ -74,7 +74,7 @@ abbrev pub with_two : List Interval → ℕ → Interval → ℕ → Interval �
 with_two ivs a i b j = slice_set (slice_set ivs a i) b j
 
 abbrev pub one_is_empty : Interval → Interval → Bool
-one_is_empty i j = is_empty i || is_empty j
+one_is_empty i j = is_empty_interval i || is_empty_interval j
 
 abbrev pub split_row : Test → ℕ → ℕ → List Interval → Result Split FaultKind
 split_row test a b ivs =

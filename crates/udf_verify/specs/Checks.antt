@@ -9,16 +9,16 @@ use Rattle.udf_verify.specs.Intervals.{Interval, merge}
 use Rattle.udf_verify.specs.Bounds.{bounds, size, ◌>>=◌}
 use Rattle.udf_verify.specs.Layout.{IsBlockAt}
 
-abbrev pub Answer : Type 0
-Answer = Result (List Interval) VerifyFault
+abbrev pub CheckAnswer : Type 0
+CheckAnswer = Result (List Interval) VerifyFault
 
 -- the check of the words from one place to another answers this
-abbrev pub Checks : List Word → List ℕ → ℕ → ℕ → Role → List Bool → List Interval → Answer → Type 0
+abbrev pub Checks : List Word → List ℕ → ℕ → ℕ → Role → List Bool → List Interval → CheckAnswer → Type 0
 Checks words targets from to role counters ivs answer =
     (tree : Tree) × IsBlockAt words targets from to [] tree × (bounds role counters from tree ivs ≡ answer)
 
 -- the rest of an IF's row, behind its test
-abbrev pub branches : Role → List Bool → ℕ → Tree → List Interval → List Interval → Answer
+abbrev pub branches : Role → List Bool → ℕ → Tree → List Interval → List Interval → CheckAnswer
 branches role counters at Stop first other = Err (record { at = at; kind = kind.Emits })
 branches role counters at (Plain word rest) first other = Err (record { at = at; kind = kind.Emits })
 branches role counters at (If test a b body rest) first other = do
@@ -37,6 +37,6 @@ IsOpening (IfElse test a b first other rest) = Unit {0}
 IsOpening tree = ⊥
 
 -- the check of an IF and what follows it answers this, where its test splits the intervals so
-abbrev pub BranchChecks : List Word → List ℕ → ℕ → ℕ → Role → List Bool → List Interval → List Interval → Answer → Type 0
+abbrev pub BranchChecks : List Word → List ℕ → ℕ → ℕ → Role → List Bool → List Interval → List Interval → CheckAnswer → Type 0
 BranchChecks words targets at to role counters first other answer =
     (tree : Tree) × IsOpening tree × IsBlockAt words targets at to [] tree × (branches role counters at tree first other ≡ answer)

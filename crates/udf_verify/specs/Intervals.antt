@@ -30,8 +30,8 @@ low_of ivs r = (interval_of ivs r).low
 abbrev pub high_of : List Interval → ℕ → ℕ
 high_of ivs r = (interval_of ivs r).high
 
-abbrev pub is_empty : Interval → Bool
-is_empty i = nat_lt i.high i.low
+abbrev pub is_empty_interval : Interval → Bool
+is_empty_interval i = nat_lt i.high i.low
 
 -- the number is in the interval
 pub record IsIn (x : ℕ) (i : Interval) : Type 0 where
@@ -56,13 +56,13 @@ abbrev pub widen : (ℕ → Bool) → ℕ → List Interval → List Interval
 widen written r [] = []
 widen written r (i ∷ is) = (if written r then full else i) ∷ widen written (r + 1) is
 
--- without the number, where it is an end of the interval
-abbrev pub without : ℕ → Interval → Interval
-without v i = if i.low == v then between (v + 1) i.high else (if i.high == v then between i.low (v - 1) else i)
+-- without_end the number, where it is an end of the interval
+abbrev pub without_end : ℕ → Interval → Interval
+without_end v i = if i.low == v then between (v + 1) i.high else (if i.high == v then between i.low (v - 1) else i)
 
--- without the one number of j, where j has one number
+-- without_end the one number of j, where j has one number
 abbrev pub apart : Interval → Interval → Interval
-apart i j = if j.low == j.high then without j.low i else i
+apart i j = if j.low == j.high then without_end j.low i else i
 
 -- the intervals of a and b where the test holds
 abbrev pub first_a : Test → Interval → Interval → Interval

@@ -6,21 +6,21 @@ use Rattle.udf_verify.specs.declared.fault.FaultKind.{FaultKind}
 use Rattle.udf_verify.specs.declared.fault.FaultKind.TheVariants.{NoMemory, Load, Sum, Difference, Product, Divisor, Counter, SameRegister, DeadBranch, Keep}
 use Rattle.udf_verify.specs.declared.fault.FaultKind.TheVariants.{Emits, Cost, SizeAnswer}
 
-abbrev pub name_of : FaultKind → List ℕ
-name_of NoMemory = codes "NoMemory"
-name_of Load = codes "Load"
-name_of Sum = codes "Sum"
-name_of Difference = codes "Difference"
-name_of Product = codes "Product"
-name_of Divisor = codes "Divisor"
-name_of Counter = codes "Counter"
-name_of SameRegister = codes "SameRegister"
-name_of DeadBranch = codes "DeadBranch"
-name_of Keep = codes "Keep"
-name_of Emits = codes "Emits"
-name_of Cost = codes "Cost"
-name_of SizeAnswer = codes "SizeAnswer"
+abbrev pub fault_kind_name : FaultKind → List ℕ
+fault_kind_name NoMemory = codes "NoMemory"
+fault_kind_name Load = codes "Load"
+fault_kind_name Sum = codes "Sum"
+fault_kind_name Difference = codes "Difference"
+fault_kind_name Product = codes "Product"
+fault_kind_name Divisor = codes "Divisor"
+fault_kind_name Counter = codes "Counter"
+fault_kind_name SameRegister = codes "SameRegister"
+fault_kind_name DeadBranch = codes "DeadBranch"
+fault_kind_name Keep = codes "Keep"
+fault_kind_name Emits = codes "Emits"
+fault_kind_name Cost = codes "Cost"
+fault_kind_name SizeAnswer = codes "SizeAnswer"
 
 -- the rule, and the word that breaks it
-abbrev pub fault_text : VerifyFault → List ℕ
-fault_text fault = name_of fault.kind ++ codes " at " ++ decimal fault.at
+abbrev pub verify_fault_text : VerifyFault → List ℕ
+verify_fault_text fault = fault_kind_name fault.kind ++ codes " at " ++ decimal fault.at

@@ -46,12 +46,12 @@ answer_fits role.Owns ivs = true
 answer_fits role.Size ivs = nat_le (high_of ivs 0) 512
 
 -- the intervals at the end, or the first fault
-abbrev pub verdict : Role → Tree → Result (List Interval) VerifyFault
-verdict role tree = do
+abbrev pub program_verdict : Role → Tree → Result (List Interval) VerifyFault
+program_verdict role tree = do
   final ← bounds role no_register 0 tree start
   _ ← placed (size tree) (demand (nat_le (emits tree) 128) kind.Emits (tt {0}))
   _ ← placed (size tree) (demand (nat_le (cost tree) (cost_limit role)) kind.Cost (tt {0}))
   placed (size tree) (demand (answer_fits role final) kind.SizeAnswer final)
 
 abbrev pub IsAccepted : Role → Tree → Type 0
-IsAccepted role tree = IsOk (verdict role tree)
+IsAccepted role tree = IsOk (program_verdict role tree)

@@ -2,7 +2,7 @@
 
 ghost use Rattle.std.specs.Prelude.{◌≡◌, ◌≤◌, ◌+◌, ◌<◌, ℕ, length, Ok, Err, Some, MatchResult, IfOk, slice_get};
 ghost use Rattle.udf_code.specs.declared.word.Word.TheVariants.{For};
-ghost use Rattle.udf_verify.specs.Checks.{Answer, Checks, BranchChecks};
+ghost use Rattle.udf_verify.specs.Checks.{CheckAnswer, Checks, BranchChecks};
 
 use crate::claims::{check_claims, claim, claims_hold, count_claims};
 use crate::fault::{FaultKind, Role, VerifyFault};
@@ -25,8 +25,8 @@ pub fn check_block(
     counters: &[bool; 16],
     intervals: &mut [Interval; 16],
 ) -> Result<(), VerifyFault>
-    requires { (answer : Answer) × Checks words.now targets.now from to role counters.now intervals.old answer }
-    ensures { (answer : Answer) → Checks words.now targets.now from to role counters.now intervals.old answer
+    requires { (answer : CheckAnswer) × Checks words.now targets.now from to role counters.now intervals.old answer }
+    ensures { (answer : CheckAnswer) → Checks words.now targets.now from to role counters.now intervals.old answer
         → MatchResult result (λ done. answer ≡ Ok intervals.new) (λ fault. answer ≡ Err fault) }
 {
     let mut at = from;
@@ -47,10 +47,10 @@ fn check_part(
     counters: &[bool; 16],
     intervals: &mut [Interval; 16],
 ) -> Result<usize, VerifyFault>
-    requires checks { (answer : Answer) × Checks words.now targets.now at to role counters.now intervals.old answer }
+    requires checks { (answer : CheckAnswer) × Checks words.now targets.now at to role counters.now intervals.old answer }
     requires more { at < to }
     ensures onward { IfOk result (λ next. at < next) }
-    ensures same { (answer : Answer) → Checks words.now targets.now at to role counters.now intervals.old answer
+    ensures same { (answer : CheckAnswer) → Checks words.now targets.now at to role counters.now intervals.old answer
         → MatchResult result
         (λ next. Checks words.now targets.now next to role counters.now intervals.new answer)
         (λ fault. answer ≡ Err fault) }
@@ -85,9 +85,9 @@ fn check_branches(
     intervals: &mut [Interval; 16],
     mut other: [Interval; 16],
 ) -> Result<usize, VerifyFault>
-    requires { (answer : Answer) × BranchChecks words.now targets.now at to role counters.now intervals.old other answer }
+    requires { (answer : CheckAnswer) × BranchChecks words.now targets.now at to role counters.now intervals.old other answer }
     ensures onward { IfOk result (λ next. at < next) }
-    ensures same { (answer : Answer) → BranchChecks words.now targets.now at to role counters.now intervals.old other answer
+    ensures same { (answer : CheckAnswer) → BranchChecks words.now targets.now at to role counters.now intervals.old other answer
         → MatchResult result
         (λ next. Checks words.now targets.now next to role counters.now intervals.new answer)
         (λ fault. answer ≡ Err fault) }
@@ -123,9 +123,9 @@ fn check_turns(
 ) -> Result<usize, VerifyFault>
     requires stands { slice_get words.now part.start ≡ Some (For a n) }
     requires more { part.start < part.end }
-    requires checks { (answer : Answer) × Checks words.now targets.now part.start part.end role counters.now intervals.old answer }
+    requires checks { (answer : CheckAnswer) × Checks words.now targets.now part.start part.end role counters.now intervals.old answer }
     ensures onward { IfOk result (λ next. part.start < next) }
-    ensures same { (answer : Answer) → Checks words.now targets.now part.start part.end role counters.now intervals.old answer
+    ensures same { (answer : CheckAnswer) → Checks words.now targets.now part.start part.end role counters.now intervals.old answer
         → MatchResult result
         (λ next. Checks words.now targets.now next part.end role counters.now intervals.new answer)
         (λ fault. answer ≡ Err fault) }

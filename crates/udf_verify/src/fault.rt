@@ -45,11 +45,11 @@ pub enum FaultKind {
 
 impl FaultKind {
     ghost use Rattle.std.specs.Prelude.{◌≡◌};
-    ghost use Rattle.udf_verify.specs.Names.{name_of};
+    ghost use Rattle.udf_verify.specs.Names.{fault_kind_name};
 
     /// Its name.
     pub fn name(self) -> &'static str
-        ensures { result.now ≡ name_of self }
+        ensures { result.now ≡ fault_kind_name self }
     {
         match self {
             FaultKind::NoMemory => "NoMemory",
@@ -72,9 +72,9 @@ impl FaultKind {
 /// Its name.
 impl fmt::Display for FaultKind {
     ghost use Rattle.std.specs.Prelude.{Some};
-    ghost use Rattle.udf_verify.specs.Names.{name_of};
+    ghost use Rattle.udf_verify.specs.Names.{fault_kind_name};
 
-    ghost output = { λ kind. Some (name_of kind) };
+    ghost output = { λ kind. Some (fault_kind_name kind) };
 
     fn fmt<W: fmt::Write>(&self, f: &mut fmt::Formatter<W>) -> fmt::Result {
         f.write_str(self.name())
@@ -91,9 +91,9 @@ pub struct VerifyFault {
 /// The rule, and the word that breaks it.
 impl fmt::Display for VerifyFault {
     ghost use Rattle.std.specs.Prelude.{Some};
-    ghost use Rattle.udf_verify.specs.Names.{fault_text};
+    ghost use Rattle.udf_verify.specs.Names.{verify_fault_text};
 
-    ghost output = { λ fault. Some (fault_text fault) };
+    ghost output = { λ fault. Some (verify_fault_text fault) };
 
     fn fmt<W: fmt::Write>(&self, f: &mut fmt::Formatter<W>) -> fmt::Result {
         write!(f, "{} at {}", self.kind, self.at)

@@ -2,7 +2,7 @@
 
 ghost use Rattle.std.specs.Prelude.{◌≡◌, Ok, Err, MatchResult, MatchOption, IsTrue};
 ghost use Rattle.udf_code.specs.Tree.{Less, Equal};
-ghost use Rattle.udf_verify.specs.Intervals.{apart, is_empty};
+ghost use Rattle.udf_verify.specs.Intervals.{apart, is_empty_interval};
 ghost use Rattle.udf_verify.specs.Bounds.{split_row};
 
 use crate::fault::FaultKind;
@@ -75,7 +75,7 @@ pub fn split_equal(
 
 /// An interval without the one number of another, if the other has one number.
 fn apart_from(x: Interval, y: Interval) -> Option<Interval>
-    ensures { MatchOption result (IsTrue (is_empty (apart x y))) (λ z. z ≡ apart x y) }
+    ensures { MatchOption result (IsTrue (is_empty_interval (apart x y))) (λ z. z ≡ apart x y) }
 {
     let v = y.low();
     if v != y.high() {

@@ -6,7 +6,7 @@ ghost use Rattle.udf_code.specs.Structure.{structure_of};
 ghost use Rattle.udf_code.specs.Words.{AllInRange};
 ghost use Rattle.udf_verify.specs.declared.fault.FaultKind.TheVariants as kind;
 ghost use Rattle.udf_verify.specs.Layout.{IsBlockAt};
-ghost use Rattle.udf_verify.specs.Verdict.{verdict, cost, emits, cost_limit as limit, answer_fits as fits, IsAccepted};
+ghost use Rattle.udf_verify.specs.Verdict.{program_verdict, cost, emits, cost_limit as limit, answer_fits as fits, IsAccepted};
 
 use crate::check::check_block;
 use crate::checked::Checked;
@@ -27,7 +27,7 @@ pub fn judge(words: &[Word], role: Role) -> Result<Counts, VerifyFault>
     requires { IsOk (structure_of words.now) }
     ensures accepts { OnOk result (IsAccepted role (tree_of words.now)) }
     ensures most { IfOk result (λ most. most ≡ record { steps = cost (tree_of words.now); pairs = emits (tree_of words.now) }) }
-    ensures refuses { IfErr result (λ fault. verdict role (tree_of words.now) ≡ Err fault) }
+    ensures refuses { IfErr result (λ fault. program_verdict role (tree_of words.now) ≡ Err fault) }
 {
     let mut places = [0u8; 127];
     judge_into(words, &mut places[..words.len()], role)
@@ -40,7 +40,7 @@ pub fn verify(alloc: Global, words: &[Word], role: Role) -> Result<Checked, Veri
     requires { IsOk (structure_of words.now) }
     ensures value { IfOk result (λ checked. checked ≡ record { words = words.now; role = role }) }
     ensures accepts { OnOk result (IsAccepted role (tree_of words.now)) }
-    ensures refuses { IfErr result (λ fault. (verdict role (tree_of words.now) ≡ Err fault)
+    ensures refuses { IfErr result (λ fault. (program_verdict role (tree_of words.now) ≡ Err fault)
         ⊎ ((fault ≡ record { at = length words.now; kind = kind.NoMemory }) × IsAccepted role (tree_of words.now))) }
 {
     let mut places = [0u8; 127];
@@ -67,7 +67,7 @@ fn judge_into(words: &[Word], targets: &mut [u8], role: Role) -> Result<Counts, 
     requires room { length targets.old ≡ length words.now }
     ensures accepts { OnOk result (IsAccepted role (tree_of words.now)) }
     ensures most { IfOk result (λ most. most ≡ record { steps = cost (tree_of words.now); pairs = emits (tree_of words.now) }) }
-    ensures refuses { IfErr result (λ fault. verdict role (tree_of words.now) ≡ Err fault) }
+    ensures refuses { IfErr result (λ fault. program_verdict role (tree_of words.now) ≡ Err fault) }
     ensures leads { IsBlockAt words.now targets.new 0 (length words.now) [] (tree_of words.now) }
     ensures in_range { AllInRange words.now }
 {
@@ -83,7 +83,7 @@ fn find_fault(words: &[Word], targets: &[u8], role: Role, counts: Counts) -> Res
     requires pairs { counts.pairs ≡ min (emits (tree_of words.now)) u32.MAX }
     ensures { MatchResult result
         (λ done. IsAccepted role (tree_of words.now))
-        (λ fault. verdict role (tree_of words.now) ≡ Err fault) }
+        (λ fault. program_verdict role (tree_of words.now) ≡ Err fault) }
 {
     let mut intervals = [Interval::new(0, 0); 16];
     check_block(

@@ -14,7 +14,7 @@ use Rattle.xn_model.specs.Worlds.{World, none_given}
 use Rattle.xn_model.specs.Rules.{Holds, IsConsistent}
 use Rattle.xn_model.proofs.ForCallers.{built_ins_in, recovered_is, types_mounted, world_sound}
 use Rattle.templates.specs.Language.{language, types_of_image}
-use Rattle.templates.specs.Tables.{types_of}
+use Rattle.templates.specs.Tables.{table_types}
 use Rattle.templates.specs.Formats.{format_fault, formatted, formatted_root, table_of}
 use Rattle.templates.specs.Templates.{IsTemplate, TemplateValue}
 use Rattle.templates.proofs.ForCallers.{formatted_has_its_templates, formatted_holds, slot_blank, tables_are_catalogues}
@@ -37,7 +37,7 @@ no_root count ts few fs = ap (λ (p : ℕ × ℕ). p.0) (slot_blank count (lengt
 abbrev pub Fresh : StoreState → Type 0
 Fresh state = HasLibrary (own_types state) state × ((fs : ℕ) → fs < 32 → IsKept (own_types state) state fs None)
 
-module _ (count : ℕ) (ts : List TemplateValue) (size : IsDiskSize count) (short : length ts ≤ 16) (all : All IsTemplate ts) (library : IsLibrary (types_of (table_of ts))) where
+module _ (count : ℕ) (ts : List TemplateValue) (size : IsDiskSize count) (short : length ts ≤ 16) (all : All IsTemplate ts) (library : IsLibrary (table_types (table_of ts))) where
   abbrev image : List (List ℕ)
   image = formatted count ts
 
@@ -48,7 +48,7 @@ module _ (count : ℕ) (ts : List TemplateValue) (size : IsDiskSize count) (shor
   T = types_of_image image
 
   is_library : IsLibrary T
-  is_library = subst IsLibrary (ap types_of (sym (formatted_has_its_templates count ts size short all)) ∙ tables_are_catalogues (block_of image)) library
+  is_library = subst IsLibrary (ap table_types (sym (formatted_has_its_templates count ts size short all)) ∙ tables_are_catalogues (block_of image)) library
 
   fresh_disk : Holds disk → Fresh disk.state
   fresh_disk h =
@@ -70,7 +70,7 @@ module _ (count : ℕ) (ts : List TemplateValue) (size : IsDiskSize count) (shor
   fresh_kept w is holds = subst (λ (v : World). Fresh v.state) (sym is) (fresh_disk (subst Holds is holds))
 
 -- a kernel over such a disk
-pub kernel_kept : {L : Type 0} (count : ℕ) (ts : List TemplateValue) → format_fault count (length ts) ≡ None → All IsTemplate ts → (image : List ℕ) → image ≡ joined (formatted count ts) → IsLibrary (types_of (table_of ts)) →
+pub kernel_kept : {L : Type 0} (count : ℕ) (ts : List TemplateValue) → format_fault count (length ts) ≡ None → All IsTemplate ts → (image : List ℕ) → image ≡ joined (formatted count ts) → IsLibrary (table_types (table_of ts)) →
     (lanes : List (Option L)) (kernel : KernelValue L) → kernel ≡ kernel_of 1 lanes (blocks_in image) → Fresh kernel.state
 kernel_kept {L} count ts none all image bytes library lanes kernel is =
     let over : KernelValue L → World = λ k. record { language = language; image = blocks_in image; settled = blocks_in image; given = none_given (blocks_in image); state = k.state; down = false } in

@@ -2,7 +2,7 @@
 use Rattle.std.proofs.Common.{◌∙◌, ◌≡◌, ℕ, ◌+◌, ◌<◌, Bool, true, false, cond, ◌&&◌, List, length, Some, Result, Ok, Err, refl, sym, ap, subst, inl, inr}
 use Rattle.std.specs.Prelude.{is_some}
 use Rattle.xn_model.specs.declared.refusal.Refusal.{Refusal}
-use Rattle.xn_model.specs.Languages.{Extends, template_of, types_in, owned_under, size_under}
+use Rattle.xn_model.specs.Languages.{Extends, language_template, types_in, owned_by_template, size_by_template}
 use Rattle.xn_model.specs.Lives.{StoreState}
 use Rattle.xn_model.specs.Calls.{install_of, latest}
 use Rattle.xn_model.specs.Worlds.{World, Install, Reply, Installed, Down, Step, reply_and_world}
@@ -41,9 +41,9 @@ done w w' m r i s told = elim s [
     go false (Ok g) e a b = record { made = g.0; new = g.1; is = e; type = subst (λ y. IsInstalledAt y i) a told; after = ap (λ (x : World). x.state) b }
     go false (Err f) e a b = absurd (subst (λ y. IsInstalledAt y i) a told)
 
-says : (content : ℕ → List ℕ) (ty : ℕ) (t : TemplateValue) → template_of language content ty ≡ Some (meaning_of t) → HasTemplate (types_in language content) ty t
+says : (content : ℕ → List ℕ) (ty : ℕ) (t : TemplateValue) → language_template language content ty ≡ Some (meaning_of t) → HasTemplate (types_in language content) ty t
 unfolding types_in
-says content ty t e = record { installed = ap is_some e; owned = λ m. ap (λ o. owned_under o m) e; size = λ m. ap (λ o. size_under o m) e }
+says content ty t e = record { installed = ap is_some e; owned = λ m. ap (λ o. owned_by_template o m) e; size = λ m. ap (λ o. size_by_template o m) e }
 
 module _ (old new : WorldValue) (m : List ℕ) (whole : length m ≡ 512) (r : Reply) (h : Holds (world_with old)) (s : Step (world_with old) (Install m) r (world_with new)) where
   pub types_more : Extends (own_types old.state) (own_types new.state)
@@ -55,7 +55,7 @@ module _ (old new : WorldValue) (m : List ℕ) (whole : length m ≡ 512) (r : R
   pub type_says : (t : TemplateValue) (i : ℕ) → template_of_bytes m ≡ Ok t → IsInstalledAt r i → HasTemplate (own_types new.state) (3 + i) t
   type_says t i read told =
       let d = done (world_with old) (world_with new) m r i s told in
-      let made : template_of language (latest new.state.lives) (3 + i) ≡ language m =
-      subst (λ u. template_of language (latest new.state.lives) u ≡ language m) d.type
-      (subst (λ (x : StoreState). template_of language (latest x.lives) d.made.0 ≡ language m) (sym d.after) (installed_own language old.state h.state m whole d.made d.new d.is)) in
+      let made : language_template language (latest new.state.lives) (3 + i) ≡ language m =
+      subst (λ u. language_template language (latest new.state.lives) u ≡ language m) d.type
+      (subst (λ (x : StoreState). language_template language (latest x.lives) d.made.0 ≡ language m) (sym d.after) (installed_own language old.state h.state m whole d.made d.new d.is)) in
       says (latest new.state.lives) (3 + i) t (made ∙ language_ok m t read)

@@ -5,7 +5,7 @@ use Rattle.xn_model.specs.Languages.{Extends}
 use Rattle.xn_model.specs.Rules.{IsKeptType}
 use Rattle.xn_model.specs.Worlds.{World, types_now}
 use Rattle.ffs_model.specs.Library.{IsLibrary}
-use Rattle.templates.specs.Tables.{HasTemplate, types_of, template_of}
+use Rattle.templates.specs.Tables.{HasTemplate, table_types, template_of}
 use Rattle.templates.specs.Meaning.{owned_by, answer_of}
 use Rattle.templates.specs.Templates.{TemplateValue}
 use Rattle.ffs_format.specs.Library.{file_system_templates}
@@ -42,7 +42,7 @@ more_type T more t x is = record { installed = x.installed t is.installed; owned
 
 -- what its template says is one
 pub says_library : (T : Types) (i : ℕ) (template : TemplateValue) → i < 3 → get_or file_system_templates i template ≡ template → HasTemplate T (3 + i) template → IsLibraryType T (3 + i)
-unfolding types_of template_of
+unfolding table_types template_of
 says_library T zero template lt e says = record { installed = says.installed; owned = λ j m. (says.owned m ∙ ap (λ (x : TemplateValue). owned_by x.owns m) (sym e)) j; size = λ j m. (says.size m ∙ ap (λ (x : TemplateValue). answer_of x.size m) (sym e)) j }
 says_library T (suc zero) template lt e says = record { installed = says.installed; owned = λ j m. (says.owned m ∙ ap (λ (x : TemplateValue). owned_by x.owns m) (sym e)) j; size = λ j m. (says.size m ∙ ap (λ (x : TemplateValue). answer_of x.size m) (sym e)) j }
 says_library T (suc (suc zero)) template lt e says = record { installed = says.installed; owned = λ j m. (says.owned m ∙ ap (λ (x : TemplateValue). owned_by x.owns m) (sym e)) j; size = λ j m. (says.size m ∙ ap (λ (x : TemplateValue). answer_of x.size m) (sym e)) j }

@@ -7,7 +7,7 @@ use Rattle.xn_model.specs.Calls.{begun_of, settled_of}
 use Rattle.xn_model.proofs.ForCallers.{begun_keeps, settled_keeps}
 use Rattle.xn_state.specs.States.{own_types}
 use Rattle.xn_kernel.specs.Kernels.{KernelValue, TicketValue}
-use Rattle.xn_kernel.specs.Drains.{Reads, Refuses, Round, Rounds, Stops, WritesTo}
+use Rattle.xn_kernel.specs.Drains.{Reads, Refuses, Round, Rounds, StopsAtDevice, WriteRelation}
 use Rattle.ffs_model.specs.Library.{library_layout}
 use Rattle.ffs_model.proofs.ForCallers.{begin_cuts, begin_next, library_reads, none_later, settle_cuts, settle_next, volume_from}
 use Rattle.templates.specs.Language.{language}
@@ -47,7 +47,7 @@ stays_then a b c f g has =
     let two = g one.has in
     record { has = two.has; keeps = λ fs array few v. two.keeps fs array few (one.keeps fs array few v) }
 
-module _ {L : Type 0} (bytes : L → List ℕ) (faults : L → ℕ) (writes : WritesTo L) (syncs reads : Reads L) where
+module _ {L : Type 0} (bytes : L → List ℕ) (faults : L → ℕ) (writes : WriteRelation L) (syncs reads : Reads L) where
   round_after : (old new : KernelValue L) → Round bytes faults writes syncs reads old new → After old new
   round_after old new r = subst (After old) (sym r.next)
       (stays_then old.state r.begun r.store (begun_stays old.state r.begun r.ticket.block (r.ticket.bytes, r.ticket.count) r.written.begins) (settled_stays r.begun r.store r.ticket.block r.ticket.bytes (r.ticket.count, r.freed) r.settles))
@@ -56,7 +56,7 @@ module _ {L : Type 0} (bytes : L → List ℕ) (faults : L → ℕ) (writes : Wr
   rounds_after zero old new e = subst (After old) (sym e) (stays_same old.state)
   rounds_after (suc n) old new r = stays_then old.state r.0.state new.state (round_after old r.0 r.1) (rounds_after n r.0 new r.2)
 
-  stops_after : (old new : KernelValue L) (ticket : Option (TicketValue L)) (refusal : Refusal) → Stops bytes faults writes syncs reads old ticket refusal new → After old new
+  stops_after : (old new : KernelValue L) (ticket : Option (TicketValue L)) (refusal : Refusal) → StopsAtDevice bytes faults writes syncs reads old ticket refusal new → After old new
   stops_after old new None refusal s = let u = s.1 in subst (After old) (sym u.next)
       (stays_then old.state u.begun u.store (begun_stays old.state u.begun u.ticket.block (u.ticket.bytes, u.ticket.count) u.written.begins) (settled_stays u.begun u.store u.ticket.block (bytes u.settled) (0, 0) u.settles))
   stops_after old new (Some back) refusal s = elim s.1 [

@@ -11,13 +11,13 @@ use Rattle.xn_model.specs.Lives.{Life, life_at}
 use Rattle.xn_model.specs.Calls.{latest}
 use Rattle.xn_model.specs.Worlds.{Reply, Installed}
 use Rattle.templates.specs.Formats.{table_of}
-use Rattle.templates.specs.Tables.{types_of}
+use Rattle.templates.specs.Tables.{table_types}
 use Rattle.ffs_format.specs.Library.{file_system_templates}
 use Rattle.xn_state.specs.States.{own_types}
 use Rattle.world.specs.Worlds.{WorldValue}
 
 abbrev pub library_types : Types
-library_types = types_of (table_of file_system_templates)
+library_types = table_types (table_of file_system_templates)
 
 pub record IsLibraryType (T : Types) (t : ℕ) : Type 0 where
   pub installed : IsTrue (T.installed t)

@@ -2,7 +2,7 @@
 
 ghost use Rattle.std.specs.Prelude.{◌≡◌, IfOk, ⊤};
 ghost use Rattle.std.specs.Arc.{arc_value};
-ghost use Rattle.durable_floor.specs.Rules.{zeros};
+ghost use Rattle.durable_floor.specs.Rules.{zero_floor};
 
 use crate::disks::Disk;
 use crate::files::Files;
@@ -62,7 +62,7 @@ fn hub_of<L: Lane + Drop, K: Naming>(
     publisher: Publisher,
 ) -> Result<(Hub<L, K>, Arc<Floor, Global>), AllocError>
     requires floor { floor ≡ K.floor }
-    requires publisher { publisher ≡ record { floor = floor; seen = zeros } }
+    requires publisher { publisher ≡ record { floor = floor; seen = zero_floor } }
     ensures kernel { IfOk result (λ r. r.0.kernel ≡ kernel) }
     ensures floor { IfOk result (λ r. arc_value r.1 ≡ K.floor) }
 {
@@ -82,7 +82,7 @@ pub fn share<K: Naming>(
     publisher: Publisher,
 ) -> Result<SharedFiles<K>, AllocError>
     requires floor { floor ≡ K.floor }
-    requires publisher { publisher ≡ record { floor = floor; seen = zeros } }
+    requires publisher { publisher ≡ record { floor = floor; seen = zero_floor } }
 {
     let kernel = fresh_kernel(rt, alloc, blocks)?;
     let (hub, floor) = hub_of::<MemLane, K>(alloc, kernel, floor, publisher)?;

@@ -3,7 +3,7 @@ use Rattle.std.proofs.Common.{◌≡◌, ℕ, zero, suc, ◌<◌, List, [], ◌�
 use Rattle.std.specs.Prelude.{slice_set}
 use Rattle.std.proofs.lemmas.List.{length-set}
 use Rattle.std.proofs.lemmas.Bool.{cases_eq}
-use Rattle.wait_lists.specs.Waiting.{at, AreLists, IsAmong, IsChain, IsListOf}
+use Rattle.wait_lists.specs.Waiting.{at, AreLists, IsListed, IsChain, IsListOf}
 
 abbrev pub Row : Type 0
 Row = List (Option ℕ)
@@ -46,7 +46,7 @@ at_blank (suc n) (suc k) = at_blank n k
 -- Chains
 
 -- a link of a block that isn't in a chain changes
-chain_kept : (next : Row) (start : Option ℕ) (xs : List ℕ) (b : ℕ) (o : Option ℕ) → (IsAmong b xs → ⊥) → IsChain next start xs → IsChain (slice_set next b o) start xs
+chain_kept : (next : Row) (start : Option ℕ) (xs : List ℕ) (b : ℕ) (o : Option ℕ) → (IsListed b xs → ⊥) → IsChain next start xs → IsChain (slice_set next b o) start xs
 chain_kept next start [] b o out chain = chain
 chain_kept next start (x ∷ xs) b o out chain =
     let apart : x ≡ b → ⊥ = λ e. out (inl e) in
@@ -72,14 +72,14 @@ none_waits n waits first next w f e = record {
 pushed_here : (waits next : Row) (other b : ℕ) (start : Option ℕ) → b < length waits → b < length next → at waits b ≡ None → IsListOf waits next other start →
     IsListOf (slice_set waits b (Some other)) (slice_set next b start) other (Some b)
 pushed_here waits next other b start in_waits in_next free list =
-    let out : IsAmong b list.blocks → ⊥ = λ i. none_some (at waits b) other free (list.each b i) in
+    let out : IsListed b list.blocks → ⊥ = λ i. none_some (at waits b) other free (list.each b i) in
     let chain = chain_kept next start list.blocks b start out list.chain in
     record {
       blocks = b ∷ list.blocks;
       chain = (refl, out, subst (λ (s : Option ℕ). IsChain (slice_set next b start) s list.blocks) (sym (at_same next b start in_next)) chain);
       each = λ x i. elim i [
         | inl e ↦ subst (λ (y : ℕ). at (slice_set waits b (Some other)) y ≡ Some other) e (at_same waits b (Some other) in_waits)
-        | inr k ↦ at_other waits b x (Some other) (λ e. out (subst (λ (y : ℕ). IsAmong y list.blocks) e k)) ∙ list.each x k
+        | inr k ↦ at_other waits b x (Some other) (λ e. out (subst (λ (y : ℕ). IsListed y list.blocks) e k)) ∙ list.each x k
       ];
       all = λ x e. elim (cases_eq x b) [
         | inl same ↦ inl (sym same)
@@ -90,11 +90,11 @@ pushed_here waits next other b start in_waits in_next free list =
 pushed_there : (waits next : Row) (other b d : ℕ) (o start : Option ℕ) → b < length waits → at waits b ≡ None → (d ≡ other → ⊥) → IsListOf waits next d start →
     IsListOf (slice_set waits b (Some other)) (slice_set next b o) d start
 pushed_there waits next other b d o start in_waits free apart list =
-    let out : IsAmong b list.blocks → ⊥ = λ i. none_some (at waits b) d free (list.each b i) in
+    let out : IsListed b list.blocks → ⊥ = λ i. none_some (at waits b) d free (list.each b i) in
     record {
       blocks = list.blocks;
       chain = chain_kept next start list.blocks b o out list.chain;
-      each = λ x i. at_other waits b x (Some other) (λ e. out (subst (λ (y : ℕ). IsAmong y list.blocks) e i)) ∙ list.each x i;
+      each = λ x i. at_other waits b x (Some other) (λ e. out (subst (λ (y : ℕ). IsListed y list.blocks) e i)) ∙ list.each x i;
       all = λ x e. elim (cases_eq x b) [
         | inl same ↦ absurd (apart (same_some (at (slice_set waits b (Some other)) x) d other e (ap (at (slice_set waits b (Some other))) same ∙ at_same waits b (Some other) in_waits)))
         | inr away ↦ list.all x (sym (at_other waits b x (Some other) away) ∙ e)
@@ -120,30 +120,30 @@ pushed waits first next other b there here free lists = record {
 pub front_waits : (waits first next : Row) (other b : ℕ) → AreLists waits first next → at first other ≡ Some b → at waits b ≡ Some other
 front_waits waits first next other b lists front = by (lists.lists other).blocks (lists.lists other).chain (lists.lists other).each
   where
-    by : (xs : List ℕ) → IsChain next (at first other) xs → ((x : ℕ) → IsAmong x xs → at waits x ≡ Some other) → at waits b ≡ Some other
+    by : (xs : List ℕ) → IsChain next (at first other) xs → ((x : ℕ) → IsListed x xs → at waits x ≡ Some other) → at waits b ≡ Some other
     by [] chain each = absurd (none_some (at first other) b chain front)
     by (x ∷ xs) chain each = let same = same_some (at first other) x b chain.0 front in each b (inl same)
 
 pub none_left : (waits first next : Row) (other : ℕ) → AreLists waits first next → at first other ≡ None → (b : ℕ) → at waits b ≡ Some other → ⊥
 none_left waits first next other lists front b waited = by (lists.lists other).blocks (lists.lists other).chain ((lists.lists other).all b waited)
   where
-    by : (xs : List ℕ) → IsChain next (at first other) xs → IsAmong b xs → ⊥
+    by : (xs : List ℕ) → IsChain next (at first other) xs → IsListed b xs → ⊥
     by [] chain i = i
     by (x ∷ xs) chain i = none_some (at first other) x front chain.0
 
 popped_here : (waits next : Row) (other b : ℕ) (start : Option ℕ) → start ≡ Some b → IsListOf waits next other start → IsListOf (slice_set waits b None) next other (at next b)
 popped_here waits next other b start front list = by list.blocks list.chain list.each list.all
   where
-    by : (xs : List ℕ) → IsChain next start xs → ((x : ℕ) → IsAmong x xs → at waits x ≡ Some other) → ((x : ℕ) → at waits x ≡ Some other → IsAmong x xs) →
+    by : (xs : List ℕ) → IsChain next start xs → ((x : ℕ) → IsListed x xs → at waits x ≡ Some other) → ((x : ℕ) → at waits x ≡ Some other → IsListed x xs) →
         IsListOf (slice_set waits b None) next other (at next b)
     by [] chain each all = absurd (none_some start b chain front)
     by (y ∷ ys) chain each all =
         let same : y ≡ b = same_some start y b chain.0 front in
-        let out : IsAmong b ys → ⊥ = subst (λ (z : ℕ). IsAmong z ys → ⊥) same chain.1 in
+        let out : IsListed b ys → ⊥ = subst (λ (z : ℕ). IsListed z ys → ⊥) same chain.1 in
         record {
           blocks = ys;
           chain = subst (λ (z : ℕ). IsChain next (at next z) ys) same chain.2;
-          each = λ x i. at_other waits b x None (λ e. out (subst (λ (z : ℕ). IsAmong z ys) e i)) ∙ each x (inr i);
+          each = λ x i. at_other waits b x None (λ e. out (subst (λ (z : ℕ). IsListed z ys) e i)) ∙ each x (inr i);
           all = λ x e. elim (cases_eq x b) [
             | inl here ↦ absurd (none_some (at (slice_set waits b None) x) other (ap (at (slice_set waits b None)) here ∙ at_none waits b) e)
             | inr away ↦ elim (all x (sym (at_other waits b x None away) ∙ e)) [

@@ -11,21 +11,21 @@ pub record Releases (old new : List (Option ℕ)) (other b : ℕ) : Type 0 where
   pub now : new ≡ slice_set old b None
 
 -- b is one of these
-abbrev pub IsAmong : ℕ → List ℕ → Type 0
-IsAmong b [] = ⊥
-IsAmong b (x ∷ xs) = (x ≡ b) ⊎ IsAmong b xs
+abbrev pub IsListed : ℕ → List ℕ → Type 0
+IsListed b [] = ⊥
+IsListed b (x ∷ xs) = (x ≡ b) ⊎ IsListed b xs
 
 -- From its start, and from each one by its next, these come, each once.
 abbrev pub IsChain : List (Option ℕ) → Option ℕ → List ℕ → Type 0
 IsChain next start [] = start ≡ None
-IsChain next start (x ∷ xs) = (start ≡ Some x) × (IsAmong x xs → ⊥) × IsChain next (at next x) xs
+IsChain next start (x ∷ xs) = (start ≡ Some x) × (IsListed x xs → ⊥) × IsChain next (at next x) xs
 
 -- From its start the list has the blocks that wait for one, and no others.
 pub record IsListOf (waits next : List (Option ℕ)) (other : ℕ) (start : Option ℕ) : Type 0 where
   pub blocks : List ℕ
   pub chain : IsChain next start blocks
-  pub each : (b : ℕ) → IsAmong b blocks → at waits b ≡ Some other
-  pub all : (b : ℕ) → at waits b ≡ Some other → IsAmong b blocks
+  pub each : (b : ℕ) → IsListed b blocks → at waits b ≡ Some other
+  pub all : (b : ℕ) → at waits b ≡ Some other → IsListed b blocks
 
 pub record AreLists (waits first next : List (Option ℕ)) : Type 0 where
   -- each block has a first waiter and a next one

@@ -11,7 +11,7 @@ use Rattle.xn_model.specs.Lives.{BlockState, Life, Lives, StoreState, life_at, b
 use Rattle.xn_model.specs.Calls.{bytes_at, is_durable, settled_count, settled_place}
 use Rattle.xn_model.specs.Flights.{flight_of}
 use Rattle.xn_model.specs.Worlds.{begun_count, begun_bytes}
-use Rattle.xn_model.specs.Rules.{IsPlaced}
+use Rattle.xn_model.specs.Rules.{IsHeldOnDisk}
 use Rattle.xn_kernel.specs.Kernels.{is_in_flight}
 
 -- a block with a write under way
@@ -59,7 +59,7 @@ settles true y k h = (k, refl)
 settles false true k h = (0, refl)
 settles false false k h = absurd (false≢true (h (λ e. false≢true e)))
 
-durable_or_begun : (content : ℕ → List ℕ) (b k : ℕ) (l : Life) (o : Option BlockState) → l.durable ≡ o → l.begun ≡ Some k → ((s : BlockState) → o ≡ Some s → IsPlaced content b l s) →
+durable_or_begun : (content : ℕ → List ℕ) (b k : ℕ) (l : Life) (o : Option BlockState) → l.durable ≡ o → l.begun ≡ Some k → ((s : BlockState) → o ≡ Some s → IsHeldOnDisk content b l s) →
     (bytes_eq (content b) (bytes_at k l) ≡ true → ⊥) → is_durable (content b) o ≡ true
 durable_or_begun content b k l None d g placed other = refl
 durable_or_begun content b k l (Some s) d g placed other = elim (placed s refl) [
@@ -70,7 +70,7 @@ durable_or_begun content b k l (Some s) d g placed other = elim (placed s refl) 
 ]
 
 pub settled_well : (content : ℕ → List ℕ) (lives : Lives) (b k : ℕ) (bytes : List ℕ) → (flies : IsFlying (life_at lives b) k bytes) →
-    ((l : Life) (s : BlockState) → life_at lives b ≡ Some l → l.durable ≡ Some s → IsPlaced content b l s) → slice_get lives b ≡ Some (Some flies.life) →
+    ((l : Life) (s : BlockState) → life_at lives b ≡ Some l → l.durable ≡ Some s → IsHeldOnDisk content b l s) → slice_get lives b ≡ Some (Some flies.life) →
     (n : ℕ) × (settled_place (content b) (slice_get lives b) ≡ Ok n)
 settled_well content lives b k bytes flies placed at =
     let l = flies.life in

@@ -8,14 +8,14 @@ use Rattle.std.proofs.lemmas.Option.{same_Some, none-some}
 use Rattle.std.proofs.lemmas.List.{take-append-drop, length-drop}
 use Rattle.std.proofs.lemmas.List.Elements.{All-from_get_or}
 use Rattle.std.proofs.Math.Seq.{drop-append-add}
-use Rattle.disk.specs.Images.{block_at}
+use Rattle.disk.specs.Images.{block_of_image}
 use Rattle.disk.proofs.ForCallers.{block_at-append_front, block_at-append_last}
 use Rattle.disk.specs.Mem.{MemoryLane, AreFreshLanes, fresh_lane}
 use Rattle.xn_model.specs.Types.{Types}
 use Rattle.xn_model.specs.Root.{word_at}
 use Rattle.xn_model.specs.Images.{block_of, blocks_in, joined, IsSound}
 use Rattle.image_model.specs.Walk.{catalogue_fault, count_of, has_length, head_fault, or_fault, verdict, walk_all}
-use Rattle.image_model.specs.Walk.{block_at as block_at_image}
+use Rattle.image_model.specs.Walk.{block_of_image as block_at_image}
 use Rattle.image_model.specs.Report.{IsSoundImage}
 use Rattle.image_model.specs.declared.fault.ImageFault.TheVariants.{BadCount, BadLength, BadMark}
 use Rattle.templates.specs.Language.{types_of_image}
@@ -25,21 +25,21 @@ use Rattle.world.specs.Worlds.{Tickets}
 
 -- The blocks of an image of blocks of 512 bytes
 
-first_block : (xs ys : List ℕ) → length xs ≡ 512 → block_at (xs ++ ys) 0 ≡ xs
+first_block : (xs ys : List ℕ) → length xs ≡ 512 → block_of_image (xs ++ ys) 0 ≡ xs
 first_block xs ys h = block_at-append_front xs ys 0 (omega arith) ∙ block_at-append_last [] xs 0 refl h
 
-next_block : (xs ys : List ℕ) (k : ℕ) → length xs ≡ 512 → block_at (xs ++ ys) (k + 1) ≡ block_at ys k
+next_block : (xs ys : List ℕ) (k : ℕ) → length xs ≡ 512 → block_of_image (xs ++ ys) (k + 1) ≡ block_of_image ys k
 next_block xs ys k h =
     let start : 512 * (k + 1) ≡ length xs + 512 * k = omega arith in
     let long : 512 * (k + 1) + 512 - 512 * (k + 1) ≡ 512 * k + 512 - 512 * k = omega arith in
     (λ i. take (long i) (drop (start i) (xs ++ ys))) ∙ ap (take (512 * k + 512 - 512 * k)) (drop-append-add xs ys (512 * k))
 
-block_at-joined : (blocks : List (List ℕ)) (k : ℕ) → All (λ block. length block ≡ 512) blocks → k < length blocks → block_at (joined blocks) k ≡ block_of blocks k
+block_at-joined : (blocks : List (List ℕ)) (k : ℕ) → All (λ block. length block ≡ 512) blocks → k < length blocks → block_of_image (joined blocks) k ≡ block_of blocks k
 block_at-joined [] k h within = absurd (omega arith)
 block_at-joined (block ∷ blocks) zero h within = first_block block (joined blocks) (h 0 [] (omega arith))
 block_at-joined (block ∷ blocks) (suc k) h within =
     let next : suc k ≡ k + 1 = omega arith in
-    ap (block_at (block ++ joined blocks)) next ∙ (next_block block (joined blocks) k (h 0 [] (omega arith)) ∙ block_at-joined blocks k (λ j d lt. h (suc j) d (omega arith)) (omega arith))
+    ap (block_of_image (block ++ joined blocks)) next ∙ (next_block block (joined blocks) k (h 0 [] (omega arith)) ∙ block_at-joined blocks k (λ j d lt. h (suc j) d (omega arith)) (omega arith))
 
 joined_chunks : (n : ℕ) (bytes : List ℕ) → length bytes ≡ 512 * n → joined (first_chunks 512 n bytes) ≡ bytes
 joined_chunks zero [] e = refl
@@ -57,8 +57,8 @@ long_blocks bytes = All-from_get_or (λ block. length block ≡ 512) (blocks_in 
 
 -- Fresh lanes over them
 
-block_is : (bytes : List ℕ) (k : ℕ) → length bytes % 512 ≡ 0 → k < length (blocks_in bytes) → block_at bytes k ≡ block_of (blocks_in bytes) k
-block_is bytes k whole lt = ap (λ x. block_at x k) (sym (joined_blocks bytes whole)) ∙ block_at-joined (blocks_in bytes) k (long_blocks bytes) lt
+block_is : (bytes : List ℕ) (k : ℕ) → length bytes % 512 ≡ 0 → k < length (blocks_in bytes) → block_of_image bytes k ≡ block_of (blocks_in bytes) k
+block_is bytes k whole lt = ap (λ x. block_of_image x k) (sym (joined_blocks bytes whole)) ∙ block_at-joined (blocks_in bytes) k (long_blocks bytes) lt
 
 all_fresh : (lanes : List (Option MemoryLane)) (blocks : List (List ℕ)) (from : ℕ) → length lanes ≡ length blocks →
     ((k : ℕ) → k < length lanes → slice_get lanes k ≡ Some (Some (fresh_lane (from + k) (block_of blocks k)))) →

@@ -11,7 +11,7 @@ use Rattle.xn_model.specs.Lanes.{FitsLife, FitLives}
 use Rattle.xn_model.specs.Flights.{flight_of}
 use Rattle.xn_model.specs.Calls.{bytes_at}
 use Rattle.xn_kernel.specs.Kernels.{KernelValue, TicketValue}
-use Rattle.world.specs.Disks.{image_of, settled_image, given_to, ticket_at, lane_at, lanes_with, AreWhole, IsCalm, IsHome, IsSomewhere}
+use Rattle.world.specs.Disks.{image_of, settled_image, given_to, ticket_at, lane_at, lanes_with, AreWhole, IsCalm, IsLaneHome, IsSomewhere}
 use Rattle.world.specs.Worlds.{Tickets, ticket_flight, IsWorld}
 use Rattle.world.proofs.Images.{known_of-finished, length-image_of}
 use Rattle.world.proofs.Places.{place_at-same, place_at-other, set_still, full_get, empty_get}
@@ -110,15 +110,15 @@ more_empty tickets b within before c lt = elim (cases_eq c b) [
 
 -- Once no ticket is left
 
-home_at : (b : ℕ) (o : Option MemoryLane) → IsSomewhere b o None → IsHome o
+home_at : (b : ℕ) (o : Option MemoryLane) → IsSomewhere b o None → IsLaneHome o
 home_at b None s = s
 home_at b (Some lane) s = s
 
-each_home : (lanes : Lanes) → ((b : ℕ) → b < length lanes → IsHome (lane_at lanes b)) → AllByRecursion IsHome lanes
+each_home : (lanes : Lanes) → ((b : ℕ) → b < length lanes → IsLaneHome (lane_at lanes b)) → AllByRecursion IsLaneHome lanes
 each_home [] h = tt
 each_home (l ∷ lanes) h = (h 0 (omega arith), each_home lanes (λ b lt. h (suc b) (omega arith)))
 
-pub all_home : (lanes : Lanes) (tickets : Tickets) → AreWhole lanes tickets → ((c : ℕ) → c < length tickets → ticket_at tickets c ≡ None) → AllByRecursion IsHome lanes
+pub all_home : (lanes : Lanes) (tickets : Tickets) → AreWhole lanes tickets → ((c : ℕ) → c < length tickets → ticket_at tickets c ≡ None) → AllByRecursion IsLaneHome lanes
 all_home lanes tickets is none = each_home lanes (λ b lt. home_at b (lane_at lanes b) (subst (λ t. IsSomewhere b (lane_at lanes b) t) (none b (let long = is.count in omega arith)) (is.each b lt)))
 
 pub all_empty : (tickets : Tickets) (n : ℕ) → length tickets ≡ n → ((c : ℕ) → c < n → ticket_at tickets c ≡ None) → tickets ≡ replicate n None

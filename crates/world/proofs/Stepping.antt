@@ -19,7 +19,7 @@ use Rattle.xn_state.specs.States.{own_types}
 use Rattle.xn_state.specs.declared.call.Call.{Call}
 use Rattle.xn_state.specs.declared.call.Call.TheVariants.{Init, Propose, MakeRoot, DropRoot, Forget, Read, Root, Kind, Tainted, Pending, Floor, Free, Pick, Drain}
 use Rattle.xn_state.specs.declared.answer.Answer.{Answer}
-use Rattle.xn_state.specs.Answers.{Answers, call_of, reply_of_answer, told}
+use Rattle.xn_state.specs.Answers.{StateAnswers, call_of, reply_of_answer, told}
 use Rattle.xn_state.proofs.ForCallers.{answers_step}
 use Rattle.xn_model.specs.Rules.{Holds}
 use Rattle.xn_model.proofs.ForCallers.{gives_keeps, gives_exactly_keeps, gives_exactly-ok, left_placed, none_from, none_open, step_keeps}
@@ -47,11 +47,11 @@ module _ (kernel : KernelValue MemoryLane) (tickets : Tickets) (is : IsWorld ker
 
   -- A call of a client
 
-  module _ (fs : ℕ) (call : Call) (answer : Answer) (new : StoreState) (answers : Answers (own_types kernel.state) kernel.state fs call new answer) where
+  module _ (fs : ℕ) (call : Call) (answer : Answer) (new : StoreState) (answers : StateAnswers (own_types kernel.state) kernel.state fs call new answer) where
     pub call_step : Step (world_of kernel tickets) (Client fs (call_of call)) (reply_of_answer answer) (world_of (record kernel { state = new }) tickets)
     call_step = answers_step (world_of kernel tickets) new fs call answer refl answers
 
-    fits : (call : Call) → Answers (own_types kernel.state) kernel.state fs call new answer → FitLives (λ (l : MemoryLane). l.bytes) kernel.lanes new.lives
+    fits : (call : Call) → StateAnswers (own_types kernel.state) kernel.state fs call new answer → FitLives (λ (l : MemoryLane). l.bytes) kernel.lanes new.lives
     fits (Init ty bytes) h = gives_keeps (λ s. FitLives (λ (l : MemoryLane). l.bytes) kernel.lanes s.lives) (init_of (own_types kernel.state) kernel.state fs ty bytes) kernel.state new h.0 h.2 is.fit (λ made e. lemmas.lanes_init (λ (l : MemoryLane). l.bytes) kernel.lanes (own_types kernel.state) kernel.state new fs ty bytes made e is.fit)
     fits (Propose b edit) h = gives_keeps (λ s. FitLives (λ (l : MemoryLane). l.bytes) kernel.lanes s.lives) (propose_of (own_types kernel.state) kernel.state fs b edit) kernel.state new h.0 h.2 is.fit (λ entry e. lemmas.lanes_propose (λ (l : MemoryLane). l.bytes) kernel.lanes (own_types kernel.state) kernel.state new fs b edit entry e is.fit)
     fits (MakeRoot b) h = gives_keeps (λ s. FitLives (λ (l : MemoryLane). l.bytes) kernel.lanes s.lives) (make_root_of kernel.state fs b) kernel.state new h.0 h.2 is.fit (λ entry e. lemmas.lanes_make_root (λ (l : MemoryLane). l.bytes) kernel.lanes kernel.state new fs b entry e is.fit)
@@ -70,7 +70,7 @@ module _ (kernel : KernelValue MemoryLane) (tickets : Tickets) (is : IsWorld ker
     still : new ≡ kernel.state → HaveSameFlights kernel.state.lives new.lives
     still same = subst (λ (s : StoreState). HaveSameFlights kernel.state.lives s.lives) (sym same) (λ b. refl)
 
-    flies_on : (call : Call) → Answers (own_types kernel.state) kernel.state fs call new answer → HaveSameFlights kernel.state.lives new.lives
+    flies_on : (call : Call) → StateAnswers (own_types kernel.state) kernel.state fs call new answer → HaveSameFlights kernel.state.lives new.lives
     flies_on (Init ty bytes) h = gives_keeps (λ s. HaveSameFlights kernel.state.lives s.lives) (init_of (own_types kernel.state) kernel.state fs ty bytes) kernel.state new h.0 h.2 (λ b. refl) (λ made e. lemmas.flights_init (own_types kernel.state) kernel.state new fs ty bytes made e)
     flies_on (Propose b edit) h = gives_keeps (λ s. HaveSameFlights kernel.state.lives s.lives) (propose_of (own_types kernel.state) kernel.state fs b edit) kernel.state new h.0 h.2 (λ b. refl) (λ entry e. lemmas.flights_propose (own_types kernel.state) kernel.state new is.holds.state fs b edit entry e)
     flies_on (MakeRoot b) h = gives_keeps (λ s. HaveSameFlights kernel.state.lives s.lives) (make_root_of kernel.state fs b) kernel.state new h.0 h.2 (λ b. refl) (λ entry e. lemmas.flights_make_root (own_types kernel.state) kernel.state new is.holds.state fs b entry e)

@@ -3,7 +3,7 @@ use Rattle.std.specs.Prelude.{◌≡◌, ℕ, ◌-◌, ◌<◌, Bool, List, [], 
 use Rattle.std.specs.Prelude.{slice_get, slice_set, option_map, ⊤}
 use Rattle.std.specs.List.{AllByRecursion}
 use Rattle.disk.specs.declared.lane.DeviceFault.{DeviceFault}
-use Rattle.disk.specs.Mem.{MemoryLane, memory_write, memory_sync, crashed}
+use Rattle.disk.specs.Mem.{MemoryLane, memory_write, memory_sync, crashed_lane}
 use Rattle.xn_model.specs.Lists.{has_number}
 use Rattle.xn_kernel.specs.Kernels.{TicketValue}
 
@@ -59,9 +59,9 @@ lanes_with lanes None = lanes
 lanes_with lanes (Some ticket) = slice_set lanes ticket.block (Some ticket.lane)
 
 -- the lane is at home, and told no failure
-abbrev pub IsHome : Option MemoryLane → Type 0
-IsHome None = ⊥
-IsHome (Some lane) = IsCalm lane
+abbrev pub IsLaneHome : Option MemoryLane → Type 0
+IsLaneHome None = ⊥
+IsLaneHome (Some lane) = IsCalm lane
 
 -- and holds no write
 abbrev pub IsResting : Option MemoryLane → Type 0
@@ -76,10 +76,10 @@ IsLong (Some lane) = length lane.bytes ≡ 512
 abbrev pub AreLong : List (Option MemoryLane) → Type 0
 AreLong lanes = (b : ℕ) → b < length lanes → IsLong (lane_at lanes b)
 
--- each lane has crashed, and kept its open write where these blocks have it
+-- each lane has crashed_lane, and kept its open write where these blocks have it
 pub record HaveCrashed (kept : List ℕ) (old new : List (Option MemoryLane)) : Type 0 where
   pub count : length new ≡ length old
-  pub each : (b : ℕ) → lane_at new b ≡ option_map (λ lane. crashed lane (has_number kept b)) (lane_at old b)
+  pub each : (b : ℕ) → lane_at new b ≡ option_map (λ lane. crashed_lane lane (has_number kept b)) (lane_at old b)
 
 -- the lanes of a disk that is not mounted, and the places of its tickets
 pub record IsUnmounted (lanes : List (Option MemoryLane)) (tickets : List (Option (TicketValue MemoryLane))) : Type 0 where

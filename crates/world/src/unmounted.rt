@@ -7,8 +7,8 @@ ghost use Rattle.xn_model.specs.Images.{block_of, blocks_in, joined, IsSound};
 ghost use Rattle.image_model.specs.Walk.{verdict};
 ghost use Rattle.templates.specs.Language.{types_of_image};
 ghost use Rattle.crash_check.specs.Mounts.{state_of};
-ghost use Rattle.disk.specs.Mem.{crashed};
-ghost use Rattle.world.specs.Disks.{image_of, settled_image, given_to, lane_at, lanes_with, AreLong, AreWhole, HaveCrashed, IsHome, IsLong, IsUnmounted};
+ghost use Rattle.disk.specs.Mem.{crashed_lane};
+ghost use Rattle.world.specs.Disks.{image_of, settled_image, given_to, lane_at, lanes_with, AreLong, AreWhole, HaveCrashed, IsLaneHome, IsLong, IsUnmounted};
 ghost use Rattle.world.specs.Worlds.{mounted_value};
 
 use crate::mounted::MountedDisk;
@@ -136,7 +136,7 @@ impl UnmountedDisk {
 
 /// The bytes of all lanes, block after block.
 pub fn bytes_of_all(alloc: Global, lanes: &Lanes<MemLane>) -> Result<Vec<u8>, AllocError>
-    requires { AllByRecursion IsHome lanes.now }
+    requires { AllByRecursion IsLaneHome lanes.now }
     ensures { IfOk result (λ image. image.items ≡ joined (image_of lanes.now (replicate (length lanes.now) None))) }
 {
     let blocks = lanes.blocks() as u32;
@@ -149,7 +149,7 @@ pub fn bytes_of_all(alloc: Global, lanes: &Lanes<MemLane>) -> Result<Vec<u8>, Al
 
 /// The bytes of one block.
 fn bytes_at_home(lanes: &Lanes<MemLane>, block: u32) -> &[u8; 512]
-    requires home { AllByRecursion IsHome lanes.now }
+    requires home { AllByRecursion IsLaneHome lanes.now }
     requires within { block < length lanes.now }
     ensures { result.now ≡ block_of (image_of lanes.now (replicate (length lanes.now) None)) block }
 {
@@ -162,7 +162,7 @@ fn bytes_at_home(lanes: &Lanes<MemLane>, block: u32) -> &[u8; 512]
 /// Puts the lane of each ticket back in its place.
 pub fn take_lanes_back(lanes: &mut Lanes<MemLane>, tickets: &mut Tickets)
     requires { AreWhole lanes.old tickets.old }
-    ensures home { AllByRecursion IsHome lanes.new }
+    ensures home { AllByRecursion IsLaneHome lanes.new }
     ensures empty { tickets.new ≡ replicate (length lanes.new) None }
     ensures image { image_of lanes.new tickets.new ≡ image_of lanes.old tickets.old }
     ensures settled { settled_image lanes.new tickets.new ≡ settled_image lanes.old tickets.old }
@@ -187,7 +187,7 @@ pub fn crash_lanes(lanes: &mut Lanes<MemLane>, kept: &[u32])
 /// The lane of a block crashes.
 fn crash_lane(lanes: &mut Lanes<MemLane>, block: u32, kept: bool)
     requires { block < length lanes.old }
-    ensures crashed { lanes.new ≡ slice_set lanes.old block (option_map (λ lane. crashed lane kept) (lane_at lanes.old block)) }
+    ensures crashed { lanes.new ≡ slice_set lanes.old block (option_map (λ lane. crashed_lane lane kept) (lane_at lanes.old block)) }
     ensures long { IsLong (lane_at lanes.new block) }
 {
     match lanes.take(block) {

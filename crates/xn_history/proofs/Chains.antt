@@ -10,7 +10,7 @@ use Rattle.xn_model.specs.Rules.{Holds, IsOwnedBy, NamedIn}
 use Rattle.xn_model.proofs.ForCallers.{Contains-head, Contains-tail, last_of, in_range, in_newest, left_may, left_installed, left_owned, step_keeps}
 use Rattle.xn_history.specs.Histories.{History, Histories, last_told, since, newest_bytes, type_in, edited_block, dropped_blocks, histories_after}
 use Rattle.xn_history.specs.Moments.{IsHistoryOf, AreHistoriesOf}
-use Rattle.xn_history.specs.Promises.{StaysTold, Names, IsChain, Spares}
+use Rattle.xn_history.specs.Promises.{StaysTold, Names, IsNamedChain, Spares}
 use Rattle.xn_history.proofs.Turns.{matched, living, bare_last, current_is}
 use Rattle.xn_history.proofs.Mounts.{reached_finds}
 use Rattle.xn_history.proofs.Moments.{crash_lives, goes, turn_at, types_stay}
@@ -52,7 +52,7 @@ module _ (w : World) (h : Holds w) (hs : Histories) (known : AreHistoriesOf w.st
       (h.state.linked a l.0 l.1).owned c (type_in (hs c)) (named_newest a c n l.0 l.1)
 
   -- each block of a chain is reached in every image that a crash may leave
-  pub chain_reached : (image : List (List ℕ)) → MayLeave w image → (c : ℕ) (blocks : List ℕ) → IsChain (types_now w) hs (c ∷ blocks) → Reach (types_on w image) (length image) (block_of image) c (type_in (hs c))
+  pub chain_reached : (image : List (List ℕ)) → MayLeave w image → (c : ℕ) (blocks : List ℕ) → IsNamedChain (types_now w) hs (c ∷ blocks) → Reach (types_on w image) (length image) (block_of image) c (type_in (hs c))
   chain_reached image may c [] zero =
       let r = h.state.lives_sound.root in
       let x = matched (life_at w.state.lives 0) (hs 0) (known 0) r.life r.alive in
@@ -87,19 +87,19 @@ module _ (w : World) (h : Holds w) (hs : Histories) (known : AreHistoriesOf w.st
     abbrev hs' : Histories
     hs' = histories_after hs e r w'.state.lives
 
-    pub chain_alive : (c : ℕ) (blocks : List ℕ) → IsChain (types_now w) hs (c ∷ blocks) → (l : Life) × (life_at w'.state.lives c ≡ Some l)
+    pub chain_alive : (c : ℕ) (blocks : List ℕ) → IsNamedChain (types_now w) hs (c ∷ blocks) → (l : Life) × (life_at w'.state.lives c ≡ Some l)
     chain_alive c [] zero = let r' = (step_keeps w e r w' few h s).state.lives_sound.root in (r'.life, ap (life_at w'.state.lives) zero ∙ r'.alive)
     chain_alive c (a ∷ blocks) chain = owned_goes e r w' few s c a (type_in (hs c)) (owned_by a c chain.0) (λ image may. chain_reached image may c (a ∷ blocks) chain)
 
     -- a block of a chain has a history, which goes on
-    pub chain_told : (c : ℕ) (blocks : List ℕ) → IsChain (types_now w) hs (c ∷ blocks) → (x : History) → hs c ≡ Some x → StaysTold x (hs' c)
+    pub chain_told : (c : ℕ) (blocks : List ℕ) → IsNamedChain (types_now w) hs (c ∷ blocks) → (x : History) → hs c ≡ Some x → StaysTold x (hs' c)
     chain_told c blocks chain x at =
         let l = chain_alive c blocks chain in
         let t = turn_at w h hs known e r w' few s c l.0 l.1 in
         let m = t.extends x at in
         record { now = t.history; is = t.is; fs = t.fs x at; ty = t.ty x at; more = m.0; longer = m.1 }
 
-    pub chain_known : (c : ℕ) (blocks : List ℕ) → IsChain (types_now w) hs (c ∷ blocks) → (x : History) × (hs c ≡ Some x)
+    pub chain_known : (c : ℕ) (blocks : List ℕ) → IsNamedChain (types_now w) hs (c ∷ blocks) → (x : History) × (hs c ≡ Some x)
     chain_known c [] zero =
         let root' = h.state.lives_sound.root in
         let x = matched (life_at w.state.lives c) (hs c) (known c) root'.life (ap (life_at w.state.lives) zero ∙ root'.alive) in
@@ -125,7 +125,7 @@ module _ (w : World) (h : Holds w) (hs : Histories) (known : AreHistoriesOf w.st
             subst (λ (o : List ℕ → List (ℕ × ℕ)). Contains (o x.bytes) (c, type_in (hs' c))) (sym own)
             (subst (λ k. Contains ((types_now w).owned k x.bytes) (c, type_in (hs' c))) (sym same) (subst (λ u. Contains ((types_now w).owned n.history.ty x.bytes) (c, u)) (sym ty) here))
 
-    pub chain_on : (c : ℕ) (blocks : List ℕ) → IsChain (types_now w) hs (c ∷ blocks) → Spares (c ∷ blocks) hs e r hs' → IsChain (types_now w') hs' (c ∷ blocks)
+    pub chain_on : (c : ℕ) (blocks : List ℕ) → IsNamedChain (types_now w) hs (c ∷ blocks) → Spares (c ∷ blocks) hs e r hs' → IsNamedChain (types_now w') hs' (c ∷ blocks)
     chain_on c [] zero spared = zero
     chain_on c (a ∷ blocks) chain spared =
         let l = chain_alive a blocks chain.1 in

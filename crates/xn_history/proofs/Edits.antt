@@ -10,7 +10,7 @@ use Rattle.xn_model.specs.Rules.{Holds}
 use Rattle.xn_model.proofs.ForCallers.{Contains-none, Contains-cons, step_keeps}
 use Rattle.xn_history.specs.Histories.{History, Histories, last_told, since, type_in, histories_after}
 use Rattle.xn_history.specs.Moments.{RunWhere, AreHistoriesOf}
-use Rattle.xn_history.specs.Promises.{IsReached, EveryImageHas, HoldsAccepted, StaysTold, LivesOn, IsChain, Spares, LeavesAlone, IsTold}
+use Rattle.xn_history.specs.Promises.{IsReached, EveryImageHas, HoldsAccepted, StaysTold, LivesOn, IsNamedChain, Spares, LeavesAlone, IsTold}
 use Rattle.xn_history.proofs.Turns.{append_nil}
 use Rattle.xn_history.proofs.Mounts.{reached_finds}
 use Rattle.xn_history.proofs.Moments.{turn_at, known_after, run_knows}
@@ -28,10 +28,10 @@ told_both x o p one more =
 
 -- A chain that is spared stays a chain, and its first block goes on.
 pub chain_runs : (c : ℕ) (blocks : List ℕ) (w : World) (hs : Histories) (es : List Event) (rs : List Reply) (w' : World) (hs' : Histories) → AllByRecursion IsEvent es → Holds w → AreHistoriesOf w.state.lives hs →
-    IsChain (types_now w) hs (c ∷ blocks) → (x : History) → hs c ≡ Some x → RunWhere (Spares (c ∷ blocks)) w hs es rs w' hs' → StaysTold x (hs' c) × IsChain (types_now w') hs' (c ∷ blocks)
+    IsNamedChain (types_now w) hs (c ∷ blocks) → (x : History) → hs c ≡ Some x → RunWhere (Spares (c ∷ blocks)) w hs es rs w' hs' → StaysTold x (hs' c) × IsNamedChain (types_now w') hs' (c ∷ blocks)
 chain_runs c blocks w hs [] [] w' hs' each h known chain x at run = (
   record { now = x; is = ap (λ (f : Histories). f c) run.1 ∙ at; fs = refl; ty = refl; more = []; longer = sym (append_nil x.told) },
-  subst (λ (v : World × Histories). IsChain (types_now v.0) v.1 (c ∷ blocks)) (λ i. (sym run.0 i, sym run.1 i)) chain,
+  subst (λ (v : World × Histories). IsNamedChain (types_now v.0) v.1 (c ∷ blocks)) (λ i. (sym run.0 i, sym run.1 i)) chain,
 )
 chain_runs c blocks w hs [] (r ∷ rs) w' hs' each h known chain x at run = absurd run
 chain_runs c blocks w hs (e ∷ es) [] w' hs' each h known chain x at run = absurd run
@@ -71,7 +71,7 @@ has_bytes hs b u m t = record {
 }
 
 bytes_on : (w : World) (h : Holds w) (hs : Histories) (known : AreHistoriesOf w.state.lives hs) (e : Event) (r : Reply) (w' : World) (few : IsEvent e) (s : Step w e r w') (b u : ℕ) (blocks : List ℕ) (m : List ℕ) →
-    IsChain (types_now w) hs (b ∷ blocks) → HasBytes hs b u m → LeavesAlone b (b ∷ blocks) hs e r (histories_after hs e r w'.state.lives) → HasBytes (histories_after hs e r w'.state.lives) b u m
+    IsNamedChain (types_now w) hs (b ∷ blocks) → HasBytes hs b u m → LeavesAlone b (b ∷ blocks) hs e r (histories_after hs e r w'.state.lives) → HasBytes (histories_after hs e r w'.state.lives) b u m
 bytes_on w h hs known e r w' few s b u blocks m chain has alone =
     let l = chain_alive w h hs known e r w' few s b blocks chain in
     let t = turn_at w h hs known e r w' few s b l.0 l.1 in
@@ -83,9 +83,9 @@ bytes_on w h hs known e r w' few s b u blocks m chain has alone =
     }
 
 pub bytes_run : (b u : ℕ) (blocks : List ℕ) (m : List ℕ) (w : World) (hs : Histories) (es : List Event) (rs : List Reply) (w' : World) (hs' : Histories) → AllByRecursion IsEvent es → Holds w → AreHistoriesOf w.state.lives hs →
-    IsChain (types_now w) hs (b ∷ blocks) → HasBytes hs b u m → RunWhere (LeavesAlone b (b ∷ blocks)) w hs es rs w' hs' → HasBytes hs' b u m × IsChain (types_now w') hs' (b ∷ blocks)
+    IsNamedChain (types_now w) hs (b ∷ blocks) → HasBytes hs b u m → RunWhere (LeavesAlone b (b ∷ blocks)) w hs es rs w' hs' → HasBytes hs' b u m × IsNamedChain (types_now w') hs' (b ∷ blocks)
 bytes_run b u blocks m w hs [] [] w' hs' each h known chain has run =
-    subst (λ (v : World × Histories). HasBytes v.1 b u m × IsChain (types_now v.0) v.1 (b ∷ blocks)) (λ i. (sym run.0 i, sym run.1 i)) (has, chain)
+    subst (λ (v : World × Histories). HasBytes v.1 b u m × IsNamedChain (types_now v.0) v.1 (b ∷ blocks)) (λ i. (sym run.0 i, sym run.1 i)) (has, chain)
 bytes_run b u blocks m w hs [] (r ∷ rs) w' hs' each h known chain has run = absurd run
 bytes_run b u blocks m w hs (e ∷ es) [] w' hs' each h known chain has run = absurd run
 bytes_run b u blocks m w hs (e ∷ es) (r ∷ rs) w' hs' each h known chain has run =
@@ -94,7 +94,7 @@ bytes_run b u blocks m w hs (e ∷ es) (r ∷ rs) w' hs' each h known chain has 
 
 -- so every image that a crash may leave has them
 pub survives : (b u : ℕ) (blocks : List ℕ) (m : List ℕ) (w : World) (hs : Histories) (es : List Event) (rs : List Reply) (w' : World) (hs' : Histories) → AllByRecursion IsEvent es → Holds w → AreHistoriesOf w.state.lives hs →
-    IsChain (types_now w) hs (b ∷ blocks) → HasBytes hs b u m → RunWhere (LeavesAlone b (b ∷ blocks)) w hs es rs w' hs' →
+    IsNamedChain (types_now w) hs (b ∷ blocks) → HasBytes hs b u m → RunWhere (LeavesAlone b (b ∷ blocks)) w hs es rs w' hs' →
     EveryImageHas w' b u m
 survives b u blocks m w hs es rs w' hs' each h known chain has run image may =
     let now = bytes_run b u blocks m w hs es rs w' hs' each h known chain has run in
@@ -106,7 +106,7 @@ survives b u blocks m w hs es rs w' hs' each h known chain has run image may =
 
 -- no image misses a state of a spared block that was told
 pub held_on : (c : ℕ) (blocks : List ℕ) (w : World) (hs : Histories) (es : List Event) (rs : List Reply) (w' : World) (hs' : Histories) → AllByRecursion IsEvent es → Holds w → AreHistoriesOf w.state.lives hs →
-    IsChain (types_now w) hs (c ∷ blocks) → (x : History) → hs c ≡ Some x → RunWhere (Spares (c ∷ blocks)) w hs es rs w' hs' →
+    IsNamedChain (types_now w) hs (c ∷ blocks) → (x : History) → hs c ≡ Some x → RunWhere (Spares (c ∷ blocks)) w hs es rs w' hs' →
     (image : List (List ℕ)) → MayLeave w' image → IsReached w' image c x.ty × HoldsAccepted (block_of image) hs' c x.ty
 held_on c blocks w hs es rs w' hs' each h known chain x at run image may =
     let now = chain_runs c blocks w hs es rs w' hs' each h known chain x at run in

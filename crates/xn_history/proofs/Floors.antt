@@ -11,7 +11,7 @@ use Rattle.xn_model.specs.Rules.{Holds}
 use Rattle.xn_model.proofs.ForCallers.{Contains-none, Contains-head, Contains-tail, Contains-cons, fs_from, floor_low, floor_met, step_keeps}
 use Rattle.xn_history.specs.Histories.{Histories, histories_after}
 use Rattle.xn_history.specs.Moments.{RunWhere, AreHistoriesOf}
-use Rattle.xn_history.specs.Promises.{GoesOn, AreToldBelow}
+use Rattle.xn_history.specs.Promises.{IsWithoutCrash, AreToldBelow}
 use Rattle.xn_history.proofs.Turns.{living}
 use Rattle.xn_history.proofs.Steps.{Goes}
 use Rattle.xn_history.proofs.Moments.{goes, known_after, run_knows}
@@ -73,7 +73,7 @@ pub floor_rises : (w : World) → Holds w → (hs : Histories) → AreHistoriesO
 floor_rises w h hs known e r w' few s up fs = floor_goes w hs e (r, w') (goes w h hs known e r w' few s up) fs
 
 pub floor_rises_on : (w : World) (hs : Histories) (es : List Event) (rs : List Reply) (w' : World) (hs' : Histories) → AllByRecursion IsEvent es → Holds w → AreHistoriesOf w.state.lives hs →
-    RunWhere GoesOn w hs es rs w' hs' → (fs : ℕ) → floor_of w.state fs ≤ floor_of w'.state fs
+    RunWhere IsWithoutCrash w hs es rs w' hs' → (fs : ℕ) → floor_of w.state fs ≤ floor_of w'.state fs
 floor_rises_on w hs [] [] w' hs' each h known run fs = let same : floor_of w'.state fs ≡ floor_of w.state fs = ap (λ (x : World). floor_of x.state fs) run.0 in omega arith
 floor_rises_on w hs [] (r ∷ rs) w' hs' each h known run fs = absurd run
 floor_rises_on w hs (e ∷ es) [] w' hs' each h known run fs = absurd run
@@ -96,7 +96,7 @@ floor_answered w fs n w' s = elim s [
 ]
 
 pub floor_told_on : (w : World) → Holds w → (hs : Histories) → AreHistoriesOf w.state.lives hs → (fs n : ℕ) (es : List Event) (rs : List Reply) (w' : World) (hs' : Histories) → AllByRecursion IsEvent (Client fs Floor ∷ es) →
-    RunWhere GoesOn w hs (Client fs Floor ∷ es) (FloorIs n ∷ rs) w' hs' → AreToldBelow fs n hs'
+    RunWhere IsWithoutCrash w hs (Client fs Floor ∷ es) (FloorIs n ∷ rs) w' hs' → AreToldBelow fs n hs'
 floor_told_on w h hs known fs n es rs w' hs' each run c x s at i counts =
     let answer = floor_answered w fs n run.0 run.1 in
     let answered : n ≡ floor_of w.state fs = answer.0 in
@@ -105,6 +105,6 @@ floor_told_on w h hs known fs n es rs w' hs' each run c x s at i counts =
     let known1 = known_after w h hs known (Client fs Floor) (FloorIs n) run.0 each.0 run.1 in
     let hs1 = histories_after hs (Client fs Floor) (FloorIs n) run.0.state.lives in
     let more = floor_rises_on run.0 hs1 es rs w' hs' each.1 h1 known1 run.3 fs in
-    let last = run_knows GoesOn run.0 hs1 es rs w' hs' each.1 h1 known1 run.3 in
+    let last = run_knows IsWithoutCrash run.0 hs1 es rs w' hs' each.1 h1 known1 run.3 in
     let low = told_below w' hs' last.1 fs c x s at i counts in
     omega arith

@@ -11,7 +11,7 @@ use Rattle.xn_model.specs.Calls.{install_of, install_at, started, new_life, firs
 use Rattle.xn_model.specs.Calls as model
 use Rattle.xn_model.specs.Rules.{IsConsistent}
 use Rattle.xn_model.proofs.ForCallers.{accepted, Contains-none, Contains-cons, accepted_is, each_back, each_forth, set_same, set_other, lowest_is, IsInstalled, begun_kept, pointer_stays, small_life}
-use Rattle.xn_history.specs.Histories.{History, Histories, bytes_in, accepting, change_in, start_in, catalogue_state}
+use Rattle.xn_history.specs.Histories.{History, Histories, bytes_in, accepting, change_in, start_in, named_catalogue}
 use Rattle.xn_history.specs.Moments.{IsHistoryOf, IsHistoryAt, AreHistoriesOf}
 use Rattle.xn_history.proofs.Turns.{Turn, Keeps, unmatched, turn_earlier}
 use Rattle.xn_history.proofs.Calls.{Turns, starts, accepts_turn, keeps_by, root_bytes, root_long}
@@ -92,7 +92,7 @@ module _ (L : Language) (state new : StoreState) (h : IsConsistent (types_of L s
   heard_first = record { fs = None; ty = 1; told = []; untold = first_state made.2 None bytes ∷ [] }
 
   abbrev heard_state : BlockState
-  heard_state = catalogue_state (made.2 + 1) made.0 made.1 (bytes_in (hs 0))
+  heard_state = named_catalogue (made.2 + 1) made.0 made.1 (bytes_in (hs 0))
 
   abbrev hs2 : Histories
   hs2 = change_in (start_in hs made.1 heard_first) 0 (accepting heard_state)

@@ -10,7 +10,7 @@ use Rattle.xn_model.specs.Rules.{Holds, IsInFileSystem, NamedIn}
 use Rattle.xn_model.proofs.ForCallers.{Contains-none, Contains-cons, last_of, step_keeps, fresh_owned}
 use Rattle.xn_history.specs.Histories.{History, Histories, type_in, edited_block, dropped_blocks, histories_after}
 use Rattle.xn_history.specs.Moments.{RunWhere, AreHistoriesOf}
-use Rattle.xn_history.specs.Promises.{Names, IsChain, LeavesAlone, IsNoEditBy}
+use Rattle.xn_history.specs.Promises.{Names, IsNamedChain, LeavesAlone, IsNoEditBy}
 use Rattle.xn_history.proofs.Turns.{living}
 use Rattle.xn_history.proofs.Moments.{known_after}
 use Rattle.xn_history.proofs.Chains.{owned_by, named_newest, chain_told, chain_on}
@@ -41,7 +41,7 @@ module _ (w : World) (h : Holds w) (hs : Histories) (known : AreHistoriesOf w.st
       record { life = l.0; alive = l.1; same = sym in'.same ∙ (ap (λ (x : Life). x.fs) same ∙ i.same) }
 
   -- so each block of a chain but block 0 is
-  chain_system : (fs c : ℕ) (blocks : List ℕ) → IsChain (types_now w) hs (c ∷ blocks) → IsInFileSystem w.state.lives (Some fs) c → (d : ℕ) → Contains (c ∷ blocks) d → (d ≡ 0) ⊎ IsInFileSystem w.state.lives (Some fs) d
+  chain_system : (fs c : ℕ) (blocks : List ℕ) → IsNamedChain (types_now w) hs (c ∷ blocks) → IsInFileSystem w.state.lives (Some fs) c → (d : ℕ) → Contains (c ∷ blocks) d → (d ≡ 0) ⊎ IsInFileSystem w.state.lives (Some fs) d
   chain_system fs c [] chain i d among = elim (Contains-cons c [] d among) [ inl same ↦ inl (sym same ∙ chain) | inr none ↦ absurd (Contains-none d none) ]
   chain_system fs c (a ∷ blocks) chain i d among = elim (Contains-cons c (a ∷ blocks) d among) [
     | inl same ↦ inr (subst (IsInFileSystem w.state.lives (Some fs)) same i)
@@ -51,7 +51,7 @@ module _ (w : World) (h : Holds w) (hs : Histories) (known : AreHistoriesOf w.st
     ]
   ]
     where
-      only_root : (a : ℕ) (blocks : List ℕ) → a ≡ 0 → IsChain (types_now w) hs (a ∷ blocks) → (d : ℕ) → Contains (a ∷ blocks) d → d ≡ 0
+      only_root : (a : ℕ) (blocks : List ℕ) → a ≡ 0 → IsNamedChain (types_now w) hs (a ∷ blocks) → (d : ℕ) → Contains (a ∷ blocks) d → d ≡ 0
       only_root a [] zero chain d among = elim (Contains-cons a [] d among) [ inl same ↦ sym same ∙ zero | inr none ↦ absurd (Contains-none d none) ]
       only_root a (b ∷ blocks) zero chain d among =
           let r = h.state.lives_sound.root in
@@ -59,7 +59,7 @@ module _ (w : World) (h : Holds w) (hs : Histories) (known : AreHistoriesOf w.st
           let same : r.life ≡ o.life = same_Some r.life o.life (sym r.alive ∙ (ap (life_at w.state.lives) (sym zero) ∙ o.alive)) in
           absurd (fresh_owned b (sym r.unowned ∙ (ap (λ (l : Life). l.status) same ∙ o.status)))
 
-  module _ (fs b : ℕ) (blocks : List ℕ) (chain : IsChain (types_now w) hs (b ∷ blocks)) (mine : IsInFileSystem w.state.lives (Some fs) b) where
+  module _ (fs b : ℕ) (blocks : List ℕ) (chain : IsNamedChain (types_now w) hs (b ∷ blocks)) (mine : IsInFileSystem w.state.lives (Some fs) b) where
     -- a call of another file system
     foreign : (g : ℕ) (c : Call) (r : Reply) (hs' : Histories) → g ≢ fs → IsOwnCall w h hs known g c r → LeavesAlone b (b ∷ blocks) hs (Client g c) r hs'
     foreign g c r hs' other own = (
@@ -108,7 +108,7 @@ module _ (w : World) (h : Holds w) (hs : Histories) (known : AreHistoriesOf w.st
 
 -- A run without an edit by the block's file system leaves it alone.
 pub run_leaves_alone : (fs b : ℕ) (blocks : List ℕ) (w : World) (hs : Histories) (es : List Event) (rs : List Reply) (w' : World) → AllByRecursion IsEvent es → AllByRecursion (IsNoEditBy fs) es → Holds w → AreHistoriesOf w.state.lives hs →
-    IsChain (types_now w) hs (b ∷ blocks) → (x : History) → hs b ≡ Some x → x.fs ≡ Some fs → Run w es rs w' → (hs' : Histories) × RunWhere (LeavesAlone b (b ∷ blocks)) w hs es rs w' hs'
+    IsNamedChain (types_now w) hs (b ∷ blocks) → (x : History) → hs b ≡ Some x → x.fs ≡ Some fs → Run w es rs w' → (hs' : Histories) × RunWhere (LeavesAlone b (b ∷ blocks)) w hs es rs w' hs'
 run_leaves_alone fs b blocks w hs [] [] w' each none h known chain x at mine run = (hs, (run, refl))
 run_leaves_alone fs b blocks w hs [] (r ∷ rs) w' each none h known chain x at mine run = absurd run
 run_leaves_alone fs b blocks w hs (e ∷ es) [] w' each none h known chain x at mine run = absurd run

@@ -11,7 +11,7 @@ use Rattle.xn_model.specs.Rules.{Holds, IsInFileSystem}
 use Rattle.xn_model.proofs.ForCallers.{Contains-none, Contains-cons, left_owned, step_keeps}
 use Rattle.xn_history.specs.Histories.{History, Histories, last_told, since, newest_bytes, type_in, telling, telling_all, while_alive, heard, histories_after}
 use Rattle.xn_history.specs.Moments.{RunWhere, AreHistoriesOf}
-use Rattle.xn_history.specs.Promises.{EveryImageHas, Names, IsChain, LeavesAlone, IsTold, IsNoEditBy}
+use Rattle.xn_history.specs.Promises.{EveryImageHas, Names, IsNamedChain, LeavesAlone, IsTold, IsNoEditBy}
 use Rattle.xn_history.proofs.Turns.{matched, last_append}
 use Rattle.xn_history.proofs.Mounts.{reached_finds}
 use Rattle.xn_history.proofs.Moments.{known_after}
@@ -49,7 +49,7 @@ module _ (w : World) (h : Holds w) (hs : Histories) (known : AreHistoriesOf w.st
             subst (λ v. Contains ((types_now w).owned x.0.ty s.bytes) (c, v)) (sym ty) (subst (λ v. Contains ((types_now w).owned v s.bytes) (c, u)) (sym x.2) (subst (λ m. Contains ((types_now w).owned t m) (c, u)) bytes names));
       }
 
-  pub chain_of : (c u : ℕ) → Reach (types_on w image) (length image) (block_of image) c u → (owners : List ℕ) × IsChain (types_now w) hs (c ∷ owners)
+  pub chain_of : (c u : ℕ) → Reach (types_on w image) (length image) (block_of image) c u → (owners : List ℕ) × IsNamedChain (types_now w) hs (c ∷ owners)
   chain_of c u root = ([], refl)
   chain_of c u (step {b} {t} r lt inst names) = let more = chain_of b t r in (b ∷ more.0, (names_of b t c u r (step r lt inst names) (subst (λ (o : List ℕ → List (ℕ × ℕ)). Contains (o (block_of image b)) (c, u)) (left_owned w h image may b t r) names), more.1))
 
@@ -97,7 +97,7 @@ finished_bytes k x le s i =
     ap bytes_of (sym newest)
 
 pub finished_survive : (w : World) → Holds w → (hs : Histories) → AreHistoriesOf w.state.lives hs → (b k freed : ℕ) (w' : World) → Step w (Finish b) (Finished k freed) w' →
-    (x : History) → hs b ≡ Some x → length x.untold ≤ k → (owners : List ℕ) → IsChain (types_now w) hs (b ∷ owners) →
+    (x : History) → hs b ≡ Some x → length x.untold ≤ k → (owners : List ℕ) → IsNamedChain (types_now w) hs (b ∷ owners) →
     (es : List Event) (rs : List Reply) (after : World) (hs' : Histories) → AllByRecursion IsEvent es → RunWhere (LeavesAlone b (b ∷ owners)) w' (histories_after hs (Finish b) (Finished k freed) w'.state.lives) es rs after hs' →
     EveryImageHas after b x.ty (newest_bytes x)
 finished_survive w h hs known b k freed w' s x at le owners chain es rs after hs' each run =

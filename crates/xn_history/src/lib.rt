@@ -13,9 +13,9 @@ ghost use Rattle.xn_model.specs.Rules.{Holds, IsInFileSystem};
 ghost use Rattle.xn_model.specs.Rows.{first_row, dropped_row, landed_row, lost_row, installed_row};
 ghost use Rattle.xn_history.specs.Histories.{History, Histories, newest_bytes, histories_after};
 ghost use Rattle.xn_history.specs.Moments.{RunWhere, Anything, IsMoment, AreHistoriesOf};
-ghost use Rattle.xn_history.specs.Promises.{IsReached, EveryImageHas, HoldsAccepted, ImageHolds, StaysTold, LivesOn, IsForgotten, IsDropped, IsLost, IsChain};
-ghost use Rattle.xn_history.specs.Promises.{Spares, LeavesAlone, IsNoEditBy, IsTold, GoesOn, AreToldBelow};
-ghost use Rattle.xn_history.specs.Rows.{left_by};
+ghost use Rattle.xn_history.specs.Promises.{IsReached, EveryImageHas, HoldsAccepted, ImageHolds, StaysTold, LivesOn, IsForgotten, IsDropped, IsLost, IsNamedChain};
+ghost use Rattle.xn_history.specs.Promises.{Spares, LeavesAlone, IsNoEditBy, IsTold, IsWithoutCrash, AreToldBelow};
+ghost use Rattle.xn_history.specs.Rows.{row_leaves};
 
 /// Every run from a mount of a sound image has its histories, and so has every run from there on, and
 /// every step.
@@ -80,7 +80,7 @@ pub fn crashes_keep_what_is_reached()
 pub fn floors_tell()
     ensures told { (w after : World) (hs hs' : Histories) (fs n : ℕ) (es : List Event) (rs : List Reply) → IsMoment w hs →
         AllByRecursion IsEvent (Client fs Floor ∷ es) →
-        RunWhere GoesOn w hs (Client fs Floor ∷ es) (FloorIs n ∷ rs) after hs' → AreToldBelow fs n hs' }
+        RunWhere IsWithoutCrash w hs (Client fs Floor ∷ es) (FloorIs n ∷ rs) after hs' → AreToldBelow fs n hs' }
     ensures rises { (w after : World) (hs : Histories) (e : Event) (r : Reply) (fs : ℕ) → IsMoment w hs → IsEvent e → is_crash e ≡ false → Step w e r after →
         floor_of w.state fs ≤ floor_of after.state fs }
 {}
@@ -90,14 +90,14 @@ pub fn floors_tell()
 /// of its owners. So no image misses a state of it that was told durable.
 pub fn attached_lives_go_on()
     ensures reached { (w : World) (hs : Histories) (image : List (List ℕ)) (c : ℕ) (blocks : List ℕ) (h : History) → IsMoment w hs → MayLeave w image →
-        IsChain (types_now w) hs (c ∷ blocks) → hs c ≡ Some h → IsReached w image c h.ty }
+        IsNamedChain (types_now w) hs (c ∷ blocks) → hs c ≡ Some h → IsReached w image c h.ty }
     ensures goes_on { (w after : World) (hs hs' : Histories) (es : List Event) (rs : List Reply) (c : ℕ) (blocks : List ℕ) (h : History) → IsMoment w hs →
         AllByRecursion IsEvent es →
-        IsChain (types_now w) hs (c ∷ blocks) → hs c ≡ Some h → RunWhere (Spares (c ∷ blocks)) w hs es rs after hs' →
-        StaysTold h (hs' c) × IsChain (types_now after) hs' (c ∷ blocks) }
+        IsNamedChain (types_now w) hs (c ∷ blocks) → hs c ≡ Some h → RunWhere (Spares (c ∷ blocks)) w hs es rs after hs' →
+        StaysTold h (hs' c) × IsNamedChain (types_now after) hs' (c ∷ blocks) }
     ensures held { (w after : World) (hs hs' : Histories) (es : List Event) (rs : List Reply) (c : ℕ) (blocks : List ℕ) (h : History) → IsMoment w hs →
         AllByRecursion IsEvent es →
-        IsChain (types_now w) hs (c ∷ blocks) → hs c ≡ Some h → RunWhere (Spares (c ∷ blocks)) w hs es rs after hs' →
+        IsNamedChain (types_now w) hs (c ∷ blocks) → hs c ≡ Some h → RunWhere (Spares (c ∷ blocks)) w hs es rs after hs' →
         (image : List (List ℕ)) → MayLeave after image → IsReached after image c h.ty × HoldsAccepted (block_of image) hs' c h.ty }
 {}
 
@@ -107,7 +107,7 @@ pub fn attached_lives_go_on()
 pub fn finished_edits_survive()
     ensures { (w mid after : World) (hs hs' : Histories) (es : List Event) (rs : List Reply) (b durable freed : ℕ) (h : History) (owners : List ℕ) →
         IsMoment w hs →
-        hs b ≡ Some h → IsChain (types_now w) hs (b ∷ owners) → Step w (Finish b) (Finished durable freed) mid → length h.untold ≤ durable →
+        hs b ≡ Some h → IsNamedChain (types_now w) hs (b ∷ owners) → Step w (Finish b) (Finished durable freed) mid → length h.untold ≤ durable →
         AllByRecursion IsEvent es →
         RunWhere (LeavesAlone b (b ∷ owners)) mid (histories_after hs (Finish b) (Finished durable freed) mid.state.lives) es rs after hs' →
         EveryImageHas after b h.ty (newest_bytes h) }
@@ -119,7 +119,7 @@ pub fn finished_edits_survive()
 pub fn told_edits_survive()
     ensures { (w after : World) (hs hs' : Histories) (es : List Event) (rs : List Reply) (b u : ℕ) (owners bytes : List ℕ) → IsMoment w hs →
         AllByRecursion IsEvent es →
-        IsChain (types_now w) hs (b ∷ owners) → IsTold hs b u bytes → RunWhere (LeavesAlone b (b ∷ owners)) w hs es rs after hs' →
+        IsNamedChain (types_now w) hs (b ∷ owners) → IsTold hs b u bytes → RunWhere (LeavesAlone b (b ∷ owners)) w hs es rs after hs' →
         EveryImageHas after b u bytes }
 {}
 
@@ -127,7 +127,7 @@ pub fn told_edits_survive()
 /// nothing, whatever the others do.
 pub fn others_leave_alone()
     ensures { (w after : World) (hs : Histories) (es : List Event) (rs : List Reply) (fs b u : ℕ) (owners bytes : List ℕ) (h : History) → IsMoment w hs →
-        AllByRecursion IsEvent es → AllByRecursion (IsNoEditBy fs) es → IsChain (types_now w) hs (b ∷ owners) → IsTold hs b u bytes → hs b ≡ Some h →
+        AllByRecursion IsEvent es → AllByRecursion (IsNoEditBy fs) es → IsNamedChain (types_now w) hs (b ∷ owners) → IsTold hs b u bytes → hs b ≡ Some h →
         h.fs ≡ Some fs → Run w es rs after →
         EveryImageHas after b u bytes }
 {}
@@ -154,14 +154,14 @@ pub fn drained_blocks_survive()
 /// Rows of commands on a bare disk, with the entries that were told durable of a
 /// block, and those that were not.
 pub fn rows()
-    ensures first { left_by first_row 1 ≡ Some (1 ∷ [], []) }
-    ensures root { left_by first_row 0 ≡ Some (0 ∷ 2 ∷ [], []) }
-    ensures before { left_by (take 15 lost_row) 1 ≡ Some (1 ∷ [], 3 ∷ []) }
-    ensures lost { left_by lost_row 1 ≡ Some (1 ∷ [], []) }
-    ensures landed { left_by landed_row 1 ≡ Some (1 ∷ 3 ∷ [], []) }
-    ensures ended { left_by (take 19 dropped_row) 1 ≡ None }
-    ensures named { left_by (take 3 installed_row) 0 ≡ Some (0 ∷ [], 2 ∷ 4 ∷ []) }
-    ensures installed { left_by installed_row 0 ≡ Some (0 ∷ 2 ∷ 4 ∷ [], []) }
-    ensures template { left_by installed_row 1 ≡ Some (1 ∷ [], []) }
-    ensures anew { left_by dropped_row 1 ≡ Some ([], 5 ∷ []) }
+    ensures first { row_leaves first_row 1 ≡ Some (1 ∷ [], []) }
+    ensures root { row_leaves first_row 0 ≡ Some (0 ∷ 2 ∷ [], []) }
+    ensures before { row_leaves (take 15 lost_row) 1 ≡ Some (1 ∷ [], 3 ∷ []) }
+    ensures lost { row_leaves lost_row 1 ≡ Some (1 ∷ [], []) }
+    ensures landed { row_leaves landed_row 1 ≡ Some (1 ∷ 3 ∷ [], []) }
+    ensures ended { row_leaves (take 19 dropped_row) 1 ≡ None }
+    ensures named { row_leaves (take 3 installed_row) 0 ≡ Some (0 ∷ [], 2 ∷ 4 ∷ []) }
+    ensures installed { row_leaves installed_row 0 ≡ Some (0 ∷ 2 ∷ 4 ∷ [], []) }
+    ensures template { row_leaves installed_row 1 ≡ Some (1 ∷ [], []) }
+    ensures anew { row_leaves dropped_row 1 ≡ Some ([], 5 ∷ []) }
 {}

@@ -18,7 +18,7 @@ use Rattle.xn_model.specs.Worlds.{all_pending}
 use Rattle.xn_model.proofs.ForCallers.{unless_ok, never_ok, none_from, same_ok, map_ok, gives_exactly-ok, life_from, place_from, change_same, positive, round_leaves}
 use Rattle.xn_state.specs.States.{own_types}
 use Rattle.xn_kernel.specs.Kernels.{KernelValue, TicketValue, IsKernel, is_in_flight, is_mine}
-use Rattle.xn_kernel.specs.Drains.{Reads, WritesTo, Writes, with_home, Round, Rounds, Unwritten, Unsynced, Unread}
+use Rattle.xn_kernel.specs.Drains.{Reads, WriteRelation, Writes, with_home, Round, Rounds, Unwritten, Unsynced, Unread}
 
 -- no write is under way
 pub idle_from : (lives : Lives) → list_any (alive_and (λ l. is_some l.begun)) lives ≡ false → IsIdle lives
@@ -143,7 +143,7 @@ pub landed_or_kept : {A B : Type 0} (answer : Result (Unit {0}) DeviceFault) →
 landed_or_kept (Ok done) new either = inl new
 landed_or_kept (Err fault) new either = ⊎_elim (λ b. inr (b, (fault, refl))) (λ a. inl a) either
 
-module _ {L : Type 0} (bytes : L → List ℕ) (crash : L → List ℕ → Type 0) (faults : L → ℕ) (writes : WritesTo L) (syncs reads : Reads L) where
+module _ {L : Type 0} (bytes : L → List ℕ) (crash : L → List ℕ → Type 0) (faults : L → ℕ) (writes : WriteRelation L) (syncs reads : Reads L) where
   pub rounds_more : (n : ℕ) (a b c : KernelValue L) → Rounds bytes faults writes syncs reads n a b → Round bytes faults writes syncs reads b c → Rounds bytes faults writes syncs reads (n + 1) a c
   rounds_more n a b c rounds round = let next : suc n ≡ n + 1 = omega arith in subst (λ m. Rounds bytes faults writes syncs reads m a c) next (go n a rounds)
     where

@@ -18,8 +18,8 @@ use Rattle.templates.specs.Language.{language}
 use Rattle.xn_model.proofs.ForCallers.{map_ok, gives_exactly-ok, place_from, life_from, picked_life, begun_keeps, settled_keeps, begun_life_apart, begun_pending, settled_life_apart, settled_pending, flights_begun, flights_settled}
 use Rattle.xn_state.specs.States.{own_types}
 use Rattle.xn_kernel.specs.Kernels.{KernelValue, TicketValue, IsKernel, is_in_flight, is_mine}
-use Rattle.xn_kernel.specs.Drains.{Reads, WritesTo, with_home}
-use Rattle.xn_kernel.specs.Flushes.{wave_room, with_begun, IsUnderWay, HoldsOneOf, EndsDurable, EndsOld, StaysUnread, Ends, WaveFirst, Wave, WholeWave, Waves}
+use Rattle.xn_kernel.specs.Drains.{Reads, WriteRelation, with_home}
+use Rattle.xn_kernel.specs.Flushes.{wave_room, kernel_with_begun, IsUnderWay, HoldsOneOf, EndsDurable, EndsOld, StaysUnread, WriteEnds, WaveFirst, Wave, WholeWave, Waves}
 use Rattle.xn_kernel.proofs.Keeping.{own_rules}
 use Rattle.xn_kernel.proofs.Draining.{Began, began, choice, chosen, fits_at, never_err}
 
@@ -174,10 +174,10 @@ module _ {L : Type 0} (bytes : L → List ℕ) (faults : L → ℕ) (syncs reads
 pub ends_with : {L : Type 0} (bytes : L → List ℕ) (faults : L → ℕ) (syncs reads : Reads L) (kernel : KernelValue L) (ticket : TicketValue L) (durable : ℕ) (new : KernelValue L) (given_out : List (TicketValue L)) →
     (0 < durable → EndsDurable bytes syncs reads ticket kernel new)
     × (durable ≡ 0 → (answer : Result (Unit {0}) DeviceFault) (before : L) → HoldsOneOf bytes answer before ticket → EndsOld bytes syncs reads answer before ticket kernel new) →
-    (answer : Result (Unit {0}) DeviceFault) (before : L) → HoldsOneOf bytes answer before ticket → Ends bytes faults syncs reads answer before ticket kernel given_out (nat_lt 0 durable) new given_out
+    (answer : Result (Unit {0}) DeviceFault) (before : L) → HoldsOneOf bytes answer before ticket → WriteEnds bytes faults syncs reads answer before ticket kernel given_out (nat_lt 0 durable) new given_out
 ends_with {L} bytes faults syncs reads kernel ticket durable new given_out done answer before holds = go (nat_lt 0 durable) refl
   where
-    go : (t : Bool) → nat_lt 0 durable ≡ t → Ends bytes faults syncs reads answer before ticket kernel given_out t new given_out
+    go : (t : Bool) → nat_lt 0 durable ≡ t → WriteEnds bytes faults syncs reads answer before ticket kernel given_out t new given_out
     go true e = (done.0 (ltb-true 0 durable e), refl)
     go false e = let none = ltb-false 0 durable e in inl (done.1 (omega arith) answer before holds, refl)
 
@@ -190,14 +190,14 @@ record EndKeeps {L : Type 0} (b : ℕ) (old new : KernelValue L) (before after :
   pending : all_pending new.state.lives + cond is_durable 1 0 ≤ all_pending old.state.lives
   whole : is_durable ≡ true → (flight_of (life_at new.state.lives b) ≡ None) × HaveSameFlightsBut b old.state.lives new.state.lives × (after ≡ before)
 
-module _ {L : Type 0} (bytes : L → List ℕ) (faults : L → ℕ) (writes : WritesTo L) (syncs reads : Reads L) where
+module _ {L : Type 0} (bytes : L → List ℕ) (faults : L → ℕ) (writes : WriteRelation L) (syncs reads : Reads L) where
   settled_rules : (old store : StoreState) (b : ℕ) (m : List ℕ) (done : ℕ × ℕ) → IsConsistent (own_types old) old → settled_of old b m ≡ Ok (done, store) → IsConsistent (own_types store) store
   settled_rules old store b m done rules e =
       let kept = settled_keeps (own_types old) old rules b m done store e in
       subst (λ T. IsConsistent T store) (sym (kept.2 language)) kept.0
 
   module _ (answer : Result (Unit {0}) DeviceFault) (home : L) (ticket : TicketValue L) (some : 1 ≤ ticket.count) (old : KernelValue L) (before : List (TicketValue L)) (rules : IsConsistent (own_types old.state) old.state) where
-    end_keeps : (is_durable : Bool) (new : KernelValue L) (after : List (TicketValue L)) → Ends bytes faults syncs reads answer home ticket old before is_durable new after →
+    end_keeps : (is_durable : Bool) (new : KernelValue L) (after : List (TicketValue L)) → WriteEnds bytes faults syncs reads answer home ticket old before is_durable new after →
         EndKeeps ticket.block old new before after is_durable
     end_keeps true new after e =
         let d = e.0 in
@@ -241,7 +241,7 @@ module _ {L : Type 0} (bytes : L → List ℕ) (faults : L → ℕ) (writes : Wr
 
   module _ (n room durable : ℕ) (old : KernelValue L) (before : List (TicketValue L)) (new : KernelValue L) (after : List (TicketValue L))
       (w : WaveFirst bytes faults writes syncs reads (Wave bytes faults writes syncs reads n) room durable old before new after)
-      (ih : WaveKeeps n w.others (with_begun old w.ticket.block w.begun) w.mid before w.between) where
+      (ih : WaveKeeps n w.others (kernel_with_begun old w.ticket.block w.begun) w.mid before w.between) where
     abbrev b : ℕ
     b = w.ticket.block
 
@@ -316,7 +316,7 @@ module _ {L : Type 0} (bytes : L → List ℕ) (faults : L → ℕ) (writes : Wr
       let given : List ℕ × ℕ = (w.ticket.bytes, w.ticket.count) in
       let kept = begun_keeps (own_types old.state) old.state rules w.ticket.block given w.begun w.written.begins in
       wave_step n room durable old before new after w
-      (wave_keeps n w.left w.others (with_begun old w.ticket.block w.begun) before w.mid w.between (own_rules old.state w.begun kept) w.rest)
+      (wave_keeps n w.left w.others (kernel_with_begun old w.ticket.block w.begun) before w.mid w.between (own_rules old.state w.begun kept) w.rest)
 
   -- The first block, once the others have ended
 
@@ -324,10 +324,10 @@ module _ {L : Type 0} (bytes : L → List ℕ) (faults : L → ℕ) (writes : Wr
       begun_of old.state first.block ≡ Ok ((first.bytes, first.count), begun) → first.kernel ≡ old.id → slice_get old.lanes first.block ≡ Some (Some first.lane) →
       (answer : Result (Unit {0}) DeviceFault) (lane : L) → ((bytes lane ≡ first.bytes) ⊎ ((bytes lane ≡ bytes first.lane) × ((fault : DeviceFault) × (answer ≡ Err fault)))) →
       (n room others : ℕ) (before : List (TicketValue L)) (mid : KernelValue L) (between : List (TicketValue L)) →
-      Wave bytes faults writes syncs reads n room others (with_begun old first.block begun) before mid between → IsUnderWay bytes mid (record first { lane = lane; unsynced = true })
+      Wave bytes faults writes syncs reads n room others (kernel_with_begun old first.block begun) before mid between → IsUnderWay bytes mid (record first { lane = lane; unsynced = true })
   still_under_way crash old is first begun begins ours taken answer lane after n room others before mid between w =
       let b = began old.state begun first.block first.bytes first.count begins in
-      let kept = wave_keeps n room others (with_begun old first.block begun) before mid between (own_rules old.state begun (begun_keeps (own_types old.state) old.state is.rules first.block (first.bytes, first.count) begun begins)) w in
+      let kept = wave_keeps n room others (kernel_with_begun old first.block begun) before mid between (own_rules old.state begun (begun_keeps (own_types old.state) old.state is.rules first.block (first.bytes, first.count) begun begins)) w in
       let life : Life = record b.life { begun = Some first.count } in
       record {
         ours = ours ∙ sym kept.id;
@@ -349,12 +349,12 @@ module _ {L : Type 0} (bytes : L → List ℕ) (faults : L → ℕ) (writes : Wr
       (begins : begun_of old.state first.block ≡ Ok ((first.bytes, first.count), begun)) (ours : first.kernel ≡ old.id) (taken : slice_get old.lanes first.block ≡ Some (Some first.lane))
       (answer : Result (Unit {0}) DeviceFault) (lane : L) (gives : writes first.lane first.bytes answer lane) (counts : OnErr answer (CountsOne (faults first.lane) (faults lane)))
       (after : (bytes lane ≡ first.bytes) ⊎ ((bytes lane ≡ bytes first.lane) × ((fault : DeviceFault) × (answer ≡ Err fault))))
-      (away : KernelValue L) (is_away : away ≡ with_begun old first.block begun) (n left others : ℕ) (before : List (TicketValue L)) (mid : KernelValue L) (between : List (TicketValue L))
+      (away : KernelValue L) (is_away : away ≡ kernel_with_begun old first.block begun) (n left others : ℕ) (before : List (TicketValue L)) (mid : KernelValue L) (between : List (TicketValue L))
       (rest : Wave bytes faults writes syncs reads n left others away before mid between) where
     abbrev written_ticket : TicketValue L
     written_ticket = record first { lane = lane; unsynced = true }
 
-    others_end : Wave bytes faults writes syncs reads n left others (with_begun old first.block begun) before mid between
+    others_end : Wave bytes faults writes syncs reads n left others (kernel_with_begun old first.block begun) before mid between
     others_end = subst (λ k. Wave bytes faults writes syncs reads n left others k before mid between) is_away rest
 
     pub first_under_way : (ticket : TicketValue L) → ticket ≡ written_ticket → IsUnderWay bytes mid ticket
@@ -363,7 +363,7 @@ module _ {L : Type 0} (bytes : L → List ℕ) (faults : L → ℕ) (writes : Wr
 
     -- it ends
     abbrev FirstEnds : TicketValue L → Bool → KernelValue L → List (TicketValue L) → Type 0
-    FirstEnds ticket is_durable new out = (answer : Result (Unit {0}) DeviceFault) (home : L) → HoldsOneOf bytes answer home ticket → Ends bytes faults syncs reads answer home ticket mid between is_durable new out
+    FirstEnds ticket is_durable new out = (answer : Result (Unit {0}) DeviceFault) (home : L) → HoldsOneOf bytes answer home ticket → WriteEnds bytes faults syncs reads answer home ticket mid between is_durable new out
 
     pub first_ends_wave : (ticket : TicketValue L) → ticket ≡ written_ticket → (is_durable : Bool) (new : KernelValue L) (out : List (TicketValue L)) → FirstEnds ticket is_durable new out →
         (blocks room durable : ℕ) → blocks ≡ suc n → room ≡ suc left → durable ≡ cond is_durable (suc others) others → Wave bytes faults writes syncs reads blocks room durable old before new out

@@ -3,7 +3,7 @@
 --     Writes .. kernel answer ticket begun    the write of a round: its ticket after it, and the state with the write begun
 --     Round .. old new                        a round that made entries durable
 --     Rounds .. n old new                     so many
---     Stops .. old ticket refusal new         a drain that cannot go on, and why
+--     StopsAtDevice .. old ticket refusal new         a drain that cannot go on, and why
 use Rattle.std.specs.Prelude.{◌≡◌, ◌⊎◌, ℕ, zero, suc, true, false, List, Option, Some, None, is_some, Result, Ok, Err, OnErr, slice_get, slice_set}
 use Rattle.std.specs.List.{list_any}
 use Rattle.disk.specs.Lanes.{CountsOne}
@@ -18,11 +18,11 @@ use Rattle.xn_kernel.specs.Kernels.{KernelValue, TicketValue}
 abbrev pub Reads : Type 0 → Type 1
 Reads L = L → Result (Unit {0}) DeviceFault → L → Type 0
 
-abbrev pub WritesTo : Type 0 → Type 1
-WritesTo L = L → List ℕ → Result (Unit {0}) DeviceFault → L → Type 0
+abbrev pub WriteRelation : Type 0 → Type 1
+WriteRelation L = L → List ℕ → Result (Unit {0}) DeviceFault → L → Type 0
 
 -- the block that is picked, with its safe entries begun, was written once through its lane: the ticket after that, and the state
-pub record Writes {L : Type 0} (faults : L → ℕ) (writes : WritesTo L) (kernel : KernelValue L) (answer : Result (Unit {0}) DeviceFault) (ticket : TicketValue L)
+pub record Writes {L : Type 0} (faults : L → ℕ) (writes : WriteRelation L) (kernel : KernelValue L) (answer : Result (Unit {0}) DeviceFault) (ticket : TicketValue L)
     (begun : StoreState) : Type 0 where
   pub picked : pick_of kernel.state ≡ Some ticket.block
   pub begins : begun_of kernel.state ticket.block ≡ Ok ((ticket.bytes, ticket.count), begun)
@@ -39,7 +39,7 @@ abbrev pub with_home : {L : Type 0} → KernelValue L → ℕ → L → StoreSta
 with_home kernel block lane store = record kernel { lanes = slice_set kernel.lanes block (Some lane); state = store }
 
 -- the begun bytes are read back, and the write's entries are durable; the write itself may have been answered Err
-pub record Round {L : Type 0} (bytes : L → List ℕ) (faults : L → ℕ) (writes : WritesTo L) (syncs reads : Reads L) (old new : KernelValue L) : Type 0 where
+pub record Round {L : Type 0} (bytes : L → List ℕ) (faults : L → ℕ) (writes : WriteRelation L) (syncs reads : Reads L) (old new : KernelValue L) : Type 0 where
   pub answer : Result (Unit {0}) DeviceFault
   pub ticket : TicketValue L
   pub begun : StoreState
@@ -57,7 +57,7 @@ pub record Round {L : Type 0} (bytes : L → List ℕ) (faults : L → ℕ) (wri
   pub settles : settled_of begun ticket.block ticket.bytes ≡ Ok ((ticket.count, freed), store)
   pub next : new ≡ with_home old ticket.block lane store
 
-abbrev pub Rounds : {L : Type 0} → (L → List ℕ) → (L → ℕ) → WritesTo L → Reads L → Reads L → ℕ → KernelValue L → KernelValue L → Type 0
+abbrev pub Rounds : {L : Type 0} → (L → List ℕ) → (L → ℕ) → WriteRelation L → Reads L → Reads L → ℕ → KernelValue L → KernelValue L → Type 0
 Rounds {L} bytes faults writes syncs reads zero old new = new ≡ old
 Rounds {L} bytes faults writes syncs reads (suc n) old new = (mid : KernelValue L) × Round bytes faults writes syncs reads old mid ×
     Rounds bytes faults writes syncs reads n mid new
@@ -67,7 +67,7 @@ abbrev pub IsBusy : StoreState → Type 0
 IsBusy state = list_any (alive_and (λ l. is_some l.begun)) state.lives ≡ true
 
 -- The write was answered Err, and the block holds the old bytes: its entries stay pending, and its lane is at home.
-pub record Unwritten {L : Type 0} (bytes : L → List ℕ) (faults : L → ℕ) (writes : WritesTo L) (syncs reads : Reads L) (old new : KernelValue L) : Type 0 where
+pub record Unwritten {L : Type 0} (bytes : L → List ℕ) (faults : L → ℕ) (writes : WriteRelation L) (syncs reads : Reads L) (old new : KernelValue L) : Type 0 where
   pub fault : DeviceFault
   pub ticket : TicketValue L
   pub begun : StoreState
@@ -83,7 +83,7 @@ pub record Unwritten {L : Type 0} (bytes : L → List ℕ) (faults : L → ℕ) 
   pub next : new ≡ with_home old ticket.block lane store
 
 -- The block could not be synced: it stays in flight, and its lane is with the ticket.
-pub record Unsynced {L : Type 0} (bytes : L → List ℕ) (faults : L → ℕ) (writes : WritesTo L) (syncs reads : Reads L) (old : KernelValue L)
+pub record Unsynced {L : Type 0} (bytes : L → List ℕ) (faults : L → ℕ) (writes : WriteRelation L) (syncs reads : Reads L) (old : KernelValue L)
     (back : TicketValue L) (new : KernelValue L) : Type 0 where
   pub answer : Result (Unit {0}) DeviceFault
   pub ticket : TicketValue L
@@ -97,7 +97,7 @@ pub record Unsynced {L : Type 0} (bytes : L → List ℕ) (faults : L → ℕ) (
   pub next : new ≡ record old { lanes = slice_set old.lanes ticket.block None; state = begun }
 
 -- The block could not be read back: it stays in flight, and its lane is with the ticket.
-pub record Unread {L : Type 0} (bytes : L → List ℕ) (faults : L → ℕ) (writes : WritesTo L) (syncs reads : Reads L) (old : KernelValue L) (back : TicketValue L)
+pub record Unread {L : Type 0} (bytes : L → List ℕ) (faults : L → ℕ) (writes : WriteRelation L) (syncs reads : Reads L) (old : KernelValue L) (back : TicketValue L)
     (new : KernelValue L) : Type 0 where
   pub answer : Result (Unit {0}) DeviceFault
   pub ticket : TicketValue L
@@ -113,15 +113,15 @@ pub record Unread {L : Type 0} (bytes : L → List ℕ) (faults : L → ℕ) (wr
   pub next : new ≡ record old { lanes = slice_set old.lanes ticket.block None; state = begun }
 
 -- after the last good round a write is answered Err and leaves the old bytes, or a block cannot be synced or read back
-abbrev pub Stops : {L : Type 0} → (L → List ℕ) → (L → ℕ) → WritesTo L → Reads L → Reads L → KernelValue L → Option (TicketValue L) → Refusal → KernelValue L →
+abbrev pub StopsAtDevice : {L : Type 0} → (L → List ℕ) → (L → ℕ) → WriteRelation L → Reads L → Reads L → KernelValue L → Option (TicketValue L) → Refusal → KernelValue L →
     Type 0
-Stops {L} bytes faults writes syncs reads old None refusal new = (refusal ≡ Device) × Unwritten bytes faults writes syncs reads old new
-Stops {L} bytes faults writes syncs reads old (Some back) refusal new =
+StopsAtDevice {L} bytes faults writes syncs reads old None refusal new = (refusal ≡ Device) × Unwritten bytes faults writes syncs reads old new
+StopsAtDevice {L} bytes faults writes syncs reads old (Some back) refusal new =
     (refusal ≡ Device) × (Unsynced bytes faults writes syncs reads old back new ⊎ Unread bytes faults writes syncs reads old back new)
 
 -- a drain that is refused: before its first round, as a write is under way; or after some rounds, as a lane failed
-abbrev pub Refuses : {L : Type 0} → (L → List ℕ) → (L → ℕ) → WritesTo L → Reads L → Reads L → KernelValue L → ℕ → Option (TicketValue L) → Refusal →
+abbrev pub Refuses : {L : Type 0} → (L → List ℕ) → (L → ℕ) → WriteRelation L → Reads L → Reads L → KernelValue L → ℕ → Option (TicketValue L) → Refusal →
     KernelValue L → Type 0
 Refuses {L} bytes faults writes syncs reads old n ticket refusal new =
     (IsBusy old.state × (n ≡ 0) × (ticket ≡ None) × (refusal ≡ InFlight) × (new ≡ old))
-    ⊎ ((mid : KernelValue L) × Rounds bytes faults writes syncs reads n old mid × Stops bytes faults writes syncs reads mid ticket refusal new)
+    ⊎ ((mid : KernelValue L) × Rounds bytes faults writes syncs reads n old mid × StopsAtDevice bytes faults writes syncs reads mid ticket refusal new)

@@ -1,6 +1,6 @@
 -- What a flush does: waves, until nothing is pending or a lane fails. In a wave blocks are picked, begun and written, one after another, and then
 -- synced and read back, the last one first. Of a kind of lanes, bytes, faults, writes, syncs and reads say what they say of a drain.
---     Ends .. answer home ticket old before is_durable new after    how the write of a ticket ends, and the tickets that are given out before and after it
+--     WriteEnds .. answer home ticket old before is_durable new after    how the write of a ticket ends, and the tickets that are given out before and after it
 --     Wave .. n room durable old before new after                   a wave of n blocks, so many at most, of which so many are made durable
 --     Waves .. n old new                                            so many waves, all of whose blocks are
 --     Halts .. old tickets new                                      a wave of which some block isn't
@@ -14,15 +14,15 @@ use Rattle.xn_model.specs.declared.refusal.Refusal.TheVariants.{InFlight, Device
 use Rattle.xn_model.specs.Calls.{pick_of, settled_of, bytes_at}
 use Rattle.xn_model.specs.Rules.{IsIdle}
 use Rattle.xn_kernel.specs.Kernels.{KernelValue, TicketValue}
-use Rattle.xn_kernel.specs.Drains.{Reads, WritesTo, Writes, with_home, IsBusy}
+use Rattle.xn_kernel.specs.Drains.{Reads, WriteRelation, Writes, with_home, IsBusy}
 
 -- how many blocks a wave takes at most
 abbrev pub wave_room : ℕ
 wave_room = 256
 
 -- the kernel once the write of a block is begun
-abbrev pub with_begun : {L : Type 0} → KernelValue L → ℕ → StoreState → KernelValue L
-with_begun kernel block begun = record kernel { lanes = slice_set kernel.lanes block None; state = begun }
+abbrev pub kernel_with_begun : {L : Type 0} → KernelValue L → ℕ → StoreState → KernelValue L
+kernel_with_begun kernel block begun = record kernel { lanes = slice_set kernel.lanes block None; state = begun }
 
 -- The end of a write
 
@@ -90,10 +90,10 @@ pub record StaysUnread {L : Type 0} (bytes : L → List ℕ) (faults : L → ℕ
   pub rest : back ≡ record ticket { lane = back.lane; unsynced = false }
 
 -- The write's entries are durable; or they stay pending, and the lane is at home; or the block stays in flight, and the ticket is given out.
-abbrev pub Ends : {L : Type 0} → (L → List ℕ) → (L → ℕ) → Reads L → Reads L → Result (Unit {0}) DeviceFault → L → TicketValue L →
+abbrev pub WriteEnds : {L : Type 0} → (L → List ℕ) → (L → ℕ) → Reads L → Reads L → Result (Unit {0}) DeviceFault → L → TicketValue L →
     KernelValue L → List (TicketValue L) → Bool → KernelValue L → List (TicketValue L) → Type 0
-Ends {L} bytes faults syncs reads answer home ticket old before true new after = EndsDurable bytes syncs reads ticket old new × (after ≡ before)
-Ends {L} bytes faults syncs reads answer home ticket old before false new after =
+WriteEnds {L} bytes faults syncs reads answer home ticket old before true new after = EndsDurable bytes syncs reads ticket old new × (after ≡ before)
+WriteEnds {L} bytes faults syncs reads answer home ticket old before false new after =
     (EndsOld bytes syncs reads answer home ticket old new × (after ≡ before))
     ⊎ ((back : TicketValue L) × (StaysUnsynced bytes faults syncs ticket back ⊎ StaysUnread bytes faults syncs reads ticket back)
     × (new ≡ old) × (after ≡ before ++ back ∷ []))
@@ -101,7 +101,7 @@ Ends {L} bytes faults syncs reads answer home ticket old before false new after 
 -- A wave
 
 -- The first block of a wave is begun and written, then all others are and end, and then the first one ends.
-pub record WaveFirst {L : Type 0} (bytes : L → List ℕ) (faults : L → ℕ) (writes : WritesTo L) (syncs reads : Reads L)
+pub record WaveFirst {L : Type 0} (bytes : L → List ℕ) (faults : L → ℕ) (writes : WriteRelation L) (syncs reads : Reads L)
     (Rest : ℕ → ℕ → KernelValue L → List (TicketValue L) → KernelValue L → List (TicketValue L) → Type 0)
     (room durable : ℕ) (old : KernelValue L) (before : List (TicketValue L)) (new : KernelValue L) (after : List (TicketValue L)) : Type 0 where
   pub answer : Result (Unit {0}) DeviceFault
@@ -114,13 +114,13 @@ pub record WaveFirst {L : Type 0} (bytes : L → List ℕ) (faults : L → ℕ) 
   pub others : ℕ
   pub mid : KernelValue L
   pub between : List (TicketValue L)
-  pub rest : Rest left others (with_begun old ticket.block begun) before mid between
+  pub rest : Rest left others (kernel_with_begun old ticket.block begun) before mid between
   pub is_durable : Bool
-  pub ends : Ends bytes faults syncs reads answer written.home ticket mid between is_durable new after
+  pub ends : WriteEnds bytes faults syncs reads answer written.home ticket mid between is_durable new after
   pub counts : durable ≡ cond is_durable (suc others) others
 
 -- It has so many blocks: there is no room for more, or none that could be begun.
-abbrev pub Wave : {L : Type 0} → (L → List ℕ) → (L → ℕ) → WritesTo L → Reads L → Reads L → ℕ → ℕ → ℕ →
+abbrev pub Wave : {L : Type 0} → (L → List ℕ) → (L → ℕ) → WriteRelation L → Reads L → Reads L → ℕ → ℕ → ℕ →
     KernelValue L → List (TicketValue L) → KernelValue L → List (TicketValue L) → Type 0
 Wave {L} bytes faults writes syncs reads zero room durable old before new after =
     (durable ≡ 0) × (new ≡ old) × (after ≡ before) × ((room ≡ 0) ⊎ (pick_of old.state ≡ None))
@@ -130,18 +130,18 @@ Wave {L} bytes faults writes syncs reads (suc n) room durable old before new aft
 -- A flush
 
 -- A wave of at least one block, all of which are made durable.
-pub record WholeWave {L : Type 0} (bytes : L → List ℕ) (faults : L → ℕ) (writes : WritesTo L) (syncs reads : Reads L) (old new : KernelValue L) : Type 0 where
+pub record WholeWave {L : Type 0} (bytes : L → List ℕ) (faults : L → ℕ) (writes : WriteRelation L) (syncs reads : Reads L) (old new : KernelValue L) : Type 0 where
   pub blocks : ℕ
   pub some : 1 ≤ blocks
   pub wave : Wave bytes faults writes syncs reads blocks wave_room blocks old [] new []
 
-abbrev pub Waves : {L : Type 0} → (L → List ℕ) → (L → ℕ) → WritesTo L → Reads L → Reads L → ℕ → KernelValue L → KernelValue L → Type 0
+abbrev pub Waves : {L : Type 0} → (L → List ℕ) → (L → ℕ) → WriteRelation L → Reads L → Reads L → ℕ → KernelValue L → KernelValue L → Type 0
 Waves {L} bytes faults writes syncs reads zero old new = new ≡ old
 Waves {L} bytes faults writes syncs reads (suc n) old new =
     (mid : KernelValue L) × WholeWave bytes faults writes syncs reads old mid × Waves bytes faults writes syncs reads n mid new
 
 -- A wave of which some block is not made durable, with the tickets of those that stay in flight.
-pub record Halts {L : Type 0} (bytes : L → List ℕ) (faults : L → ℕ) (writes : WritesTo L) (syncs reads : Reads L)
+pub record Halts {L : Type 0} (bytes : L → List ℕ) (faults : L → ℕ) (writes : WriteRelation L) (syncs reads : Reads L)
     (old : KernelValue L) (tickets : List (TicketValue L)) (new : KernelValue L) : Type 0 where
   pub blocks : ℕ
   pub durable : ℕ
@@ -149,7 +149,7 @@ pub record Halts {L : Type 0} (bytes : L → List ℕ) (faults : L → ℕ) (wri
   pub wave : Wave bytes faults writes syncs reads blocks wave_room durable old [] new tickets
 
 -- A flush that is refused before its first wave, as a write is under way or memory is wanting; or that stops after some waves, as a lane failed.
-abbrev pub FlushRefuses : {L : Type 0} → (L → List ℕ) → (L → ℕ) → WritesTo L → Reads L → Reads L →
+abbrev pub FlushRefuses : {L : Type 0} → (L → List ℕ) → (L → ℕ) → WriteRelation L → Reads L → Reads L →
     KernelValue L → ℕ → List (TicketValue L) → Refusal → KernelValue L → Type 0
 FlushRefuses {L} bytes faults writes syncs reads old n tickets refusal new =
     (IsBusy old.state × (n ≡ 0) × (tickets ≡ []) × (refusal ≡ InFlight) × (new ≡ old))

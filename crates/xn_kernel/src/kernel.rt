@@ -9,7 +9,7 @@ ghost use Rattle.xn_model.specs.Worlds.{mounted_state};
 ghost use Rattle.xn_model.specs.Images.{blocks_in};
 ghost use Rattle.xn_model.specs.Lanes.{FitLives, HoldImage};
 ghost use Rattle.xn_model.specs.Rules.{IsConsistent};
-ghost use Rattle.templates.specs.Tables.{types_of};
+ghost use Rattle.templates.specs.Tables.{table_types};
 ghost use Rattle.xn_state.specs.Mounts.{image_types, lives_in, AreFound};
 ghost use Rattle.xn_model.specs.Lives.{StoreState};
 ghost use Rattle.xn_state.specs.States.{own_types};
@@ -78,7 +78,7 @@ impl<L: Lane> Kernel<L> {
     ) -> Result<Kernel<L>, Lanes<L>>
         requires held { HoldImage L.bytes_of lanes (blocks_in image.now) }
         requires synced { AreSynced L.bytes_of L.crash_leaves lanes }
-        requires own { types_of table ≡ image_types image.now }
+        requires own { table_types table ≡ image_types image.now }
         requires found { AreFound image.now found.now }
         ensures ok { IfOk result (λ kernel. kernel ≡ record {
           id = id;

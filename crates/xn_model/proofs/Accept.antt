@@ -12,7 +12,7 @@ use Rattle.xn_model.specs.Root.{pointer, has_type}
 use Rattle.xn_model.specs.Languages.{Language}
 use Rattle.xn_model.specs.Calls.{accepts, root_now, types_of, latest, life_bytes}
 use Rattle.xn_model.specs.Lives.{StoreState, BlockState, Owned, Dropped, Life, Lives, life_at, states, carried, newest, is_dropped, current, bytes_of, root_on_disk}
-use Rattle.xn_model.specs.Rules.{ArePlaced, Keeps, IsConsistent, IsBy, IsOlder, IsOlderType, PointersStay, KeepsTypesThere, WaitsForOlder, IsRootLife, IsSoundLife, IsLinkedLife, IsPlaced, NamedIn, HasExactStatuses, IsNamer, IsCount, IsOwnedBy, IsFreshBlock, ChainsEnd}
+use Rattle.xn_model.specs.Rules.{ArePlaced, Keeps, IsConsistent, IsBy, IsOlder, IsOlderType, PointersStay, KeepsTypesThere, WaitsForOlder, IsRootLife, IsSoundLife, IsLinkedLife, IsHeldOnDisk, NamedIn, HasExactStatuses, IsNamer, IsCount, IsOwnedBy, IsFreshBlock, ChainsEnd}
 use Rattle.xn_model.proofs.Changes.{accepted, accept, status_after}
 use Rattle.xn_model.proofs.Catalogue.{on_disk_each, pointers_push}
 use Rattle.xn_model.proofs.Languages.{kept_types, latest_each}
@@ -76,7 +76,7 @@ module _ (T : Types) (state : StoreState) (h : IsConsistent T state) (b : ℕ) (
   unfolding next_lives
   accept_places content placed c m t e d =
       let r = each_back (accepted b s) state.lives c m e in
-      subst (λ x. IsPlaced content c x t) (sym r.2) (elim (placed c r.0 t r.1 (ap (λ (x : Life). x.durable) (sym r.2) ∙ d)) [
+      subst (λ x. IsHeldOnDisk content c x t) (sym r.2) (elim (placed c r.0 t r.1 (ap (λ (x : Life). x.durable) (sym r.2) ∙ d)) [
         | inl x ↦ inl x
         | inr y ↦ inr (y.0, ap (last_or None) (carried_at c r.0 r.1) ∙ y.1, y.2)
       ])

@@ -6,7 +6,7 @@ use Rattle.std.proofs.lemmas.List.Elements.{Contains-append_right}
 use Rattle.xn_model.specs.Types.{Types}
 use Rattle.xn_model.specs.Images.{IsDiskSize}
 use Rattle.xn_model.specs.Lives.{BlockState, Life, Lives, StoreState, life_at, states, carried, newest, on_disk, durable_after, bytes_of, root_on_disk}
-use Rattle.xn_model.specs.Rules.{IsSoundLife, IsLinkedLife, IsPlaced, ArePlaced, IsConsistent, NamedIn, StartsPlain, Grows, Rises, HasExactStatuses, IsNamer, IsRootLife, IsOlderType, PointersStay}
+use Rattle.xn_model.specs.Rules.{IsSoundLife, IsLinkedLife, IsHeldOnDisk, ArePlaced, IsConsistent, NamedIn, StartsPlain, Grows, Rises, HasExactStatuses, IsNamer, IsRootLife, IsOlderType, PointersStay}
 use Rattle.xn_model.proofs.Changes.{each, bared}
 use Rattle.xn_model.proofs.Lists.{Contains-head, Contains-cons}
 use Rattle.xn_model.proofs.Lives.{each_forth, each_back, length_revised}
@@ -248,4 +248,4 @@ pub bare_placed : (content : ℕ → List ℕ) (lives : Lives) (b : ℕ) → Are
 bare_placed content lives b p c m s e d =
     let r = each_back (bared b) lives c m e in
     let was = some_bare (c == b) r.0.durable s (ap (λ (x : Life). x.durable) (sym r.2) ∙ d) in
-    subst (λ x. IsPlaced content c x s) (sym r.2) (elim (p c r.0 was.0 r.1 was.1) [ inl x ↦ inl (x ∙ was.2) | inr y ↦ inr y ])
+    subst (λ x. IsHeldOnDisk content c x s) (sym r.2) (elim (p c r.0 was.0 r.1 was.1) [ inl x ↦ inl (x ∙ was.2) | inr y ↦ inr y ])

@@ -11,7 +11,7 @@ use Rattle.xn_model.specs.Root.{has_type}
 use Rattle.xn_model.specs.Images.{IsDiskSize}
 use Rattle.xn_model.specs.Results.{NoSuchBlock, NotInUse, InFlight, NothingSafe}
 use Rattle.xn_model.specs.Calls.{begun_of, begun_place, bytes_at, types_of, latest}
-use Rattle.xn_model.specs.Rules.{Keeps, ArePlaced, IsOnDisk, IsRootLife, IsSoundLife, IsLinkedLife, IsPlaced, IsConsistent, NamedIn, IsCount, IsOwnedBy}
+use Rattle.xn_model.specs.Rules.{Keeps, ArePlaced, IsOnDisk, IsRootLife, IsSoundLife, IsLinkedLife, IsHeldOnDisk, IsConsistent, NamedIn, IsCount, IsOwnedBy}
 use Rattle.xn_model.proofs.Changes.{each, with_begun}
 use Rattle.xn_model.proofs.Lists.{Contains-none, Contains-take, last_is_in}
 use Rattle.xn_model.proofs.Lives.{each_forth, each_back, length_revised, begun_is, life_from}
@@ -99,9 +99,9 @@ module _ (T : Types) (state : StoreState) (h : IsConsistent T state) (b : ℕ) (
   carries_places content placed stands c m s e d =
       let r = each_back (with_begun b k) state.lives c m e in
       let before : r.0.durable ≡ Some s = ap (λ (x : Life). x.durable) (sym r.2) ∙ d in
-      subst (λ x. IsPlaced content c x s) (sym r.2) (elim (cases_eq c b) [
+      subst (λ x. IsHeldOnDisk content c x s) (sym r.2) (elim (cases_eq c b) [
         | inl same ↦ inl (ap content same ∙ stands s (ap (λ (x : Life). x.durable) (same_life c r.0 r.1 same) ∙ before))
-        | inr other ↦ subst (λ x. IsPlaced content c x s) (sym (with_begun_other b k c r.0 other)) (placed c r.0 s r.1 before)
+        | inr other ↦ subst (λ x. IsHeldOnDisk content c x s) (sym (with_begun_other b k c r.0 other)) (placed c r.0 s r.1 before)
       ])
 
   pub carries_on : CarriesAfters state.lives b l k → IsConsistent T (record state { lives = each (with_begun b k) state.lives })

@@ -3,66 +3,66 @@ use Rattle.std.proofs.Common.{◌≡◌, refl}
 use Rattle.xn_model.specs.Root.{word_at, pointer, with_pointer, slot, with_slot, templates_of, roots_of, owned_by_root}
 use Rattle.xn_model.specs.Languages.{types_in}
 use Rattle.xn_model.specs.Worlds.{replies}
-use Rattle.xn_model.specs.BareDisks.{no_templates, bare_disk, mounted_disk}
+use Rattle.xn_model.specs.BareDisks.{empty_language, bare_disk, mounted_disk}
 use Rattle.xn_model.specs.Rows.{sent, answered, library, library_disk, first_row, dropped_row, landed_row, lost_row, open_lost_row, open_kept_row, synced_row, failed_sync_row, failed_kept_row, failed_new_row, failed_old_row, many_row, refused_row, after_row, drained_row, rolled_back_row, claimed_row, attached_row, chains, chain_disk, cycle_row, installed_row, used_row, gone_row, full_row, subtree_kept_row, subtree_lost_row}
 
-pub first : replies (mounted_disk no_templates (bare_disk 32)) (sent first_row) ≡ answered first_row
+pub first : replies (mounted_disk empty_language (bare_disk 32)) (sent first_row) ≡ answered first_row
 unfolding types_in word_at pointer slot with_slot templates_of roots_of owned_by_root
 first = refl
 
-pub dropped : replies (mounted_disk no_templates (bare_disk 32)) (sent dropped_row) ≡ answered dropped_row
+pub dropped : replies (mounted_disk empty_language (bare_disk 32)) (sent dropped_row) ≡ answered dropped_row
 unfolding types_in word_at pointer slot with_slot templates_of roots_of owned_by_root
 dropped = refl
 
-pub landed : replies (mounted_disk no_templates (bare_disk 32)) (sent landed_row) ≡ answered landed_row
+pub landed : replies (mounted_disk empty_language (bare_disk 32)) (sent landed_row) ≡ answered landed_row
 unfolding types_in word_at pointer slot with_slot templates_of roots_of owned_by_root
 landed = refl
 
-pub lost : replies (mounted_disk no_templates (bare_disk 32)) (sent lost_row) ≡ answered lost_row
+pub lost : replies (mounted_disk empty_language (bare_disk 32)) (sent lost_row) ≡ answered lost_row
 unfolding types_in word_at pointer slot with_slot templates_of roots_of owned_by_root
 lost = refl
 
-pub open_lost : replies (mounted_disk no_templates (bare_disk 32)) (sent open_lost_row) ≡ answered open_lost_row
+pub open_lost : replies (mounted_disk empty_language (bare_disk 32)) (sent open_lost_row) ≡ answered open_lost_row
 unfolding types_in word_at pointer slot with_slot templates_of roots_of owned_by_root
 open_lost = refl
 
-pub open_kept : replies (mounted_disk no_templates (bare_disk 32)) (sent open_kept_row) ≡ answered open_kept_row
+pub open_kept : replies (mounted_disk empty_language (bare_disk 32)) (sent open_kept_row) ≡ answered open_kept_row
 unfolding types_in word_at pointer slot with_slot templates_of roots_of owned_by_root
 open_kept = refl
 
-pub synced : replies (mounted_disk no_templates (bare_disk 32)) (sent synced_row) ≡ answered synced_row
+pub synced : replies (mounted_disk empty_language (bare_disk 32)) (sent synced_row) ≡ answered synced_row
 unfolding types_in word_at pointer slot with_slot templates_of roots_of owned_by_root
 synced = refl
 
-pub failed_sync : replies (mounted_disk no_templates (bare_disk 32)) (sent failed_sync_row) ≡ answered failed_sync_row
+pub failed_sync : replies (mounted_disk empty_language (bare_disk 32)) (sent failed_sync_row) ≡ answered failed_sync_row
 unfolding types_in word_at pointer slot with_slot templates_of roots_of owned_by_root
 failed_sync = refl
 
-pub failed_kept : replies (mounted_disk no_templates (bare_disk 32)) (sent failed_kept_row) ≡ answered failed_kept_row
+pub failed_kept : replies (mounted_disk empty_language (bare_disk 32)) (sent failed_kept_row) ≡ answered failed_kept_row
 unfolding types_in word_at pointer slot with_slot templates_of roots_of owned_by_root
 failed_kept = refl
 
-pub failed_new : replies (mounted_disk no_templates (bare_disk 32)) (sent failed_new_row) ≡ answered failed_new_row
+pub failed_new : replies (mounted_disk empty_language (bare_disk 32)) (sent failed_new_row) ≡ answered failed_new_row
 unfolding types_in word_at pointer slot with_slot templates_of roots_of owned_by_root
 failed_new = refl
 
-pub failed_old : replies (mounted_disk no_templates (bare_disk 32)) (sent failed_old_row) ≡ answered failed_old_row
+pub failed_old : replies (mounted_disk empty_language (bare_disk 32)) (sent failed_old_row) ≡ answered failed_old_row
 unfolding types_in word_at pointer slot with_slot templates_of roots_of owned_by_root
 failed_old = refl
 
-pub many : replies (mounted_disk no_templates (bare_disk 32)) (sent many_row) ≡ answered many_row
+pub many : replies (mounted_disk empty_language (bare_disk 32)) (sent many_row) ≡ answered many_row
 unfolding types_in word_at pointer slot with_slot templates_of roots_of owned_by_root
 many = refl
 
-pub refused : replies (mounted_disk no_templates (bare_disk 32)) (sent refused_row) ≡ answered refused_row
+pub refused : replies (mounted_disk empty_language (bare_disk 32)) (sent refused_row) ≡ answered refused_row
 unfolding types_in word_at pointer slot with_slot templates_of roots_of owned_by_root
 refused = refl
 
-pub after : replies (mounted_disk no_templates (bare_disk 32)) (sent after_row) ≡ answered after_row
+pub after : replies (mounted_disk empty_language (bare_disk 32)) (sent after_row) ≡ answered after_row
 unfolding types_in word_at pointer slot with_slot templates_of roots_of owned_by_root
 after = refl
 
-pub drained : replies (mounted_disk no_templates (bare_disk 32)) (sent drained_row) ≡ answered drained_row
+pub drained : replies (mounted_disk empty_language (bare_disk 32)) (sent drained_row) ≡ answered drained_row
 unfolding types_in word_at pointer slot with_slot templates_of roots_of owned_by_root
 drained = refl
 

@@ -8,7 +8,7 @@ use Rattle.std.proofs.lemmas.Option.{same_Some, none-some}
 use Rattle.xn_model.specs.Lists.{blank, blocks_of}
 use Rattle.xn_model.specs.Types.{Types, fits}
 use Rattle.xn_model.specs.Root.{KeepsPointers, has_type, pointer, with_pointer, slot, templates_of, owned_by_root}
-use Rattle.xn_model.specs.Languages.{Language, Extends, template_of}
+use Rattle.xn_model.specs.Languages.{Language, Extends, language_template}
 use Rattle.xn_model.specs.Lives.{BlockState, Fresh, Owned, Life, StoreState, life_at, newest, bytes_of, is_dropped, chain_end, lowest_free}
 use Rattle.xn_model.specs.Results.{NoSlot, TooManyPending, Exhausted, NoSpace, BadTemplate}
 use Rattle.xn_model.specs.Calls.{install_of, install_at, empty_place, catalogue_state, started, new_life, first_state, accepts, root_now, latest, types_of, life_bytes, life_pending}
@@ -238,17 +238,17 @@ module _ (L : Language) (state : StoreState) (h : IsConsistent (types_of L state
     template = same_templates L (latest state.lives) (latest new.lives);
   }
     where
-      same : (t : ℕ) → IsTrue (T.installed t) → template_of L (latest new.lives) t ≡ template_of L (latest state.lives) t
+      same : (t : ℕ) → IsTrue (T.installed t) → language_template L (latest new.lives) t ≡ language_template L (latest state.lives) t
       same t k = same_template L (latest state.lives) (latest new.lives) t (installed_has L (latest state.lives) t k) still_named
 
   -- the new type has the template, and every other type what it had
-  pub new_template : template_of L (latest new.lives) (3 + i) ≡ L bytes
+  pub new_template : language_template L (latest new.lives) (3 + i) ≡ L bytes
   new_template =
       let small = (small_life T begun kept.consistent b life life_alive).0 in
       let at = ap (λ m. pointer m i) root_after ∙ pointer_same (root_now begun) i b (long T begun kept.consistent) few small in
       template_there L (latest new.lives) i b few not_root at ∙ ap L (other_after b not_root ∙ ap life_bytes life_alive)
 
-  pub other_template : (t : ℕ) → t ≢ 3 + i → template_of L (latest new.lives) t ≡ template_of L (latest state.lives) t
+  pub other_template : (t : ℕ) → t ≢ 3 + i → language_template L (latest new.lives) t ≡ language_template L (latest state.lives) t
   other_template t ne = template_same L (latest state.lives) (latest new.lives) t
       (λ lo hi. ap (λ m. pointer m (t - 3)) root_after ∙ (pointer_other (root_now begun) i b (long T begun kept.consistent) few (t - 3) (λ e. ne (omega (arith, e, lo))) ∙ ap (λ m. pointer m (t - 3)) same_root))
       (λ lo hi named. (still_named (t - 3) (omega (arith, lo, hi)) named).1)
@@ -313,16 +313,16 @@ install_keeps L state h bytes whole made new e =
     subst (Installs L state) x.is (installs L state h bytes whole x.template x.place x.few x.empty x.block x.free)
 
 pub installed_own : (L : Language) (state : StoreState) → IsConsistent (types_of L state.lives) state → (bytes : List ℕ) → length bytes ≡ 512 → (made : ℕ × ℕ × ℕ) (new : StoreState) → install_of L state bytes ≡ Ok (made, new) →
-    template_of L (latest new.lives) made.0 ≡ L bytes
+    language_template L (latest new.lives) made.0 ≡ L bytes
 installed_own L state h bytes whole made new e =
     let x = installed_is L state bytes made new e in
-    subst (λ (y : StoreState). template_of L (latest y.lives) made.0 ≡ L bytes) x.is
-    (subst (λ t. template_of L (latest (install_at state bytes x.place x.block).lives) t ≡ L bytes) (ap (λ (y : ℕ × ℕ × ℕ). y.0) x.made_is)
+    subst (λ (y : StoreState). language_template L (latest y.lives) made.0 ≡ L bytes) x.is
+    (subst (λ t. language_template L (latest (install_at state bytes x.place x.block).lives) t ≡ L bytes) (ap (λ (y : ℕ × ℕ × ℕ). y.0) x.made_is)
     (new_template L state h bytes whole x.template x.place x.few x.empty x.block x.free))
 
 pub installed_others : (L : Language) (state : StoreState) → IsConsistent (types_of L state.lives) state → (bytes : List ℕ) → length bytes ≡ 512 → (made : ℕ × ℕ × ℕ) (new : StoreState) → install_of L state bytes ≡ Ok (made, new) →
-    (t : ℕ) → t ≢ made.0 → template_of L (latest new.lives) t ≡ template_of L (latest state.lives) t
+    (t : ℕ) → t ≢ made.0 → language_template L (latest new.lives) t ≡ language_template L (latest state.lives) t
 installed_others L state h bytes whole made new e t ne =
     let x = installed_is L state bytes made new e in
-    subst (λ (y : StoreState). template_of L (latest y.lives) t ≡ template_of L (latest state.lives) t) x.is
+    subst (λ (y : StoreState). language_template L (latest y.lives) t ≡ language_template L (latest state.lives) t) x.is
     (other_template L state h bytes whole x.template x.place x.few x.empty x.block x.free t (λ same. ne (same ∙ ap (λ (y : ℕ × ℕ × ℕ). y.0) x.made_is)))

@@ -13,7 +13,7 @@ use Rattle.xn_model.specs.Results.{Refusal, NotSynced}
 use Rattle.xn_model.specs.Flights.{flight_of, HaveSameFlights}
 use Rattle.xn_model.specs.Calls.{types_of, begun_of, settled_of, bytes_at}
 use Rattle.xn_model.specs.Worlds.{World, types_now, Reply, Begun, Landed, Fault, Finished, reply_and_world, begin, begun_count, begun_bytes, with_ticket, on_ticket, land, fail, sync, fail_sync, finish, read_back, write, settle_bytes, given_at, MayLeave, left_at, left, Synced, Refused}
-use Rattle.xn_model.specs.Rules.{IsConsistent, Keeps, IsPlaced, ArePlaced, Holds}
+use Rattle.xn_model.specs.Rules.{IsConsistent, Keeps, IsHeldOnDisk, ArePlaced, Holds}
 use Rattle.xn_model.proofs.Lives.{in_lives}
 use Rattle.xn_model.proofs.Begin.{begun_keeps}
 use Rattle.xn_model.proofs.Writes.{begun_last}
@@ -43,7 +43,7 @@ next_holds w h new k flights = next_fits w h new (subst (λ T. IsConsistent T ne
 
 -- What a crash may leave
 
-place_same : (v content : ℕ → List ℕ) (b : ℕ) (l : Life) (s : BlockState) → v b ≡ content b → IsPlaced content b l s → IsPlaced v b l s
+place_same : (v content : ℕ → List ℕ) (b : ℕ) (l : Life) (s : BlockState) → v b ≡ content b → IsHeldOnDisk content b l s → IsHeldOnDisk v b l s
 place_same v content b l s e p = elim p [ inl x ↦ inl (e ∙ x) | inr y ↦ inr (y.0, y.1, e ∙ y.2) ]
 
 -- it fits the lives

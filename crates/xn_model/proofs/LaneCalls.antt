@@ -7,7 +7,7 @@ use Rattle.xn_model.specs.Languages.{Language}
 use Rattle.xn_model.specs.Lives.{BlockState, on_disk, is_fresh, current, lowest_free, Life, StoreState, Lives, life_at, begun_at, freed, settled_at, drops_of}
 use Rattle.xn_model.specs.Results.{Refusal, NoSpace, NotFresh, NotEmpty, TooManyPending, InFlight}
 use Rattle.xn_model.specs.Calls.{Edit, accepts, install_of, started, catalogue_state, edited, new_life, init_at, init_refusal, init_of, propose_refusal, propose_at, propose_of, make_root_refusal, make_root_at, make_root_of, drop_root_refusal, drop_root_of, forget_at, forget_of, root_state, slot_now, is_untouched, owns_nothing, begun_of, begun_place, settled_of, settled_place, settled_after, settled_with, first_pending}
-use Rattle.xn_model.specs.Rules.{IsConsistent, IsPlaced, ArePlaced}
+use Rattle.xn_model.specs.Rules.{IsConsistent, IsHeldOnDisk, ArePlaced}
 use Rattle.xn_model.specs.Images.{block_of}
 use Rattle.xn_model.specs.Mounts.{IsRecovered}
 use Rattle.xn_model.specs.Lanes.{FitsLife, FitLives, HoldsBlock, HoldImage}
@@ -115,10 +115,10 @@ module _ {L : Type 0} (read : L → List ℕ) where
 
   pub lanes_placed : (lanes : List (Option L)) (lives : Lives) (content : ℕ → List ℕ) → FitLives read lanes lives →
       ((c : ℕ) (lane : L) → slice_get lanes c ≡ Some (Some lane) → content c ≡ read lane) →
-      ((c : ℕ) (l : Life) (s : BlockState) → slice_get lanes c ≡ Some None → life_at lives c ≡ Some l → l.durable ≡ Some s → IsPlaced content c l s) → ArePlaced content lives
+      ((c : ℕ) (l : Life) (s : BlockState) → slice_get lanes c ≡ Some None → life_at lives c ≡ Some l → l.durable ≡ Some s → IsHeldOnDisk content c l s) → ArePlaced content lives
   lanes_placed lanes lives content z here away c l s e d = let r = lane_at lanes lives c l z e in go r.0 r.1 r.2
     where
-      go : (x : Option L) → slice_get lanes c ≡ Some x → FitsLife read x (Some l) → IsPlaced content c l s
+      go : (x : Option L) → slice_get lanes c ≡ Some x → FitsLife read x (Some l) → IsHeldOnDisk content c l s
       go None at f = away c l s at e d
       go (Some lane) at f = inl (here c lane at ∙ durable_read l.durable lane s d f.1)
 

@@ -5,7 +5,7 @@ use Rattle.std.proofs.lemmas.Bool.{cases_Bool, cases_lt, eqb-true, eqb-false, lt
 use Rattle.xn_model.specs.Lists.{blank, blocks_of, distinct}
 use Rattle.xn_model.specs.Types.{Types, fits}
 use Rattle.xn_model.specs.Root.{HasBuiltIns, pointer, has_type, templates_of}
-use Rattle.xn_model.specs.Languages.{Template, Language, types_in, template_of, template_named, root_template, data_template, owned_under, size_under}
+use Rattle.xn_model.specs.Languages.{Template, Language, types_in, language_template, language_template_named, root_template, data_template, owned_by_template, size_by_template}
 use Rattle.xn_model.specs.Lives.{BlockState, Life, Lives, life_at, newest, current, bytes_of}
 use Rattle.xn_model.specs.Calls.{latest, life_bytes, types_of}
 use Rattle.xn_model.specs.Rules.{IsRootLife, IsTemplate}
@@ -30,16 +30,16 @@ built_ins_in L content = record {
   data_size = λ m. refl;
 }
   where
-    few : (t : ℕ) → is_some (template_of L content t) ≡ true → t ≤ 18
+    few : (t : ℕ) → is_some (language_template L content t) ≡ true → t ≤ 18
     few t i = elim (cases_lt t 19) [
       | inl lt ↦ omega arith
       | inr ge ↦ absurd (false≢true (sym (ap is_some (none t ge)) ∙ i))
     ]
       where
-        none : (t : ℕ) → 19 ≤ t → template_of L content t ≡ None
+        none : (t : ℕ) → 19 ≤ t → language_template L content t ≡ None
         none t ge =
             cond-false (t == 0) (Some root_template) _ (false_eq t ge)
-            ∙ (cond-false (nat_lt t 3) (Some data_template) _ (false_lt t 3 (omega arith)) ∙ cond-false (nat_lt t 19) (template_named L content (pointer (content 0) (t - 3))) None (false_lt t 19 ge))
+            ∙ (cond-false (nat_lt t 3) (Some data_template) _ (false_lt t 3 (omega arith)) ∙ cond-false (nat_lt t 19) (language_template_named L content (pointer (content 0) (t - 3))) None (false_lt t 19 ge))
           where
             false_lt : (a b : ℕ) → b ≤ a → nat_lt a b ≡ false
             false_lt a b le = elim (cases_Bool (nat_lt a b)) [ inl y ↦ let lt = ltb-true a b y in absurd (omega arith) | inr n ↦ n ]
@@ -57,48 +57,48 @@ installed_has L content t i = elim (cases_lt t 3) [
       has_at (content 0) t (omega arith) (λ z. false≢true (sym (ap is_some (named t ge z)) ∙ i))
 ]
   where
-    named : (t : ℕ) → 3 ≤ t → pointer (content 0) (t - 3) ≡ 0 → template_of L content t ≡ None
+    named : (t : ℕ) → 3 ≤ t → pointer (content 0) (t - 3) ≡ 0 → language_template L content t ≡ None
     named t ge z =
         cond-false (t == 0) (Some root_template) _ (elim (cases_Bool (t == 0)) [ inl y ↦ let e = eqb-true t 0 y in absurd (omega arith) | inr n ↦ n ])
         ∙ (cond-false (nat_lt t 3) (Some data_template) _ (elim (cases_Bool (nat_lt t 3)) [ inl y ↦ let lt = ltb-true t 3 y in absurd (omega arith) | inr n ↦ n ])
-        ∙ (ap (λ p. cond (nat_lt t 19) (template_named L content p) None) z ∙ both (nat_lt t 19)))
+        ∙ (ap (λ p. cond (nat_lt t 19) (language_template_named L content p) None) z ∙ both (nat_lt t 19)))
       where
-        both : (b : Bool) → cond b (template_named L content 0) None ≡ None
+        both : (b : Bool) → cond b (language_template_named L content 0) None ≡ None
         both true = refl
         both false = refl
 
 -- one that isn't there points to nothing
 pub none_owned : (L : Language) (content : ℕ → List ℕ) (t : ℕ) (m : List ℕ) → (types_in L content).installed t ≡ false → (types_in L content).owned t m ≡ []
 unfolding types_in
-none_owned L content t m e = go (template_of L content t) e
+none_owned L content t m e = go (language_template L content t) e
   where
-    go : (o : Option Template) → is_some o ≡ false → owned_under o m ≡ []
+    go : (o : Option Template) → is_some o ≡ false → owned_by_template o m ≡ []
     go None f = refl
     go (Some x) f = absurd (false≢true (sym f))
 
 -- Types that two catalogues have
 
 pub same_template : (L : Language) (v w : ℕ → List ℕ) (t : ℕ) → has_type (v 0) t ≡ true → ((i : ℕ) → i < 16 → pointer (v 0) i ≢ 0 → (pointer (w 0) i ≡ pointer (v 0) i) × (w (pointer (v 0) i) ≡ v (pointer (v 0) i))) →
-    template_of L w t ≡ template_of L v t
+    language_template L w t ≡ language_template L v t
 same_template L v w t has same = elim (place_of (v 0) t has) [
   | inl low ↦ ap (λ x. cond (t == 0) (Some root_template) x) (cond-true (nat_lt t 3) (Some data_template) _ low ∙ sym (cond-true (nat_lt t 3) (Some data_template) _ low))
   | inr p ↦
       let s = same (t - 3) (let lo = p.0 in let hi = p.1 in omega arith) p.2 in
       ap (λ x. cond (t == 0) (Some root_template) (cond (nat_lt t 3) (Some data_template) (cond (nat_lt t 19) x None)))
-      (ap (template_named L w) s.0 ∙ ap (λ m. cond (pointer (v 0) (t - 3) == 0) None (L m)) s.1)
+      (ap (language_template_named L w) s.0 ∙ ap (λ m. cond (pointer (v 0) (t - 3) == 0) None (L m)) s.1)
 ]
 
-pub same_installed : (L : Language) (v w : ℕ → List ℕ) (t : ℕ) → template_of L w t ≡ template_of L v t → (types_in L w).installed t ≡ (types_in L v).installed t
+pub same_installed : (L : Language) (v w : ℕ → List ℕ) (t : ℕ) → language_template L w t ≡ language_template L v t → (types_in L w).installed t ≡ (types_in L v).installed t
 unfolding types_in
 same_installed L v w t e = ap is_some e
 
-pub same_owned : (L : Language) (v w : ℕ → List ℕ) (t : ℕ) → template_of L w t ≡ template_of L v t → (types_in L w).owned t ≡ (types_in L v).owned t
+pub same_owned : (L : Language) (v w : ℕ → List ℕ) (t : ℕ) → language_template L w t ≡ language_template L v t → (types_in L w).owned t ≡ (types_in L v).owned t
 unfolding types_in
-same_owned L v w t e = λ i m. owned_under (e i) m
+same_owned L v w t e = λ i m. owned_by_template (e i) m
 
-pub same_size : (L : Language) (v w : ℕ → List ℕ) (t : ℕ) → template_of L w t ≡ template_of L v t → (types_in L w).size t ≡ (types_in L v).size t
+pub same_size : (L : Language) (v w : ℕ → List ℕ) (t : ℕ) → language_template L w t ≡ language_template L v t → (types_in L w).size t ≡ (types_in L v).size t
 unfolding types_in
-same_size L v w t e = λ i m. size_under (e i) m
+same_size L v w t e = λ i m. size_by_template (e i) m
 
 pub template_is : (L : Language) (content : ℕ → List ℕ) (m : List ℕ) → (types_in L content).template m ≡ is_some (L m)
 unfolding types_in
@@ -110,29 +110,29 @@ same_templates L v w = refl
 
 -- for one type number
 pub template_same : (L : Language) (v w : ℕ → List ℕ) (t : ℕ) → (3 ≤ t → t < 19 → pointer (w 0) (t - 3) ≡ pointer (v 0) (t - 3)) →
-    (3 ≤ t → t < 19 → pointer (v 0) (t - 3) ≢ 0 → w (pointer (v 0) (t - 3)) ≡ v (pointer (v 0) (t - 3))) → template_of L w t ≡ template_of L v t
+    (3 ≤ t → t < 19 → pointer (v 0) (t - 3) ≢ 0 → w (pointer (v 0) (t - 3)) ≡ v (pointer (v 0) (t - 3))) → language_template L w t ≡ language_template L v t
 template_same L v w t at there = ap (λ x. cond (t == 0) (Some root_template) x) (elim (cases_lt t 3) [
   | inl low ↦ let y = lt-ltb t 3 low in cond-true (nat_lt t 3) (Some data_template) _ y ∙ sym (cond-true (nat_lt t 3) (Some data_template) _ y)
   | inr ge ↦ ap (λ x. cond (nat_lt t 3) (Some data_template) x) (elim (cases_lt t 19) [
-    | inl few ↦ ap (λ x. cond (nat_lt t 19) x None) (ap (template_named L w) (at ge few) ∙ named (pointer (v 0) (t - 3)) (there ge few))
-    | inr none ↦ let n = le-ltb t 19 none in cond-false (nat_lt t 19) (template_named L w (pointer (w 0) (t - 3))) None n ∙ sym (cond-false (nat_lt t 19) (template_named L v (pointer (v 0) (t - 3))) None n)
+    | inl few ↦ ap (λ x. cond (nat_lt t 19) x None) (ap (language_template_named L w) (at ge few) ∙ named (pointer (v 0) (t - 3)) (there ge few))
+    | inr none ↦ let n = le-ltb t 19 none in cond-false (nat_lt t 19) (language_template_named L w (pointer (w 0) (t - 3))) None n ∙ sym (cond-false (nat_lt t 19) (language_template_named L v (pointer (v 0) (t - 3))) None n)
   ])
 ])
   where
-    named : (p : ℕ) → (p ≢ 0 → w p ≡ v p) → template_named L w p ≡ template_named L v p
+    named : (p : ℕ) → (p ≢ 0 → w p ≡ v p) → language_template_named L w p ≡ language_template_named L v p
     named p e = elim (cases_Bool (p == 0)) [
       | inl z ↦ cond-true (p == 0) None (L (w p)) z ∙ sym (cond-true (p == 0) None (L (v p)) z)
       | inr ne ↦ ap (λ m. cond (p == 0) None (L m)) (e (eqb-false p 0 ne))
     ]
 
 -- the template that a place of the catalogue names
-pub template_there : (L : Language) (content : ℕ → List ℕ) (i b : ℕ) → i < 16 → b ≢ 0 → pointer (content 0) i ≡ b → template_of L content (3 + i) ≡ L (content b)
+pub template_there : (L : Language) (content : ℕ → List ℕ) (i b : ℕ) → i < 16 → b ≢ 0 → pointer (content 0) i ≡ b → language_template L content (3 + i) ≡ L (content b)
 template_there L content i b few ne at =
     cond-false (3 + i == 0) (Some root_template) _ (ne_eqb (3 + i) 0 (λ z. absurd (omega (arith, z))))
     ∙ (cond-false (nat_lt (3 + i) 3) (Some data_template) _ (le-ltb (3 + i) 3 (omega arith))
-    ∙ (cond-true (nat_lt (3 + i) 19) (template_named L content (pointer (content 0) (3 + i - 3))) None (lt-ltb (3 + i) 19 (omega arith))
-    ∙ (ap (λ j. template_named L content (pointer (content 0) j)) (let same : 3 + i - 3 ≡ i = omega arith in same)
-    ∙ (ap (template_named L content) at ∙ cond-false (b == 0) None (L (content b)) (ne_eqb b 0 ne)))))
+    ∙ (cond-true (nat_lt (3 + i) 19) (language_template_named L content (pointer (content 0) (3 + i - 3))) None (lt-ltb (3 + i) 19 (omega arith))
+    ∙ (ap (λ j. language_template_named L content (pointer (content 0) j)) (let same : 3 + i - 3 ≡ i = omega arith in same)
+    ∙ (ap (language_template_named L content) at ∙ cond-false (b == 0) None (L (content b)) (ne_eqb b 0 ne)))))
 
 -- all of them
 pub types_same : (L : Language) (v w : ℕ → List ℕ) → ((i : ℕ) → i < 16 → pointer (w 0) i ≡ pointer (v 0) i) → ((i : ℕ) → i < 16 → pointer (v 0) i ≢ 0 → w (pointer (v 0) i) ≡ v (pointer (v 0) i)) →
@@ -140,12 +140,12 @@ pub types_same : (L : Language) (v w : ℕ → List ℕ) → ((i : ℕ) → i < 
 unfolding types_in
 types_same L v w at there = λ i. record {
   installed = λ t. is_some (same t i);
-  owned = λ t m. owned_under (same t i) m;
-  size = λ t m. size_under (same t i) m;
+  owned = λ t m. owned_by_template (same t i) m;
+  size = λ t m. size_by_template (same t i) m;
   template = λ m. is_some (L m);
 }
   where
-    same : (t : ℕ) → template_of L w t ≡ template_of L v t
+    same : (t : ℕ) → language_template L w t ≡ language_template L v t
     same t = template_same L v w t (λ lo hi. at (t - 3) (omega (arith, lo, hi))) (λ lo hi. there (t - 3) (omega (arith, lo, hi)))
 
 -- what fits is the same

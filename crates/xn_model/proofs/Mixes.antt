@@ -9,7 +9,7 @@ use Rattle.xn_model.specs.Images.{block_of}
 use Rattle.xn_model.specs.Lives.{Life, Lives, life_at, prefix, prefix_of, safe_count, begun_at, settle, settled_at, freed, drops_of, carried, first_states}
 use Rattle.xn_model.specs.Calls.{bytes_at, first_pending, is_ready}
 use Rattle.xn_model.specs.Worlds.{World, types_now, Begin, Finish, Reply, Begun, Landed, Synced, Finished, begun_count, begun_bytes, write, settle_bytes, given_at, act, replies, world_after, IsEvent}
-use Rattle.xn_model.specs.Waves.{can_begin, nth_step, one_more, turns_from, in_turns, steps_after, HaveTurns, IsStepDone, AreStepsDone}
+use Rattle.xn_model.specs.Waves.{can_begin, nth_step, one_step_more, turns_from, in_turns, steps_done, HaveTurns, IsStepDone, AreStepsDone}
 use Rattle.xn_model.specs.Rules.{Holds, IsCount}
 use Rattle.xn_model.proofs.Lists.{Contains-head, Contains-tail, has_number_at}
 use Rattle.xn_model.proofs.Lives.{freed_at}
@@ -244,7 +244,7 @@ step_event (suc (suc (suc n))) b = tt
 
 pub record AreMixed (start : Lives) (blocks : List ℕ) (steps : ℕ → ℕ) (turns : List ℕ) (v : World) : Type 0 where
   pub done : AreStepsDone start (turns_from steps turns) (replies v (turns_from steps turns))
-  pub stand : (b : ℕ) → Contains blocks b → Stands (steps_after steps turns b) (prefix start b) (world_after v (turns_from steps turns)) b
+  pub stand : (b : ℕ) → Contains blocks b → Stands (steps_done steps turns b) (prefix start b) (world_after v (turns_from steps turns)) b
 
 mixes : (start : Lives) (blocks turns : List ℕ) (steps : ℕ → ℕ) (v : World) → Holds v → v.down ≡ false → ((b : ℕ) → Contains turns b → Contains blocks b) →
     ((b : ℕ) → Contains blocks b → Stands (steps b) (prefix start b) v b) → HaveTurns steps turns → AreMixed start blocks steps turns v
@@ -253,14 +253,14 @@ mixes start blocks (b ∷ turns) steps v h up among stand few =
     let d = step_done start v h up b (steps b) few.0 (stand b (among b (Contains-head b turns))) in
     let e = nth_step (steps b) b in
     let h' : Holds d.after = subst (λ (x : Reply × World). Holds x.1) d.is (holds_after v (e ∷ []) h (step_event (steps b) b, tt)) in
-    let rest = mixes start blocks turns (one_more steps b) d.after h' (d.still_up ∙ up) (λ c i. among c (Contains-tail b turns c i)) (stands' d) few.1 in
-    let es = turns_from (one_more steps b) turns in
+    let rest = mixes start blocks turns (one_step_more steps b) d.after h' (d.still_up ∙ up) (λ c i. among c (Contains-tail b turns c i)) (stands' d) few.1 in
+    let es = turns_from (one_step_more steps b) turns in
     record {
       done = subst (λ (x : Reply × World). IsStepDone start e x.0 × AreStepsDone start es (replies x.1 es)) (sym d.is) (d.done, rest.done);
-      stand = λ c i. subst (λ (x : Reply × World). Stands (steps_after (one_more steps b) turns c) (prefix start c) (world_after x.1 es) c) (sym d.is) (rest.stand c i);
+      stand = λ c i. subst (λ (x : Reply × World). Stands (steps_done (one_step_more steps b) turns c) (prefix start c) (world_after x.1 es) c) (sym d.is) (rest.stand c i);
     }
   where
-    stands' : (d : StepDone start (steps b) b v) → (c : ℕ) → Contains blocks c → Stands (one_more steps b c) (prefix start c) d.after c
+    stands' : (d : StepDone start (steps b) b v) → (c : ℕ) → Contains blocks c → Stands (one_step_more steps b c) (prefix start c) d.after c
     stands' d c i = elim (cases_eq c b) [
       | inl same ↦ subst (λ n. Stands n (prefix start c) d.after c) (sym (cond-true (b == c) (suc (steps c)) (steps c) (eq-eqb b c (sym same))))
           (subst (λ x. Stands (suc (steps x)) (prefix start x) d.after x) (sym same) d.here)
@@ -273,5 +273,5 @@ pub writes_mix : (w : World) (turns : List ℕ) → Holds w → w.down ≡ false
 writes_mix w turns h up ready few = mixes w.state.lives turns turns (λ b. 0) w h up (λ b i. i) (λ b i. (ready b i, omega arith)) few
 
 pub mixes_rest : (w : World) (turns : List ℕ) (b : ℕ) (l : Life) → Holds w → w.down ≡ false → ((b : ℕ) → Contains turns b → can_begin w.state.lives b ≡ true) → HaveTurns (λ b. 0) turns →
-    Contains turns b → steps_after (λ b. 0) turns b ≡ 4 → life_at (world_after w (in_turns turns)).state.lives b ≡ Some l → l.begun ≡ None
+    Contains turns b → steps_done (λ b. 0) turns b ≡ 4 → life_at (world_after w (in_turns turns)).state.lives b ≡ Some l → l.begun ≡ None
 mixes_rest w turns b l h up ready few i all = (subst (λ n. Stands n (prefix w.state.lives b) (world_after w (in_turns turns)) b) all ((writes_mix w turns h up ready few).stand b i)) l

@@ -14,7 +14,7 @@ use Rattle.xn_model.specs.Lives.{on_disk, BlockState, Status, Owned, Life, Lives
 use Rattle.xn_model.specs.Calls.{types_of, latest, life_bytes}
 use Rattle.xn_model.specs.Mounts.{IsRecoveredLife, IsRecovered}
 use Rattle.xn_model.specs.Worlds.{World, mounted, none_given, given_at, mounted_state, types_there}
-use Rattle.xn_model.specs.Rules.{IsBy, IsConsistent, PointersStay, WaitsForOlder, IsTemplate, IsInFileSystem, IsRootLife, IsSoundLife, AreSoundLives, IsLinkedLife, IsPlaced, Holds, HasExactStatuses, IsNamer, NamedIn, ChainsEnd}
+use Rattle.xn_model.specs.Rules.{IsBy, IsConsistent, PointersStay, WaitsForOlder, IsTemplate, IsInFileSystem, IsRootLife, IsSoundLife, AreSoundLives, IsLinkedLife, IsHeldOnDisk, Holds, HasExactStatuses, IsNamer, NamedIn, ChainsEnd}
 use Rattle.xn_model.proofs.Lives.{past}
 use Rattle.xn_model.proofs.Catalogue.{on_disk_is}
 use Rattle.xn_model.proofs.Languages.{built_ins_in, installed_has, types_same}
@@ -211,7 +211,7 @@ module _ (L : Language) (image : List (List ℕ)) (sound : IsSound (types_in L (
   kept_recovered : (c : ℕ) (l : Life) → life_at lives c ≡ Some l → IsLinkedLife T lives c l
   kept_recovered c l e = subst (IsLinkedLife T lives c) (life_is c l (rec'.only c l e)) (kept_rest c l e)
 
-  placed_recovered : (c : ℕ) (l : Life) (s : BlockState) → life_at lives c ≡ Some l → l.durable ≡ Some s → IsPlaced (block_of image) c l s
+  placed_recovered : (c : ℕ) (l : Life) (s : BlockState) → life_at lives c ≡ Some l → l.durable ≡ Some s → IsHeldOnDisk (block_of image) c l s
   placed_recovered c l s e d = inl (ap (λ (x : BlockState). x.bytes) (same_Some (on_disk (block_of image c)) s (sym (rec'.only c l e).durable ∙ d)))
 
   numbers_recovered : (c : ℕ) (l : Life) (s : BlockState) → life_at lives c ≡ Some l → Contains (states l) s → s.entry < 1

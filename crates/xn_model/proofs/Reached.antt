@@ -10,7 +10,7 @@ use Rattle.std.proofs.lemmas.List.Elements.{Contains-append_cases, Contains-appe
 use Rattle.xn_model.specs.Lists.{blocks_of}
 use Rattle.xn_model.specs.Types.{Types, fits, named_once, within_size}
 use Rattle.xn_model.specs.Root.{pointer, has_type, templates_of}
-use Rattle.xn_model.specs.Languages.{Language, types_in, template_of}
+use Rattle.xn_model.specs.Languages.{Language, types_in, language_template}
 use Rattle.xn_model.specs.Images.{Reach, root, step, Owns, HasOneOwner, IsSound}
 use Rattle.xn_model.specs.Lives.{BlockState, Status, Fresh, Owned, Dropped, Life, Lives, life_at, states, carried, first_states, bytes_of, root_on_disk, StoreState}
 use Rattle.xn_model.specs.Calls.{types_of, latest, life_bytes}
@@ -137,7 +137,7 @@ module _ (L : Language) (state : StoreState) (h : IsConsistent (types_of L state
       (t, x.0, x.1)
 
   -- so the types of the contents are those of the lives that block 0 has there
-  pub template_same : (t : ℕ) → has_type (content 0) t ≡ true → template_of L content t ≡ template_of L (latest state.lives) t
+  pub template_same : (t : ℕ) → has_type (content 0) t ≡ true → language_template L content t ≡ language_template L (latest state.lives) t
   template_same t has = sym (same_template L content (latest state.lives) t has (λ i lt ne. (pointer_same i lt ne, bytes_same i lt ne)))
     where
       pointer_same : (i : ℕ) → i < 16 → pointer (content 0) i ≢ 0 → pointer (latest state.lives 0) i ≡ pointer (content 0) i

@@ -6,7 +6,7 @@ use Rattle.std.proofs.lemmas.List.{get_or-set_same, set-set, length-map}
 use Rattle.xn_model.specs.Types.{Types}
 use Rattle.xn_model.specs.Images.{block_of}
 use Rattle.xn_model.specs.Lives.{Lives, StoreState, life_at, durable_bytes, prefix_of, begun_at}
-use Rattle.xn_model.specs.BareDisks.{no_templates}
+use Rattle.xn_model.specs.BareDisks.{empty_language}
 use Rattle.xn_model.specs.Results.{Refusal, InFlight, NothingSafe, NotSynced, result_map}
 use Rattle.xn_model.specs.Calls.{begun_place, begun_of, bytes_at, settled_of, pick_of, life_pending}
 use Rattle.xn_model.specs.Worlds.{World, Reply, Begun, Landed, Synced, Finished, Refused, reply_and_world, begin, land, sync, finish, read_back, write, settle_bytes, given_at, none_given, with_ticket, write_out, all_pending}
@@ -26,7 +26,7 @@ at_rest lives = map durable_bytes lives
 
 -- which templates there are does not matter
 abbrev world_at : StoreState → World
-world_at state = record { language = no_templates; image = at_rest state.lives; settled = at_rest state.lives; given = none_given (at_rest state.lives); state = state; down = false }
+world_at state = record { language = empty_language; image = at_rest state.lives; settled = at_rest state.lives; given = none_given (at_rest state.lives); state = state; down = false }
 
 -- the block is written with what is begun, and that is settled
 pub wrote_out : (w : World) (b : ℕ) (bytes : List ℕ) (count : ℕ) (begun : StoreState) (done : ℕ × ℕ) (after : StoreState) → begun_of w.state b ≡ Ok ((bytes, count), begun) →

@@ -1,4 +1,4 @@
--- The walk from block 0 finds the reached blocks of a sound image, each once.
+-- The mount_walk from block 0 finds the reached blocks of a sound image, each once.
 use Rattle.std.proofs.Common.{◌≡◌, ℕ, zero, suc, ◌+◌, ◌<◌, ◌≤◌, ◌⊎◌, true, List, [], ◌∷◌, ◌++◌, length, Option, Some, None, refl, sym, ◌∙◌, ap, inl, inr, arith, subst, append_assoc, length-append}
 use Rattle.std.specs.Prelude.{Contains, IsTrue, flat_map, find, ◌==◌}
 use Rattle.std.specs.List.{range_with_len}
@@ -12,7 +12,7 @@ use Rattle.xn_model.specs.Types.{Types, named_once, within_size}
 use Rattle.xn_model.specs.Root.{HasBuiltIns, slot, templates_of, roots_of, owned_by_root}
 use Rattle.xn_model.specs.Images.{block_of, Reach, root, step, Owns, IsSound}
 use Rattle.xn_model.specs.Lives.{on_disk, Life, life_at}
-use Rattle.xn_model.specs.Mounts.{Found, found, found_by, found_in, found_in_slot, walk, found_life, found_status, recovered, IsRecoveredLife, IsRecovered}
+use Rattle.xn_model.specs.Mounts.{Found, found, found_by, found_in, found_in_slot, mount_walk, found_life, found_status, recovered, IsRecoveredLife, IsRecovered}
 use Rattle.std.proofs.lemmas.Option.{unwrap_or-slice_get}
 use Rattle.xn_model.proofs.Lives.{past}
 use Rattle.xn_model.proofs.Lists.{Contains-none, Contains-head, Contains-cons}
@@ -106,7 +106,7 @@ module _ (T : Types) (built_ins : HasBuiltIns T) (image : List (List ℕ)) (soun
       let one = sound.owner c t x u r n in
       (one.only a m.0 (owns a v x y q m)).0 ∙ sym (one.only c n.0 (owns c t x u r n)).0
 
-  -- The walk
+  -- The mount_walk
 
   record Walked (done todo : List Found) : Type 0 where
     reached : (f : Found) → Contains (done ++ todo) f → Reached f.block f.ty
@@ -188,7 +188,7 @@ module _ (T : Types) (built_ins : HasBuiltIns T) (image : List (List ℕ)) (soun
   walked_few done todo w = subst (λ n. n ≤ length image) (length-map (done ++ todo) (λ (f : Found). f.block))
       (few_below (places (done ++ todo)) (length image) w.apart (λ x i. let f = place_at (done ++ todo) x i in subst (λ b. b < length image) f.2 (within f.0.block f.0.ty (w.reached f.0 f.1))))
 
-  walked_all : (n : ℕ) (done todo : List Found) → Walked done todo → length done + n ≡ length image → Walked (done ++ walk n T image todo) []
+  walked_all : (n : ℕ) (done todo : List Found) → Walked done todo → length done + n ≡ length image → Walked (done ++ mount_walk n T image todo) []
   walked_all zero done [] w e = subst (λ gs. Walked gs []) (sym (append-nil done)) w
   walked_all zero done (f ∷ todo) w e =
       let few = walked_few done (f ∷ todo) w in
@@ -197,7 +197,7 @@ module _ (T : Types) (built_ins : HasBuiltIns T) (image : List (List ℕ)) (soun
   walked_all (suc n) done [] w e = subst (λ gs. Walked gs []) (sym (append-nil done)) w
   walked_all (suc n) done (f ∷ todo) w e =
       let more : length (done ++ f ∷ []) ≡ length done + 1 = length-append done (f ∷ []) in
-      subst (λ gs. Walked gs []) (append_assoc done (f ∷ []) (walk n T image (todo ++ found_in T image f)))
+      subst (λ gs. Walked gs []) (append_assoc done (f ∷ []) (mount_walk n T image (todo ++ found_in T image f)))
       (walked_all n (done ++ f ∷ []) (todo ++ found_in T image f) (walked_on done todo f w) (omega arith))
 
   walked_first : Walked [] (first_found ∷ [])

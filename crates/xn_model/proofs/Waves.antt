@@ -9,7 +9,7 @@ use Rattle.xn_model.specs.Lives.{BlockState, first_states, Life, Lives, life_at,
 use Rattle.xn_model.specs.Results.{Refusal, NotMine}
 use Rattle.xn_model.specs.Calls.{bytes_at, first_pending, is_durable, settled_place}
 use Rattle.xn_model.specs.Worlds.{World, types_now, Event, Begin, Finish, Reply, Finished, begun_count, begun_bytes, given_at, world_after, IsEvent, Run}
-use Rattle.xn_model.specs.Waves.{IsWave, wave_bytes, begun_reply, made_durable, drops_with, finished_with, Outcome, Done, EndsAnyway, WriteFails, SyncFails, write_event, sync_event, is_written, is_done, written, done, wave_with, write_reply, sync_reply, replies_with, all_drops, life_then, newest_then, settled_then, given_then, IsAfterWave}
+use Rattle.xn_model.specs.Waves.{IsWave, wave_bytes, begun_reply, made_durable, drops_with, finished_with, Outcome, Done, EndsAnyway, WriteFails, SyncFails, write_event, sync_event, is_written, is_done, written_blocks, done, wave_with, write_reply, sync_reply, replies_with, all_drops, life_then, newest_then, settled_then, given_then, IsAfterWave}
 use Rattle.xn_model.specs.Flights.{flight_of}
 use Rattle.xn_model.specs.Rules.{Holds, IsCount}
 use Rattle.xn_model.proofs.Lists.{has_number_at, has_number_from, filter_at}
@@ -43,7 +43,7 @@ module _ (w : World) (h : Holds w) (up : w.down ≡ false) (outcome : ℕ → Ou
   made = made_durable w outcome
 
   abbrev ys : List ℕ
-  ys = written outcome bs
+  ys = written_blocks outcome bs
 
   abbrev zs : List ℕ
   zs = done outcome bs

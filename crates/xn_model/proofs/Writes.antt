@@ -10,7 +10,7 @@ use Rattle.xn_model.specs.Types.{Types}
 use Rattle.xn_model.specs.Lives.{BlockState, Life, Lives, life_at, states, carried, first_states, bytes_of, StoreState}
 use Rattle.xn_model.specs.Images.{IsDiskSize}
 use Rattle.xn_model.specs.Calls.{bytes_at}
-use Rattle.xn_model.specs.Rules.{ArePlaced, IsRootLife, IsSoundLife, IsLinkedLife, IsPlaced, IsConsistent, NamedIn, IsCount, IsOwnedBy}
+use Rattle.xn_model.specs.Rules.{ArePlaced, IsRootLife, IsSoundLife, IsLinkedLife, IsHeldOnDisk, IsConsistent, NamedIn, IsCount, IsOwnedBy}
 use Rattle.xn_model.proofs.Changes.{each, settled}
 use Rattle.xn_model.proofs.Lists.{Contains-none, Contains-cons, Contains-drop, last_of}
 use Rattle.xn_model.proofs.Lives.{each_forth, each_back}
@@ -130,13 +130,13 @@ module _ (T : Types) (state : StoreState) (h : IsConsistent T state) (b : ℕ) (
   settles_places content placed landed c m s e d =
       let r = each_back (settled b k) state.lives c m e in
       let was : (settled b k c r.0).durable ≡ Some s = ap (λ (x : Life). x.durable) (sym r.2) ∙ d in
-      subst (λ x. IsPlaced content c x s) (sym r.2) (elim (cases_eq c b) [
+      subst (λ x. IsHeldOnDisk content c x s) (sym r.2) (elim (cases_eq c b) [
         | inl same ↦
             let to_l : settled b k c r.0 ≡ settled_if true k l = settled_same b k c r.0 same ∙ ap (settled_if true k) (sym (same_life c r.0 r.1 same)) in
             inl (ap content same ∙ placed_here s (ap (λ (x : Life). x.durable) (sym to_l) ∙ was))
         | inr other ↦
             let to_m : settled b k c r.0 ≡ r.0 = settled_other b k c r.0 other in
-            subst (λ x. IsPlaced content c x s) (sym to_m) (placed c r.0 s r.1 (ap (λ (x : Life). x.durable) (sym to_m) ∙ was))
+            subst (λ x. IsHeldOnDisk content c x s) (sym to_m) (placed c r.0 s r.1 (ap (λ (x : Life). x.durable) (sym to_m) ∙ was))
       ])
     where
       placed_here : (s : BlockState) → last_or l.durable (take k l.pending) ≡ Some s → content b ≡ s.bytes

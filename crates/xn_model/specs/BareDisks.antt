@@ -1,6 +1,6 @@
 -- A disk as it is after formatting, with the built-in types alone.
 --     built_ins              the types without any template
---     no_templates           the language in which no block is one
+--     empty_language           the language in which no block is one
 --     bare_disk count        its blocks: block 0 with a mark and the count, all else 0
 --     mounted_disk L image   a disk with the state of its mount
 use Rattle.std.specs.Prelude.{ℕ, ◌-◌, false, cond, nat_lt, List, [], ◌∷◌, ◌++◌, replicate, None}
@@ -21,8 +21,8 @@ built_ins = record {
   template = λ m. false;
 }
 
-abbrev pub no_templates : Language
-no_templates m = None
+abbrev pub empty_language : Language
+empty_language m = None
 
 abbrev pub zeros : ℕ → List ℕ
 zeros n = replicate n 0

@@ -25,31 +25,31 @@ abbrev pub data_template : Template
 data_template = record { owned = λ m. []; size = λ m. 512 }
 
 -- the template in the block that a pointer of block 0 names; a pointer of 0 names none
-abbrev pub template_named : Language → (ℕ → List ℕ) → ℕ → Option Template
-template_named L content block = cond (block == 0) None (L (content block))
+abbrev pub language_template_named : Language → (ℕ → List ℕ) → ℕ → Option Template
+language_template_named L content block = cond (block == 0) None (L (content block))
 
 -- the template of a type
-abbrev pub template_of : Language → (ℕ → List ℕ) → ℕ → Option Template
-template_of L content t =
+abbrev pub language_template : Language → (ℕ → List ℕ) → ℕ → Option Template
+language_template L content t =
     cond (t == 0) (Some root_template)
     (cond (nat_lt t 3) (Some data_template)
-    (cond (nat_lt t 19) (template_named L content (pointer (content 0) (t - 3))) None))
+    (cond (nat_lt t 19) (language_template_named L content (pointer (content 0) (t - 3))) None))
 
 -- without a template a block points to nothing and may use all its bytes
-abbrev pub owned_under : Option Template → List ℕ → List (ℕ × ℕ)
-owned_under None m = []
-owned_under (Some t) m = t.owned m
+abbrev pub owned_by_template : Option Template → List ℕ → List (ℕ × ℕ)
+owned_by_template None m = []
+owned_by_template (Some t) m = t.owned m
 
-abbrev pub size_under : Option Template → List ℕ → ℕ
-size_under None m = 512
-size_under (Some t) m = t.size m
+abbrev pub size_by_template : Option Template → List ℕ → ℕ
+size_by_template None m = 512
+size_by_template (Some t) m = t.size m
 
 -- by what is read of each block
 unfoldable pub types_in : Language → (ℕ → List ℕ) → Types
 types_in L content = record {
-  installed = λ t. is_some (template_of L content t);
-  owned = λ t m. owned_under (template_of L content t) m;
-  size = λ t m. size_under (template_of L content t) m;
+  installed = λ t. is_some (language_template L content t);
+  owned = λ t m. owned_by_template (language_template L content t) m;
+  size = λ t m. size_by_template (language_template L content t) m;
   template = λ m. is_some (L m);
 }
 

@@ -34,16 +34,16 @@ patch at bytes adds drops after = record { patches = record { offset = at; bytes
 abbrev pub edit : ℕ → ℕ → Edit → Event
 edit fs b e = Client fs (Propose b e)
 
-abbrev pub start : ℕ → ℕ → List ℕ → Event
-start fs t bytes = Client fs (Init t (block bytes))
+abbrev pub init_event : ℕ → ℕ → List ℕ → Event
+init_event fs t bytes = Client fs (Init t (block bytes))
 
 -- begin, land, sync, finish
-abbrev pub written : ℕ → ℕ → ℕ → Row
-written b entries freed = (Begin b, Begun entries) ∷ (Land b, Landed) ∷ (Sync b, Synced) ∷ (Finish b, Finished entries freed) ∷ []
+abbrev pub write_row : ℕ → ℕ → ℕ → Row
+write_row b entries freed = (Begin b, Begun entries) ∷ (Land b, Landed) ∷ (Sync b, Synced) ∷ (Finish b, Finished entries freed) ∷ []
 
 abbrev pub first_row : Row
 first_row =
-    (start 0 2 (65 ∷ 66 ∷ 67 ∷ []), Started 1 1)
+    (init_event 0 2 (65 ∷ 66 ∷ 67 ∷ []), Started 1 1)
     ∷ (Client 0 (MakeRoot 1), Edited 2)
     ∷ (Begin 0, Refused NothingSafe)
     ∷ (Begin 1, Begun 1)
@@ -64,10 +64,10 @@ dropped_row = first_row ++ (
     (Client 0 DropRoot, Edited 3)
     ∷ (Begin 0, Begun 1)
     ∷ (Land 0, Landed)
-    ∷ (start 0 2 [], Started 2 4)
+    ∷ (init_event 0 2 [], Started 2 4)
     ∷ (Sync 0, Synced)
     ∷ (Finish 0, Finished 1 1)
-    ∷ (start 0 2 [], Started 1 5)
+    ∷ (init_event 0 2 [], Started 1 5)
     ∷ [])
 
 -- a crash with a write that landed and is kept, and without
@@ -162,7 +162,7 @@ numbered_edits (suc k) n = (edit 0 1 (patch 0 (65 ∷ []) [] [] None), Edited n)
 
 abbrev pub many_row : Row
 many_row =
-    ((start 0 2 [], Started 1 1) ∷ numbered_edits 63 2)
+    ((init_event 0 2 [], Started 1 1) ∷ numbered_edits 63 2)
     ++ ((edit 0 1 (patch 0 (65 ∷ []) [] [] None), Refused TooManyPending) ∷ (Begin 1, Begun 64) ∷ [])
 
 abbrev pub refused_row : Row
@@ -171,7 +171,7 @@ refused_row = first_row ++ (
     ∷ (Client 0 (Read 9), Refused NotInUse)
     ∷ (Client 0 (Read 32), Refused NoSuchBlock)
     ∷ (Client 0 (Read 0), Refused NotYours)
-    ∷ (start 0 2 [], Started 2 3)
+    ∷ (init_event 0 2 [], Started 2 3)
     ∷ (Client 0 (MakeRoot 2), Refused RootTaken)
     ∷ (edit 0 1 (patch 0 (65 ∷ []) ((2, 2) ∷ []) [] None), Refused ClaimWrong)
     ∷ (edit 0 1 (patch 0 (65 ∷ []) [] (2 ∷ []) None), Refused NotOwned)
@@ -182,8 +182,8 @@ refused_row = first_row ++ (
 
 abbrev pub after_row : Row
 after_row =
-    (start 0 2 [], Started 1 1)
-    ∷ (start 0 2 [], Started 2 2)
+    (init_event 0 2 [], Started 1 1)
+    ∷ (init_event 0 2 [], Started 2 2)
     ∷ (edit 0 1 (patch 0 (65 ∷ []) [] [] (Some 9)), Refused BadAfter)
     ∷ (edit 0 1 (patch 0 (65 ∷ []) [] [] (Some 2)), Edited 3)
     ∷ (Begin 1, Begun 1)
@@ -201,7 +201,7 @@ after_row =
 
 abbrev pub drained_row : Row
 drained_row =
-    (start 0 2 [], Started 1 1)
+    (init_event 0 2 [], Started 1 1)
     ∷ (Client 0 (MakeRoot 1), Edited 2)
     ∷ (Client 0 Pending, PendingIs 2)
     ∷ (Client 0 Drain, Drained 2)
@@ -219,15 +219,15 @@ first_byte [] = 0
 first_byte (x ∷ xs) = x
 
 -- the pairs of the inode at a place of its block
-abbrev pub inode_pairs : List ℕ → ℕ → List (ℕ × ℕ)
-inode_pairs m i = words_from (64 * i + 8) 12 m 2 ++ words_from (64 * i + 56) 1 m 5
+abbrev pub row_inode_pairs : List ℕ → ℕ → List (ℕ × ℕ)
+row_inode_pairs m i = words_from (64 * i + 8) 12 m 2 ++ words_from (64 * i + 56) 1 m 5
 
 -- blocks whose first byte is 3, 4 or 5 stand for the three templates
 abbrev pub library : Language
 library m =
     let n = first_byte m in
     cond (n == 3) (Some (record { owned = λ x. words_from 0 16 x 4; size = λ x. 64 }))
-    (cond (n == 4) (Some (record { owned = λ x. flat_map (inode_pairs x) (range_with_len 0 8); size = λ x. 512 }))
+    (cond (n == 4) (Some (record { owned = λ x. flat_map (row_inode_pairs x) (range_with_len 0 8); size = λ x. 512 }))
     (cond (n == 5) (Some (record { owned = λ x. words_from 0 128 x 2; size = λ x. 512 })) None))
 
 -- block 0 that names templates in the first blocks, with these; all else is 0
@@ -241,11 +241,11 @@ library_disk count = disk_with count (block (3 ∷ []) ∷ block (4 ∷ []) ∷ 
 
 abbrev pub rolled_back_row : Row
 rolled_back_row =
-    (start 0 3 [], Started 4 1)
+    (init_event 0 3 [], Started 4 1)
     ∷ (Client 0 (MakeRoot 4), Edited 2)
     ∷ (Client 0 Drain, Drained 2)
-    ∷ (start 0 4 [], Started 5 3)
-    ∷ (start 0 4 [], Started 6 4)
+    ∷ (init_event 0 4 [], Started 5 3)
+    ∷ (init_event 0 4 [], Started 6 4)
     ∷ (Begin 5, Begun 1)
     ∷ (Land 5, Landed)
     ∷ (Sync 5, Synced)
@@ -263,10 +263,10 @@ rolled_back_row =
 
 abbrev pub claimed_row : Row
 claimed_row =
-    (start 0 3 [], Started 4 1)
+    (init_event 0 3 [], Started 4 1)
     ∷ (Client 0 (MakeRoot 4), Edited 2)
-    ∷ (start 0 4 [], Started 5 3)
-    ∷ (start 0 4 [], Started 6 4)
+    ∷ (init_event 0 4 [], Started 5 3)
+    ∷ (init_event 0 4 [], Started 6 4)
     ∷ (edit 0 4 (patch 0 (5 ∷ 0 ∷ 0 ∷ 0 ∷ 6 ∷ 0 ∷ 0 ∷ 0 ∷ []) ((5, 4) ∷ []) [] None), Refused ClaimWrong)
     ∷ (Client 0 (Read 4), Bytes (block []))
     ∷ (edit 0 4 (patch 0 (5 ∷ 0 ∷ 0 ∷ 0 ∷ []) ((5, 4) ∷ []) [] None), Edited 5)
@@ -278,8 +278,8 @@ claimed_row =
 
 abbrev pub attached_row : Row
 attached_row =
-    (start 0 3 [], Started 4 1)
-    ∷ (start 0 4 [], Started 5 2)
+    (init_event 0 3 [], Started 4 1)
+    ∷ (init_event 0 4 [], Started 5 2)
     ∷ (edit 0 4 (patch 0 (5 ∷ 0 ∷ 0 ∷ 0 ∷ []) ((5, 4) ∷ []) [] None), Edited 3)
     ∷ (Client 0 (Forget 4), Refused NotEmpty)
     ∷ (Client 0 (MakeRoot 4), Edited 4)
@@ -317,8 +317,8 @@ chain_disk t count = disk_with count (chain_bytes t ∷ [])
 -- no chain of owners comes back to where it was
 abbrev pub cycle_row : Row
 cycle_row =
-    (start 0 3 [], Started 2 1)
-    ∷ (start 0 3 [], Started 3 2)
+    (init_event 0 3 [], Started 2 1)
+    ∷ (init_event 0 3 [], Started 3 2)
     ∷ (edit 0 2 (patch 0 (2 ∷ 0 ∷ 0 ∷ 0 ∷ []) ((2, 3) ∷ []) [] None), Refused Cycle)
     ∷ (edit 0 2 (patch 0 (3 ∷ 0 ∷ 0 ∷ 0 ∷ []) ((3, 3) ∷ []) [] None), Edited 3)
     ∷ (edit 0 3 (patch 0 (2 ∷ 0 ∷ 0 ∷ 0 ∷ []) ((2, 3) ∷ []) [] None), Refused Cycle)
@@ -327,47 +327,47 @@ cycle_row =
 
 -- Templates that are installed
 
--- block 0 may be written once the template's block is on the disk
+-- block 0 may be write_row once the template's block is on the disk
 abbrev pub installed_row : Row
 installed_row =
-    ((Install (chain_bytes 3), Installed 3 1 1 2) ∷ (start 0 3 [], Started 2 3) ∷ (Client 0 (MakeRoot 2), Edited 4) ∷ [])
-    ++ (written 2 1 0
+    ((Install (chain_bytes 3), Installed 3 1 1 2) ∷ (init_event 0 3 [], Started 2 3) ∷ (Client 0 (MakeRoot 2), Edited 4) ∷ [])
+    ++ (write_row 2 1 0
     ++ ((Begin 0, Refused NothingSafe) ∷ []
-    ++ (written 1 1 0
-    ++ (written 0 2 0
+    ++ (write_row 1 1 0
+    ++ (write_row 0 2 0
     ++ ((Crash [], Mounted 3 29) ∷ [])))))
 
 -- a block that names one of a new type waits for block 0
 abbrev pub used_row : Row
 used_row =
-    ((start 0 3 [], Started 2 1)
+    ((init_event 0 3 [], Started 2 1)
     ∷ (Client 0 (MakeRoot 2), Edited 2)
     ∷ (Client 0 Drain, Drained 2)
     ∷ (Install (chain_bytes 3), Installed 4 3 3 4)
-    ∷ (start 0 4 [], Started 4 5)
+    ∷ (init_event 0 4 [], Started 4 5)
     ∷ (edit 0 2 (patch 0 (4 ∷ 0 ∷ 0 ∷ 0 ∷ []) ((4, 4) ∷ []) [] None), Edited 6)
     ∷ [])
-    ++ (written 4 1 0
+    ++ (write_row 4 1 0
     ++ ((Begin 2, Refused NothingSafe)
     ∷ (Client 0 Drain, Drained 3)
     ∷ (Crash [], Mounted 5 27)
     ∷ (Install (zeros 512), Refused BadTemplate)
     ∷ []))
 
--- a type is gone after a crash where block 0 is not written, and stays where it is
+-- a type is gone after a crash where block 0 is not write_row, and stays where it is
 abbrev pub gone_row : Row
 gone_row =
     ((Install (chain_bytes 3), Installed 3 1 1 2) ∷ [])
-    ++ (written 1 1 0
+    ++ (write_row 1 1 0
     ++ (((Crash [], Mounted 1 31)
-    ∷ (start 0 3 [], Refused BadType)
+    ∷ (init_event 0 3 [], Refused BadType)
     ∷ (Install (chain_bytes 4), Installed 3 1 1 2)
-    ∷ (start 0 3 [], Started 2 3)
+    ∷ (init_event 0 3 [], Started 2 3)
     ∷ (Client 0 (MakeRoot 2), Edited 4)
     ∷ [])
-    ++ (written 1 1 0
-    ++ (written 0 1 0
-    ++ ((Crash [], Mounted 2 30) ∷ (start 0 3 [], Started 2 1) ∷ [])))))
+    ++ (write_row 1 1 0
+    ++ (write_row 0 1 0
+    ++ ((Crash [], Mounted 2 30) ∷ (init_event 0 3 [], Started 2 1) ∷ [])))))
 
 -- 16 templates and no more
 abbrev pub numbered_templates : ℕ → ℕ → Row
@@ -375,22 +375,22 @@ numbered_templates zero n = []
 numbered_templates (suc k) n = (Install (chain_bytes 3), Installed (n + 3) (n + 1) (2 * n + 1) (2 * n + 2)) ∷ numbered_templates k (n + 1)
 
 abbrev pub full_row : Row
-full_row = numbered_templates 16 0 ++ ((Install (chain_bytes 3), Refused NoSlot) ∷ (start 0 19 [], Refused BadType) ∷ (start 0 18 [], Started 17 33) ∷ [])
+full_row = numbered_templates 16 0 ++ ((Install (chain_bytes 3), Refused NoSlot) ∷ (init_event 0 19 [], Refused BadType) ∷ (init_event 0 18 [], Started 17 33) ∷ [])
 
 -- A subtree of an installed type is attached whole, and block 0 names the type and it in one write. That write is open, and a
 -- crash may keep it.
 abbrev pub subtree_row : Row
 subtree_row =
     ((Install (chain_bytes 3), Installed 3 1 1 2)
-    ∷ (start 0 3 [], Started 2 3)
-    ∷ (start 0 3 [], Started 3 4)
+    ∷ (init_event 0 3 [], Started 2 3)
+    ∷ (init_event 0 3 [], Started 3 4)
     ∷ (edit 0 2 (patch 0 (3 ∷ 0 ∷ 0 ∷ 0 ∷ []) ((3, 3) ∷ []) [] None), Edited 5)
     ∷ (Client 0 (MakeRoot 2), Edited 6)
     ∷ (Begin 0, Refused NothingSafe)
     ∷ [])
-    ++ (written 1 1 0
-    ++ (written 3 1 0
-    ++ (written 2 1 0
+    ++ (write_row 1 1 0
+    ++ (write_row 3 1 0
+    ++ (write_row 2 1 0
     ++ ((Begin 2, Refused NothingSafe)
     ∷ (Begin 0, Begun 2)
     ∷ (Land 0, Landed)
@@ -398,7 +398,7 @@ subtree_row =
     ∷ []))))
 
 abbrev pub subtree_kept_row : Row
-subtree_kept_row = subtree_row ++ ((Crash (0 ∷ []), Mounted 3 29) ∷ (Client 0 (Read 2), Bytes (block [])) ∷ (start 0 3 [], Started 3 1) ∷ [])
+subtree_kept_row = subtree_row ++ ((Crash (0 ∷ []), Mounted 3 29) ∷ (Client 0 (Read 2), Bytes (block [])) ∷ (init_event 0 3 [], Started 3 1) ∷ [])
 
 abbrev pub subtree_lost_row : Row
-subtree_lost_row = subtree_row ++ ((Crash [], Mounted 1 31) ∷ (Client 0 (Read 2), Refused NotInUse) ∷ (start 0 3 [], Refused BadType) ∷ [])
+subtree_lost_row = subtree_row ++ ((Crash [], Mounted 1 31) ∷ (Client 0 (Read 2), Refused NotInUse) ∷ (init_event 0 3 [], Refused BadType) ∷ [])

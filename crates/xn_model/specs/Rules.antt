@@ -317,12 +317,12 @@ IsIdle lives = (b : ℕ) (l : Life) → life_at lives b ≡ Some l → l.begun �
 -- What a disk holds
 
 -- The block holds its durable state s, or the last one that the begun write carries.
-abbrev pub IsPlaced : (ℕ → List ℕ) → ℕ → Life → BlockState → Type 0
-IsPlaced content b l s = (content b ≡ s.bytes) ⊎ ((t : BlockState) × (last_or None (carried l) ≡ Some t) × (content b ≡ t.bytes))
+abbrev pub IsHeldOnDisk : (ℕ → List ℕ) → ℕ → Life → BlockState → Type 0
+IsHeldOnDisk content b l s = (content b ≡ s.bytes) ⊎ ((t : BlockState) × (last_or None (carried l) ≡ Some t) × (content b ≡ t.bytes))
 
 -- So it is with each block that has a durable state.
 abbrev pub ArePlaced : (ℕ → List ℕ) → Lives → Type 0
-ArePlaced content lives = (b : ℕ) (l : Life) (s : BlockState) → life_at lives b ≡ Some l → l.durable ≡ Some s → IsPlaced content b l s
+ArePlaced content lives = (b : ℕ) (l : Life) (s : BlockState) → life_at lives b ≡ Some l → l.durable ≡ Some s → IsHeldOnDisk content b l s
 
 -- The rules of a world.
 pub record Holds (w : World) : Type 0 where

@@ -1,32 +1,32 @@
 -- A disk with several blocks pending, and the waves that write them.
 use Rattle.std.specs.Prelude.{false, ℕ, ◌==◌, cond, List, [], ◌∷◌, ◌++◌, None}
-use Rattle.xn_model.specs.BareDisks.{no_templates, bare_disk, mounted_disk}
+use Rattle.xn_model.specs.BareDisks.{empty_language, bare_disk, mounted_disk}
 use Rattle.xn_model.specs.Worlds.{World, Event, Reply, Client, Install, MakeRoot, Drain, Begin, Sync, Finish, Started, Edited, Installed, Drained, Begun}
 use Rattle.xn_model.specs.Worlds.{Landed, Synced, Fault, Finished, world_after}
 use Rattle.xn_model.specs.Waves.{Outcome, Done, EndsAnyway, SyncFails, wave_with}
-use Rattle.xn_model.specs.Rows.{Row, sent, start, edit, patch, chains, chain_disk, chain_bytes}
+use Rattle.xn_model.specs.Rows.{Row, sent, init_event, edit, patch, chains, chain_disk, chain_bytes}
 
 -- three new blocks, two of which are put into root slots
 abbrev pub pending_row : Row
 pending_row =
-    (start 0 2 [], Started 1 1)
-    ∷ (start 1 2 (65 ∷ []), Started 2 2)
-    ∷ (start 2 2 [], Started 3 3)
+    (init_event 0 2 [], Started 1 1)
+    ∷ (init_event 1 2 (65 ∷ []), Started 2 2)
+    ∷ (init_event 2 2 [], Started 3 3)
     ∷ (Client 0 (MakeRoot 1), Edited 4)
     ∷ (Client 1 (MakeRoot 2), Edited 5)
     ∷ []
 
 abbrev pub pending_world : World
-pending_world = world_after (mounted_disk no_templates (bare_disk 32)) (sent pending_row)
+pending_world = world_after (mounted_disk empty_language (bare_disk 32)) (sent pending_row)
 
 -- a type is installed, and a block that is on the disk already is to name a new one of that type
 abbrev pub typed_row : Row
 typed_row =
-    (start 0 3 [], Started 2 1)
+    (init_event 0 3 [], Started 2 1)
     ∷ (Client 0 (MakeRoot 2), Edited 2)
     ∷ (Client 0 Drain, Drained 2)
     ∷ (Install (chain_bytes 3), Installed 4 3 3 4)
-    ∷ (start 0 4 [], Started 4 5)
+    ∷ (init_event 0 4 [], Started 4 5)
     ∷ (edit 0 2 (patch 0 (4 ∷ 0 ∷ 0 ∷ 0 ∷ []) ((4, 4) ∷ []) [] None), Edited 6)
     ∷ []
 

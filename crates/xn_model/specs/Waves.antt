@@ -1,5 +1,5 @@
--- Writes in waves, for a device where one sync settles all that was written before it: several blocks are begun, each is
--- written, each is synced, and each is read back.
+-- Writes in waves, for a device where one sync settles all that was written_blocks before it: several blocks are begun, each is
+-- written_blocks, each is synced, and each is read back.
 --     ready_blocks lives     the blocks that can be begun, rising
 --     IsWave lives blocks    a wave may take these blocks, in this order
 --     wave blocks            its events
@@ -82,13 +82,13 @@ nth_step (suc zero) b = Land b
 nth_step (suc (suc zero)) b = Sync b
 nth_step (suc (suc (suc n))) b = Finish b
 
-abbrev pub one_more : (ℕ → ℕ) → ℕ → ℕ → ℕ
-one_more steps b c = cond (b == c) (suc (steps c)) (steps c)
+abbrev pub one_step_more : (ℕ → ℕ) → ℕ → ℕ → ℕ
+one_step_more steps b c = cond (b == c) (suc (steps c)) (steps c)
 
 -- blocks take turns: each turn of a block is its next step, where so many were done of each
 abbrev pub turns_from : (ℕ → ℕ) → List ℕ → List Event
 turns_from steps [] = []
-turns_from steps (b ∷ turns) = nth_step (steps b) b ∷ turns_from (one_more steps b) turns
+turns_from steps (b ∷ turns) = nth_step (steps b) b ∷ turns_from (one_step_more steps b) turns
 
 abbrev pub in_turns : List ℕ → List Event
 in_turns turns = turns_from (λ b. 0) turns
@@ -96,12 +96,12 @@ in_turns turns = turns_from (λ b. 0) turns
 -- no block has more turns than it has steps
 abbrev pub HaveTurns : (ℕ → ℕ) → List ℕ → Type 0
 HaveTurns steps [] = ⊤
-HaveTurns steps (b ∷ turns) = (steps b < 4) × HaveTurns (one_more steps b) turns
+HaveTurns steps (b ∷ turns) = (steps b < 4) × HaveTurns (one_step_more steps b) turns
 
 -- the steps that were done of each block after these turns
-abbrev pub steps_after : (ℕ → ℕ) → List ℕ → ℕ → ℕ
-steps_after steps [] = steps
-steps_after steps (b ∷ turns) = steps_after (one_more steps b) turns
+abbrev pub steps_done : (ℕ → ℕ) → List ℕ → ℕ → ℕ
+steps_done steps [] = steps
+steps_done steps (b ∷ turns) = steps_done (one_step_more steps b) turns
 
 abbrev pub IsBegunOf : ℕ → Reply → Type 0
 IsBegunOf k (Begun entries) = k ≤ entries
@@ -217,8 +217,8 @@ is_done (EndsAnyway stays) = true
 is_done (WriteFails stays) = false
 is_done SyncFails = false
 
-abbrev pub written : (ℕ → Outcome) → List ℕ → List ℕ
-written outcome blocks = filter (λ b. is_written (outcome b)) blocks
+abbrev pub written_blocks : (ℕ → Outcome) → List ℕ → List ℕ
+written_blocks outcome blocks = filter (λ b. is_written (outcome b)) blocks
 
 abbrev pub done : (ℕ → Outcome) → List ℕ → List ℕ
 done outcome blocks = filter (λ b. is_done (outcome b)) blocks
@@ -227,7 +227,7 @@ abbrev pub wave_with : (ℕ → Outcome) → List ℕ → List Event
 wave_with outcome blocks =
     map Begin blocks
     ++ (map (λ b. write_event (outcome b) b) blocks
-    ++ (map (λ b. sync_event (outcome b) b) (written outcome blocks)
+    ++ (map (λ b. sync_event (outcome b) b) (written_blocks outcome blocks)
     ++ map Finish (done outcome blocks)))
 
 abbrev pub write_reply : Outcome → Reply
@@ -270,7 +270,7 @@ abbrev pub replies_with : World → (ℕ → Outcome) → List ℕ → List Repl
 replies_with w outcome blocks =
     map (begun_reply w.state.lives) blocks
     ++ (map (λ b. write_reply (outcome b)) blocks
-    ++ (map (λ b. sync_reply (outcome b)) (written outcome blocks)
+    ++ (map (λ b. sync_reply (outcome b)) (written_blocks outcome blocks)
     ++ map (finished_with w outcome) (done outcome blocks)))
 
 -- The world after it
@@ -306,7 +306,7 @@ pub record IsAfterWave (w : World) (outcome : ℕ → Outcome) (blocks : List �
   pub lives : (c : ℕ) → life_at after.state.lives c
       ≡ cond (has_number blocks c) (option_map (life_then (outcome c) (prefix w.state.lives c) (made_durable w outcome c)) (life_at w.state.lives c))
       (cond (has_number (all_drops w outcome blocks) c) None (life_at w.state.lives c))
-  -- only the blocks of the wave are written
+  -- only the blocks of the wave are written_blocks
   pub newest : (c : ℕ) → block_of after.image c
       ≡ cond (has_number blocks c) (newest_then (outcome c) (wave_bytes w.state.lives c) (block_of w.image c)) (block_of w.image c)
   pub settled : (c : ℕ) → block_of after.settled c

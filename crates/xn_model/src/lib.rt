@@ -6,7 +6,7 @@ ghost use Rattle.std.specs.Prelude.{Contains, IsSome, IsTrue, true, false};
 ghost use Rattle.std.specs.List.{AllByRecursion};
 ghost use Rattle.xn_model.specs.Lists.{has_number};
 ghost use Rattle.xn_model.specs.Types.{Types};
-ghost use Rattle.xn_model.specs.Languages.{Language, Extends, types_in, template_of};
+ghost use Rattle.xn_model.specs.Languages.{Language, Extends, types_in, language_template};
 ghost use Rattle.xn_model.specs.Root.{HasBuiltIns, has_type};
 ghost use Rattle.xn_model.specs.Images.{IsSound, IsDiskSize, Reach, block_of, blocks_in, joined};
 ghost use Rattle.xn_model.specs.Lives.{Lives, Life, StoreState, BlockState, life_at, prefix, begun_at, settled_at, freed, drops_of, floor, entries_of};
@@ -18,11 +18,11 @@ ghost use Rattle.xn_model.specs.Worlds.{World, types_now, types_on, types_there,
 ghost use Rattle.xn_model.specs.Worlds.{drain, all_pending, is_crash, IsEvent, Step, Run, MayLeave, given_at, left};
 ghost use Rattle.xn_model.specs.Lanes.{FitLives, HoldImage};
 ghost use Rattle.xn_model.specs.Flights.{flight_of, HaveSameFlights, HaveSameFlightsBut};
-ghost use Rattle.xn_model.specs.Waves.{can_begin, ready_blocks, IsWave, wave, wave_bytes, wave_replies, is_success, IsStepOf, in_turns, steps_after, HaveTurns};
+ghost use Rattle.xn_model.specs.Waves.{can_begin, ready_blocks, IsWave, wave, wave_bytes, wave_replies, is_success, IsStepOf, in_turns, steps_done, HaveTurns};
 ghost use Rattle.xn_model.specs.Waves.{AreStepsDone, IsChain, IsRanking, waves, flush, Outcome, all_done, is_done, wave_with, replies_with, IsAfterWave};
 ghost use Rattle.xn_model.specs.WaveRows.{pending_world, typed_world, flush_replies, failed_events, failed_replies, old_events, old_replies};
-ghost use Rattle.xn_model.specs.BareDisks.{no_templates, bare_disk, mounted_disk};
-ghost use Rattle.xn_model.specs.Rules.{IsConsistent, IsKeptType, KeepsType, Keeps, Installs, Holds, IsIdle, IsPlaced, ArePlaced, Agrees};
+ghost use Rattle.xn_model.specs.BareDisks.{empty_language, bare_disk, mounted_disk};
+ghost use Rattle.xn_model.specs.Rules.{IsConsistent, IsKeptType, KeepsType, Keeps, Installs, Holds, IsIdle, IsHeldOnDisk, ArePlaced, Agrees};
 ghost use Rattle.xn_model.specs.Rows.{sent, answered, library, library_disk, first_row, dropped_row, landed_row, lost_row, open_lost_row, open_kept_row};
 ghost use Rattle.xn_model.specs.Rows.{synced_row, failed_sync_row, failed_kept_row, failed_new_row, failed_old_row, many_row, refused_row, after_row};
 ghost use Rattle.xn_model.specs.Rows.{drained_row, rolled_back_row, claimed_row, attached_row, chains, chain_disk, cycle_row, installed_row, used_row};
@@ -96,10 +96,10 @@ pub fn install_keeps()
 pub fn installed_types()
     ensures own { (L : Language) (state new : StoreState) (bytes : List ℕ) (made : ℕ × ℕ × ℕ) → IsConsistent (types_of L state.lives) state →
         length bytes ≡ 512 →
-        install_of L state bytes ≡ Ok (made, new) → template_of L (latest new.lives) made.0 ≡ L bytes }
+        install_of L state bytes ≡ Ok (made, new) → language_template L (latest new.lives) made.0 ≡ L bytes }
     ensures others { (L : Language) (state new : StoreState) (bytes : List ℕ) (made : ℕ × ℕ × ℕ) (t : ℕ) → IsConsistent (types_of L state.lives) state →
         length bytes ≡ 512 →
-        install_of L state bytes ≡ Ok (made, new) → t ≢ made.0 → template_of L (latest new.lives) t ≡ template_of L (latest state.lives) t }
+        install_of L state bytes ≡ Ok (made, new) → t ≢ made.0 → language_template L (latest new.lives) t ≡ language_template L (latest state.lives) t }
 {}
 
 pub fn begun_keeps()
@@ -152,7 +152,7 @@ pub fn lanes_settled<L>()
 pub fn lanes_placed<L>()
     ensures { (read : L → List ℕ) (lanes : List (Option L)) (lives : Lives) (content : ℕ → List ℕ) → FitLives read lanes lives →
         ((c : ℕ) (lane : L) → slice_get lanes c ≡ Some (Some lane) → content c ≡ read lane) →
-        ((c : ℕ) (l : Life) (s : BlockState) → slice_get lanes c ≡ Some None → life_at lives c ≡ Some l → l.durable ≡ Some s → IsPlaced content c l s) →
+        ((c : ℕ) (l : Life) (s : BlockState) → slice_get lanes c ≡ Some None → life_at lives c ≡ Some l → l.durable ≡ Some s → IsHeldOnDisk content c l s) →
         ArePlaced content lives }
 {}
 
@@ -297,7 +297,7 @@ pub fn writes_mix()
         HaveTurns (λ b. 0) turns → AreStepsDone w.state.lives (in_turns turns) (replies w (in_turns turns)) }
     ensures rest { (w : World) (turns : List ℕ) (b : ℕ) (l : Life) → Holds w → w.down ≡ false →
         ((b : ℕ) → Contains turns b → can_begin w.state.lives b ≡ true) → HaveTurns (λ b. 0) turns → Contains turns b →
-        steps_after (λ b. 0) turns b ≡ 4 → life_at (world_after w (in_turns turns)).state.lives b ≡ Some l → l.begun ≡ None }
+        steps_done (λ b. 0) turns b ≡ 4 → life_at (world_after w (in_turns turns)).state.lives b ≡ Some l → l.begun ≡ None }
 {}
 
 /// On a calm device each event of a wave is answered well, in whatever order its blocks stand: as many
@@ -420,21 +420,21 @@ pub fn acts_run()
 
 /// Rows of commands on small disks, with their replies.
 pub fn rows()
-    ensures first { replies (mounted_disk no_templates (bare_disk 32)) (sent first_row) ≡ answered first_row }
-    ensures dropped { replies (mounted_disk no_templates (bare_disk 32)) (sent dropped_row) ≡ answered dropped_row }
-    ensures landed { replies (mounted_disk no_templates (bare_disk 32)) (sent landed_row) ≡ answered landed_row }
-    ensures lost { replies (mounted_disk no_templates (bare_disk 32)) (sent lost_row) ≡ answered lost_row }
-    ensures open_lost { replies (mounted_disk no_templates (bare_disk 32)) (sent open_lost_row) ≡ answered open_lost_row }
-    ensures open_kept { replies (mounted_disk no_templates (bare_disk 32)) (sent open_kept_row) ≡ answered open_kept_row }
-    ensures synced { replies (mounted_disk no_templates (bare_disk 32)) (sent synced_row) ≡ answered synced_row }
-    ensures failed_sync { replies (mounted_disk no_templates (bare_disk 32)) (sent failed_sync_row) ≡ answered failed_sync_row }
-    ensures failed_kept { replies (mounted_disk no_templates (bare_disk 32)) (sent failed_kept_row) ≡ answered failed_kept_row }
-    ensures failed_new { replies (mounted_disk no_templates (bare_disk 32)) (sent failed_new_row) ≡ answered failed_new_row }
-    ensures failed_old { replies (mounted_disk no_templates (bare_disk 32)) (sent failed_old_row) ≡ answered failed_old_row }
-    ensures many { replies (mounted_disk no_templates (bare_disk 32)) (sent many_row) ≡ answered many_row }
-    ensures refused { replies (mounted_disk no_templates (bare_disk 32)) (sent refused_row) ≡ answered refused_row }
-    ensures after { replies (mounted_disk no_templates (bare_disk 32)) (sent after_row) ≡ answered after_row }
-    ensures drained { replies (mounted_disk no_templates (bare_disk 32)) (sent drained_row) ≡ answered drained_row }
+    ensures first { replies (mounted_disk empty_language (bare_disk 32)) (sent first_row) ≡ answered first_row }
+    ensures dropped { replies (mounted_disk empty_language (bare_disk 32)) (sent dropped_row) ≡ answered dropped_row }
+    ensures landed { replies (mounted_disk empty_language (bare_disk 32)) (sent landed_row) ≡ answered landed_row }
+    ensures lost { replies (mounted_disk empty_language (bare_disk 32)) (sent lost_row) ≡ answered lost_row }
+    ensures open_lost { replies (mounted_disk empty_language (bare_disk 32)) (sent open_lost_row) ≡ answered open_lost_row }
+    ensures open_kept { replies (mounted_disk empty_language (bare_disk 32)) (sent open_kept_row) ≡ answered open_kept_row }
+    ensures synced { replies (mounted_disk empty_language (bare_disk 32)) (sent synced_row) ≡ answered synced_row }
+    ensures failed_sync { replies (mounted_disk empty_language (bare_disk 32)) (sent failed_sync_row) ≡ answered failed_sync_row }
+    ensures failed_kept { replies (mounted_disk empty_language (bare_disk 32)) (sent failed_kept_row) ≡ answered failed_kept_row }
+    ensures failed_new { replies (mounted_disk empty_language (bare_disk 32)) (sent failed_new_row) ≡ answered failed_new_row }
+    ensures failed_old { replies (mounted_disk empty_language (bare_disk 32)) (sent failed_old_row) ≡ answered failed_old_row }
+    ensures many { replies (mounted_disk empty_language (bare_disk 32)) (sent many_row) ≡ answered many_row }
+    ensures refused { replies (mounted_disk empty_language (bare_disk 32)) (sent refused_row) ≡ answered refused_row }
+    ensures after { replies (mounted_disk empty_language (bare_disk 32)) (sent after_row) ≡ answered after_row }
+    ensures drained { replies (mounted_disk empty_language (bare_disk 32)) (sent drained_row) ≡ answered drained_row }
     ensures rolled_back { replies (mounted_disk library (library_disk 32)) (sent rolled_back_row) ≡ answered rolled_back_row }
     ensures claimed { replies (mounted_disk library (library_disk 32)) (sent claimed_row) ≡ answered claimed_row }
     ensures attached { replies (mounted_disk library (library_disk 32)) (sent attached_row) ≡ answered attached_row }

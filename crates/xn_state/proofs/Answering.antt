@@ -11,7 +11,7 @@ use Rattle.xn_model.specs.Worlds as model
 use Rattle.xn_state.specs.declared.call.Call.{Call}
 use Rattle.xn_state.specs.declared.call.Call.TheVariants.{Init, Propose, MakeRoot, DropRoot, Forget, Read, Root, Kind, Tainted, Pending, Floor, Free, Pick, Drain}
 use Rattle.xn_state.specs.declared.answer.Answer.{Answer}
-use Rattle.xn_state.specs.Answers.{call_of, Answers, told, reply_of_answer}
+use Rattle.xn_state.specs.Answers.{call_of, StateAnswers, told, reply_of_answer}
 
 -- A call that may want memory
 gives_step : {A : Type 0} (w : World) (e : Event) (reply : A → Reply) (r : Result (A × StoreState) Refusal) (new : StoreState) (result : Result A Refusal) →
@@ -49,7 +49,7 @@ module _ (w : World) (new : StoreState) (fs : ℕ) (answer : Answer) where
   abbrev T : Types
   T = types_now w
 
-  answers_up : (call : Call) → Answers T w.state fs call new answer → AfterCall v (Client fs (call_of call)) (reply_of_answer answer) (record v { state = new })
+  answers_up : (call : Call) → StateAnswers T w.state fs call new answer → AfterCall v (Client fs (call_of call)) (reply_of_answer answer) (record v { state = new })
   answers_up (Init ty bytes) h = rw h.1 (gives_step v (Client fs (model.Init ty bytes)) (λ made. Started made.0 made.1) (init_of T w.state fs ty bytes) new h.0 refl refl refl (λ a. refl) h.2)
   answers_up (Propose b edit) h = rw h.1 (gives_step v (Client fs (model.Propose b edit)) Edited (propose_of T w.state fs b edit) new h.0 refl refl refl (λ a. refl) h.2)
   answers_up (MakeRoot b) h = rw h.1 (gives_step v (Client fs (model.MakeRoot b)) Edited (make_root_of w.state fs b) new h.0 refl refl refl (λ a. refl) h.2)
@@ -65,7 +65,7 @@ module _ (w : World) (new : StoreState) (fs : ℕ) (answer : Answer) where
   answers_up Pick h = alone_step v (Client fs model.Pick) new (reply_of_answer answer) _ (ap reply_of_answer h.0) h.1 refl
   answers_up Drain h = absurd h
 
-pub answers_step : (w : World) (new : StoreState) (fs : ℕ) (call : Call) (answer : Answer) → w.down ≡ false → Answers (types_now w) w.state fs call new answer →
+pub answers_step : (w : World) (new : StoreState) (fs : ℕ) (call : Call) (answer : Answer) → w.down ≡ false → StateAnswers (types_now w) w.state fs call new answer →
     Step w (Client fs (call_of call)) (reply_of_answer answer) (record w { state = new })
 answers_step w new fs call answer up h =
     let same : record w { down = false } ≡ w = λ i. record w { down = sym up i } in

@@ -18,7 +18,7 @@ use Rattle.xn_state.specs.declared.found.Found.{Found}
 use Rattle.dependencies.specs.Pending.{is_dirty}
 use Rattle.block_cache.specs.declared.life.FoundLife.{FoundLife}
 use Rattle.block_cache.specs.Views.{rest_at, rest_in}
-use Rattle.xn_state.specs.Mounts.{found_of, life_of, lives_in}
+use Rattle.xn_state.specs.Mounts.{found_of, found_life_of, lives_in}
 use Rattle.dependencies.proofs.ForCallers.{counted, marks}
 
 pub length-blocks : (image : List ℕ) → length (blocks_in image) ≡ length image / 512
@@ -30,7 +30,7 @@ length-blocks image = go (length image / 512) image
 
 -- the place of a block that is found, and those of all
 abbrev pub put_found : List (Option FoundLife) → Found → List (Option FoundLife)
-put_found places f = slice_set places f.block (Some (life_of f))
+put_found places f = slice_set places f.block (Some (found_life_of f))
 
 abbrev pub all_put : List (Option FoundLife) → List Found → List (Option FoundLife)
 all_put places found = fold put_found places found
@@ -41,7 +41,7 @@ numbers found = map (λ f. f.block) found
 -- the one of a block, behind what was there
 abbrev or_else : Option Found → Option FoundLife → Option FoundLife
 or_else None old = old
-or_else (Some f) old = Some (life_of f)
+or_else (Some f) old = Some (found_life_of f)
 
 abbrev found_at : ℕ → List Found → Option Found
 found_at c found = find (λ f. f.block == c) found
@@ -67,25 +67,25 @@ place_of [] places c once within = refl
 place_of (f ∷ found) places c once within =
     let parts = and_parts (not (has_number (numbers found) f.block)) (distinct (numbers found)) once in
     let next = put_found places f in
-    let kept = length-set places f.block (Some (life_of f)) in
+    let kept = length-set places f.block (Some (found_life_of f)) in
     let rest = place_of found next c parts.1 (omega (arith, within, kept)) in
     elim (cases_eq f.block c) [
       | inl same ↦
           let none = none_of found c (subst (λ b. has_number (numbers found) b ≡ false) same (not_false (has_number (numbers found) f.block) parts.0)) in
           rest
           ∙ (ap (λ o. or_else o (get_or next c None)) none
-          ∙ ((λ i. get_or (slice_set places (same i) (Some (life_of f))) c None)
-          ∙ (get_or-set_same places c (Some (life_of f)) None within
+          ∙ ((λ i. get_or (slice_set places (same i) (Some (found_life_of f))) c None)
+          ∙ (get_or-set_same places c (Some (found_life_of f)) None within
           ∙ sym (ap (λ o. or_else o (get_or places c None)) (cond-true (f.block == c) (Some f) (found_at c found) (eq-eqb f.block c same))))))
       | inr ne ↦
           rest
-          ∙ (ap (or_else (found_at c found)) (get_or-set_other places f.block c (Some (life_of f)) None (λ e. ne (sym e)))
+          ∙ (ap (or_else (found_at c found)) (get_or-set_other places f.block c (Some (found_life_of f)) None (λ e. ne (sym e)))
           ∙ sym (ap (λ o. or_else o (get_or places c None)) (cond-false (f.block == c) (Some f) (found_at c found) (ne_eqb f.block c ne))))
     ]
 
 pub length-all_put : (found : List Found) (places : List (Option FoundLife)) → length (all_put places found) ≡ length places
 length-all_put [] places = refl
-length-all_put (f ∷ found) places = length-all_put found (put_found places f) ∙ length-set places f.block (Some (life_of f))
+length-all_put (f ∷ found) places = length-all_put found (put_found places f) ∙ length-set places f.block (Some (found_life_of f))
 
 -- the life of a block, first or among the others
 first_rest : (blocks : List (List ℕ)) (c : ℕ) (t : Bool) (f : Found) (o : Option Found) (p : Option model.Found) → rest_in blocks c (or_else o None) ≡ found_life blocks c p →

@@ -12,7 +12,7 @@ use Rattle.xn_model.specs.Mounts as model
 use Rattle.xn_model.specs.Mounts.{IsRecovered, lives_found}
 use Rattle.xn_model.proofs.ForCallers.{blocks_read}
 use Rattle.templates.specs.Templates.{TemplateValue, IsTemplate}
-use Rattle.templates.specs.Tables.{types_of}
+use Rattle.templates.specs.Tables.{table_types}
 use Rattle.templates.specs.Formats.{formatted, template_found, fresh_found, table_of}
 use Rattle.templates.proofs.ForCallers.{distinct_named, formatted_has_its_blocks, formatted_has_its_templates, formatted_is_found, formatted_is_sound, get_or-named, length-named, mount_recovers, named, tables_are_catalogues}
 use Rattle.xn_state.specs.declared.found.Found.{Found}
@@ -58,7 +58,7 @@ module _ (count : ℕ) (ts : List TemplateValue) (found' : List Found) (size : I
   n = length ts
 
   abbrev T : Types
-  T = types_of (table_of ts)
+  T = table_types (table_of ts)
 
   abbrev image : List (List ℕ)
   image = formatted count ts
@@ -83,7 +83,7 @@ module _ (count : ℕ) (ts : List TemplateValue) (found' : List Found) (size : I
 
   -- the types of its image
   types_are : image_types (joined image) ≡ T
-  types_are = ap types_of_image blocks ∙ (sym (tables_are_catalogues (block_of image)) ∙ ap types_of (formatted_has_its_templates count ts size few all))
+  types_are = ap types_of_image blocks ∙ (sym (tables_are_catalogues (block_of image)) ∙ ap table_types (formatted_has_its_templates count ts size few all))
 
   pub found_here : AreFound (joined image) found' × (image_types (joined image) ≡ T)
   found_here = (
@@ -103,5 +103,5 @@ module _ (count : ℕ) (ts : List TemplateValue) (found' : List Found) (size : I
 
 pub fresh_disks_are_found : (count : ℕ) (templates : List TemplateValue) (found : List Found) → IsDiskSize count → length templates ≤ 16 → All IsTemplate templates →
     map found_of found ≡ fresh_found (length templates) →
-    AreFound (joined (formatted count templates)) found × (image_types (joined (formatted count templates)) ≡ types_of (table_of templates))
+    AreFound (joined (formatted count templates)) found × (image_types (joined (formatted count templates)) ≡ table_types (table_of templates))
 fresh_disks_are_found = found_here

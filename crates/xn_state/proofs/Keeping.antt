@@ -17,7 +17,7 @@ use Rattle.templates.specs.Language.{language, types_of_image}
 use Rattle.claims.specs.Decided.{AreDecided}
 use Rattle.xn_state.specs.States.{Continues, IsStateOf, own_types}
 use Rattle.xn_state.specs.Plans.{make_root_plan, make_root_plan_at}
-use Rattle.xn_state.specs.Proposals.{drop_root_plan, entry_of}
+use Rattle.xn_state.specs.Proposals.{drop_root_plan, accepted_entry}
 
 -- a state with these lives and this next number
 abbrev pub state_of : Lives → ℕ → StoreState
@@ -74,13 +74,13 @@ settled_continues lives next b k bytes h e =
 
 unless_planned : (refusal : Option Refusal) (state : StoreState) (fs b : ℕ) (l : Life) (plan : List ℕ × ℕ) →
     unless refusal (Ok (with_slot (root_now state) fs (b, l.ty), l.ty)) ≡ Ok plan →
-    unless refusal (Ok (accepts state 0 (root_state state fs (b, l.ty) ((b, l.ty) ∷ []) []))) ≡ Ok (accepts state 0 (entry_of state fs plan.0 ((b, plan.1) ∷ []) [] None))
+    unless refusal (Ok (accepts state 0 (root_state state fs (b, l.ty) ((b, l.ty) ∷ []) []))) ≡ Ok (accepts state 0 (accepted_entry state fs plan.0 ((b, plan.1) ∷ []) [] None))
 unless_planned None state fs b l plan e = let same = same_ok (with_slot (root_now state) fs (b, l.ty), l.ty) plan e in
-    λ i. Ok (accepts state 0 (entry_of state fs (same i).0 ((b, (same i).1) ∷ []) [] None))
+    λ i. Ok (accepts state 0 (accepted_entry state fs (same i).0 ((b, (same i).1) ∷ []) [] None))
 unless_planned (Some refusal) state fs b l plan e = absurd (never_ok refusal plan e)
 
 planned : (r : Result Life Refusal) (state : StoreState) (fs b : ℕ) (plan : List ℕ × ℕ) → result_and_then (make_root_plan_at state fs b) r ≡ Ok plan →
-    result_and_then (make_root_at state fs b) r ≡ Ok (accepts state 0 (entry_of state fs plan.0 ((b, plan.1) ∷ []) [] None))
+    result_and_then (make_root_at state fs b) r ≡ Ok (accepts state 0 (accepted_entry state fs plan.0 ((b, plan.1) ∷ []) [] None))
 planned (Ok l) state fs b plan e = unless_planned (make_root_refusal state fs l) state fs b l plan e
 planned (Err refusal) state fs b plan e = absurd (never_ok refusal plan e)
 
@@ -100,25 +100,25 @@ pub root_refused : (state : StoreState) (fs b : ℕ) (e : Refusal) → make_root
 root_refused state fs b e h = refused (own_life state fs b) state fs b e h
 
 -- where it is made, this is done
-pub root_made : (state : StoreState) (fs b : ℕ) (plan : List ℕ × ℕ) → make_root_plan state fs b ≡ Ok plan → make_root_of state fs b ≡ Ok (accepts state 0 (entry_of state fs plan.0 ((b, plan.1) ∷ []) [] None))
+pub root_made : (state : StoreState) (fs b : ℕ) (plan : List ℕ × ℕ) → make_root_plan state fs b ≡ Ok plan → make_root_of state fs b ≡ Ok (accepts state 0 (accepted_entry state fs plan.0 ((b, plan.1) ∷ []) [] None))
 root_made state fs b plan e = planned (own_life state fs b) state fs b plan e
 
 pub rooted_continues : (state : StoreState) (fs b : ℕ) (plan : List ℕ × ℕ) → IsConsistent (own_types state) state → fs < 32 → make_root_plan state fs b ≡ Ok plan →
-    Continues state (accepts state 0 (entry_of state fs plan.0 ((b, plan.1) ∷ []) [] None)).1
+    Continues state (accepts state 0 (accepted_entry state fs plan.0 ((b, plan.1) ∷ []) [] None)).1
 rooted_continues state fs b plan h few e =
-    let new = (accepts state 0 (entry_of state fs plan.0 ((b, plan.1) ∷ []) [] None)).1 in
+    let new = (accepts state 0 (accepted_entry state fs plan.0 ((b, plan.1) ∷ []) [] None)).1 in
     continues state new (make_root_keeps (own_types state) state h fs few b state.next new (root_made state fs b plan e))
 
 -- drop_root, from its plan
 
 dropped_by : (refusal : Option Refusal) (state : StoreState) (fs : ℕ) (plan : List ℕ × ℕ) → unless refusal (Ok (with_slot (root_now state) fs (0, 0), (slot_now state fs).0)) ≡ Ok plan →
-    unless refusal (Ok (accepts state 0 (root_state state fs (0, 0) [] ((slot_now state fs).0 ∷ [])))) ≡ Ok (accepts state 0 (entry_of state fs plan.0 [] (plan.1 ∷ []) None))
+    unless refusal (Ok (accepts state 0 (root_state state fs (0, 0) [] ((slot_now state fs).0 ∷ [])))) ≡ Ok (accepts state 0 (accepted_entry state fs plan.0 [] (plan.1 ∷ []) None))
 dropped_by None state fs plan e = let same = same_ok (with_slot (root_now state) fs (0, 0), (slot_now state fs).0) plan e in
-    λ i. Ok (accepts state 0 (entry_of state fs (same i).0 [] ((same i).1 ∷ []) None))
+    λ i. Ok (accepts state 0 (accepted_entry state fs (same i).0 [] ((same i).1 ∷ []) None))
 dropped_by (Some refusal) state fs plan e = absurd (never_ok refusal plan e)
 
 pub root_dropped : (T : Types) (state : StoreState) (fs : ℕ) (plan : List ℕ × ℕ) → drop_root_plan T state fs ≡ Ok plan →
-    drop_root_of T state fs ≡ Ok (accepts state 0 (entry_of state fs plan.0 [] (plan.1 ∷ []) None))
+    drop_root_of T state fs ≡ Ok (accepts state 0 (accepted_entry state fs plan.0 [] (plan.1 ∷ []) None))
 root_dropped T state fs plan e = dropped_by (drop_root_refusal T state fs) state fs plan e
 
 drop_refused_by : (refusal : Option Refusal) (state : StoreState) (fs : ℕ) (r : Refusal) → unless {A = List ℕ × ℕ} refusal (Ok (with_slot (root_now state) fs (0, 0), (slot_now state fs).0)) ≡ Err r →
@@ -130,9 +130,9 @@ pub drop_refused : (T : Types) (state : StoreState) (fs : ℕ) (r : Refusal) →
 drop_refused T state fs r e = drop_refused_by (drop_root_refusal T state fs) state fs r e
 
 pub dropped_continues : (state : StoreState) (fs : ℕ) (plan : List ℕ × ℕ) → IsConsistent (own_types state) state → fs < 32 → drop_root_plan (own_types state) state fs ≡ Ok plan →
-    Continues state (accepts state 0 (entry_of state fs plan.0 [] (plan.1 ∷ []) None)).1
+    Continues state (accepts state 0 (accepted_entry state fs plan.0 [] (plan.1 ∷ []) None)).1
 dropped_continues state fs plan h few e =
-    let new = (accepts state 0 (entry_of state fs plan.0 [] (plan.1 ∷ []) None)).1 in
+    let new = (accepts state 0 (accepted_entry state fs plan.0 [] (plan.1 ∷ []) None)).1 in
     continues state new (drop_root_keeps (own_types state) state h fs few state.next new (root_dropped (own_types state) state fs plan e))
 
 -- the bytes of block 0 in the plans

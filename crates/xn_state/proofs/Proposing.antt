@@ -9,24 +9,24 @@ use Rattle.xn_model.specs.Results.{unless, result_and_then}
 use Rattle.xn_model.specs.Calls.{Edit, own_life, accepts, edited, life_bytes, patched, propose_refusal, propose_at, propose_of}
 use Rattle.xn_model.specs.Rules.{IsConsistent}
 use Rattle.xn_model.proofs.ForCallers.{given_ok, own_then, same_ok, never_ok, propose_keeps}
-use Rattle.xn_state.specs.Proposals.{proposed_at, proposed_of, entry_of}
+use Rattle.xn_state.specs.Proposals.{proposed_at, proposed_of, accepted_entry}
 use Rattle.xn_state.specs.States.{Continues, own_types}
 use Rattle.xn_state.proofs.Keeping.{continues}
 
 -- The entry of an edit
 
 unless_made : (refusal : Option Refusal) (state : StoreState) (fs b : ℕ) (e : Edit) (l : Life) (bytes : List ℕ) → unless refusal (Ok (patched (current l) e.patches)) ≡ Ok bytes →
-    unless refusal (Ok (accepts state b (edited state.next fs e l))) ≡ Ok (accepts state b (entry_of state fs bytes e.adds e.drops e.after))
-unless_made None state fs b e l bytes made = let same = same_ok (patched (current l) e.patches) bytes made in λ i. Ok (accepts state b (entry_of state fs (same i) e.adds e.drops e.after))
+    unless refusal (Ok (accepts state b (edited state.next fs e l))) ≡ Ok (accepts state b (accepted_entry state fs bytes e.adds e.drops e.after))
+unless_made None state fs b e l bytes made = let same = same_ok (patched (current l) e.patches) bytes made in λ i. Ok (accepts state b (accepted_entry state fs (same i) e.adds e.drops e.after))
 unless_made (Some refusal) state fs b e l bytes made = absurd (never_ok refusal bytes made)
 
 made_by : (T : Types) (r : Result Life Refusal) (state : StoreState) (fs b : ℕ) (e : Edit) (bytes : List ℕ) → result_and_then (proposed_at T state fs b e) r ≡ Ok bytes →
-    result_and_then (propose_at T state fs b e) r ≡ Ok (accepts state b (entry_of state fs bytes e.adds e.drops e.after))
+    result_and_then (propose_at T state fs b e) r ≡ Ok (accepts state b (accepted_entry state fs bytes e.adds e.drops e.after))
 made_by T (Ok l) state fs b e bytes made = unless_made (propose_refusal T state fs b e l) state fs b e l bytes made
 made_by T (Err refusal) state fs b e bytes made = absurd (never_ok refusal bytes made)
 
 pub edit_made : (T : Types) (state : StoreState) (fs b : ℕ) (e : Edit) (bytes : List ℕ) → proposed_of T state fs b e ≡ Ok bytes →
-    propose_of T state fs b e ≡ Ok (accepts state b (entry_of state fs bytes e.adds e.drops e.after))
+    propose_of T state fs b e ≡ Ok (accepts state b (accepted_entry state fs bytes e.adds e.drops e.after))
 edit_made T state fs b e bytes made = made_by T (own_life state fs b) state fs b e bytes made
 
 unless_refused : {A B : Type 0} (refusal : Option Refusal) (x : A) (y : B) (r : Refusal) → unless refusal (Ok x) ≡ Err r → unless refusal (Ok y) ≡ Err r
@@ -42,9 +42,9 @@ pub edit_refused : (T : Types) (state : StoreState) (fs b : ℕ) (e : Edit) (r :
 edit_refused T state fs b e r h = refused_by T (own_life state fs b) state fs b e r h
 
 pub edit_continues : (state : StoreState) (fs b : ℕ) (e : Edit) (bytes : List ℕ) → IsConsistent (own_types state) state → proposed_of (own_types state) state fs b e ≡ Ok bytes →
-    Continues state (accepts state b (entry_of state fs bytes e.adds e.drops e.after)).1
+    Continues state (accepts state b (accepted_entry state fs bytes e.adds e.drops e.after)).1
 edit_continues state fs b e bytes h made =
-    let new = (accepts state b (entry_of state fs bytes e.adds e.drops e.after)).1 in
+    let new = (accepts state b (accepted_entry state fs bytes e.adds e.drops e.after)).1 in
     continues state new (propose_keeps (own_types state) state h fs b e state.next new (edit_made (own_types state) state fs b e bytes made))
 
 -- the bytes that it leaves

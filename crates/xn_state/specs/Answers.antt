@@ -1,6 +1,6 @@
 -- What calls and their answers mean.
 --     call_of c                        the call, as the model has it
---     Answers T old fs c new answer    what the call may answer, and the state after it
+--     StateAnswers T old fs c new answer    what the call may answer, and the state after it
 --     reply_of_answer answer           the answer, as the model's reply
 use Rattle.std.specs.Prelude.{◌≡◌, ℕ, Result, Ok, Err}
 use Rattle.xn_model.specs.Types.{Types}
@@ -33,21 +33,21 @@ call_of Pick = model.Pick
 call_of Drain = model.Drain
 
 -- a drain needs the disk, so a state alone has no answer to it
-abbrev pub Answers : Types → StoreState → ℕ → Call → StoreState → Answer → Type 0
-Answers T old fs (Init ty bytes) new a = (r : Result (ℕ × ℕ) Refusal) × (a ≡ answer.Init r) × Gives (init_of T old fs ty bytes) old new r
-Answers T old fs (Propose block edit) new a = (r : Result ℕ Refusal) × (a ≡ answer.Propose r) × Gives (propose_of T old fs block edit) old new r
-Answers T old fs (MakeRoot block) new a = (r : Result ℕ Refusal) × (a ≡ answer.MakeRoot r) × Gives (make_root_of old fs block) old new r
-Answers T old fs DropRoot new a = (r : Result ℕ Refusal) × (a ≡ answer.DropRoot r) × Gives (drop_root_of T old fs) old new r
-Answers T old fs (Forget block) new a = (r : Result (Unit {0}) Refusal) × (a ≡ answer.Forget r) × GivesExactly (forget_of T old fs block) old new r
-Answers T old fs (Read block) new a = (a ≡ answer.Read (read_of old fs block)) × (new ≡ old)
-Answers T old fs Root new a = (a ≡ answer.Root (root_of old fs)) × (new ≡ old)
-Answers T old fs (Kind block) new a = (a ≡ answer.Kind (kind_of old fs block)) × (new ≡ old)
-Answers T old fs (Tainted block) new a = (a ≡ answer.Tainted (tainted_of old block)) × (new ≡ old)
-Answers T old fs Pending new a = (a ≡ answer.Pending (pending_of old fs)) × (new ≡ old)
-Answers T old fs Floor new a = (a ≡ answer.Floor (floor_of old fs)) × (new ≡ old)
-Answers T old fs Free new a = (a ≡ answer.Free (free_of old)) × (new ≡ old)
-Answers T old fs Pick new a = (a ≡ answer.Pick (pick_of old)) × (new ≡ old)
-Answers T old fs Drain new a = ⊥
+abbrev pub StateAnswers : Types → StoreState → ℕ → Call → StoreState → Answer → Type 0
+StateAnswers T old fs (Init ty bytes) new a = (r : Result (ℕ × ℕ) Refusal) × (a ≡ answer.Init r) × Gives (init_of T old fs ty bytes) old new r
+StateAnswers T old fs (Propose block edit) new a = (r : Result ℕ Refusal) × (a ≡ answer.Propose r) × Gives (propose_of T old fs block edit) old new r
+StateAnswers T old fs (MakeRoot block) new a = (r : Result ℕ Refusal) × (a ≡ answer.MakeRoot r) × Gives (make_root_of old fs block) old new r
+StateAnswers T old fs DropRoot new a = (r : Result ℕ Refusal) × (a ≡ answer.DropRoot r) × Gives (drop_root_of T old fs) old new r
+StateAnswers T old fs (Forget block) new a = (r : Result (Unit {0}) Refusal) × (a ≡ answer.Forget r) × GivesExactly (forget_of T old fs block) old new r
+StateAnswers T old fs (Read block) new a = (a ≡ answer.Read (read_of old fs block)) × (new ≡ old)
+StateAnswers T old fs Root new a = (a ≡ answer.Root (root_of old fs)) × (new ≡ old)
+StateAnswers T old fs (Kind block) new a = (a ≡ answer.Kind (kind_of old fs block)) × (new ≡ old)
+StateAnswers T old fs (Tainted block) new a = (a ≡ answer.Tainted (tainted_of old block)) × (new ≡ old)
+StateAnswers T old fs Pending new a = (a ≡ answer.Pending (pending_of old fs)) × (new ≡ old)
+StateAnswers T old fs Floor new a = (a ≡ answer.Floor (floor_of old fs)) × (new ≡ old)
+StateAnswers T old fs Free new a = (a ≡ answer.Free (free_of old)) × (new ≡ old)
+StateAnswers T old fs Pick new a = (a ≡ answer.Pick (pick_of old)) × (new ≡ old)
+StateAnswers T old fs Drain new a = ⊥
 
 -- a result that is told
 abbrev pub told : {A : Type 0} → (A → model.Reply) → Result A Refusal → model.Reply

@@ -15,5 +15,5 @@ abbrev pub forget_plan : Types → StoreState → ℕ → ℕ → Result (Unit {
 forget_plan T state fs b = result_and_then (forget_plan_at T) (own_life state fs b)
 
 -- nothing is pending but the entry that began the life
-abbrev pub is_untouched : Facts → Bool
-is_untouched facts = (facts.pending == 0) || (not facts.is_durable && (facts.pending == 1))
+abbrev pub are_untouched : Facts → Bool
+are_untouched facts = (facts.pending == 0) || (not facts.is_durable && (facts.pending == 1))

@@ -20,8 +20,8 @@ abbrev pub found_of : Found → model.Found
 found_of f = record { block = f.block; ty = f.ty; owner = f.owner; fs = option_map (λ s. s.number) f.fs }
 
 -- what is found of the block beside its bytes
-abbrev pub life_of : Found → FoundLife
-life_of f = record { fs = f.fs; ty = f.ty; status = found_status f.owner }
+abbrev pub found_life_of : Found → FoundLife
+found_life_of f = record { fs = f.fs; ty = f.ty; status = found_status f.owner }
 
 abbrev pub lives_in : List ℕ → List Found → Lives
 lives_in image found = lives_found (blocks_in image) (map found_of found)

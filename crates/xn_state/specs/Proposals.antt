@@ -49,5 +49,5 @@ abbrev pub drop_root_plan : Types → StoreState → ℕ → Result (List ℕ ×
 drop_root_plan T state fs = unless (drop_root_refusal T state fs) (Ok (with_slot (root_now state) fs (0, 0), (slot_now state fs).0))
 
 -- the entry that a block accepts
-abbrev pub entry_of : StoreState → ℕ → List ℕ → List (ℕ × ℕ) → List ℕ → Option ℕ → BlockState
-entry_of state fs bytes adds drops after = record { bytes = bytes; entry = state.next; adds = adds; drops = drops; after = after; fs = Some fs }
+abbrev pub accepted_entry : StoreState → ℕ → List ℕ → List (ℕ × ℕ) → List ℕ → Option ℕ → BlockState
+accepted_entry state fs bytes adds drops after = record { bytes = bytes; entry = state.next; adds = adds; drops = drops; after = after; fs = Some fs }

@@ -20,7 +20,7 @@ pub record IsStateOf (table : tables.TableValue) (sets : List (Option ReadSet)) 
   -- the chunks that are kept of a block decide what it owns
   pub decided : AreDecided (own_types state) sets state.lives
   -- the table is that of the catalogue
-  pub own : tables.types_of table ≡ own_types state
+  pub own : tables.table_types table ≡ own_types state
 
 pub record Continues (old new : StoreState) : Type 0 where
   pub rules : IsConsistent (own_types old) new

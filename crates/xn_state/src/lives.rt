@@ -10,7 +10,7 @@ ghost use Rattle.xn_model.specs.Results.{result_map};
 ghost use Rattle.xn_model.specs.Calls.{is_ready, is_tainted, life_bytes, life_pending, new_life, own_place, patched, pending_in};
 ghost use Rattle.xn_model.specs.Images.{blocks_in};
 ghost use Rattle.block_cache.specs.Systems.{system_of};
-ghost use Rattle.block_cache.specs.Claims.{state_of};
+ghost use Rattle.block_cache.specs.Claims.{claimed_state};
 ghost use Rattle.block_cache.specs.NewBytes.{MayLeave, new_bytes};
 ghost use Rattle.block_cache.specs.Views.{facts_of};
 ghost use Rattle.xn_model.specs.Mounts.{found_status};
@@ -19,7 +19,7 @@ ghost use Rattle.claims.specs.Owned.{MayClaim};
 ghost use Rattle.dependencies.specs.Awaits.{awaited_in};
 ghost use Rattle.dependencies.specs.Pending.{pends};
 ghost use Rattle.dependencies.specs.Typed.{FindsTypes};
-ghost use Rattle.xn_state.specs.Mounts.{life_of, lives_in};
+ghost use Rattle.xn_state.specs.Mounts.{found_life_of, lives_in};
 
 use crate::found::Found;
 use block_cache::{Cache, Claim, Facts, FoundLife, NewBytes};
@@ -277,7 +277,7 @@ impl Lives {
         requires fs { claim.fs ≡ system_of fs }
         requires adds { claim.adds ≡ adds.now }
         requires drops { claim.drops ≡ drops.now }
-        ensures ok { OnOk result (self.new ≡ accepted_at self.old block (state_of claim (new_bytes bytes.entry (life_bytes (life_at self.old block))))) }
+        ensures ok { OnOk result (self.new ≡ accepted_at self.old block (claimed_state claim (new_bytes bytes.entry (life_bytes (life_at self.old block))))) }
         ensures err { OnErr result (self.new ≡ self.old) }
     {
         let number = claim.entry().number();
@@ -323,7 +323,7 @@ fn no_places(alloc: Global, blocks: usize) -> Result<Vec<Option<FoundLife>>, All
 
 /// What is found of a block beside its bytes.
 fn found_life(found: &Found) -> FoundLife
-    ensures { result ≡ life_of found.now }
+    ensures { result ≡ found_life_of found.now }
 {
     FoundLife {
         fs: found.fs,

@@ -8,7 +8,7 @@ ghost use Rattle.xn_model.specs.Results.{Gives, GivesExactly, result_map};
 ghost use Rattle.xn_model.specs.Calls.{init_of, init_refusal, life_pending, owns_nothing, too_many, begun_of, settled_of, floor_of};
 ghost use Rattle.xn_model.specs.Rules.{IsConsistent};
 ghost use Rattle.xn_model.specs.Worlds.{mounted_state};
-ghost use Rattle.templates.specs.Tables.{types_of};
+ghost use Rattle.templates.specs.Tables.{table_types};
 ghost use Rattle.xn_state.specs.Mounts.{image_types, lives_in, AreFound};
 ghost use Rattle.xn_state.specs.States.{own_types};
 
@@ -78,7 +78,7 @@ impl State {
         image: &[u8],
         found: &[Found],
     ) -> Result<State, AllocError>
-        requires own { types_of table ≡ image_types image.now }
+        requires own { table_types table ≡ image_types image.now }
         requires found { AreFound image.now found.now }
         ensures value { IfOk result (λ state. state ≡ mounted_state (lives_in image.now found.now)) }
         ensures rules { IfOk result (λ state. IsConsistent (own_types state) state) }
@@ -97,7 +97,7 @@ impl State {
 
     /// Its types.
     fn types(&self) -> &Table
-        ensures { types_of result.now ≡ own_types self.now }
+        ensures { table_types result.now ≡ own_types self.now }
     {
         &self.table
     }
@@ -233,8 +233,8 @@ impl State {
 
 /// Whether a block of an installed type is zero from its size on.
 fn is_within_size(table: &Table, ty: u32, bytes: &[u8; 512]) -> bool
-    requires { IsTrue ((types_of table.now).installed ty) }
-    ensures { result ≡ within_size (types_of table.now) ty bytes.now }
+    requires { IsTrue ((table_types table.now).installed ty) }
+    ensures { result ≡ within_size (table_types table.now) ty bytes.now }
 {
     let size = table.size(ty, bytes);
     is_blank(&bytes[size as usize..])
@@ -249,8 +249,8 @@ fn is_blank(bytes: &[u8]) -> bool
 
 /// Whether the owns program of an installed type emits nothing on a block.
 fn emits_nothing(table: &Table, ty: u32, bytes: &[u8; 512]) -> bool
-    requires { IsTrue ((types_of table.now).installed ty) }
-    ensures { result ≡ owns_nothing (types_of table.now) ty bytes.now }
+    requires { IsTrue ((table_types table.now).installed ty) }
+    ensures { result ≡ owns_nothing (table_types table.now) ty bytes.now }
 {
     let mut pairs = ArrayVec::<Pair, 128>::new();
     table.owns(ty, bytes, &mut pairs);

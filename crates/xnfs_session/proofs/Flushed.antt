@@ -11,8 +11,8 @@ use Rattle.xn_model.specs.Calls.{begun_of, life_pending, settled_of}
 use Rattle.xn_model.proofs.ForCallers.{begun_keeps, settled_keeps}
 use Rattle.xn_state.specs.States.{own_types}
 use Rattle.xn_kernel.specs.Kernels.{KernelValue, TicketValue}
-use Rattle.xn_kernel.specs.Drains.{Reads, WritesTo}
-use Rattle.xn_kernel.specs.Flushes.{Ends, FlushRefuses, Wave, Waves, wave_room, with_begun}
+use Rattle.xn_kernel.specs.Drains.{Reads, WriteRelation}
+use Rattle.xn_kernel.specs.Flushes.{WriteEnds, FlushRefuses, Wave, Waves, wave_room, kernel_with_begun}
 use Rattle.disk.specs.declared.lane.DeviceFault.{DeviceFault}
 use Rattle.ffs_model.specs.Library.{library_layout, IsLibrary}
 use Rattle.ffs_model.specs.Volumes.{VolumeKeeps}
@@ -77,9 +77,9 @@ follows_then a b c f g fs array few is v = let one = f fs array few is v in g fs
 abbrev pub After : {L : Type 0} → KernelValue L → KernelValue L → Type 0
 After old new = Follows old.state new.state
 
-module _ {L : Type 0} (bytes : L → List ℕ) (faults : L → ℕ) (writes : WritesTo L) (syncs reads : Reads L) where
+module _ {L : Type 0} (bytes : L → List ℕ) (faults : L → ℕ) (writes : WriteRelation L) (syncs reads : Reads L) where
   ends_after : (answer : Result (Unit {0}) DeviceFault) (home : L) (ticket : TicketValue L) (old : KernelValue L) (before : List (TicketValue L)) (is_durable : Bool)
-      (new : KernelValue L) (after : List (TicketValue L)) → Ends bytes faults syncs reads answer home ticket old before is_durable new after → After old new
+      (new : KernelValue L) (after : List (TicketValue L)) → WriteEnds bytes faults syncs reads answer home ticket old before is_durable new after → After old new
   ends_after answer home ticket old before true new after e = let u = e.0 in
       subst (After old) (sym u.next) (settled_follows old.state u.store ticket.block ticket.bytes (ticket.count, u.freed) u.settles)
   ends_after answer home ticket old before false new after e = elim e [
@@ -92,7 +92,7 @@ module _ {L : Type 0} (bytes : L → List ℕ) (faults : L → ℕ) (writes : Wr
   wave_after zero room durable old before new after w = subst (After old) (sym w.1) (follows_itself old.state)
   wave_after (suc n) room durable old before new after w =
       follows_then old.state w.begun new.state (begun_follows old.state w.begun w.ticket.block (w.ticket.bytes, w.ticket.count) w.written.begins)
-      (follows_then w.begun w.mid.state new.state (wave_after n w.left w.others (with_begun old w.ticket.block w.begun) before w.mid w.between w.rest)
+      (follows_then w.begun w.mid.state new.state (wave_after n w.left w.others (kernel_with_begun old w.ticket.block w.begun) before w.mid w.between w.rest)
       (ends_after w.answer w.written.home w.ticket w.mid w.between w.is_durable new after w.ends))
 
   waves_after : (n : ℕ) (old new : KernelValue L) → Waves bytes faults writes syncs reads n old new → After old new

@@ -13,7 +13,7 @@ ghost use Rattle.ffs_lib.specs.Reclaiming.{LeftByRepair, needs, reclaimed, recla
 ghost use Rattle.ffs_lib.specs.Replacing.{Replaced, replace_in};
 ghost use Rattle.ffs_lib.specs.Results.{MovedInodes};
 ghost use Rattle.ffs_lib.specs.Stages.{Does, KeptOrEmptied, Makes, OnlyMade, Unnames, created_stages, removed_stages, renamed_stages, replaced_stages};
-ghost use Rattle.ffs_lib.specs.Steps.{newest};
+ghost use Rattle.ffs_lib.specs.Steps.{newest_block};
 ghost use Rattle.ffs_lib.specs.Volumes.{NothingPending};
 ghost use Rattle.ffs_lib.specs.Written.{DoesSome, Overwrites, WritesSomeTo};
 ghost use Rattle.xn_model.specs.Calls.{free_of, pending_of, tainted_of};
@@ -214,17 +214,17 @@ impl<S: FlushStore + Drop> Session<S> {
     /// The names in a directory and their inodes, in the order of its blocks.
     pub fn list(&self, alloc: Global, directory: u16) -> Result<Vec<(Vec<u8>, u16)>, FfsFault>
         ensures value { MatchResult result
-            (λ names. Ok (map (λ name. (name.0.items, name.1)) names.items) ≡ listed (files_of (newest (S.state_of self.now.store)) self.now.fs) directory)
-            (λ fault. ((fault ≡ FfsFault.Kernel Refusal.NoMemory) × IsOk (listed (files_of (newest (S.state_of self.now.store)) self.now.fs) directory))
-            ⊎ (Err fault ≡ listed (files_of (newest (S.state_of self.now.store)) self.now.fs) directory)) }
+            (λ names. Ok (map (λ name. (name.0.items, name.1)) names.items) ≡ listed (files_of (newest_block (S.state_of self.now.store)) self.now.fs) directory)
+            (λ fault. ((fault ≡ FfsFault.Kernel Refusal.NoMemory) × IsOk (listed (files_of (newest_block (S.state_of self.now.store)) self.now.fs) directory))
+            ⊎ (Err fault ≡ listed (files_of (newest_block (S.state_of self.now.store)) self.now.fs) directory)) }
     {
         self.volume.list(alloc, &self.store, directory)
     }
 
     /// Reads a file from an offset on, and answers how many bytes there were.
     pub fn read(&self, inode: u16, offset: u32, bytes: &mut [u8]) -> Result<usize, FfsFault>
-        ensures value { result ≡ mapped length (read (files_of (newest (S.state_of self.now.store)) self.now.fs) inode offset (length bytes.old)) }
-        ensures bytes { bytes.new ≡ read_over bytes.old (read (files_of (newest (S.state_of self.now.store)) self.now.fs) inode offset (length bytes.old)) }
+        ensures value { result ≡ mapped length (read (files_of (newest_block (S.state_of self.now.store)) self.now.fs) inode offset (length bytes.old)) }
+        ensures bytes { bytes.new ≡ read_over bytes.old (read (files_of (newest_block (S.state_of self.now.store)) self.now.fs) inode offset (length bytes.old)) }
     {
         self.volume.read(&self.store, inode, offset, bytes)
     }
@@ -233,10 +233,10 @@ impl<S: FlushStore + Drop> Session<S> {
     pub fn create(&mut self, alloc: Global, directory: u16, name: &[u8]) -> Result<u16, FfsFault>
         ensures types { S.types_of self.new.store ≡ S.types_of self.old.store }
         ensures fs { self.new.fs ≡ self.old.fs }
-        ensures answers { let files = files_of (newest (S.state_of self.old.store)) self.old.fs in
+        ensures answers { let files = files_of (newest_block (S.state_of self.old.store)) self.old.fs in
             Does (S.types_of self.old.store) self.old.fs (created new_file files directory name.now) (created_stages new_file files directory name.now)
             (S.state_of self.old.store) (S.state_of self.new.store) result }
-        ensures inodes { let old = newest (S.state_of self.old.store) in let new = newest (S.state_of self.new.store) in
+        ensures inodes { let old = newest_block (S.state_of self.old.store) in let new = newest_block (S.state_of self.new.store) in
             (next : ℕ × Files) → created new_file (files_of old self.old.fs) directory name.now ≡ Ok next →
             Makes old new self.old.fs directory 1 next.0 × OnErr result (OnlyMade old new self.old.fs next.0) }
     {
@@ -247,10 +247,10 @@ impl<S: FlushStore + Drop> Session<S> {
     pub fn mkdir(&mut self, alloc: Global, directory: u16, name: &[u8]) -> Result<u16, FfsFault>
         ensures types { S.types_of self.new.store ≡ S.types_of self.old.store }
         ensures fs { self.new.fs ≡ self.old.fs }
-        ensures answers { let files = files_of (newest (S.state_of self.old.store)) self.old.fs in
+        ensures answers { let files = files_of (newest_block (S.state_of self.old.store)) self.old.fs in
             Does (S.types_of self.old.store) self.old.fs (created new_directory files directory name.now)
             (created_stages new_directory files directory name.now) (S.state_of self.old.store) (S.state_of self.new.store) result }
-        ensures inodes { let old = newest (S.state_of self.old.store) in let new = newest (S.state_of self.new.store) in
+        ensures inodes { let old = newest_block (S.state_of self.old.store) in let new = newest_block (S.state_of self.new.store) in
             (next : ℕ × Files) → created new_directory (files_of old self.old.fs) directory name.now ≡ Ok next →
             Makes old new self.old.fs directory 2 next.0 × OnErr result (OnlyMade old new self.old.fs next.0) }
     {
@@ -268,10 +268,10 @@ impl<S: FlushStore + Drop> Session<S> {
     ) -> Result<usize, FfsFault>
         ensures types { S.types_of self.new.store ≡ S.types_of self.old.store }
         ensures fs { self.new.fs ≡ self.old.fs }
-        ensures answers { let files = files_of (newest (S.state_of self.old.store)) self.old.fs in
+        ensures answers { let files = files_of (newest_block (S.state_of self.old.store)) self.old.fs in
             DoesSome (S.types_of self.old.store) self.old.fs files inode offset bytes.now (written files inode offset bytes.now)
             (S.state_of self.old.store) (S.state_of self.new.store) result }
-        ensures inodes { let old = newest (S.state_of self.old.store) in let new = newest (S.state_of self.new.store) in let fs = self.old.fs in
+        ensures inodes { let old = newest_block (S.state_of self.old.store) in let new = newest_block (S.state_of self.new.store) in let fs = self.old.fs in
             (file : List ℕ) → Ok file ≡ write_in old fs inode (offset + length bytes.now) → (done : ℕ) × Overwrites old new fs inode file offset bytes.now done
             × WritesSomeTo (S.types_of self.old.store) fs (files_of old fs) inode file offset bytes.now done (S.state_of self.new.store) result }
         ensures none { length bytes.now ≡ 0 → S.state_of self.new.store ≡ S.state_of self.old.store }
@@ -285,10 +285,10 @@ impl<S: FlushStore + Drop> Session<S> {
     pub fn unlink(&mut self, alloc: Global, directory: u16, name: &[u8]) -> Result<(), FfsFault>
         ensures types { S.types_of self.new.store ≡ S.types_of self.old.store }
         ensures fs { self.new.fs ≡ self.old.fs }
-        ensures answers { let files = files_of (newest (S.state_of self.old.store)) self.old.fs in
+        ensures answers { let files = files_of (newest_block (S.state_of self.old.store)) self.old.fs in
             Does (S.types_of self.old.store) self.old.fs (unlinked files directory name.now) (removed_stages files directory name.now)
             (S.state_of self.old.store) (S.state_of self.new.store) result }
-        ensures inodes { let old = newest (S.state_of self.old.store) in let new = newest (S.state_of self.new.store) in let fs = self.old.fs in
+        ensures inodes { let old = newest_block (S.state_of self.old.store) in let new = newest_block (S.state_of self.new.store) in let fs = self.old.fs in
             (slot : Slot) → Ok slot ≡ unlink_in old fs directory name.now →
             Unnames old new fs directory slot.inode × OnErr result (KeptOrEmptied old new fs slot.inode) }
     {
@@ -299,10 +299,10 @@ impl<S: FlushStore + Drop> Session<S> {
     pub fn rmdir(&mut self, alloc: Global, directory: u16, name: &[u8]) -> Result<(), FfsFault>
         ensures types { S.types_of self.new.store ≡ S.types_of self.old.store }
         ensures fs { self.new.fs ≡ self.old.fs }
-        ensures answers { let files = files_of (newest (S.state_of self.old.store)) self.old.fs in
+        ensures answers { let files = files_of (newest_block (S.state_of self.old.store)) self.old.fs in
             Does (S.types_of self.old.store) self.old.fs (removed files directory name.now) (removed_stages files directory name.now)
             (S.state_of self.old.store) (S.state_of self.new.store) result }
-        ensures inodes { let old = newest (S.state_of self.old.store) in let new = newest (S.state_of self.new.store) in let fs = self.old.fs in
+        ensures inodes { let old = newest_block (S.state_of self.old.store) in let new = newest_block (S.state_of self.new.store) in let fs = self.old.fs in
             (slot : Slot) → Ok slot ≡ rmdir_in old fs directory name.now →
             Unnames old new fs directory slot.inode × OnErr result (KeptOrEmptied old new fs slot.inode) }
     {
@@ -320,10 +320,10 @@ impl<S: FlushStore + Drop> Session<S> {
     ) -> Result<(), FfsFault>
         ensures types { S.types_of self.new.store ≡ S.types_of self.old.store }
         ensures fs { self.new.fs ≡ self.old.fs }
-        ensures answers { let files = files_of (newest (S.state_of self.old.store)) self.old.fs in
+        ensures answers { let files = files_of (newest_block (S.state_of self.old.store)) self.old.fs in
             Does (S.types_of self.old.store) self.old.fs (renamed files directory name.now other new_name.now)
             (renamed_stages files directory name.now other new_name.now) (S.state_of self.old.store) (S.state_of self.new.store) result }
-        ensures inodes { let old = newest (S.state_of self.old.store) in let new = newest (S.state_of self.new.store) in
+        ensures inodes { let old = newest_block (S.state_of self.old.store) in let new = newest_block (S.state_of self.new.store) in
             (slot : Slot) → Ok slot ≡ rename_in old self.old.fs directory name.now other new_name.now →
             MovedInodes old new self.old.fs directory other slot.inode }
     {
@@ -342,11 +342,11 @@ impl<S: FlushStore + Drop> Session<S> {
     ) -> Result<(), FfsFault>
         ensures types { S.types_of self.new.store ≡ S.types_of self.old.store }
         ensures fs { self.new.fs ≡ self.old.fs }
-        ensures answers { let files = files_of (newest (S.state_of self.old.store)) self.old.fs in
+        ensures answers { let files = files_of (newest_block (S.state_of self.old.store)) self.old.fs in
             Does (S.types_of self.old.store) self.old.fs (replaced files directory name.now other other_name.now)
             (replaced_stages files directory name.now other other_name.now) (S.state_of self.old.store) (S.state_of self.new.store) result }
         ensures inodes { (from to : Slot) →
-            Ok (from, to) ≡ replace_in (newest (S.state_of self.old.store)) self.old.fs directory name.now other other_name.now →
+            Ok (from, to) ≡ replace_in (newest_block (S.state_of self.old.store)) self.old.fs directory name.now other other_name.now →
             Replaced (S.state_of self.old.store) (S.state_of self.new.store) self.old.fs directory from other to result }
     {
         self.volume
@@ -358,7 +358,7 @@ impl<S: FlushStore + Drop> Session<S> {
     pub fn reclaimable(&self) -> Result<Repairs, FfsFault>
         ensures exact { mapped (λ repairs. tt) result ≡ idle_in (S.state_of self.now.store) self.now.fs }
         ensures each { IfOk result (λ repairs. (n : ℕ) →
-            repair_at repairs.each n ≡ needs (files_of (newest (S.state_of self.now.store)) self.now.fs) n) }
+            repair_at repairs.each n ≡ needs (files_of (newest_block (S.state_of self.now.store)) self.now.fs) n) }
     {
         self.volume.reclaimable(&self.store)
     }
@@ -367,10 +367,10 @@ impl<S: FlushStore + Drop> Session<S> {
     pub fn reclaim(&mut self, alloc: Global) -> Result<Repairs, FfsFault>
         ensures types { S.types_of self.new.store ≡ S.types_of self.old.store }
         ensures fs { self.new.fs ≡ self.old.fs }
-        ensures answers { let files = files_of (newest (S.state_of self.old.store)) self.old.fs in
+        ensures answers { let files = files_of (newest_block (S.state_of self.old.store)) self.old.fs in
             Does (S.types_of self.old.store) self.old.fs (if_idle (S.state_of self.old.store) self.old.fs (reclaimed files)) (reclaimed_stages files)
             (S.state_of self.old.store) (S.state_of self.new.store) (mapped (λ repairs. repair_at repairs.each) result) }
-        ensures inodes { let old = newest (S.state_of self.old.store) in let new = newest (S.state_of self.new.store) in let fs = self.old.fs in
+        ensures inodes { let old = newest_block (S.state_of self.old.store) in let new = newest_block (S.state_of self.new.store) in let fs = self.old.fs in
             (n : ℕ) → LeftByRepair old new fs n (needs (files_of old fs) n) }
     {
         self.volume.reclaim(alloc, &mut self.store)

@@ -4,9 +4,9 @@ use Rattle.xnsim_words.specs.declared.fault.Fault.{Fault}
 use Rattle.xnsim_words.specs.declared.fault.Fault.TheVariants.{Usage, CannotRead, Unreadable, Image, CannotWrite, NoMemory, Program, Owns, Size, Template, TooManyTemplates, TooManyWords, Stream}
 use Rattle.xnsim_words.specs.declared.invocation.Invocation.TheVariants.{Run}
 use Rattle.xnsim_words.specs.declared.invocation.Stop.{Stop}
-use Rattle.xnsim_line.specs.Done.{IsFaultOf, IsMountFault, IsRunFault}
+use Rattle.xnsim_line.specs.Done.{IsFaultOf, IsFaultOnImage, IsRunFault}
 
-pub mount_fault : (image script : Bor (List ℕ)) (stop : Option Stop) (bytes : List ℕ) (fault : Fault) → IsMountFault bytes fault → IsFaultOf None (Run image script stop) fault
+pub mount_fault : (image script : Bor (List ℕ)) (stop : Option Stop) (bytes : List ℕ) (fault : Fault) → IsFaultOnImage bytes fault → IsFaultOf None (Run image script stop) fault
 mount_fault image script stop bytes Usage h = absurd h
 mount_fault image script stop bytes (CannotRead name) h = absurd h
 mount_fault image script stop bytes (Unreadable line) h = absurd h
@@ -22,7 +22,7 @@ mount_fault image script stop bytes TooManyWords h = absurd h
 mount_fault image script stop bytes Stream h = tt
 
 -- a fault of a run is one that may come of a run on an image
-pub run_fault : (bytes : List ℕ) (fault : Fault) → IsRunFault fault → IsMountFault bytes fault
+pub run_fault : (bytes : List ℕ) (fault : Fault) → IsRunFault fault → IsFaultOnImage bytes fault
 run_fault bytes Usage h = h
 run_fault bytes (CannotRead name) h = h
 run_fault bytes (Unreadable line) h = h

@@ -78,9 +78,9 @@ IsRunFault Stream = ⊤
 IsRunFault fault = ⊥
 
 -- a fault that may come of a run on the disk of an image
-abbrev pub IsMountFault : List ℕ → Fault → Type 0
-IsMountFault image (Image fault) = IsVerdict image fault
-IsMountFault image fault = IsRunFault fault
+abbrev pub IsFaultOnImage : List ℕ → Fault → Type 0
+IsFaultOnImage image (Image fault) = IsVerdict image fault
+IsFaultOnImage image fault = IsRunFault fault
 
 -- a fault that may come of what is asked for
 abbrev pub IsFaultOf : Option (List ℕ) → Invocation → Fault → Type 0

@@ -4,7 +4,7 @@ ghost use Rattle.std.specs.Prelude.{◌≡◌, ◌≤◌, length, IfOk, IfErr, I
 ghost use Rattle.xn_model.specs.Images.{IsDiskSize, joined};
 ghost use Rattle.script.specs.Scripts.{SpellEvents};
 ghost use Rattle.world.specs.Worlds.{world_with};
-ghost use Rattle.xnsim_line.specs.Done.{IsMountFault, IsRunFault};
+ghost use Rattle.xnsim_line.specs.Done.{IsFaultOnImage, IsRunFault};
 ghost use Rattle.xnsim_line.specs.Runs.{fresh_world, IsPrintedRun, IsRunLine, RunsLines};
 ghost use Rattle.xnsim_line.specs.Stops.{IsAskedOn, IsAskedRun};
 
@@ -135,7 +135,7 @@ pub fn run_on_image<'a, W: Write>(
     requires lines { SpellEvents lines.items }
     ensures run { IfOk result (λ after. RunsLines lines.entry.items
         (λ events. IsAskedRun stop image.items events (W.contents out.old) (W.contents out.new) after.items)) }
-    ensures fault { IfErr result (IsMountFault image.items) }
+    ensures fault { IfErr result (IsFaultOnImage image.items) }
 {
     let opened = World::open_image(rt, alloc, image);
     match opened {

@@ -9,7 +9,7 @@ use Rattle.udf_asm.specs.Printing.{IsText}
 use Rattle.udf_verify.specs.declared.fault.FaultKind.TheVariants as kind
 use Rattle.udf_verify.specs.declared.fault.Role.{Role}
 use Rattle.udf_verify.specs.Program.{Program}
-use Rattle.udf_verify.specs.Verdict.{cost, emits, verdict, IsAccepted}
+use Rattle.udf_verify.specs.Verdict.{cost, emits, program_verdict, IsAccepted}
 use Rattle.xnsim_words.specs.declared.fault.Fault.{Fault}
 use Rattle.xnsim_words.specs.declared.fault.Fault.TheVariants as fault
 use Rattle.xnsim_words.specs.declared.program_fault.ProgramFault.{ProgramFault}
@@ -36,7 +36,7 @@ pub record PrintsAccepted (text : List ℕ) (role : Role) (old new : Option (Lis
 abbrev pub IsProgramFault : List ℕ → Role → ProgramFault → Type 0
 IsProgramFault text role (Text fault) = ((fault ≡ no_memory) × IsOk (assembled text)) ⊎ (assembled text ≡ Err fault)
 IsProgramFault text role (Rule fault) = (words : List Word) × IsText words text
-    × ((verdict role (tree_of words) ≡ Err fault) ⊎ ((fault ≡ record { at = length words; kind = kind.NoMemory }) × IsAccepted role (tree_of words)))
+    × ((program_verdict role (tree_of words) ≡ Err fault) ⊎ ((fault ≡ record { at = length words; kind = kind.NoMemory }) × IsAccepted role (tree_of words)))
 
 -- why nothing was printed: that, or the output failed
 abbrev pub IsTextFault : List ℕ → Role → Fault → Type 0

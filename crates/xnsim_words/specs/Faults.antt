@@ -23,8 +23,8 @@ abbrev pub IsTold : Fault → Option (List ℕ) → Option (List ℕ) → Type 0
 IsTold (Program fault) old new = Appends old new (program_fault_text fault ++ 10 ∷ [])
 IsTold (Owns fault) old new = Appends old new (codes "owns " ++ program_fault_text fault ++ 10 ∷ [])
 IsTold (Size fault) old new = Appends old new (codes "size " ++ program_fault_text fault ++ 10 ∷ [])
-IsTold (Template place fault) old new = Appends old new (codes "template " ++ decimal place ++ codes ": " ++ template.fault_name fault ++ 10 ∷ [])
-IsTold (Image fault) old new = Appends old new (codes "fault " ++ image.fault_text fault ++ 10 ∷ [])
+IsTold (Template place fault) old new = Appends old new (codes "template " ++ decimal place ++ codes ": " ++ template.template_fault_name fault ++ 10 ∷ [])
+IsTold (Image fault) old new = Appends old new (codes "fault " ++ image.image_fault_text fault ++ 10 ∷ [])
 IsTold TooManyTemplates old new = Appends old new (codes "too many templates" ++ 10 ∷ [])
 IsTold TooManyWords old new = Appends old new (codes "too many words" ++ 10 ∷ [])
 IsTold _ old new = Keeps old new

@@ -7,5 +7,5 @@ use Rattle.xnsim_words.specs.declared.program_fault.ProgramFault.TheVariants.{Te
 
 -- what is wrong with a program
 abbrev pub program_fault_text : ProgramFault → List ℕ
-program_fault_text (Text fault) = asm.fault_text fault
-program_fault_text (Rule fault) = codes "refused " ++ verify.fault_text fault
+program_fault_text (Text fault) = asm.asm_fault_text fault
+program_fault_text (Rule fault) = codes "refused " ++ verify.verify_fault_text fault

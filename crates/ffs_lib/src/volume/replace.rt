@@ -10,7 +10,7 @@ ghost use Rattle.ffs_lib.specs.Replacing.{NamesStand, Replaced, ReplacedInodes, 
 ghost use Rattle.ffs_lookup.specs.Files.{replaced};
 ghost use Rattle.ffs_lookup.specs.FileValues.{files_of};
 ghost use Rattle.ffs_lib.specs.Stages.{Does, KeptOrEmptied, replaced_stages};
-ghost use Rattle.ffs_lib.specs.Steps.{Ends, MayLose, MayName, Stage, Wants, newest};
+ghost use Rattle.ffs_lib.specs.Steps.{Ends, MayLose, MayName, Stage, Wants, newest_block};
 ghost use Rattle.xn_model.specs.Lives.{Lives};
 ghost use Rattle.xn_model.specs.Types.{Types};
 
@@ -49,7 +49,7 @@ fn look_up_directories<S: Store>(
     ensures first { IfOk result (λ found. IsDirectory (S.state_of store.now) fs.number directory found.0) }
     ensures second { IfOk result (λ found. IsDirectory (S.state_of store.now) fs.number other found.1) }
     ensures exact { IsLibrary (S.types_of store.now) → mapped (λ found. (found.0.inode, found.1.inode)) result
-        ≡ directories_in (newest (S.state_of store.now)) fs.number directory name.now other other_name.now }
+        ≡ directories_in (newest_block (S.state_of store.now)) fs.number directory name.now other other_name.now }
 {
     let from = find_inode(store, fs, directory)?;
     let to = find_inode(store, fs, other)?;
@@ -64,7 +64,7 @@ fn look_up_directories<S: Store>(
 
 /// Looks whether both entries name files, and the first of these may be named by the second entry.
 fn look_up_files<S: Store>(store: &S, fs: Fs, from: Slot, to: Slot) -> Result<(), FfsFault>
-    ensures { IsLibrary (S.types_of store.now) → mapped (λ _. (from, to)) result ≡ files_in (newest (S.state_of store.now)) fs.number from to }
+    ensures { IsLibrary (S.types_of store.now) → mapped (λ _. (from, to)) result ≡ files_in (newest_block (S.state_of store.now)) fs.number from to }
 {
     let moved = find_file(store, fs, from.inode)?;
     let _ = find_file(store, fs, to.inode)?;
@@ -86,7 +86,7 @@ fn look_up_replace<S: Store>(
     ensures first { IfOk result (λ slots. IsSlot (S.state_of store.now) fs.number slots.0) }
     ensures second { IfOk result (λ slots. IsSlot (S.state_of store.now) fs.number slots.1) }
     ensures exact { IsLibrary (S.types_of store.now) →
-        result ≡ replace_in (newest (S.state_of store.now)) fs.number directory name.now other other_name.now }
+        result ≡ replace_in (newest_block (S.state_of store.now)) fs.number directory name.now other other_name.now }
 {
     let (home, target) = look_up_directories(store, fs, directory, name, other, other_name)?;
     let from = find_entry(store, fs, &home, directory, name)?.ok_or(FfsFault::NoEntry)?;
@@ -115,15 +115,15 @@ impl Volume {
     ) -> Result<(), FfsFault>
         requires { IsVolume (S.types_of store.old) (S.state_of store.old) self.now }
         ensures types { S.types_of store.new ≡ S.types_of store.old }
-        ensures answers { let files = files_of (newest (S.state_of store.old)) self.now.fs.number in
+        ensures answers { let files = files_of (newest_block (S.state_of store.old)) self.now.fs.number in
             Does (S.types_of store.old) self.now.fs.number (replaced files directory name.now other other_name.now)
             (replaced_stages files directory name.now other other_name.now) (S.state_of store.old) (S.state_of store.new) result }
         ensures inodes { (from to : Slot) →
-            Ok (from, to) ≡ replace_in (newest (S.state_of store.old)) self.now.fs.number directory name.now other other_name.now →
+            Ok (from, to) ≡ replace_in (newest_block (S.state_of store.old)) self.now.fs.number directory name.now other other_name.now →
             Replaced (S.state_of store.old) (S.state_of store.new) self.now.fs.number directory from other to result }
         ensures keeps { IsVolume (S.types_of store.old) (S.state_of store.new) self.now }
         ensures stands { (from to : Slot) →
-            Ok (from, to) ≡ replace_in (newest (S.state_of store.old)) self.now.fs.number directory name.now other other_name.now →
+            Ok (from, to) ≡ replace_in (newest_block (S.state_of store.old)) self.now.fs.number directory name.now other other_name.now →
             from.inode ≢ to.inode → NamesStand (S.state_of store.old) (S.state_of store.new) from to }
     {
         let (from, to) = look_up_replace(store, self.fs, directory, name, other, other_name)?;
@@ -149,17 +149,17 @@ impl Volume {
         to: Slot,
     ) -> Result<(), FfsFault>
         requires volume { IsVolume (S.types_of store.old) (S.state_of store.old) self.now }
-        requires found { Ok (from, to) ≡ replace_in (newest (S.state_of store.old)) self.now.fs.number directory name.now other other_name.now }
+        requires found { Ok (from, to) ≡ replace_in (newest_block (S.state_of store.old)) self.now.fs.number directory name.now other other_name.now }
         requires first { IsSlot (S.state_of store.old) self.now.fs.number from }
         requires second { IsSlot (S.state_of store.old) self.now.fs.number to }
         requires apart { from.inode ≢ to.inode }
         ensures types { S.types_of store.new ≡ S.types_of store.old }
-        ensures leaves { let files = files_of (newest (S.state_of store.old)) self.now.fs.number in
+        ensures leaves { let files = files_of (newest_block (S.state_of store.old)) self.now.fs.number in
             IsVolume (S.types_of store.old) (S.state_of store.new) self.now × NamesStand (S.state_of store.old) (S.state_of store.new) from to
             × Does (S.types_of store.old) self.now.fs.number (replaced files directory name.now other other_name.now)
             (replaced_stages files directory name.now other other_name.now) (S.state_of store.old) (S.state_of store.new) result
-            × (ReplacedInodes (newest (S.state_of store.old)) (newest (S.state_of store.new)) self.now.fs.number directory from other to
-            × OnErr result (KeptOrEmptied (newest (S.state_of store.old)) (newest (S.state_of store.new)) self.now.fs.number to.inode)) }
+            × (ReplacedInodes (newest_block (S.state_of store.old)) (newest_block (S.state_of store.new)) self.now.fs.number directory from other to
+            × OnErr result (KeptOrEmptied (newest_block (S.state_of store.old)) (newest_block (S.state_of store.new)) self.now.fs.number to.inode)) }
     {
         let linked = add_link(alloc, store, self.fs, from.inode)?;
         let turned = self.turn(alloc, store, other, other_name, from.inode, linked)?;
@@ -181,13 +181,13 @@ impl Volume {
     ) -> Result<EditId, FfsFault>
         ensures types { S.types_of store.new ≡ S.types_of store.old }
         ensures ends { (T : Types) (array : ℕ → Option ℕ) (slot : Slot) → S.types_of store.old ≡ T → Stage T self.now.fs.number array (S.state_of store.old) →
-            Ok slot ≡ named_in (newest (S.state_of store.old)) self.now.fs.number directory name.now → slot.inode ≢ inode →
+            Ok slot ≡ named_in (newest_block (S.state_of store.old)) self.now.fs.number directory name.now → slot.inode ≢ inode →
             MayName (S.state_of store.old) self.now.fs.number inode after → Ends T self.now.fs.number array (S.state_of store.new) result
-            (λ e. Turned (newest (S.state_of store.old)) (newest (S.state_of store.new)) self.now.fs.number slot inode
+            (λ e. Turned (newest_block (S.state_of store.old)) (newest_block (S.state_of store.new)) self.now.fs.number slot inode
             × MayLose (S.state_of store.new) self.now.fs.number slot.inode e)
             (λ fault. (S.state_of store.new ≡ S.state_of store.old) × Wants T (S.state_of store.old) self.now.fs.number slot.block fault) }
         ensures pairs { (T : Types) (array : ℕ → Option ℕ) (first : Lives) (from slot : Slot) → S.types_of store.old ≡ T →
-            Stage T self.now.fs.number array (S.state_of store.old) → Ok slot ≡ named_in (newest (S.state_of store.old)) self.now.fs.number directory name.now →
+            Stage T self.now.fs.number array (S.state_of store.old) → Ok slot ≡ named_in (newest_block (S.state_of store.old)) self.now.fs.number directory name.now →
             from.inode ≡ inode → StayNamed library_layout first (S.state_of store.old).lives (pair_of from slot) None →
             MatchResult result (λ e. StayNamed library_layout first (S.state_of store.new).lives (pair_of from slot) (Some e))
             (λ _. StayNamed library_layout first (S.state_of store.new).lives (pair_of from slot) None) }

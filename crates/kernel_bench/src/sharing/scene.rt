@@ -1,7 +1,7 @@
 // Four clients and their flushers.
 
 ghost use Rattle.std.specs.Prelude.{◌≡◌};
-ghost use Rattle.durable_floor.specs.Rules.{zeros};
+ghost use Rattle.durable_floor.specs.Rules.{zero_floor};
 
 use crate::sharing::clients::four_clients;
 use crate::sharing::flushers::{Flushers, Open, flush};
@@ -32,7 +32,7 @@ fn share<L: Lane + Drop, K: Naming>(
     publisher: Publisher,
 ) -> Result<Shared<L, Open, K>, AllocError>
     requires floor { floor ≡ K.floor }
-    requires publisher { publisher ≡ record { floor = floor; seen = zeros } }
+    requires publisher { publisher ≡ record { floor = floor; seen = zero_floor } }
 {
     let floor = Arc::new(alloc, floor)?;
     let hub = Hub::new(kernel, publisher, Arc::try_clone(&floor)?);
@@ -92,7 +92,7 @@ fn scene<L: Lane + Drop + Send, K: Naming + Send + Sync, R: Threads + Wait + Syn
     flushers: Flushers,
 ) -> Result<bool, AllocError>
     requires floor { floor ≡ K.floor }
-    requires publisher { publisher ≡ record { floor = floor; seen = zeros } }
+    requires publisher { publisher ≡ record { floor = floor; seen = zero_floor } }
     requires one { readers.one.floor ≡ floor }
     requires two { readers.two.floor ≡ floor }
     requires three { readers.three.floor ≡ floor }

@@ -6,7 +6,7 @@ ghost use Rattle.xn_model.specs.Calls.{init_of, make_root_of, drop_root_of, prop
 ghost use Rattle.xn_model.specs.Calls.{floor_of, free_of, pick_of};
 ghost use Rattle.xn_state.specs.declared.call.Call.TheVariants.{Drain};
 ghost use Rattle.templates.specs.Tables.{TellsTemplate};
-ghost use Rattle.xn_state.specs.Answers.{Answers};
+ghost use Rattle.xn_state.specs.Answers.{StateAnswers};
 ghost use Rattle.xn_model.specs.Lives.{StoreState};
 ghost use Rattle.xn_state.specs.States.{own_types};
 ghost use Rattle.xn_kernel.specs.Kernels.{KernelValue, TicketValue};
@@ -22,7 +22,7 @@ impl<L: Lane, K: Naming> Hub<L, K> {
     /// Makes a call for a file system, any but `drain`.
     pub fn call(&mut self, fs: Fs, call: &Call) -> Answer
         requires { call.now ≢ Drain }
-        ensures answer { Answers (own_types self.old.kernel.state) self.old.kernel.state fs.number call.now self.new.kernel.state result }
+        ensures answer { StateAnswers (own_types self.old.kernel.state) self.old.kernel.state fs.number call.now self.new.kernel.state result }
         ensures rest { self.new ≡ with_store self.old self.new.kernel.state }
     {
         self.kernel.call(fs, call)

@@ -3,7 +3,7 @@
 ghost use Rattle.std.specs.Prelude.{◌≡◌, ◌≢◌};
 ghost use Rattle.xn_model.specs.Rules.{IsConsistent};
 ghost use Rattle.xn_state.specs.declared.call.Call.TheVariants.{Drain};
-ghost use Rattle.xn_state.specs.Answers.{Answers};
+ghost use Rattle.xn_state.specs.Answers.{StateAnswers};
 ghost use Rattle.xn_model.specs.Lives.{StoreState};
 ghost use Rattle.xn_state.specs.States.{own_types};
 ghost use Rattle.xn_kernel.specs.Kernels.{KernelValue};
@@ -18,7 +18,7 @@ impl<L: Lane> Kernel<L> {
     #[inline(always)]
     pub fn call(&mut self, fs: Fs, call: &Call) -> Answer
         requires { call.now ≢ Drain }
-        ensures answer { Answers (own_types self.old.state) self.old.state fs.number call.now self.new.state result }
+        ensures answer { StateAnswers (own_types self.old.state) self.old.state fs.number call.now self.new.state result }
         ensures rest { self.new ≡ record self.old { state = self.new.state } }
     {
         match call {

@@ -8,7 +8,7 @@ ghost use Rattle.xn_model.specs.Rules.{IsIdle};
 ghost use Rattle.xn_model.specs.Worlds.{all_pending};
 ghost use Rattle.xn_model.specs.Lives.{StoreState};
 ghost use Rattle.xn_kernel.specs.Kernels.{KernelValue};
-ghost use Rattle.xn_kernel.specs.Drains.{Round, Rounds, Stops, Refuses};
+ghost use Rattle.xn_kernel.specs.Drains.{Round, Rounds, StopsAtDevice, Refuses};
 
 use crate::kernel::Kernel;
 use crate::ticket::Ticket;
@@ -43,7 +43,7 @@ impl<L: Lane> Kernel<L> {
     fn round(&mut self, block: u32) -> Result<(), Option<Ticket<L>>>
         requires picked { pick_of self.old.state ≡ Some block }
         ensures ok { OnOk result (Round L.bytes_of L.faults_of L.write_gives L.sync_gives L.read_gives self.old self.new) }
-        ensures err { IfErr result (λ ticket. Stops L.bytes_of L.faults_of L.write_gives L.sync_gives L.read_gives self.old ticket Refusal.Device self.new) }
+        ensures err { IfErr result (λ ticket. StopsAtDevice L.bytes_of L.faults_of L.write_gives L.sync_gives L.read_gives self.old ticket Refusal.Device self.new) }
     {
         self.rules();
         let Ok(mut ticket) = self.begin(block) else {

@@ -4,7 +4,7 @@ ghost use Rattle.std.specs.Prelude.{◌≡◌, ◌≤◌, ◌<◌, ◌+◌, ℕ,
 ghost use Rattle.disk.specs.declared.lane.DeviceFault.{DeviceFault};
 ghost use Rattle.xn_model.specs.Rules.{IsIdle};
 ghost use Rattle.xn_model.specs.Worlds.{all_pending};
-ghost use Rattle.xn_kernel.specs.Flushes.{IsUnderWay, HoldsOneOf, Ends, Wave, Waves, FlushRefuses};
+ghost use Rattle.xn_kernel.specs.Flushes.{IsUnderWay, HoldsOneOf, WriteEnds, Wave, Waves, FlushRefuses};
 
 use crate::kernel::Kernel;
 use crate::ticket::Ticket;
@@ -36,7 +36,7 @@ impl<L: Lane> Kernel<L> {
         requires under_way { IsUnderWay L.bytes_of self.old ticket }
         requires room { vec_len failed.old < vec_capacity failed.old }
         ensures ends { (answer : Result (Unit {0}) DeviceFault) (home : L) → HoldsOneOf L.bytes_of answer home ticket →
-            Ends L.bytes_of L.faults_of L.sync_gives L.read_gives answer home ticket self.old failed.old.items result self.new failed.new.items }
+            WriteEnds L.bytes_of L.faults_of L.sync_gives L.read_gives answer home ticket self.old failed.old.items result self.new failed.new.items }
         ensures length { vec_len failed.new ≤ vec_len failed.old + 1 }
         ensures stays { IsTrue result → vec_len failed.new ≡ vec_len failed.old }
         ensures capacity { vec_capacity failed.new ≡ vec_capacity failed.old }

@@ -7,7 +7,7 @@ ghost use Rattle.xn_model.specs.Calls.{accepts, life_bytes, life_pending, patche
 ghost use Rattle.block_cache.specs.NewBytes.{MayLeave, new_bytes};
 ghost use Rattle.claims.specs.Owned.{MayClaim};
 ghost use Rattle.claims.specs.Decided.{Decides};
-ghost use Rattle.xn_state.specs.Proposals.{entry_of};
+ghost use Rattle.xn_state.specs.Proposals.{accepted_entry};
 ghost use Rattle.xn_state.specs.States.{Continues, own_types};
 
 use crate::state::State;
@@ -46,8 +46,8 @@ impl State {
         requires undoes { patched (new_bytes bytes (life_bytes (life_at self.old.lives block))) undo ≡ life_bytes (life_at self.old.lives block) }
         requires leaves { MayLeave bytes }
         requires continues { Continues self.old (accepts self.old block
-            (entry_of self.old fs.number (new_bytes bytes (life_bytes (life_at self.old.lives block))) claims.adds.now claims.drops.now claims.after)).1 }
-        ensures state { Gives (Ok (accepts self.old block (entry_of self.old fs.number (new_bytes bytes.entry (life_bytes (life_at self.old.lives block)))
+            (accepted_entry self.old fs.number (new_bytes bytes (life_bytes (life_at self.old.lives block))) claims.adds.now claims.drops.now claims.after)).1 }
+        ensures state { Gives (Ok (accepts self.old block (accepted_entry self.old fs.number (new_bytes bytes.entry (life_bytes (life_at self.old.lives block)))
             claims.entry.adds.now claims.entry.drops.now claims.entry.after))) self.old self.new result }
     {
         let Claims { adds, drops, after } = claims;

@@ -4,7 +4,7 @@ ghost use Rattle.std.specs.Prelude.{◌≡◌};
 ghost use Rattle.xn_model.specs.Lives.{StoreState};
 ghost use Rattle.xn_model.specs.Results.{GivesExactly};
 ghost use Rattle.xn_model.specs.Calls.{forget_of};
-ghost use Rattle.xn_state.specs.Forgets.{forget_plan, is_untouched};
+ghost use Rattle.xn_state.specs.Forgets.{forget_plan, are_untouched};
 ghost use Rattle.xn_state.specs.States.{own_types};
 
 use crate::state::State;
@@ -49,7 +49,7 @@ impl State {
 
 /// Whether nothing is pending for a block but, where none of its states is known to be on the disk, its first entry.
 fn is_untouched(facts: Facts) -> bool
-    ensures { result ≡ is_untouched facts }
+    ensures { result ≡ are_untouched facts }
 {
     facts.pending == 0 || (!facts.is_durable && facts.pending == 1)
 }

@@ -1,6 +1,6 @@
 use Rattle.std.proofs.Common.{◌≡◌, ℕ, ◌<◌, length, Some, slice_get, vec_len, vec_capacity}
 use Rattle.disk.specs.Mem.{fresh_lane}
-use Rattle.disk.specs.Images.{block_at}
+use Rattle.disk.specs.Images.{block_of_image}
 use Rattle.disk.proofs.mem.fresh_lanes.Given as goal
 
 abbrev pub invariant-loop-block : goal.invariant-loop-block
@@ -8,5 +8,5 @@ invariant-loop-block l = record {
   len : vec_len l.places ≡ l.block;
   room : vec_capacity l.places ≡ l.blocks;
   long : length l.places.items ≡ l.block;
-  each : (k : ℕ) → k < l.block → slice_get l.places.items k ≡ Some (Some (fresh_lane k (block_at l.image k)));
+  each : (k : ℕ) → k < l.block → slice_get l.places.items k ≡ Some (Some (fresh_lane k (block_of_image l.image k)));
 }

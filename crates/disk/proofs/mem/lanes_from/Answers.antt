@@ -1,6 +1,6 @@
 use Rattle.std.proofs.Common.{◌≡◌, ◌∙◌, ℕ, ◌+◌, ◌-◌, ◌*◌, ◌/◌, ◌<◌, ◌≤◌, List, length, take, Some, slice_set, ap, arith}
 use Rattle.std.proofs.lemmas.Grind.{common_steps}
-use Rattle.disk.specs.Images.{block_at}
+use Rattle.disk.specs.Images.{block_of_image}
 use Rattle.disk.specs.Mem.{MemoryLane, fresh_lane}
 use Rattle.disk.proofs.BlockAt.{block_at-take}
 use Rattle.disk.proofs.Held.{filled-count, filled-empty, filled-each}
@@ -20,9 +20,9 @@ loop-done-preserved c =
     let at : b + done + 1 ≡ n = omega arith in
     let fits : 512 * (n - done) ≤ length all = omega arith in
     let within : 512 * b + 512 ≤ 512 * (n - done) = omega arith in
-    let lane : c.in_ok-lane.lane ≡ fresh_lane b (block_at all b) =
-    c.in_ok-lane.ensures ∙ ap (fresh_lane b) (c.block_of.ensures ∙ (ap (λ xs. block_at xs b) (c.deref.ensures.value ∙ before.rest) ∙ block_at-take all (512 * (n - done)) b within fits)) in
-    let put : c.put_in_place.new.lanes ≡ slice_set c.loop-done.lanes b (Some (fresh_lane b (block_at all b))) =
+    let lane : c.in_ok-lane.lane ≡ fresh_lane b (block_of_image all b) =
+    c.in_ok-lane.ensures ∙ ap (fresh_lane b) (c.block_of.ensures ∙ (ap (λ xs. block_of_image xs b) (c.deref.ensures.value ∙ before.rest) ∙ block_at-take all (512 * (n - done)) b within fits)) in
+    let put : c.put_in_place.new.lanes ≡ slice_set c.loop-done.lanes b (Some (fresh_lane b (block_of_image all b))) =
     c.put_in_place.ensures ∙ ap (λ (l : MemoryLane). slice_set c.loop-done.lanes l.number (Some l)) lane in
     record {
       rest = c.give_back.ensures ∙ shorter all c.loop-done.image.items (512 * (n - done)) (512 * (n - (done + 1))) (512 * b) before.rest (omega arith) (omega arith);

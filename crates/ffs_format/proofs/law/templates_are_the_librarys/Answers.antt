@@ -3,9 +3,9 @@ use Rattle.std.specs.Prelude.{Some, None, map, is_some, IsTrue}
 use Rattle.std.proofs.lemmas.Bool.{cases_eq}
 use Rattle.std.proofs.lemmas.List.{get_or-take}
 use Rattle.templates.specs.Formats.{table_of}
-use Rattle.templates.specs.Tables.{TableValue, owned_under, size_under, template_of, types_of}
+use Rattle.templates.specs.Tables.{TableValue, owned_under, size_under, template_of, table_types}
 use Rattle.ffs_model.specs.Library.{IsLibrary}
-use Rattle.ffs_format.specs.Library.{file_system_templates, inode_template, pointer_template, root_template}
+use Rattle.ffs_format.specs.Library.{file_system_templates, inode_template, pointer_template, library_root}
 use Rattle.ffs_format.proofs.OwnedPairs.{root_owns, inodes_own, pointers_own, root_sized, inodes_sized, pointers_sized}
 use Rattle.ffs_format.proofs.law.templates_are_the_librarys.Goals as goal
 
@@ -13,8 +13,8 @@ use Rattle.ffs_format.proofs.law.templates_are_the_librarys.Goals as goal
 named : (table : TableValue) → take 3 table ≡ map Some file_system_templates → (i : ℕ) → i < 3 → get_or table i None ≡ get_or (map Some file_system_templates) i None
 named table begins i few = sym (get_or-take 3 table i None few) ∙ ap (λ l. get_or l i None) begins
 
-first_three : (table : TableValue) → take 3 table ≡ map Some file_system_templates → IsLibrary (types_of table)
-unfolding types_of template_of
+first_three : (table : TableValue) → take 3 table ≡ map Some file_system_templates → IsLibrary (table_types table)
+unfolding table_types template_of
 first_three table begins =
     let root = named table begins 0 (lit< tt) in
     let inodes = named table begins 1 (lit< tt) in
@@ -46,7 +46,7 @@ returns-clause-formatted c = λ others. first_three (table_of (file_system_templ
 
 pub returns-clause-types : goal.returns-clause-types
 returns-clause-types c = λ T has.
-    let three = has 0 root_template refl in
+    let three = has 0 library_root refl in
     let four = has 1 inode_template refl in
     let five = has 2 pointer_template refl in
     record {

@@ -2,7 +2,7 @@ use Rattle.std.proofs.Common.{◌∙◌, ◌*◌, [], ◌∷◌, ap, length, ref
 use Rattle.xn_model.specs.Lists.{put}
 use Rattle.xn_model.specs.Calls.{init_of}
 use Rattle.ffs_model.specs.Cuts.{latest}
-use Rattle.ffs_model.specs.Library.{IsLibrary, zeros}
+use Rattle.ffs_model.specs.Library.{IsLibrary, zero_block}
 use Rattle.ffs_model.proofs.ForCallers.{data_begun}
 use Rattle.ffs_format.specs.Fields.{fields_of}
 use Rattle.ffs_lookup.proofs.ForCallers.{block_again, gives_err}
@@ -21,7 +21,7 @@ returns-in_err-block-clause-ends g c = λ T array inode e s is hole given.
     let new = g.S.Store.state_of c.init.new.self in
     let fs = c.args.fs.number in
     let n = c.args.number in
-    let bytes = put zeros c.args.at c.args.bytes.now in
+    let bytes = put zero_block c.args.at c.args.bytes.now in
     let gave = begins_err (g.S.Store.types_of c.args.store.now) T fs 2 _ bytes old new c.in_err-block.field-0.0 e c.block_with.ensures c.in_err-block.ensures.state in
     let same = gives_err (init_of T old fs 2 bytes) old new _ gave in
     let told = told_by (init_of T old fs 2 bytes) old new _ gave in
@@ -38,7 +38,7 @@ returns-in_err-home-clause-ends g c = λ T array inode e s is hole given.
     let fs = c.args.fs.number in
     let block = c.in_ok-block.block in
     let number = c.in_ok-block.field-0-1 in
-    let bytes = put zeros c.args.at c.args.bytes.now in
+    let bytes = put zero_block c.args.at c.args.bytes.now in
     let done = begins_by (g.S.Store.types_of c.args.store.now) T fs 2 _ bytes zeroth first (block, number) e c.block_with.ensures c.in_ok-block.ensures.state in
     let again = begun_again T fs array zeroth first s c.args.number inode is 2 bytes block number done in
     absurd (never inode _ (again ∙ sym (c.in_err-home.ensures.exact (subst IsLibrary (sym (c.init.ensures.types ∙ e)) s.library))))
@@ -55,7 +55,7 @@ returns-clause-ends g c = λ T array inode e s is hole given.
     let bytes = c.args.bytes.now in
     let block = c.in_ok-block.block in
     let number = c.in_ok-block.field-0-1 in
-    let done = begins_by (g.S.Store.types_of c.args.store.now) T fs 2 _ (put zeros at bytes) zeroth first (block, number) e c.block_with.ensures c.in_ok-block.ensures.state in
+    let done = begins_by (g.S.Store.types_of c.args.store.now) T fs 2 _ (put zero_block at bytes) zeroth first (block, number) e c.block_with.ensures c.in_ok-block.ensures.state in
     let types = c.init.ensures.types ∙ e in
     let found = c.in_ok-home.field-0 in
     let file = c.in_ok-home.ensures.found in
@@ -65,7 +65,7 @@ returns-clause-ends g c = λ T array inode e s is hole given.
     let set = ap fields_of c.bytes.ensures.bytes ∙ c.set_direct.ensures.fields in
     let edit = edit_at (64 * found.place) own ((block, 2) ∷ []) [] c.args.after in
     attaches T fs block found.block edit array first new _ _
-    (begun_stage T fs array zeroth first s n inode is 2 (put zeros at bytes) block number done) c.attach.result (c.attach.ensures.put T types)
+    (begun_stage T fs array zeroth first s n inode is 2 (put zero_block at bytes) block number done) c.attach.result (c.attach.ensures.put T types)
     (direct_short T fs array zeroth first s n inode is index at bytes c.requires.few hole c.requires.within block number done c.args.after given found file exact own whole set)
     (λ entry put_done. adds_direct T fs array zeroth first s n inode is index at bytes c.requires.few hole c.requires.within block number done c.args.after given found file exact own whole set new entry put_done)
     (λ fault left told. direct_undone T fs array zeroth first s n inode is index at bytes c.requires.few hole c.requires.within block number done c.args.after given found file exact own whole set new left fault (edit, told))

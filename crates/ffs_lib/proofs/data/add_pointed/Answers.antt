@@ -3,7 +3,7 @@ use Rattle.std.specs.Int.{w32, to_le_bytes}
 use Rattle.xn_model.specs.Lists.{put}
 use Rattle.xn_model.specs.Calls.{init_of}
 use Rattle.ffs_model.specs.Cuts.{latest}
-use Rattle.ffs_model.specs.Library.{zeros}
+use Rattle.ffs_model.specs.Library.{zero_block}
 use Rattle.ffs_model.proofs.ForCallers.{data_begun}
 use Rattle.ffs_lookup.proofs.ForCallers.{gives_err}
 use Rattle.ffs_lookup.specs.Newest.{file_block}
@@ -23,7 +23,7 @@ returns-in_err-block-clause-ends g c = λ T array n inode e s is points there lo
     let fs = c.args.fs.number in
     let index = c.args.index in
     let far = c.requires.far in
-    let bytes = put zeros c.args.at c.args.bytes.now in
+    let bytes = put zero_block c.args.at c.args.bytes.now in
     let gave = begins_err (g.S.Store.types_of c.args.store.now) T fs 2 _ bytes old new c.in_err-block.field-0.0 e c.block_with.ensures c.in_err-block.ensures.state in
     let same = gives_err (init_of T old fs 2 bytes) old new _ gave in
     let told = told_by (init_of T old fs 2 bytes) old new _ gave in
@@ -52,12 +52,12 @@ returns-clause-ends g c = λ T array n inode e s is points there long none given
     let small = c.is_word.ensures in
     let low : place < 128 = omega (arith, far, few) in
     let same : 12 + place ≡ index = omega (arith, far) in
-    let done = begins_by (g.S.Store.types_of c.args.store.now) T fs 2 _ (put zeros at bytes) zeroth first (block, number) e c.block_with.ensures c.in_ok-block.ensures.state in
+    let done = begins_by (g.S.Store.types_of c.args.store.now) T fs 2 _ (put zero_block at bytes) zeroth first (block, number) e c.block_with.ensures c.in_ok-block.ensures.state in
     let types = c.init.ensures.types ∙ e in
     let edit = edit_at (4 * place) (to_le_bytes w32 block) ((block, 2) ∷ []) [] c.args.after in
     let put_done = subst (λ (b : List ℕ). Attached T fs block last (edit_at (4 * place) b ((block, 2) ∷ []) [] c.args.after) first new c.attach.result) c.pointer_bytes.ensures.bytes (c.attach.ensures.put T types) in
     attaches T fs block last edit array first new _ _
-    (begun_stage T fs array zeroth first s n inode is 2 (put zeros at bytes) block number done) c.attach.result put_done
+    (begun_stage T fs array zeroth first s n inode is 2 (put zero_block at bytes) block number done) c.attach.result put_done
     (pointed_short T fs array zeroth first s n inode is last place at bytes points there low long none c.requires.within block number small done c.args.after given)
     (λ entry p. let x = adds_pointed T fs array zeroth first s n inode is last place at bytes points there low long none c.requires.within block number small done c.args.after given new entry p in
     (x.0, subst (λ (i : ℕ). PutsBy zeroth new fs n (512 * i + at) bytes entry) same x.1))

@@ -2,7 +2,7 @@ use Rattle.std.proofs.Common.{◌≡◌, ◌+◌, ◌-◌, ◌≤◌, ℕ, Optio
 use Rattle.std.specs.Prelude.{IsOk, min}
 use Rattle.xn_model.specs.Types.{Types}
 use Rattle.ffs_lookup.specs.Newest.{file_in}
-use Rattle.ffs_lib.specs.Steps.{Stage, newest}
+use Rattle.ffs_lib.specs.Steps.{Stage, newest_block}
 use Rattle.ffs_lib.specs.Writes.{Parts}
 use Rattle.ffs_lib.proofs.data.write_parts.Given as goal
 
@@ -14,7 +14,7 @@ invariant-loop-progress g l =
       types : g.S.Store.types_of l.store ≡ g.S.Store.types_of l.initial.store;
       none : l.progress.fault ≡ None;
       few : min l.end l.offset + l.progress.done ≤ l.offset + length l.bytes;
-      parts : (T : Types) (array : ℕ → Option ℕ) → g.S.Store.types_of l.initial.store ≡ T → Stage T l.fs.number array old → IsOk (file_in (newest old) l.fs.number l.number) →
+      parts : (T : Types) (array : ℕ → Option ℕ) → g.S.Store.types_of l.initial.store ≡ T → Stage T l.fs.number array old → IsOk (file_in (newest_block old) l.fs.number l.number) →
           Parts T l.fs.number array old (g.S.Store.state_of l.store) l.number l.end l.offset l.bytes l.progress;
     }
 

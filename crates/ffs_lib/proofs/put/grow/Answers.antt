@@ -1,7 +1,7 @@
 use Rattle.std.proofs.Common.{◌≡◌, ◌∙◌, ◌*◌, ℕ, List, [], ◌∷◌, Some, ap, arith, length, subst, sym}
 use Rattle.xn_model.specs.Calls.{init_of}
 use Rattle.ffs_model.specs.Cuts.{latest}
-use Rattle.ffs_model.specs.Library.{IsLibrary, inode_blocks, zeros}
+use Rattle.ffs_model.specs.Library.{IsLibrary, inode_blocks, zero_block}
 use Rattle.ffs_model.proofs.ForCallers.{data_begun}
 use Rattle.ffs_lookup.proofs.ForCallers.{block_again, gives_err}
 use Rattle.ffs_lib.proofs.Entering.{directory_from}
@@ -21,7 +21,7 @@ returns-in_err-block-clause-ends g c = λ T array directory name n e s m dir emp
     let old = g.S.Store.state_of c.args.store.now in
     let new = g.S.Store.state_of c.init.new.self in
     let fs = c.args.fs.number in
-    let bytes = put zeros 0 c.args.entry.now in
+    let bytes = put zero_block 0 c.args.entry.now in
     let given = begins_err (g.S.Store.types_of c.args.store.now) T fs 2 _ bytes old new c.in_err-block.field-0.0 e c.block_with.ensures c.in_err-block.ensures.state in
     let same = gives_err (init_of T old fs 2 bytes) old new _ given in
     let told = told_by (init_of T old fs 2 bytes) old new _ given in
@@ -37,7 +37,7 @@ returns-in_err-home-clause-ends g c = λ T array directory name n e s m dir empt
     let block = c.in_ok-block.block in
     let number = c.in_ok-block.field-0-1 in
     let bytes = c.args.entry.now in
-    let done = begins_by (g.S.Store.types_of c.args.store.now) T fs 2 _ (put zeros 0 bytes) zeroth first (block, number) e c.block_with.ensures c.in_ok-block.ensures.state in
+    let done = begins_by (g.S.Store.types_of c.args.store.now) T fs 2 _ (put zero_block 0 bytes) zeroth first (block, number) e c.block_with.ensures c.in_ok-block.ensures.state in
     let again = grow_again T fs array zeroth first s c.args.number directory dir n c.args.after m bytes name b c.args.index c.requires empty gap block number done in
     absurd (never directory _ (again ∙ sym (c.in_err-home.ensures.exact (subst IsLibrary (sym (c.init.ensures.types ∙ e)) s.library))))
 
@@ -50,7 +50,7 @@ returns-clause-ends g c = λ T array directory name n e s m dir empty gap b.
     let block = c.in_ok-block.block in
     let number = c.in_ok-block.field-0-1 in
     let bytes = c.args.entry.now in
-    let done = begins_by (g.S.Store.types_of c.args.store.now) T fs 2 _ (put zeros 0 bytes) zeroth first (block, number) e c.block_with.ensures c.in_ok-block.ensures.state in
+    let done = begins_by (g.S.Store.types_of c.args.store.now) T fs 2 _ (put zero_block 0 bytes) zeroth first (block, number) e c.block_with.ensures c.in_ok-block.ensures.state in
     let types = c.init.ensures.types ∙ e in
     let found = c.in_ok-home.field-0 in
     let exact = c.in_ok-home.ensures.exact (subst IsLibrary (sym types) s.library) in

@@ -2,7 +2,7 @@ use Rattle.std.proofs.Common.{List, ℕ, length, ap, ◌∙◌, subst}
 use Rattle.std.specs.Prelude.{Contains}
 use Rattle.std.specs.Int.{w16, to_le_bytes}
 use Rattle.xn_model.specs.Lists.{put}
-use Rattle.ffs_model.specs.Library.{inode_blocks, library_layout, zeros}
+use Rattle.ffs_model.specs.Library.{inode_blocks, library_layout, zero_block}
 use Rattle.ffs_model.proofs.ForCallers.{one_inode}
 use Rattle.ffs_format.specs.Fields.{Fields}
 use Rattle.ffs_lib.proofs.Fields.{free_blocks, same_blocks}
@@ -20,5 +20,5 @@ returns-clause-bare c = λ p block h.
 
 pub returns-clause-exact : goal.returns-clause-exact
 returns-clause-exact c =
-    c.block_with.ensures ∙ ap (λ (b : List ℕ). put zeros 0 b)
+    c.block_with.ensures ∙ ap (λ (b : List ℕ). put zero_block 0 b)
     (c.bytes.ensures.bytes ∙ (c.set_links.ensures.bytes ∙ ap (λ (b : List ℕ). put b 2 (to_le_bytes w16 1)) (c.set_mode.ensures.bytes ∙ ap (λ (b : List ℕ). put b 0 (to_le_bytes w16 2)) c.free-inode.ensures)))

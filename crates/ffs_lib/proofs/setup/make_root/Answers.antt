@@ -1,7 +1,7 @@
 use Rattle.std.proofs.Common.{◌∙◌, Some, refl, subst, sym}
 use Rattle.std.proofs.lemmas.Result.{err_from_is_err_and}
 use Rattle.xn_model.specs.Calls.{new_life}
-use Rattle.ffs_model.specs.Library.{zeros}
+use Rattle.ffs_model.specs.Library.{zero_block}
 use Rattle.ffs_model.proofs.ForCallers.{gives_short, root_begun}
 use Rattle.std.specs.Prelude.{OnOk}
 use Rattle.xn_model.specs.Rules.{IsConsistent}
@@ -66,4 +66,4 @@ returns-clause-short g c = λ lib h none.
     let number = c.in_ok-block.field-0-1 in
     let given = c.in_ok-block.ensures.state in
     subst OnlyShort (sym c.forgotten.ensures.same)
-    (c.set_root-made.ensures.short (new_life zeroth.next (Some fs) 3 zeros) (new_own T fs zeroth first h c.args.fs.few 3 block number zeros given) refl (none_named T fs zeroth first h c.args.fs.few 3 block number zeros given none))
+    (c.set_root-made.ensures.short (new_life zeroth.next (Some fs) 3 zero_block) (new_own T fs zeroth first h c.args.fs.few 3 block number zero_block given) refl (none_named T fs zeroth first h c.args.fs.few 3 block number zero_block given none))

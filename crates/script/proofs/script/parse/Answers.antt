@@ -3,7 +3,7 @@ use Rattle.std.proofs.lemmas.Iterator.Consumers.{YieldsList-at, YieldsList-end, 
 use Rattle.std.proofs.lemmas.Iterator.Splits.{YieldsList-from_str_split}
 use Rattle.std.proofs.lemmas.List.{length_push}
 use Rattle.script.specs.Events.{SpellNothing}
-use Rattle.script.specs.Scripts.{lines_of, is_passed_over, words_of, SpellsSome}
+use Rattle.script.specs.Scripts.{lines_of, is_passed_over, line_words, SpellsSome}
 use Rattle.script.proofs.ScriptLines.{all_read, line_at, passed_over, spelled_more, first_unreadable, IsReadTo}
 use Rattle.script.proofs.script.parse.Goals as goal
 
@@ -35,10 +35,10 @@ returns-in-None-2-clause-fault c =
     let road = YieldsList-from_enumerate (YieldsList-at (cc) (YieldsList-from_str_split {s = c.split.result} 10 c.args.script.now (omega arith) c.split.ensures.text c.split.ensures.has_more c.split.ensures.pattern)) (cc) in
     let turn = YieldsList-turn road c.loop-place.yielded _ c.loop-place.yielded_by _ _ _ c.in-Some.is c.next.ensures.steps in
     let line = line_at (lines_of c.args.script.now) (length c.loop-place.yielded) c.in-Some.place c.in-Some.text.now turn in
-    let none : SpellNothing (words_of c.in-Some.text.now) = rw c.in-None-2.is at c.in_ok-line.ensures.none in
+    let none : SpellNothing (line_words c.in-Some.text.now) = rw c.in-None-2.is at c.in_ok-line.ensures.none in
     first_unreadable c.args.script.now (length c.loop-place.yielded) (c.in-Some.place + 1) c.loop-place.lines.items line.within (ap (λ n. n + 1) line.counted)
     (ap is_passed_over line.at ∙ (sym c.is_passed_over.ensures ∙ c.if-is_passed_over.false))
-    (subst (λ text. SpellNothing (words_of text)) (sym line.at) none) c.loop-place.invariant
+    (subst (λ text. SpellNothing (line_words text)) (sym line.at) none) c.loop-place.invariant
 
 pub returns-clause-lines : goal.returns-clause-lines
 returns-clause-lines c =

@@ -1,5 +1,5 @@
 use Rattle.std.proofs.Common.{◌-◌, ◌≤◌, ◌+◌, ◌*◌}
-use Rattle.udf_verify.specs.Checks.{Answer, Checks}
+use Rattle.udf_verify.specs.Checks.{CheckAnswer, Checks}
 use Rattle.udf_verify.proofs.check.+check.Given as goal
 
 abbrev pub decreases-check_block : goal.decreases-check_block
@@ -17,7 +17,7 @@ decreases-check_turns l = 4 * (l.part.end - l.part.start) + 1
 -- what the whole check answers, the check from here on answers
 abbrev pub invariant-check_block-loop-at : goal.invariant-check_block-loop-at
 invariant-check_block-loop-at l =
-    (l.from ≤ l.at) × ((answer : Answer) → Checks l.words l.targets l.from l.to l.role l.counters l.initial.intervals answer → Checks l.words l.targets l.at l.to l.role l.counters l.intervals answer)
+    (l.from ≤ l.at) × ((answer : CheckAnswer) → Checks l.words l.targets l.from l.to l.role l.counters l.initial.intervals answer → Checks l.words l.targets l.at l.to l.role l.counters l.intervals answer)
 
 abbrev pub decreases-check_block-loop-at : goal.decreases-check_block-loop-at
 decreases-check_block-loop-at l = l.to - l.at

@@ -1,6 +1,6 @@
 use Rattle.std.proofs.Common.{◌≡◌, ◌∙◌, None, Some, length, sym, ap, subst, slice_set}
 use Rattle.std.specs.Prelude.{option_map, unwrap_or}
-use Rattle.disk.specs.Mem.{MemoryLane, crashed}
+use Rattle.disk.specs.Mem.{MemoryLane, crashed_lane}
 use Rattle.xn_kernel.proofs.ForCallers.{set_twice}
 use Rattle.world.specs.Disks.{lane_at, IsLong}
 use Rattle.world.proofs.Places.{place_at-same}
@@ -9,7 +9,7 @@ use Rattle.world.proofs.unmounted.crash_lane.Goals as goal
 pub returns-in-None-clause-crashed : goal.returns-in-None-clause-crashed
 returns-in-None-clause-crashed c =
     let none : lane_at c.args.lanes.now c.args.block ≡ None = ap (λ o. unwrap_or o None) c.take.ensures.lane ∙ c.in-None.is in
-    c.take.ensures.rest ∙ ap (slice_set c.args.lanes.now c.args.block) (sym (ap (option_map (λ lane. crashed lane c.args.kept)) none))
+    c.take.ensures.rest ∙ ap (slice_set c.args.lanes.now c.args.block) (sym (ap (option_map (λ lane. crashed_lane lane c.args.kept)) none))
 
 pub returns-in-None-clause-long : goal.returns-in-None-clause-long
 returns-in-None-clause-long c = subst IsLong (sym (ap (λ ls. lane_at ls c.args.block) c.take.ensures.rest ∙ place_at-same c.args.lanes.now c.args.block None c.requires)) tt
@@ -19,8 +19,8 @@ returns-in-Ok-clause-crashed c =
     let here : lane_at c.args.lanes.now c.args.block ≡ Some c.in-Some.lane = ap (λ o. unwrap_or o None) c.take.ensures.lane ∙ c.in-Some.is in
     let number : c.crash.new.self.number ≡ c.args.block = ap (λ (l : MemoryLane). l.number) c.crash.ensures ∙ c.in-Some.ensures.number in
     c.in-Ok.ensures.ok ∙ (λ i. slice_set (c.take.ensures.rest i) (number i) (Some (c.crash.ensures i)))
-    ∙ set_twice c.args.lanes.now c.args.block None (Some (crashed c.in-Some.lane c.args.kept))
-    ∙ ap (slice_set c.args.lanes.now c.args.block) (sym (ap (option_map (λ lane. crashed lane c.args.kept)) here))
+    ∙ set_twice c.args.lanes.now c.args.block None (Some (crashed_lane c.in-Some.lane c.args.kept))
+    ∙ ap (slice_set c.args.lanes.now c.args.block) (sym (ap (option_map (λ lane. crashed_lane lane c.args.kept)) here))
 
 pub returns-in-Ok-clause-long : goal.returns-in-Ok-clause-long
 returns-in-Ok-clause-long c =

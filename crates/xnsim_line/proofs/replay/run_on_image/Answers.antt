@@ -1,7 +1,7 @@
 use Rattle.std.proofs.Common.{◌≡◌}
 use Rattle.xn_model.specs.Images.{joined}
 use Rattle.world.specs.Worlds.{world_with}
-use Rattle.xnsim_line.specs.Done.{IsMountFault, IsRunFault}
+use Rattle.xnsim_line.specs.Done.{IsFaultOnImage, IsRunFault}
 use Rattle.xnsim_line.proofs.MountFaults.{run_fault}
 use Rattle.xnsim_line.proofs.StoppedRuns.{asked_run, ended, fault_then}
 use Rattle.xnsim_line.proofs.replay.run_on_image.Goals as goal
@@ -15,4 +15,4 @@ returns-in-Ok-clause-run g c =
     c.in-Ok.ensures.ok.0 c.in-Ok.ensures.ok.1 reached ran)
 
 pub returns-in-Ok-clause-fault : goal.returns-in-Ok-clause-fault
-returns-in-Ok-clause-fault g c = fault_then c.end_run.result IsRunFault (IsMountFault c.args.image.items) c.end_run.ensures.fault (run_fault c.args.image.items)
+returns-in-Ok-clause-fault g c = fault_then c.end_run.result IsRunFault (IsFaultOnImage c.args.image.items) c.end_run.ensures.fault (run_fault c.args.image.items)

@@ -1,7 +1,7 @@
 use Rattle.std.proofs.Common.{◌≡◌, ◌∙◌, Option, sym, subst}
 use Rattle.std.specs.Prelude.{IfSome, drop}
 use Rattle.xn_model.specs.Lives.{Life}
-use Rattle.block_cache.specs.Undone.{before, entries_of}
+use Rattle.block_cache.specs.Undone.{before, entries_under}
 use Rattle.block_cache.specs.Views.{image_at}
 use Rattle.block_cache.proofs.Steps.{image_there, life_there}
 use Rattle.block_cache.proofs.cache.Cache.image_into.Goals as goal
@@ -18,6 +18,6 @@ returns c =
     let life = c.in-Some.life.now in
     let image = image_there slab places c.args.self.now c.args.block life c.args.count c.self.invariant.kept c.self.view_is c.in-Some.ensures c.requires.has in
     let there = life_there slab places c.args.self.now c.args.block life c.self.view_is c.in-Some.ensures in
-    let left = c.roll_back.ensures ∙ (λ i. before (entries_of slab (drop c.args.count (c.keys.ensures i))) (c.current.ensures i)) in
+    let left = c.roll_back.ensures ∙ (λ i. before (entries_under slab (drop c.args.count (c.keys.ensures i))) (c.current.ensures i)) in
     let P : Option Life → Type 0 = λ o. IfSome o (λ l. c.roll_back.new.image ≡ image_at c.args.count l) in
     subst P (sym there) (left ∙ image.1)

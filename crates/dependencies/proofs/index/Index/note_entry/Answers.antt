@@ -4,7 +4,7 @@ use Rattle.xn_model.specs.Lives.{life_at}
 use Rattle.block_cache.specs.Systems.{system_of}
 use Rattle.dependencies.specs.Candidates.{with_candidate}
 use Rattle.dependencies.specs.Counts.{noted_for}
-use Rattle.dependencies.specs.Homes.{with_home}
+use Rattle.dependencies.specs.Homes.{homes_with}
 use Rattle.dependencies.specs.Index.{IndexValue, IsIndex}
 use Rattle.dependencies.specs.Pending.{pends}
 use Rattle.dependencies.proofs.Counting.{system_few, system_within}
@@ -28,7 +28,7 @@ returns c = λ lives s is alive first entry for fresh.
     let f = system_of c.args.fs in
     let number = sym entry in
     let note = c.note_entry.ensures ∙ ap (λ t. cond t (with_candidate index.candidates b true) index.candidates) first in
-    let home = c.put.ensures.home ∙ ap (λ n. with_home index.homes n b) number in
+    let home = c.put.ensures.home ∙ ap (λ n. homes_with index.homes n b) number in
     let room = subst (λ n. n % length index.homes < length index.homes) number c.put.ensures.room in
     let noted = c.count_entry.ensures.oldest ∙ ap (λ n. noted_for f n index.pending index.oldest) number in
     rw (c.mark.ensures, note, home, c.count_entry.ensures.pending, noted) (

@@ -1,6 +1,6 @@
 use Rattle.std.proofs.Common.{◌≡◌, ◌*◌, ◌<◌, ◌∙◌, [], ◌∷◌, ℕ, List, None, Ok, Option, arith, length, subst, sym}
 use Rattle.xn_model.specs.Calls.{init_of, propose_of}
-use Rattle.ffs_model.specs.Library.{library_layout, zeros}
+use Rattle.ffs_model.specs.Library.{library_layout, zero_block}
 use Rattle.ffs_model.specs.Volumes.{VolumeKeeps}
 use Rattle.ffs_model.proofs.ForCallers.{free_begun}
 use Rattle.ffs_lookup.proofs.ForCallers.{gives_err, gives_ok}
@@ -22,7 +22,7 @@ returns-in_err-block-clause-leaves g c =
     let v = c.requires.volume in
     let fs = volume.fs.number in
     let s : Stage T fs (edits_of volume.added) zeroth = record { library = v.library; few = volume.fs.few; keeps = v.keeps } in
-    let r = init_of T zeroth fs 4 zeros in
+    let r = init_of T zeroth fs 4 zero_block in
     let same = gives_err r zeroth first c.in_err-block.field-0.0 c.in_err-block.ensures.state in
     let told = told_by r zeroth first c.in_err-block.field-0.0 c.in_err-block.ensures.state in (
       record { library = v.library; keeps = (same_stage s same).keeps },
@@ -42,7 +42,7 @@ returns-in_err-index-clause-leaves g c =
     let s : Stage T fs array zeroth = record { library = v.library; few = volume.fs.few; keeps = v.keeps } in
     let block = c.in_ok-block.block in
     let number = c.in_ok-block.field-0-1 in
-    let done = gives_ok (init_of T zeroth fs 4 zeros) zeroth first (block, number) c.in_ok-block.ensures.state in
+    let done = gives_ok (init_of T zeroth fs 4 zero_block) zeroth first (block, number) c.in_ok-block.ensures.state in
     let free = point_free T fs array zeroth first s c.requires.room block number done in
     absurd (true_false _ free.empty (c.in_err-index.ensures.exact free.root free.is_root).1)
 
@@ -58,7 +58,7 @@ returns-in_err-root-clause-leaves g c =
     let s : Stage T fs array zeroth = record { library = v.library; few = volume.fs.few; keeps = v.keeps } in
     let block = c.in_ok-block.block in
     let number = c.in_ok-block.field-0-1 in
-    let done = gives_ok (init_of T zeroth fs 4 zeros) zeroth first (block, number) c.in_ok-block.ensures.state in
+    let done = gives_ok (init_of T zeroth fs 4 zero_block) zeroth first (block, number) c.in_ok-block.ensures.state in
     let free = point_free T fs array zeroth first s c.requires.room block number done in
     absurd (never free.root _ (free.is_root ∙ sym c.in_err-root.ensures.exact))
 
@@ -74,7 +74,7 @@ returns-in_err-entry-clause-leaves g c =
     let s : Stage T fs array zeroth = record { library = v.library; few = volume.fs.few; keeps = v.keeps } in
     let block = c.in_ok-block.block in
     let number = c.in_ok-block.field-0-1 in
-    let done = gives_ok (init_of T zeroth fs 4 zeros) zeroth first (block, number) c.in_ok-block.ensures.state in
+    let done = gives_ok (init_of T zeroth fs 4 zero_block) zeroth first (block, number) c.in_ok-block.ensures.state in
     let index = c.in_ok-index.index in
     let root = c.in_ok-root.root in
     let at = point_stage T fs array zeroth first s c.requires.room block number done in
@@ -102,7 +102,7 @@ returns-clause-leaves g c =
     let s : Stage T fs array zeroth = record { library = v.library; few = volume.fs.few; keeps = v.keeps } in
     let block = c.in_ok-block.block in
     let number = c.in_ok-block.field-0-1 in
-    let done = gives_ok (init_of T zeroth fs 4 zeros) zeroth first (block, number) c.in_ok-block.ensures.state in
+    let done = gives_ok (init_of T zeroth fs 4 zero_block) zeroth first (block, number) c.in_ok-block.ensures.state in
     let new = g.S.Store.state_of c.attach.new.store in
     let index = c.in_ok-index.index in
     let root = c.in_ok-root.root in

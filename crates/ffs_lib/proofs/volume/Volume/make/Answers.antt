@@ -1,7 +1,7 @@
 use Rattle.std.proofs.Common.{◌≡◌, ℕ, Option, Ok, Err, inr, true, length, ap, ◌∙◌, inl, refl, subst, sym}
 use Rattle.std.specs.Prelude.{OnOk}
 use Rattle.xn_model.specs.Calls.{init_of, may_add}
-use Rattle.ffs_model.specs.Library.{IsLibrary, library_layout, zeros}
+use Rattle.ffs_model.specs.Library.{IsLibrary, library_layout, zero_block}
 use Rattle.ffs_model.specs.Volumes.{VolumeKeeps, no_edits}
 use Rattle.ffs_lib.specs.Outcomes.{GetsRoot, Keeps, Leaves, MakesTop, OnlyShort, Starts}
 use Rattle.xn_model.specs.Lists.{put}
@@ -67,7 +67,7 @@ returns-in_err-prepare_root-clause-forgotten g c =
     let new = g.S.Store.state_of c.prepare_root.new.store in
     let begun = c.in_ok-block in
     on_err c.from_residual-in_err-prepare_root.result
-    (undoes T fs zeroth first new begun.block begun.field-0-1 c.first_inodes.result (put zeros 0 (new_inode 2)) c.first_inodes.ensures.exact begun.ensures.state
+    (undoes T fs zeroth first new begun.block begun.field-0-1 c.first_inodes.result (put zero_block 0 (new_inode 2)) c.first_inodes.ensures.exact begun.ensures.state
     (subst (λ t. LastForgets t fs begun.block new) c.init.ensures.types c.in_err-prepare_root.ensures.forgotten))
 
 pub returns-in_err-forgotten-clause-forgotten : goal.returns-in_err-forgotten-clause-forgotten
@@ -81,7 +81,7 @@ returns-in_err-forgotten-clause-forgotten g c =
     let begun = c.in_ok-block in
     let before = c.attach_first-attached.ensures.types ∙ (c.in_ok-prepare_root.ensures.types ∙ c.init.ensures.types) in
     on_err c.from_residual-in_err-forgotten.result
-    (undoes T fs zeroth first new begun.block begun.field-0-1 c.first_inodes.result (put zeros 0 (new_inode 2)) c.first_inodes.ensures.exact begun.ensures.state
+    (undoes T fs zeroth first new begun.block begun.field-0-1 c.first_inodes.result (put zero_block 0 (new_inode 2)) c.first_inodes.ensures.exact begun.ensures.state
     (subst (λ t. LastForgets t fs begun.block new) before (third, c.in_err-forgotten.ensures.forgotten)))
 
 pub returns-in_err-forgotten-clause-err : goal.returns-in_err-forgotten-clause-err

@@ -1,5 +1,5 @@
 use Rattle.std.proofs.Common.{map, ◌∙◌, ap, sym}
-use Rattle.templates.specs.Meaning.{pair_of}
+use Rattle.templates.specs.Meaning.{numbers_of_pair}
 use Rattle.templates.proofs.TablePlaces.{leaf_owned, not_absent, owned_is}
 use Rattle.templates.proofs.table.Table.owns.Goals as goal
 
@@ -11,4 +11,4 @@ returns c = owned_is c.args.self.now c.args.ty c.in-Some.template.now (sym c.in-
     c.owns-in-Some.new.out.items c.owns.ensures.value c.owns-in-Some.ensures.pairs
 
 pub returns-then-is_leaf : goal.returns-then-is_leaf
-returns-then-is_leaf c = ap (map pair_of) c.clear.ensures ∙ leaf_owned c.args.self.now c.args.ty (c.is_leaf.ensures.0 c.if-is_leaf.true) c.args.block.now
+returns-then-is_leaf c = ap (map numbers_of_pair) c.clear.ensures ∙ leaf_owned c.args.self.now c.args.ty (c.is_leaf.ensures.0 c.if-is_leaf.true) c.args.block.now

@@ -2,7 +2,7 @@ use Rattle.std.proofs.Common.{◌≡◌, ◌∙◌, ℕ, ◌+◌, ◌-◌, ◌�
 use Rattle.std.specs.Prelude.{◌==◌, is_some, slice_index, slice_set, IsTrue}
 use Rattle.xn_model.specs.Lives.{Lives, accepted_at, dropped_after, life_at, owned_after}
 use Rattle.xn_model.specs.Calls.{life_bytes}
-use Rattle.block_cache.specs.Claims.{state_of}
+use Rattle.block_cache.specs.Claims.{claimed_state}
 use Rattle.block_cache.specs.NewBytes.{new_bytes}
 use Rattle.claims.specs.Owned.{MayClaim}
 use Rattle.claims.proofs.ForCallers.{accepted_counts, alive_place, few_owned, may_drop_all}
@@ -38,7 +38,7 @@ invariant_of-self-2 c =
     let block = c.args.block in
     let cache = c.self.inside.cache in
     let owned = c.self.inside.owned in
-    let state = state_of c.args.claim (new_bytes c.args.bytes (life_bytes (life_at cache block))) in
+    let state = claimed_state c.args.claim (new_bytes c.args.bytes (life_bytes (life_at cache block))) in
     let lives = c.set_owned.ensures
     ∙ ((λ i. owned_after block (c.set_dropped.ensures i) (sym c.requires.adds i))
     ∙ (λ i. owned_after block (dropped_after block (c.in_ok-append.ensures.ok i) (sym c.requires.drops i)) c.args.claim.adds)) in

@@ -3,8 +3,8 @@ use Rattle.std.specs.Prelude.{is_some, IsTrue}
 use Rattle.xn_model.specs.Lives.{StoreState, accepted_at, life_at}
 use Rattle.xn_model.specs.Calls.{accepts, life_bytes}
 use Rattle.block_cache.specs.NewBytes.{new_bytes}
-use Rattle.block_cache.specs.Claims.{ClaimValue, state_of}
-use Rattle.xn_state.specs.Proposals.{entry_of}
+use Rattle.block_cache.specs.Claims.{ClaimValue, claimed_state}
+use Rattle.xn_state.specs.Proposals.{accepted_entry}
 use Rattle.xn_state.specs.States.{Continues, own_types}
 use Rattle.claims.specs.Decided.{Decides}
 use Rattle.claims.proofs.ForCallers.{accepted_decided, alive_place}
@@ -17,10 +17,10 @@ pub invariant_of-self-2 : goal.invariant_of-self-2
 invariant_of-self-2 c =
     let old = keeping.state_of c.self.inside.lives c.self.inside.next in
     let bytes = λ (s : StoreState). new_bytes c.args.bytes (life_bytes (life_at s.lives c.args.block)) in
-    let entry = entry_of old c.args.fs.number (bytes old) c.args.claims.adds.now c.args.claims.drops.now c.args.claims.after in
-    let kept = subst (λ (s : StoreState). Continues s (accepts s c.args.block (entry_of s c.args.fs.number (bytes s) c.args.claims.adds.now c.args.claims.drops.now c.args.claims.after)).1)
+    let entry = accepted_entry old c.args.fs.number (bytes old) c.args.claims.adds.now c.args.claims.drops.now c.args.claims.after in
+    let kept = subst (λ (s : StoreState). Continues s (accepts s c.args.block (accepted_entry s c.args.fs.number (bytes s) c.args.claims.adds.now c.args.claims.drops.now c.args.claims.after)).1)
     (sym c.self.view_is) c.requires.continues in
-    let lives = c.in-Ok-accept.ensures.ok ∙ ap (λ (claim : ClaimValue). accepted_at c.self.inside.lives c.args.block (state_of claim (bytes old))) c.in-Ok.ensures in
+    let lives = c.in-Ok-accept.ensures.ok ∙ ap (λ (claim : ClaimValue). accepted_at c.self.inside.lives c.args.block (claimed_state claim (bytes old))) c.in-Ok.ensures in
     let decides = subst (λ (s : StoreState). Decides (own_types s) s.lives c.args.block (bytes s) c.args.reads) (sym c.self.view_is) c.requires.reads in
     let decided = accepted_decided (own_types old) c.self.inside.reads c.self.inside.lives c.args.block entry c.args.reads c.self.invariant.decided decides in
     rw (c.set.ensures, lives) (keeping.goes_on c.self.inside.table c.self.inside.reads (slice_set c.self.inside.reads c.args.block c.args.reads) old (accepts old c.args.block entry).1 c.self.invariant kept decided)

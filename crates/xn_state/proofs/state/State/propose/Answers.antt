@@ -5,7 +5,7 @@ use Rattle.xn_model.specs.Results.{Gives}
 use Rattle.xn_model.specs.Lives.{StoreState, life_at}
 use Rattle.xn_model.specs.Calls.{Edit, accepts, life_bytes, patched}
 use Rattle.xn_state.specs.States.{own_types}
-use Rattle.xn_state.specs.Proposals.{entry_of}
+use Rattle.xn_state.specs.Proposals.{accepted_entry}
 use Rattle.xn_state.proofs.Proposing.{edit_made, edit_refused, edit_continues}
 use Rattle.xn_state.proofs.Claiming.{edit_claims}
 use Rattle.xn_state.proofs.state.State.propose.Goals as goal
@@ -31,8 +31,8 @@ returns c =
     let state = c.args.self.now in
     let edit = c.args.edit.now in
     let made = edit_made (own_types state) state c.args.fs.number c.args.block edit (left_by c.args.self.now c.args.block c.args.edit.now) (sym c.in_ok-reads.ensures.plan) in
-    let same : Ok (accepts state c.args.block (entry_of state c.args.fs.number (left_by c.args.self.now c.args.block c.args.edit.now) c.adds.result.now c.drops.result.now c.after.result))
-    ≡ Ok (accepts state c.args.block (entry_of state c.args.fs.number (left_by c.args.self.now c.args.block c.args.edit.now) edit.adds edit.drops edit.after)) = λ i. Ok (accepts state c.args.block (entry_of state c.args.fs.number (left_by c.args.self.now c.args.block c.args.edit.now) (c.adds.ensures i) (c.drops.ensures i) (c.after.ensures i))) in
+    let same : Ok (accepts state c.args.block (accepted_entry state c.args.fs.number (left_by c.args.self.now c.args.block c.args.edit.now) c.adds.result.now c.drops.result.now c.after.result))
+    ≡ Ok (accepts state c.args.block (accepted_entry state c.args.fs.number (left_by c.args.self.now c.args.block c.args.edit.now) edit.adds edit.drops edit.after)) = λ i. Ok (accepts state c.args.block (accepted_entry state c.args.fs.number (left_by c.args.self.now c.args.block c.args.edit.now) (c.adds.ensures i) (c.drops.ensures i) (c.after.ensures i))) in
     record { state = subst (λ r. Gives r state c.accept.new.self c.accept.result) (same ∙ sym made) c.accept.ensures.state }
 
 pub returns-in_err-undo : goal.returns-in_err-undo

@@ -2,11 +2,11 @@ use Rattle.std.proofs.Common.{◌≡◌, ℕ, Ok, OnErr, subst}
 use Rattle.ffs_lookup.specs.Files.{Files, created, new_directory}
 use Rattle.ffs_lookup.specs.FileValues.{files_of}
 use Rattle.ffs_lib.specs.Stages.{Makes, OnlyMade}
-use Rattle.ffs_lib.specs.Steps.{newest}
+use Rattle.ffs_lib.specs.Steps.{newest_block}
 use Rattle.xnfs_session.proofs.session.Session.mkdir.Goals as goal
 
 pub returns-clause-inodes : goal.returns-clause-inodes
 returns-clause-inodes g c =
-    subst (λ v. (next : ℕ × Files) → created new_directory (files_of (newest (g.S.Store.state_of v.store)) v.fs) c.args.directory c.args.name.now ≡ Ok next →
-    Makes (newest (g.S.Store.state_of v.store)) (newest (g.S.Store.state_of c.mkdir.new.store)) v.fs c.args.directory 2 next.0
-    × OnErr c.mkdir.result (OnlyMade (newest (g.S.Store.state_of v.store)) (newest (g.S.Store.state_of c.mkdir.new.store)) v.fs next.0)) c.self.view_is c.mkdir.ensures.inodes
+    subst (λ v. (next : ℕ × Files) → created new_directory (files_of (newest_block (g.S.Store.state_of v.store)) v.fs) c.args.directory c.args.name.now ≡ Ok next →
+    Makes (newest_block (g.S.Store.state_of v.store)) (newest_block (g.S.Store.state_of c.mkdir.new.store)) v.fs c.args.directory 2 next.0
+    × OnErr c.mkdir.result (OnlyMade (newest_block (g.S.Store.state_of v.store)) (newest_block (g.S.Store.state_of c.mkdir.new.store)) v.fs next.0)) c.self.view_is c.mkdir.ensures.inodes

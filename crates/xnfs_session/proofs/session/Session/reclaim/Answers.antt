@@ -5,15 +5,15 @@ use Rattle.ffs_lookup.specs.Newest.{mapped}
 use Rattle.ffs_lookup.specs.Repairs.{repair_at}
 use Rattle.ffs_lib.specs.Reclaiming.{LeftByRepair, needs, reclaimed, reclaimed_stages}
 use Rattle.ffs_lib.specs.Stages.{Does}
-use Rattle.ffs_lib.specs.Steps.{newest}
+use Rattle.ffs_lib.specs.Steps.{newest_block}
 use Rattle.xnfs_session.proofs.session.Session.reclaim.Goals as goal
 
 pub returns-clause-answers : goal.returns-clause-answers
 returns-clause-answers g c =
-    subst (λ v. Does (g.S.Store.types_of v.store) v.fs (if_idle (g.S.Store.state_of v.store) v.fs (reclaimed (files_of (newest (g.S.Store.state_of v.store)) v.fs))) (reclaimed_stages (files_of (newest (g.S.Store.state_of v.store)) v.fs))
+    subst (λ v. Does (g.S.Store.types_of v.store) v.fs (if_idle (g.S.Store.state_of v.store) v.fs (reclaimed (files_of (newest_block (g.S.Store.state_of v.store)) v.fs))) (reclaimed_stages (files_of (newest_block (g.S.Store.state_of v.store)) v.fs))
     (g.S.Store.state_of v.store) (g.S.Store.state_of c.reclaim.new.store) (mapped (λ repairs. repair_at repairs.each) c.reclaim.result)) c.self.view_is c.reclaim.ensures.answers
 
 pub returns-clause-inodes : goal.returns-clause-inodes
 returns-clause-inodes g c =
-    subst (λ v. (n : ℕ) → LeftByRepair (newest (g.S.Store.state_of v.store)) (newest (g.S.Store.state_of c.reclaim.new.store)) v.fs n (needs (files_of (newest (g.S.Store.state_of v.store)) v.fs) n)) c.self.view_is
+    subst (λ v. (n : ℕ) → LeftByRepair (newest_block (g.S.Store.state_of v.store)) (newest_block (g.S.Store.state_of c.reclaim.new.store)) v.fs n (needs (files_of (newest_block (g.S.Store.state_of v.store)) v.fs) n)) c.self.view_is
     c.reclaim.ensures.inodes

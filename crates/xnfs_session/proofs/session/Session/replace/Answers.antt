@@ -1,10 +1,10 @@
 use Rattle.std.proofs.Common.{◌≡◌, Ok, subst}
 use Rattle.ffs_lookup.specs.declared.places.Slot.{Slot}
 use Rattle.ffs_lib.specs.Replacing.{Replaced, replace_in}
-use Rattle.ffs_lib.specs.Steps.{newest}
+use Rattle.ffs_lib.specs.Steps.{newest_block}
 use Rattle.xnfs_session.proofs.session.Session.replace.Goals as goal
 
 pub returns-clause-inodes : goal.returns-clause-inodes
 returns-clause-inodes g c =
-    subst (λ v. (from to : Slot) → Ok (from, to) ≡ replace_in (newest (g.S.Store.state_of v.store)) v.fs c.args.directory c.args.name.now c.args.other c.args.other_name.now →
+    subst (λ v. (from to : Slot) → Ok (from, to) ≡ replace_in (newest_block (g.S.Store.state_of v.store)) v.fs c.args.directory c.args.name.now c.args.other c.args.other_name.now →
     Replaced (g.S.Store.state_of v.store) (g.S.Store.state_of c.replace.new.store) v.fs c.args.directory from c.args.other to c.replace.result) c.self.view_is c.replace.ensures.inodes

@@ -3,11 +3,11 @@ use Rattle.std.specs.Prelude.{OnErr}
 use Rattle.ffs_lookup.specs.declared.places.Slot.{Slot}
 use Rattle.ffs_lookup.specs.Newest.{unlink_in}
 use Rattle.ffs_lib.specs.Stages.{KeptOrEmptied, Unnames}
-use Rattle.ffs_lib.specs.Steps.{newest}
+use Rattle.ffs_lib.specs.Steps.{newest_block}
 use Rattle.xnfs_session.proofs.session.Session.unlink.Goals as goal
 
 pub returns-clause-inodes : goal.returns-clause-inodes
 returns-clause-inodes g c =
-    subst (λ v. (slot : Slot) → Ok slot ≡ unlink_in (newest (g.S.Store.state_of v.store)) v.fs c.args.directory c.args.name.now →
-    Unnames (newest (g.S.Store.state_of v.store)) (newest (g.S.Store.state_of c.unlink.new.store)) v.fs c.args.directory slot.inode
-    × OnErr c.unlink.result (KeptOrEmptied (newest (g.S.Store.state_of v.store)) (newest (g.S.Store.state_of c.unlink.new.store)) v.fs slot.inode)) c.self.view_is c.unlink.ensures.inodes
+    subst (λ v. (slot : Slot) → Ok slot ≡ unlink_in (newest_block (g.S.Store.state_of v.store)) v.fs c.args.directory c.args.name.now →
+    Unnames (newest_block (g.S.Store.state_of v.store)) (newest_block (g.S.Store.state_of c.unlink.new.store)) v.fs c.args.directory slot.inode
+    × OnErr c.unlink.result (KeptOrEmptied (newest_block (g.S.Store.state_of v.store)) (newest_block (g.S.Store.state_of c.unlink.new.store)) v.fs slot.inode)) c.self.view_is c.unlink.ensures.inodes

@@ -1,7 +1,7 @@
 use Rattle.std.proofs.Common.{◌≡◌, ◌+◌, ℕ, List, Ok, length, subst}
 use Rattle.ffs_lookup.specs.FileValues.{files_of}
 use Rattle.ffs_lookup.specs.Newest.{write_in}
-use Rattle.ffs_lib.specs.Steps.{newest}
+use Rattle.ffs_lib.specs.Steps.{newest_block}
 use Rattle.ffs_lib.specs.Written.{Overwrites, WritesSomeTo}
 use Rattle.xnfs_session.proofs.Taken.{few}
 use Rattle.xnfs_session.proofs.session.Session.write_some.Goals as goal
@@ -11,7 +11,7 @@ returns-clause-few g c = few _ _ _ _ _ _ _ _ _ _ c.write_some.ensures.answers
 
 pub returns-clause-inodes : goal.returns-clause-inodes
 returns-clause-inodes g c =
-    subst (λ v. (file : List ℕ) → Ok file ≡ write_in (newest (g.S.Store.state_of v.store)) v.fs c.args.inode (c.args.offset + length c.args.bytes.now) →
-    (done : ℕ) × Overwrites (newest (g.S.Store.state_of v.store)) (newest (g.S.Store.state_of c.write_some.new.store)) v.fs c.args.inode file c.args.offset c.args.bytes.now done
-    × WritesSomeTo (g.S.Store.types_of v.store) v.fs (files_of (newest (g.S.Store.state_of v.store)) v.fs) c.args.inode file c.args.offset c.args.bytes.now done (g.S.Store.state_of c.write_some.new.store) c.write_some.result)
+    subst (λ v. (file : List ℕ) → Ok file ≡ write_in (newest_block (g.S.Store.state_of v.store)) v.fs c.args.inode (c.args.offset + length c.args.bytes.now) →
+    (done : ℕ) × Overwrites (newest_block (g.S.Store.state_of v.store)) (newest_block (g.S.Store.state_of c.write_some.new.store)) v.fs c.args.inode file c.args.offset c.args.bytes.now done
+    × WritesSomeTo (g.S.Store.types_of v.store) v.fs (files_of (newest_block (g.S.Store.state_of v.store)) v.fs) c.args.inode file c.args.offset c.args.bytes.now done (g.S.Store.state_of c.write_some.new.store) c.write_some.result)
     c.self.view_is c.write_some.ensures.inodes
