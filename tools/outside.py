@@ -1,12 +1,11 @@
 """What the tools share that test the built program from outside: where it is, how it is run, and the scripts that it is given.
 
-A run is an image and a script. Those of the worked rows and of the transcripts are found by playing these with the store's second
+A run is an image and a script. Those of the transcripts, the worked examples among them, are found by playing these with the store's second
 implementation, `bench/reference_store.py`; random ones are made beside it, so that most of their commands do something.
 """
 
 import os
 import random
-import re
 import subprocess
 import sys
 
@@ -15,7 +14,6 @@ sys.path.insert(0, os.path.join(TOP, "bench"))
 import reference_store as reference
 
 PROGRAM = os.path.join(TOP, "crates/xnsim/out/xnsim")
-ROWS = os.path.join(TOP, "crates/worked_rows/src/tests.rt")
 DATA = os.path.join(TOP, "crates/transcripts/data")
 BLOCKS = 32
 
@@ -91,20 +89,19 @@ def runs_of(transcript):
     return files.runs
 
 
-def rows():
-    """The runs of the worked rows."""
-    with open(ROWS) as file:
-        transcripts = re.findall(r'"(\$ .*?)"', file.read(), re.S)
-    return [run for text in transcripts for run in runs_of(text.encode().decode("unicode_escape"))]
-
-
-def transcripts():
-    """The runs of all transcripts."""
+def transcripts(begin=""):
+    """The runs of the transcripts whose names begin so."""
     found = []
     for name in sorted(os.listdir(DATA)):
-        with open(os.path.join(DATA, name)) as file:
-            found += runs_of(file.read())
+        if name.startswith(begin):
+            with open(os.path.join(DATA, name)) as file:
+                found += runs_of(file.read())
     return found
+
+
+def rows():
+    """The runs of the worked examples."""
+    return transcripts("worked_")
 
 
 class Nothing(Exception):

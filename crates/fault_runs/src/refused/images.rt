@@ -1,0 +1,114 @@
+// A volume and a file, with so many writes at most, and the disk behind a crash.
+
+use ffs_lib::{FfsFault, Fs};
+use std::alloc::Global;
+use std::thread::Threads;
+use volume_pair::{Action, Files};
+use world::Running;
+use xn_model::Refusal;
+
+/// How many blocks a disk has.
+const BLOCKS: u32 = 32;
+
+/// What a crash leaves: no volume, a volume without a name, one with the name of a file, or something else.
+#[derive(Clone, Copy)]
+pub enum Left {
+    Nothing,
+    Volume,
+    File,
+    Wrong,
+}
+
+/// Makes what is pending durable, with so many writes at most, of which the last one only lands; how many are left then.
+fn write_pending(files: &mut Files<Running>, left: u32) -> u32 {
+    let mut left = left;
+    for _ in 0..BLOCKS {
+        let Some(block) = files.pick() else {
+            return left;
+        };
+        match left {
+            0 => return 0,
+            1 => {
+                let _ = files.begin(block) && files.land(block);
+                return 0;
+            }
+            _ => {
+                let _ = files.write(block);
+                left -= 1;
+            }
+        }
+    }
+    left
+}
+
+/// Makes a volume and a file, with so many writes at most. A call that finds no memory is made again behind what is pending; whether
+/// there was one.
+fn play(alloc: Global, files: &mut Files<Running>, fs: Fs, writes: u32) -> bool {
+    let mut left = writes;
+    let mut is_met = false;
+    if matches!(
+        files.make(alloc, fs),
+        Err(FfsFault::Kernel(Refusal::NoMemory))
+    ) {
+        is_met = true;
+        left = write_pending(files, left);
+        let _ = files.make(alloc, fs);
+    }
+    left = write_pending(files, left);
+    let file = Action::Create(1, b"a");
+    if matches!(
+        files.call(alloc, fs, &file),
+        Err(FfsFault::Kernel(Refusal::NoMemory))
+    ) {
+        is_met = true;
+        left = write_pending(files, left);
+        let _ = files.call(alloc, fs, &file);
+    }
+    let _ = write_pending(files, left);
+    is_met
+}
+
+/// What the names are of a volume that was opened. A name has to lead to an empty file. `None` for want of memory.
+fn named(alloc: Global, files: &mut Files<Running>, fs: Fs) -> Option<Left> {
+    let names = match files.list(alloc, fs, 1) {
+        Ok(names) => names,
+        Err(FfsFault::Kernel(Refusal::NoMemory)) => return None,
+        Err(_) => return Some(Left::Wrong),
+    };
+    match names.as_slice() {
+        [] => Some(Left::Volume),
+        [(name, inode)] if name.as_slice() == b"a".as_slice() => {
+            let inode = *inode;
+            let read = files.read(fs, inode, 0, &mut [0; 1]);
+            Some(if read == Ok(0) {
+                Left::File
+            } else {
+                Left::Wrong
+            })
+        }
+        _ => Some(Left::Wrong),
+    }
+}
+
+/// What a crash leaves of file system 0 after so many writes, the last of which it keeps or loses. `None` where that isn't known for want of
+/// memory.
+pub fn left_by(rt: &(impl Threads + Sync), alloc: Global, writes: u32, kept: bool) -> Option<Left> {
+    let (first, second) = (Fs::new(0)?, Fs::new(1)?);
+    let mut files = Files::format(rt, alloc, BLOCKS, first, second).ok()?;
+    let is_met = play(alloc, &mut files, first, writes);
+    let mut blocks = Vec::new(alloc);
+    for block in 0..BLOCKS {
+        if kept {
+            blocks.push(block).ok()?;
+        }
+    }
+    if files.crash(rt, alloc, blocks).is_none() {
+        // No second request is refused, so this disk is not sound.
+        return if is_met { Some(Left::Wrong) } else { None };
+    }
+    match files.open(first) {
+        Ok(()) => named(alloc, &mut files, first),
+        Err(FfsFault::NoEntry) => Some(Left::Nothing),
+        Err(_) => Some(Left::Wrong),
+    }
+}

@@ -1,5 +1,0 @@
-use Rattle.refused_calls.proofs.spare.print_spare.Given as goal
-
--- the floor that was just made
-abbrev pub ghosts-print_calls : goal.ghosts-print_calls
-ghosts-print_calls g a = record { floor = a.floor }
