@@ -16,7 +16,8 @@ use Rattle.ffs_lookup.specs.Places.{IsFile}
 use Rattle.ffs_lib.specs.Edits.{edit_at}
 use Rattle.ffs_lib.specs.Outcomes.{CanEdit}
 use Rattle.ffs_lib.proofs.Fields.{direct_get}
-use Rattle.ffs_lib.proofs.Short.{ShortEdit, attached_short, kept_short, pairs_kept, pairs_set}
+use Rattle.ffs_lib.specs.Steps.{ShortEdit}
+use Rattle.ffs_lib.proofs.Short.{attached_short, kept_short, pairs_kept, pairs_set}
 
 -- New blocks
 

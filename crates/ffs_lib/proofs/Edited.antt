@@ -6,7 +6,6 @@ use Rattle.std.proofs.lemmas.Bool.{ne_eqb}
 use Rattle.xn_model.specs.Types.{Types}
 use Rattle.xn_model.specs.Root.{word_at}
 use Rattle.xn_model.specs.Lives.{StoreState}
-use Rattle.xn_model.specs.Results.{Gives}
 use Rattle.xn_model.specs.Calls.{Edit, propose_of}
 use Rattle.ffs_model.specs.Cuts.{Under, latest}
 use Rattle.ffs_model.specs.Names.{IsRoot, IsInodes, IsInFile}
@@ -21,11 +20,7 @@ use Rattle.ffs_lookup.specs.declared.places.Slot.{Slot}
 use Rattle.ffs_lib.specs.Edits.{edit_at}
 use Rattle.ffs_lookup.specs.Places.{IsPlace, IsFound, IsDirectory, IsFile, IsEmptyPointer, IsGap, IsSlot}
 use Rattle.ffs_lib.specs.Outcomes.{IsMade, IsAdded}
-use Rattle.ffs_lookup.proofs.ForCallers.{found_mode, gives_ok, pointer_is}
-
--- an edit that was made, by what is known of it
-pub done_by : (T : Types) (old new : StoreState) (fs b : ℕ) (edit same : Edit) (entry : ℕ) → edit ≡ same → Gives (propose_of T old fs b edit) old new (Ok entry) → propose_of T old fs b same ≡ Ok (entry, new)
-done_by T old new fs b edit same entry e h = ap (propose_of T old fs b) (sym e) ∙ gives_ok (propose_of T old fs b edit) old new entry h
+use Rattle.ffs_lookup.proofs.ForCallers.{found_mode, pointer_is}
 
 pub same_root : (content : ℕ → List ℕ) (fs a b : ℕ) → IsRoot content fs a → IsRoot content fs b → a ≡ b
 same_root content fs a b x y = ap (λ (p : ℕ × ℕ). p.0) (sym x.at ∙ y.at)

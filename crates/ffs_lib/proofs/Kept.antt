@@ -1,6 +1,6 @@
 -- What stays where a call is refused, and how the parts of a step come together.
 use Rattle.std.proofs.Common.{◌≡◌, ◌≢◌, ℕ, ◌<◌, List, Option, Result, Ok, Err, sym, subst, ap, ◌∙◌}
-use Rattle.std.specs.Prelude.{IfOk, OnOk, OnErr}
+use Rattle.std.specs.Prelude.{OnOk, OnErr}
 use Rattle.xn_model.specs.declared.refusal.Refusal.{Refusal}
 use Rattle.xn_model.specs.Types.{Types}
 use Rattle.std.proofs.lemmas.Option.{none-some}
@@ -38,28 +38,3 @@ begun_there T fs array old new v x ty bytes block number done e =
 pub on_ok : {A E : Type 0} (r : Result A E) {P : Type 0} → P → OnOk r P
 on_ok (Ok x) p = p
 on_ok (Err e) p = tt
-
--- what an answer says that is handed on where it is Ok
-pub handed_on : {A E : Type 0} (P : Type 0) (answer result : Result A E) → IfOk result (λ value. answer ≡ Ok value) → OnOk answer P → OnOk result P
-handed_on P answer (Err e) is h = tt
-handed_on {A} {E} P answer (Ok x) is h = subst (λ (r : Result A E). OnOk r P) is h
-
--- what holds of a state that is handed on where it is Ok
-pub kept_ok : {A E : Type 0} (P : StoreState → Type 0) (second third : StoreState) (made result : Result A E) → result ≡ made → OnOk result (third ≡ second) → OnOk made (P second) → OnOk result (P third)
-kept_ok P second third made (Err e) same ok p = tt
-kept_ok {A} {E} P second third made (Ok x) same ok p = subst P (sym ok) (subst (λ (r : Result A E). OnOk r (P second)) (sym same) p)
-
--- what is said where it is Err
-pub on_err_weaker : {A E : Type 0} (r : Result A E) {P Q : Type 0} → (P → Q) → OnErr r P → OnErr r Q
-on_err_weaker (Ok x) f p = tt
-on_err_weaker (Err e) f p = f p
-
--- or in either case
-pub either_way : {A E : Type 0} (r : Result A E) {P Q R : Type 0} → (P → R) → (Q → R) → OnOk r P → OnErr r Q → R
-either_way (Ok x) f h p q = f p
-either_way (Err e) f h p q = h q
-
--- what an answer says that is handed on where it is Err
-pub handed_err : {A E : Type 0} (P : Type 0) (answer result : Result A E) → IfOk answer (λ value. result ≡ Ok value) → OnErr answer P → OnErr result P
-handed_err {A} {E} P (Ok x) result is h = subst (λ (r : Result A E). OnErr r P) (sym is) tt
-handed_err P (Err e) result is h = on_err result h

@@ -1,6 +1,6 @@
 -- What each edit of a call leaves: one law for each kind, of all that a call says of it.
-use Rattle.std.proofs.Common.{◌≡◌, ◌≢◌, ℕ, ◌+◌, ◌-◌, ◌*◌, ◌/◌, ◌<◌, ◌≤◌, ◌⊎◌, List, [], length, replicate, Option, None, Some, Result, Ok, Err, refl, sym, ◌∙◌, ap, arith, subst, Bool, true, false, suc, inl, inr}
-use Rattle.std.specs.Prelude.{Contains, IsErrAnd, IsOk, IsTrue, MatchResult, OnErr, OnOk}
+use Rattle.std.proofs.Common.{◌≡◌, ◌≢◌, ℕ, ◌+◌, ◌-◌, ◌*◌, ◌/◌, ◌<◌, ◌≤◌, ◌⊎◌, List, [], length, replicate, Option, None, Some, Result, Ok, Err, refl, sym, ◌∙◌, ap, arith, subst, Bool, true, false, suc, inl, inr, eq-eqb}
+use Rattle.std.specs.Prelude.{Contains, IsErrAnd, IsOk, IsTrue, MatchResult, OnErr, OnOk, ◌==◌}
 use Rattle.std.proofs.lemmas.Bool.{cases_eq}
 use Rattle.std.proofs.lemmas.Result.{err_from_is_err_and}
 use Rattle.xn_model.specs.declared.refusal.Refusal.{Refusal}
@@ -20,14 +20,14 @@ use Rattle.ffs_lookup.specs.declared.fault.FfsFault.{FfsFault}
 use Rattle.ffs_lookup.specs.declared.fault.FfsFault.TheVariants.{Kernel}
 use Rattle.ffs_lookup.specs.declared.places.Found.{Found}
 use Rattle.ffs_lookup.specs.declared.places.Slot.{Slot}
-use Rattle.ffs_lookup.specs.Newest.{inode_in, is_short}
+use Rattle.ffs_lookup.specs.Newest.{inode_block_in, inode_in, is_short}
 use Rattle.ffs_lookup.specs.Places.{IsFound, IsPlace, IsSlot}
 use Rattle.ffs_lookup.proofs.ForCallers.{block_again, gives_err, gives_ok, same_ok}
 use Rattle.ffs_lib.specs.Edits.{data_of_inode, data_of_pointers, edit_at}
 use Rattle.ffs_lib.specs.Outcomes.{CanEdit, HasNoData}
 use Rattle.ffs_lookup.specs.FileValues.{place_in}
 use Rattle.ffs_lib.specs.Results.{AsBefore, IsAs, SameInode, TookLink}
-use Rattle.ffs_lib.specs.Steps.{AddsLink, Answers, Attached, ClearedPointers, Clearing, Dropped, Ends, IsHome, LastForgets, MayLose, MayName, Proposed, Removable, Removed, ShortEdit, Stage, Stops, StopsAtHome, StopsTaking, TakesLink, Tells, Undoes, Unlisted, Wants, clearing, left_by}
+use Rattle.ffs_lib.specs.Steps.{AddsLink, Answers, Attached, ClearedPointers, Clearing, Dropped, Ends, Follows, IsHome, MayLose, MayName, Proposed, Removable, Removed, ShortEdit, Stage, Stops, StopsAtHome, StopsTaking, TakesLink, Tells, Unlisted, Wants, WantsHome, WantsPointers, clearing, left_by}
 use Rattle.ffs_lib.specs.Volumes.{IsVolume, edits_of}
 use Rattle.ffs_lib.specs.declared.volume.Volume.{Volume}
 use Rattle.ffs_lib.proofs.Dropping.{cleared_owns, no_pairs, put_whole}
@@ -57,13 +57,15 @@ pub short_told : {A : Type 0} (r : Result A Refusal) → ((refusal : Refusal) �
 short_told (Ok x) short fault e = ap is_short e
 short_told (Err refusal) short fault t = elim t [ inl e ↦ ap is_short e ∙ short refusal refl | inr e ↦ ap is_short e ]
 
+pub follows_err : (called : Result (ℕ × StoreState) Refusal) (old new : StoreState) (refusal : Refusal) (result : Result ℕ FfsFault) → Gives called old new (Err refusal) → IsErrAnd result (λ fault. fault ≡ Kernel refusal) → Follows called old new result
+follows_err called old new refusal result given from =
+    let p = err_from_is_err_and result from in
+    subst (Follows called old new) (sym p.1) (gives_err called old new refusal given, subst (Tells called) (sym p.2) (told_by called old new refusal given))
+
 pub refused_put : (T : Types) (fs block : ℕ) (made edit : Edit) → made ≡ edit → (old new : StoreState) (refusal : Refusal) (result : Result ℕ FfsFault) → Gives (propose_of T old fs block made) old new (Err refusal) → IsErrAnd result (λ fault. fault ≡ Kernel refusal) →
     Proposed T fs block edit old new result
 refused_put T fs block made edit same old new refusal result gives from =
-    let p = err_from_is_err_and result from in
-    let r = propose_of T old fs block edit in
-    let given = subst (λ e. Gives (propose_of T old fs block e) old new (Err refusal)) same gives in
-    subst (Proposed T fs block edit old new) (sym p.1) (gives_err r old new refusal given, subst (Tells r) (sym p.2) (told_by r old new refusal given))
+    follows_err (propose_of T old fs block edit) old new refusal result (subst (λ e. Gives (propose_of T old fs block e) old new (Err refusal)) same gives) from
 
 -- a part of a call that was refused, and one that ends with a proposal
 pub stops_err : {A : Type 0} (P : A → Type 0) (R : FfsFault → Type 0) (result : Result A FfsFault) (fault : FfsFault) → IsErrAnd result (λ other. other ≡ fault) → Stops R fault → MatchResult result P (Stops R)
@@ -297,10 +299,13 @@ module _ (T : Types) (fs : ℕ) (array : ℕ → Option ℕ) (old : StoreState) 
         });
       }
 
-pub dropped_put : (T : Types) (fs block after : ℕ) (old new : StoreState) (result : Result ℕ FfsFault) (items : List ℕ) → block ≢ 0 → length (latest old.lives block) ≡ 512 → items ≡ data_of_pointers (latest old.lives block) →
+pub some_items : (n : ℕ) (t : Bool) (xs : List ℕ) → t ≡ (n == 0) → t ≡ false → length xs ≡ n → xs ≢ []
+some_items n t xs e f long z = true_false t (e ∙ eq-eqb n 0 (sym long ∙ ap length z)) f
+
+pub dropped_put : (T : Types) (fs block after : ℕ) (old new : StoreState) (result : Result ℕ FfsFault) (items : List ℕ) → block ≢ 0 → length (latest old.lives block) ≡ 512 → items ≡ data_of_pointers (latest old.lives block) → items ≢ [] →
     Proposed T fs block (edit_at 0 (replicate 512 0) [] items (Some after)) old new result → Dropped T fs block after old new result
-dropped_put T fs block after old new (Ok e) items there long is p = inr (there, long, subst (λ (ds : List ℕ). propose_of T old fs block (edit_at 0 (replicate 512 0) [] ds (Some after)) ≡ Ok (e, new)) is p)
-dropped_put T fs block after old new (Err fault) items there long is p = (p.0, there, long, subst (λ (ds : List ℕ). Tells (propose_of T old fs block (edit_at 0 (replicate 512 0) [] ds (Some after))) fault) is p.1)
+dropped_put T fs block after old new (Ok e) items there long is some p = inr (there, long, subst (λ (ds : List ℕ). propose_of T old fs block (edit_at 0 (replicate 512 0) [] ds (Some after)) ≡ Ok (e, new)) is p, λ z. some (is ∙ z))
+dropped_put T fs block after old new (Err fault) items there long is some p = (p.0, there, long, subst (λ (ds : List ℕ). Tells (propose_of T old fs block (edit_at 0 (replicate 512 0) [] ds (Some after))) fault) is p.1)
 
 -- Both
 
@@ -366,19 +371,24 @@ less_of u w fs n t many = (
       omega (arith, same, one, lt),
 )
 
--- a block was begun, and forgotten last
-pub undoes : (T : Types) (fs : ℕ) (old first new : StoreState) (block number : ℕ) (given bytes : List ℕ) → given ≡ bytes → Gives (init_of T old fs 4 given) old first (Ok (block, number)) → LastForgets T fs block new → Undoes T fs old new 4 bytes
-undoes T fs old first new block number given bytes same gives last =
-    inr (at_ok (init_of T old fs 4 bytes) ((block, number), first) (λ made. LastForgets T fs made.0.0 new)
-    (sym (ap (λ (m : List ℕ). init_of T old fs 4 m) (sym same) ∙ gives_ok (init_of T old fs 4 given) old first (block, number) gives)) last)
-
 -- What is left where a link could not be taken
 
 pub home_of : (state : StoreState) (fs n block place : ℕ) → IsPlace state fs n block place → IsHome (latest state.lives) fs n block
 home_of state fs n block place is = block_again (latest state.lives) fs ((n - 1) / 8) block is.inodes
 
+pub home_wants : (T : Types) (state : StoreState) (fs n block : ℕ) → IsHome (latest state.lives) fs n block → (fault : FfsFault) → Wants T state fs block fault → WantsHome T state fs n fault
+home_wants T state fs n block home fault wants = at_ok (inode_block_in (latest state.lives) fs ((n - 1) / 8)) block (λ b. Wants T state fs b fault) home wants
+
+-- an edit of the block of an inode, or of its block of pointers
+pub either_wants : (T : Types) (state : StoreState) (fs n : ℕ) (inode : List ℕ) → Ok inode ≡ inode_in (latest state.lives) fs n → (block : ℕ) → IsHome (latest state.lives) fs n block ⊎ (block ≡ word_at inode 56) → (fault : FfsFault) → Wants T state fs block fault →
+    WantsHome T state fs n fault ⊎ WantsPointers T state fs n fault
+either_wants T state fs n inode is block of fault wants = elim of [
+  | inl home ↦ inl (home_wants T state fs n block home fault wants)
+  | inr e ↦ inr (at_ok (inode_in (latest state.lives) fs n) inode (λ i. Wants T state fs (word_at i 56) fault) is (subst (λ (b : ℕ). Wants T state fs b fault) e wants))
+]
+
 pub at_home : (T : Types) (fs : ℕ) (old new : StoreState) (n block place : ℕ) → IsPlace old fs n block place → new ≡ old → (fault : FfsFault) → Wants T old fs block fault → StopsAtHome T fs old new n fault
-at_home T fs old new n block place is same fault wants = (same, block, home_of old fs n block place is, wants)
+at_home T fs old new n block place is same fault wants = (same, home_wants T old fs n block (home_of old fs n block place is) fault wants)
 
 pub nothing_taken : (T : Types) (fs : ℕ) (old new : StoreState) (n : ℕ) (inode : List ℕ) → Ok inode ≡ inode_in (latest old.lives) fs n → new ≡ old → (block : ℕ) → IsHome (latest old.lives) fs n block ⊎ (block ≡ word_at inode 56) →
     (fault : FfsFault) → Wants T old fs block fault → StopsTaking T fs old new n fault
@@ -388,9 +398,7 @@ nothing_taken T fs old new n inode is same block of fault wants = subst (λ (s :
   was = is;
   is = is;
   stage = inl refl;
-  block = block;
-  of_inode = of;
-  wants = wants;
+  wants = either_wants T old fs n inode is block of fault wants;
 })
 
 pub data_taken : (T : Types) (fs : ℕ) (array : ℕ → Option ℕ) (old first new : StoreState) (n : ℕ) (inode : List ℕ) (e : ℕ) → Ok inode ≡ inode_in (latest old.lives) fs n → inode_links inode ≤ 1 → DroppedData T fs array old first n inode e → new ≡ first →
@@ -401,7 +409,5 @@ data_taken T fs array old first new n inode e is few k same block place at fault
   was = is;
   is = k.same;
   stage = k.left few;
-  block = block;
-  of_inode = inl (home_of first fs n block place at);
-  wants = wants;
+  wants = inl (home_wants T first fs n block (home_of first fs n block place at) fault wants);
 })

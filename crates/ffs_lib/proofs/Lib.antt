@@ -26,6 +26,7 @@ pub mod Short
 pub mod Dropping
 pub mod Undoing
 pub mod Laws
+pub mod Orders
 pub mod Removal
 pub mod NameLaws
 pub mod DataLaws

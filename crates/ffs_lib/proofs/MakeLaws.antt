@@ -11,7 +11,7 @@ use Rattle.ffs_lib.specs.declared.volume.Volume.{Volume}
 
 abbrev Names : Types → ℕ → StoreState → StoreState → ℕ → List ℕ → ℕ → ℕ → Volume → Result ℕ FfsFault → Type 0
 Names T fs middle new d name mode number volume result = (inode : List ℕ) → Ok inode ≡ directory_in (latest middle.lives) fs d → has_room (latest middle.lives) inode ≡ true →
-    Leaves T volume new result (λ n. MadeEntry (latest middle.lives) (latest new.lives) fs d name mode n × (n ≡ number)) (StopsNew T fs middle new d mode number)
+    Leaves T volume new result (λ n. MadeEntry (latest middle.lives) (latest new.lives) fs d name mode n × (n ≡ number)) (StopsNew T fs middle new d name mode number)
 
 pub named_by : (made T : Types) (other fs : ℕ) (middle new : StoreState) (d : ℕ) (name : List ℕ) (mode number : ℕ) (volume : Volume) (result : Result ℕ FfsFault) → other ≡ fs → made ≡ T → Names made other middle new d name mode number volume result →
     Names T fs middle new d name mode number volume result

@@ -238,8 +238,8 @@ module _ (u w : ℕ → List ℕ) (fs d : ℕ) (name : List ℕ) (other : ℕ) (
         }
 
 -- no name is entered yet
-pub naming_inodes : (T : Types) (fs d other n : ℕ) (old new : StoreState) (fault : FfsFault) → StopsNaming T fs old new other n fault → MovedInodes (latest old.lives) (latest new.lives) fs d other n
-naming_inodes T fs d other n old new fault stop = let u = latest old.lives in elim stop [
+pub naming_inodes : (T : Types) (fs d other n : ℕ) (name : List ℕ) (old new : StoreState) (fault : FfsFault) → StopsNaming T fs old new other name n fault → MovedInodes (latest old.lives) (latest new.lives) fs d other n
+naming_inodes T fs d other n name old new fault stop = let u = latest old.lives in elim stop [
   | inl home ↦ subst (λ (y : StoreState). MovedInodes u (latest y.lives) fs d other n) (sym home.0) nothing
   | inr q ↦
       let m = latest q.0.lives in

@@ -61,19 +61,19 @@ module _ (T : Types) (fs : ℕ) (array : ℕ → Option ℕ) (old : StoreState) 
         ),
       )
 
-pub not_entered : (T : Types) (fs : ℕ) (old new : StoreState) (d : ℕ) (inode : List ℕ) → Ok inode ≡ directory_in (latest old.lives) fs d → new ≡ old → (block place : ℕ) → Some (Entry block place) ≡ room_in (latest old.lives) inode → (fault : FfsFault) →
-    Wants T old fs block fault → StopsEntering T fs old new d fault
-not_entered T fs old new d inode dir same block place room fault wants = record {
+pub not_entered : (T : Types) (fs : ℕ) (old new : StoreState) (d : ℕ) (inode : List ℕ) → Ok inode ≡ directory_in (latest old.lives) fs d → new ≡ old → (block place : ℕ) → Some (Entry block place) ≡ room_in (latest old.lives) inode → (bytes : List ℕ) (fault : FfsFault) →
+    Wants T old fs block fault → StopsEntering T fs old new d bytes fault
+not_entered T fs old new d inode dir same block place room bytes fault wants = record {
   same = λ x. subst (λ (s : StoreState). SameInode (latest old.lives) (latest s.lives) fs x) (sym same) (refl, λ i e. (refl, λ at low. refl), λ some few. refl);
-  told = at_ok (directory_in (latest old.lives) fs d) inode (λ i. StopsAtRoom T fs old new d fault (room_in (latest old.lives) i)) dir (subst (StopsAtRoom T fs old new d fault) room (same, wants));
+  told = at_ok (directory_in (latest old.lives) fs d) inode (λ i. StopsAtRoom T fs old new d bytes fault (room_in (latest old.lives) i)) dir (subst (StopsAtRoom T fs old new d bytes fault) room (same, wants));
 }
 
 pub not_begun : (T : Types) (fs : ℕ) (old new : StoreState) (d : ℕ) (inode : List ℕ) → Ok inode ≡ directory_in (latest old.lives) fs d → new ≡ old → (index : ℕ) → Some (Pointer index) ≡ room_in (latest old.lives) inode → (bytes : List ℕ) (home : ℕ) →
-    IsHome (latest old.lives) fs d home → (fault : FfsFault) → Tells (init_of T old fs 2 bytes) fault → StopsEntering T fs old new d fault
+    IsHome (latest old.lives) fs d home → (fault : FfsFault) → Tells (init_of T old fs 2 (put zero_block 0 bytes)) fault → StopsEntering T fs old new d bytes fault
 not_begun T fs old new d inode dir same index room bytes home at fault told = record {
   same = λ x. subst (λ (s : StoreState). SameInode (latest old.lives) (latest s.lives) fs x) (sym same) (refl, λ i e. (refl, λ at low. refl), λ some few. refl);
-  told = at_ok (directory_in (latest old.lives) fs d) inode (λ i. StopsAtRoom T fs old new d fault (room_in (latest old.lives) i)) dir (subst (StopsAtRoom T fs old new d fault) room
-      (at_ok (inode_block_in (latest old.lives) fs ((d - 1) / 8)) home (λ owner. (m : List ℕ) × StopsAttaching T fs old new 2 m owner fault) at (bytes, inl (same, told))));
+  told = at_ok (directory_in (latest old.lives) fs d) inode (λ i. StopsAtRoom T fs old new d bytes fault (room_in (latest old.lives) i)) dir (subst (StopsAtRoom T fs old new d bytes fault) room
+      (at_ok (inode_block_in (latest old.lives) fs ((d - 1) / 8)) home (λ owner. StopsAttaching T fs old new 2 (put zero_block 0 bytes) owner fault) at (inl (same, told))));
 }
 
 -- A new block with one entry
@@ -108,12 +108,12 @@ module _ (T : Types) (fs : ℕ) (array : ℕ → Option ℕ) (zeroth first : Sto
         attached_short T first (Some e) (can_edit grow_stage given1) fs s.few d found.block found.place at.is.stands after whole block 2 (begun_addable T zeroth first fs 2 block number (put zero_block 0 bytes) (gives_of (init_of T zeroth fs 2 (put zero_block 0 bytes)) zeroth first (block, number) done))
         (subst (λ (i : List ℕ). Replaces (inode_pairs i 0) (inode_pairs after 0) [] ((block, 2) ∷ [])) at.is.bytes pairs)
 
-    pub grow_undone : (new : StoreState) → new ≡ left_by (forget_of T first fs block) first → (fault : FfsFault) → Wants T first fs found.block fault → StopsEntering T fs zeroth new d fault
+    pub grow_undone : (new : StoreState) → new ≡ left_by (forget_of T first fs block) first → (fault : FfsFault) → Wants T first fs found.block fault → StopsEntering T fs zeroth new d bytes fault
     grow_undone new left fault wants = record {
       same = λ x. subst (λ (s : StoreState). SameInode (latest zeroth.lives) (latest s.lives) fs x) (sym left) (undone_same T s.library zeroth first s.keeps.consistent fs s.few 2 (put zero_block 0 bytes) block number done x);
-      told = at_ok (directory_in (latest zeroth.lives) fs d) inode (λ i. StopsAtRoom T fs zeroth new d fault (room_in (latest zeroth.lives) i)) dir (subst (StopsAtRoom T fs zeroth new d fault) empty
-          (at_ok (inode_block_in (latest zeroth.lives) fs ((d - 1) / 8)) found.block (λ owner. (m : List ℕ) × StopsAttaching T fs zeroth new 2 m owner fault) home_begun
-          (put zero_block 0 bytes, attach_undone T fs zeroth first new 2 (put zero_block 0 bytes) block number found.block done left fault wants)));
+      told = at_ok (directory_in (latest zeroth.lives) fs d) inode (λ i. StopsAtRoom T fs zeroth new d bytes fault (room_in (latest zeroth.lives) i)) dir (subst (StopsAtRoom T fs zeroth new d bytes fault) empty
+          (at_ok (inode_block_in (latest zeroth.lives) fs ((d - 1) / 8)) found.block (λ owner. StopsAttaching T fs zeroth new 2 (put zero_block 0 bytes) owner fault) home_begun
+          (attach_undone T fs zeroth first new 2 (put zero_block 0 bytes) block number found.block done left fault wants)));
     }
       where
         home_begun : IsHome (latest zeroth.lives) fs d found.block

@@ -15,6 +15,7 @@ use Rattle.ffs_lookup.specs.declared.fault.FfsFault.{FfsFault}
 use Rattle.ffs_lookup.specs.declared.fault.FfsFault.TheVariants.{Pending}
 use Rattle.ffs_lookup.specs.Newest.{inode_block_in, make_in}
 use Rattle.ffs_lookup.specs.Counts.{make_from, open_in, over_named, sound_in, unless_over}
+use Rattle.ffs_lib.specs.Steps.{Stage}
 use Rattle.ffs_lib.specs.Volumes.{MayOpen, NothingPending}
 use Rattle.ffs_lib.proofs.NameCounts.{counted_good}
 use Rattle.ffs_lib.proofs.Owners.{block_from, passed}
@@ -68,7 +69,7 @@ module _ (T : Types) (state : StoreState) (h : IsConsistent T state) (fs : ℕ) 
         typed = λ r x. newest_types T state h refl (library_reads T may.library).installed;
       })
 
-  pub makeable : (begun : Bool) → Ok begun ≡ make_from state fs → VolumeKeeps T library_layout fs no_edits state
+  makeable : (begun : Bool) → Ok begun ≡ make_from state fs → VolumeKeeps T library_layout fs no_edits state
   makeable begun e = let found = make_found state fs begun e in begins found.0 (λ rests. image begun found.1)
     where
       image : (begun : Bool) → Ok begun ≡ make_in (latest state.lives) fs → KeepsImage library_layout (latest state.lives) fs
@@ -80,3 +81,6 @@ module _ (T : Types) (state : StoreState) (h : IsConsistent T state) (fs : ℕ) 
             first = λ i c x. absurd (no_pointers (latest state.lives) fs bare i c x);
             typed = λ r x. newest_types T state h refl (library_reads T may.library).installed;
           }
+
+  pub make_stage : (begun : Bool) → Ok begun ≡ make_from state fs → Stage T fs no_edits state
+  make_stage begun e = record { library = may.library; few = few; keeps = makeable begun e }

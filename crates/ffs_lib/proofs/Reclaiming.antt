@@ -36,7 +36,7 @@ use Rattle.ffs_lib.proofs.Dropping.{cleared_owns, no_pairs, put_whole}
 use Rattle.ffs_lib.proofs.Edited.{pointers_reached}
 use Rattle.ffs_lib.proofs.Entering.{inode_gone, inode_put, others_put, place_put}
 use Rattle.ffs_lib.proofs.Fields.{free_blocks, free_mode, same_blocks}
-use Rattle.ffs_lib.proofs.Laws.{can_edit, fails}
+use Rattle.ffs_lib.proofs.Laws.{either_wants, home_wants, can_edit, fails}
 use Rattle.ffs_lib.proofs.Moving.{relinked}
 use Rattle.ffs_lib.proofs.NameCounts.{names_within}
 use Rattle.ffs_lib.proofs.Owners.{stands_from}
@@ -208,9 +208,7 @@ nothing_repaired T fs old new n repair needed inode is same block of fault wants
   was = is;
   is = is;
   stage = inl refl;
-  block = block;
-  of_inode = of;
-  wants = wants;
+  wants = either_wants T old fs n inode is block of fault wants;
 })
 
 pub pointers_emptied : (T : Types) (fs : ℕ) (array : ℕ → Option ℕ) (old first new : StoreState) (n : ℕ) (inode : List ℕ) → Ok inode ≡ inode_in (latest old.lives) fs n → EmptiedData T fs array old first n inode → new ≡ first →
@@ -222,9 +220,7 @@ pointers_emptied T fs array old first new n inode is k same block home fault wan
   was = is;
   is = k.same;
   stage = elim k.left [ inl e ↦ inl e | inr x ↦ inr (refl, x) ];
-  block = block;
-  of_inode = inl home;
-  wants = wants;
+  wants = inl (home_wants T first fs n block home fault wants);
 })
 
 -- What one needs that is as before

@@ -1,46 +1,30 @@
 -- Edits of a step that are refused for want of something alone.
-use Rattle.std.proofs.Common.{◌≡◌, ◌≢◌, ℕ, ◌*◌, ◌^◌, ◌<◌, ◌≤◌, true, ◌&&◌, List, [], ◌∷◌, length, get_or, Option, Some, Result, Ok, Err, refl, sym, ◌∙◌, ap, arith, subst, eq-eqb}
-use Rattle.std.specs.Prelude.{IsErrAnd, slice_set, replicate, ◌==◌}
+use Rattle.std.proofs.Common.{◌≡◌, ◌≢◌, ℕ, ◌*◌, ◌^◌, ◌<◌, ◌≤◌, true, ◌&&◌, List, [], ◌∷◌, length, get_or, Option, Some, Ok, refl, sym, ◌∙◌, ap, arith, eq-eqb}
+use Rattle.std.specs.Prelude.{slice_set, replicate, ◌==◌}
 use Rattle.std.specs.Int.{w32, to_le_bytes}
 use Rattle.std.proofs.lemmas.Bool.{and_from}
-use Rattle.std.proofs.lemmas.Result.{err_from_is_err_and}
-use Rattle.xn_model.specs.declared.refusal.Refusal.{Refusal}
 use Rattle.xn_model.specs.Types.{Types}
 use Rattle.xn_model.specs.Root.{word_at}
 use Rattle.xn_model.specs.Lives.{StoreState, alive_and, is_fresh, is_for, life_at}
 use Rattle.xn_model.specs.Results.{Gives}
-use Rattle.xn_model.specs.Calls.{Edit, init_of, may_add, new_life, propose_of}
+use Rattle.xn_model.specs.Calls.{init_of, may_add, new_life}
 use Rattle.xn_model.proofs.ForCallers.{set_same}
 use Rattle.ffs_model.specs.Cuts.{Under, latest, root}
 use Rattle.ffs_model.specs.Names.{IsRoot}
 use Rattle.ffs_model.specs.Library.{inode_at, inode_pairs, library_layout, pointer_word}
-use Rattle.ffs_model.specs.Shortages.{is_shortage}
 use Rattle.ffs_model.proofs.ForCallers.{Replaces, data_short, direct_set, inode_add_short, inode_freed_short, inode_short, inode_words, library_reads, root_set_short, started, under_direct, under_inodes}
 use Rattle.ffs_format.specs.Fields.{direct_in, fields_of}
-use Rattle.ffs_lookup.specs.declared.fault.FfsFault.{FfsFault}
 use Rattle.ffs_lookup.specs.declared.places.Slot.{Slot}
-use Rattle.ffs_lookup.specs.Newest.{is_short}
 use Rattle.ffs_lookup.specs.Places.{IsEmptyPointer, IsPlace, IsSlot}
 use Rattle.ffs_lookup.proofs.ForCallers.{gives_ok}
 use Rattle.ffs_lib.specs.Edits.{edit_at, data_of_inode}
-use Rattle.ffs_lib.specs.Outcomes.{CanEdit, OnlyShort, HasNoData}
+use Rattle.ffs_lib.specs.Outcomes.{CanEdit, HasNoData}
+use Rattle.ffs_lib.specs.Steps.{ShortEdit}
 use Rattle.ffs_lib.proofs.Fields.{direct_get}
 use Rattle.ffs_lib.proofs.Edited.{same_root}
 use Rattle.ffs_lib.proofs.Writing.{get_apart, get_here}
 
--- Results
-
--- a fault that is handed on
-pub handed_on : {A : Type 0} (result : Result A FfsFault) (fault : FfsFault) → IsErrAnd result (λ other. other ≡ fault) → is_short fault ≡ true → OnlyShort result
-handed_on {A} result fault h s = let p = err_from_is_err_and result h in subst (λ (r : Result A FfsFault). OnlyShort r) (sym p.1) (ap is_short p.2 ∙ s)
-
-pub short_fault : {A : Type 0} (r : Result A FfsFault) (fault : FfsFault) → r ≡ Err fault → OnlyShort r → is_short fault ≡ true
-short_fault {A} r fault e h = subst (λ (x : Result A FfsFault). OnlyShort x) e h
-
 -- Edits
-
-abbrev pub ShortEdit : Types → StoreState → ℕ → ℕ → Edit → Type 0
-ShortEdit T state fs block edit = (r : Refusal) → propose_of T state fs block edit ≡ Err r → is_shortage r ≡ true
 
 -- a block that begins its life may be added
 pub begun_addable : (T : Types) (old new : StoreState) (fs ty block number : ℕ) (bytes : List ℕ) → Gives (init_of T old fs ty bytes) old new (Ok (block, number)) → may_add new fs (block, ty) ≡ true

@@ -24,8 +24,8 @@ use Rattle.ffs_lookup.specs.FileValues.{blocks_value, bytes_value, files_of}
 use Rattle.ffs_lookup.proofs.ForCallers.{IsPlaceOf, direct_has, map_on, same_ok}
 use Rattle.ffs_lib.specs.Results.{IsAs, OnlyChanges, SameContents, SameInode}
 use Rattle.ffs_lib.specs.Reclaiming.{PointersEmptied}
-use Rattle.ffs_lib.specs.Stages.{AreEmptied, Asks, Does, IsRefused, IsStage, KeptOrEmptied, OfEntry, OfLink, Stages, Unnames, cleared_stages, cut_short, emptied, link_stages, removed_stages, stages_of, with_emptied}
-use Rattle.ffs_lib.specs.Steps.{Answers, ClearedPointers, Clearing, IsHome, Stops, StopsTaking, StopsUnnaming, Unnamed, Wants}
+use Rattle.ffs_lib.specs.Stages.{AreEmptied, Asks, Does, IsRefused, IsStage, KeptOrEmptied, OfEntry, Stages, Unnames, cleared_stages, cut_short, emptied, link_stages, removed_stages, stages_of, with_emptied}
+use Rattle.ffs_lib.specs.Steps.{Answers, ClearedPointers, Clearing, Stops, StopsTaking, StopsUnnaming, Unnamed, Wants}
 use Rattle.ffs_lib.specs.Values.{Leads}
 use Rattle.ffs_lib.proofs.Entering.{directory_from}
 use Rattle.ffs_lib.proofs.BlocksOnce.{blocks_once}
@@ -180,19 +180,13 @@ asks_entry T fs d old new own slot at is k fault same wants = (
   λ inode i. subst (λ (b : ℕ). Wants T old fs b fault) (sym k.block ∙ ap (λ (m : List ℕ). direct_in m at.0) (same_ok own inode (is ∙ sym i))) wants,
 )
 
-pub asks_link : (T : Types) (fs n : ℕ) (new : StoreState) (inode : List ℕ) → Ok inode ≡ inode_in (latest new.lives) fs n → (block : ℕ) (fault : FfsFault) → IsHome (latest new.lives) fs n block ⊎ (block ≡ word_at inode 56) → Wants T new fs block fault →
-    Asks T fs (OfLink n) new new fault
-asks_link T fs n new inode is block fault (inl home) wants = (refl, inl (λ b other. subst (λ (x : ℕ). Wants T new fs x fault) (same_ok block b (home ∙ sym other)) wants))
-asks_link T fs n new inode is block fault (inr e) wants = (refl, inr (λ m i. subst (λ (x : ℕ). Wants T new fs x fault) (e ∙ ap (λ (y : List ℕ). word_at y 56) (same_ok inode m (is ∙ sym i))) wants))
-
 -- where a link could not be taken
 pub link_stage : (T : Types) (lib : IsLibrary T) (fs : ℕ) → fs < 32 → (middle new : StoreState) → IsConsistent T new → (n : ℕ) (files : Files) → files_of (latest middle.lives) fs ≡ files → (fault : FfsFault) → StopsTaking T fs middle new n fault →
     IsStage T fs new fault (link_stages files n)
 link_stage T lib fs few middle new h n files e fault s =
-    let asks = asks_link T fs n new s.inode s.is s.block fault s.of_inode s.wants in
     elim s.stage [
-      | inl same ↦ inl (new, ap (λ (z : StoreState). files_of (latest z.lives) fs) same ∙ e, asks)
-      | inr c ↦ inr (inl (new, emptied_value T lib fs few (latest middle.lives) new h n s.inode s.was s.is (pointers_of _ _ s.inode c) c.last s.others ∙ ap (λ (f : Files). with_emptied f n) e, asks))
+      | inl same ↦ inl (new, ap (λ (z : StoreState). files_of (latest z.lives) fs) same ∙ e, (refl, s.wants))
+      | inr c ↦ inr (inl (new, emptied_value T lib fs few (latest middle.lives) new h n s.inode s.was s.is (pointers_of _ _ s.inode c) c.last s.others ∙ ap (λ (f : Files). with_emptied f n) e, (refl, s.wants)))
     ]
 
 -- and what that leaves of an inode that was as before

@@ -20,7 +20,6 @@ use Rattle.ffs_lib.specs.Steps.{NamedAgain, StopsNaming, StopsUnnaming}
 use Rattle.ffs_lib.proofs.BlocksOnce.{blocks_once}
 use Rattle.ffs_lib.proofs.Renaming.{CanMove}
 use Rattle.ffs_lib.proofs.Staged.{asks_entry, link_stage}
-use Rattle.ffs_lib.proofs.StagedNew.{asks_inode}
 use Rattle.ffs_lib.proofs.ValueMade.{directory_value}
 use Rattle.ffs_lib.proofs.ValueMoved.{cleared_value, home, home_place, named_value}
 use Rattle.ffs_lib.proofs.ValueSteps.{adds_value}
@@ -54,9 +53,9 @@ module _ (T : Types) (lib : IsLibrary T) (fs : ℕ) (few : fs < 32) (d : ℕ) (n
       stages_are (files_of u fs) d name other new_name (inode_links x.from) (inode_links x.to) (blocks_value u x.from) (blocks_value u x.to) (entry.at, slot.inode) answer.0 (directory_value u fs d x.from x.is_from)
       (directory_value u fs other x.to x.is_to) good entry.looked (sym answer.1)
 
-  pub naming_stage : (new : StoreState) (fault : FfsFault) → StopsNaming T fs old new other slot.inode fault → IsRefused T fs old new fault stages
+  pub naming_stage : (new : StoreState) (fault : FfsFault) → StopsNaming T fs old new other new_name slot.inode fault → IsRefused T fs old new fault stages
   naming_stage new fault s = elim s [
-    | inl home_refused ↦ inl (asks_inode T fs slot.inode old new fault home_refused)
+    | inl home_refused ↦ inl home_refused
     | inr q ↦ inr (inl (q.0, adds_value u (latest q.0.lives) fs slot.inode x.own x.is_own q.1, q.2))
   ]
 

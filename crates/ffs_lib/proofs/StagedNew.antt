@@ -6,6 +6,7 @@ use Rattle.xn_model.specs.Lives.{StoreState}
 use Rattle.xn_model.specs.Rules.{IsConsistent}
 use Rattle.ffs_model.specs.Cuts.{latest}
 use Rattle.ffs_model.specs.Library.{IsLibrary, inode_at}
+use Rattle.ffs_format.specs.Entries.{entry_of}
 use Rattle.ffs_lookup.specs.declared.fault.FfsFault.{FfsFault}
 use Rattle.ffs_lookup.specs.declared.fault.FfsFault.TheVariants.{NoEntry}
 use Rattle.ffs_lookup.specs.declared.places.Free.{Free}
@@ -14,8 +15,8 @@ use Rattle.ffs_lookup.specs.Files.{Answer, Files, InodeValue, created, is_absent
 use Rattle.ffs_lookup.specs.FileValues.{AreBlocksOnce, blocks_value, files_of, inode_value, place_in, value_in}
 use Rattle.ffs_lookup.proofs.ForCallers.{block_again, created_ok, created_told, good_number, has_root, same_ok, value_by_place, value_found, value_outside}
 use Rattle.ffs_lib.specs.Results.{IsExtended, IsLowestNumber, MadeEntry, SameOrNew, new_inode}
-use Rattle.ffs_lib.specs.Stages.{Asks, Does, ForEntry, IsRefused, IsStage, Makes, OfInode, OnlyMade, created_stages, made_stages, stages_of}
-use Rattle.ffs_lib.specs.Steps.{Answers, Creates, MadeInode, StopsAtHome, StopsMaking, StopsNew, TakesFree, Wants}
+use Rattle.ffs_lib.specs.Stages.{Does, ForEntry, IsRefused, IsStage, Makes, OfInode, OnlyMade, created_stages, made_stages, stages_of}
+use Rattle.ffs_lib.specs.Steps.{Answers, Creates, MadeInode, StopsMaking, StopsNew, TakesFree}
 use Rattle.ffs_lib.specs.Values.{Leads}
 use Rattle.ffs_lib.proofs.Entering.{directory_from, free_none}
 use Rattle.ffs_lib.proofs.BlocksOnce.{blocks_once}
@@ -28,10 +29,6 @@ use Rattle.ffs_lib.proofs.ValueSteps.{files_equal, value_at}
 
 true_false : (t : Bool) → t ≡ true → t ≡ false → ⊥
 true_false t e f = cc
-
--- an edit of the block of an inode
-pub asks_inode : (T : Types) (fs n : ℕ) (old new : StoreState) (fault : FfsFault) → StopsAtHome T fs old new n fault → Asks T fs (OfInode n) old new fault
-asks_inode T fs n old new fault s = (s.0, λ b other. subst (λ (x : ℕ). Wants T old fs x fault) (same_ok s.1 b (s.2 ∙ sym other)) s.3)
 
 -- the number that would be answered
 number_is : (u : ℕ → List ℕ) (fs d : ℕ) (name : List ℕ) (value : InodeValue) (inode : List ℕ) → Ok inode ≡ create_in u fs d name → (next : ℕ × Files) → Ok next ≡ created value (files_of u fs) d name → (n : ℕ) → IsLowestNumber u fs n → n ≡ next.0
@@ -94,12 +91,12 @@ module _ (T : Types) (lib : IsLibrary T) (fs : ℕ) (few : fs < 32) (d : ℕ) (n
   abbrev files : Files
   files = files_of u fs
 
-  new_stage : (fault : FfsFault) (middle : StoreState) (free : Free) → TakesFree old middle fs free → StopsNew T fs middle new d mode free.number fault →
-      IsStage T fs new fault ((with_block files free.number, OfInode free.number) ∷ (with_value (with_block files free.number) free.number value, ForEntry d) ∷ [])
+  new_stage : (fault : FfsFault) (middle : StoreState) (free : Free) → TakesFree old middle fs free → StopsNew T fs middle new d name mode free.number fault →
+      IsStage T fs new fault ((with_block files free.number, OfInode free.number) ∷ (with_value (with_block files free.number) free.number value, ForEntry d (entry_of free.number name)) ∷ [])
   new_stage fault middle free t s =
       let block = block_value old middle fs free t in
       elim s [
-        | inl home ↦ inl (middle, block, asks_inode T fs free.number middle new fault home)
+        | inl home ↦ inl (middle, block, home)
         | inr q ↦
             let n = free.number in
             let made = made_inode_value (latest middle.lives) (latest q.0.lives) fs mode n value (is (latest q.0.lives)) q.1 in
@@ -107,17 +104,17 @@ module _ (T : Types) (lib : IsLibrary T) (fs : ℕ) (few : fs < 32) (d : ℕ) (n
       ]
 
   module _ (inode : List ℕ) (found : Ok inode ≡ create_in u fs d name) where
-    refused : (next : ℕ × Files) → Ok next ≡ created value files d name → (fault : FfsFault) → StopsMaking T fs old new d mode fault → IsRefused T fs old new fault (made_stages value files d next.0)
+    refused : (next : ℕ × Files) → Ok next ≡ created value files d name → (fault : FfsFault) → StopsMaking T fs old new d name mode fault → IsRefused T fs old new fault (made_stages value files d name next.0)
     refused next a fault s = elim s [
       | inl growing ↦ inl growing
       | inr q ↦
           let one : q.1.number ≡ next.0 = number_is u fs d name value inode found next a q.1.number q.2.lowest in
-          inr (subst (λ (n : ℕ). IsStage T fs new fault ((with_block files n, OfInode n) ∷ (with_value (with_block files n) n value, ForEntry d) ∷ [])) one (new_stage fault q.0 q.1 q.2 q.3))
+          inr (subst (λ (n : ℕ). IsStage T fs new fault ((with_block files n, OfInode n) ∷ (with_value (with_block files n) n value, ForEntry d (entry_of n name)) ∷ [])) one (new_stage fault q.0 q.1 q.2 q.3))
     ]
 
   by_looked : IsConsistent T new → (looked : Result (List ℕ) FfsFault) → looked ≡ create_in u fs d name → (answer : Answer ℕ) → answer ≡ created value files d name → (result : Result ℕ FfsFault) →
-      Answers looked (λ _ n. MadeEntry u w fs d name mode n × IsLowestNumber u fs n) (λ _ fault. StopsMaking T fs old new d mode fault) old new result →
-      Does T fs answer (stages_of answer (λ next. made_stages value files d next.0)) old new result
+      Answers looked (λ _ n. MadeEntry u w fs d name mode n × IsLowestNumber u fs n) (λ _ fault. StopsMaking T fs old new d name mode fault) old new result →
+      Does T fs answer (stages_of answer (λ next. made_stages value files d name next.0)) old new result
   by_looked after (Err fault) l (Err other) a result h =
       let same : fault ≡ other = cc (ap fault_told l ∙ (created_told u fs value d name ∙ sym (ap fault_told a))) in
       (h.0 ∙ ap (λ (f : FfsFault). Err f) same, h.1)
@@ -180,7 +177,7 @@ module _ (T : Types) (fs d : ℕ) (name : List ℕ) (mode : ℕ) (old new : Stor
     others = k.others;
   }
 
-  new_stays : (fault : FfsFault) (middle : StoreState) (free : Free) → TakesFree old middle fs free → StopsNew T fs middle new d mode free.number fault → OnlyMade u2 w2 fs free.number
+  new_stays : (fault : FfsFault) (middle : StoreState) (free : Free) → TakesFree old middle fs free → StopsNew T fs middle new d name mode free.number fault → OnlyMade u2 w2 fs free.number
   new_stays fault middle free t s =
       let n = free.number in
       let m = latest middle.lives in
@@ -189,7 +186,7 @@ module _ (T : Types) (fs d : ℕ) (name : List ℕ) (mode : ℕ) (old new : Stor
         | inr q ↦ λ x ne. new_on u2 m w2 fs n x (t.stays x) (as_same m w2 fs n x (same_on m (latest q.0.lives) w2 fs x (q.1.others x ne) (q.2.same x)))
       ]
 
-  new_makes : (fault : FfsFault) (middle : StoreState) (free : Free) → TakesFree old middle fs free → StopsNew T fs middle new d mode free.number fault → Makes u2 w2 fs d mode free.number
+  new_makes : (fault : FfsFault) (middle : StoreState) (free : Free) → TakesFree old middle fs free → StopsNew T fs middle new d name mode free.number fault → Makes u2 w2 fs d mode free.number
   new_makes fault middle free t s =
       let n = free.number in
       elim s [
@@ -204,7 +201,7 @@ module _ (T : Types) (fs d : ℕ) (name : List ℕ) (mode : ℕ) (old new : Stor
   created_makes value next e result answers = go (create_in u2 fs d name) refl result answers
     where
       go : (looked : Result (List ℕ) FfsFault) → looked ≡ create_in u2 fs d name → (r : Result ℕ FfsFault) →
-          Answers looked (λ _ n. MadeEntry u2 w2 fs d name mode n × IsLowestNumber u2 fs n) (λ _ fault. StopsMaking T fs old new d mode fault) old new r → Makes u2 w2 fs d mode next.0
+          Answers looked (λ _ n. MadeEntry u2 w2 fs d name mode n × IsLowestNumber u2 fs n) (λ _ fault. StopsMaking T fs old new d name mode fault) old new r → Makes u2 w2 fs d mode next.0
       go (Err fault) l r h = absurd (cc (ap fault_told l ∙ (created_told u2 fs value d name ∙ ap fault_told e)))
       go (Ok inode) l (Ok n) h =
           let own = create_found u2 fs d name inode l in
@@ -221,7 +218,7 @@ module _ (T : Types) (fs d : ℕ) (name : List ℕ) (mode : ℕ) (old new : Stor
   refused_stays value next e fault answers = go (create_in u2 fs d name) refl answers
     where
       go : (looked : Result (List ℕ) FfsFault) → looked ≡ create_in u2 fs d name →
-          Answers looked (λ _ n. MadeEntry u2 w2 fs d name mode n × IsLowestNumber u2 fs n) (λ _ fault. StopsMaking T fs old new d mode fault) old new (Err fault) → OnlyMade u2 w2 fs next.0
+          Answers looked (λ _ n. MadeEntry u2 w2 fs d name mode n × IsLowestNumber u2 fs n) (λ _ fault. StopsMaking T fs old new d name mode fault) old new (Err fault) → OnlyMade u2 w2 fs next.0
       go (Err other) l h = absurd (cc (ap fault_told l ∙ (created_told u2 fs value d name ∙ ap fault_told e)))
       go (Ok inode) l h = elim h.1 [
         | inl growing ↦ λ x ne. as_same u2 w2 fs next.0 x (growing.same x)

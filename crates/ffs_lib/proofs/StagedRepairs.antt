@@ -28,7 +28,7 @@ use Rattle.ffs_lib.specs.Stages.{Asks, Does, IsRefused, IsStage, OfLink, Stages,
 use Rattle.ffs_lib.proofs.Moving.{same_as}
 use Rattle.ffs_lib.proofs.Reclaiming.{idle_ok, middle_ends, repaired_then}
 use Rattle.ffs_lib.proofs.Same.{same_on}
-use Rattle.ffs_lib.proofs.Staged.{asks_link, kept_or_emptied, same_here, short_at}
+use Rattle.ffs_lib.proofs.Staged.{kept_or_emptied, same_here, short_at}
 use Rattle.ffs_lib.proofs.StagedTurns.{first_stages}
 use Rattle.ffs_lib.proofs.ValueRepairs.{need_is, range_split, repaired_value}
 use Rattle.ffs_lib.proofs.ValueSame.{same_value}
@@ -103,13 +103,12 @@ module _ (T : Types) (lib : IsLibrary T) (fs : ℕ) (few : fs < 32) (array : ℕ
       one_refused : (repair : Repair) → StopsRepairing T fs now new next repair fault → IsRefused T fs now new fault (repair_stages (files_of v fs) next repair)
       one_refused Keep s = absurd (s.needed refl)
       one_refused GiveUp s =
-          let asks = asks_link T fs next new s.inode s.is s.block fault s.of_inode s.wants in
           elim s.stage [
-            | inl same ↦ inl (subst (λ (y : StoreState). Asks T fs (OfLink next) y new fault) same asks)
-            | inr p ↦ inr (inl (new, value_at v w fs next (cut_short (files_of v fs next)) (short_at T lib fs few v new h next s.inode s.was s.is p.1) s.others, asks))
+            | inl same ↦ inl (subst (λ (y : StoreState). Asks T fs (OfLink next) y new fault) same (refl, s.wants))
+            | inr p ↦ inr (inl (new, value_at v w fs next (cut_short (files_of v fs next)) (short_at T lib fs few v new h next s.inode s.was s.is p.1) s.others, (refl, s.wants)))
           ]
       one_refused (SetLinks links) s = elim s.stage [
-        | inl same ↦ inl (subst (λ (y : StoreState). Asks T fs (OfLink next) y new fault) same (asks_link T fs next new s.inode s.is s.block fault s.of_inode s.wants))
+        | inl same ↦ inl (subst (λ (y : StoreState). Asks T fs (OfLink next) y new fault) same (refl, s.wants))
         | inr p ↦ absurd (cc p.0)
       ]
 

@@ -26,7 +26,6 @@ use Rattle.ffs_lib.proofs.Removal.{FindsEntry}
 use Rattle.ffs_lib.proofs.Replaced.{Halfway, after_clear, after_less, after_link, after_turn, cleared_listed, ended, former_same, halted, home_named, nothing_taken, refused, target_named, there1, there2, turned_listed, two_links}
 use Rattle.ffs_lib.proofs.Replacing.{CanReplace}
 use Rattle.ffs_lib.proofs.Staged.{asks_entry, cleared_does, link_stage, same_here}
-use Rattle.ffs_lib.proofs.StagedNew.{asks_inode}
 use Rattle.ffs_lib.proofs.ValueReplaced.{by_tests, left, left_then, linked_then, moved_then, named_then, replaced_files, replaced_ok, replaced_stages_ok, same_is}
 use Rattle.ffs_lib.proofs.Writing.{file_from}
 
@@ -149,7 +148,7 @@ module _ (T : Types) (lib : IsLibrary T) (old : StoreState) (h : IsConsistent T 
       let same : old ≡ new = sym s.0 in
       let none : Halfway before before fs d other n = record { inodes = λ e inode i. i; listed = λ e inode i same. same_here before fs e; moved = same_as before before fs n (same_here before fs n); rest = λ e ne ne' far. same_here before fs e } in
       let k = halted before fs d name other other_name from to x apart before none in
-      (inl (asks_inode T fs n old new fault s), subst (λ (y : StoreState). ReplacedInodes before (latest y.lives) fs d from other to × KeptOrEmptied before (latest y.lives) fs to.inode) same k)
+      (inl s, subst (λ (y : StoreState). ReplacedInodes before (latest y.lives) fs d from other to × KeptOrEmptied before (latest y.lives) fs to.inode) same k)
 
   module _ (one : StoreState) (a : AddsLink before (latest one.lives) fs n) where
     abbrev v1 : ℕ → List ℕ

@@ -33,7 +33,6 @@ use Rattle.ffs_lib.proofs.Laws.{staged}
 use Rattle.ffs_lib.proofs.Parting.{end_found, never_some}
 use Rattle.ffs_lib.proofs.Same.{same_on}
 use Rattle.ffs_lib.proofs.Staged.{does_found}
-use Rattle.ffs_lib.proofs.StagedNew.{asks_inode}
 use Rattle.ffs_lib.proofs.ValueWritten.{file, file_is, files, first_files, looked, none_leads, some_leads, written_leads}
 
 -- One of many stages
@@ -195,7 +194,7 @@ module _ (T : Types) (fs : ℕ) (array : ℕ → Option ℕ) (old middle : Store
       subst (IsStage T fs middle fault) (sym (place_are progress.done)) (inl (k.before, first_files old fs n offset inode is k.before bytes progress.done (omega (arith, few)) k.puts, k.told))
 
   size_place : (new : StoreState) (fault : FfsFault) → StopsAtHome T fs middle new n fault → IsStage T fs new fault (place_stages all n offset bytes progress.done)
-  size_place new fault s = subst (IsStage T fs new fault) (sym (place_are progress.done)) (inr (inl (middle, first_files old fs n offset inode is middle bytes progress.done p.few p.puts, asks_inode T fs n middle new fault s)))
+  size_place new fault s = subst (IsStage T fs new fault) (sym (place_are progress.done)) (inr (inl (middle, first_files old fs n offset inode is middle bytes progress.done p.few p.puts, s)))
 
   abbrev last_of : Bool → ℕ → Stages
   last_of test at = if test then (to bytes at, OfPart n (at / 512)) ∷ [] else (to bytes at, OfInode n) ∷ []
@@ -217,7 +216,7 @@ module _ (T : Types) (fs : ℕ) (array : ℕ → Option ℕ) (old middle : Store
   size_last e new fault s =
       let l = long_pads in
       subst (IsStage T fs new fault) (sym (last_are false (le-ltb (start + progress.done) (offset + length bytes) (omega (arith, e, l)))))
-      (inl (middle, first_files old fs n offset inode is middle bytes progress.done p.few p.puts, asks_inode T fs n middle new fault s))
+      (inl (middle, first_files old fs n offset inode is middle bytes progress.done p.few p.puts, s))
 
   next_are : (count : ℕ) → next_stages all n offset bytes count ≡ (to bytes (offset + count), OfPart n ((offset + count) / 512)) ∷ []
   next_are count = ap (λ r. stages_of r (λ f. part_stages all n offset bytes f ((offset + count) ∷ []))) (file_is old fs n offset inode is)
@@ -280,7 +279,7 @@ module _ (T : Types) (fs : ℕ) (array : ℕ → Option ℕ) (old middle : Store
       let files_are : files_of (latest middle.lives) fs ≡ to part (offset + length part) =
       first_files old fs n offset inode is middle part count (omega arith) (subst (Puts old middle fs n start) (sym (take_all count (padded (file_end inode) offset part) (omega arith))) a) ∙ ap (to part) here in
       subst (IsRefused T fs old new fault) (sym (written_are part (λ z. some (sym long ∙ z))))
-      (inr (behind T fs new fault _ (size_list part) (subst (λ (t : Bool). IsStage T fs new fault (size_stages all n offset part own (if t then (offset + length part) ∷ [] else []))) (sym below) (inl (middle, files_are, asks_inode T fs n middle new fault s.1)))))
+      (inr (behind T fs new fault _ (size_list part) (subst (λ (t : Bool). IsStage T fs new fault (size_stages all n offset part own (if t then (offset + length part) ∷ [] else []))) (sym below) (inl (middle, files_are, s.1)))))
 
   pub whole : progress.fault ≡ None → taken ≡ length bytes
   whole none = let e = b.whole none in omega (arith, e)

@@ -1,35 +1,32 @@
 -- What a file system has before its volume is made, and after.
 use Rattle.std.proofs.Common.{◌≡◌, ◌≢◌, ℕ, zero, suc, ◌+◌, ◌-◌, ◌*◌, ◌%◌, ◌^◌, ◌<◌, ◌≤◌, ◌⊎◌, Bool, true, false, List, [], ◌∷◌, length, Option, Some, None, Result, Ok, Err, refl, sym, ◌∙◌, ap, inl, inr, arith, subst, eq-eqb, replicate}
-use Rattle.std.specs.Prelude.{Contains, not, ◌==◌, ◌&&◌, nat_lt, if◌then◌else◌, option_map, option_to_list, ◌++◌, IfErr, OnOk}
+use Rattle.std.specs.Prelude.{Contains, not, ◌==◌, ◌&&◌, nat_lt, if◌then◌else◌, option_map, option_to_list, ◌++◌}
 use Rattle.std.specs.Int.{w32, to_le_bytes}
 use Rattle.std.specs.List.{range_with_len}
 use Rattle.std.proofs.lemmas.Bool.{cases_eq, cases_lt, eqb-false, eqb-true, false≢true, le-ltb, ne_eqb}
-use Rattle.std.proofs.lemmas.Option.{none-some}
-use Rattle.xn_model.specs.declared.refusal.Refusal.{Refusal}
 use Rattle.xn_model.specs.declared.refusal.Refusal.TheVariants.{NotInUse, NotYours, RootTaken}
 use Rattle.xn_model.specs.Types.{Types}
 use Rattle.xn_model.specs.Lists.{blocks_of, put}
 use Rattle.xn_model.specs.Root.{slot, unless_empty, word_at}
 use Rattle.xn_model.specs.declared.status.Status.{Status}
 use Rattle.xn_model.specs.Lives.{BlockState, Life, StoreState, alive_and, is_dropped, is_for, is_fresh, life_at}
-use Rattle.xn_model.specs.Results.{Gives, first_refusal, unless}
-use Rattle.xn_model.specs.Calls.{Edit, init_of, kind_of, make_root_of, may_add, new_life, own_life, own_place, propose_of, root_of, root_state, slot_now}
+use Rattle.xn_model.specs.Results.{first_refusal, unless}
+use Rattle.xn_model.specs.Calls.{init_of, kind_of, make_root_of, may_add, new_life, own_life, own_place, propose_of, root_of, root_state, slot_now}
 use Rattle.xn_model.specs.Rules.{IsConsistent}
-use Rattle.xn_model.proofs.ForCallers.{Contains-cons, Contains-head, Contains-none, Contains-tail, accepted, any_at, any_from, each_at, place_from, range_at, set_other, set_same, status_cases}
+use Rattle.xn_model.proofs.ForCallers.{Contains-cons, Contains-head, Contains-none, Contains-tail, accepted, any_at, any_from, each_at, place_from, range_at, set_same, status_cases}
 use Rattle.ffs_model.specs.Cuts.{Under, latest, root}
 use Rattle.ffs_model.specs.Names.{IsInodes, IsRoot}
-use Rattle.ffs_model.specs.Shortages.{is_shortage}
-use Rattle.ffs_model.specs.Library.{IsLibrary, direct_word, inode_at, inode_pairs, library_layout, pointer_word, zero_block}
-use Rattle.ffs_model.proofs.ForCallers.{bytes_apart, gives_short, pointed_none, rooted, rooted_here, rooted_others, started, started_here, started_others, word_apart, zero_word, zeros_pointer}
+use Rattle.ffs_model.specs.Library.{IsLibrary, direct_word, inode_at, inode_blocks, inode_pairs, library_layout, pointer_word, zero_block}
+use Rattle.ffs_model.proofs.ForCallers.{bytes_apart, one_inode, pointed_none, rooted, started, word_apart, zero_word}
 use Rattle.ffs_lookup.specs.declared.fault.FfsFault.{FfsFault}
-use Rattle.ffs_lookup.specs.declared.fault.FfsFault.TheVariants.{BadName, DirNotEmpty, Exists, IsDir, Kernel, NoEntry, NoInode, NotDir, Pending, TooLarge, Unsound}
-use Rattle.ffs_lookup.specs.Newest.{has_pointer, if_bare, if_makeable, inode_block_in, is_own, is_short, make_in, root_in}
-use Rattle.ffs_lookup.proofs.ForCallers.{gives_ok, in_root_block, kind_known, no_root_block, pointer_is, root_again, zero_is}
+use Rattle.ffs_lookup.specs.declared.fault.FfsFault.TheVariants.{Exists, Kernel, NoEntry, Unsound}
+use Rattle.ffs_lookup.specs.Newest.{has_pointer, if_bare, if_makeable, inode_block_in, make_in, root_in}
+use Rattle.ffs_lookup.proofs.ForCallers.{in_root_block, kind_known, no_root_block, root_again, zero_is}
 use Rattle.ffs_lib.specs.Edits.{edit_at}
-use Rattle.ffs_lib.specs.Outcomes.{FirstInodes, GetsRoot, IsReady, MakesTop, OnlyShort, SetsRoot}
+use Rattle.ffs_lib.specs.Outcomes.{FirstInodes}
 use Rattle.ffs_lib.specs.Results.{new_inode}
 use Rattle.ffs_lib.proofs.Fields.{zeros_inode}
-use Rattle.ffs_lib.proofs.Same.{Touches, begun, begun_some, place_added, place_kept}
+use Rattle.ffs_lib.proofs.Same.{Touches, begun, place_added, place_kept}
 
 -- What `make` finds
 
@@ -123,6 +120,13 @@ true_last false true m e = let both = bare (pointer_word m 0 == 0) (has_pointer 
     bare false u f = absurd (cc f)
 true_last false false m e = absurd (cc e)
 
+pub among : (n a i : ℕ) → a ≤ i → i < a + n → Contains (range_with_len a n) i
+among zero a i low high = absurd (omega (arith, low, high))
+among (suc n) a i low high = elim (cases_lt a i) [
+  | inl lt ↦ Contains-tail a (range_with_len (a + 1) n) i (among n (a + 1) i (omega (arith, lt)) (omega (arith, high)))
+  | inr ge ↦ let e : a ≡ i = omega (arith, low, ge) in subst (λ z. Contains (range_with_len a (suc n)) z) e (Contains-head a (range_with_len (a + 1) n))
+]
+
 -- The root block, which points to no block of inodes.
 pub record BareRoot (content : ℕ → List ℕ) (fs : ℕ) : Type 0 where
   pub block : ℕ
@@ -168,13 +172,6 @@ module _ (content : ℕ → List ℕ) (fs : ℕ) where
     | inr ne ↦
         absurd (false≢true (sym bare.none ∙ any_from (λ i. not (pointer_word (content bare.block) i == 0)) (range_with_len 0 16) j (among 16 0 j (omega arith) (omega (arith, low))) (ap not (ne_eqb (pointer_word (content bare.block) j) 0 ne))))
   ]
-    where
-      among : (n a i : ℕ) → a ≤ i → i < a + n → Contains (range_with_len a n) i
-      among zero a i low high = absurd (omega (arith, low, high))
-      among (suc n) a i low high = elim (cases_lt a i) [
-        | inl lt ↦ Contains-tail a (range_with_len (a + 1) n) i (among n (a + 1) i (omega (arith, lt)) (omega (arith, high)))
-        | inr ge ↦ let e : a ≡ i = omega (arith, low, ge) in subst (λ z. Contains (range_with_len a (suc n)) z) e (Contains-head a (range_with_len (a + 1) n))
-      ]
 
   pub no_pointers : BareRoot content fs → (j b : ℕ) → IsInodes library_layout content fs j b → ⊥
   no_pointers bare j b x =
@@ -199,7 +196,7 @@ module _ (content : ℕ → List ℕ) (fs : ℕ) where
 -- A root block is made
 
 -- what may be added, but for that block
-still_addable : (state new : StoreState) (fs block entry : ℕ) → make_root_of state fs block ≡ Ok (entry, new) → (p : ℕ × ℕ) → p.0 ≢ block → may_add new fs p ≡ may_add state fs p
+pub still_addable : (state new : StoreState) (fs block entry : ℕ) → make_root_of state fs block ≡ Ok (entry, new) → (p : ℕ × ℕ) → p.0 ≢ block → may_add new fs p ≡ may_add state fs p
 still_addable state new fs block entry done p ne =
     let r = rooted state new fs block entry done in
     let s = root_state state fs (block, r.life.ty) ((block, r.life.ty) ∷ []) [] in
@@ -218,55 +215,6 @@ still_addable state new fs block entry done p ne =
     same_life s None adds drops = refl
     same_life s (Some l) adds drops = ap (λ (t : Status). is_fresh t && ((l.ty == p.1) && is_for fs l.fs)) (stays s l adds drops)
 
-pub sets_root : (T : Types) (fs : ℕ) → fs < 32 → (block entry : ℕ) (old new : StoreState) → Gives (make_root_of old fs block) old new (Ok entry) → SetsRoot T fs block old new
-sets_root T fs few block entry old new given h l alive =
-    let done = gives_ok (make_root_of old fs block) old new entry given in
-    (rooted_here T old new h fs few block entry done l alive, rooted_others T old new h fs few block entry done, still_addable old new fs block entry done)
-
-module _ (T : Types) (fs : ℕ) (block number : ℕ) (zeroth first second third : StoreState) (given : Gives (init_of T zeroth fs 3 zero_block) zeroth first (Ok (block, number))) (rules : IsConsistent T first) where
-  pub gets_root : {A : Type 0} (made result : Result A FfsFault) → result ≡ made → OnOk made (SetsRoot T fs block first second) → OnOk result (third ≡ second) → OnOk result (GetsRoot T fs false zeroth third)
-  gets_root made (Err e) is ok same = tt
-  gets_root {A} made (Ok x) is ok same = λ lib h none. subst (λ (s : StoreState). IsReady zeroth s fs) (sym same) (ready h none)
-    where
-      made_ok : SetsRoot T fs block first second
-      made_ok = subst (λ (r : Result A FfsFault). OnOk r (SetsRoot T fs block first second)) (sym is) ok
-
-      done : init_of T zeroth fs 3 zero_block ≡ Ok ((block, number), first)
-      done = gives_ok (init_of T zeroth fs 3 zero_block) zeroth first (block, number) given
-
-      there : IsConsistent T zeroth → block ≢ 0
-      there h = begun_some T zeroth first h fs 3 zero_block (block, number) done
-
-      set : (slot (latest second.lives 0) fs ≡ (block, 3)) × ((c : ℕ) → c ≢ 0 → latest second.lives c ≡ latest first.lives c) × ((p : ℕ × ℕ) → p.0 ≢ block → may_add second fs p ≡ may_add first fs p)
-      set =
-          let r = started T zeroth first fs 3 zero_block (block, number) done in
-          made_ok rules (new_life zeroth.next (Some fs) 3 zero_block) (ap (λ xs. life_at xs block) r.lives ∙ set_same zeroth.lives block (Some (new_life zeroth.next (Some fs) 3 zero_block)) r.within)
-
-      is_root : IsConsistent T zeroth → IsRoot (latest second.lives) fs block
-      is_root h = record { at = set.0; there = there h }
-
-      bytes : IsConsistent T zeroth → latest second.lives block ≡ zero_block
-      bytes h = set.1 block (there h) ∙ started_here T zeroth first fs 3 zero_block (block, number) done
-
-      no_pointer : IsConsistent T zeroth → (j : ℕ) → j < 16 → pointer_word (latest second.lives block) j ≡ 0
-      no_pointer h j low = ap (λ m. pointer_word m j) (bytes h) ∙ (sym (pointer_is zero_block j low) ∙ zeros_pointer j)
-
-      ready : IsConsistent T zeroth → Ok false ≡ make_in (latest zeroth.lives) fs → IsReady zeroth second fs
-      ready h none = record {
-        ready = bare_to (latest second.lives) fs block (is_root h) (no_pointer h 0 (omega arith)) (none_set (latest second.lives block) (no_pointer h));
-        kept = λ c l ne alive.
-            let r = started T zeroth first fs 3 zero_block (block, number) done in
-            set.1 c ne ∙ started_others T zeroth first fs 3 zero_block (block, number) done c (λ z. none-some l (sym r.free ∙ (ap (life_at zeroth.lives) (sym z) ∙ alive)));
-        addable = λ p may.
-            let r = started T zeroth first fs 3 zero_block (block, number) done in
-            let ne : p.0 ≢ block = λ z. not_free (λ l. is_fresh l.status && ((l.ty == p.1) && is_for fs l.fs)) (life_at zeroth.lives p.0) (ap (life_at zeroth.lives) z ∙ r.free) may in
-            set.2 p ne ∙ (ap (alive_and (λ l. is_fresh l.status && ((l.ty == p.1) && is_for fs l.fs))) (ap (λ xs. life_at xs p.0) r.lives ∙ set_other zeroth.lives block p.0 (Some (new_life zeroth.next (Some fs) 3 zero_block)) ne) ∙ may);
-      }
-        where
-          not_free : (P : Life → Bool) (o : Option Life) → o ≡ None → alive_and P o ≡ true → ⊥
-          not_free P None e may = cc
-          not_free P (Some l) e may = absurd (none-some l (sym e))
-
 -- Its edits are refused for want of something alone
 
 own_new : (state : StoreState) (fs b : ℕ) (l : Life) → life_at state.lives b ≡ Some l → is_dropped l.status ≡ false → l.fs ≡ Some fs → own_life state fs b ≡ Ok l
@@ -277,15 +225,12 @@ own_new state fs b l alive kept mine = ap (own_place fs) (place_from state.lives
     passes false false d m = absurd (cc m)
     passes false true d m = refl
 
-module _ (T : Types) (fs : ℕ) (zeroth first : StoreState) (h : IsConsistent T zeroth) (fits : fs < 32) (ty block number : ℕ) (bytes : List ℕ) (given : Gives (init_of T zeroth fs ty bytes) zeroth first (Ok (block, number))) where
+module _ (T : Types) (fs : ℕ) (zeroth first : StoreState) (h : IsConsistent T zeroth) (fits : fs < 32) (ty block number : ℕ) (bytes : List ℕ) (done : init_of T zeroth fs ty bytes ≡ Ok ((block, number), first)) where
   abbrev life : Life
   life = new_life zeroth.next (Some fs) ty bytes
 
-  new_done : init_of T zeroth fs ty bytes ≡ Ok ((block, number), first)
-  new_done = gives_ok (init_of T zeroth fs ty bytes) zeroth first (block, number) given
-
   pub new_alive : life_at first.lives block ≡ Some life
-  new_alive = let r = started T zeroth first fs ty bytes (block, number) new_done in ap (λ xs. life_at xs block) r.lives ∙ set_same zeroth.lives block (Some life) r.within
+  new_alive = let r = started T zeroth first fs ty bytes (block, number) done in ap (λ xs. life_at xs block) r.lives ∙ set_same zeroth.lives block (Some life) r.within
 
   pub new_own : own_life first fs block ≡ Ok life
   new_own = own_new first fs block life new_alive refl refl
@@ -299,11 +244,7 @@ module _ (T : Types) (fs : ℕ) (zeroth first : StoreState) (h : IsConsistent T 
   unfolding make_in
   none_named none =
       let s = slot (latest zeroth.lives 0) fs in
-      ap (λ (m : List ℕ). (slot m fs).0) (begun T zeroth first h fs fits ty ty bytes (block, number) new_done).top ∙ eqb-true s.0 0 (false_first (s.0 == 0) (s.1 == 3) (latest zeroth.lives s.0) none)
-
-pub refused_short : (T : Types) (old new : StoreState) (fs b : ℕ) (edit same : Edit) (refusal : Refusal) → edit ≡ same → Gives (propose_of T old fs b edit) old new (Err refusal) →
-    ((r : Refusal) → propose_of T old fs b same ≡ Err r → is_shortage r ≡ true) → is_shortage refusal ≡ true
-refused_short T old new fs b edit same refusal e given short = gives_short (propose_of T old fs b edit) old new refusal given (λ r f. short r (ap (propose_of T old fs b) (sym e) ∙ f))
+      ap (λ (m : List ℕ). (slot m fs).0) (begun T zeroth first h fs fits ty ty bytes (block, number) done).top ∙ eqb-true s.0 0 (false_first (s.0 == 0) (s.1 == 3) (latest zeroth.lives s.0) none)
 
 -- The first block of inodes is attached
 
@@ -318,7 +259,14 @@ some_word : pointer_word (put zero_block 0 (new_inode 2)) 0 ≡ 0 → ⊥
 unfolding word_at
 some_word z = omega (arith, z)
 
+top_blocks : inode_blocks (new_inode 2) ≡ []
+unfolding word_at
+top_blocks = refl
+
 -- that block points to nothing
+pub top_direct : (p c : ℕ) → Contains (library_layout.direct (put zero_block 0 (new_inode 2)) p) c → ⊥
+top_direct p c i = one_inode (new_inode 2) refl top_blocks p c i
+
 pub top_bare : (m : List ℕ) → m ≡ put zero_block 0 (new_inode 2) → (p : ℕ) → p < 8 → inode_pairs m p ≡ []
 top_bare m is p low = λ i. pointed_none (direct_word m p) 12 2 (λ k lt. word (64 * p + 8 + 4 * k) (omega arith) (omega arith)) i ++ option_to_list (unless_empty (word (64 * p + 56) (omega arith) (omega arith) i, 5))
   where
@@ -341,8 +289,6 @@ makes_top T lib old new h fs few top b entry is_root empty long small there byte
     apart : b ≢ top
     apart e = some_word (sym (ap (λ m. pointer_word m 0) bytes) ∙ (ap (λ c. pointer_word (latest old.lives c) 0) e ∙ empty))
 
--- One after another
-
 -- the root slot and the root block stay, so does what `make` finds
 make_same : (T : Types) (v w : ℕ → List ℕ) (fs block ty : ℕ) → Touches T v w fs block ty → ty ≢ 3 → make_in w fs ≡ make_in v fs
 unfolding make_in
@@ -361,56 +307,11 @@ make_same T v w fs block ty t other =
         ap (λ (m : List ℕ). if s.0 == 0 then Ok false else if s.1 == 3 then if_bare m else Err (Kernel RootTaken)) (t.others s.0 3 at (t.apart s.0 3 at (λ z. other (sym z))))
 
 -- so it does where a block begins its life
-pub found_still : (T : Types) (fs : ℕ) → fs < 32 → (block number ty : ℕ) (zeroth first : StoreState) → IsConsistent T zeroth → (bytes : List ℕ) → Gives (init_of T zeroth fs ty bytes) zeroth first (Ok (block, number)) →
+pub found_still : (T : Types) (fs : ℕ) → fs < 32 → (block number ty : ℕ) (zeroth first : StoreState) → IsConsistent T zeroth → (bytes : List ℕ) → init_of T zeroth fs ty bytes ≡ Ok ((block, number), first) →
     make_in (latest first.lives) fs ≡ make_in (latest zeroth.lives) fs
-found_still T fs few block number ty zeroth first h bytes given =
+found_still T fs few block number ty zeroth first h bytes done =
     make_same T (latest zeroth.lives) (latest first.lives) fs block 6
-    (begun T zeroth first h fs few ty 6 bytes (block, number) (gives_ok (init_of T zeroth fs ty bytes) zeroth first (block, number) given)) (λ z. omega (arith, z))
-
-module _ (T : Types) (lib : IsLibrary T) (fs : ℕ) (few : fs < 32) (block number : ℕ) (zeroth first second : StoreState) (h : IsConsistent T zeroth) (h1 : IsConsistent T first) (h2 : IsConsistent T second)
-    (bytes : List ℕ) (is : bytes ≡ put zero_block 0 (new_inode 2)) (given : Gives (init_of T zeroth fs 4 bytes) zeroth first (Ok (block, number))) (begins : Bool) (found : Ok begins ≡ make_in (latest zeroth.lives) fs)
-    (prepared : GetsRoot T fs begins first second) where
-  done : init_of T zeroth fs 4 bytes ≡ Ok ((block, number), first)
-  done = gives_ok (init_of T zeroth fs 4 bytes) zeroth first (block, number) given
-
-  there : block ≢ 0
-  there = begun_some T zeroth first h fs 4 bytes (block, number) done
-
-  ready : IsReady first second fs
-  ready = prepared lib h1 (found ∙ sym (found_still T fs few block number 4 zeroth first h bytes given))
-
-  holds : latest second.lives block ≡ put zero_block 0 (new_inode 2)
-  holds =
-      let r = started T zeroth first fs 4 bytes (block, number) done in
-      ready.kept block (new_life zeroth.next (Some fs) 4 bytes) there (ap (λ xs. life_at xs block) r.lives ∙ set_same zeroth.lives block (Some (new_life zeroth.next (Some fs) 4 bytes)) r.within)
-      ∙ (started_here T zeroth first fs 4 bytes (block, number) done ∙ is)
-
-  -- so there is a volume
-  pub made_volume : {A : Type 0} (third fourth : StoreState) (attached : Result A FfsFault) (x : A) → Ok x ≡ attached → OnOk attached (MakesTop T fs block second third) → fourth ≡ third →
-      (Ok true ≡ make_in (latest second.lives) fs) × FirstInodes (latest second.lives) (latest fourth.lives) fs (put zero_block 0 (new_inode 2))
-  made_volume {A} third fourth attached x is_ok tops same =
-      let top : MakesTop T fs block second third = subst (λ (r : Result A FfsFault). OnOk r (MakesTop T fs block second third)) (sym is_ok) tops in
-      (ready.ready, subst (λ (s : StoreState). FirstInodes (latest second.lives) (latest s.lives) fs (put zero_block 0 (new_inode 2))) (sym same) (top lib h2 holds there))
-
-  pub attached_short : {A : Type 0} (result : Result A FfsFault) → (IsLibrary T → IsConsistent T second → Ok true ≡ make_in (latest second.lives) fs → may_add second fs (block, 4) ≡ true → OnlyShort result) → OnlyShort result
-  attached_short result short = short lib h2 ready.ready (ready.addable (block, 4) (new_addable T fs zeroth first h few 4 block number bytes given))
-
-pub short_fault : {A : Type 0} (r : Result A FfsFault) (fault : FfsFault) → Err fault ≡ r → OnlyShort r → is_short fault ≡ true
-short_fault {A} r fault e short = subst (λ (x : Result A FfsFault). OnlyShort x) (sym e) short
-
-pub not_own : {A : Type 0} (r : Result A FfsFault) → OnlyShort r → IfErr r (λ fault. is_own fault ≡ false)
-not_own (Ok x) short = tt
-not_own (Err (Kernel refusal)) short = refl
-not_own (Err NoEntry) short = absurd (cc short)
-not_own (Err Exists) short = absurd (cc short)
-not_own (Err NotDir) short = absurd (cc short)
-not_own (Err IsDir) short = absurd (cc short)
-not_own (Err DirNotEmpty) short = absurd (cc short)
-not_own (Err BadName) short = absurd (cc short)
-not_own (Err TooLarge) short = absurd (cc short)
-not_own (Err NoInode) short = absurd (cc short)
-not_own (Err (Unsound n)) short = absurd (cc short)
-not_own (Err Pending) short = absurd (cc short)
+    (begun T zeroth first h fs few ty 6 bytes (block, number) done) (λ z. omega (arith, z))
 
 pub never : {A : Type 0} (x : A) (fault : FfsFault) → ◌≡◌ {A = Result A FfsFault} (Ok x) (Err fault) → ⊥
 never x fault e = cc

@@ -1,7 +1,11 @@
 -- What `make` leaves is what its function of the files says.
-use Rattle.std.proofs.Common.{◌≡◌, ◌≢◌, ℕ, ◌-◌, ◌/◌, ◌%◌, ◌<◌, ◌≤◌, ◌⊎◌, Bool, true, false, List, Ok, Err, refl, sym, ◌∙◌, ap, inl, inr, arith, subst}
-use Rattle.std.specs.Prelude.{Result, not, nat_le, nat_lt, ◌==◌, ◌&&◌, ◌||◌, if◌then◌else◌}
-use Rattle.std.proofs.lemmas.Bool.{cases_eq, cases_lt, le-leb, lt-leb, ne_eqb}
+use Rattle.std.proofs.Common.{◌≡◌, ◌≢◌, ℕ, ◌-◌, ◌/◌, ◌%◌, ◌<◌, ◌≤◌, ◌⊎◌, ◌+◌, ◌*◌, Bool, true, false, List, Ok, Err, refl, eq-eqb, sym, ◌∙◌, ap, inl, inr, arith, subst}
+use Rattle.std.specs.Prelude.{IsOk, MatchResult, Result, not, nat_le, nat_lt, ◌==◌, ◌&&◌, ◌||◌, if◌then◌else◌}
+use Rattle.std.specs.List.{range_with_len}
+use Rattle.std.proofs.lemmas.Bool.{cases_eq, cases_lt, eqb-false, eqb-true, le-leb, lt-leb, ne_eqb}
+use Rattle.xn_model.specs.Types.{Types}
+use Rattle.xn_model.proofs.ForCallers.{any_at, any_from, range_at}
+use Rattle.ffs_model.specs.Names.{IsRoot}
 use Rattle.xn_model.specs.declared.refusal.Refusal.TheVariants.{RootTaken}
 use Rattle.xn_model.specs.Lists.{put}
 use Rattle.xn_model.specs.Root.{slot}
@@ -12,15 +16,17 @@ use Rattle.ffs_model.specs.Library.{inode_at, pointer_word, zero_block}
 use Rattle.ffs_lookup.specs.declared.fault.FfsFault.{FfsFault}
 use Rattle.ffs_lookup.specs.declared.fault.FfsFault.TheVariants.{Exists, Kernel, NoEntry, Pending, Unsound}
 use Rattle.ffs_lookup.specs.Counts.{make_from}
-use Rattle.ffs_lookup.specs.Newest.{and_then, has_pointer, if_bare, inode_block_in, make_in, root_in, unless_zero}
-use Rattle.ffs_lookup.specs.Files.{Absent, Answer, Free, empty_volume, is_absent, made, new_directory}
+use Rattle.ffs_lookup.specs.Newest.{and_then, has_pointer, if_bare, inode_block_in, make_in, mapped, root_in, unless_zero}
+use Rattle.ffs_lookup.specs.Files.{Absent, Answer, Files, Free, empty_volume, is_absent, made, new_directory}
 use Rattle.ffs_lookup.specs.FileValues.{files_of, inode_value, value_in}
-use Rattle.ffs_lookup.proofs.ForCallers.{good_number, value_by_place, value_outside, value_there}
-use Rattle.ffs_lib.specs.Outcomes.{FirstInodes, OnlyShort}
+use Rattle.ffs_lookup.proofs.ForCallers.{good_number, in_root_block, root_again, value_by_place, value_outside, value_there}
+use Rattle.ffs_lib.specs.Making.{StopsTop, any_inode, newly_made, unless_inodes, unless_taken}
+use Rattle.ffs_lib.specs.Outcomes.{FirstInodes}
+use Rattle.ffs_lib.specs.Stages.{Does, make_stages}
+use Rattle.ffs_lib.specs.Steps.{Stops}
 use Rattle.ffs_lib.specs.Results.{new_inode}
-use Rattle.ffs_lib.specs.Values.{ByAnswer, Leads}
 use Rattle.ffs_lib.proofs.Owners.{number_from}
-use Rattle.ffs_lib.proofs.Tops.{free_beside, no_blocks, top_there}
+use Rattle.ffs_lib.proofs.Tops.{among, free_beside, has_inodes, has_none, has_others, no_blocks, top_there}
 use Rattle.ffs_lib.proofs.ValueMade.{directory_made}
 
 -- a file system that `make` may begin has no files
@@ -34,8 +40,8 @@ no_files v fs begun e n = go ((n == 0) || nat_lt 128 n) refl
         let low = r.1 in
         value_by_place v fs n right ∙ ap (λ (b : Result ℕ FfsFault). value_in v (and_then b (λ block. Ok (inode_at (v block) ((n - 1) % 8))))) (sym (no_blocks v fs begun e ((n - 1) / 8) (omega (arith, low))))
 
-pub may_make : (v : ℕ → List ℕ) (fs : ℕ) (begun : Bool) → Ok begun ≡ make_in v fs → made (files_of v fs) ≡ Ok (tt, empty_volume)
-may_make v fs begun e = ap (λ x. if is_absent x then Ok (tt, empty_volume) else Err Exists) (no_files v fs begun e 1)
+none_made : (v : ℕ → List ℕ) (fs : ℕ) (begun : Bool) → Ok begun ≡ make_in v fs → unless_inodes (files_of v fs) (made (files_of v fs)) ≡ Ok (tt, empty_volume)
+none_made v fs begun e = ap (λ (files : Files). unless_inodes files (made files)) (λ i n. no_files v fs begun e n i)
 
 -- where it stands there is an inode
 first_block : (v : ℕ → List ℕ) (fs : ℕ) → (slot (v 0) fs).0 == 0 ≡ false → (slot (v 0) fs).1 == 3 ≡ true → pointer_word (v (slot (v 0) fs).0) 0 == 0 ≡ false → inode_block_in v fs 0 ≡ Ok (pointer_word (v (slot (v 0) fs).0) 0)
@@ -45,7 +51,7 @@ first_block v fs a b c =
     ap (λ (t : Bool). and_then (if t then Err NoEntry else if s.1 == 3 then Ok s.0 else Err NoEntry) (λ root. unless_zero (pointer_word (v root) 0))) a
     ∙ (ap (λ (t : Bool). and_then (if t then Ok s.0 else Err NoEntry) (λ root. unless_zero (pointer_word (v root) 0))) b ∙ ap (λ (t : Bool). if t then Err NoEntry else Ok (pointer_word (v s.0) 0)) c)
 
-pub stands : (v : ℕ → List ℕ) (fs : ℕ) → Err Exists ≡ make_in v fs → made (files_of v fs) ≡ Err Exists
+stands : (v : ℕ → List ℕ) (fs : ℕ) → Err Exists ≡ make_in v fs → made (files_of v fs) ≡ Err Exists
 unfolding make_in
 stands v fs e = ap (λ (t : Bool). if t then Ok (tt, empty_volume) else Err Exists) there
   where
@@ -104,28 +110,124 @@ empty_there v w fs ready f n = go ((n == 0) || nat_lt 128 n) refl
 
 -- How `make` follows its function
 
-pub exists_found : (state : StoreState) (fs : ℕ) → make_from state fs ≡ Err Exists → Err Exists ≡ make_in (latest state.lives) fs
-exists_found state fs e = go (pending_of state fs == 0) (make_in (latest state.lives) fs) e
+-- a root block points to another block of inodes, and not to the first
+module _ (v : ℕ → List ℕ) (fs r : ℕ) (is_root : IsRoot v fs r) (none : pointer_word (v r) 0 ≡ 0) (some : has_pointer (v r) ≡ true) where
+  block_of : (j : ℕ) → unless_zero (pointer_word (v r) j) ≡ inode_block_in v fs j
+  block_of j = in_root_block v fs j r (v r) (root_again v fs r is_root) refl
+
+  first_absent : is_absent (files_of v fs 1) ≡ true
+  first_absent =
+      ap is_absent (value_by_place v fs 1 refl
+      ∙ ap (λ (b : Result ℕ FfsFault). value_in v (and_then b (λ block. Ok (inode_at (v block) 0)))) (sym (block_of 0) ∙ ap (λ (t : Bool). if t then Err NoEntry else Ok (pointer_word (v r) 0)) (eq-eqb (pointer_word (v r) 0) 0 none)))
+
+  one_there : any_inode (files_of v fs) ≡ true
+  one_there =
+      let x = any_at (λ j. not (pointer_word (v r) j == 0)) (range_with_len 0 16) some in
+      let few = (range_at 0 16 x.0 x.1).1 in
+      there x.0 (omega (arith, few)) (set x.0 x.2)
+    where
+      set : (j : ℕ) → not (pointer_word (v r) j == 0) ≡ true → (pointer_word (v r) j == 0) ≡ false
+      set j e = off (pointer_word (v r) j == 0) e
+        where
+          off : (t : Bool) → not t ≡ true → t ≡ false
+          off true f = absurd (cc f)
+          off false f = refl
+
+      there : (j : ℕ) → j < 16 → (pointer_word (v r) j == 0) ≡ false → any_inode (files_of v fs) ≡ true
+      there j low e =
+          any_from (λ n. not (is_absent (files_of v fs n))) (range_with_len 1 128) (8 * j + 1) (among 128 1 (8 * j + 1) (omega arith) (omega (arith, low)))
+          (ap not (ap is_absent (value_by_place v fs (8 * j + 1) (good_number (8 * j + 1) (λ z. omega (arith, z)) (omega (arith, low)))
+          ∙ ap (λ (b : Result ℕ FfsFault). value_in v (and_then b (λ block. Ok (inode_at (v block) ((8 * j + 1 - 1) % 8))))) (at_index ((8 * j + 1 - 1) / 8) (omega arith))) ∙ value_there v (inode_at (v (pointer_word (v r) j)) ((8 * j + 1 - 1) % 8))))
+        where
+          at_index : (i : ℕ) → i ≡ j → inode_block_in v fs i ≡ Ok (pointer_word (v r) j)
+          at_index i same = ap (inode_block_in v fs) same ∙ (sym (block_of j) ∙ ap (λ (t : Bool). if t then Err NoEntry else Ok (pointer_word (v r) j)) e)
+
+  others_made : unless_inodes (files_of v fs) (made (files_of v fs)) ≡ Err (Unsound 1)
+  others_made =
+      ap (λ (t : Bool). unless_inodes (files_of v fs) (if t then Ok (tt, empty_volume) else Err Exists)) first_absent ∙ ap (λ (t : Bool). if t then Err (Unsound 1) else Ok (tt, empty_volume)) one_there
+
+-- which root slot there is
+slot_none : (v : ℕ → List ℕ) (fs : ℕ) → (slot (v 0) fs).0 ≡ 0 → Ok false ≡ make_in v fs
+unfolding make_in
+slot_none v fs e =
+    let s = slot (v 0) fs in
+    sym (ap (λ (t : Bool). if t then Ok false else if s.1 == 3 then if_bare (v s.0) else Err (Kernel RootTaken)) (eq-eqb s.0 0 e))
+
+slot_root : (v : ℕ → List ℕ) (fs r : ℕ) → IsRoot v fs r → if_bare (v r) ≡ make_in v fs
+unfolding make_in
+slot_root v fs r is = sym (
+    ap (λ (s : ℕ × ℕ). if s.0 == 0 then Ok false else if s.1 == 3 then if_bare (v s.0) else Err (Kernel RootTaken)) is.at
+    ∙ ap (λ (t : Bool). if t then Ok false else if_bare (v r)) (ne_eqb r 0 is.there)
+    )
+
+slot_other : (v : ℕ → List ℕ) (fs : ℕ) → (slot (v 0) fs).0 ≢ 0 → (slot (v 0) fs).1 ≢ 3 → Err (Kernel RootTaken) ≡ make_in v fs
+unfolding make_in
+slot_other v fs some other =
+    let s = slot (v 0) fs in
+    sym (ap (λ (t : Bool). if t then Ok false else if s.1 == 3 then if_bare (v s.0) else Err (Kernel RootTaken)) (ne_eqb s.0 0 some)
+    ∙ ap (λ (t : Bool). if t then if_bare (v s.0) else Err (Kernel RootTaken)) (ne_eqb s.1 3 other))
+
+-- its function answers what it looks up
+module _ (state : StoreState) (fs : ℕ) where
+  abbrev v : ℕ → List ℕ
+  v = latest state.lives
+
+  abbrev s : ℕ × ℕ
+  s = slot (latest state.lives 0) fs
+
+  abbrev answer : Answer (Unit {0})
+  answer = unless_inodes (files_of (latest state.lives) fs) (made (files_of (latest state.lives) fs))
+
+  bare : (r : ℕ) → IsRoot v fs r → (t u : Bool) → (pointer_word (v r) 0 == 0) ≡ t → has_pointer (v r) ≡ u → answer ≡ mapped (λ begun. (tt, empty_volume)) (make_in v fs)
+  bare r is true true e f =
+      let none = eqb-true (pointer_word (v r) 0) 0 e in
+      others_made v fs r is none f ∙ ap (mapped (λ begun. (tt, empty_volume))) (has_others (v r) none f ∙ slot_root v fs r is)
+  bare r is true false e f =
+      let begun = has_none (v r) (eqb-true (pointer_word (v r) 0) 0 e) f ∙ slot_root v fs r is in
+      none_made v fs true begun ∙ ap (mapped (λ begun. (tt, empty_volume))) begun
+  bare r is false u e f =
+      let there = has_inodes (v r) (eqb-false (pointer_word (v r) 0) 0 e) ∙ slot_root v fs r is in
+      ap (unless_inodes (files_of v fs)) (stands v fs there) ∙ ap (mapped (λ begun. (tt, empty_volume))) there
+
+  by_slot : (t u : Bool) → (s.0 == 0) ≡ t → (s.1 == 3) ≡ u → (if t || u then answer else Err (Kernel RootTaken)) ≡ mapped (λ begun. (tt, empty_volume)) (make_in v fs)
+  by_slot true u e f =
+      let none = slot_none v fs (eqb-true s.0 0 e) in
+      none_made v fs false none ∙ ap (mapped (λ begun. (tt, empty_volume))) none
+  by_slot false true e f =
+      let three = eqb-true s.1 3 f in
+      let is : IsRoot v fs s.0 = record { at = λ i. (s.0, three i); there = eqb-false s.0 0 e } in
+      bare s.0 is (pointer_word (v s.0) 0 == 0) (has_pointer (v s.0)) refl refl
+  by_slot false false e f = ap (mapped (λ begun. (tt, empty_volume))) (slot_other v fs (eqb-false s.0 0 e) (eqb-false s.1 3 f))
+
+  idle : (t : Bool) → (if t then unless_taken s answer else Err Pending) ≡ mapped (λ begun. (tt, empty_volume)) (if t then make_in v fs else Err Pending)
+  idle true = by_slot (s.0 == 0) (s.1 == 3) refl refl
+  idle false = refl
+
+  pub newly_is : newly_made state fs (files_of (latest state.lives) fs) ≡ mapped (λ begun. (tt, empty_volume)) (make_from state fs)
+  newly_is = idle (pending_of state fs == 0)
+
+-- a look-up failed
+pub make_fails : (T : Types) (state : StoreState) (fs : ℕ) (fault : FfsFault) (result : Result (Unit {0}) FfsFault) → Err fault ≡ make_from state fs → result ≡ Err fault →
+    Does T fs (newly_made state fs (files_of (latest state.lives) fs)) (make_stages (files_of (latest state.lives) fs)) state state result
+make_fails T state fs fault result e is =
+    subst (λ (a : Answer (Unit {0})). Does T fs a (make_stages (files_of (latest state.lives) fs)) state state result) (ap (mapped (λ begun. (tt, empty_volume))) e ∙ sym (newly_is state fs)) (is, refl)
+
+-- or they passed
+pub make_does : (T : Types) (state new : StoreState) (fs : ℕ) (begun : Bool) → Ok begun ≡ make_from state fs → (attached : Result ℕ FfsFault) →
+    MatchResult attached (λ x. (n : ℕ) → files_of (latest new.lives) fs n ≡ empty_volume n) (Stops (StopsTop T fs state new)) → (result : Result (Unit {0}) FfsFault) → result ≡ mapped (λ x. tt) attached →
+    Does T fs (newly_made state fs (files_of (latest state.lives) fs)) (make_stages (files_of (latest state.lives) fs)) state new result
+make_does T state new fs begun e attached ends result is =
+    subst (λ (a : Answer (Unit {0})). Does T fs a (make_stages (files_of (latest state.lives) fs)) state new result) (ap (mapped (λ begun. (tt, empty_volume))) e ∙ sym (newly_is state fs))
+    (subst (λ (r : Result (Unit {0}) FfsFault). Does T fs (Ok (tt {0}, empty_volume)) (make_stages (files_of (latest state.lives) fs)) state new r) (sym is) (go attached ends))
   where
-    go : (t : Bool) (r : Result Bool FfsFault) → (if t then r else Err Pending) ≡ Err Exists → Err Exists ≡ r
-    go true r f = sym f
-    go false r f = absurd (cc f)
+    go : (r : Result ℕ FfsFault) → MatchResult r (λ x. (n : ℕ) → files_of (latest new.lives) fs n ≡ empty_volume n) (Stops (StopsTop T fs state new)) →
+        Does T fs (Ok (tt {0}, empty_volume)) (make_stages (files_of (latest state.lives) fs)) state new (mapped (λ x. tt {0}) r)
+    go (Ok x) there = (refl, there)
+    go (Err fault) stop = (stop.0, inl stop.1)
 
--- a refusal of the store
-pub make_refused : {A : Type 0} (state new : StoreState) (fs : ℕ) (begun : Bool) → Ok begun ≡ make_in (latest state.lives) fs → (P : A → Type 0) (result : Result A FfsFault) (fault : FfsFault) → result ≡ Err fault → OnlyShort result →
-    ByAnswer (made (files_of (latest state.lives) fs)) P state new result
-make_refused {A} state new fs begun e P result fault is short =
-    subst (λ (a : Answer (Unit {0})). ByAnswer a P state new result) (sym (may_make (latest state.lives) fs begun e))
-    (subst (λ (r : Result A FfsFault). ByAnswer (Ok (tt {0}, empty_volume)) P state new r) (sym is) (subst (λ (r : Result A FfsFault). OnlyShort r) is short))
+is_ok : (r : Answer (Unit {0})) (fault : FfsFault) → r ≡ Err fault → IsOk r → ⊥
+is_ok (Ok x) fault e ok = cc
+is_ok (Err f) fault e ok = cc
 
--- or a volume
-pub make_done : {A : Type 0} (state new : StoreState) (fs : ℕ) (begun : Bool) → Ok begun ≡ make_in (latest state.lives) fs → ((n : ℕ) → files_of (latest new.lives) fs n ≡ empty_volume n) → (volume : A) →
-    ByAnswer (made (files_of (latest state.lives) fs)) (λ (x : A). Leads (made (files_of (latest state.lives) fs)) (latest new.lives) fs tt) state new (Ok volume)
-make_done {A} state new fs begun e there volume =
-    let answer = sym (may_make (latest state.lives) fs begun e) in
-    subst (λ (a : Answer (Unit {0})). ByAnswer a (λ (x : A). Leads (made (files_of (latest state.lives) fs)) (latest new.lives) fs tt) state new (Ok volume)) answer
-    (subst (λ (a : Answer (Unit {0})). Leads a (latest new.lives) fs tt) answer (refl, there))
-
--- or it is there already
-pub make_stands : {A : Type 0} (state : StoreState) (fs : ℕ) → make_from state fs ≡ Err Exists → (P : A → Type 0) (result : Result A FfsFault) → result ≡ Err Exists → ByAnswer (made (files_of (latest state.lives) fs)) P state state result
-make_stands {A} state fs e P result is = subst (λ (a : Answer (Unit {0})). ByAnswer a P state state result) (sym (stands (latest state.lives) fs (exists_found state fs e))) (is, refl)
+pub never_made : (state : StoreState) (fs : ℕ) (fault : FfsFault) → Err fault ≡ make_from state fs → IsOk (newly_made state fs (files_of (latest state.lives) fs)) → ⊥
+never_made state fs fault e ok = is_ok (newly_made state fs (files_of (latest state.lives) fs)) fault (newly_is state fs ∙ sym (ap (mapped (λ begun. (tt, empty_volume))) e)) ok

@@ -7,5 +7,7 @@ pub mod Writes
 pub mod Reclaiming
 pub mod Replacing
 pub mod Values
+pub mod Making
+pub mod Orders
 pub mod Stages
 pub mod Written

@@ -1,24 +1,21 @@
 -- What the edits of a volume leave, each for every array of numbers for which a volume's rules held before.
 --     Keeps T fs old new      a volume's rules hold on
 --     IsMade, ..              and what may come next
-use Rattle.std.specs.Prelude.{◌≡◌, ◌≢◌, ℕ, ◌-◌, ◌*◌, ◌/◌, ◌%◌, ◌<◌, ◌≤◌, List, [], Option, None, Ok, Contains, length, max, slice_set, Some, Bool, true, IfErr}
-use Rattle.std.specs.Prelude.{IsTrue, Result}
+use Rattle.std.specs.Prelude.{◌≡◌, ◌≢◌, ℕ, ◌-◌, ◌*◌, ◌/◌, ◌%◌, ◌<◌, ◌≤◌, List, [], Option, Ok, length, max, slice_set, true}
+use Rattle.std.specs.Prelude.{IsTrue}
 use Rattle.xn_model.specs.Types.{Types}
-use Rattle.xn_model.specs.Lists.{put}
-use Rattle.xn_model.specs.Root.{slot, word_at}
-use Rattle.xn_model.specs.Lives.{Life, StoreState, life_at}
-use Rattle.xn_model.specs.Calls.{may_add, was_given}
+use Rattle.xn_model.specs.Root.{word_at}
+use Rattle.xn_model.specs.Lives.{StoreState}
+use Rattle.xn_model.specs.Calls.{was_given}
 use Rattle.ffs_model.specs.Cuts.{Under, latest}
 use Rattle.ffs_model.specs.Names.{IsInodes}
-use Rattle.ffs_model.specs.Edits.{HoldsOnly}
 use Rattle.ffs_model.specs.Volumes.{VolumeKeeps, CanName, with_edit, without_edit}
 use Rattle.ffs_model.specs.Library.{inode_at, inode_blocks, inode_links, library_layout, IsLibrary, zero_block}
 use Rattle.xn_model.specs.Rules.{IsConsistent}
-use Rattle.ffs_lookup.specs.declared.fault.FfsFault.{FfsFault}
 use Rattle.ffs_format.specs.Fields.{fields_of}
 use Rattle.ffs_lookup.specs.FileValues.{place_in}
-use Rattle.ffs_lookup.specs.Newest.{byte_of, directory_in, file_block, file_in, is_short, make_in, has_empty_pointer, inode_block_in, root_in}
-use Rattle.ffs_lib.specs.Results.{SameInode, SameMarks, new_inode}
+use Rattle.ffs_lookup.specs.Newest.{byte_of, directory_in, file_block, file_in, has_empty_pointer, inode_block_in, root_in}
+use Rattle.ffs_lib.specs.Results.{SameInode, SameMarks}
 
 abbrev pub Keeps : Types → ℕ → StoreState → StoreState → Type 0
 Keeps T fs old new = IsLibrary T → (array : ℕ → Option ℕ) → VolumeKeeps T library_layout fs array old → VolumeKeeps T library_layout fs array new
@@ -35,29 +32,7 @@ pub record IsAdded (T : Types) (fs : ℕ) (array : ℕ → Option ℕ) (index bl
   pub inodes : IsInodes library_layout (latest new.lives) fs index block
   pub empty : latest new.lives block ≡ zero_block
 
--- what holds only some bytes still does
-abbrev pub Leaves : Types → ℕ → StoreState → StoreState → Type 0
-Leaves T fs old new = IsLibrary T → (array : ℕ → Option ℕ) (block : ℕ) (bytes : List ℕ) → VolumeKeeps T library_layout fs array old → block ≢ 0 →
-    HoldsOnly old.lives block bytes → HoldsOnly new.lives block bytes
-
--- the root slot was set to a block of zero_block
-abbrev pub Roots : Types → ℕ → StoreState → StoreState → ℕ → Type 0
-Roots T fs old new block = IsLibrary T → (array : ℕ → Option ℕ) → VolumeKeeps T library_layout fs array old → HoldsOnly old.lives block zero_block →
-    VolumeKeeps T library_layout fs array new × ((other : ℕ) (bytes : List ℕ) → other ≢ 0 → HoldsOnly old.lives other bytes → HoldsOnly new.lives other bytes)
-
--- the first block of inodes was attached, which point to nothing
-abbrev pub Starts : Types → ℕ → StoreState → StoreState → ℕ → Type 0
-Starts T fs old new block = IsLibrary T → (array : ℕ → Option ℕ) (bytes : List ℕ) → VolumeKeeps T library_layout fs array old → array 0 ≡ None →
-    HoldsOnly old.lives block bytes →
-    ((p c : ℕ) → Contains (library_layout.direct bytes p) c → ⊥) → block ≢ 0 → VolumeKeeps T library_layout fs array new
-
--- What is found in directories
---     StaysListed, LosesEntry    all directories but one inode's stay as they are; an entry is gone from each that had it
-
 -- What stands in the newest bytes
---     Stays, StaysBut    all inodes are as before; all but one are
---     PutsInode          one is these bytes
---     Enters             a directory has one entry more
 
 -- the directory's inode points to a block more, and no block changes but its own
 pub record IsGrown (old new : ℕ → List ℕ) (fs d : ℕ) (inode : List ℕ) (index block : ℕ) : Type 0 where
@@ -95,55 +70,24 @@ pub record IsRaised (old new : ℕ → List ℕ) (fs n : ℕ) (inode : List ℕ)
   pub marks : SameMarks inode after
   pub each : (at : ℕ) → at < 71680 → byte_of new after at ≡ byte_of old inode at
 
--- What stands after other edits of a name
---     Relinks                  an inode's links changed
---     MoreLinks, LessLinks     it has one more; it has one less
---     Frees                    it is free
---     LosesName                an entry is cleared, in the directory that has its block
-
 -- What stands after the edits that make a volume
---     SetsRoot          the root slot names a block, and no other changes
---     IsReady           a root block without a first block of inodes is there
 --     FirstInodes       these bytes are the first block of inodes, and the inodes of others are as before
---     GetsRoot, MakesTop    there was no root block; the first block of inodes has a directory without blocks, and else free inodes
-
-abbrev pub SetsRoot : Types → ℕ → ℕ → StoreState → StoreState → Type 0
-SetsRoot T fs block old new = IsConsistent T old → (l : Life) → life_at old.lives block ≡ Some l →
-    (slot (latest new.lives 0) fs ≡ (block, l.ty)) × ((c : ℕ) → c ≢ 0 → latest new.lives c ≡ latest old.lives c) ×
-    ((p : ℕ × ℕ) → p.0 ≢ block → may_add new fs p ≡ may_add old fs p)
-
-pub record IsReady (old new : StoreState) (fs : ℕ) : Type 0 where
-  pub ready : Ok true ≡ make_in (latest new.lives) fs
-  pub kept : (c : ℕ) (l : Life) → c ≢ 0 → life_at old.lives c ≡ Some l → latest new.lives c ≡ latest old.lives c
-  pub addable : (p : ℕ × ℕ) → may_add old fs p ≡ true → may_add new fs p ≡ true
 
 pub record FirstInodes (old new : ℕ → List ℕ) (fs : ℕ) (bytes : List ℕ) : Type 0 where
   pub first : (n : ℕ) → n ≤ 128 → (n - 1) / 8 ≡ 0 → place_in new fs n ≡ Ok (inode_at bytes ((n - 1) % 8))
   pub rest : (n : ℕ) → n ≤ 128 → (n - 1) / 8 ≢ 0 → place_in new fs n ≡ place_in old fs n
 
-abbrev pub GetsRoot : Types → ℕ → Bool → StoreState → StoreState → Type 0
-GetsRoot T fs begun old new = IsLibrary T → IsConsistent T old → Ok begun ≡ make_in (latest old.lives) fs → IsReady old new fs
-
-abbrev pub MakesTop : Types → ℕ → ℕ → StoreState → StoreState → Type 0
-MakesTop T fs block old new = IsLibrary T → IsConsistent T old → latest old.lives block ≡ put zero_block 0 (new_inode 2) → block ≢ 0 →
-    FirstInodes (latest old.lives) (latest new.lives) fs (put zero_block 0 (new_inode 2))
-
 -- Which edits are refused for want of something alone
 --     CanEdit     a call may propose an edit that comes after this one
---     OnlyShort   what is answered is no fault but for want of something
 
 pub record CanEdit (T : Types) (state : StoreState) (after : Option ℕ) : Type 0 where
   pub library : IsLibrary T
   pub consistent : IsConsistent T state
   pub given : IsTrue (was_given state after)
 
-abbrev pub OnlyShort : {A : Type 0} → Result A FfsFault → Type 0
-OnlyShort result = IfErr result (λ fault. is_short fault ≡ true)
-
 -- What an edit wants of the newest bytes, and leaves for the next
 --     HasFreePointer    the root block has an empty pointer, and one to a block of inodes at index 0
 --     HasNoData         an inode's block of pointers, if it has one, owns nothing
---     DropsData         an inode is as before, and has no data there
 
 pub record HasFreePointer (content : ℕ → List ℕ) (fs : ℕ) : Type 0 where
   pub first : ℕ

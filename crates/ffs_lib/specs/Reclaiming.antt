@@ -33,7 +33,7 @@ use Rattle.ffs_lookup.specs.Repairs.{repair_at, repair_in}
 use Rattle.ffs_lib.specs.Edits.{data_of_pointers, edit_at}
 use Rattle.ffs_lib.specs.Results.{AsBefore, IsLinked, OnlyChanges, SameInode}
 use Rattle.ffs_lib.specs.Stages.{Does, KeptOrEmptied, OfLink, Stages, cut_short}
-use Rattle.ffs_lib.specs.Steps.{IsHome, Stage, Tells, Wants, newest_block}
+use Rattle.ffs_lib.specs.Steps.{Stage, Tells, WantsHome, WantsPointers, newest_block}
 
 -- The call as a function of the files
 
@@ -141,9 +141,7 @@ pub record StopsRepairing (T : Types) (fs : ℕ) (old new : StoreState) (n : ℕ
   pub was : Ok inode ≡ inode_in (newest_block old) fs n
   pub is : Ok inode ≡ inode_in (newest_block new) fs n
   pub stage : (new ≡ old) ⊎ ((repair ≡ GiveUp) × PointersEmptied (newest_block old) (newest_block new) inode)
-  pub block : ℕ
-  pub of_inode : IsHome (newest_block new) fs n block ⊎ (block ≡ word_at inode 56)
-  pub wants : Wants T new fs block fault
+  pub wants : WantsHome T new fs n fault ⊎ WantsPointers T new fs n fault
 
 -- All inodes
 

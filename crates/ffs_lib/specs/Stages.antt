@@ -6,6 +6,7 @@
 --     Stages, IsStage            files, and what is asked there, in the order of a call; one of them
 --     stages_of                  the stages of a call whose look-ups pass
 --     Does                       what a call answers and leaves
+--     make_stages                of `make`
 --     link_stages                where a link is taken
 --     removed_stages, created_stages, renamed_stages, replaced_stages    of `unlink` and `rmdir`; of `create` and `mkdir`; of `rename`; of `replace`
 --     Unnames, KeptOrEmptied     what the files don't say of the inodes where a name is taken; what a refusal leaves of the inode that was named
@@ -13,10 +14,10 @@
 use Rattle.std.specs.Prelude.{◌≡◌, ◌≢◌, ℕ, ◌+◌, ◌-◌, ◌<◌, ◌⊎◌, nat_le, nat_lt, List, [], ◌∷◌, ◌++◌, length, take, replicate, None, Some, Result, Ok, Err, true}
 use Rattle.std.specs.Prelude.{MatchResult, ◌==◌, if◌then◌else◌}
 use Rattle.std.specs.Option.{ok_or}
-use Rattle.xn_model.specs.Root.{word_at}
 use Rattle.xn_model.specs.Types.{Types}
 use Rattle.xn_model.specs.Lives.{StoreState}
 use Rattle.ffs_model.specs.Library.{inode_links}
+use Rattle.ffs_format.specs.Entries.{entry_of}
 use Rattle.ffs_format.specs.Fields.{direct_in}
 use Rattle.ffs_lookup.specs.declared.fault.FfsFault.{FfsFault}
 use Rattle.ffs_lookup.specs.declared.fault.FfsFault.TheVariants.{NoEntry, TooLarge}
@@ -24,8 +25,9 @@ use Rattle.ffs_lookup.specs.Files.{Answer, Blocks, Directory, File, Files, Inode
 use Rattle.ffs_lookup.specs.Files.{with_block, with_entry, with_value, without_link}
 use Rattle.ffs_lookup.specs.FileValues.{files_of, place_in}
 use Rattle.ffs_lookup.specs.Newest.{and_then, byte_of, directory_in, inode_in, is_short, listing}
+use Rattle.ffs_lib.specs.Making.{StopsTop}
 use Rattle.ffs_lib.specs.Results.{IsAs, IsExtended, OthersSame, SameContents, SameOrNew, new_inode}
-use Rattle.ffs_lib.specs.Steps.{IsHome, StopsEntering, StopsGrowing, Wants, newest_block}
+use Rattle.ffs_lib.specs.Steps.{StopsAtHome, StopsEntering, StopsGrowing, Wants, WantsHome, WantsPointers, newest_block}
 use Rattle.ffs_lib.specs.Values.{Leads}
 use Rattle.ffs_lib.specs.Writes.{StopsPart}
 
@@ -49,29 +51,26 @@ abbrev pub with_emptied : Files → ℕ → Files
 with_emptied files n = with_value files n (emptied (files n))
 
 -- What is asked: an edit of a directory's block at an index; of the block that has an inode; of that, or of the inode's block of pointers; what an entry
--- more in a directory needs; what a block of inodes more does; an edit of a file's block at an index, or what a block more there needs.
+-- more in a directory needs, by its 32 bytes; what a block of inodes more does; an edit of a file's block at an index, or what a block more there needs; what the first
+-- block of inodes needs.
 pub data Ask : Type 0 where
   OfEntry : (d index : ℕ) → Ask
   OfInode : (n : ℕ) → Ask
   OfLink : (n : ℕ) → Ask
-  ForEntry : (d : ℕ) → Ask
+  ForEntry : (d : ℕ) (entry : List ℕ) → Ask
   ForInodes : Ask
   OfPart : (n index : ℕ) → Ask
-
-abbrev pub OfHome : Types → ℕ → ℕ → StoreState → FfsFault → Type 0
-OfHome T fs n state fault = (block : ℕ) → IsHome (newest_block state) fs n block → Wants T state fs block fault
-
-abbrev pub OfPointers : Types → ℕ → ℕ → StoreState → FfsFault → Type 0
-OfPointers T fs n state fault = (inode : List ℕ) → Ok inode ≡ inode_in (newest_block state) fs n → Wants T state fs (word_at inode 56) fault
+  ForTop : Ask
 
 abbrev pub Asks : Types → ℕ → Ask → StoreState → StoreState → FfsFault → Type 0
 Asks T fs (OfEntry d index) before new fault =
     (new ≡ before) × ((inode : List ℕ) → Ok inode ≡ directory_in (newest_block before) fs d → Wants T before fs (direct_in inode index) fault)
-Asks T fs (OfInode n) before new fault = (new ≡ before) × OfHome T fs n before fault
-Asks T fs (OfLink n) before new fault = (new ≡ before) × (OfHome T fs n before fault ⊎ OfPointers T fs n before fault)
-Asks T fs (ForEntry d) before new fault = StopsEntering T fs before new d fault
+Asks T fs (OfInode n) before new fault = StopsAtHome T fs before new n fault
+Asks T fs (OfLink n) before new fault = (new ≡ before) × (WantsHome T before fs n fault ⊎ WantsPointers T before fs n fault)
+Asks T fs (ForEntry d entry) before new fault = StopsEntering T fs before new d entry fault
 Asks T fs ForInodes before new fault = StopsGrowing T fs before new fault
 Asks T fs (OfPart n index) before new fault = StopsPart T fs before new n index fault
+Asks T fs ForTop before new fault = StopsTop T fs before new fault
 
 abbrev pub Stages : Type 0
 Stages = List (Files × Ask)
@@ -99,6 +98,10 @@ Does T fs (Ok next) stages old new result =
 
 -- Stages of the calls
 
+-- `make`, while there is no inode
+abbrev pub make_stages : Files → Stages
+make_stages files = (files, ForTop) ∷ []
+
 abbrev pub link_stages : Files → ℕ → Stages
 link_stages files n = (files, OfLink n) ∷ (with_emptied files n, OfLink n) ∷ []
 
@@ -109,18 +112,19 @@ cleared_stages files d found = (files, OfEntry d found.0.0) ∷ link_stages (wit
 abbrev pub removed_stages : Files → ℕ → List ℕ → Stages
 removed_stages files d name = stages_of (and_then (directory_of (files d)) (entry_named name)) (cleared_stages files d)
 
-abbrev pub made_stages : InodeValue → Files → ℕ → ℕ → Stages
-made_stages value files d n =
-    (files, ForInodes) ∷ (with_block files n, OfInode n) ∷ (with_value (with_block files n) n value, ForEntry d) ∷ []
+abbrev pub made_stages : InodeValue → Files → ℕ → List ℕ → ℕ → Stages
+made_stages value files d name n =
+    (files, ForInodes) ∷ (with_block files n, OfInode n) ∷ (with_value (with_block files n) n value, ForEntry d (entry_of n name)) ∷ []
 
 -- `create` and `mkdir`, for the number that they would answer
 abbrev pub created_stages : InodeValue → Files → ℕ → List ℕ → Stages
-created_stages value files d name = stages_of (created value files d name) (λ next. made_stages value files d next.0)
+created_stages value files d name = stages_of (created value files d name) (λ next. made_stages value files d name next.0)
 
 abbrev pub moved_stages : Files → ℕ → (ℕ × ℕ) × ℕ → ℕ → List ℕ → ℕ × ℕ → Stages
 moved_stages files d found other new_name at =
     let named = with_entry (with_link files found.1) other at (Some (new_name, found.1)) in
-    (files, OfInode found.1) ∷ (with_link files found.1, ForEntry other) ∷ (named, OfEntry d found.0.0) ∷ link_stages (with_entry named d found.0 None) found.1
+    (files, OfInode found.1) ∷ (with_link files found.1, ForEntry other (entry_of found.1 new_name)) ∷ (named, OfEntry d found.0.0)
+    ∷ link_stages (with_entry named d found.0 None) found.1
 
 abbrev pub found_stages : Files → ℕ → List ℕ → ℕ → List ℕ → (ℕ × Blocks) × (ℕ × Blocks) → Stages
 found_stages files d name other new_name both =

@@ -1,8 +1,10 @@
 -- What a step of a call leaves, and what a part of a call does.
 --     newest_block state        the newest_block bytes of each block
 --     Tells, Wants        a fault that tells why the store refuses something; an edit of a block
+--     WantsHome, WantsPointers    an edit of the block that has an inode; of the inode's block of pointers
 --     left_by             what a call of the store leaves, or what was there where that is refused
 --     ShortEdit           the store refuses an edit for want of something alone
+--     Follows             what a call of the store leaves that answers an entry
 --     Proposed, Dropped, Attached   what one proposal leaves; where a block of pointers is cleared, if it points to anything; where a new
 --                                   block is attached, which is forgotten where that is refused
 --     Stage               a volume's rules hold, in the middle of a call
@@ -16,6 +18,7 @@ use Rattle.xn_model.specs.declared.refusal.Refusal.{Refusal}
 use Rattle.xn_model.specs.declared.refusal.Refusal.TheVariants.{NoMemory}
 use Rattle.xn_model.specs.Root.{word_at}
 use Rattle.xn_model.specs.Types.{Types}
+use Rattle.xn_model.specs.Lists.{put}
 use Rattle.xn_model.specs.Lives.{StoreState}
 use Rattle.xn_model.specs.Calls.{Edit, forget_of, init_of, propose_of, was_given}
 use Rattle.ffs_model.specs.Cuts.{latest}
@@ -49,6 +52,13 @@ Tells (Err refusal) fault = (fault ≡ Kernel refusal) ⊎ (fault ≡ Kernel NoM
 abbrev pub Wants : Types → StoreState → ℕ → ℕ → FfsFault → Type 0
 Wants T state fs block fault = (edit : Edit) × Tells (propose_of T state fs block edit) fault
 
+-- an edit of the block of an inode; of its block of pointers
+abbrev pub WantsHome : Types → StoreState → ℕ → ℕ → FfsFault → Type 0
+WantsHome T state fs n fault = MatchResult (inode_block_in (newest_block state) fs ((n - 1) / 8)) (λ block. Wants T state fs block fault) (λ other. ⊥)
+
+abbrev pub WantsPointers : Types → StoreState → ℕ → ℕ → FfsFault → Type 0
+WantsPointers T state fs n fault = MatchResult (inode_in (newest_block state) fs n) (λ inode. Wants T state fs (word_at inode 56) fault) (λ other. ⊥)
+
 abbrev pub left_by : {A : Type 0} → Result (A × StoreState) Refusal → StoreState → StoreState
 left_by (Ok (x, after)) old = after
 left_by (Err refusal) old = old
@@ -58,9 +68,12 @@ left_by (Err refusal) old = old
 abbrev pub ShortEdit : Types → StoreState → ℕ → ℕ → Edit → Type 0
 ShortEdit T state fs block edit = (r : Refusal) → propose_of T state fs block edit ≡ Err r → is_shortage r ≡ true
 
+abbrev pub Follows : Result (ℕ × StoreState) Refusal → StoreState → StoreState → Result ℕ FfsFault → Type 0
+Follows called old new (Ok entry) = called ≡ Ok (entry, new)
+Follows called old new (Err fault) = (new ≡ old) × Tells called fault
+
 abbrev pub Proposed : Types → ℕ → ℕ → Edit → StoreState → StoreState → Result ℕ FfsFault → Type 0
-Proposed T fs block edit old new (Ok entry) = propose_of T old fs block edit ≡ Ok (entry, new)
-Proposed T fs block edit old new (Err fault) = (new ≡ old) × Tells (propose_of T old fs block edit) fault
+Proposed T fs block edit old new result = Follows (propose_of T old fs block edit) old new result
 
 abbrev pub clearing : StoreState → ℕ → ℕ → Edit
 clearing old block after = edit_at 0 zero_block [] (data_of_pointers (newest_block old block)) (Some after)
@@ -68,7 +81,8 @@ clearing old block after = edit_at 0 zero_block [] (data_of_pointers (newest_blo
 abbrev pub Dropped : Types → ℕ → ℕ → ℕ → StoreState → StoreState → Result ℕ FfsFault → Type 0
 Dropped T fs block after old new (Ok entry) =
     ((new ≡ old) × (entry ≡ after) × ((block ≡ 0) ⊎ (data_of_pointers (newest_block old block) ≡ [])))
-    ⊎ ((block ≢ 0) × (length (newest_block old block) ≡ 512) × (propose_of T old fs block (clearing old block after) ≡ Ok (entry, new)))
+    ⊎ ((block ≢ 0) × (length (newest_block old block) ≡ 512) × (propose_of T old fs block (clearing old block after) ≡ Ok (entry, new))
+    × (data_of_pointers (newest_block old block) ≢ []))
 Dropped T fs block after old new (Err fault) =
     (new ≡ old) × (block ≢ 0) × (length (newest_block old block) ≡ 512) × Tells (propose_of T old fs block (clearing old block after)) fault
 
@@ -203,15 +217,7 @@ IsHome content fs n block = Ok block ≡ inode_block_in content fs ((n - 1) / 8)
 
 -- nothing, for an edit of an inode's block
 abbrev pub StopsAtHome : Types → ℕ → StoreState → StoreState → ℕ → FfsFault → Type 0
-StopsAtHome T fs old new n fault = (new ≡ old) × (block : ℕ) × IsHome (newest_block old) fs n block × Wants T old fs block fault
-
--- a block was forgotten last, if the store takes that
-abbrev pub LastForgets : Types → ℕ → ℕ → StoreState → Type 0
-LastForgets T fs block new = (last : StoreState) × (new ≡ left_by (forget_of T last fs block) last)
-
--- nothing changed, or a block was begun, and forgotten last
-abbrev pub Undoes : Types → ℕ → StoreState → StoreState → ℕ → List ℕ → Type 0
-Undoes T fs old new ty bytes = (new ≡ old) ⊎ MatchResult (init_of T old fs ty bytes) (λ made. LastForgets T fs made.0.0 new) (λ refusal. ⊥)
+StopsAtHome T fs old new n fault = (new ≡ old) × WantsHome T old fs n fault
 
 -- A new block was not begun; or it was, an edit of the block that was to own it is refused, and it is forgotten, if the store takes that.
 abbrev pub StopsAttaching : Types → ℕ → StoreState → StoreState → ℕ → List ℕ → ℕ → FfsFault → Type 0
@@ -224,16 +230,16 @@ pub record StopsGrowing (T : Types) (fs : ℕ) (old new : StoreState) (fault : F
   pub same : AllSame old new fs
   pub told : MatchResult (root_in (newest_block old) fs) (λ root. StopsAttaching T fs old new 4 zero_block root fault) (λ other. ⊥)
 
--- an entry was to be written where a directory has room, or into a new block of it
-abbrev pub StopsAtRoom : Types → ℕ → StoreState → StoreState → ℕ → FfsFault → Option Room → Type 0
-StopsAtRoom T fs old new d fault (Some (Entry block place)) = (new ≡ old) × Wants T old fs block fault
-StopsAtRoom T fs old new d fault (Some (Pointer index)) =
-    MatchResult (inode_block_in (newest_block old) fs ((d - 1) / 8)) (λ home. (bytes : List ℕ) × StopsAttaching T fs old new 2 bytes home fault) (λ other. ⊥)
-StopsAtRoom T fs old new d fault None = ⊥
+-- an entry was to be written where a directory has room, or into a new block of it, at its start
+abbrev pub StopsAtRoom : Types → ℕ → StoreState → StoreState → ℕ → List ℕ → FfsFault → Option Room → Type 0
+StopsAtRoom T fs old new d entry fault (Some (Entry block place)) = (new ≡ old) × Wants T old fs block fault
+StopsAtRoom T fs old new d entry fault (Some (Pointer index)) =
+    MatchResult (inode_block_in (newest_block old) fs ((d - 1) / 8)) (λ home. StopsAttaching T fs old new 2 (put zero_block 0 entry) home fault) (λ other. ⊥)
+StopsAtRoom T fs old new d entry fault None = ⊥
 
-pub record StopsEntering (T : Types) (fs : ℕ) (old new : StoreState) (d : ℕ) (fault : FfsFault) : Type 0 where
+pub record StopsEntering (T : Types) (fs : ℕ) (old new : StoreState) (d : ℕ) (entry : List ℕ) (fault : FfsFault) : Type 0 where
   pub same : AllSame old new fs
-  pub told : MatchResult (directory_in (newest_block old) fs d) (λ inode. StopsAtRoom T fs old new d fault (room_in (newest_block old) inode)) (λ other. ⊥)
+  pub told : MatchResult (directory_in (newest_block old) fs d) (λ inode. StopsAtRoom T fs old new d entry fault (room_in (newest_block old) inode)) (λ other. ⊥)
 
 -- only the block of pointers of an inode changed, which owns nothing now
 pub record ClearedPointers (old new : ℕ → List ℕ) (inode : List ℕ) : Type 0 where
@@ -248,9 +254,7 @@ pub record StopsTaking (T : Types) (fs : ℕ) (old new : StoreState) (n : ℕ) (
   pub was : Ok inode ≡ inode_in (newest_block old) fs n
   pub is : Ok inode ≡ inode_in (newest_block new) fs n
   pub stage : (new ≡ old) ⊎ ClearedPointers (newest_block old) (newest_block new) inode
-  pub block : ℕ
-  pub of_inode : IsHome (newest_block new) fs n block ⊎ (block ≡ word_at inode 56)
-  pub wants : Wants T new fs block fault
+  pub wants : WantsHome T new fs n fault ⊎ WantsPointers T new fs n fault
 
 -- an entry was to be cleared, and then a link taken
 abbrev pub StopsUnnaming : Types → ℕ → StoreState → StoreState → Slot → FfsFault → Type 0
@@ -259,24 +263,26 @@ StopsUnnaming T fs old new slot fault =
     ⊎ ((middle : StoreState) × Clearing (newest_block old) (newest_block middle) fs slot × StopsTaking T fs middle new slot.inode fault)
 
 -- a link was to be added, and then an entry written
-abbrev pub StopsNaming : Types → ℕ → StoreState → StoreState → ℕ → ℕ → FfsFault → Type 0
-StopsNaming T fs old new d n fault =
-    StopsAtHome T fs old new n fault ⊎ ((middle : StoreState) × AddsLink (newest_block old) (newest_block middle) fs n × StopsEntering T fs middle new d fault)
+abbrev pub StopsNaming : Types → ℕ → StoreState → StoreState → ℕ → List ℕ → ℕ → FfsFault → Type 0
+StopsNaming T fs old new d name n fault =
+    StopsAtHome T fs old new n fault
+    ⊎ ((middle : StoreState) × AddsLink (newest_block old) (newest_block middle) fs n × StopsEntering T fs middle new d (entry_of n name) fault)
 
 -- an inode was to be taken into use, and then an entry written
-abbrev pub StopsNew : Types → ℕ → StoreState → StoreState → ℕ → ℕ → ℕ → FfsFault → Type 0
-StopsNew T fs old new d mode n fault =
-    StopsAtHome T fs old new n fault ⊎ ((middle : StoreState) × MadeInode (newest_block old) (newest_block middle) fs mode n × StopsEntering T fs middle new d fault)
+abbrev pub StopsNew : Types → ℕ → StoreState → StoreState → ℕ → List ℕ → ℕ → ℕ → FfsFault → Type 0
+StopsNew T fs old new d name mode n fault =
+    StopsAtHome T fs old new n fault
+    ⊎ ((middle : StoreState) × MadeInode (newest_block old) (newest_block middle) fs mode n × StopsEntering T fs middle new d (entry_of n name) fault)
 
 -- before that a block of inodes, where no inode was free
-abbrev pub StopsMaking : Types → ℕ → StoreState → StoreState → ℕ → ℕ → FfsFault → Type 0
-StopsMaking T fs old new d mode fault =
+abbrev pub StopsMaking : Types → ℕ → StoreState → StoreState → ℕ → List ℕ → ℕ → FfsFault → Type 0
+StopsMaking T fs old new d name mode fault =
     StopsGrowing T fs old new fault
-    ⊎ ((middle : StoreState) × (free : Free) × TakesFree old middle fs free × StopsNew T fs middle new d mode free.number fault)
+    ⊎ ((middle : StoreState) × (free : Free) × TakesFree old middle fs free × StopsNew T fs middle new d name mode free.number fault)
 
 -- The calls
 
 abbrev pub Creates : Types → ℕ → ℕ → List ℕ → ℕ → StoreState → StoreState → Result ℕ FfsFault → Type 0
 Creates T fs d name mode old new result =
     Answers (create_in (newest_block old) fs d name) (λ _ n. MadeEntry (newest_block old) (newest_block new) fs d name mode n × IsLowestNumber (newest_block old) fs n)
-    (λ _ fault. StopsMaking T fs old new d mode fault) old new result
+    (λ _ fault. StopsMaking T fs old new d name mode fault) old new result

@@ -3,7 +3,6 @@
 #![tactic(auto)]
 
 mod data;
-mod edits;
 pub mod law;
 mod put;
 mod reclaim;

@@ -2,13 +2,14 @@
 
 ghost use Rattle.std.specs.Prelude.{◌≡◌, ◌≢◌, ◌<◌, ◌*◌, IfOk, IsTrue, OnOk, ℕ, List, [], ◌∷◌, Ok, Option, Some, length, replicate, true};
 ghost use Rattle.ffs_lib.specs.Results.{new_inode};
-ghost use Rattle.ffs_format.specs.Entries.{is_name};
+ghost use Rattle.ffs_format.specs.Entries.{entry_of, is_name};
 ghost use Rattle.ffs_format.specs.Fields.{direct_in, fields_of};
 ghost use Rattle.ffs_lookup.specs.Newest.{directory_in, has_room, inode_in, room_in};
 ghost use Rattle.ffs_model.specs.Library.{inode_links};
 ghost use Rattle.xn_model.specs.Types.{Types};
 ghost use Rattle.ffs_model.specs.Cuts.{Under};
 ghost use Rattle.ffs_lib.specs.Edits.{edit_at};
+ghost use Rattle.ffs_lib.specs.Orders.{Orders, taken_edits};
 ghost use Rattle.ffs_lib.specs.Replacing.{KeepsPairs};
 ghost use Rattle.ffs_lib.specs.Steps.{AddsLink, Attached, Dropped, Ends, Enters, IsEntry, MayLose, MayName, Proposed, Stage, StopsAtHome, StopsEntering};
 ghost use Rattle.ffs_lib.specs.Steps.{StopsTaking, TakesLink, newest_block};
@@ -164,6 +165,9 @@ pub fn take_link<S: Store>(
         MayLose (S.state_of store.old) fs.number number after → Ends T fs.number array (S.state_of store.new) result
         (λ _. TakesLink (newest_block (S.state_of store.old)) (newest_block (S.state_of store.new)) fs.number number)
         (StopsTaking T fs.number (S.state_of store.old) (S.state_of store.new) number) }
+    ensures order { (T : Types) (array : ℕ → Option ℕ) → S.types_of store.old ≡ T → Stage T fs.number array (S.state_of store.old) →
+        MayLose (S.state_of store.old) fs.number number after → Orders T fs.number
+        (taken_edits (newest_block (S.state_of store.old)) fs.number number after (S.state_of store.old).next) (S.state_of store.old) (S.state_of store.new) result }
     ensures waits { (T : Types) (array : ℕ → Option ℕ) (n e : ℕ) → S.types_of store.old ≡ T → Stage T fs.number array (S.state_of store.old) →
         MayLose (S.state_of store.old) fs.number number after → n ≢ number → MayLose (S.state_of store.old) fs.number n e →
         OnOk result (MayLose (S.state_of store.new) fs.number n e) }
@@ -224,7 +228,7 @@ fn grow<S: Store>(
         Some (Room.Pointer index) ≡ room_in (newest_block (S.state_of store.old)) directory → direct_in directory index ≡ 0 → IsEntry entry.now n name →
         Ends T fs.number array (S.state_of store.new) result
         (Enters (S.state_of store.old) (S.state_of store.new) fs.number number name n)
-        (StopsEntering T fs.number (S.state_of store.old) (S.state_of store.new) number) }
+        (StopsEntering T fs.number (S.state_of store.old) (S.state_of store.new) number entry.now) }
 {
     let (block, _) = store.init(fs, DATA, &block_with(0, entry))?;
     let Found {
@@ -264,7 +268,7 @@ pub fn enter<S: Store>(
         MayName (S.state_of store.old) fs.number inode after → Ok directory ≡ directory_in (newest_block (S.state_of store.old)) fs.number number →
         has_room (newest_block (S.state_of store.old)) directory ≡ true → Ends T fs.number array (S.state_of store.new) result
         (Enters (S.state_of store.old) (S.state_of store.new) fs.number number name.now inode)
-        (StopsEntering T fs.number (S.state_of store.old) (S.state_of store.new) number) }
+        (StopsEntering T fs.number (S.state_of store.old) (S.state_of store.new) number (entry_of inode name.now)) }
 {
     let entry = entry_bytes(inode, name);
     let directory = find_directory(store, fs, number)?;

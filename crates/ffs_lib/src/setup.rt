@@ -1,21 +1,25 @@
 // How a volume is made: a root block, and a first block of inodes with the top directory.
 
-ghost use Rattle.std.specs.Prelude.{◌≡◌, false, true, ℕ, Contains, Ok, OnOk, OnErr};
+ghost use Rattle.std.specs.Prelude.{◌≡◌, true, ℕ, Contains, Ok, length};
 ghost use Rattle.xn_model.specs.Lists.{put};
-ghost use Rattle.xn_model.specs.Lives.{Life, is_fresh};
-ghost use Rattle.xn_model.specs.Calls.{may_add, own_life, slot_now};
+ghost use Rattle.xn_model.specs.Calls.{make_root_of, slot_now};
 ghost use Rattle.xn_model.specs.Rules.{IsConsistent};
+ghost use Rattle.xn_model.specs.Types.{Types};
 ghost use Rattle.ffs_model.specs.Cuts.{latest};
-ghost use Rattle.ffs_model.specs.Library.{library_layout, zero_block, IsLibrary};
+ghost use Rattle.ffs_model.specs.Names.{IsRoot};
+ghost use Rattle.ffs_model.specs.Library.{library_layout, zero_block};
+ghost use Rattle.ffs_model.specs.Volumes.{no_edits};
 ghost use Rattle.ffs_lookup.specs.Newest.{has_pointer, make_in};
 ghost use Rattle.ffs_lookup.specs.Counts.{make_from};
-ghost use Rattle.ffs_lib.specs.Outcomes.{GetsRoot, Keeps, Leaves, MakesTop, OnlyShort, Roots, SetsRoot, Starts};
+ghost use Rattle.ffs_lookup.specs.Files.{empty_volume};
+ghost use Rattle.ffs_lookup.specs.FileValues.{files_of};
+ghost use Rattle.ffs_lib.specs.Making.{IsBegun, Rooted, StopsFirst, StopsRooting, StopsTop, first_pointer, with_root};
 ghost use Rattle.ffs_lib.specs.Results.{new_inode};
-ghost use Rattle.ffs_lib.specs.Steps.{LastForgets};
+ghost use Rattle.ffs_lib.specs.Steps.{Ends, Follows, Proposed, Stage, newest_block};
 
-use crate::edits;
+use crate::put::put;
 use crate::steps::{INODE_BLOCK, block_with, forgotten};
-use edit_list::Fs;
+use edit_list::{EditId, Fs};
 use ffs_format::{Inode, pointer, pointer_bytes};
 use ffs_lookup::{DIRECTORY, FfsFault, INODE_BLOCKS, ROOT, read_block, root_block};
 use std::alloc::Global;
@@ -71,75 +75,104 @@ pub fn first_inodes() -> [u8; 512]
     block_with(0, inode.bytes())
 }
 
-/// Sets the root slot to a root block without pointers.
-fn set_root<S: Store>(store: &mut S, fs: Fs, block: u32) -> Result<(), FfsFault>
+/// Sets the root slot to a block.
+fn set_root<S: Store>(store: &mut S, fs: Fs, block: u32) -> Result<EditId, FfsFault>
     ensures types { S.types_of store.new ≡ S.types_of store.old }
-    ensures ok { OnOk result (Roots (S.types_of store.old) fs.number (S.state_of store.old) (S.state_of store.new) block) }
-    ensures short { (l : Life) → own_life (S.state_of store.old) fs.number block ≡ Ok l → is_fresh l.status ≡ true →
-        (slot_now (S.state_of store.old) fs.number).0 ≡ 0 → OnlyShort result }
-    ensures set { OnOk result (SetsRoot (S.types_of store.old) fs.number block (S.state_of store.old) (S.state_of store.new)) }
-    ensures err { OnErr result (S.state_of store.new ≡ S.state_of store.old) }
+    ensures set { Follows (make_root_of (S.state_of store.old) fs.number block) (S.state_of store.old) (S.state_of store.new) result }
 {
-    let _ = store.make_root(fs, block)?;
-    Ok(())
+    Ok(store.make_root(fs, block)?)
 }
 
 /// Makes a root block without pointers, and sets the root slot to it.
-fn make_root<S: Store>(store: &mut S, fs: Fs) -> Result<(), FfsFault>
+fn make_root<S: Store>(store: &mut S, fs: Fs) -> Result<EditId, FfsFault>
     ensures types { S.types_of store.new ≡ S.types_of store.old }
-    ensures keeps { Keeps (S.types_of store.old) fs.number (S.state_of store.old) (S.state_of store.new) }
-    ensures ok { OnOk result (Leaves (S.types_of store.old) fs.number (S.state_of store.old) (S.state_of store.new)) }
-    ensures ready { OnOk result (GetsRoot (S.types_of store.old) fs.number false (S.state_of store.old) (S.state_of store.new)) }
-    ensures short { IsLibrary (S.types_of store.old) → IsConsistent (S.types_of store.old) (S.state_of store.old) →
-        Ok false ≡ make_in (latest (S.state_of store.old).lives) fs.number → OnlyShort result }
+    ensures rooted { (T : Types) → S.types_of store.old ≡ T → Rooted T fs.number (S.state_of store.old) (S.state_of store.new) result }
 {
     let (block, _) = store.init(fs, ROOT, &[0; 512])?;
     let made = set_root(store, fs, block);
     forgotten(store, fs, block, made)
 }
 
-/// Sees to it that there is a root block, or forgets a new block.
-pub fn prepare_root<S: Store>(
-    store: &mut S,
-    fs: Fs,
-    begun: bool,
-    block: u32,
-) -> Result<(), FfsFault>
+/// Sees to it that there is a root block.
+fn prepare_root<S: Store>(store: &mut S, fs: Fs, begun: bool) -> Result<(), FfsFault>
     ensures types { S.types_of store.new ≡ S.types_of store.old }
-    ensures keeps { Keeps (S.types_of store.old) fs.number (S.state_of store.old) (S.state_of store.new) }
-    ensures ok { OnOk result (Leaves (S.types_of store.old) fs.number (S.state_of store.old) (S.state_of store.new)) }
-    ensures ready { OnOk result (GetsRoot (S.types_of store.old) fs.number begun (S.state_of store.old) (S.state_of store.new)) }
-    ensures short { IsLibrary (S.types_of store.old) → IsConsistent (S.types_of store.old) (S.state_of store.old) →
-        Ok begun ≡ make_in (latest (S.state_of store.old).lives) fs.number → OnlyShort result }
-    ensures forgotten { OnErr result (LastForgets (S.types_of store.old) fs.number block (S.state_of store.new)) }
+    ensures ends { (T : Types) (block : ℕ) → S.types_of store.old ≡ T → Stage T fs.number no_edits (S.state_of store.old) →
+        Ok begun ≡ make_in (newest_block (S.state_of store.old)) fs.number → IsBegun (S.state_of store.old) fs.number block →
+        Ends T fs.number no_edits (S.state_of store.new) result
+        (λ _. (Ok true ≡ make_in (newest_block (S.state_of store.new)) fs.number) × IsBegun (S.state_of store.new) fs.number block
+        × (S.state_of store.new ≡ with_root T fs.number (S.state_of store.old)))
+        (λ fault. ((slot_now (S.state_of store.old) fs.number).0 ≡ 0)
+        × StopsRooting T fs.number (λ s. s) (S.state_of store.old) (S.state_of store.new) fault) }
 {
     if begun {
         return Ok(());
     }
-    let made = make_root(store, fs);
-    forgotten(store, fs, block, made)
+    let _ = make_root(store, fs)?;
+    Ok(())
 }
 
-/// Sets the first pointer of the root block, which is empty.
-pub fn attach_first<S: Store>(
+/// Lets the root block point to the first block of inodes.
+fn put_pointer<S: Store>(
     alloc: Global,
     store: &mut S,
     fs: Fs,
     block: u32,
-) -> Result<(), FfsFault>
+) -> Result<EditId, FfsFault>
     ensures types { S.types_of store.new ≡ S.types_of store.old }
-    ensures ok { OnOk result (Starts (S.types_of store.old) fs.number (S.state_of store.old) (S.state_of store.new) block) }
-    ensures top { OnOk result (MakesTop (S.types_of store.old) fs.number block (S.state_of store.old) (S.state_of store.new)) }
-    ensures short { IsLibrary (S.types_of store.old) → IsConsistent (S.types_of store.old) (S.state_of store.old) →
-        Ok true ≡ make_in (latest (S.state_of store.old).lives) fs.number →
-        may_add (S.state_of store.old) fs.number (block, 4) ≡ true → OnlyShort result }
-    ensures err { OnErr result (S.state_of store.new ≡ S.state_of store.old) }
+    ensures put { (T : Types) (root : ℕ) → S.types_of store.old ≡ T → IsRoot (newest_block (S.state_of store.old)) fs.number root →
+        (length (newest_block (S.state_of store.old) root) ≡ 512)
+        × Proposed T fs.number root (first_pointer block) (S.state_of store.old) (S.state_of store.new) result }
 {
     let root = root_block(store, fs)?;
-    if pointer(read_block(store, fs, root)?, 0) != 0 {
-        return Err(FfsFault::Exists);
-    }
-    let edit = edits::addition(alloc, 0, &pointer_bytes(block), (block, INODE_BLOCK), None)?;
-    let _ = store.propose(fs, root, &edit)?;
-    Ok(())
+    let _ = read_block(store, fs, root)?;
+    let bytes = pointer_bytes(block);
+    put(
+        alloc,
+        store,
+        fs,
+        root,
+        0,
+        &bytes,
+        &[(block, INODE_BLOCK)],
+        &[],
+        None,
+    )
+}
+
+/// Attaches the first block of inodes to a root block.
+fn attach_first<S: Store>(
+    alloc: Global,
+    store: &mut S,
+    fs: Fs,
+    begun: bool,
+    block: u32,
+) -> Result<EditId, FfsFault>
+    ensures types { S.types_of store.new ≡ S.types_of store.old }
+    ensures ends { (T : Types) → S.types_of store.old ≡ T → Stage T fs.number no_edits (S.state_of store.old) →
+        Ok begun ≡ make_in (newest_block (S.state_of store.old)) fs.number → IsBegun (S.state_of store.old) fs.number block →
+        Ends T fs.number no_edits (S.state_of store.new) result
+        (λ _. (n : ℕ) → files_of (newest_block (S.state_of store.new)) fs.number n ≡ empty_volume n)
+        (StopsFirst T fs.number (λ s. s) block (S.state_of store.old) (S.state_of store.new)) }
+{
+    prepare_root(store, fs, begun)?;
+    put_pointer(alloc, store, fs, block)
+}
+
+/// Makes the first block of inodes, where a root block may be there.
+pub fn make_first<S: Store>(
+    alloc: Global,
+    store: &mut S,
+    fs: Fs,
+    begun: bool,
+) -> Result<EditId, FfsFault>
+    ensures types { S.types_of store.new ≡ S.types_of store.old }
+    ensures ends { (T : Types) → S.types_of store.old ≡ T → Stage T fs.number no_edits (S.state_of store.old) →
+        Ok begun ≡ make_in (newest_block (S.state_of store.old)) fs.number →
+        Ends T fs.number no_edits (S.state_of store.new) result
+        (λ _. (n : ℕ) → files_of (newest_block (S.state_of store.new)) fs.number n ≡ empty_volume n)
+        (StopsTop T fs.number (S.state_of store.old) (S.state_of store.new)) }
+{
+    let (block, _) = store.init(fs, INODE_BLOCK, &first_inodes())?;
+    let attached = attach_first(alloc, store, fs, begun, block);
+    forgotten(store, fs, block, attached)
 }

@@ -7,25 +7,26 @@ ghost use Rattle.ffs_format.specs.Entries.{is_name};
 ghost use Rattle.ffs_model.specs.Cuts.{latest};
 ghost use Rattle.ffs_model.specs.Library.{library_layout, inode_mode, IsLibrary, inode_blocks, inode_links, zero_block};
 ghost use Rattle.xn_model.specs.Lists.{put};
-ghost use Rattle.ffs_lookup.specs.Newest.{IsLowest, RefusesAs, TakesEntry, create_in, directory_in, first_named, has_empty_pointer, has_inode, has_room, is_at};
+ghost use Rattle.ffs_lookup.specs.Newest.{IsLowest, TakesEntry, create_in, directory_in, first_named, has_empty_pointer, has_inode, has_room, is_at};
 ghost use Rattle.ffs_lookup.specs.Newest.{mapped, root_in, write_in, listing, named_in, names_at, rename_in, rmdir_in, unlink_in, without_entry, inode_in};
-ghost use Rattle.ffs_lookup.specs.Counts.{if_idle, make_from, open_in};
+ghost use Rattle.ffs_lookup.specs.Counts.{if_idle, open_in};
 ghost use Rattle.ffs_lookup.specs.Repairs.{idle_in, repair_at};
 ghost use Rattle.ffs_lib.specs.Reclaiming.{LeftByRepair, needs, reclaimed, reclaimed_stages};
 ghost use Rattle.ffs_lookup.specs.declared.places.Found.{Found};
 ghost use Rattle.ffs_lookup.specs.declared.places.Slot.{Slot};
 ghost use Rattle.ffs_model.specs.Volumes.{VolumeKeeps, no_edits};
 ghost use Rattle.ffs_lookup.specs.Places.{IsDirectory, IsFree, IsSlot};
-ghost use Rattle.ffs_lib.specs.Outcomes.{HasFreePointer, OnlyShort};
+ghost use Rattle.ffs_lib.specs.Making.{newly_made};
+ghost use Rattle.ffs_lib.specs.Orders.{Orders, removed_edits};
+ghost use Rattle.ffs_lib.specs.Outcomes.{HasFreePointer};
 ghost use Rattle.ffs_lib.specs.Replacing.{AreDirect, pair_of};
 ghost use Rattle.ffs_model.specs.Standing.{StayNamed};
 ghost use Rattle.xn_model.specs.Lives.{Lives};
-ghost use Rattle.ffs_lib.specs.Values.{ByAnswer, Leads};
 ghost use Rattle.ffs_lib.specs.Written.{DoesSome, Overwrites, WritesSomeTo, WritesTo, written_stages};
 ghost use Rattle.ffs_lookup.specs.FileValues.{files_of};
-ghost use Rattle.ffs_lookup.specs.Files.{Files, created, listed, made, new_directory, new_file, read, read_over, removed, renamed, unlinked, written};
-ghost use Rattle.ffs_lib.specs.Stages.{Does, KeptOrEmptied, Makes, OnlyMade, Unnames, created_stages, removed_stages, renamed_stages};
-ghost use Rattle.ffs_lib.specs.Steps.{Creates, Ends, Leaves, MayLose, NamesAgain, Stage, StopsGrowing, StopsNaming, StopsNew, StopsUnnaming, TakesFree, Undoes};
+ghost use Rattle.ffs_lookup.specs.Files.{Files, created, listed, new_directory, new_file, read, read_over, removed, renamed, unlinked, written};
+ghost use Rattle.ffs_lib.specs.Stages.{Does, KeptOrEmptied, Makes, OnlyMade, Unnames, created_stages, make_stages, removed_stages, renamed_stages};
+ghost use Rattle.ffs_lib.specs.Steps.{Creates, Ends, Leaves, MayLose, NamesAgain, Stage, StopsGrowing, StopsNaming, StopsNew, StopsUnnaming, TakesFree};
 ghost use Rattle.ffs_lib.specs.Steps.{Unnamed, newest_block};
 ghost use Rattle.xn_model.specs.Types.{Types};
 ghost use Rattle.xn_model.specs.declared.refusal.Refusal.{Refusal};
@@ -39,8 +40,8 @@ use crate::data::{
 };
 use crate::put::{add_link, attach, empty_inode, enter, put, put_inode, take_link};
 use crate::reclaim::reclaim_inodes;
-use crate::setup::{attach_first, first_inodes, look_up_root, prepare_root};
-use crate::steps::{INODE_BLOCK, forgotten, is_word};
+use crate::setup::{look_up_root, make_first};
+use crate::steps::{INODE_BLOCK, is_word};
 use edit_list::{EditId, Fs};
 use ffs_format::entries::ENTRY_LEN;
 use ffs_format::inodes::{DIRECT_POINTERS, INODES};
@@ -171,22 +172,14 @@ impl Volume {
         ensures types { S.types_of store.new ≡ S.types_of store.old }
         ensures ok { IfOk result (λ volume. IsVolume (S.types_of store.old) (S.state_of store.new) volume) }
         ensures fs { IfOk result (λ volume. volume.fs ≡ fs) }
-        ensures faults { RefusesAs (make_from (S.state_of store.old) fs.number) (S.state_of store.old) (S.state_of store.new) result }
-        ensures short { (begun : Bool) → Ok begun ≡ make_from (S.state_of store.old) fs.number → OnlyShort result }
-        ensures value { (make_from (S.state_of store.old) fs.number ≡ Err FfsFault.Exists) ⊎ IsOk (make_from (S.state_of store.old) fs.number) →
-            ByAnswer (made (files_of (newest_block (S.state_of store.old)) fs.number))
-            (λ volume. Leads (made (files_of (newest_block (S.state_of store.old)) fs.number)) (newest_block (S.state_of store.new)) fs.number tt)
-            (S.state_of store.old) (S.state_of store.new) result }
-        ensures err { (begun : Bool) → Ok begun ≡ make_from (S.state_of store.old) fs.number →
+        ensures answers { let files = files_of (newest_block (S.state_of store.old)) fs.number in
+            Does (S.types_of store.old) fs.number (newly_made (S.state_of store.old) fs.number files) (make_stages files)
+            (S.state_of store.old) (S.state_of store.new) (mapped (λ volume. tt) result) }
+        ensures err { IsOk (newly_made (S.state_of store.old) fs.number (files_of (newest_block (S.state_of store.old)) fs.number)) →
             OnErr result (VolumeKeeps (S.types_of store.old) library_layout fs.number no_edits (S.state_of store.new)) }
-        ensures forgotten { OnErr result (Undoes (S.types_of store.old) fs.number (S.state_of store.old)
-            (S.state_of store.new) INODE_BLOCK (put zero_block 0 (new_inode 2))) }
     {
         let begun = look_up_root(store, fs)?;
-        let (block, _) = store.init(fs, INODE_BLOCK, &first_inodes())?;
-        prepare_root(store, fs, begun, block)?;
-        let attached = attach_first(alloc, store, fs, block);
-        forgotten(store, fs, block, attached)?;
+        let _ = make_first(alloc, store, fs, begun)?;
         Ok(Volume {
             fs,
             added: [None; 16],
@@ -318,7 +311,7 @@ impl Volume {
         ensures leaves { (inode : List ℕ) → Ok inode ≡ directory_in (newest_block (S.state_of store.old)) self.old.fs.number directory →
             has_room (newest_block (S.state_of store.old)) inode ≡ true → Leaves (S.types_of store.old) self.new (S.state_of store.new) result
             (λ n. MadeEntry (newest_block (S.state_of store.old)) (newest_block (S.state_of store.new)) self.old.fs.number directory name.now mode n × (n ≡ free.number))
-            (StopsNew (S.types_of store.old) self.old.fs.number (S.state_of store.old) (S.state_of store.new) directory mode free.number) }
+            (StopsNew (S.types_of store.old) self.old.fs.number (S.state_of store.old) (S.state_of store.new) directory name.now mode free.number) }
     {
         has_places(&self.added);
         let index = usize::from(free.number - 1) / INODES;
@@ -551,6 +544,9 @@ impl Volume {
         ensures inodes { let old = newest_block (S.state_of store.old) in let new = newest_block (S.state_of store.new) in let fs = self.now.fs.number in
             (slot : Slot) → Ok slot ≡ unlink_in old fs directory name.now →
             Unnames old new fs directory slot.inode × OnErr result (KeptOrEmptied old new fs slot.inode) }
+        ensures order { let old = newest_block (S.state_of store.old) in let fs = self.now.fs.number in
+            (slot : Slot) → Ok slot ≡ unlink_in old fs directory name.now → Orders (S.types_of store.old) fs
+            (removed_edits old fs slot None (S.state_of store.old).next) (S.state_of store.old) (S.state_of store.new) result }
         ensures keeps { IsVolume (S.types_of store.old) (S.state_of store.new) self.now }
     {
         let slot = self.look_up_file(store, directory, name)?;
@@ -574,6 +570,9 @@ impl Volume {
         ensures inodes { let old = newest_block (S.state_of store.old) in let new = newest_block (S.state_of store.new) in let fs = self.now.fs.number in
             (slot : Slot) → Ok slot ≡ rmdir_in old fs directory name.now →
             Unnames old new fs directory slot.inode × OnErr result (KeptOrEmptied old new fs slot.inode) }
+        ensures order { let old = newest_block (S.state_of store.old) in let fs = self.now.fs.number in
+            (slot : Slot) → Ok slot ≡ rmdir_in old fs directory name.now → Orders (S.types_of store.old) fs
+            (removed_edits old fs slot None (S.state_of store.old).next) (S.state_of store.old) (S.state_of store.new) result }
         ensures keeps { IsVolume (S.types_of store.old) (S.state_of store.new) self.now }
     {
         let slot = self.look_up_empty(store, directory, name)?;
@@ -622,6 +621,10 @@ impl Volume {
             Ends T self.now.fs.number array (S.state_of store.new) result
             (λ _. Unnamed (newest_block (S.state_of store.old)) (newest_block (S.state_of store.new)) self.now.fs.number slot)
             (StopsUnnaming T self.now.fs.number (S.state_of store.old) (S.state_of store.new) slot) }
+        ensures order { (T : Types) (array : ℕ → Option ℕ) → S.types_of store.old ≡ T → Stage T self.now.fs.number array (S.state_of store.old) →
+            IsTrue (was_given (S.state_of store.old) after) →
+            Orders T self.now.fs.number (removed_edits (newest_block (S.state_of store.old)) self.now.fs.number slot after (S.state_of store.old).next)
+            (S.state_of store.old) (S.state_of store.new) result }
         ensures waits { (T : Types) (array : ℕ → Option ℕ) (n e : ℕ) → S.types_of store.old ≡ T → Stage T self.now.fs.number array (S.state_of store.old) →
             IsTrue (was_given (S.state_of store.old) after) → n ≢ slot.inode → MayLose (S.state_of store.old) self.now.fs.number n e →
             OnOk result (MayLose (S.state_of store.new) self.now.fs.number n e) }
@@ -729,7 +732,7 @@ impl Volume {
             Ok to ≡ directory_in (newest_block (S.state_of store.old)) self.now.fs.number directory → has_room (newest_block (S.state_of store.old)) to ≡ true →
             Ends T self.now.fs.number array (S.state_of store.new) result
             (NamesAgain (S.state_of store.old) (S.state_of store.new) self.now.fs.number directory name.now inode)
-            (StopsNaming T self.now.fs.number (S.state_of store.old) (S.state_of store.new) directory inode) }
+            (StopsNaming T self.now.fs.number (S.state_of store.old) (S.state_of store.new) directory name.now inode) }
     {
         let added = add_link(alloc, store, self.fs, inode)?;
         enter(alloc, store, self.fs, directory, inode, name, added)

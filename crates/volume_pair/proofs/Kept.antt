@@ -1,6 +1,6 @@
 -- What is known of a file system stays over the calls of others, over what the device does, and over a crash.
 use Rattle.std.proofs.Common.{◌∙◌, lit≤, Bool, false, Ok, Err, ◌≡◌, ◌≢◌, ℕ, ◌<◌, ◌≤◌, List, Option, Some, None, Result, refl, sym, ap, subst}
-use Rattle.std.specs.Prelude.{IfSome, IsSomeAnd, IsTrue}
+use Rattle.std.specs.Prelude.{IfSome, IsOk, IsSomeAnd, IsTrue}
 use Rattle.xn_model.specs.declared.refusal.Refusal.{Refusal}
 use Rattle.xn_model.specs.Types.{Types}
 use Rattle.xn_model.specs.Lives.{StoreState}
@@ -17,8 +17,8 @@ use Rattle.ffs_model.specs.Library.{library_layout, IsLibrary}
 use Rattle.ffs_model.proofs.ForCallers.{begun_next, cuts_same, event_cuts, forget_cuts, forgot_next, init_cuts, library_reads, make_root_cuts, none_later, nothing_pending, one_later, opened_keeps, propose_cuts, proposed_next, rooted_next, volume_from}
 use Rattle.ffs_model.specs.Volumes.{VolumeKeeps, no_edits}
 use Rattle.ffs_lookup.specs.declared.fault.FfsFault.{FfsFault}
-use Rattle.ffs_lookup.specs.Newest.{RefusesAs}
-use Rattle.ffs_lookup.specs.Counts.{make_from}
+use Rattle.ffs_lookup.specs.Files.{Answer}
+use Rattle.ffs_lib.specs.Stages.{Does, Stages}
 use Rattle.ffs_lib.specs.declared.volume.Volume.{Volume}
 use Rattle.events.specs.declared.event.Event as world_event
 use Rattle.events.specs.declared.event.Event.TheVariants as event
@@ -152,11 +152,11 @@ device_event (event.Call fs call) d = absurd d
 device_event (event.Crash kept) d = absurd d
 
 -- a volume that could not be made is closed, with its rules
-pub make_kept : (T T' : Types) (old new : StoreState) (fs : ℕ) (volume : Option Volume) (fault : FfsFault) → T' ≡ T → IsKept T old fs volume → pending_of old fs ≡ 0 →
-    RefusesAs {A = Bool} {B = Volume} (make_from old fs) old new (Err fault) → ((begun : Bool) → Ok begun ≡ make_from old fs → VolumeKeeps T library_layout fs no_edits new) → IsKept T' new fs None
-make_kept T T' old new fs volume fault e k idle refuses keeps = retyped T T' new fs None e (record { library = k.library; few = k.few; keeps = go (make_from old fs) refl refuses; mine = tt })
+pub make_kept : (T T' : Types) (old new : StoreState) (fs : ℕ) (volume : Option Volume) (fault : FfsFault) → T' ≡ T → IsKept T old fs volume → pending_of old fs ≡ 0 → (answer : Answer (Unit {0})) (stages : Stages) →
+    Does T fs answer stages old new (Err fault) → (IsOk answer → VolumeKeeps T library_layout fs no_edits new) → IsKept T' new fs None
+make_kept T T' old new fs volume fault e k idle answer stages does keeps = retyped T T' new fs None e (record { library = k.library; few = k.few; keeps = go answer does keeps; mine = tt })
   where
-    go : (r : Result Bool FfsFault) → make_from old fs ≡ r → RefusesAs {A = Bool} {B = Volume} r old new (Err fault) → VolumeKeeps T library_layout fs no_edits new
-    go (Ok begun) e h = keeps begun (sym e)
-    go (Err f) e h = subst (VolumeKeeps T library_layout fs no_edits) (sym h.1)
+    go : (a : Answer (Unit {0})) → Does T fs a stages old new (Err fault) → (IsOk a → VolumeKeeps T library_layout fs no_edits new) → VolumeKeeps T library_layout fs no_edits new
+    go (Ok next) h keeps = keeps refl
+    go (Err f) h keeps = subst (VolumeKeeps T library_layout fs no_edits) (sym h.1)
         (opened_keeps T library_layout fs (array_of volume) old k.keeps (nothing_pending T library_layout fs (array_of volume) old k.keeps idle))

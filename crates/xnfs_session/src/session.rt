@@ -1,6 +1,6 @@
 // A store with its open volume.
 
-ghost use Rattle.std.specs.Prelude.{◌≡◌, ◌<◌, ◌≤◌, ◌+◌, ◌⊎◌, ℕ, List, [], is_some, length, map, IfOk, IsOk, MatchResult, OnErr, OnOk, Ok, Err};
+ghost use Rattle.std.specs.Prelude.{◌≡◌, ◌<◌, ◌≤◌, ◌+◌, ◌⊎◌, ℕ, List, [], is_some, length, map, IfOk, IsOk, MatchResult, None, OnErr, OnOk, Ok, Err};
 ghost use Rattle.ffs_model.specs.Cuts.{latest};
 ghost use Rattle.ffs_model.specs.Library.{IsLibrary};
 ghost use Rattle.ffs_lookup.specs.Newest.{inode_in, mapped, named_in, rename_in, rmdir_in, unlink_in, write_in};
@@ -9,6 +9,7 @@ ghost use Rattle.ffs_lookup.specs.Files.{Files, created, listed, new_directory, 
 ghost use Rattle.ffs_lookup.specs.FileValues.{files_of};
 ghost use Rattle.ffs_lookup.specs.Counts.{if_idle};
 ghost use Rattle.ffs_lookup.specs.Repairs.{idle_in, repair_at};
+ghost use Rattle.ffs_lib.specs.Orders.{Orders, removed_edits};
 ghost use Rattle.ffs_lib.specs.Reclaiming.{LeftByRepair, needs, reclaimed, reclaimed_stages};
 ghost use Rattle.ffs_lib.specs.Replacing.{Replaced, replace_in};
 ghost use Rattle.ffs_lib.specs.Results.{MovedInodes};
@@ -293,6 +294,9 @@ impl<S: FlushStore + Drop> Session<S> {
         ensures inodes { let old = newest_block (S.state_of self.old.store) in let new = newest_block (S.state_of self.new.store) in let fs = self.old.fs in
             (slot : Slot) → Ok slot ≡ unlink_in old fs directory name.now →
             Unnames old new fs directory slot.inode × OnErr result (KeptOrEmptied old new fs slot.inode) }
+        ensures order { let old = newest_block (S.state_of self.old.store) in let fs = self.old.fs in
+            (slot : Slot) → Ok slot ≡ unlink_in old fs directory name.now → Orders (S.types_of self.old.store) fs
+            (removed_edits old fs slot None (S.state_of self.old.store).next) (S.state_of self.old.store) (S.state_of self.new.store) result }
     {
         self.volume.unlink(alloc, &mut self.store, directory, name)
     }
@@ -307,6 +311,9 @@ impl<S: FlushStore + Drop> Session<S> {
         ensures inodes { let old = newest_block (S.state_of self.old.store) in let new = newest_block (S.state_of self.new.store) in let fs = self.old.fs in
             (slot : Slot) → Ok slot ≡ rmdir_in old fs directory name.now →
             Unnames old new fs directory slot.inode × OnErr result (KeptOrEmptied old new fs slot.inode) }
+        ensures order { let old = newest_block (S.state_of self.old.store) in let fs = self.old.fs in
+            (slot : Slot) → Ok slot ≡ rmdir_in old fs directory name.now → Orders (S.types_of self.old.store) fs
+            (removed_edits old fs slot None (S.state_of self.old.store).next) (S.state_of self.old.store) (S.state_of self.new.store) result }
     {
         self.volume.rmdir(alloc, &mut self.store, directory, name)
     }

@@ -3,7 +3,7 @@ use Rattle.std.proofs.lemmas.Result.{err_from_is_err_and}
 use Rattle.xn_model.specs.Calls.{propose_of}
 use Rattle.ffs_lib.specs.Edits.{data_of_pointers}
 use Rattle.ffs_lib.specs.Steps.{Dropped, Tells, clearing}
-use Rattle.ffs_lib.proofs.Laws.{dropped_put, no_memory}
+use Rattle.ffs_lib.proofs.Laws.{dropped_put, no_memory, some_items}
 use Rattle.ffs_lib.proofs.put.drop_data.Goals as goal
 
 pub returns-in_err-dropped-clause-put : goal.returns-in_err-dropped-clause-put
@@ -20,4 +20,4 @@ pub returns-clause-put : goal.returns-clause-put
 returns-clause-put g c = λ T e under.
     let bytes = c.in_ok-read_block.ensures.bytes in
     dropped_put T c.args.fs.number c.args.block c.args.after (g.S.Store.state_of c.args.store.now) (g.S.Store.state_of c.put.new.store) c.put.result c.deref.result.now c.if-block-eq0.false
-    (ap length bytes ∙ c.in_ok-read_block.ensures.whole) (c.deref.ensures.value ∙ (c.in_ok-dropped.ensures ∙ ap data_of_pointers (sym bytes))) (c.put.ensures.put T e)
+    (ap length bytes ∙ c.in_ok-read_block.ensures.whole) (c.deref.ensures.value ∙ (c.in_ok-dropped.ensures ∙ ap data_of_pointers (sym bytes))) (some_items _ _ c.deref.result.now c.is_empty.ensures c.if-is_empty.false c.deref.ensures.len) (c.put.ensures.put T e)

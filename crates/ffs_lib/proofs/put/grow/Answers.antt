@@ -27,7 +27,7 @@ returns-in_err-block-clause-ends g c = λ T array directory name n e s m dir emp
     let told = told_by (init_of T old fs 2 bytes) old new _ given in
     let own = stands_from (latest old.lives) fs c.args.number directory (directory_from (latest old.lives) fs c.args.number directory dir).0 in
     fails _ _ (same_stage s same) c.from_residual.result _ c.from_residual.ensures.1
-    (short_told (init_of T old fs 2 bytes) (data_begun T old s.keeps.consistent fs bytes (block_long 0 c.args.entry.now (let whole = b.whole in omega (arith, whole)))) _ told, not_begun T fs old new c.args.number directory dir same c.args.index empty bytes own.block (block_again (latest old.lives) fs _ own.block own.inodes) _ told)
+    (short_told (init_of T old fs 2 bytes) (data_begun T old s.keeps.consistent fs bytes (block_long 0 c.args.entry.now (let whole = b.whole in omega (arith, whole)))) _ told, not_begun T fs old new c.args.number directory dir same c.args.index empty c.args.entry.now own.block (block_again (latest old.lives) fs _ own.block own.inodes) _ told)
 
 pub returns-in_err-home-clause-ends : goal.returns-in_err-home-clause-ends
 returns-in_err-home-clause-ends g c = λ T array directory name n e s m dir empty gap b.

@@ -1,11 +1,18 @@
-use Rattle.std.proofs.Common.{◌≡◌, ◌∙◌, ◌*◌, ℕ, List, [], Some, ap, arith, refl, subst, sym, inl, inr}
+use Rattle.std.proofs.Common.{◌≡◌, ◌∙◌, ◌*◌, ◌-◌, ℕ, List, [], Err, Some, ap, arith, refl, replicate, subst, sym, inl, inr}
+use Rattle.std.specs.Int.{w16, to_le_bytes}
+use Rattle.xn_model.specs.declared.refusal.Refusal.TheVariants.{NoMemory}
+use Rattle.xn_model.specs.Lists.{put}
+use Rattle.xn_model.specs.Root.{word_at}
 use Rattle.xn_model.specs.Calls.{propose_of}
 use Rattle.ffs_model.specs.Cuts.{latest}
 use Rattle.ffs_model.specs.Library.{IsLibrary, inode_links}
 use Rattle.ffs_lookup.proofs.ForCallers.{same_ok}
-use Rattle.ffs_lib.specs.Edits.{edit_at}
+use Rattle.ffs_lookup.specs.declared.fault.FfsFault.TheVariants.{Kernel}
+use Rattle.ffs_lib.specs.Edits.{data_of_inode, edit_at}
+use Rattle.ffs_lib.specs.Orders.{Edits, Orders, free_edit, links_edit, taken_edits}
 use Rattle.ffs_lib.specs.Outcomes.{HasNoData}
-use Rattle.ffs_lib.specs.Steps.{MayLose, ShortEdit, clearing}
+use Rattle.ffs_lib.specs.Steps.{MayLose, Proposed, ShortEdit, clearing}
+use Rattle.ffs_lib.proofs.Orders.{more_links, none_order, one_order, order_err, taken_is, taken_last}
 use Rattle.ffs_lib.proofs.Laws.{at_pointers, data_taken, drops, drops_short, fails, finishes, free_short, frees, given_up, home_of, link_less, link_short, no_memory, nothing_taken, same_stage, short_told}
 use Rattle.ffs_lib.proofs.PairLaws.{direct_dropped, pairs_at_home, pairs_dropped, pairs_same, pairs_then}
 use Rattle.ffs_lib.proofs.Tops.{never}
@@ -214,3 +221,100 @@ returns-clause-pairs g c = λ T array e s m.
     pairs_then fs old first (g.S.Store.state_of c.put_inode-2.new.store) (direct_dropped T fs array old s first block c.args.after under dropped put) (pairs_dropped T fs array old s first block c.args.after under dropped put)
     (pairs_at_home T fs array first d.stage (g.S.Store.state_of c.put_inode-2.new.store) n again.block again.place c.in_ok-found.ensures.found.stands (edit_at (64 * again.place) c.free.result [] c.deref.result.now (Some dropped)) c.put_inode-2.result
     (c.put_inode-2.ensures.put T (c.drop_data.ensures.types ∙ e)))
+
+pub returns-in_err-block-clause-order : goal.returns-in_err-block-clause-order
+returns-in_err-block-clause-order g c = λ T array e s m.
+    let old = g.S.Store.state_of c.args.store.now in
+    none_order T c.args.fs.number (taken_edits (latest old.lives) c.args.fs.number c.args.number c.args.after old.next) old old refl _ c.from_residual.result c.from_residual.ensures.1
+
+pub returns-then-links-gt1-clause-order : goal.returns-then-links-gt1-clause-order
+returns-then-links-gt1-clause-order g c = λ T array e s m.
+    let fs = c.args.fs.number in
+    let n = c.args.number in
+    let old = g.S.Store.state_of c.args.store.now in
+    let new = g.S.Store.state_of c.put_inode.new.store in
+    let found = c.in_ok-block.field-0 in
+    let is = c.in_ok-block.ensures.found in
+    let exact = c.in_ok-block.ensures.exact (subst IsLibrary (sym e) s.library) in
+    let links = c.links-links.ensures in
+    let more = c.if-links-gt1.true in
+    let bytes = c.set_links.ensures.bytes ∙ ap (λ (k : ℕ). put found.inode 2 (to_le_bytes w16 (k - 1))) links in
+    subst (λ (edits : Edits). Orders T fs edits old new c.put_inode.result)
+    (more_links (latest old.lives (word_at found.inode 56)) found.block found.place found.inode c.args.after old.next (omega (arith, links, more))
+    ∙ taken_is (latest old.lives) fs n found.block found.place found.inode c.args.after old.next (home_of old fs n found.block found.place is.stands) is.stands.at exact)
+    (one_order T fs found.block (links_edit found.place found.inode (inode_links found.inode - 1) c.args.after) old new c.put_inode.result
+    (subst (λ (b : List ℕ). Proposed T fs found.block (edit_at (64 * found.place) b [] [] (Some c.args.after)) old new c.put_inode.result) bytes (c.put_inode.ensures.put T e)))
+
+pub returns-in_err-dropped-clause-order : goal.returns-in_err-dropped-clause-order
+returns-in_err-dropped-clause-order g c = λ T array e s m.
+    let fs = c.args.fs.number in
+    let n = c.args.number in
+    let old = g.S.Store.state_of c.args.store.now in
+    let found = c.in_ok-block.field-0 in
+    let is = c.in_ok-block.ensures.found in
+    let exact = c.in_ok-block.ensures.exact (subst IsLibrary (sym e) s.library) in
+    let points = sym c.indirect.ensures in
+    let p = c.in_err-dropped.ensures.put T e (at_pointers T fs array old s n c.args.after m.some found is exact c.indirect.result points m.can m.given) in
+    none_order T fs (taken_edits (latest old.lives) fs n c.args.after old.next) old (g.S.Store.state_of c.drop_data.new.store) p.0 _ c.from_residual-in_err-dropped.result c.from_residual-in_err-dropped.ensures.1
+
+pub returns-in_err-found-clause-order : goal.returns-in_err-found-clause-order
+returns-in_err-found-clause-order g c = λ T array e s m.
+    let old = g.S.Store.state_of c.args.store.now in
+    let found = c.in_ok-block.field-0 in
+    let is = c.in_ok-block.ensures.found in
+    let exact = c.in_ok-block.ensures.exact (subst IsLibrary (sym e) s.library) in
+    let points = sym c.indirect.ensures in
+    let block = c.indirect.result in
+    let put = c.in_ok-dropped.ensures.put T e (at_pointers T c.args.fs.number array old s c.args.number c.args.after m.some found is exact block points m.can m.given) in
+    let k = drops T c.args.fs.number array old s c.args.number c.args.after m.some found is exact block points m.can m.given (g.S.Store.state_of c.drop_data.new.store) c.in_ok-dropped.dropped put in
+    absurd (never found.inode _ (k.same ∙ sym (c.in_err-found.ensures.exact (subst IsLibrary (sym (c.drop_data.ensures.types ∙ e)) s.library))))
+
+pub returns-in_err-drops-clause-order : goal.returns-in_err-drops-clause-order
+returns-in_err-drops-clause-order g c = λ T array e s m.
+    let fs = c.args.fs.number in
+    let n = c.args.number in
+    let old = g.S.Store.state_of c.args.store.now in
+    let first = g.S.Store.state_of c.drop_data.new.store in
+    let found = c.in_ok-block.field-0 in
+    let is = c.in_ok-block.ensures.found in
+    let exact = c.in_ok-block.ensures.exact (subst IsLibrary (sym e) s.library) in
+    let points = sym c.indirect.ensures in
+    let block = c.indirect.result in
+    let under = at_pointers T fs array old s n c.args.after m.some found is exact block points m.can m.given in
+    let dropped = c.in_ok-dropped.dropped in
+    let put = c.in_ok-dropped.ensures.put T e under in
+    let again = c.in_ok-found.found in
+    let at = c.in_ok-found.ensures.found.stands in
+    let links = c.links-links.ensures in
+    let few = c.if-links-gt1.false in
+    order_err T fs (taken_edits (latest old.lives) fs n c.args.after old.next) old first
+    (taken_last T s.library fs s.few old first first s.keeps.consistent n found.inode exact (omega (arith, links, few)) block points c.args.after dropped under put again.block again.place (home_of first fs n again.block again.place at) at.at
+    (Err (Kernel NoMemory)) (refl, no_memory (propose_of T first fs again.block (free_edit again.place found.inode dropped)))) _ c.from_residual-in_err-drops.result c.from_residual-in_err-drops.ensures.1
+
+pub returns-clause-order : goal.returns-clause-order
+returns-clause-order g c = λ T array e s m.
+    let fs = c.args.fs.number in
+    let n = c.args.number in
+    let old = g.S.Store.state_of c.args.store.now in
+    let first = g.S.Store.state_of c.drop_data.new.store in
+    let new = g.S.Store.state_of c.put_inode-2.new.store in
+    let found = c.in_ok-block.field-0 in
+    let is = c.in_ok-block.ensures.found in
+    let exact = c.in_ok-block.ensures.exact (subst IsLibrary (sym e) s.library) in
+    let points = sym c.indirect.ensures in
+    let block = c.indirect.result in
+    let under = at_pointers T fs array old s n c.args.after m.some found is exact block points m.can m.given in
+    let dropped = c.in_ok-dropped.dropped in
+    let put = c.in_ok-dropped.ensures.put T e under in
+    let k = drops T fs array old s n c.args.after m.some found is exact block points m.can m.given first dropped put in
+    let types = c.drop_data.ensures.types ∙ e in
+    let again = c.in_ok-found.found in
+    let at = c.in_ok-found.ensures.found.stands in
+    let same : again.inode ≡ found.inode = same_ok again.inode found.inode (c.in_ok-found.ensures.exact (subst IsLibrary (sym types) s.library) ∙ sym k.same) in
+    let items = (c.deref.ensures.value ∙ c.in_ok-drops.ensures) ∙ ap data_of_inode same in
+    let links = c.links-links.ensures in
+    let few = c.if-links-gt1.false in
+    taken_last T s.library fs s.few old first new s.keeps.consistent n found.inode exact (omega (arith, links, few)) block points c.args.after dropped under put again.block again.place (home_of first fs n again.block again.place at) at.at
+    c.put_inode-2.result
+    (subst (λ (ds : List ℕ). Proposed T fs again.block (edit_at (64 * again.place) (replicate 64 0) [] ds (Some dropped)) first new c.put_inode-2.result) items
+    (subst (λ (b : List ℕ). Proposed T fs again.block (edit_at (64 * again.place) b [] c.deref.result.now (Some dropped)) first new c.put_inode-2.result) c.free.ensures (c.put_inode-2.ensures.put T types)))

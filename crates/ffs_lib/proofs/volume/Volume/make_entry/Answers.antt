@@ -29,8 +29,8 @@ returns-in_err-free-clause-answers g c =
     let looked = create_in (latest old.lives) fs d c.args.name.now in
     let x = is_ok_one looked (c.in_ok-found.ensures.exact c.requires.volume.library) in
     let stop = c.in_err-free.ensures.leaves.1 in
-    answers_ok looked (λ _ n. MadeEntry (latest old.lives) (latest new.lives) fs d c.args.name.now mode n × IsLowestNumber (latest old.lives) fs n) (λ _ fault. StopsMaking T fs old new d mode fault) c.from_residual-in_err-free.result x.0 old new x.1
-    (stops_err _ (StopsMaking T fs old new d mode) c.from_residual-in_err-free.result _ c.from_residual-in_err-free.ensures.1 (stop.0, inl stop.1))
+    answers_ok looked (λ _ n. MadeEntry (latest old.lives) (latest new.lives) fs d c.args.name.now mode n × IsLowestNumber (latest old.lives) fs n) (λ _ fault. StopsMaking T fs old new d c.args.name.now mode fault) c.from_residual-in_err-free.result x.0 old new x.1
+    (stops_err _ (StopsMaking T fs old new d c.args.name.now mode) c.from_residual-in_err-free.result _ c.from_residual-in_err-free.ensures.1 (stop.0, inl stop.1))
 
 pub returns-clause-answers : goal.returns-clause-answers
 returns-clause-answers g c =
@@ -52,8 +52,8 @@ returns-clause-answers g c =
     let stays = c.in_ok-free.ensures.leaves.1.stays in
     let lowest = c.in_ok-free.ensures.leaves.1.lowest in
     let y = named_by (g.S.Store.types_of c.take_free.new.store) T c.take_free.new.self.fs.number fs middle new d name mode number c.name_inode.new.self c.name_inode.result (ap (λ f. f.number) c.take_free.ensures.fs) c.take_free.ensures.types c.name_inode.ensures.leaves (dir.0) (dir.1 ∙ sym (directory_same u v fs d (stays d).0)) (same_room u v fs d dir.0 ((stays d).0, (stays d).1) (directory_from u fs d dir.0 dir.1).0 ∙ dir.2) in
-    answers_ok (create_in u fs d name) (λ _ n. MadeEntry u w fs d name mode n × IsLowestNumber u fs n) (λ _ fault. StopsMaking T fs old new d mode fault) c.name_inode.result x.0 old new x.1
-    (match_then (λ n. MadeEntry v w fs d name mode n × (n ≡ number)) (λ n. MadeEntry u w fs d name mode n × IsLowestNumber u fs n) (StopsNew T fs middle new d mode number) (StopsMaking T fs old new d mode) c.name_inode.result
+    answers_ok (create_in u fs d name) (λ _ n. MadeEntry u w fs d name mode n × IsLowestNumber u fs n) (λ _ fault. StopsMaking T fs old new d name mode fault) c.name_inode.result x.0 old new x.1
+    (match_then (λ n. MadeEntry v w fs d name mode n × (n ≡ number)) (λ n. MadeEntry u w fs d name mode n × IsLowestNumber u fs n) (StopsNew T fs middle new d name mode number) (StopsMaking T fs old new d name mode) c.name_inode.result
     (λ n made. (stays_made u v w fs d name mode n (λ e. subst (λ (m : ℕ). SameOrNew u v fs m e) (sym made.1) (stays e)) made.0, subst (IsLowestNumber u fs) (sym made.1) lowest)) (λ fault r. inr (middle, c.in_ok-free.free, c.in_ok-free.ensures.leaves.1, r)) y.1)
 
 pub returns-clause-keeps : goal.returns-clause-keeps

@@ -1,5 +1,6 @@
 use Rattle.std.proofs.Common.{◌∙◌, inl, inr}
 use Rattle.ffs_model.specs.Cuts.{latest}
+use Rattle.ffs_format.specs.Entries.{entry_of}
 use Rattle.ffs_lib.specs.Steps.{Enters, NamesAgain, StopsEntering, StopsNaming}
 use Rattle.ffs_lib.proofs.Entering.{directory_from}
 use Rattle.ffs_lib.proofs.Laws.{fails, match_then}
@@ -26,6 +27,6 @@ returns-clause-ends g c = λ T array own to e s is fewer dir room.
     let new = g.S.Store.state_of c.enter.new.store in
     let n = c.args.inode in (
       y.0,
-      match_then (Enters first new fs d c.args.name.now n) (NamesAgain old new fs d c.args.name.now n) (StopsEntering T fs first new d) (StopsNaming T fs old new d n) c.enter.result
+      match_then (Enters first new fs d c.args.name.now n) (NamesAgain old new fs d c.args.name.now n) (StopsEntering T fs first new d (entry_of n c.args.name.now)) (StopsNaming T fs old new d c.args.name.now n) c.enter.result
           (λ _ z. (record { middle = v; linked = x.1.1; entered = z.0 }, z.1)) (λ fault r. inr (first, x.1.1, r)) y.1,
     )

@@ -36,7 +36,7 @@ returns-in_err-made-clause-leaves g c = λ inode dir room.
     let edit = edit_at (64 * free.place) bytes [] [] recorded in
     let p = c.in_err-made.ensures.put T refl in (
       record { library = v.library; keeps = (same_stage s p.0).keeps },
-      stops_err _ (StopsNew T fs zeroth first c.args.directory c.args.mode n) c.from_residual.result _ c.from_residual.ensures.1 (
+      stops_err _ (StopsNew T fs zeroth first c.args.directory c.args.name.now c.args.mode n) c.from_residual.result _ c.from_residual.ensures.1 (
         short_told (propose_of T zeroth fs free.block edit)
             (makes_short T fs array zeroth s free c.requires.free c.args.mode bytes c.put_inode.ensures.whole c.empty_inode-inode.ensures.fields recorded (recorded_given zeroth array v.keeps.given recorded index comes)) _ p.1,
         inl (at_home T fs zeroth first n free.block free.place c.requires.free.stands p.0 _ (edit, p.1)),
@@ -71,7 +71,7 @@ returns-in_err-enter-clause-leaves g c = λ inode dir room.
     let new = g.S.Store.state_of c.enter.new.store in
     let inode_made : MadeInode (latest zeroth.lives) (latest first.lives) fs c.args.mode n = record { free = free_none zeroth fs free c.requires.free; made = k.here; others = k.others } in (
       record { library = v.library; keeps = x.0.keeps },
-      stops_err _ (StopsNew T fs zeroth new c.args.directory c.args.mode n) c.from_residual-in_err-enter.result _ c.from_residual-in_err-enter.ensures.1 (x.1.0, inr (first, inode_made, x.1.1)),
+      stops_err _ (StopsNew T fs zeroth new c.args.directory c.args.name.now c.args.mode n) c.from_residual-in_err-enter.result _ c.from_residual-in_err-enter.ensures.1 (x.1.0, inr (first, inode_made, x.1.1)),
     )
 
 pub returns-clause-leaves : goal.returns-clause-leaves

@@ -1,12 +1,14 @@
-use Rattle.std.proofs.Common.{◌∙◌, ◌*◌, [], inl, inr, replicate, subst, sym}
+use Rattle.std.proofs.Common.{◌∙◌, ◌+◌, ◌*◌, ℕ, [], Err, Ok, inl, inr, replicate, subst, sym}
 use Rattle.xn_model.specs.Calls.{propose_of}
 use Rattle.xn_model.specs.Lives.{StoreState}
 use Rattle.ffs_model.specs.Cuts.{latest}
 use Rattle.ffs_model.specs.Library.{library_layout}
 use Rattle.ffs_model.specs.Standing.{StayNamed}
 use Rattle.ffs_lib.specs.Edits.{edit_at}
+use Rattle.ffs_lib.specs.Orders.{Edits, Orders, removed_edits, taken_edits}
 use Rattle.ffs_lib.specs.Replacing.{pair_of}
 use Rattle.ffs_lib.proofs.Laws.{clears, clears_short, fails, may_lose, same_stage, short_told}
+use Rattle.ffs_lib.proofs.Orders.{cleared_taken, none_order, order_err, then_order}
 use Rattle.ffs_lib.proofs.PairLaws.{direct_cleared, pairs_cleared}
 use Rattle.ffs_lib.proofs.TurnLaws.{clear_waits}
 use Rattle.ffs_lib.proofs.volume.Volume.remove.Goals as goal
@@ -73,3 +75,39 @@ returns-clause-pairs g c = λ T array first to a e s comes direct apart x.
     let y = pairs_cleared T fs array old s slot c.requires mid first to a entry c.args.after comes done apart x in
     let direct2 = direct_cleared T fs array old s slot c.requires mid entry c.args.after done (pair_of slot to) direct in
     c.in_ok-take_link.ensures.pairs T array (c.put.ensures.types ∙ e) k.stage (may_lose s c.requires k) first (pair_of slot to) c.args.after direct2 y
+
+pub returns-in_err-cleared-clause-order : goal.returns-in_err-cleared-clause-order
+returns-in_err-cleared-clause-order g c = λ T array e s given.
+    let old = g.S.Store.state_of c.args.store.now in
+    let fs = c.args.self.now.fs.number in
+    let p = c.in_err-cleared.ensures.put T e in
+    none_order T fs (removed_edits (latest old.lives) fs c.args.slot c.args.after old.next) old (g.S.Store.state_of c.put.new.store) p.0 _ c.from_residual.result c.from_residual.ensures.1
+
+pub returns-in_err-take_link-clause-order : goal.returns-in_err-take_link-clause-order
+returns-in_err-take_link-clause-order g c = λ T array e s given.
+    let fs = c.args.self.now.fs.number in
+    let old = g.S.Store.state_of c.args.store.now in
+    let first = g.S.Store.state_of c.put.new.store in
+    let new = g.S.Store.state_of c.take_link.new.store in
+    let slot = c.args.slot in
+    let done = c.in_ok-cleared.ensures.put T e in
+    let k = clears T fs array old s first slot c.requires c.args.after c.in_ok-cleared.cleared done in
+    let o = c.in_err-take_link.ensures.order T array (c.put.ensures.types ∙ e) k.stage (may_lose s c.requires k) in
+    let same = cleared_taken T s.library fs s.few old first s.keeps.consistent slot c.requires c.args.after c.in_ok-cleared.cleared done in
+    order_err T fs (removed_edits (latest old.lives) fs slot c.args.after old.next) old new
+    (then_order {A = ℕ} T fs slot.block (edit_at (32 * slot.place) (replicate 32 0) [] [] c.args.after) (taken_edits (latest old.lives) fs slot.inode old.next (old.next + 1)) old first new c.in_ok-cleared.cleared done (Err c.in_err-take_link.field-0.0)
+    (subst (λ (edits : Edits). Orders {A = ℕ} T fs edits first new (Err c.in_err-take_link.field-0.0)) same o)) _ c.from_residual-in_err-take_link.result c.from_residual-in_err-take_link.ensures.1
+
+pub returns-clause-order : goal.returns-clause-order
+returns-clause-order g c = λ T array e s given.
+    let fs = c.args.self.now.fs.number in
+    let old = g.S.Store.state_of c.args.store.now in
+    let first = g.S.Store.state_of c.put.new.store in
+    let new = g.S.Store.state_of c.take_link.new.store in
+    let slot = c.args.slot in
+    let done = c.in_ok-cleared.ensures.put T e in
+    let k = clears T fs array old s first slot c.requires c.args.after c.in_ok-cleared.cleared done in
+    let o = c.in_ok-take_link.ensures.order T array (c.put.ensures.types ∙ e) k.stage (may_lose s c.requires k) in
+    let same = cleared_taken T s.library fs s.few old first s.keeps.consistent slot c.requires c.args.after c.in_ok-cleared.cleared done in
+    then_order T fs slot.block (edit_at (32 * slot.place) (replicate 32 0) [] [] c.args.after) (taken_edits (latest old.lives) fs slot.inode old.next (old.next + 1)) old first new c.in_ok-cleared.cleared done (Ok c.in_ok-take_link.field-0)
+    (subst (λ (edits : Edits). Orders T fs edits first new (Ok c.in_ok-take_link.field-0)) same o)

@@ -47,9 +47,9 @@ returns-in_err-entered-clause-answers g c =
     let names = both_true (is_name name) (is_name new_name) x.good c.in_ok-slot.ensures.name in
     let found = first_value u x.from name slot x.first in
     does_found T fs.number (renamed (files_of u fs.number) d name other new_name) (moved (files_of u fs.number) d (found.at, slot.inode) other new_name k.0) (renamed_stages (files_of u fs.number) d name other new_name)
-    (stages T lib fs.number fs.few d name other new_name slot old x exact) (λ y. ⊥) (StopsNaming T fs.number old new other slot.inode) old new c.from_residual-in_err-entered.result k.2
+    (stages T lib fs.number fs.few d name other new_name slot old x exact) (λ y. ⊥) (StopsNaming T fs.number old new other new_name slot.inode) old new c.from_residual-in_err-entered.result k.2
     (rename_stages T lib fs.number fs.few d name other new_name slot old x exact names) (λ y none. absurd none) (naming_stage T lib fs.number fs.few d name other new_name slot old x exact new)
-    (stops_err _ (StopsNaming T fs.number old new other slot.inode) c.from_residual-in_err-entered.result _ c.from_residual-in_err-entered.ensures.1 a.1)
+    (stops_err _ (StopsNaming T fs.number old new other new_name slot.inode) c.from_residual-in_err-entered.result _ c.from_residual-in_err-entered.ensures.1 a.1)
 
 pub returns-in_err-entered-clause-inodes : goal.returns-in_err-entered-clause-inodes
 returns-in_err-entered-clause-inodes g c = λ found is.
@@ -70,7 +70,7 @@ returns-in_err-entered-clause-inodes g c = λ found is.
     let a = c.in_err-entered.ensures.ends T array x.own x.to refl s x.is_own x.few x.is_to x.room in
     let new = g.S.Store.state_of c.name_again.new.store in
     let same = same_ok slot found (exact ∙ sym is) in
-    subst (λ (y : Slot). MovedInodes u (latest new.lives) fs.number d other y.inode) same (naming_inodes T fs.number d other slot.inode old new _ a.1.1)
+    subst (λ (y : Slot). MovedInodes u (latest new.lives) fs.number d other y.inode) same (naming_inodes T fs.number d other slot.inode new_name old new _ a.1.1)
 
 pub returns-in_err-entered-clause-keeps : goal.returns-in_err-entered-clause-keeps
 returns-in_err-entered-clause-keeps g c =

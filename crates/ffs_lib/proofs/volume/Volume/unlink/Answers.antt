@@ -1,4 +1,6 @@
-use Rattle.std.proofs.Common.{refl, rules, sym, ◌∙◌}
+use Rattle.ffs_lookup.specs.declared.places.Slot.{Slot}
+use Rattle.ffs_lib.specs.Orders.{Orders, removed_edits}
+use Rattle.std.proofs.Common.{None, subst, refl, rules, sym, ◌∙◌}
 use Rattle.ffs_model.specs.Cuts.{latest}
 use Rattle.ffs_lookup.specs.Newest.{unlink_in}
 use Rattle.ffs_lookup.specs.Files.{unlinked}
@@ -57,3 +59,14 @@ returns-in_err-slot-clause-answers g c =
 
 pub returns-in_err-slot-clause-inodes : goal.returns-in_err-slot-clause-inodes
 returns-in_err-slot-clause-inodes g c = λ entry e. absurd (never entry _ (e ∙ sym (c.in_err-slot.ensures.exact c.requires.library)))
+
+pub returns-clause-order : goal.returns-clause-order
+returns-clause-order g c = λ entry e.
+    let old = g.S.Store.state_of c.args.store.now in
+    let volume = c.args.self.now in
+    let same = same_ok c.in_ok-slot.slot entry (c.in_ok-slot.ensures.exact c.requires.library ∙ sym e) in
+    subst (λ (s : Slot). Orders (g.S.Store.types_of c.args.store.now) volume.fs.number (removed_edits (latest old.lives) volume.fs.number s None old.next) old (g.S.Store.state_of c.remove.new.store) c.remove.result) same
+    (c.remove.ensures.order (g.S.Store.types_of c.args.store.now) (edits_of volume.added) refl (staged c.requires volume.fs.few) refl)
+
+pub returns-in_err-slot-clause-order : goal.returns-in_err-slot-clause-order
+returns-in_err-slot-clause-order g c = λ entry e. absurd (never entry _ (e ∙ sym (c.in_err-slot.ensures.exact c.requires.library)))

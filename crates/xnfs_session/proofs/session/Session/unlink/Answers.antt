@@ -1,7 +1,8 @@
-use Rattle.std.proofs.Common.{◌≡◌, Ok, subst}
+use Rattle.std.proofs.Common.{◌≡◌, None, Ok, subst}
 use Rattle.std.specs.Prelude.{OnErr}
 use Rattle.ffs_lookup.specs.declared.places.Slot.{Slot}
 use Rattle.ffs_lookup.specs.Newest.{unlink_in}
+use Rattle.ffs_lib.specs.Orders.{Orders, removed_edits}
 use Rattle.ffs_lib.specs.Stages.{KeptOrEmptied, Unnames}
 use Rattle.ffs_lib.specs.Steps.{newest_block}
 use Rattle.xnfs_session.proofs.session.Session.unlink.Goals as goal
@@ -11,3 +12,9 @@ returns-clause-inodes g c =
     subst (λ v. (slot : Slot) → Ok slot ≡ unlink_in (newest_block (g.S.Store.state_of v.store)) v.fs c.args.directory c.args.name.now →
     Unnames (newest_block (g.S.Store.state_of v.store)) (newest_block (g.S.Store.state_of c.unlink.new.store)) v.fs c.args.directory slot.inode
     × OnErr c.unlink.result (KeptOrEmptied (newest_block (g.S.Store.state_of v.store)) (newest_block (g.S.Store.state_of c.unlink.new.store)) v.fs slot.inode)) c.self.view_is c.unlink.ensures.inodes
+
+pub returns-clause-order : goal.returns-clause-order
+returns-clause-order g c =
+    subst (λ v. (slot : Slot) → Ok slot ≡ unlink_in (newest_block (g.S.Store.state_of v.store)) v.fs c.args.directory c.args.name.now →
+    Orders (g.S.Store.types_of v.store) v.fs (removed_edits (newest_block (g.S.Store.state_of v.store)) v.fs slot None (g.S.Store.state_of v.store).next) (g.S.Store.state_of v.store) (g.S.Store.state_of c.unlink.new.store) c.unlink.result)
+    c.self.view_is c.unlink.ensures.order

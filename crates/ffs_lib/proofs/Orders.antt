@@ -1,0 +1,174 @@
+-- Which edits a call makes, one after another.
+use Rattle.std.proofs.Common.{◌≡◌, ◌≢◌, ℕ, suc, ◌+◌, ◌-◌, ◌*◌, ◌/◌, ◌%◌, ◌<◌, ◌≤◌, ◌⊎◌, Bool, true, false, List, [], ◌∷◌, length, take, replicate, Option, None, Some, Result, Ok, Err, refl, sym, ◌∙◌, ap, inl, inr, arith, subst, eq-eqb}
+use Rattle.std.specs.Prelude.{IsErrAnd, ◌==◌, ◌||◌, not, nat_lt, if◌then◌else◌}
+use Rattle.std.proofs.lemmas.Bool.{cases_eq, le-ltb, lt-ltb, ne_eqb}
+use Rattle.std.proofs.lemmas.Result.{err_from_is_err_and}
+use Rattle.xn_model.specs.declared.refusal.Refusal.{Refusal}
+use Rattle.xn_model.specs.Types.{Types}
+use Rattle.xn_model.specs.Root.{word_at}
+use Rattle.xn_model.specs.Lives.{Life, StoreState}
+use Rattle.xn_model.specs.Results.{result_and_then, unless}
+use Rattle.xn_model.specs.Calls.{Edit, accepts, edited, own_life, propose_at, propose_of, propose_refusal}
+use Rattle.xn_model.specs.Rules.{IsConsistent}
+use Rattle.ffs_model.specs.Cuts.{Under, latest}
+use Rattle.ffs_model.specs.Library.{IsLibrary, inode_links, library_layout}
+use Rattle.ffs_model.proofs.ForCallers.{library_reads, one_type, proposed_next, proposed_others, under_direct}
+use Rattle.ffs_lookup.specs.declared.fault.FfsFault.{FfsFault}
+use Rattle.ffs_lookup.specs.declared.places.Slot.{Slot}
+use Rattle.ffs_lookup.specs.Places.{IsSlot}
+use Rattle.ffs_lookup.specs.Newest.{inode_block_in, inode_in}
+use Rattle.ffs_lib.specs.Edits.{data_of_pointers, edit_at}
+use Rattle.ffs_lib.specs.Orders.{Edits, Orders, edits_at, free_edit, has_data, inode_edits, links_edit, made_of, pointers_edit, taken_edits}
+use Rattle.ffs_lib.specs.Steps.{Dropped, Proposed, clearing}
+use Rattle.ffs_lib.proofs.Owners.{pointers_at, stands_from}
+use Rattle.ffs_lib.proofs.Same.{block_same, inodes_same}
+use Rattle.ffs_lib.proofs.Same as same
+
+-- the number that the store gives
+pub number_is : (T : Types) (old : StoreState) (fs b : ℕ) (edit : Edit) (entry : ℕ) (new : StoreState) → propose_of T old fs b edit ≡ Ok (entry, new) → entry ≡ old.next
+number_is T old fs b edit entry new done = at (own_life old fs b) done
+  where
+    number : Result (ℕ × StoreState) Refusal → ℕ
+    number (Ok x) = x.0
+    number (Err refusal) = old.next
+
+    by : (refusal : Option Refusal) (x : StoreState) → unless {A = ℕ × StoreState} refusal (Ok (old.next, x)) ≡ Ok (entry, new) → entry ≡ old.next
+    by None x e = sym (ap number e)
+    by (Some refusal) x e = absurd (cc e)
+
+    at : (own : Result Life Refusal) → result_and_then (propose_at T old fs b edit) own ≡ Ok (entry, new) → entry ≡ old.next
+    at (Ok l) e = by (propose_refusal T old fs b edit l) (accepts old b (edited old.next fs edit l)).1 e
+    at (Err refusal) e = absurd (cc e)
+
+-- one edit, and one more at the start; or none
+pub one_order : (T : Types) (fs block : ℕ) (edit : Edit) (old new : StoreState) (result : Result ℕ FfsFault) → Proposed T fs block edit old new result → Orders T fs ((block, edit) ∷ []) old new result
+one_order T fs block edit old new (Ok entry) p = ap (result_and_then (λ done. made_of T fs [] done.1)) p
+one_order T fs block edit old new (Err fault) p = (0, ap (λ (s : StoreState). Ok s) (sym p.0))
+
+pub then_order : {A : Type 0} (T : Types) (fs block : ℕ) (edit : Edit) (rest : Edits) (old first new : StoreState) (entry : ℕ) → propose_of T old fs block edit ≡ Ok (entry, first) → (result : Result A FfsFault) → Orders T fs rest first new result →
+    Orders T fs ((block, edit) ∷ rest) old new result
+then_order T fs block edit rest old first new entry done (Ok x) o = ap (result_and_then (λ y. made_of T fs rest y.1)) done ∙ o
+then_order T fs block edit rest old first new entry done (Err fault) o = (suc o.0, ap (result_and_then (λ y. made_of T fs (take o.0 rest) y.1)) done ∙ o.1)
+
+pub none_order : {A : Type 0} (T : Types) (fs : ℕ) (edits : Edits) (old new : StoreState) → new ≡ old → (fault : FfsFault) (result : Result A FfsFault) → IsErrAnd result (λ other. other ≡ fault) → Orders T fs edits old new result
+none_order {A} T fs edits old new e fault result from =
+    let p = err_from_is_err_and result from in
+    subst (λ (r : Result A FfsFault). Orders T fs edits old new r) (sym p.1) (0, ap (λ (s : StoreState). Ok s) (sym e))
+
+-- a refusal that is handed on
+pub order_err : {B : Type 0} (T : Types) (fs : ℕ) (edits : Edits) (old new : StoreState) → (count : ℕ) × (made_of T fs (take count edits) old ≡ Ok new) → (fault : FfsFault) (result : Result B FfsFault) → IsErrAnd result (λ other. other ≡ fault) →
+    Orders T fs edits old new result
+order_err {B} T fs edits old new o fault result from =
+    let p = err_from_is_err_and result from in
+    subst (λ (r : Result B FfsFault). Orders T fs edits old new r) (sym p.1) o
+
+-- A link is taken
+
+pub taken_is : (content : ℕ → List ℕ) (fs n home place : ℕ) (inode : List ℕ) (after next : ℕ) → Ok home ≡ inode_block_in content fs ((n - 1) / 8) → place ≡ (n - 1) % 8 → Ok inode ≡ inode_in content fs n →
+    inode_edits (content (word_at inode 56)) home place inode after next ≡ taken_edits content fs n after next
+taken_is content fs n home place inode after next e f i =
+    let edits : ℕ → List ℕ → Edits = λ h m. inode_edits (content (word_at m 56)) h ((n - 1) % 8) m after next in
+    ap (λ p. inode_edits (content (word_at inode 56)) home p inode after next) f
+    ∙ (ap (λ r. edits_at r (Ok inode) edits) e ∙ ap (λ r. edits_at (inode_block_in content fs ((n - 1) / 8)) r edits) i)
+
+pub more_links : (pointers : List ℕ) (home place : ℕ) (inode : List ℕ) (after next : ℕ) → 1 < inode_links inode → (home, links_edit place inode (inode_links inode - 1) after) ∷ [] ≡ inode_edits pointers home place inode after next
+more_links pointers home place inode after next more =
+    let rest : Edits = if has_data pointers inode then (word_at inode 56, pointers_edit pointers after) ∷ (home, free_edit place inode next) ∷ [] else (home, free_edit place inode after) ∷ [] in
+    sym (ap (λ (t : Bool). if t then (home, links_edit place inode (inode_links inode - 1) after) ∷ [] else rest) (lt-ltb 1 (inode_links inode) more))
+
+last_link : (pointers : List ℕ) (home place : ℕ) (inode : List ℕ) (after next : ℕ) (t : Bool) → inode_links inode ≤ 1 → has_data pointers inode ≡ t →
+    (if t then (word_at inode 56, pointers_edit pointers after) ∷ (home, free_edit place inode next) ∷ [] else (home, free_edit place inode after) ∷ []) ≡ inode_edits pointers home place inode after next
+last_link pointers home place inode after next t few e =
+    sym (ap (λ (u : Bool). if u then (home, links_edit place inode (inode_links inode - 1) after) ∷ []
+    else if has_data pointers inode then (word_at inode 56, pointers_edit pointers after) ∷ (home, free_edit place inode next) ∷ [] else (home, free_edit place inode after) ∷ []) (le-ltb 1 (inode_links inode) few)
+    ∙ ap (λ (u : Bool). if u then (word_at inode 56, pointers_edit pointers after) ∷ (home, free_edit place inode next) ∷ [] else (home, free_edit place inode after) ∷ []) e)
+
+nothing_there : (block : ℕ) (numbers : List ℕ) → (block ≡ 0) ⊎ (numbers ≡ []) → not ((block == 0) || (length numbers == 0)) ≡ false
+nothing_there block numbers (inl e) = ap (λ (t : Bool). not (t || (length numbers == 0))) (eq-eqb block 0 e)
+nothing_there block numbers (inr e) = go (block == 0)
+  where
+    go : (t : Bool) → not (t || (length numbers == 0)) ≡ false
+    go true = refl
+    go false = ap (λ (xs : List ℕ). not (length xs == 0)) e
+
+some_there : (block : ℕ) (numbers : List ℕ) → block ≢ 0 → numbers ≢ [] → not ((block == 0) || (length numbers == 0)) ≡ true
+some_there block [] there some = absurd (some refl)
+some_there block (x ∷ xs) there some = ap (λ (t : Bool). not (t || (length (x ∷ xs) == 0))) (ne_eqb block 0 there) ∙ ap not (ne_eqb (length (x ∷ xs)) 0 (λ z. omega (arith, z)))
+
+-- with the last one the inode is freed, after its block of pointers
+pub last_order : (T : Types) (fs home place : ℕ) (inode : List ℕ) (after dropped : ℕ) (old first new : StoreState) → inode_links inode ≤ 1 → Dropped T fs (word_at inode 56) after old first (Ok dropped) → (result : Result ℕ FfsFault) →
+    Proposed T fs home (free_edit place inode dropped) first new result → Orders T fs (inode_edits (latest old.lives (word_at inode 56)) home place inode after old.next) old new result
+last_order T fs home place inode after dropped old first new few (inl x) result put =
+    let m = latest old.lives (word_at inode 56) in
+    subst (λ (edits : Edits). Orders T fs edits old new result) (last_link m home place inode after old.next false few (nothing_there (word_at inode 56) (data_of_pointers m) x.2))
+    (one_order T fs home (free_edit place inode after) old new result (subst (λ (s : StoreState). Proposed T fs home (free_edit place inode after) s new result) x.0 (subst (λ (e : ℕ). Proposed T fs home (free_edit place inode e) first new result) x.1 put)))
+last_order T fs home place inode after dropped old first new few (inr x) result put =
+    let m = latest old.lives (word_at inode 56) in
+    let given = number_is T old fs (word_at inode 56) (clearing old (word_at inode 56) after) dropped first x.2 in
+    subst (λ (edits : Edits). Orders T fs edits old new result) (last_link m home place inode after old.next true few (some_there (word_at inode 56) (data_of_pointers m) x.0 x.3))
+    (then_order T fs (word_at inode 56) (pointers_edit m after) ((home, free_edit place inode old.next) ∷ []) old first new dropped x.2 result
+    (one_order T fs home (free_edit place inode old.next) first new result (subst (λ (e : ℕ). Proposed T fs home (free_edit place inode e) first new result) given put)))
+
+-- the blocks of inodes stay where that block is emptied
+pub home_kept : (T : Types) → IsLibrary T → (fs : ℕ) → fs < 32 → (old first : StoreState) → IsConsistent T old → (block after dropped : ℕ) → (block ≢ 0 → Under T (latest old.lives) fs block 5) → Dropped T fs block after old first (Ok dropped) → (j : ℕ) →
+    inode_block_in (latest first.lives) fs j ≡ inode_block_in (latest old.lives) fs j
+home_kept T lib fs few old first h block after dropped at (inl x) j = ap (λ (s : StoreState). inode_block_in (latest s.lives) fs j) x.0
+home_kept T lib fs few old first h block after dropped at (inr x) j =
+    block_same T lib (latest old.lives) (latest first.lives) fs block 5 (same.edited T old first h fs few block 5 (clearing old block after) dropped x.2 (at x.0)) (λ z. omega (arith, z)) j
+
+pub taken_last : (T : Types) (lib : IsLibrary T) (fs : ℕ) (few : fs < 32) (old first new : StoreState) (h : IsConsistent T old) (n : ℕ) (inode : List ℕ) → Ok inode ≡ inode_in (latest old.lives) fs n → inode_links inode ≤ 1 → (block : ℕ) → word_at inode 56 ≡ block → (after dropped : ℕ) →
+    (block ≢ 0 → Under T (latest old.lives) fs block 5) → Dropped T fs block after old first (Ok dropped) → (home place : ℕ) → Ok home ≡ inode_block_in (latest first.lives) fs ((n - 1) / 8) → place ≡ (n - 1) % 8 → (result : Result ℕ FfsFault) →
+    Proposed T fs home (free_edit place inode dropped) first new result → Orders T fs (taken_edits (latest old.lives) fs n after old.next) old new result
+taken_last T lib fs few old first new h n inode exact one block points after dropped under put home place at here result done =
+    subst (λ (edits : Edits). Orders T fs edits old new result)
+    (taken_is (latest old.lives) fs n home place inode after old.next (at ∙ home_kept T lib fs few old first h block after dropped under put ((n - 1) / 8)) here exact)
+    (last_order T fs home place inode after dropped old first new one (subst (λ (b : ℕ). Dropped T fs b after old first (Ok dropped)) (sym points) put) result done)
+
+-- An entry is cleared before that
+
+-- the same of contents with the same block of pointers
+edits_same : (u v : List ℕ) (home place : ℕ) (inode : List ℕ) (after next : ℕ) → (word_at inode 56 ≢ 0 → u ≡ v) → inode_edits u home place inode after next ≡ inode_edits v home place inode after next
+edits_same u v home place inode after next same = elim (cases_eq (word_at inode 56) 0) [
+  | inl z ↦ all (nothing_there (word_at inode 56) (data_of_pointers u) (inl z)) (nothing_there (word_at inode 56) (data_of_pointers v) (inl z))
+  | inr ne ↦ ap (λ (m : List ℕ). inode_edits m home place inode after next) (same ne)
+]
+  where
+    all : has_data u inode ≡ false → has_data v inode ≡ false → inode_edits u home place inode after next ≡ inode_edits v home place inode after next
+    all e f = ap (λ (t : Bool). if nat_lt 1 (inode_links inode) then (home, links_edit place inode (inode_links inode - 1) after) ∷ []
+        else if t then (word_at inode 56, pointers_edit u after) ∷ (home, free_edit place inode next) ∷ [] else (home, free_edit place inode after) ∷ []) e
+        ∙ sym (ap (λ (t : Bool). if nat_lt 1 (inode_links inode) then (home, links_edit place inode (inode_links inode - 1) after) ∷ []
+        else if t then (word_at inode 56, pointers_edit v after) ∷ (home, free_edit place inode next) ∷ [] else (home, free_edit place inode after) ∷ []) f)
+
+pub taken_same : (v w : ℕ → List ℕ) (fs n after next : ℕ) → inode_block_in w fs ((n - 1) / 8) ≡ inode_block_in v fs ((n - 1) / 8) → inode_in w fs n ≡ inode_in v fs n → ((inode : List ℕ) → Ok inode ≡ inode_in v fs n → word_at inode 56 ≢ 0 → w (word_at inode 56) ≡ v (word_at inode 56)) →
+    taken_edits w fs n after next ≡ taken_edits v fs n after next
+taken_same v w fs n after next home own pointers =
+    let edits : ℕ → List ℕ → Edits = λ h m. inode_edits (w (word_at m 56)) h ((n - 1) % 8) m after next in
+    ap (λ r. edits_at r (inode_in w fs n) edits) home
+    ∙ (ap (λ r. edits_at (inode_block_in v fs ((n - 1) / 8)) r edits) own ∙ go (inode_block_in v fs ((n - 1) / 8)) (inode_in v fs n) refl)
+  where
+    go : (a : Result ℕ FfsFault) (b : Result (List ℕ) FfsFault) → inode_in v fs n ≡ b → edits_at a b (λ h m. inode_edits (w (word_at m 56)) h ((n - 1) % 8) m after next) ≡ edits_at a b (λ h m. inode_edits (v (word_at m 56)) h ((n - 1) % 8) m after next)
+    go (Ok h) (Ok m) e = edits_same (w (word_at m 56)) (v (word_at m 56)) h ((n - 1) % 8) m after next (pointers m (sym e))
+    go (Ok h) (Err fault) e = refl
+    go (Err fault) (Ok m) e = refl
+    go (Err fault) (Err other) e = refl
+
+-- What the edits are that take a link is known before the entry is cleared.
+pub cleared_taken : (T : Types) (lib : IsLibrary T) (fs : ℕ) (few : fs < 32) (old first : StoreState) (h : IsConsistent T old) (slot : Slot) → IsSlot old fs slot → (after : Option ℕ) (entry : ℕ) →
+    propose_of T old fs slot.block (edit_at (32 * slot.place) (replicate 32 0) [] [] after) ≡ Ok (entry, first) → taken_edits (latest first.lives) fs slot.inode entry first.next ≡ taken_edits (latest old.lives) fs slot.inode old.next (old.next + 1)
+cleared_taken T lib fs few old first h slot is after entry done =
+    let n = slot.inode in
+    let edit = edit_at (32 * slot.place) (replicate 32 0) [] [] after in
+    let r = is.names in
+    let under = under_direct T library_layout (library_reads T lib) (latest old.lives) fs r.index r.block r.place slot.block r.inodes r.has in
+    let t = same.edited T old first h fs few slot.block 2 edit entry done under in
+    ap (λ (e : ℕ). taken_edits (latest first.lives) fs n e first.next) (number_is T old fs slot.block edit entry first done)
+    ∙ (ap (taken_edits (latest first.lives) fs n old.next) (proposed_next T old first fs slot.block edit entry done)
+    ∙ taken_same (latest old.lives) (latest first.lives) fs n old.next (old.next + 1) (block_same T lib (latest old.lives) (latest first.lives) fs slot.block 2 t (λ z. omega (arith, z)) ((n - 1) / 8))
+    (inodes_same T lib (latest old.lives) (latest first.lives) fs slot.block 2 t (λ z. omega (arith, z)) (λ z. omega (arith, z)) n)
+    (λ inode i there. proposed_others T old first h fs slot.block edit entry done (word_at inode 56) (λ z. apart inode i there (sym z) under)))
+  where
+    apart : (inode : List ℕ) → Ok inode ≡ inode_in (latest old.lives) fs slot.inode → word_at inode 56 ≢ 0 → slot.block ≡ word_at inode 56 → Under T (latest old.lives) fs slot.block 2 → ⊥
+    apart inode i there z under =
+        let at = pointers_at T lib old h fs few slot.inode inode (stands_from (latest old.lives) fs slot.inode inode i) (word_at inode 56) refl there in
+        let clash : ◌≡◌ {A = ℕ} 5 2 = one_type T old h fs (word_at inode 56) 5 2 few at (subst (λ (b : ℕ). Under T (latest old.lives) fs b 2) z under) in
+        omega (arith, clash)
