@@ -501,7 +501,8 @@ fn print_tally(rt: &impl Print, tally: Tally) -> io::Result<()> {
         "{done} done, {faults} faults, {refused} refused, {installed} templates installed"
     )?;
     println!(rt;
-        "{crashes} crashes, {untyped} before the library's types were on the disk, {device_faults} failed writes, {failed_syncs} failed syncs, {kept_writes} of {open_writes} open writes kept"
+        "{crashes} crashes, {untyped} before the library's types were on the disk, {device_faults} failed writes, \
+         {failed_syncs} failed syncs, {kept_writes} of {open_writes} open writes kept"
     )?;
     println!(rt; "{wrong} wrong, {unsound} unsound")
 }

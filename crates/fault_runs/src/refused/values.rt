@@ -1,5 +1,7 @@
 // Values that take memory to make. Each is made twice: want of memory in one of both is all that may keep it from being right.
 
+ghost use Rattle.std.specs.Prelude.{◌<◌};
+
 use crate::refused::clients::is_answered;
 use crate::refused::disks::{has_state, is_checked, is_joined, is_mounted};
 use crate::refused::tally::Miss;
@@ -39,7 +41,9 @@ fn is_verified(alloc: Global) -> Result<bool, Miss> {
 }
 
 /// Whether a template that is built in is read from the block that spells it, which begins with these bytes.
-fn is_built_in(alloc: Global, ty: u32, head: &[u8]) -> Result<bool, Miss> {
+fn is_built_in(alloc: Global, ty: u32, head: &[u8]) -> Result<bool, Miss>
+    requires { ty < 3 }
+{
     let template = builtin(alloc, ty).map_err(|_| Miss::NoMemory)?;
     let block = write_block(&template);
     let again = read_block(alloc, &block).map_err(|fault| Miss::of(
