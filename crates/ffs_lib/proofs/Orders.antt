@@ -1,9 +1,11 @@
 -- Which edits a call makes, one after another.
 use Rattle.std.proofs.Common.{◌≡◌, ◌≢◌, ℕ, suc, ◌+◌, ◌-◌, ◌*◌, ◌/◌, ◌%◌, ◌<◌, ◌≤◌, ◌⊎◌, Bool, true, false, List, [], ◌∷◌, length, take, replicate, Option, None, Some, Result, Ok, Err, refl, sym, ◌∙◌, ap, inl, inr, arith, subst, eq-eqb}
-use Rattle.std.specs.Prelude.{IsErrAnd, ◌==◌, ◌||◌, not, nat_lt, if◌then◌else◌}
+use Rattle.std.specs.Prelude.{IfOk, IsErrAnd, ◌==◌, ◌||◌, not, nat_lt, if◌then◌else◌}
 use Rattle.std.proofs.lemmas.Bool.{cases_eq, le-ltb, lt-ltb, ne_eqb}
 use Rattle.std.proofs.lemmas.Result.{err_from_is_err_and}
 use Rattle.xn_model.specs.declared.refusal.Refusal.{Refusal}
+use Rattle.std.specs.Int.{w16, to_le_bytes}
+use Rattle.xn_model.specs.Lists.{put}
 use Rattle.xn_model.specs.Types.{Types}
 use Rattle.xn_model.specs.Root.{word_at}
 use Rattle.xn_model.specs.Lives.{Life, StoreState}
@@ -18,7 +20,7 @@ use Rattle.ffs_lookup.specs.declared.places.Slot.{Slot}
 use Rattle.ffs_lookup.specs.Places.{IsSlot}
 use Rattle.ffs_lookup.specs.Newest.{inode_block_in, inode_in}
 use Rattle.ffs_lib.specs.Edits.{data_of_pointers, edit_at}
-use Rattle.ffs_lib.specs.Orders.{Edits, Orders, edits_at, free_edit, has_data, inode_edits, links_edit, made_of, pointers_edit, taken_edits}
+use Rattle.ffs_lib.specs.Orders.{Edits, InOrder, Numbered, Orders, Parts, StopsIn, edits_at, free_edit, has_data, inode_edits, linked_edits, links_edit, made_by, made_of, pointers_edit, removed_edits, replaced_parts, taken_edits, turned_edits}
 use Rattle.ffs_lib.specs.Steps.{Dropped, Proposed, clearing}
 use Rattle.ffs_lib.proofs.Owners.{pointers_at, stands_from}
 use Rattle.ffs_lib.proofs.Same.{block_same, inodes_same}
@@ -172,3 +174,39 @@ cleared_taken T lib fs few old first h slot is after entry done =
         let at = pointers_at T lib old h fs few slot.inode inode (stands_from (latest old.lives) fs slot.inode inode i) (word_at inode 56) refl there in
         let clash : ◌≡◌ {A = ℕ} 5 2 = one_type T old h fs (word_at inode 56) 5 2 few at (subst (λ (b : ℕ). Under T (latest old.lives) fs b 2) z under) in
         omega (arith, clash)
+
+-- Edits that add a link, or turn an entry
+
+pub numbered : (T : Types) (fs block : ℕ) (edit : Edit) (old new : StoreState) (result : Result ℕ FfsFault) → Proposed T fs block edit old new result → IfOk result (Numbered old new)
+numbered T fs block edit old new (Ok entry) p = (number_is T old fs block edit entry new p, proposed_next T old new fs block edit entry p)
+numbered T fs block edit old new (Err fault) p = tt
+
+pub linked_is : (content : ℕ → List ℕ) (fs n home place : ℕ) (inode bytes : List ℕ) → Ok home ≡ inode_block_in content fs ((n - 1) / 8) → place ≡ (n - 1) % 8 → Ok inode ≡ inode_in content fs n → bytes ≡ put inode 2 (to_le_bytes w16 (inode_links inode + 1)) →
+    (home, edit_at (64 * place) bytes [] [] None) ∷ [] ≡ linked_edits content fs n
+linked_is content fs n home place inode bytes e f i is =
+    let edits : ℕ → List ℕ → Edits = λ h m. (h, edit_at (64 * ((n - 1) % 8)) (put m 2 (to_le_bytes w16 (inode_links m + 1))) [] [] None) ∷ [] in
+    ap (λ (b : List ℕ). (home, edit_at (64 * place) b [] [] None) ∷ []) is
+    ∙ (ap (λ p. (home, edit_at (64 * p) (put inode 2 (to_le_bytes w16 (inode_links inode + 1))) [] [] None) ∷ []) f
+    ∙ (ap (λ r. edits_at r (Ok inode) edits) e ∙ ap (λ r. edits_at (inode_block_in content fs ((n - 1) / 8)) r edits) i))
+
+-- Parts
+
+pub part_done : {A : Type 0} (T : Types) (fs : ℕ) (part : StoreState → Edits) (rest : Parts) (old middle new : StoreState) (result : Result A FfsFault) → made_of T fs (part old) old ≡ Ok middle → InOrder T fs rest middle new result → InOrder T fs (part ∷ rest) old new result
+part_done T fs part rest old middle new (Ok x) e o = ap (result_and_then (made_by T fs rest)) e ∙ o
+part_done T fs part rest old middle new (Err fault) e o = inr (middle, e, o)
+
+pub order_in : {A : Type 0} (T : Types) (fs : ℕ) (parts : Parts) (old new : StoreState) → StopsIn T fs parts old new → (fault : FfsFault) (result : Result A FfsFault) → IsErrAnd result (λ other. other ≡ fault) → InOrder T fs parts old new result
+order_in {A} T fs parts old new o fault result from =
+    let p = err_from_is_err_and result from in
+    subst (λ (r : Result A FfsFault). InOrder T fs parts old new r) (sym p.1) o
+
+-- all parts of a `replace`
+pub all_parts : (T : Types) (fs : ℕ) (from to : Slot) (old first second third new : StoreState) → made_of T fs (linked_edits (latest old.lives) fs from.inode) old ≡ Ok first → made_of T fs (turned_edits to from.inode old.next) first ≡ Ok second →
+    made_of T fs (removed_edits (latest second.lives) fs from (Some (old.next + 1)) second.next) second ≡ Ok third → made_of T fs (taken_edits (latest third.lives) fs to.inode (old.next + 1) third.next) third ≡ Ok new →
+    made_by T fs (replaced_parts fs from to old.next) old ≡ Ok new
+all_parts T fs from to old first second third new a b c d =
+    let one : StoreState → Edits = λ s. taken_edits (latest s.lives) fs to.inode (old.next + 1) s.next in
+    let two : StoreState → Edits = λ s. removed_edits (latest s.lives) fs from (Some (old.next + 1)) s.next in
+    let three : StoreState → Edits = λ s. turned_edits to from.inode old.next in
+    ap (result_and_then (made_by T fs (three ∷ two ∷ one ∷ []))) a ∙ (ap (result_and_then (made_by T fs (two ∷ one ∷ []))) b
+    ∙ (ap (result_and_then (made_by T fs (one ∷ []))) c ∙ ap (result_and_then (made_by T fs [])) d))

@@ -7,7 +7,10 @@
 --     inode_edits        a link is taken from an inode, which is freed with its last one, and before that its block of pointers emptied
 --     taken_edits        so it is of an inode by its number
 --     removed_edits      an entry is cleared, and then a link taken from the inode that it names
-use Rattle.std.specs.Prelude.{◌≡◌, ℕ, ◌+◌, ◌-◌, ◌*◌, ◌/◌, ◌%◌, ◌==◌, ◌||◌, not, nat_lt, Bool, List, [], ◌∷◌, length, take, replicate, Option, Some, Result, Ok}
+--     Parts, made_by, StopsIn, InOrder    parts of edits, each of the state where it begins, and the same of these
+--     Numbered           one edit was made, and got a number
+--     linked_edits, turned_edits, replaced_parts    a link is added; an entry names another inode; `replace` of one file by another
+use Rattle.std.specs.Prelude.{◌≡◌, ◌⊎◌, ℕ, ◌+◌, ◌-◌, ◌*◌, ◌/◌, ◌%◌, ◌==◌, ◌||◌, not, nat_lt, Bool, List, [], ◌∷◌, length, take, replicate, Option, None, Some, Result, Ok}
 use Rattle.std.specs.Prelude.{MatchResult, if◌then◌else◌}
 use Rattle.std.specs.Int.{w16, to_le_bytes}
 use Rattle.xn_model.specs.declared.refusal.Refusal.{Refusal}
@@ -22,6 +25,7 @@ use Rattle.ffs_lookup.specs.declared.fault.FfsFault.{FfsFault}
 use Rattle.ffs_lookup.specs.declared.places.Slot.{Slot}
 use Rattle.ffs_lookup.specs.Newest.{inode_block_in, inode_in}
 use Rattle.ffs_lib.specs.Edits.{data_of_inode, data_of_pointers, edit_at}
+use Rattle.ffs_lib.specs.Steps.{newest_block}
 
 abbrev pub Edits : Type 0
 Edits = List (ℕ × Edit)
@@ -70,3 +74,45 @@ taken_edits content fs n after next =
 -- `unlink` and `rmdir` come after no edit
 abbrev pub removed_edits : (ℕ → List ℕ) → ℕ → Slot → Option ℕ → ℕ → Edits
 removed_edits content fs slot after next = clear_edit slot after ∷ taken_edits content fs slot.inode next (next + 1)
+
+-- Edits that depend on the newest_block bytes where they begin
+
+abbrev pub Parts : Type 0
+Parts = List (StoreState → List (ℕ × Edit))
+
+abbrev pub made_by : Types → ℕ → Parts → StoreState → Result StoreState Refusal
+made_by T fs [] state = Ok state
+made_by T fs (first ∷ rest) state = result_and_then (made_by T fs rest) (made_of T fs (first state) state)
+
+-- the first parts, and of the next one the first edits
+abbrev pub StopsIn : Types → ℕ → Parts → StoreState → StoreState → Type 0
+StopsIn T fs [] old new = ⊥
+StopsIn T fs (first ∷ rest) old new =
+    ((count : ℕ) × (made_of T fs (take count (first old)) old ≡ Ok new))
+    ⊎ ((middle : StoreState) × (made_of T fs (first old) old ≡ Ok middle) × StopsIn T fs rest middle new)
+
+abbrev pub InOrder : {A : Type 0} → Types → ℕ → Parts → StoreState → StoreState → Result A FfsFault → Type 0
+InOrder T fs parts old new result = MatchResult result (λ x. made_by T fs parts old ≡ Ok new) (λ fault. StopsIn T fs parts old new)
+
+-- one edit was made, and got this number
+abbrev pub Numbered : StoreState → StoreState → ℕ → Type 0
+Numbered old new entry = (entry ≡ old.next) × (new.next ≡ old.next + 1)
+
+-- a link is added
+abbrev pub linked_edits : (ℕ → List ℕ) → ℕ → ℕ → Edits
+linked_edits content fs n =
+    edits_at (inode_block_in content fs ((n - 1) / 8)) (inode_in content fs n) (λ home inode.
+    (home, edit_at (64 * ((n - 1) % 8)) (put inode 2 (to_le_bytes w16 (inode_links inode + 1))) [] [] None) ∷ [])
+
+-- an entry names another inode
+abbrev pub turned_edits : Slot → ℕ → ℕ → Edits
+turned_edits slot n after = (slot.block, edit_at (32 * slot.place) (to_le_bytes w16 n) [] [] (Some after)) ∷ []
+
+-- `replace` of one file by another, from the store's next number on
+abbrev pub replaced_parts : ℕ → Slot → Slot → ℕ → Parts
+replaced_parts fs from to next =
+    (λ state. linked_edits (newest_block state) fs from.inode)
+    ∷ (λ state. turned_edits to from.inode next)
+    ∷ (λ state. removed_edits (newest_block state) fs from (Some (next + 1)) state.next)
+    ∷ (λ state. taken_edits (newest_block state) fs to.inode (next + 1) state.next)
+    ∷ []

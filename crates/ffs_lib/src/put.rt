@@ -9,7 +9,7 @@ ghost use Rattle.ffs_model.specs.Library.{inode_links};
 ghost use Rattle.xn_model.specs.Types.{Types};
 ghost use Rattle.ffs_model.specs.Cuts.{Under};
 ghost use Rattle.ffs_lib.specs.Edits.{edit_at};
-ghost use Rattle.ffs_lib.specs.Orders.{Orders, taken_edits};
+ghost use Rattle.ffs_lib.specs.Orders.{Numbered, Orders, linked_edits, taken_edits};
 ghost use Rattle.ffs_lib.specs.Replacing.{KeepsPairs};
 ghost use Rattle.ffs_lib.specs.Steps.{AddsLink, Attached, Dropped, Ends, Enters, IsEntry, MayLose, MayName, Proposed, Stage, StopsAtHome, StopsEntering};
 ghost use Rattle.ffs_lib.specs.Steps.{StopsTaking, TakesLink, newest_block};
@@ -314,6 +314,10 @@ pub fn add_link<S: Store>(
         Ends T fs.number array (S.state_of store.new) result
         (λ e. MayName (S.state_of store.new) fs.number number e × AddsLink (newest_block (S.state_of store.old)) (newest_block (S.state_of store.new)) fs.number number)
         (StopsAtHome T fs.number (S.state_of store.old) (S.state_of store.new) number) }
+    ensures order { (T : Types) (array : ℕ → Option ℕ) (inode : List ℕ) → S.types_of store.old ≡ T → Stage T fs.number array (S.state_of store.old) →
+        Ok inode ≡ inode_in (newest_block (S.state_of store.old)) fs.number number → inode_links inode ≢ 65535 →
+        Orders T fs.number (linked_edits (newest_block (S.state_of store.old)) fs.number number) (S.state_of store.old) (S.state_of store.new) result
+        × IfOk result (Numbered (S.state_of store.old) (S.state_of store.new)) }
     ensures pairs { (T : Types) (array : ℕ → Option ℕ) → S.types_of store.old ≡ T → Stage T fs.number array (S.state_of store.old) →
         KeepsPairs fs.number (S.state_of store.old) (S.state_of store.new) }
 {

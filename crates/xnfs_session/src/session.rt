@@ -1,6 +1,6 @@
 // A store with its open volume.
 
-ghost use Rattle.std.specs.Prelude.{◌≡◌, ◌<◌, ◌≤◌, ◌+◌, ◌⊎◌, ℕ, List, [], is_some, length, map, IfOk, IsOk, MatchResult, None, OnErr, OnOk, Ok, Err};
+ghost use Rattle.std.specs.Prelude.{◌≡◌, ◌≢◌, ◌<◌, ◌≤◌, ◌+◌, ◌⊎◌, ℕ, List, [], is_some, length, map, IfOk, IsOk, MatchResult, None, OnErr, OnOk, Ok, Err};
 ghost use Rattle.ffs_model.specs.Cuts.{latest};
 ghost use Rattle.ffs_model.specs.Library.{IsLibrary};
 ghost use Rattle.ffs_lookup.specs.Newest.{inode_in, mapped, named_in, rename_in, rmdir_in, unlink_in, write_in};
@@ -9,9 +9,9 @@ ghost use Rattle.ffs_lookup.specs.Files.{Files, created, listed, new_directory, 
 ghost use Rattle.ffs_lookup.specs.FileValues.{files_of};
 ghost use Rattle.ffs_lookup.specs.Counts.{if_idle};
 ghost use Rattle.ffs_lookup.specs.Repairs.{idle_in, repair_at};
-ghost use Rattle.ffs_lib.specs.Orders.{Orders, removed_edits};
+ghost use Rattle.ffs_lib.specs.Orders.{InOrder, Orders, removed_edits, replaced_parts};
 ghost use Rattle.ffs_lib.specs.Reclaiming.{LeftByRepair, needs, reclaimed, reclaimed_stages};
-ghost use Rattle.ffs_lib.specs.Replacing.{Replaced, replace_in};
+ghost use Rattle.ffs_lib.specs.Replacing.{NamesStand, Replaced, replace_in};
 ghost use Rattle.ffs_lib.specs.Results.{MovedInodes};
 ghost use Rattle.ffs_lib.specs.Stages.{Does, KeptOrEmptied, Makes, OnlyMade, Unnames, created_stages, removed_stages, renamed_stages, replaced_stages};
 ghost use Rattle.ffs_lib.specs.Steps.{newest_block};
@@ -357,6 +357,13 @@ impl<S: FlushStore + Drop> Session<S> {
         ensures inodes { (from to : Slot) →
             Ok (from, to) ≡ replace_in (newest_block (S.state_of self.old.store)) self.old.fs directory name.now other other_name.now →
             Replaced (S.state_of self.old.store) (S.state_of self.new.store) self.old.fs directory from other to result }
+        ensures stands { (from to : Slot) →
+            Ok (from, to) ≡ replace_in (newest_block (S.state_of self.old.store)) self.old.fs directory name.now other other_name.now →
+            from.inode ≢ to.inode → NamesStand (S.state_of self.old.store) (S.state_of self.new.store) from to }
+        ensures order { (from to : Slot) →
+            Ok (from, to) ≡ replace_in (newest_block (S.state_of self.old.store)) self.old.fs directory name.now other other_name.now →
+            from.inode ≢ to.inode → InOrder (S.types_of self.old.store) self.old.fs (replaced_parts self.old.fs from to (S.state_of self.old.store).next)
+            (S.state_of self.old.store) (S.state_of self.new.store) result }
     {
         self.volume
             .replace(alloc, &mut self.store, directory, name, other, other_name)

@@ -6,6 +6,7 @@ ghost use Rattle.ffs_model.specs.Standing.{StayNamed};
 ghost use Rattle.ffs_lookup.specs.Newest.{first_named, mapped, named_in};
 ghost use Rattle.ffs_lookup.specs.Places.{IsDirectory, IsSlot};
 ghost use Rattle.ffs_lookup.specs.declared.places.Slot.{Slot};
+ghost use Rattle.ffs_lib.specs.Orders.{InOrder, Numbered, Orders, replaced_parts, turned_edits};
 ghost use Rattle.ffs_lib.specs.Replacing.{NamesStand, Replaced, ReplacedInodes, Turned, directories_in, files_in, pair_of, replace_in};
 ghost use Rattle.ffs_lookup.specs.Files.{replaced};
 ghost use Rattle.ffs_lookup.specs.FileValues.{files_of};
@@ -125,6 +126,10 @@ impl Volume {
         ensures stands { (from to : Slot) →
             Ok (from, to) ≡ replace_in (newest_block (S.state_of store.old)) self.now.fs.number directory name.now other other_name.now →
             from.inode ≢ to.inode → NamesStand (S.state_of store.old) (S.state_of store.new) from to }
+        ensures order { (from to : Slot) →
+            Ok (from, to) ≡ replace_in (newest_block (S.state_of store.old)) self.now.fs.number directory name.now other other_name.now →
+            from.inode ≢ to.inode → InOrder (S.types_of store.old) self.now.fs.number (replaced_parts self.now.fs.number from to (S.state_of store.old).next)
+            (S.state_of store.old) (S.state_of store.new) result }
     {
         let (from, to) = look_up_replace(store, self.fs, directory, name, other, other_name)?;
         if is_same_place(from, to) {
@@ -159,7 +164,9 @@ impl Volume {
             × Does (S.types_of store.old) self.now.fs.number (replaced files directory name.now other other_name.now)
             (replaced_stages files directory name.now other other_name.now) (S.state_of store.old) (S.state_of store.new) result
             × (ReplacedInodes (newest_block (S.state_of store.old)) (newest_block (S.state_of store.new)) self.now.fs.number directory from other to
-            × OnErr result (KeptOrEmptied (newest_block (S.state_of store.old)) (newest_block (S.state_of store.new)) self.now.fs.number to.inode)) }
+            × OnErr result (KeptOrEmptied (newest_block (S.state_of store.old)) (newest_block (S.state_of store.new)) self.now.fs.number to.inode))
+            × InOrder (S.types_of store.old) self.now.fs.number (replaced_parts self.now.fs.number from to (S.state_of store.old).next)
+            (S.state_of store.old) (S.state_of store.new) result }
     {
         let linked = add_link(alloc, store, self.fs, from.inode)?;
         let turned = self.turn(alloc, store, other, other_name, from.inode, linked)?;
@@ -186,6 +193,10 @@ impl Volume {
             (λ e. Turned (newest_block (S.state_of store.old)) (newest_block (S.state_of store.new)) self.now.fs.number slot inode
             × MayLose (S.state_of store.new) self.now.fs.number slot.inode e)
             (λ fault. (S.state_of store.new ≡ S.state_of store.old) × Wants T (S.state_of store.old) self.now.fs.number slot.block fault) }
+        ensures order { (T : Types) (array : ℕ → Option ℕ) (slot : Slot) → S.types_of store.old ≡ T → Stage T self.now.fs.number array (S.state_of store.old) →
+            Ok slot ≡ named_in (newest_block (S.state_of store.old)) self.now.fs.number directory name.now →
+            Orders T self.now.fs.number (turned_edits slot inode after) (S.state_of store.old) (S.state_of store.new) result
+            × IfOk result (Numbered (S.state_of store.old) (S.state_of store.new)) }
         ensures pairs { (T : Types) (array : ℕ → Option ℕ) (first : Lives) (from slot : Slot) → S.types_of store.old ≡ T →
             Stage T self.now.fs.number array (S.state_of store.old) → Ok slot ≡ named_in (newest_block (S.state_of store.old)) self.now.fs.number directory name.now →
             from.inode ≡ inode → StayNamed library_layout first (S.state_of store.old).lives (pair_of from slot) None →

@@ -5,6 +5,7 @@ use Rattle.ffs_lookup.proofs.ForCallers.{same_ok}
 use Rattle.ffs_lookup.specs.declared.places.Slot.{Slot}
 use Rattle.ffs_lookup.specs.Files.{replaced}
 use Rattle.ffs_lookup.specs.FileValues.{files_of}
+use Rattle.ffs_lib.specs.Orders.{InOrder, replaced_parts}
 use Rattle.ffs_lib.specs.Replacing.{NamesStand, Replaced, replace_in}
 use Rattle.ffs_lib.specs.Stages.{replaced_stages}
 use Rattle.ffs_lib.specs.Volumes.{edits_of}
@@ -160,3 +161,24 @@ returns-clause-stands g c = λ from to is apart.
     let old = g.S.Store.state_of c.args.store.now in
     let pair : (c.in_ok-from.from, c.in_ok-from.to) ≡ (from, to) = same_ok (c.in_ok-from.from, c.in_ok-from.to) (from, to) (c.in_ok-from.ensures.exact c.requires.library ∙ sym is) in
     subst (λ (p : Slot × Slot). NamesStand old (g.S.Store.state_of c.name_over.new.store) p.0 p.1) pair c.name_over.ensures.leaves.1
+
+pub returns-in_err-from-clause-order : goal.returns-in_err-from-clause-order
+returns-in_err-from-clause-order g c = λ from to is apart. absurd (never (from, to) _ (is ∙ sym (c.in_err-from.ensures.exact c.requires.library)))
+
+pub returns-then-is_same_place-clause-order : goal.returns-then-is_same_place-clause-order
+returns-then-is_same_place-clause-order g c = λ from to is apart.
+    let old = g.S.Store.state_of c.args.store.now in
+    let pair : (c.in_ok-from.from, c.in_ok-from.to) ≡ (from, to) = same_ok (c.in_ok-from.from, c.in_ok-from.to) (from, to) (c.in_ok-from.ensures.exact c.requires.library ∙ sym is) in
+    absurd (apart (subst (λ (p : Slot × Slot). p.0.inode ≡ p.1.inode) pair (at_one_place old c.args.self.now.fs.number c.in_ok-from.from c.in_ok-from.to c.in_ok-from.ensures.first c.in_ok-from.ensures.second (sym c.if-is_same_place.ensures))))
+
+pub returns-then-from-to-clause-order : goal.returns-then-from-to-clause-order
+returns-then-from-to-clause-order g c = λ from to is apart.
+    let pair : (c.in_ok-from.from, c.in_ok-from.to) ≡ (from, to) = same_ok (c.in_ok-from.from, c.in_ok-from.to) (from, to) (c.in_ok-from.ensures.exact c.requires.library ∙ sym is) in
+    absurd (apart (subst (λ (p : Slot × Slot). p.0.inode ≡ p.1.inode) pair c.if-from-to.true))
+
+pub returns-clause-order : goal.returns-clause-order
+returns-clause-order g c = λ from to is apart.
+    let old = g.S.Store.state_of c.args.store.now in
+    let fs = c.args.self.now.fs.number in
+    let pair : (c.in_ok-from.from, c.in_ok-from.to) ≡ (from, to) = same_ok (c.in_ok-from.from, c.in_ok-from.to) (from, to) (c.in_ok-from.ensures.exact c.requires.library ∙ sym is) in
+    subst (λ (p : Slot × Slot). InOrder (g.S.Store.types_of c.args.store.now) fs (replaced_parts fs p.0 p.1 old.next) old (g.S.Store.state_of c.name_over.new.store) c.name_over.result) pair c.name_over.ensures.leaves.4
