@@ -15,7 +15,7 @@ use Rattle.xn_model.specs.Types.{Types}
 use Rattle.xn_model.specs.Root.{word_at}
 use Rattle.xn_model.specs.Images.{block_of, blocks_in, joined, IsSound}
 use Rattle.image_model.specs.Walk.{catalogue_fault, count_of, has_length, head_fault, or_fault, verdict, walk_all}
-use Rattle.image_model.specs.Walk.{block_of_image as block_at_image}
+use Rattle.image_model.specs.Walk.{block_at as block_at_image}
 use Rattle.image_model.specs.Report.{IsSoundImage}
 use Rattle.image_model.specs.declared.fault.ImageFault.TheVariants.{BadCount, BadLength, BadMark}
 use Rattle.templates.specs.Language.{types_of_image}
