@@ -10,20 +10,24 @@ use Rattle.xn_model.specs.Types.{Types}
 use Rattle.xn_model.specs.Root.{word_at}
 use Rattle.xn_model.specs.Lives.{Life, StoreState}
 use Rattle.xn_model.specs.Results.{result_and_then, unless}
-use Rattle.xn_model.specs.Calls.{Edit, accepts, edited, own_life, propose_at, propose_of, propose_refusal}
+use Rattle.xn_model.specs.Calls.{Edit, accepts, forget_of, init_of, edited, own_life, propose_at, propose_of, propose_refusal}
 use Rattle.xn_model.specs.Rules.{IsConsistent}
 use Rattle.ffs_model.specs.Cuts.{Under, latest}
 use Rattle.ffs_model.specs.Library.{IsLibrary, inode_links, library_layout}
 use Rattle.ffs_model.proofs.ForCallers.{library_reads, one_type, proposed_next, proposed_others, under_direct}
 use Rattle.ffs_lookup.specs.declared.fault.FfsFault.{FfsFault}
 use Rattle.ffs_lookup.specs.declared.places.Slot.{Slot}
+use Rattle.ffs_lookup.specs.declared.places.Room.{Room}
+use Rattle.ffs_lookup.specs.declared.places.Room.TheVariants.{Entry}
+use Rattle.ffs_format.specs.Entries.{entry_of}
 use Rattle.ffs_lookup.specs.Places.{IsSlot}
-use Rattle.ffs_lookup.specs.Newest.{inode_block_in, inode_in}
+use Rattle.ffs_lookup.specs.Newest.{directory_in, inode_block_in, inode_in, room_in}
 use Rattle.ffs_lib.specs.Edits.{data_of_pointers, edit_at}
-use Rattle.ffs_lib.specs.Orders.{Edits, InOrder, Numbered, Orders, Parts, StopsIn, edits_at, free_edit, has_data, inode_edits, linked_edits, links_edit, made_by, made_of, pointers_edit, removed_edits, replaced_parts, taken_edits, turned_edits}
-use Rattle.ffs_lib.specs.Steps.{Dropped, Proposed, clearing}
+use Rattle.ffs_lib.specs.Orders.{Action, Acts, Attaches, Edits, InOrder, Makes, Numbered, Orders, Parts, StopsAct, StopsIn, act_of, edits_at, entered_action, free_edit, has_data, inode_edits, linked_edits, links_edit, NamesInOrder, made_by, made_of, moved_parts, pointers_edit, removed_edits, replaced_parts, room_action, taken_edits, turned_edits, with_inode}
+use Rattle.ffs_lib.specs.Steps.{Attached, Dropped, Proposed, Stage, clearing, left_by}
+use Rattle.ffs_lib.proofs.Undoing.{at_ok}
 use Rattle.ffs_lib.proofs.Owners.{pointers_at, stands_from}
-use Rattle.ffs_lib.proofs.Same.{block_same, inodes_same}
+use Rattle.ffs_lib.proofs.Same.{begun, block_same, inodes_same}
 use Rattle.ffs_lib.proofs.Same as same
 
 -- the number that the store gives
@@ -191,10 +195,6 @@ linked_is content fs n home place inode bytes e f i is =
 
 -- Parts
 
-pub part_done : {A : Type 0} (T : Types) (fs : ℕ) (part : StoreState → Edits) (rest : Parts) (old middle new : StoreState) (result : Result A FfsFault) → made_of T fs (part old) old ≡ Ok middle → InOrder T fs rest middle new result → InOrder T fs (part ∷ rest) old new result
-part_done T fs part rest old middle new (Ok x) e o = ap (result_and_then (made_by T fs rest)) e ∙ o
-part_done T fs part rest old middle new (Err fault) e o = inr (middle, e, o)
-
 pub order_in : {A : Type 0} (T : Types) (fs : ℕ) (parts : Parts) (old new : StoreState) → StopsIn T fs parts old new → (fault : FfsFault) (result : Result A FfsFault) → IsErrAnd result (λ other. other ≡ fault) → InOrder T fs parts old new result
 order_in {A} T fs parts old new o fault result from =
     let p = err_from_is_err_and result from in
@@ -205,8 +205,80 @@ pub all_parts : (T : Types) (fs : ℕ) (from to : Slot) (old first second third 
     made_of T fs (removed_edits (latest second.lives) fs from (Some (old.next + 1)) second.next) second ≡ Ok third → made_of T fs (taken_edits (latest third.lives) fs to.inode (old.next + 1) third.next) third ≡ Ok new →
     made_by T fs (replaced_parts fs from to old.next) old ≡ Ok new
 all_parts T fs from to old first second third new a b c d =
-    let one : StoreState → Edits = λ s. taken_edits (latest s.lives) fs to.inode (old.next + 1) s.next in
-    let two : StoreState → Edits = λ s. removed_edits (latest s.lives) fs from (Some (old.next + 1)) s.next in
-    let three : StoreState → Edits = λ s. turned_edits to from.inode old.next in
+    let one : StoreState → Action = λ s. Makes (taken_edits (latest s.lives) fs to.inode (old.next + 1) s.next) in
+    let two : StoreState → Action = λ s. Makes (removed_edits (latest s.lives) fs from (Some (old.next + 1)) s.next) in
+    let three : StoreState → Action = λ s. Makes (turned_edits to from.inode old.next) in
     ap (result_and_then (made_by T fs (three ∷ two ∷ one ∷ []))) a ∙ (ap (result_and_then (made_by T fs (two ∷ one ∷ []))) b
     ∙ (ap (result_and_then (made_by T fs (one ∷ []))) c ∙ ap (result_and_then (made_by T fs [])) d))
+
+-- or of a `rename`
+pub both_parts : (T : Types) (fs : ℕ) (from : Slot) (other : ℕ) (new_name : List ℕ) (old first second new : StoreState) → made_of T fs (linked_edits (latest old.lives) fs from.inode) old ≡ Ok first →
+    act_of T fs (entered_action (latest first.lives) fs other (entry_of from.inode new_name) old.next) first ≡ Ok second →
+    made_of T fs (removed_edits (latest second.lives) fs from (Some (second.next - 1)) second.next) second ≡ Ok new → made_by T fs (moved_parts fs from other new_name old.next) old ≡ Ok new
+both_parts T fs from other new_name old first second new a b c =
+    let one : StoreState → Action = λ s. Makes (removed_edits (latest s.lives) fs from (Some (s.next - 1)) s.next) in
+    let two : StoreState → Action = λ s. entered_action (latest s.lives) fs other (entry_of from.inode new_name) old.next in
+    ap (result_and_then (made_by T fs (two ∷ one ∷ []))) a ∙ (ap (result_and_then (made_by T fs (one ∷ []))) b ∙ ap (result_and_then (made_by T fs [])) c)
+
+-- A directory gets an entry
+
+pub entered_is : (content : ℕ → List ℕ) (fs d home : ℕ) (inode entry : List ℕ) (after : ℕ) → Ok home ≡ inode_block_in content fs ((d - 1) / 8) → Ok inode ≡ directory_in content fs d → (room : Option Room) → room ≡ room_in content inode →
+    room_action d inode entry after (Ok home) room ≡ entered_action content fs d entry after
+entered_is content fs d home inode entry after e i room r =
+    ap (room_action d inode entry after (Ok home)) r
+    ∙ (ap (λ h. room_action d inode entry after h (room_in content inode)) e
+    ∙ ap (λ m. with_inode m (λ n. room_action d n entry after (inode_block_in content fs ((d - 1) / 8)) (room_in content n))) i)
+
+pub gap_act : (T : Types) (fs d block place : ℕ) (inode entry : List ℕ) (after home : ℕ) (old new : StoreState) (result : Result ℕ FfsFault) → Proposed T fs block (edit_at (32 * place) entry [] [] (Some after)) old new result →
+    Acts T fs (room_action d inode entry after (Ok home) (Some (Entry block place))) old new result × IfOk result (λ e. new.next ≡ e + 1)
+gap_act T fs d block place inode entry after home old new (Ok e) p =
+    let edit = edit_at (32 * place) entry [] [] (Some after) in (
+      one_order T fs block edit old new (Ok e) p,
+      proposed_next T old new fs block edit e p ∙ ap (λ (k : ℕ). k + 1) (sym (number_is T old fs block edit e new p)),
+    )
+gap_act T fs d block place inode entry after home old new (Err fault) p = (one_order T fs block (edit_at (32 * place) entry [] [] (Some after)) old new (Err fault) p, tt)
+
+pub grow_act : (T : Types) (fs home : ℕ) (bytes : List ℕ) (edit : ℕ → Edit) (block number : ℕ) (old first new : StoreState) → init_of T old fs 2 bytes ≡ Ok ((block, number), first) → (result : Result ℕ FfsFault) → Attached T fs block home (edit block) first new result →
+    Acts T fs (Attaches 2 bytes home edit) old new result × IfOk result (λ e. new.next ≡ e + 1)
+grow_act T fs home bytes edit block number old first new done (Ok e) p = (
+  ap (result_and_then (λ begun. made_of T fs ((home, edit begun.0.0) ∷ []) begun.1)) done ∙ one_order T fs home (edit block) first new (Ok e) p,
+  proposed_next T first new fs home (edit block) e p ∙ ap (λ (k : ℕ). k + 1) (sym (number_is T first fs home (edit block) e new p)),
+)
+grow_act T fs home bytes edit block number old first new done (Err fault) p =
+    (inr (at_ok (init_of T old fs 2 bytes) ((block, number), first) (λ begun. new ≡ left_by (forget_of T begun.1 fs begun.0.0) begun.1) (sym done) p.0), tt)
+
+pub act_err : {A : Type 0} (T : Types) (fs : ℕ) (action : Action) (old new : StoreState) → StopsAct T fs action old new → (P : A → Type 0) (fault : FfsFault) (result : Result A FfsFault) → IsErrAnd result (λ other. other ≡ fault) → Acts T fs action old new result × IfOk result P
+act_err {A} T fs action old new o P fault result from =
+    let p = err_from_is_err_and result from in
+    subst (λ (r : Result A FfsFault). Acts T fs action old new r × IfOk r P) (sym p.1) (o, tt)
+
+pub ok_same : (a b : ℕ) → ◌≡◌ {A = Result ℕ FfsFault} (Ok a) (Ok b) → a ≡ b
+ok_same a b e = cc
+
+-- the block of an inode is as before where another block began its life
+pub home_begun : (T : Types) (fs : ℕ) (array : ℕ → Option ℕ) (zeroth first : StoreState) (s : Stage T fs array zeroth) (block number : ℕ) (bytes : List ℕ) → init_of T zeroth fs 2 bytes ≡ Ok ((block, number), first) → (d home : ℕ) →
+    Ok home ≡ inode_block_in (latest first.lives) fs ((d - 1) / 8) → Ok home ≡ inode_block_in (latest zeroth.lives) fs ((d - 1) / 8)
+home_begun T fs array zeroth first s block number bytes done d home at =
+    at ∙ block_same T s.library (latest zeroth.lives) (latest first.lives) fs block 6 (begun T zeroth first s.keeps.consistent fs s.few 2 6 bytes (block, number) done) (λ z. omega (arith, z)) ((d - 1) / 8)
+
+-- A link is added before that
+
+pub names_err : (T : Types) (fs d n : ℕ) (name : List ℕ) (old new : StoreState) → StopsAct T fs (Makes (linked_edits (latest old.lives) fs n)) old new → (fault : FfsFault) (result : Result ℕ FfsFault) → IsErrAnd result (λ other. other ≡ fault) → NamesInOrder T fs d n name old new result
+names_err T fs d n name old new o fault result from =
+    let p = err_from_is_err_and result from in
+    subst (NamesInOrder T fs d n name old new) (sym p.1) (inl o)
+
+pub names_then : (T : Types) (fs d n : ℕ) (name : List ℕ) (old first new : StoreState) → made_of T fs (linked_edits (latest old.lives) fs n) old ≡ Ok first → (result : Result ℕ FfsFault) →
+    Acts T fs (entered_action (latest first.lives) fs d (entry_of n name) old.next) first new result × IfOk result (λ e. new.next ≡ e + 1) → NamesInOrder T fs d n name old new result
+names_then T fs d n name old first new a (Ok e) o = (first, a, o.0, o.1)
+names_then T fs d n name old first new a (Err fault) o = inr (first, a, o.0)
+
+-- and the old entry is cleared after it
+pub moved_then : {A : Type 0} (T : Types) (fs : ℕ) (from : Slot) (other : ℕ) (new_name : List ℕ) (old first middle new : StoreState) → made_of T fs (linked_edits (latest old.lives) fs from.inode) old ≡ Ok first →
+    act_of T fs (entered_action (latest first.lives) fs other (entry_of from.inode new_name) old.next) first ≡ Ok middle → (result : Result A FfsFault) →
+    Orders T fs (removed_edits (latest middle.lives) fs from (Some (middle.next - 1)) middle.next) middle new result → InOrder T fs (moved_parts fs from other new_name old.next) old new result
+moved_then T fs from other new_name old first middle new a b (Ok x) o = both_parts T fs from other new_name old first middle new a b o
+moved_then T fs from other new_name old first middle new a b (Err fault) o = inr (first, a, inr (middle, b, inl o))
+
+pub naming_stops : (T : Types) (fs : ℕ) (from : Slot) (other : ℕ) (new_name : List ℕ) (old new : StoreState) (fault : FfsFault) → NamesInOrder T fs other from.inode new_name old new (Err fault) → StopsIn T fs (moved_parts fs from other new_name old.next) old new
+naming_stops T fs from other new_name old new fault o = elim o [ inl x ↦ inl x | inr x ↦ inr (x.0, x.1, inl x.2) ]

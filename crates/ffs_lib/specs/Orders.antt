@@ -7,25 +7,32 @@
 --     inode_edits        a link is taken from an inode, which is freed with its last one, and before that its block of pointers emptied
 --     taken_edits        so it is of an inode by its number
 --     removed_edits      an entry is cleared, and then a link taken from the inode that it names
---     Parts, made_by, StopsIn, InOrder    parts of edits, each of the state where it begins, and the same of these
+--     Action, act_of, StopsAct, Acts      edits, or a new block that is attached; the state after it; what is left where it is refused; both
+--     Parts, made_by, StopsIn, InOrder    actions, each of the state where it begins, and the same of these
 --     Numbered           one edit was made, and got a number
---     linked_edits, turned_edits, replaced_parts    a link is added; an entry names another inode; `replace` of one file by another
-use Rattle.std.specs.Prelude.{◌≡◌, ◌⊎◌, ℕ, ◌+◌, ◌-◌, ◌*◌, ◌/◌, ◌%◌, ◌==◌, ◌||◌, not, nat_lt, Bool, List, [], ◌∷◌, length, take, replicate, Option, None, Some, Result, Ok}
-use Rattle.std.specs.Prelude.{MatchResult, if◌then◌else◌}
-use Rattle.std.specs.Int.{w16, to_le_bytes}
+--     linked_edits, turned_edits          a link is added; an entry names another inode
+--     entered_action                      a directory gets an entry where it has room, or in a new block
+--     NamesInOrder                        a link is added, and then that
+--     moved_parts, replaced_parts         `rename`; `replace` of one file by another
+use Rattle.std.specs.Prelude.{◌≡◌, ◌⊎◌, ℕ, ◌+◌, ◌-◌, ◌*◌, ◌/◌, ◌%◌, ◌==◌, ◌||◌, not, nat_lt, Bool, List, [], ◌∷◌, length, take, replicate}
+use Rattle.std.specs.Prelude.{Option, None, Some, Result, Ok, Err, MatchResult, if◌then◌else◌}
+use Rattle.std.specs.Int.{w16, w32, to_le_bytes}
 use Rattle.xn_model.specs.declared.refusal.Refusal.{Refusal}
 use Rattle.xn_model.specs.Types.{Types}
 use Rattle.xn_model.specs.Lists.{put}
 use Rattle.xn_model.specs.Root.{word_at}
 use Rattle.xn_model.specs.Lives.{StoreState}
 use Rattle.xn_model.specs.Results.{result_and_then}
-use Rattle.xn_model.specs.Calls.{Edit, propose_of}
-use Rattle.ffs_model.specs.Library.{inode_links, zero_block}
+use Rattle.xn_model.specs.Calls.{Edit, forget_of, init_of, propose_of}
+use Rattle.ffs_model.specs.Library.{inode_blocks, inode_links, zero_block}
+use Rattle.ffs_format.specs.Entries.{entry_of}
 use Rattle.ffs_lookup.specs.declared.fault.FfsFault.{FfsFault}
 use Rattle.ffs_lookup.specs.declared.places.Slot.{Slot}
-use Rattle.ffs_lookup.specs.Newest.{inode_block_in, inode_in}
+use Rattle.ffs_lookup.specs.declared.places.Room.{Room}
+use Rattle.ffs_lookup.specs.declared.places.Room.TheVariants.{Entry, Pointer}
+use Rattle.ffs_lookup.specs.Newest.{directory_in, inode_block_in, inode_in, room_in}
 use Rattle.ffs_lib.specs.Edits.{data_of_inode, data_of_pointers, edit_at}
-use Rattle.ffs_lib.specs.Steps.{newest_block}
+use Rattle.ffs_lib.specs.Steps.{left_by, newest_block}
 
 abbrev pub Edits : Type 0
 Edits = List (ℕ × Edit)
@@ -75,21 +82,39 @@ taken_edits content fs n after next =
 abbrev pub removed_edits : (ℕ → List ℕ) → ℕ → Slot → Option ℕ → ℕ → Edits
 removed_edits content fs slot after next = clear_edit slot after ∷ taken_edits content fs slot.inode next (next + 1)
 
--- Edits that depend on the newest_block bytes where they begin
+-- What depends on the newest_block bytes where it begins
+
+-- edits; or a block is begun, and then an edit proposed of another one, which comes to own it
+pub data Action : Type 0 where
+  Makes : (edits : List (ℕ × Edit)) → Action
+  Attaches : (ty : ℕ) (bytes : List ℕ) (home : ℕ) (edit : ℕ → Edit) → Action
+
+abbrev pub act_of : Types → ℕ → Action → StoreState → Result StoreState Refusal
+act_of T fs (Makes edits) state = made_of T fs edits state
+act_of T fs (Attaches ty bytes home edit) state =
+    result_and_then (λ begun. made_of T fs ((home, edit begun.0.0) ∷ []) begun.1) (init_of T state fs ty bytes)
+
+-- the first edits were made; or no block was begun, or the one that was is forgotten, if the store takes that
+abbrev pub StopsAct : Types → ℕ → Action → StoreState → StoreState → Type 0
+StopsAct T fs (Makes edits) old new = (count : ℕ) × (made_of T fs (take count edits) old ≡ Ok new)
+StopsAct T fs (Attaches ty bytes home edit) old new =
+    (new ≡ old) ⊎ MatchResult (init_of T old fs ty bytes) (λ begun. new ≡ left_by (forget_of T begun.1 fs begun.0.0) begun.1) (λ refusal. ⊥)
+
+abbrev pub Acts : {A : Type 0} → Types → ℕ → Action → StoreState → StoreState → Result A FfsFault → Type 0
+Acts T fs action old new result = MatchResult result (λ x. act_of T fs action old ≡ Ok new) (λ fault. StopsAct T fs action old new)
 
 abbrev pub Parts : Type 0
-Parts = List (StoreState → List (ℕ × Edit))
+Parts = List (StoreState → Action)
 
 abbrev pub made_by : Types → ℕ → Parts → StoreState → Result StoreState Refusal
 made_by T fs [] state = Ok state
-made_by T fs (first ∷ rest) state = result_and_then (made_by T fs rest) (made_of T fs (first state) state)
+made_by T fs (first ∷ rest) state = result_and_then (made_by T fs rest) (act_of T fs (first state) state)
 
--- the first parts, and of the next one the first edits
+-- the first parts were made, and the next one stops
 abbrev pub StopsIn : Types → ℕ → Parts → StoreState → StoreState → Type 0
 StopsIn T fs [] old new = ⊥
 StopsIn T fs (first ∷ rest) old new =
-    ((count : ℕ) × (made_of T fs (take count (first old)) old ≡ Ok new))
-    ⊎ ((middle : StoreState) × (made_of T fs (first old) old ≡ Ok middle) × StopsIn T fs rest middle new)
+    StopsAct T fs (first old) old new ⊎ ((middle : StoreState) × (act_of T fs (first old) old ≡ Ok middle) × StopsIn T fs rest middle new)
 
 abbrev pub InOrder : {A : Type 0} → Types → ℕ → Parts → StoreState → StoreState → Result A FfsFault → Type 0
 InOrder T fs parts old new result = MatchResult result (λ x. made_by T fs parts old ≡ Ok new) (λ fault. StopsIn T fs parts old new)
@@ -108,11 +133,52 @@ linked_edits content fs n =
 abbrev pub turned_edits : Slot → ℕ → ℕ → Edits
 turned_edits slot n after = (slot.block, edit_at (32 * slot.place) (to_le_bytes w16 n) [] [] (Some after)) ∷ []
 
--- `replace` of one file by another, from the store's next number on
+-- a directory's inode that points to a block more
+abbrev pub grown : List ℕ → ℕ → ℕ → List ℕ
+grown inode index block =
+    let pointing = put inode (8 + 4 * index) (to_le_bytes w32 block) in put pointing 4 (to_le_bytes w32 (512 * length (inode_blocks pointing)))
+
+abbrev pub grown_edit : ℕ → List ℕ → ℕ → ℕ → ℕ → Edit
+grown_edit d inode index after block = edit_at (64 * ((d - 1) % 8)) (grown inode index block) ((block, 2) ∷ []) [] (Some after)
+
+abbrev pub room_action : ℕ → List ℕ → List ℕ → ℕ → Result ℕ FfsFault → Option Room → Action
+room_action d inode entry after home (Some (Entry block place)) = Makes ((block, edit_at (32 * place) entry [] [] (Some after)) ∷ [])
+room_action d inode entry after (Ok home) (Some (Pointer index)) = Attaches 2 (put zero_block 0 entry) home (grown_edit d inode index after)
+room_action d inode entry after home other = Makes []
+
+abbrev pub with_inode : Result (List ℕ) FfsFault → (List ℕ → Action) → Action
+with_inode (Ok inode) f = f inode
+with_inode (Err fault) f = Makes []
+
+-- a directory gets an entry, after an edit
+abbrev pub entered_action : (ℕ → List ℕ) → ℕ → ℕ → List ℕ → ℕ → Action
+entered_action content fs d entry after =
+    with_inode (directory_in content fs d) (λ inode.
+    room_action d inode entry after (inode_block_in content fs ((d - 1) / 8)) (room_in content inode))
+
+-- A link is added, and then the directory gets the entry.
+abbrev pub NamesInOrder : Types → ℕ → ℕ → ℕ → List ℕ → StoreState → StoreState → Result ℕ FfsFault → Type 0
+NamesInOrder T fs d n name old new (Ok e) =
+    (first : StoreState) × (made_of T fs (linked_edits (newest_block old) fs n) old ≡ Ok first)
+    × (act_of T fs (entered_action (newest_block first) fs d (entry_of n name) old.next) first ≡ Ok new) × (new.next ≡ e + 1)
+NamesInOrder T fs d n name old new (Err fault) =
+    StopsAct T fs (Makes (linked_edits (newest_block old) fs n)) old new
+    ⊎ ((first : StoreState) × (made_of T fs (linked_edits (newest_block old) fs n) old ≡ Ok first)
+    × StopsAct T fs (entered_action (newest_block first) fs d (entry_of n name) old.next) first new)
+
+-- `rename`, from the store's next number on; the old entry is cleared after the last edit before that
+abbrev pub moved_parts : ℕ → Slot → ℕ → List ℕ → ℕ → Parts
+moved_parts fs from other new_name next =
+    (λ state. Makes (linked_edits (newest_block state) fs from.inode))
+    ∷ (λ state. entered_action (newest_block state) fs other (entry_of from.inode new_name) next)
+    ∷ (λ state. Makes (removed_edits (newest_block state) fs from (Some (state.next - 1)) state.next))
+    ∷ []
+
+-- `replace` of one file by another
 abbrev pub replaced_parts : ℕ → Slot → Slot → ℕ → Parts
 replaced_parts fs from to next =
-    (λ state. linked_edits (newest_block state) fs from.inode)
-    ∷ (λ state. turned_edits to from.inode next)
-    ∷ (λ state. removed_edits (newest_block state) fs from (Some (next + 1)) state.next)
-    ∷ (λ state. taken_edits (newest_block state) fs to.inode (next + 1) state.next)
+    (λ state. Makes (linked_edits (newest_block state) fs from.inode))
+    ∷ (λ state. Makes (turned_edits to from.inode next))
+    ∷ (λ state. Makes (removed_edits (newest_block state) fs from (Some (next + 1)) state.next))
+    ∷ (λ state. Makes (taken_edits (newest_block state) fs to.inode (next + 1) state.next))
     ∷ []

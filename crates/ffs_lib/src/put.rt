@@ -1,18 +1,19 @@
 // The one edit of a volume: bytes at a place of a block, with the blocks that it adds and drops, after another edit.
 
-ghost use Rattle.std.specs.Prelude.{◌≡◌, ◌≢◌, ◌<◌, ◌*◌, IfOk, IsTrue, OnOk, ℕ, List, [], ◌∷◌, Ok, Option, Some, length, replicate, true};
+ghost use Rattle.std.specs.Prelude.{◌≡◌, ◌≢◌, ◌<◌, ◌+◌, ◌*◌, IfOk, IsTrue, OnOk, ℕ, List, [], ◌∷◌, Ok, Option, Some, length, replicate, true};
 ghost use Rattle.ffs_lib.specs.Results.{new_inode};
 ghost use Rattle.ffs_format.specs.Entries.{entry_of, is_name};
 ghost use Rattle.ffs_format.specs.Fields.{direct_in, fields_of};
 ghost use Rattle.ffs_lookup.specs.Newest.{directory_in, has_room, inode_in, room_in};
-ghost use Rattle.ffs_model.specs.Library.{inode_links};
+ghost use Rattle.ffs_model.specs.Library.{inode_links, zero_block};
 ghost use Rattle.xn_model.specs.Types.{Types};
 ghost use Rattle.ffs_model.specs.Cuts.{Under};
 ghost use Rattle.ffs_lib.specs.Edits.{edit_at};
-ghost use Rattle.ffs_lib.specs.Orders.{Numbered, Orders, linked_edits, taken_edits};
+ghost use Rattle.ffs_lib.specs.Orders.{Acts, Attaches, Numbered, Orders, entered_action, grown_edit, linked_edits, taken_edits};
+ghost use Rattle.xn_model.specs.Lists.{put};
 ghost use Rattle.ffs_lib.specs.Replacing.{KeepsPairs};
-ghost use Rattle.ffs_lib.specs.Steps.{AddsLink, Attached, Dropped, Ends, Enters, IsEntry, MayLose, MayName, Proposed, Stage, StopsAtHome, StopsEntering};
-ghost use Rattle.ffs_lib.specs.Steps.{StopsTaking, TakesLink, newest_block};
+ghost use Rattle.ffs_lib.specs.Steps.{AddsLink, Attached, Dropped, Ends, Enters, IsEntry, IsHome, MayLose, MayName, Proposed, Stage, StopsAtHome};
+ghost use Rattle.ffs_lib.specs.Steps.{StopsEntering, StopsTaking, TakesLink, newest_block};
 
 use crate::steps::{DATA, block_with, blocks_in, blocks_of, count_blocks, forgotten};
 use edit_list::{Edit, EditId, Fs, Patch};
@@ -229,6 +230,13 @@ fn grow<S: Store>(
         Ends T fs.number array (S.state_of store.new) result
         (Enters (S.state_of store.old) (S.state_of store.new) fs.number number name n)
         (StopsEntering T fs.number (S.state_of store.old) (S.state_of store.new) number entry.now) }
+    ensures order { (T : Types) (array : ℕ → Option ℕ) (directory name : List ℕ) (n home : ℕ) → S.types_of store.old ≡ T →
+        Stage T fs.number array (S.state_of store.old) →
+        MayName (S.state_of store.old) fs.number n after → Ok directory ≡ directory_in (newest_block (S.state_of store.old)) fs.number number →
+        Some (Room.Pointer index) ≡ room_in (newest_block (S.state_of store.old)) directory → direct_in directory index ≡ 0 → IsEntry entry.now n name →
+        IsHome (newest_block (S.state_of store.old)) fs.number number home →
+        Acts T fs.number (Attaches 2 (put zero_block 0 entry.now) home (grown_edit number directory index after))
+        (S.state_of store.old) (S.state_of store.new) result × IfOk result (λ e. (S.state_of store.new).next ≡ e + 1) }
 {
     let (block, _) = store.init(fs, DATA, &block_with(0, entry))?;
     let Found {
@@ -269,6 +277,11 @@ pub fn enter<S: Store>(
         has_room (newest_block (S.state_of store.old)) directory ≡ true → Ends T fs.number array (S.state_of store.new) result
         (Enters (S.state_of store.old) (S.state_of store.new) fs.number number name.now inode)
         (StopsEntering T fs.number (S.state_of store.old) (S.state_of store.new) number (entry_of inode name.now)) }
+    ensures order { (T : Types) (array : ℕ → Option ℕ) (directory : List ℕ) → S.types_of store.old ≡ T → Stage T fs.number array (S.state_of store.old) →
+        MayName (S.state_of store.old) fs.number inode after → Ok directory ≡ directory_in (newest_block (S.state_of store.old)) fs.number number →
+        has_room (newest_block (S.state_of store.old)) directory ≡ true →
+        Acts T fs.number (entered_action (newest_block (S.state_of store.old)) fs.number number (entry_of inode name.now) after)
+        (S.state_of store.old) (S.state_of store.new) result × IfOk result (λ e. (S.state_of store.new).next ≡ e + 1) }
 {
     let entry = entry_bytes(inode, name);
     let directory = find_directory(store, fs, number)?;

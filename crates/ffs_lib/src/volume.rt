@@ -17,7 +17,7 @@ ghost use Rattle.ffs_lookup.specs.declared.places.Slot.{Slot};
 ghost use Rattle.ffs_model.specs.Volumes.{VolumeKeeps, no_edits};
 ghost use Rattle.ffs_lookup.specs.Places.{IsDirectory, IsFree, IsSlot};
 ghost use Rattle.ffs_lib.specs.Making.{newly_made};
-ghost use Rattle.ffs_lib.specs.Orders.{Orders, removed_edits};
+ghost use Rattle.ffs_lib.specs.Orders.{InOrder, NamesInOrder, Orders, moved_parts, removed_edits};
 ghost use Rattle.ffs_lib.specs.Outcomes.{HasFreePointer};
 ghost use Rattle.ffs_lib.specs.Replacing.{AreDirect, pair_of};
 ghost use Rattle.ffs_model.specs.Standing.{StayNamed};
@@ -707,6 +707,9 @@ impl Volume {
             (renamed_stages files directory name.now other new_name.now) (S.state_of store.old) (S.state_of store.new) result }
         ensures inodes { let old = newest_block (S.state_of store.old) in let new = newest_block (S.state_of store.new) in let fs = self.now.fs.number in
             (slot : Slot) → Ok slot ≡ rename_in old fs directory name.now other new_name.now → MovedInodes old new fs directory other slot.inode }
+        ensures order { let old = newest_block (S.state_of store.old) in let fs = self.now.fs.number in
+            (slot : Slot) → Ok slot ≡ rename_in old fs directory name.now other new_name.now → InOrder (S.types_of store.old) fs
+            (moved_parts fs slot other new_name.now (S.state_of store.old).next) (S.state_of store.old) (S.state_of store.new) result }
         ensures keeps { IsVolume (S.types_of store.old) (S.state_of store.new) self.now }
     {
         let slot = self.look_up_move(store, directory, name, other, new_name)?;
@@ -733,6 +736,11 @@ impl Volume {
             Ends T self.now.fs.number array (S.state_of store.new) result
             (NamesAgain (S.state_of store.old) (S.state_of store.new) self.now.fs.number directory name.now inode)
             (StopsNaming T self.now.fs.number (S.state_of store.old) (S.state_of store.new) directory name.now inode) }
+        ensures order { (T : Types) (array : ℕ → Option ℕ) (own to : List ℕ) → S.types_of store.old ≡ T →
+            Stage T self.now.fs.number array (S.state_of store.old) →
+            Ok own ≡ inode_in (newest_block (S.state_of store.old)) self.now.fs.number inode → inode_links own ≢ 65535 →
+            Ok to ≡ directory_in (newest_block (S.state_of store.old)) self.now.fs.number directory → has_room (newest_block (S.state_of store.old)) to ≡ true →
+            NamesInOrder T self.now.fs.number directory inode name.now (S.state_of store.old) (S.state_of store.new) result }
     {
         let added = add_link(alloc, store, self.fs, inode)?;
         enter(alloc, store, self.fs, directory, inode, name, added)

@@ -9,7 +9,7 @@ ghost use Rattle.ffs_lookup.specs.Files.{Files, created, listed, new_directory, 
 ghost use Rattle.ffs_lookup.specs.FileValues.{files_of};
 ghost use Rattle.ffs_lookup.specs.Counts.{if_idle};
 ghost use Rattle.ffs_lookup.specs.Repairs.{idle_in, repair_at};
-ghost use Rattle.ffs_lib.specs.Orders.{InOrder, Orders, removed_edits, replaced_parts};
+ghost use Rattle.ffs_lib.specs.Orders.{InOrder, Orders, moved_parts, removed_edits, replaced_parts};
 ghost use Rattle.ffs_lib.specs.Reclaiming.{LeftByRepair, needs, reclaimed, reclaimed_stages};
 ghost use Rattle.ffs_lib.specs.Replacing.{NamesStand, Replaced, replace_in};
 ghost use Rattle.ffs_lib.specs.Results.{MovedInodes};
@@ -335,6 +335,9 @@ impl<S: FlushStore + Drop> Session<S> {
         ensures inodes { let old = newest_block (S.state_of self.old.store) in let new = newest_block (S.state_of self.new.store) in
             (slot : Slot) → Ok slot ≡ rename_in old self.old.fs directory name.now other new_name.now →
             MovedInodes old new self.old.fs directory other slot.inode }
+        ensures order { let old = newest_block (S.state_of self.old.store) in let fs = self.old.fs in
+            (slot : Slot) → Ok slot ≡ rename_in old fs directory name.now other new_name.now → InOrder (S.types_of self.old.store) fs
+            (moved_parts fs slot other new_name.now (S.state_of self.old.store).next) (S.state_of self.old.store) (S.state_of self.new.store) result }
     {
         self.volume
             .rename(alloc, &mut self.store, directory, name, other, new_name)

@@ -1,9 +1,10 @@
-use Rattle.std.proofs.Common.{◌≡◌, ◌∙◌, ◌*◌, ℕ, List, [], ◌∷◌, Some, ap, arith, length, subst, sym}
+use Rattle.std.specs.Int.{w32, to_le_bytes}
+use Rattle.std.proofs.Common.{◌≡◌, ◌∙◌, ◌+◌, ◌*◌, inl, ℕ, List, [], ◌∷◌, Some, ap, arith, length, subst, sym}
 use Rattle.xn_model.specs.Calls.{init_of}
 use Rattle.ffs_model.specs.Cuts.{latest}
 use Rattle.ffs_model.specs.Library.{IsLibrary, inode_blocks, zero_block}
 use Rattle.ffs_model.proofs.ForCallers.{data_begun}
-use Rattle.ffs_lookup.proofs.ForCallers.{block_again, gives_err}
+use Rattle.ffs_lookup.proofs.ForCallers.{block_again, gives_err, same_ok}
 use Rattle.ffs_lib.proofs.Entering.{directory_from}
 use Rattle.ffs_lib.proofs.Fields.{same_blocks}
 use Rattle.ffs_lib.proofs.Owners.{stands_from}
@@ -11,7 +12,10 @@ use Rattle.ffs_lib.proofs.DataShort.{block_long}
 use Rattle.xn_model.specs.Lists.{put}
 use Rattle.ffs_format.specs.Fields.{Fields, fields_of}
 use Rattle.ffs_lib.specs.Edits.{edit_at}
-use Rattle.ffs_lib.proofs.Laws.{attaches, begins_by, begins_err, fails, same_stage, short_told, told_by}
+use Rattle.ffs_lib.specs.Orders.{Attaches, grown, grown_edit}
+use Rattle.ffs_lib.specs.Steps.{Attached}
+use Rattle.ffs_lib.proofs.Orders.{act_err, grow_act, home_begun, ok_same}
+use Rattle.ffs_lib.proofs.Laws.{attaches, begins_by, begins_err, fails, home_of, same_stage, short_told, told_by}
 use Rattle.ffs_lib.proofs.NameLaws.{grow_again, grow_short, grow_stage, grow_undone, grows, not_begun}
 use Rattle.ffs_lib.proofs.Tops.{never}
 use Rattle.ffs_lib.proofs.put.grow.Goals as goal
@@ -67,3 +71,51 @@ returns-clause-ends g c = λ T array directory name n e s m dir empty gap b.
     (grow_short T fs array zeroth first s c.args.number directory dir n c.args.after m bytes name b c.args.index c.requires empty gap block number done found c.in_ok-home.ensures.found exact after whole size set)
     (λ entry put. grows T fs array zeroth first s c.args.number directory dir n c.args.after m bytes name b c.args.index c.requires empty gap block number done found c.in_ok-home.ensures.found exact after whole size set new entry sized put)
     (λ fault left told. grow_undone T fs array zeroth first s c.args.number directory dir n c.args.after m bytes name b c.args.index c.requires empty gap block number done found c.in_ok-home.ensures.found exact after whole size set new left fault (edit, told))
+
+pub returns-in_err-block-clause-order : goal.returns-in_err-block-clause-order
+returns-in_err-block-clause-order g c = λ T array directory name n home e s m dir empty gap b at.
+    let old = g.S.Store.state_of c.args.store.now in
+    let new = g.S.Store.state_of c.init.new.self in
+    let fs = c.args.fs.number in
+    let bytes = put zero_block 0 c.args.entry.now in
+    let given = begins_err (g.S.Store.types_of c.args.store.now) T fs 2 _ bytes old new c.in_err-block.field-0.0 e c.block_with.ensures c.in_err-block.ensures.state in
+    act_err T fs (Attaches 2 bytes home (grown_edit c.args.number directory c.args.index c.args.after)) old new (inl (gives_err (init_of T old fs 2 bytes) old new _ given)) (λ (k : ℕ). new.next ≡ k + 1) _ c.from_residual.result c.from_residual.ensures.1
+
+pub returns-in_err-home-clause-order : goal.returns-in_err-home-clause-order
+returns-in_err-home-clause-order g c = λ T array directory name n home e s m dir empty gap b at.
+    let zeroth = g.S.Store.state_of c.args.store.now in
+    let first = g.S.Store.state_of c.init.new.self in
+    let fs = c.args.fs.number in
+    let block = c.in_ok-block.block in
+    let number = c.in_ok-block.field-0-1 in
+    let bytes = c.args.entry.now in
+    let done = begins_by (g.S.Store.types_of c.args.store.now) T fs 2 _ (put zero_block 0 bytes) zeroth first (block, number) e c.block_with.ensures c.in_ok-block.ensures.state in
+    let again = grow_again T fs array zeroth first s c.args.number directory dir n c.args.after m bytes name b c.args.index c.requires empty gap block number done in
+    absurd (never directory _ (again ∙ sym (c.in_err-home.ensures.exact (subst IsLibrary (sym (c.init.ensures.types ∙ e)) s.library))))
+
+pub returns-clause-order : goal.returns-clause-order
+returns-clause-order g c = λ T array directory name n home e s m dir empty gap b is_home.
+    let zeroth = g.S.Store.state_of c.args.store.now in
+    let first = g.S.Store.state_of c.init.new.self in
+    let new = g.S.Store.state_of c.attach.new.store in
+    let fs = c.args.fs.number in
+    let d = c.args.number in
+    let block = c.in_ok-block.block in
+    let number = c.in_ok-block.field-0-1 in
+    let bytes = c.args.entry.now in
+    let done = begins_by (g.S.Store.types_of c.args.store.now) T fs 2 _ (put zero_block 0 bytes) zeroth first (block, number) e c.block_with.ensures c.in_ok-block.ensures.state in
+    let types = c.init.ensures.types ∙ e in
+    let found = c.in_ok-home.field-0 in
+    let at = c.in_ok-home.ensures.found.is.stands in
+    let exact = c.in_ok-home.ensures.exact (subst IsLibrary (sym types) s.library) in
+    let again = grow_again T fs array zeroth first s d directory dir n c.args.after m bytes name b c.args.index c.requires empty gap block number done in
+    let mine : found.inode ≡ directory = same_ok found.inode directory (exact ∙ sym again) in
+    let same : found.block ≡ home = ok_same found.block home (home_begun T fs array zeroth first s block number (put zero_block 0 bytes) done d found.block (home_of first fs d found.block found.place at) ∙ sym is_home) in
+    let pointing = c.set_direct.ensures.bytes ∙ ap (λ (i : List ℕ). put i (8 + 4 * c.args.index) (to_le_bytes w32 block)) mine in
+    let size = ap (λ (k : ℕ). 512 * k) c.count_blocks-size.ensures.exact in
+    let after = c.bytes.ensures.bytes ∙ (c.set_size.ensures.bytes
+    ∙ (ap (λ (k : ℕ). put c.set_direct.new.self 4 (to_le_bytes w32 k)) size ∙ ap (λ (i : List ℕ). put i 4 (to_le_bytes w32 (512 * length (inode_blocks i)))) pointing)) in
+    let put1 = subst (λ (i : List ℕ). Attached T fs block found.block (edit_at (64 * found.place) i ((block, 2) ∷ []) [] (Some c.args.after)) first new c.attach.result) after (c.attach.ensures.put T types) in
+    let put2 = subst (λ (k : ℕ). Attached T fs block found.block (edit_at (64 * k) (grown directory c.args.index block) ((block, 2) ∷ []) [] (Some c.args.after)) first new c.attach.result) at.at put1 in
+    let put3 = subst (λ (k : ℕ). Attached T fs block k (grown_edit d directory c.args.index c.args.after block) first new c.attach.result) same put2 in
+    grow_act T fs home (put zero_block 0 bytes) (grown_edit d directory c.args.index c.args.after) block number zeroth first new done c.attach.result put3

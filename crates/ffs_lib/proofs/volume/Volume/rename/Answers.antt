@@ -1,4 +1,4 @@
-use Rattle.std.proofs.Common.{◌∙◌, refl, rules, subst, sym}
+use Rattle.std.proofs.Common.{◌≡◌, ◌-◌, ◌∙◌, ℕ, Some, arith, refl, rules, subst, sym}
 use Rattle.std.specs.Prelude.{MatchResult, Result, Ok, Err}
 use Rattle.ffs_model.specs.Cuts.{latest}
 use Rattle.ffs_model.specs.Library.{IsLibrary}
@@ -9,6 +9,7 @@ use Rattle.ffs_lookup.specs.Newest.{rename_in}
 use Rattle.ffs_lookup.specs.Files.{moved, renamed}
 use Rattle.ffs_lookup.specs.FileValues.{files_of}
 use Rattle.ffs_lookup.proofs.ForCallers.{first_value, renamed_told, same_ok}
+use Rattle.ffs_lib.specs.Orders.{InOrder, Orders, moved_parts, removed_edits}
 use Rattle.ffs_lib.specs.Results.{MovedInodes}
 use Rattle.ffs_lib.specs.Stages.{renamed_stages}
 use Rattle.ffs_lib.specs.Steps.{Stops, StopsNaming, StopsUnnaming, Unnamed}
@@ -17,6 +18,7 @@ use Rattle.ffs_lib.proofs.Laws.{staged, stops_err}
 use Rattle.ffs_lib.proofs.BlocksOnce.{blocks_once}
 use Rattle.ffs_lib.proofs.Linked.{linked_own}
 use Rattle.ffs_lib.proofs.MoveLaws.{moved_inodes, naming_inodes, refused_inodes, still_one, still_there}
+use Rattle.ffs_lib.proofs.Orders.{moved_then, naming_stops, order_in}
 use Rattle.ffs_lib.proofs.Renaming.{can_move}
 use Rattle.ffs_lib.proofs.Staged.{does_fault, does_found}
 use Rattle.ffs_lib.proofs.StagedMoves.{answer, naming_stage, rename_stages, stages, unnaming_stage}
@@ -152,9 +154,6 @@ returns-in_err-entry-clause-keeps g c =
     let x = can_move u fs.number d name other new_name slot exact in
     let s = staged c.requires fs.few in
     let a = c.in_ok-entered.ensures.ends T array x.own x.to refl s x.is_own x.few x.is_to x.room in
-    let middle = g.S.Store.state_of c.name_again.new.store in
-    let w = latest middle.lives in
-    let lib2 = subst IsLibrary (sym c.name_again.ensures.types) lib in
     record { library = lib; keeps = a.0.keeps }
 
 pub returns-clause-answers : goal.returns-clause-answers
@@ -219,9 +218,7 @@ returns-clause-inodes g c = λ found is.
     let one = still_one u w fs.number d name other new_name slot x a.1.0 entry (c.in_ok-entry.ensures.exact lib2) in
     let linked = linked_own T fs.number array old c.requires.keeps slot c.in_ok-slot.ensures.slot x.own x.is_own in
     let once = blocks_once T lib middle a.0.keeps.consistent fs.number fs.few in
-    let first = first_value u x.from name slot x.first in
     let k = answer T lib fs.number fs.few d name other new_name slot old x exact in
-    let names = both_true (is_name name) (is_name new_name) x.good c.in_ok-slot.ensures.name in
     let ends = subst (λ (y : Slot). MatchResult c.remove.result (λ _. Unnamed w (latest new.lives) fs.number y) (Stops (StopsUnnaming T fs.number middle new y))) one b.1 in
     subst (λ (y : Slot). MovedInodes u (latest new.lives) fs.number d other y.inode) (same_ok slot found (exact ∙ sym is)) (go c.remove.result ends
     (λ r. moved_inodes u w fs.number d name other new_name slot x a.1.0 once k.0 k.1 linked (latest new.lives) r)
@@ -248,9 +245,6 @@ returns-clause-keeps g c =
     let x = can_move u fs.number d name other new_name slot exact in
     let s = staged c.requires fs.few in
     let a = c.in_ok-entered.ensures.ends T array x.own x.to refl s x.is_own x.few x.is_to x.room in
-    let middle = g.S.Store.state_of c.name_again.new.store in
-    let w = latest middle.lives in
-    let lib2 = subst IsLibrary (sym c.name_again.ensures.types) lib in
     let b = c.remove.ensures.ends T array c.name_again.ensures.types a.0 a.1.1 in
     record { library = lib; keeps = b.0.keeps }
 
@@ -268,3 +262,81 @@ returns-in_err-slot-clause-answers g c =
 
 pub returns-in_err-slot-clause-inodes : goal.returns-in_err-slot-clause-inodes
 returns-in_err-slot-clause-inodes g c = λ entry e. absurd (never entry _ (e ∙ sym (c.in_err-slot.ensures.exact c.requires.library)))
+
+pub returns-in_err-entered-clause-order : goal.returns-in_err-entered-clause-order
+returns-in_err-entered-clause-order g c = λ found is.
+    let T = g.S.Store.types_of c.args.store.now in
+    let fs = c.args.self.now.fs in
+    let array = edits_of c.args.self.now.added in
+    let old = g.S.Store.state_of c.args.store.now in
+    let u = latest old.lives in
+    let d = c.args.directory in
+    let name = c.args.name.now in
+    let other = c.args.other in
+    let new_name = c.args.new_name.now in
+    let slot = c.in_ok-slot.slot in
+    let lib = c.requires.library in
+    let exact = c.in_ok-slot.ensures.exact lib in
+    let x = can_move u fs.number d name other new_name slot exact in
+    let s = staged c.requires fs.few in
+    let new = g.S.Store.state_of c.name_again.new.store in
+    let o = c.in_err-entered.ensures.order T array x.own x.to refl s x.is_own x.few x.is_to x.room in
+    subst (λ (y : Slot). InOrder T fs.number (moved_parts fs.number y other new_name old.next) old new c.from_residual-in_err-entered.result) (same_ok slot found (exact ∙ sym is))
+    (order_in T fs.number (moved_parts fs.number slot other new_name old.next) old new (naming_stops T fs.number slot other new_name old new c.in_err-entered.field-0.0 o) c.in_err-entered.field-0.0 c.from_residual-in_err-entered.result c.from_residual-in_err-entered.ensures.1)
+
+pub returns-in_err-entry-clause-order : goal.returns-in_err-entry-clause-order
+returns-in_err-entry-clause-order g c = λ found is.
+    let T = g.S.Store.types_of c.args.store.now in
+    let fs = c.args.self.now.fs in
+    let array = edits_of c.args.self.now.added in
+    let old = g.S.Store.state_of c.args.store.now in
+    let u = latest old.lives in
+    let d = c.args.directory in
+    let name = c.args.name.now in
+    let other = c.args.other in
+    let new_name = c.args.new_name.now in
+    let slot = c.in_ok-slot.slot in
+    let lib = c.requires.library in
+    let exact = c.in_ok-slot.ensures.exact lib in
+    let x = can_move u fs.number d name other new_name slot exact in
+    let s = staged c.requires fs.few in
+    let a = c.in_ok-entered.ensures.ends T array x.own x.to refl s x.is_own x.few x.is_to x.room in
+    let w = latest (g.S.Store.state_of c.name_again.new.store).lives in
+    let lib2 = subst IsLibrary (sym c.name_again.ensures.types) lib in
+    absurd (never slot _ (still_there u w fs.number d name other new_name slot x a.1.0 ∙ sym (c.in_err-entry.ensures.exact lib2)))
+
+pub returns-clause-order : goal.returns-clause-order
+returns-clause-order g c = λ found is.
+    let T = g.S.Store.types_of c.args.store.now in
+    let fs = c.args.self.now.fs in
+    let array = edits_of c.args.self.now.added in
+    let old = g.S.Store.state_of c.args.store.now in
+    let u = latest old.lives in
+    let d = c.args.directory in
+    let name = c.args.name.now in
+    let other = c.args.other in
+    let new_name = c.args.new_name.now in
+    let slot = c.in_ok-slot.slot in
+    let lib = c.requires.library in
+    let exact = c.in_ok-slot.ensures.exact lib in
+    let x = can_move u fs.number d name other new_name slot exact in
+    let s = staged c.requires fs.few in
+    let a = c.in_ok-entered.ensures.ends T array x.own x.to refl s x.is_own x.few x.is_to x.room in
+    let o = c.in_ok-entered.ensures.order T array x.own x.to refl s x.is_own x.few x.is_to x.room in
+    let middle = g.S.Store.state_of c.name_again.new.store in
+    let w = latest middle.lives in
+    let lib2 = subst IsLibrary (sym c.name_again.ensures.types) lib in
+    let new = g.S.Store.state_of c.remove.new.store in
+    let entry = c.in_ok-entry.entry in
+    let entered = c.in_ok-entered.entered in
+    let one = still_one u w fs.number d name other new_name slot x a.1.0 entry (c.in_ok-entry.ensures.exact lib2) in
+    let m = c.remove.ensures.order T array c.name_again.ensures.types a.0 a.1.1 in
+    let m1 = subst (λ (y : Slot). Orders T fs.number (removed_edits w fs.number y (Some entered) middle.next) middle new c.remove.result) one m in
+    let last = o.3 in
+    let number : entered ≡ middle.next - 1 = omega (arith, last) in
+    let m2 = subst (λ (k : ℕ). Orders T fs.number (removed_edits w fs.number slot (Some k) middle.next) middle new c.remove.result) number m1 in
+    subst (λ (y : Slot). InOrder T fs.number (moved_parts fs.number y other new_name old.next) old new c.remove.result) (same_ok slot found (exact ∙ sym is))
+    (moved_then T fs.number slot other new_name old o.0 middle new o.1 o.2 c.remove.result m2)
+
+pub returns-in_err-slot-clause-order : goal.returns-in_err-slot-clause-order
+returns-in_err-slot-clause-order g c = λ entry e. absurd (never entry _ (e ∙ sym (c.in_err-slot.ensures.exact c.requires.library)))

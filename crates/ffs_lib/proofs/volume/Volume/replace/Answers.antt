@@ -54,20 +54,14 @@ returns-then-is_same_place-clause-answers g c =
 
 pub returns-then-is_same_place-clause-inodes : goal.returns-then-is_same_place-clause-inodes
 returns-then-is_same_place-clause-inodes g c = λ first second is.
-    let T = g.S.Store.types_of c.args.store.now in
     let fs = c.args.self.now.fs in
     let old = g.S.Store.state_of c.args.store.now in
-    let u = latest old.lives in
     let d = c.args.directory in
-    let name = c.args.name.now in
     let other = c.args.other in
-    let other_name = c.args.other_name.now in
     let from = c.in_ok-from.from in
     let to = c.in_ok-from.to in
     let lib = c.requires.library in
-    let h = c.requires.keeps.consistent in
     let exact = c.in_ok-from.ensures.exact lib in
-    let x = can_replace u fs.number d name other other_name from to exact in
     let pair : (from, to) ≡ (first, second) = same_ok (from, to) (first, second) (exact ∙ sym is) in
     subst (λ (p : Slot × Slot). Replaced old old fs.number d p.0 other p.1 (Ok tt)) pair (itself_done old fs.number d other from to c.in_ok-from.ensures.first c.in_ok-from.ensures.second (sym c.if-is_same_place.ensures))
 
@@ -123,20 +117,14 @@ returns-then-from-to-clause-keeps g c =
 
 pub returns-clause-inodes : goal.returns-clause-inodes
 returns-clause-inodes g c = λ first second is.
-    let T = g.S.Store.types_of c.args.store.now in
     let fs = c.args.self.now.fs in
     let old = g.S.Store.state_of c.args.store.now in
-    let u = latest old.lives in
     let d = c.args.directory in
-    let name = c.args.name.now in
     let other = c.args.other in
-    let other_name = c.args.other_name.now in
     let from = c.in_ok-from.from in
     let to = c.in_ok-from.to in
     let lib = c.requires.library in
-    let h = c.requires.keeps.consistent in
     let exact = c.in_ok-from.ensures.exact lib in
-    let x = can_replace u fs.number d name other other_name from to exact in
     let pair : (from, to) ≡ (first, second) = same_ok (from, to) (first, second) (exact ∙ sym is) in
     let new = g.S.Store.state_of c.name_over.new.store in
     subst (λ (p : Slot × Slot). Replaced old new fs.number d p.0 other p.1 c.name_over.result) pair (another_done old new fs.number d other from to c.name_over.result c.if-from-to.false c.name_over.ensures.leaves.3)
@@ -152,7 +140,6 @@ returns-then-is_same_place-clause-stands g c = λ from to is apart.
 
 pub returns-then-from-to-clause-stands : goal.returns-then-from-to-clause-stands
 returns-then-from-to-clause-stands g c = λ from to is apart.
-    let old = g.S.Store.state_of c.args.store.now in
     let pair : (c.in_ok-from.from, c.in_ok-from.to) ≡ (from, to) = same_ok (c.in_ok-from.from, c.in_ok-from.to) (from, to) (c.in_ok-from.ensures.exact c.requires.library ∙ sym is) in
     absurd (apart (subst (λ (p : Slot × Slot). p.0.inode ≡ p.1.inode) pair c.if-from-to.true))
 
