@@ -205,10 +205,10 @@ fn scene<K: Naming + Send + Sync, R: Threads + Wait + Sync>(
     requires publisher { publisher ≡ record { floor = floor; seen = zero_floor } }
     requires readers { All (λ reader. reader.floor ≡ K.floor) readers.items }
 {
-    let mut reader = readers.pop()?;
     let (hub, floor) = hub_of(alloc, kernel, floor, publisher)?;
     let shared: SharedKernel<K> = Shared::new(hub, floor, Open);
-    let faults = written(rt, alloc, &shared, writer);
+    let mut reader = readers.pop()?;
+    let faults = written(rt, alloc, &shared, writer)?;
     let floor = shared.floor();
     let words = [
         floor.read(&mut reader, 0),
@@ -216,12 +216,10 @@ fn scene<K: Naming + Send + Sync, R: Threads + Wait + Sync>(
         floor.read(&mut reader, 2),
         floor.read(&mut reader, 3),
     ];
-    let kernel = shared.into_held().into_kernel();
-    if words == [u64::from(4 * (2 + EDITS) + 1); 4] {
-        Some((kernel, faults?))
-    } else {
-        None
+    if words != [u64::from(4 * (2 + EDITS) + 1); 4] {
+        return None;
     }
+    Some((shared.into_held().into_kernel(), faults))
 }
 
 /// Workers and who writes over lanes of which that of a block fails, from the mount on.
