@@ -1,7 +1,8 @@
-// Plays pseudo-random lines of the shell of `xnfs`, and compares each answer with that of a plain tree of files and folders. Most of them go
-// to a disk in memory, which is mounted anew again and again; then all that stands on it is compared, and so it is before. The last ones go
-// to a disk in a file, as one shell. Prints how many lines of each kind were played, how many of them were done, and how many answers were
-// others than the tree's. The same lines are played in each run. An argument says how many.
+// Plays the transcripts of `xnfs` that its arguments name. Then it plays pseudo-random lines of the shell, and compares each answer with that of a
+// plain tree of files and folders. Most of them go to a disk in memory, which is mounted anew again and again; then all that stands on it is
+// compared, and so it is before. The last ones go to a disk in a file, as one shell. Prints how many lines of each kind were played, how many of
+// them were done, and how many answers were others than the tree's. The same lines are played in each run. An argument that is a number says how
+// many.
 #![tactic(auto)]
 
 mod answers;
@@ -11,6 +12,7 @@ mod names;
 mod run;
 mod sources;
 mod tally;
+mod transcripts;
 mod tree;
 
 use run::{play_file, play_memory};
@@ -19,6 +21,7 @@ use std::process::ExitCode;
 use std::thread::Threads;
 use std::{env, io};
 use tally::Tally;
+use transcripts::play_transcripts;
 
 /// How many lines are played where no argument says so.
 const LINES: u32 = 20_000;
@@ -26,14 +29,20 @@ const LINES: u32 = 20_000;
 /// Of how many lines one goes to the disk in a file.
 const IN_FILE: u32 = 20;
 
-/// Plays the lines, and answers how many of the answers were wrong. Threads are started by the second handle alone.
-fn play(rt: &HostRuntime, threads: &(impl Threads + Sync)) -> io::Result<u32> {
+/// Plays transcripts and lines, and answers whether all answers were right. Threads are started by the second handle alone.
+fn play(rt: &HostRuntime, threads: &(impl Threads + Sync)) -> io::Result<bool> {
     let alloc = rt.alloc();
-    let words: Vec<String> = env::args(rt)?.skip(1).collect(alloc)?;
-    let lines = match words.first() {
-        Some(word) => word.as_str().parse::<u32>().unwrap_or(LINES),
-        None => LINES,
-    };
+    let mut lines = LINES;
+    let mut names: Vec<String> = Vec::new(alloc);
+    for word in env::args(rt)?.skip(1) {
+        match word.as_str().parse::<u32>() {
+            Ok(number) => lines = number,
+            Err(_) => names.push(word)?,
+        }
+    }
+    if !names.is_empty() && !play_transcripts(rt, threads, alloc, &names)? {
+        return Ok(false);
+    }
     let sources = Sources::write(rt, alloc)?;
     let mut tally = Tally::new();
     let in_file = lines / IN_FILE;
@@ -47,10 +56,10 @@ fn play(rt: &HostRuntime, threads: &(impl Threads + Sync)) -> io::Result<u32> {
     )?;
     play_file(rt, threads, alloc, &sources, in_file, &mut tally)?;
     println!(rt; "{tally}")?;
-    Ok(tally.wrong)
+    Ok(tally.wrong == 0)
 }
 
 fn main(rt: HostRuntime) -> io::Result<ExitCode> {
-    let wrong = play(&rt, &rt)?;
-    Ok(ExitCode::from(if wrong == 0 { 0 } else { 1 }))
+    let is_well = play(&rt, &rt)?;
+    Ok(ExitCode::from(if is_well { 0 } else { 1 }))
 }
