@@ -1,8 +1,8 @@
-// Plays the transcripts of `xnfs` that its arguments name. Then it plays pseudo-random lines of the shell, and compares each answer with that of a
-// plain tree of files and folders. Most of them go to a disk in memory, which is mounted anew again and again; then all that stands on it is
-// compared, and so it is before. The last ones go to a disk in a file, as one shell. Prints how many lines of each kind were played, how many of
-// them were done, and how many answers were others than the tree's. The same lines are played in each run. An argument that is a number says how
-// many.
+// Plays the transcripts of `xnfs` that its arguments name, and makes, leaves and opens a store on a disk in a file. Then it plays pseudo-random
+// lines of the shell, and compares each answer with that of a plain tree of files and folders. Most of them go to a disk in memory, which is
+// mounted anew again and again; then all that stands on it is compared, and so it is before. The last ones go to a disk in a file, as one shell.
+// Prints how many lines of each kind were played, how many of them were done, and how many answers were others than the tree's. The same lines
+// are played in each run. An argument that is a number says how many.
 #![tactic(auto)]
 
 mod answers;
@@ -10,12 +10,14 @@ mod disks;
 mod lines;
 mod names;
 mod run;
+mod scenes;
 mod sources;
 mod tally;
 mod transcripts;
 mod tree;
 
 use run::{play_file, play_memory};
+use scenes::play_scenes;
 use sources::Sources;
 use std::process::ExitCode;
 use std::thread::Threads;
@@ -41,6 +43,10 @@ fn play(rt: &HostRuntime, threads: &(impl Threads + Sync)) -> io::Result<bool> {
         }
     }
     if !names.is_empty() && !play_transcripts(rt, threads, alloc, &names)? {
+        return Ok(false);
+    }
+    if let Err(fault) = play_scenes(rt, threads, alloc) {
+        println!(rt; "scenes: {fault}")?;
         return Ok(false);
     }
     let sources = Sources::write(rt, alloc)?;

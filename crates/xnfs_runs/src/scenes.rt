@@ -1,5 +1,4 @@
-// A store on a file: made, flushed, left, opened again, and refused to a second opener.
-#![tactic(auto)]
+// A store on a disk in a file: made, flushed, left, opened again, and refused to a second opener.
 
 use anyhow::{Result, anyhow};
 use crash_check::mount;
@@ -67,17 +66,21 @@ fn root_a_block(kernel: &mut Kernel<FileLane>, alloc: Global, fs: Fs) -> Result<
     Ok((block, waves))
 }
 
-fn main(rt: HostRuntime) -> Result<()> {
-    let alloc = rt.alloc();
+/// Plays the scenes, and prints what each comes to.
+pub fn play_scenes(
+    rt: &HostRuntime,
+    threads: &(impl Threads + Sync),
+    alloc: Global,
+) -> Result<()> {
     let Some(fs) = Fs::new(0) else {
         return Err(anyhow!("no file system"));
     };
-    let _ = fs::remove_file(&rt, PATH);
+    let _ = fs::remove_file(rt, PATH);
 
-    let mut kernel = mounted(&rt, alloc, made(&rt, alloc)?)?;
+    let mut kernel = mounted(threads, alloc, made(rt, alloc)?)?;
     let (block, waves) = root_a_block(&mut kernel, alloc, fs)?;
     println!(rt; "block {block} is a root after {waves} waves")?;
-    match FileDisk::open(&rt, alloc, PATH) {
+    match FileDisk::open(rt, alloc, PATH) {
         Ok(_) => println!(rt; "a second opener has it")?,
         Err(fault) => println!(rt; "a second opener: {fault}")?,
     }
@@ -90,11 +93,11 @@ fn main(rt: HostRuntime) -> Result<()> {
     )?;
     drop(kernel.into_lanes());
 
-    let kernel = mounted(&rt, alloc, FileDisk::open(&rt, alloc, PATH)?)?;
+    let kernel = mounted(threads, alloc, FileDisk::open(rt, alloc, PATH)?)?;
     println!(rt; "opened again, free: {}", kernel.free())?;
     if let Ok(bytes) = kernel.read(fs, block) {
         println!(rt; "block {block} begins with {}", bytes[0])?;
     }
-    fs::remove_file(&rt, PATH)?;
+    fs::remove_file(rt, PATH)?;
     Ok(())
 }
