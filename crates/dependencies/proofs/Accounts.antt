@@ -12,7 +12,7 @@ use Rattle.xn_model.proofs.ForCallers.{all_at, place_from}
 use Rattle.block_cache.specs.declared.life.Facts.{Facts}
 use Rattle.block_cache.specs.Views.{facts_of}
 use Rattle.block_cache.specs.Claims.{ClaimValue, claim_of}
-use Rattle.block_set.specs.Members.{HasNoneFrom, IsLeastFrom}
+use Rattle.free_map.specs.Members.{HasNoneFrom, IsLeastFrom}
 use Rattle.dependencies.specs.WaitLists.{at, Releases}
 use Rattle.dependencies.proofs.WaitChains.{at_other, at_same, within}
 use Rattle.dependencies.specs.Candidates.{AreCandidates, CandidatesValue, IsAccounted, Parks, Wakes, is_candidate, is_idle_with_entries}

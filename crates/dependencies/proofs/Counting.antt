@@ -13,7 +13,7 @@ use Rattle.xn_model.specs.declared.status.Status.TheVariants.{Owned, Dropped}
 use Rattle.xn_model.specs.Lives.{BlockState, Life, Lives, life_at, change_at, with_state, with_status, settle, begun_at, settled_at, owned_after, dropped_after, accepted_at, freed, is_for, lowest_free}
 use Rattle.xn_model.specs.Calls.{first_pending, pending_in, new_life}
 use Rattle.xn_model.proofs.ForCallers.{place_from}
-use Rattle.block_set.specs.Members.{is_member}
+use Rattle.free_map.specs.Members.{is_member}
 pub use Rattle.dependencies.proofs.FirstEntries.{counted, counts_for, place_is}
 use Rattle.dependencies.specs.Index.{IsCounted}
 use Rattle.edit_list.specs.declared.fs.Fs.{Fs}

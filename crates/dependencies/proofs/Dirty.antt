@@ -7,7 +7,7 @@ use Rattle.std.proofs.lemmas.List.{length-map}
 use Rattle.std.proofs.lemmas.Option.{unwrap_or-slice_get}
 use Rattle.xn_model.specs.Lives.{entries_at, entries_in, entries_of, BlockState, Life, Lives, has_entry, life_at, safe_count}
 use Rattle.xn_model.specs.Calls.{is_ready, life_pending}
-use Rattle.block_set.specs.Members.{HasNoneFrom, IsLeastFrom}
+use Rattle.free_map.specs.Members.{HasNoneFrom, IsLeastFrom}
 use Rattle.dependencies.specs.Pending.{is_dirty, pends}
 use Rattle.xn_model.proofs.ForCallers.{entries_counted}
 use Rattle.dependencies.proofs.FirstEntries.{counted}

@@ -3,7 +3,7 @@ use Rattle.std.proofs.Common.{◌≡◌, ℕ, ◌<◌, ◌⊎◌, Bool, true, fa
 use Rattle.std.specs.Prelude.{IsTrue, cond, count_by, position, slice_set}
 use Rattle.std.proofs.lemmas.List.Quantifiers.{position-Some}
 use Rattle.std.proofs.lemmas.List.Sums.{sum_by-set}
-use Rattle.block_set.specs.Members.{is_member}
+use Rattle.free_map.specs.Members.{is_member}
 use Rattle.dependencies.specs.Candidates.{CandidatesValue, Parks}
 
 pub stays_or_parks : (t : Bool) (old new : CandidatesValue) (b c : ℕ) → (IsTrue t → Parks old new b c) → (t ≡ false → new ≡ old) → (new ≡ old) ⊎ Parks old new b c

@@ -2,7 +2,7 @@
 use Rattle.std.specs.Prelude.{◌≡◌, ℕ, ◌<◌, ◌≤◌, Bool, true, false, not, ◌&&◌, ◌⊎◌, List, Option, Some, IsTrue, is_none, is_some, length, position}
 use Rattle.std.specs.Prelude.{slice_index_or, slice_set}
 use Rattle.xn_model.specs.Lives.{Life, Lives, alive_and, life_at, no_states}
-use Rattle.block_set.specs.Members.{is_member}
+use Rattle.free_map.specs.Members.{is_member}
 use Rattle.dependencies.specs.WaitLists.{at}
 use Rattle.dependencies.specs.Waiting.{WaitsFor}
 

@@ -11,7 +11,7 @@ ghost use Rattle.dependencies.specs.Pending.{is_dirty, pends};
 
 use crate::homes::Homes;
 use block_cache::{Cache, EditId};
-use block_set::BlockSet;
+use free_map::BlockSet;
 
 /// Whether the pending entry at a place of a block has this number.
 fn is_number_at(cache: &Cache, block: u32, place: usize, number: u64) -> bool

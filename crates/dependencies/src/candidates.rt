@@ -1,7 +1,7 @@
 // The blocks of which a write may begin.
 
 ghost use Rattle.std.specs.Prelude.{◌≡◌, ◌<◌, ◌≤◌, ◌⊎◌, true, false, cond, count_by, is_some, length, map, replicate, None, IfOk, IfSome, IfNone, IsTrue};
-ghost use Rattle.block_set.specs.Members.{IsLeastFrom, HasNoneFrom, is_member};
+ghost use Rattle.free_map.specs.Members.{IsLeastFrom, HasNoneFrom, is_member};
 ghost use Rattle.dependencies.specs.WaitLists.{at};
 ghost use Rattle.dependencies.specs.Candidates.{AreCandidates, CandidatesValue, IsTrimmed, Parks, Wakes, with_candidate};
 ghost use Rattle.dependencies.specs.Homes.{AreHomes};
@@ -11,7 +11,7 @@ use crate::homes::Homes;
 use crate::wait_lists::WaitLists;
 use crate::waiting::waits_for;
 use block_cache::Cache;
-use block_set::BlockSet;
+use free_map::BlockSet;
 use std::alloc::{AllocError, Global};
 use std::marker::Model;
 

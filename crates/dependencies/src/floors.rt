@@ -7,7 +7,7 @@ ghost use Rattle.xn_model.specs.Calls.{pending_in};
 ghost use Rattle.dependencies.specs.Pending.{claim_count, claim_entries, is_dirty};
 
 use block_cache::{Cache, Claim, Fs};
-use block_set::BlockSet;
+use free_map::BlockSet;
 
 /// The least of a number and the pending entries that count for a file system. The walk is over the blocks for which something
 /// is pending, and as there are `count` of these entries, it ends with the last of them.

@@ -8,7 +8,7 @@ ghost use Rattle.dependencies.specs.Pending.{is_dirty};
 
 use crate::candidates::Candidates;
 use crate::homes::Homes;
-use block_set::BlockSet;
+use free_map::BlockSet;
 use free_map::FreeMap;
 use std::alloc::{AllocError, Global};
 use std::marker::Model;

@@ -13,7 +13,7 @@ ghost use Rattle.dependencies.specs.Typed.{FindsTypes};
 use crate::after::is_after_met;
 use crate::homes::Homes;
 use block_cache::{Cache, Claim};
-use block_set::BlockSet;
+use free_map::BlockSet;
 
 /// Whether some state of a block is known to be on the disk.
 pub fn has_durable(cache: &Cache, block: u32) -> bool

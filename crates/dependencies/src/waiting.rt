@@ -10,7 +10,7 @@ use crate::after::pending_block;
 use crate::homes::Homes;
 use crate::safe::{has_durable, is_all_durable};
 use block_cache::{Cache, Claim, EditId};
-use block_set::BlockSet;
+use free_map::BlockSet;
 
 /// The first of these blocks that has no state on the disk.
 fn added_early(cache: &Cache, adds: &[(u32, u32)]) -> Option<u32>

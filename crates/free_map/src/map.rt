@@ -1,9 +1,9 @@
 // The free blocks of a disk.
 
 ghost use Rattle.std.specs.Prelude.{◌≡◌, ◌<◌, Bool, true, false, length, replicate, count_by, position, unwrap_or, slice_get, slice_set, IfOk, IfSome, IfNone};
-ghost use Rattle.block_set.specs.Members.{is_member};
+ghost use Rattle.free_map.specs.Members.{is_member};
 
-use block_set::BlockSet;
+use crate::BlockSet;
 use std::alloc::{AllocError, Global};
 use std::marker::Model;
 

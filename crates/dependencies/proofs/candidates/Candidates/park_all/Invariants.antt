@@ -1,5 +1,5 @@
 use Rattle.std.specs.Prelude.{count_by}
-use Rattle.block_set.specs.Members.{is_member}
+use Rattle.free_map.specs.Members.{is_member}
 use Rattle.dependencies.specs.Candidates.{AreCandidates}
 use Rattle.dependencies.proofs.candidates.Candidates.park_all.Given as goal
 

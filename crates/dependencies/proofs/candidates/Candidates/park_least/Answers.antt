@@ -1,7 +1,7 @@
 use Rattle.std.proofs.Common.{◌≡◌, ◌∙◌, ℕ, ap, inl, subst, sym}
 use Rattle.std.specs.Prelude.{position}
 use Rattle.std.proofs.lemmas.Option.{same_Some}
-use Rattle.block_set.specs.Members.{is_member}
+use Rattle.free_map.specs.Members.{is_member}
 use Rattle.dependencies.specs.Candidates.{CandidatesValue}
 use Rattle.dependencies.specs.Waiting.{WaitsFor}
 use Rattle.dependencies.proofs.Accounts.{parked}

@@ -1,6 +1,6 @@
 use Rattle.std.proofs.Common.{◌∙◌, ap, arith}
 use Rattle.std.specs.Prelude.{count_by}
-use Rattle.block_set.specs.Members.{is_member}
+use Rattle.free_map.specs.Members.{is_member}
 use Rattle.dependencies.specs.Candidates.{CandidatesValue}
 use Rattle.dependencies.proofs.Trimming.{no_least}
 use Rattle.dependencies.proofs.candidates.Candidates.trim.Goals as goal

@@ -1,6 +1,6 @@
 use Rattle.std.proofs.Common.{◌∙◌, ap, subst, sym}
 use Rattle.std.specs.Prelude.{count_by}
-use Rattle.block_set.specs.Members.{is_member}
+use Rattle.free_map.specs.Members.{is_member}
 use Rattle.dependencies.specs.Index.{IsIndex}
 use Rattle.dependencies.proofs.Counting.{count_marked}
 use Rattle.dependencies.proofs.index.Index.free.Goals as goal

@@ -1,6 +1,6 @@
 use Rattle.std.proofs.Common.{◌∙◌, ap, subst, sym}
 use Rattle.std.specs.Prelude.{position}
-use Rattle.block_set.specs.Members.{is_member}
+use Rattle.free_map.specs.Members.{is_member}
 use Rattle.dependencies.specs.Index.{IsIndex}
 use Rattle.dependencies.proofs.Counting.{lowest_marked}
 use Rattle.dependencies.proofs.index.Index.lowest_free.Goals as goal

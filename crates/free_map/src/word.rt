@@ -1,0 +1,54 @@
+// Single bits of a word.
+
+ghost use Rattle.std.specs.Prelude.{◌≡◌, ◌≢◌, ℕ, ◌<◌, ◌≤◌, ◌↔◌, IsTrue, IfSome, IfNone};
+ghost use Rattle.free_map.specs.Bits.{IsLowestBitFrom};
+ghost use Rattle.std.specs.Int.{bit_at};
+
+/// Whether bit `at` is set.
+pub fn has_bit(word: u64, at: u32) -> bool
+    requires { at < 64 }
+    ensures { IsTrue result ↔ (bit_at word at ≡ 1) }
+{
+    word & (1 << at) != 0
+}
+
+/// The word with bit `at` set.
+pub fn with_bit(word: u64, at: u32) -> u64
+    requires { at < 64 }
+    ensures set { bit_at result at ≡ 1 }
+    ensures others { (k : ℕ) → k ≢ at → bit_at result k ≡ bit_at word k }
+{
+    word | (1 << at)
+}
+
+/// The word with bit `at` cleared.
+pub fn without_bit(word: u64, at: u32) -> u64
+    requires { at < 64 }
+    ensures cleared { bit_at result at ≡ 0 }
+    ensures others { (k : ℕ) → k < 64 → k ≢ at → bit_at result k ≡ bit_at word k }
+{
+    word & !(1 << at)
+}
+
+/// The lowest bit of a word that has some bit.
+pub fn lowest_bit(word: u64) -> u32
+    requires { 0 < word }
+    ensures within { result < 64 }
+    ensures set { bit_at word result ≡ 1 }
+    ensures lowest { (k : ℕ) → k < result → bit_at word k ≡ 0 }
+{
+    word.trailing_zeros()
+}
+
+/// The lowest bit of a word that is not below `from`, if there is one.
+pub fn lowest_bit_from(word: u64, from: u32) -> Option<u32>
+    requires { from < 64 }
+    ensures some { IfSome result (IsLowestBitFrom word from) }
+    ensures none { IfNone result ((k : ℕ) → from ≤ k → bit_at word k ≡ 0) }
+{
+    let rest = word >> from;
+    if rest == 0 {
+        return None;
+    }
+    Some(from + rest.trailing_zeros())
+}
