@@ -1,2 +1,2 @@
 -- What crates above cite in their proofs. They import no other module of these proofs.
-pub use Rattle.script_words.proofs.ForCallers.{zip_push}
+pub use Rattle.script.proofs.WordLists.{zip_push}

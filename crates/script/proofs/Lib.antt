@@ -1,3 +1,9 @@
+pub mod Decimals
+pub mod HexBytes
+pub mod EditWords
+pub mod WordLists
+pub mod EditCuts
+pub mod PrintedBytes
 pub mod ScriptLines
 pub mod EventWords
 pub mod ToldLines

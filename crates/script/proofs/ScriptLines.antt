@@ -10,7 +10,7 @@ use Rattle.std.proofs.lemmas.List.Splits.{slice_split_first, slice_split_none}
 use Rattle.std.proofs.lemmas.List.Sums.{fails_before_first}
 use Rattle.std.proofs.lemmas.Str.Pattern.{IsSplitOnceResult, split_once_first}
 use Rattle.script.specs.Events.{SpellNothing}
-use Rattle.script_words.proofs.ForCallers.{zip_push}
+use Rattle.script.proofs.WordLists.{zip_push}
 use Rattle.script.specs.Scripts.{is_passed_over, line_words, lines_of, event_lines, LineSpells, SpellEvents, SpellsSome, IsReadable, IsFirstUnreadable}
 
 -- the first word of a text, and those behind it

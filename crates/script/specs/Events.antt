@@ -5,9 +5,9 @@ use Rattle.xn_state.specs.declared.call.Call.TheVariants.{Init, Propose, MakeRoo
 use Rattle.xn_state.specs.declared.call.Call.TheVariants.{Drain}
 use Rattle.events.specs.declared.event.Event.{Event}
 use Rattle.events.specs.declared.event.Event.TheVariants as event
-use Rattle.script_words.specs.Edits.{SpellsEdit}
-use Rattle.script_words.specs.Hex.{IsBlockText, IsHex, SpellsBlock}
-use Rattle.script_words.specs.Numbers.{SpellsNumber, SpellNumbers}
+use Rattle.script.specs.Edits.{SpellsEdit}
+use Rattle.script.specs.Hex.{IsBlockText, IsHex, SpellsBlock}
+use Rattle.script.specs.Numbers.{SpellsNumber, SpellNumbers}
 
 -- the words of a client's call
 abbrev pub SpellsCall : List (List ℕ) → ℕ → Call → Type 0

@@ -1,3 +1,8 @@
+pub mod Hex
+pub mod Numbers
+pub mod Edits
+pub mod Cuts
+pub mod Bytes
 pub mod Events
 pub mod Scripts
 pub mod Told

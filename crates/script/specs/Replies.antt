@@ -8,7 +8,7 @@ use Rattle.xn_state.specs.declared.answer.Answer.TheVariants as answer
 use Rattle.events.specs.declared.reply.Reply.{Reply}
 use Rattle.events.specs.declared.reply.Reply.TheVariants as reply
 use Rattle.xn_state.specs.declared.installed.Installed.{Installed}
-use Rattle.script_words.specs.Bytes.{bytes_text}
+use Rattle.script.specs.Bytes.{bytes_text}
 
 -- a block, or that there is none
 abbrev pub block_text : Option ℕ → List ℕ

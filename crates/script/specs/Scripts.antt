@@ -2,8 +2,8 @@
 use Rattle.std.specs.Prelude.{◌≡◌, ◌<◌, ◌⊎◌, ⊤, ℕ, ◌+◌, ◌==◌, Bool, true, false, not, List, [], ◌∷◌, length, filter, Option, Some, None}
 use Rattle.std.specs.List.{AllZip, slice_split, slice_index_or}
 use Rattle.events.specs.declared.event.Event.{Event}
-use Rattle.script_words.specs.declared.fault.ScriptFault.{ScriptFault}
-use Rattle.script_words.specs.declared.fault.ScriptFault.TheVariants.{Unreadable, NoMemory}
+use Rattle.script.specs.declared.fault.ScriptFault.{ScriptFault}
+use Rattle.script.specs.declared.fault.ScriptFault.TheVariants.{Unreadable, NoMemory}
 use Rattle.script.specs.Events.{Spells, SpellNothing}
 
 -- the lines of a text, which is split at each newline

@@ -4,7 +4,7 @@ use Rattle.xn_state.specs.declared.call.Call.TheVariants.{Init, Propose, MakeRoo
 use Rattle.events.specs.declared.event.Event.TheVariants as event
 use Rattle.script.specs.declared.told.LineEvent.{LineEvent}
 use Rattle.script.specs.declared.told.LineEvent.TheVariants as line
-use Rattle.script_words.specs.Hex.{IsBlockText, IsHex, SpellsBlock}
+use Rattle.script.specs.Hex.{IsBlockText, IsHex, SpellsBlock}
 use Rattle.script.specs.Events.{Spells, SpellNothing}
 use Rattle.script.specs.Scripts.{line_words}
 

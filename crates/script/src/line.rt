@@ -1,16 +1,16 @@
 // A line of a script, with the event that it spells.
 
 ghost use Rattle.std.specs.Prelude.{◌≡◌, ◌↔◌, List, IfNone, IfOk, IfSome, IsSome, IsTrue, MatchBool, ℕ};
-ghost use Rattle.script_words.specs.Hex.{IsHex, SpellsBlock};
+ghost use Rattle.script.specs.Hex.{IsHex, SpellsBlock};
 ghost use Rattle.events.specs.declared.event.Event.{Event};
 ghost use Rattle.script.specs.Events.{Spells, SpellNothing};
 ghost use Rattle.script.specs.Scripts.{LineSpells, SpellsSome, line_words};
 ghost use Rattle.script.specs.Told.{IsSpelledOut, SpellsEvent};
 
+use crate::parse_block;
 use crate::told::LineEvent;
 use crate::words::read_line;
 use events::Event;
-use script_words::parse_block;
 use std::alloc::{AllocError, Global};
 use std::marker::Model;
 use xn_state::Call;

@@ -6,9 +6,9 @@ ghost use Rattle.std.specs.Io.KnownBytes.{Appends};
 ghost use Rattle.xn_model.specs.Refusals.{refusal_text};
 ghost use Rattle.script.specs.Replies.{answer_text, block_text, edit_text, installed_text, reply_line, reply_text, result_text};
 
+use crate::print_bytes;
 use events::{Installed, Reply};
 use itoa::Buffer;
-use script_words::print_bytes;
 use std::io;
 use std::io::Write;
 use xn_model::Refusal;

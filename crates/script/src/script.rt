@@ -3,8 +3,8 @@
 ghost use Rattle.std.specs.Prelude.{◌≡◌, IfOk, IfErr};
 ghost use Rattle.script.specs.Scripts.{event_lines, is_passed_over, IsScriptFault, SpellEvents};
 
+use crate::ScriptFault;
 use crate::line::ScriptLine;
-use script_words::ScriptFault;
 use std::alloc::Global;
 
 /// Whether a line is empty or begins with `#`.

@@ -8,7 +8,7 @@ ghost use Rattle.script.specs.Told.{SpellsEvent};
 ghost use Rattle.script.specs.Scripts.{words_in, line_words};
 
 use crate::told::LineEvent;
-use script_words::{parse_edit, parse_number, parse_numbers, parse_u32};
+use crate::{parse_edit, parse_number, parse_numbers, parse_u32};
 use std::alloc::{AllocError, Global};
 use xn_state::Fs;
 

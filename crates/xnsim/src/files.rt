@@ -5,7 +5,7 @@ use std::fs::{File, OpenFile, OpenOptions, Permissions};
 use std::io::{ErrorKind, Read, Write};
 use std::rt::Files as System;
 use std::{fs, io};
-use xnsim_words::Files;
+use xnsim_line::Files;
 
 /// How many names are tried for a file that is written beside another one.
 const TRIES: u32 = 100;

@@ -1,12 +1,12 @@
 -- What was printed stands where it is then flushed.
 use Rattle.std.proofs.Common.{ℕ, List, Option, Some, None, ◌∙◌}
 use Rattle.std.specs.Io.KnownBytes.{Appends, Keeps}
-use Rattle.xnsim_words.specs.declared.invocation.Invocation.{Invocation}
-use Rattle.xnsim_words.specs.declared.invocation.Stop.{Stop}
-use Rattle.xnsim_words.specs.declared.invocation.Invocation.TheVariants.{Bare, Format, Run, Check, Asm, Verify}
+use Rattle.xnsim_line.specs.declared.invocation.Invocation.{Invocation}
+use Rattle.xnsim_line.specs.declared.invocation.Stop.{Stop}
+use Rattle.xnsim_line.specs.declared.invocation.Invocation.TheVariants.{Bare, Format, Run, Check, Asm, Verify}
 use Rattle.xnsim_line.specs.Assembling.{PrintsTemplate}
 use Rattle.xnsim_line.specs.Done.{IsDone, IsLineDone}
-use Rattle.xnsim_words.specs.Files.{Held}
+use Rattle.xnsim_line.specs.Files.{Held}
 use Rattle.xnsim_line.specs.Programs.{PrintsAccepted}
 use Rattle.xnsim_line.specs.Runs.{IsMountedRun, IsPrintedRun}
 use Rattle.xnsim_line.specs.Stops.{IsAskedRun, IsStoppedRun}

@@ -1,3 +1,6 @@
+pub mod CommandLines
+pub mod TemplateWords
+pub mod StartsRead
 pub mod TemplatesRead
 pub mod ScriptRuns
 pub mod SpelledLines

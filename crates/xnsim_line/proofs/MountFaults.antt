@@ -1,9 +1,9 @@
 -- A fault of a run on an image is one that may come of its line.
 use Rattle.std.proofs.Common.{ℕ, List, Bor, Option, None}
-use Rattle.xnsim_words.specs.declared.fault.Fault.{Fault}
-use Rattle.xnsim_words.specs.declared.fault.Fault.TheVariants.{Usage, CannotRead, Unreadable, Image, CannotWrite, NoMemory, Program, Owns, Size, Template, TooManyTemplates, TooManyWords, Stream}
-use Rattle.xnsim_words.specs.declared.invocation.Invocation.TheVariants.{Run}
-use Rattle.xnsim_words.specs.declared.invocation.Stop.{Stop}
+use Rattle.xnsim_line.specs.declared.fault.Fault.{Fault}
+use Rattle.xnsim_line.specs.declared.fault.Fault.TheVariants.{Usage, CannotRead, Unreadable, Image, CannotWrite, NoMemory, Program, Owns, Size, Template, TooManyTemplates, TooManyWords, Stream}
+use Rattle.xnsim_line.specs.declared.invocation.Invocation.TheVariants.{Run}
+use Rattle.xnsim_line.specs.declared.invocation.Stop.{Stop}
 use Rattle.xnsim_line.specs.Done.{IsFaultOf, IsFaultOnImage, IsRunFault}
 
 pub mount_fault : (image script : Bor (List ℕ)) (stop : Option Stop) (bytes : List ℕ) (fault : Fault) → IsFaultOnImage bytes fault → IsFaultOf None (Run image script stop) fault

@@ -16,7 +16,7 @@ use Rattle.events.specs.Events.{event_of, reply_of}
 use Rattle.script.specs.Replies.{reply_line}
 use Rattle.script.specs.Scripts.{AllSpell, LineSpells, SpellEvents}
 use Rattle.script.proofs.ForCallers.{zip_push}
-use Rattle.xnsim_words.specs.declared.invocation.Stop.{Stop}
+use Rattle.xnsim_line.specs.declared.invocation.Stop.{Stop}
 use Rattle.xnsim_line.specs.Stops.{writes_by, writes_in, end_line, image_left, IsAskedOn, IsAskedRun, IsHeldBack, IsLineHeldBack, IsLineWithin, IsStoppedRun}
 use Rattle.xnsim_line.specs.Runs.{opened_world, IsPrintedRun, IsRun, RunsLines}
 use Rattle.xnsim_line.proofs.SpelledLines.{rest_spelled}

@@ -5,9 +5,9 @@ use Rattle.std.specs.Io.KnownBytes.{Appends}
 use Rattle.udf_verify.specs.declared.fault.Role.TheVariants as role
 use Rattle.udf_verify.specs.Program.{Program}
 use Rattle.templates.specs.Templates.{template_bytes, IsTemplate, TemplateValue}
-use Rattle.xnsim_words.specs.declared.fault.Fault.{Fault}
-use Rattle.xnsim_words.specs.declared.fault.Fault.TheVariants as fault
-use Rattle.xnsim_words.specs.Files.{Held, with_file}
+use Rattle.xnsim_line.specs.declared.fault.Fault.{Fault}
+use Rattle.xnsim_line.specs.declared.fault.Fault.TheVariants as fault
+use Rattle.xnsim_line.specs.Files.{Held, with_file}
 use Rattle.xnsim_line.specs.Programs.{IsProgramFault, IsProgramOf}
 
 -- the line of a template that was made, with the counts of its words

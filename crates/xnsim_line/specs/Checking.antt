@@ -8,7 +8,7 @@ use Rattle.image_model.specs.Report.{IsReport, IsSoundImage}
 use Rattle.image_model.specs.declared.fault.ImageFault.{ImageFault}
 use Rattle.image_model.specs.declared.fault.ImageFault.TheVariants.{NoMemory}
 use Rattle.templates.specs.Language.{types_of_image}
-use Rattle.xnsim_words.specs.Files.{Held, IsHeld}
+use Rattle.xnsim_line.specs.Files.{Held, IsHeld}
 
 -- the line of a sound image
 abbrev pub report_line : ℕ → ℕ → List ℕ

@@ -2,18 +2,18 @@
 use Rattle.std.specs.Prelude.{◌≡◌, ◌⊎◌, ⊤, ℕ, List, [], length, map, Option, IfSome, codes, string_bytes, Contains}
 use Rattle.templates.specs.Templates.{TemplateValue}
 use Rattle.events.specs.declared.event.Event.{Event}
-use Rattle.xnsim_words.specs.declared.invocation.Invocation.{Invocation}
-use Rattle.xnsim_words.specs.declared.invocation.Stop.{Stop}
-use Rattle.xnsim_words.specs.declared.invocation.Invocation.TheVariants.{Bare, Format, Run, Check, Asm, Verify}
-use Rattle.xnsim_words.specs.declared.fault.Fault.{Fault}
-use Rattle.xnsim_words.specs.declared.fault.Fault.TheVariants.{Usage, CannotRead, Unreadable, Image, CannotWrite, NoMemory, Program, Owns, Size, Template}
-use Rattle.xnsim_words.specs.declared.fault.Fault.TheVariants.{TooManyTemplates, TooManyWords, Stream}
+use Rattle.xnsim_line.specs.declared.invocation.Invocation.{Invocation}
+use Rattle.xnsim_line.specs.declared.invocation.Stop.{Stop}
+use Rattle.xnsim_line.specs.declared.invocation.Invocation.TheVariants.{Bare, Format, Run, Check, Asm, Verify}
+use Rattle.xnsim_line.specs.declared.fault.Fault.{Fault}
+use Rattle.xnsim_line.specs.declared.fault.Fault.TheVariants.{Usage, CannotRead, Unreadable, Image, CannotWrite, NoMemory, Program, Owns, Size, Template}
+use Rattle.xnsim_line.specs.declared.fault.Fault.TheVariants.{TooManyTemplates, TooManyWords, Stream}
 use Rattle.xnsim_line.specs.Assembling.{IsTemplateFault, PrintsTemplate}
 use Rattle.udf_verify.specs.declared.fault.Role.{Role}
-use Rattle.xnsim_words.specs.Files.{Held, IsHeld, with_file}
+use Rattle.xnsim_line.specs.Files.{Held, IsHeld, with_file}
 use Rattle.xnsim_line.specs.Formatting.{IsSomeFault, IsTooMany, PrintsMade}
 use Rattle.xnsim_line.specs.Checking.{IsVerdict, PrintsChecked}
-use Rattle.xnsim_words.specs.Lines.{IsLine, IsNoLine}
+use Rattle.xnsim_line.specs.Lines.{IsLine, IsNoLine}
 use Rattle.xnsim_line.specs.Programs.{IsProgramFault, PrintsAccepted}
 use Rattle.xnsim_line.specs.Runs.{fresh_world, IsPrintedRun}
 use Rattle.xnsim_line.specs.Stops.{IsAskedRun}

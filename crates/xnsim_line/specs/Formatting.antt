@@ -8,9 +8,9 @@ use Rattle.templates.specs.Templates.{template_bytes, IsTemplate, TemplateValue}
 use Rattle.templates.specs.Reading.{template_of_bytes}
 use Rattle.xn_model.specs.Images.{joined}
 use Rattle.templates.specs.Formats.{formatted}
-use Rattle.xnsim_words.specs.declared.fault.Fault.{Fault}
-use Rattle.xnsim_words.specs.declared.fault.Fault.TheVariants as fault
-use Rattle.xnsim_words.specs.Files.{Held, AreHeld, with_file}
+use Rattle.xnsim_line.specs.declared.fault.Fault.{Fault}
+use Rattle.xnsim_line.specs.declared.fault.Fault.TheVariants as fault
+use Rattle.xnsim_line.specs.Files.{Held, AreHeld, with_file}
 use Rattle.ffs_format.specs.Library.{file_system_templates}
 
 -- the line of an image that was made

@@ -1,5 +1,8 @@
-pub use Rattle.xnsim_words.specs.Files
-pub use Rattle.xnsim_words.specs.Lines
+pub mod Files
+pub mod CommandLine
+pub mod Lines
+pub mod ProgramFaults
+pub mod Faults
 pub mod Checking
 pub mod Programs
 pub mod Assembling

@@ -10,10 +10,10 @@ use Rattle.udf_verify.specs.declared.fault.FaultKind.TheVariants as kind
 use Rattle.udf_verify.specs.declared.fault.Role.{Role}
 use Rattle.udf_verify.specs.Program.{Program}
 use Rattle.udf_verify.specs.Verdict.{cost, emits, program_verdict, IsAccepted}
-use Rattle.xnsim_words.specs.declared.fault.Fault.{Fault}
-use Rattle.xnsim_words.specs.declared.fault.Fault.TheVariants as fault
-use Rattle.xnsim_words.specs.declared.program_fault.ProgramFault.{ProgramFault}
-use Rattle.xnsim_words.specs.declared.program_fault.ProgramFault.TheVariants.{Text, Rule}
+use Rattle.xnsim_line.specs.declared.fault.Fault.{Fault}
+use Rattle.xnsim_line.specs.declared.fault.Fault.TheVariants as fault
+use Rattle.xnsim_line.specs.declared.program_fault.ProgramFault.{ProgramFault}
+use Rattle.xnsim_line.specs.declared.program_fault.ProgramFault.TheVariants.{Text, Rule}
 
 -- the line of an accepted program, with its greatest cost and count of pairs
 abbrev pub accepted_line : ℕ → ℕ → List ℕ

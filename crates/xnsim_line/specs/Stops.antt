@@ -15,7 +15,7 @@ use Rattle.events.specs.Events.{event_of, reply_of}
 use Rattle.world.specs.Worlds.{is_any_in_flight}
 use Rattle.script.specs.Replies.{reply_line}
 use Rattle.script.specs.Scripts.{LineSpells}
-use Rattle.xnsim_words.specs.declared.invocation.Stop.{Stop}
+use Rattle.xnsim_line.specs.declared.invocation.Stop.{Stop}
 use Rattle.xnsim_line.specs.Runs.{opened_world, IsMountedRun, IsPrintedRun, IsRun, IsRunLine}
 
 -- how many block writes a reply tells

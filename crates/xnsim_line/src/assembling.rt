@@ -10,7 +10,7 @@ use std::io;
 use std::io::Write;
 use templates::Template;
 use udf_verify::Role;
-use xnsim_words::Fault;
+use crate::Fault;
 
 /// The template whose two programs have these texts. A fault of the owns text or its program comes before those of the size
 /// text, and `TooManyWords` last.

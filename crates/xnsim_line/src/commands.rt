@@ -6,7 +6,7 @@ ghost use Rattle.std.specs.Io.KnownBytes.{Appends};
 ghost use Rattle.xnsim_line.specs.Done.{IsFaultOf, IsLineDone, IsLineFault, PrintsAssembled, PrintsMounted, PrintsReplies, PrintsVerified};
 ghost use Rattle.xnsim_line.specs.Checking.{PrintsChecked};
 ghost use Rattle.xnsim_line.specs.Formatting.{made_line, PrintsMade};
-ghost use Rattle.xnsim_words.specs.Lines.{IsNoLine};
+ghost use Rattle.xnsim_line.specs.Lines.{IsNoLine};
 
 use crate::assembling::{make_template, print_template};
 use crate::checking::print_report;
@@ -22,7 +22,8 @@ use std::thread::Threads;
 use std::{io, str};
 use templates::{MAX_BLOCKS, MIN_BLOCKS, write_block};
 use udf_verify::Role;
-use xnsim_words::{Fault, Files, Invocation, Stop, read};
+use crate::invocation::{Stop, read};
+use crate::{Fault, Files, Invocation};
 
 /// How many bytes the image of the largest disk has.
 const GREATEST_IMAGE_LEN: usize = BLOCK_LEN * MAX_BLOCKS as usize;

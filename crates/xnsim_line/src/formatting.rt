@@ -4,14 +4,14 @@ ghost use Rattle.std.specs.Prelude.{◌≡◌, ◌≤◌, List, map, length, str
 ghost use Rattle.xn_model.specs.Images.{joined};
 ghost use Rattle.templates.specs.Formats.{formatted};
 ghost use Rattle.templates.specs.Templates.{TemplateValue};
-ghost use Rattle.xnsim_words.specs.Files.{AreHeld, IsHeld};
+ghost use Rattle.xnsim_line.specs.Files.{AreHeld, IsHeld};
 ghost use Rattle.xnsim_line.specs.Formatting.{installed, IsBlockFault, IsFileFault, IsImageFault, AreTemplates};
 
 use disk::BLOCK_LEN;
 use ffs_format::templates as file_system_templates;
 use std::alloc::Global;
 use templates::{FormatFault, Template, TemplateFault, format_image, read_block};
-use xnsim_words::{Fault, Files};
+use crate::{Fault, Files};
 
 /// The block in the file of this name, which has 512 bytes.
 fn read_file<'a, F: Files>(

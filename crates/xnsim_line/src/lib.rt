@@ -1,25 +1,34 @@
-//! What the simulator's command line does: it formats and checks images, runs scripts of commands on them, assembles
-//! templates, and verifies programs. Files and standard streams are the caller's.
+//! The simulator's command line: its words, as they are read, and what it does. It formats and checks images, runs scripts of commands
+//! on them, assembles templates, and verifies programs; and tells faults. Files and standard streams are the caller's.
 #![tactic(auto)]
 
 ghost use Rattle.std.specs.Prelude.{◌≡◌, ◌≤◌, map, string_bytes};
 ghost use Rattle.xnsim_line.specs.Done.{IsLineDone};
-ghost use Rattle.xnsim_words.specs.Lines.{IsNoLine};
+ghost use Rattle.xnsim_line.specs.Lines.{IsNoLine};
 
 mod assembling;
 mod checking;
 mod commands;
+mod fault;
+mod files;
 mod formatting;
+mod invocation;
 mod program;
+mod program_fault;
 mod replay;
 mod stopping;
+mod telling;
+
+pub use fault::Fault;
+pub use files::Files;
+pub use invocation::{Invocation, LineFault};
+pub use program_fault::ProgramFault;
 
 use commands::run;
 use std::alloc::Global;
 use std::io::{Read, Write};
 use std::thread::Threads;
-pub use xnsim_words::{Fault, Files, Invocation, LineFault, ProgramFault};
-use xnsim_words::{end, flush_status};
+use telling::{end, flush_status};
 
 /// Does what the words behind the program's name ask for, and answers the program's status: 0 where all was done, 2 where the
 /// words are no line of the program, and 1 after any other fault, also one of `out` or `err`. All that is printed on `out` is

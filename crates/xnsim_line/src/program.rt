@@ -9,7 +9,7 @@ use std::io;
 use std::io::Write;
 use udf_asm::assemble;
 use udf_verify::{Checked, Role, verify};
-use xnsim_words::{Fault, ProgramFault};
+use crate::{Fault, ProgramFault};
 
 /// The program of a text, verified for a role. A fault of the text comes before those of the program.
 pub fn read_program(alloc: Global, text: &str, role: Role) -> Result<Checked, ProgramFault>

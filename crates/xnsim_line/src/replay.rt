@@ -15,7 +15,8 @@ use std::io::Write;
 use std::thread::Threads;
 use templates::{FormatFault, Template};
 use world::{Reply, World};
-use xnsim_words::{Fault, Stop};
+use crate::Fault;
+use crate::invocation::Stop;
 
 /// The first mount of a fresh disk.
 fn fresh_world(

@@ -20,7 +20,8 @@ use std::io::Write;
 use std::thread::Threads;
 use world::{Answer, Call, Event, Reply, World};
 use xn_state::Fs;
-use xnsim_words::{Fault, Stop};
+use crate::Fault;
+use crate::invocation::Stop;
 
 /// Prints that the run stopped.
 fn print_stopped<W: Write>(out: &mut W) -> io::Result<()>

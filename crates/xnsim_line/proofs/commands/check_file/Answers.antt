@@ -5,8 +5,8 @@ use Rattle.image_model.specs.Walk.{count_of}
 use Rattle.image_model.specs.Report.{IsSoundImage}
 use Rattle.templates.specs.Language.{types_of_image}
 use Rattle.xnsim_line.specs.Checking.{report_line}
-use Rattle.xnsim_words.specs.Files.{IsStartHeld}
-use Rattle.xnsim_words.proofs.ForCallers.{whole_held}
+use Rattle.xnsim_line.specs.Files.{IsStartHeld}
+use Rattle.xnsim_line.proofs.StartsRead.{whole_held}
 use Rattle.xnsim_line.proofs.commands.check_file.Goals as goal
 
 pub returns-clause-done : goal.returns-clause-done

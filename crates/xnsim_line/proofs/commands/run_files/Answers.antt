@@ -2,9 +2,9 @@ use Rattle.std.proofs.Common.{rules, ◌≡◌, ◌<◌, ◌≤◌, ◌*◌, len
 use Rattle.std.proofs.lemmas.Result.{err_from_is_err_and}
 use Rattle.image_model.specs.Walk.{count_of}
 use Rattle.script.specs.Scripts.{AllSpell}
-use Rattle.xnsim_words.specs.Files.{IsStartHeld}
+use Rattle.xnsim_line.specs.Files.{IsStartHeld}
 use Rattle.xnsim_line.proofs.MountFaults.{mount_fault}
-use Rattle.xnsim_words.proofs.ForCallers.{whole_held}
+use Rattle.xnsim_line.proofs.StartsRead.{whole_held}
 use Rattle.xnsim_line.proofs.StoppedRuns.{asked_sound}
 use Rattle.xnsim_line.proofs.commands.run_files.Goals as goal
 

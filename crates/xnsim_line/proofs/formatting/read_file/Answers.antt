@@ -1,6 +1,6 @@
 use Rattle.std.proofs.Common.{rules, ◌≡◌, ◌<◌, length}
-use Rattle.xnsim_words.specs.Files.{IsStartHeld}
-use Rattle.xnsim_words.proofs.ForCallers.{whole_held}
+use Rattle.xnsim_line.specs.Files.{IsStartHeld}
+use Rattle.xnsim_line.proofs.StartsRead.{whole_held}
 use Rattle.xnsim_line.proofs.formatting.read_file.Goals as goal
 
 pub returns-in-Ok-clause-held : goal.returns-in-Ok-clause-held

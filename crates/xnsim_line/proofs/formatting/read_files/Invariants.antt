@@ -1,5 +1,5 @@
 use Rattle.std.proofs.Common.{◌≡◌, map, string_bytes, take}
-use Rattle.xnsim_words.specs.Files.{AreHeld}
+use Rattle.xnsim_line.specs.Files.{AreHeld}
 use Rattle.xnsim_line.proofs.formatting.read_files.Given as goal
 
 abbrev pub invariant-loop-name : goal.invariant-loop-name

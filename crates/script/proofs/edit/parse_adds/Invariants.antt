@@ -1,0 +1,7 @@
+use Rattle.std.proofs.Common.{take, map}
+use Rattle.std.specs.List.{AllZip}
+use Rattle.script.specs.Edits.{SpellsAdd}
+use Rattle.script.proofs.edit.parse_adds.Given as goal
+
+abbrev pub invariant-loop-word : goal.invariant-loop-word
+invariant-loop-word l = AllZip SpellsAdd (take l.word-index (map (λ word. word.now) l.words)) l.adds.items

@@ -1,2 +1,0 @@
--- What crates above cite in their proofs. They import no other module of these proofs.
-pub use Rattle.script_words.proofs.WordLists.{zip_all, zip_more, zip_push}

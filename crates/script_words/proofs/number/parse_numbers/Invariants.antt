@@ -1,7 +1,0 @@
-use Rattle.std.proofs.Common.{take, map}
-use Rattle.std.specs.List.{AllZip}
-use Rattle.script_words.specs.Numbers.{SpellsNumber}
-use Rattle.script_words.proofs.number.parse_numbers.Given as goal
-
-abbrev pub invariant-loop-word : goal.invariant-loop-word
-invariant-loop-word l = AllZip SpellsNumber (take l.word-index (map (λ word. word.now) l.words)) l.numbers.items

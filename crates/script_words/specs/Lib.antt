@@ -1,5 +1,0 @@
-pub mod Hex
-pub mod Numbers
-pub mod Edits
-pub mod Cuts
-pub mod Bytes

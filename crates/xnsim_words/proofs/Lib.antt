@@ -1,4 +1,0 @@
-pub mod CommandLines
-pub mod TemplateWords
-pub mod StartsRead
-pub mod ForCallers
