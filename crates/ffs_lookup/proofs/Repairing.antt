@@ -1,25 +1,19 @@
 -- What an inode needs, case by case, and what is said of all of them.
-use Rattle.std.proofs.Common.{◌≡◌, ◌≢◌, ◌⊎◌, ℕ, ◌+◌, ◌-◌, ◌<◌, ◌≤◌, inl, inr, Bool, true, false, not, List, length, get_or, set, replicate, Ok, Err, refl, sym, ◌∙◌, ap, arith}
-use Rattle.std.specs.Prelude.{Result, ◌||◌, ◌==◌, nat_lt, slice_index_or, if◌then◌else◌}
+use Rattle.std.proofs.Common.{◌≡◌, ◌≢◌, ◌⊎◌, ℕ, ◌+◌, ◌-◌, ◌<◌, ◌≤◌, inl, inr, Bool, true, false, List, length, get_or, set, replicate, Ok, Err, refl, sym, ◌∙◌, ap, arith}
+use Rattle.std.specs.Prelude.{Result, nat_lt, slice_index_or, if◌then◌else◌}
 use Rattle.std.proofs.lemmas.Bool.{cases_eq, cases_lt, eq-eqb, le-ltb, lt-ltb, ne_eqb}
 use Rattle.std.proofs.lemmas.List.{get_or-replicate, get_or-set_other, get_or-set_same, get_or_past, length-replicate, length-set}
-use Rattle.ffs_model.specs.Library.{inode_links, inode_mode}
+use Rattle.ffs_model.specs.Library.{inode_links}
 use Rattle.ffs_lookup.specs.declared.fault.FfsFault.{FfsFault}
 use Rattle.ffs_lookup.specs.declared.fault.FfsFault.TheVariants.{NoEntry}
 use Rattle.ffs_lookup.specs.declared.repairs.Repair.{Repair}
 use Rattle.ffs_lookup.specs.declared.repairs.Repair.TheVariants.{Keep, GiveUp, SetLinks}
-use Rattle.ffs_lookup.specs.Newest.{slots_of, inode_in}
+use Rattle.ffs_lookup.specs.Newest.{inode_in}
 use Rattle.ffs_lookup.specs.Counts.{names_count}
 use Rattle.ffs_lookup.specs.Repairs.{is_bare_in, repair_at, repair_found, repair_in, repair_of}
 use Rattle.ffs_lookup.proofs.Newest.{bad_number, no_number}
 
 module _ (content : ℕ → List ℕ) (inode : List ℕ) where
-  pub bare_directory : inode_mode inode ≡ 2 → (length (slots_of content inode) == 0) ≡ is_bare_in content inode
-  bare_directory two = ap (λ (t : Bool). not t || (length (slots_of content inode) == 0)) (sym (eq-eqb (inode_mode inode) 2 two))
-
-  pub bare_file : inode_mode inode ≢ 2 → true ≡ is_bare_in content inode
-  bare_file ne = ap (λ (t : Bool). not t || (length (slots_of content inode) == 0)) (sym (ne_eqb (inode_mode inode) 2 ne))
-
   pub unnamed_repair : (count : ℕ) → count ≡ 0 → (bare : Bool) → bare ≡ is_bare_in content inode → (if bare then GiveUp else Keep) ≡ repair_of content count inode
   unnamed_repair count none bare is =
       ap (λ (t : Bool). if t then GiveUp else Keep) is

@@ -1,5 +1,4 @@
 pub mod Parts
-pub mod Vectors
 pub mod Laid
 pub mod Merging
 pub mod Widening
