@@ -1,12 +1,12 @@
 -- The homes of entries, and where lives change.
-use Rattle.std.proofs.Common.{◌≡◌, ℕ, zero, suc, ◌%◌, ◌<◌, ◌⊎◌, Bool, true, false, cond, List, [], ◌∷◌, ◌++◌, length, drop, map, replicate, Option, Some, None, refl, sym, ◌∙◌, ap, arith, inl, inr}
+use Rattle.std.proofs.Common.{◌≡◌, ℕ, zero, suc, ◌<◌, ◌⊎◌, Bool, true, false, cond, List, [], ◌∷◌, ◌++◌, length, drop, map, replicate, Option, Some, None, refl, sym, ◌∙◌, ap, arith, inl, inr}
 use Rattle.std.specs.Prelude.{◌||◌, ◌==◌, option_map, slice_index_or, slice_set}
 use Rattle.std.proofs.lemmas.Bool.{false≢true, cases_eq, eqb-true}
 use Rattle.std.proofs.lemmas.List.{get_or-set_other, get_or-set_same, length-set}
 use Rattle.xn_model.specs.Lives.{BlockState, Life, Lives, accepted_at, begun_at, freed, has_entry, is_pending, life_at, settle, settled_at}
 use Rattle.xn_model.specs.Calls.{new_life}
 use Rattle.xn_model.proofs.ForCallers.{accepted, accepted_is, change_same, each_at, set_other}
-use Rattle.dependencies.specs.Homes.{AreHomes, home_of, slot_at, homes_with}
+use Rattle.dependencies.specs.Homes.{AreHomes, home_of, slot_at, slot_of, homes_with}
 use Rattle.dependencies.specs.Pending.{is_dirty, pends}
 use Rattle.dependencies.proofs.Accounts.{pends_within}
 use Rattle.dependencies.proofs.Dirty.{clean_at, none_of, pends_not}
@@ -39,13 +39,13 @@ chosen : (t : Bool) (x y : ℕ) → cond t (Some x) None ≡ Some y → (t ≡ t
 chosen true x y e = (refl, cc)
 chosen false x y e = absurd cc
 
-pub more_homes : (lives new : Lives) (homes : List (ℕ × ℕ)) (number block : ℕ) → number % length homes < length homes → AreHomes lives homes → ((b : ℕ) → pends number (life_at lives b) ≡ false) →
+pub more_homes : (lives new : Lives) (homes : List (ℕ × ℕ)) (number block : ℕ) → slot_of (length homes) number < length homes → AreHomes lives homes → ((b : ℕ) → pends number (life_at lives b) ≡ false) →
     ((n b : ℕ) → pends n (life_at new b) ≡ true → (pends n (life_at lives b) ≡ true) ⊎ ((n ≡ number) × (b ≡ block))) → AreHomes new (homes_with homes number block)
-more_homes lives new homes number block within are fresh more n b c here home = elim (cases_eq (n % length homes) (number % length homes)) [
+more_homes lives new homes number block within are fresh more n b c here home = elim (cases_eq (slot_of (length homes) n) (slot_of (length homes) number)) [
   | inl same ↦
       let slot : slot_at (homes_with homes number block) n ≡ (number, block) =
-      ap (λ j. slice_index_or (homes_with homes number block) (n % j) (0, 0)) long ∙ (ap (λ j. slice_index_or (homes_with homes number block) j (0, 0)) same
-      ∙ get_or-set_same homes (number % length homes) (number, block) (0, 0) within) in
+      ap (λ j. slice_index_or (homes_with homes number block) (slot_of j n) (0, 0)) long ∙ (ap (λ j. slice_index_or (homes_with homes number block) j (0, 0)) same
+      ∙ get_or-set_same homes (slot_of (length homes) number) (number, block) (0, 0) within) in
       let got = chosen (number == n) block c (sym (ap (λ (s : ℕ × ℕ). cond (s.0 == n) (Some s.1) None) slot) ∙ home) in
       let is : number ≡ n = eqb-true number n got.0 in
       elim (more n b here) [
@@ -54,15 +54,15 @@ more_homes lives new homes number block within are fresh more n b c here home = 
       ]
   | inr apart ↦
       let slot : slot_at (homes_with homes number block) n ≡ slot_at homes n =
-      ap (λ j. slice_index_or (homes_with homes number block) (n % j) (0, 0)) long ∙ get_or-set_other homes (number % length homes) (n % length homes) (number, block) (0, 0) apart in
+      ap (λ j. slice_index_or (homes_with homes number block) (slot_of j n) (0, 0)) long ∙ get_or-set_other homes (slot_of (length homes) number) (slot_of (length homes) n) (number, block) (0, 0) apart in
       elim (more n b here) [
         | inl old ↦ are n b c old (sym (ap (λ (s : ℕ × ℕ). cond (s.0 == n) (Some s.1) None) slot) ∙ home)
-        | inr fresh' ↦ absurd (apart (ap (λ j. j % length homes) fresh'.0))
+        | inr fresh' ↦ absurd (apart (ap (λ j. slot_of (length homes) j) fresh'.0))
       ]
 ]
   where
     long : length (homes_with homes number block) ≡ length homes
-    long = length-set homes (number % length homes) (number, block)
+    long = length-set homes (slot_of (length homes) number) (number, block)
 
 -- Changes of lives
 
@@ -115,7 +115,7 @@ set_life [] b l n e = absurd (false≢true e)
 set_life (o ∷ os) zero l n e = e
 set_life (o ∷ os) (suc b) l n e = set_life os b l n e
 
-pub started_homes : (lives : Lives) (homes : List (ℕ × ℕ)) (b number : ℕ) (f : Option ℕ) (ty : ℕ) (bytes : List ℕ) → number % length homes < length homes → AreHomes lives homes →
+pub started_homes : (lives : Lives) (homes : List (ℕ × ℕ)) (b number : ℕ) (f : Option ℕ) (ty : ℕ) (bytes : List ℕ) → slot_of (length homes) number < length homes → AreHomes lives homes →
     ((x : ℕ) → pends number (life_at lives x) ≡ false) → AreHomes (slice_set lives b (Some (new_life number f ty bytes))) (homes_with homes number b)
 started_homes lives homes b number f ty bytes within are fresh =
     let life = new_life number f ty bytes in
@@ -149,7 +149,7 @@ accepted_pends b x s n (Some l) e = by (x == b) refl e
       | inr new ↦ inr (sym new, eqb-true x b is)
     ]
 
-pub accepted_homes : (lives : Lives) (homes : List (ℕ × ℕ)) (b : ℕ) (s : BlockState) → s.entry % length homes < length homes → AreHomes lives homes →
+pub accepted_homes : (lives : Lives) (homes : List (ℕ × ℕ)) (b : ℕ) (s : BlockState) → slot_of (length homes) s.entry < length homes → AreHomes lives homes →
     ((x : ℕ) → pends s.entry (life_at lives x) ≡ false) → AreHomes (accepted_at lives b s) (homes_with homes s.entry b)
 accepted_homes lives homes b s within are fresh =
     more_homes lives (accepted_at lives b s) homes s.entry b within are fresh (λ n x here. accepted_pends b x s n (life_at lives x)

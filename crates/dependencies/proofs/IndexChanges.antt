@@ -1,11 +1,11 @@
 -- The index of lives, where these change.
-use Rattle.std.proofs.Common.{◌≡◌, ℕ, ◌%◌, ◌<◌, ◌+◌, ◌-◌, Bool, true, false, cond, List, length, map, replicate, Option, Some, None, sym, subst}
+use Rattle.std.proofs.Common.{◌≡◌, ℕ, ◌<◌, ◌+◌, ◌-◌, true, false, cond, List, length, Option, Some, None, subst}
 use Rattle.std.specs.Prelude.{Contains, IfSome, IsTrue, count_by, is_some, nat_lt, slice_get, slice_index, slice_set, ◌==◌}
 use Rattle.xn_model.specs.Lives.{BlockState, Lives, accepted_at, begun_at, drops_of, freed, is_for, life_at, settled_at}
 use Rattle.xn_model.specs.Calls.{first_pending, life_pending, new_life}
 use Rattle.dependencies.specs.Candidates.{CandidatesValue, Wakes, with_candidate}
 use Rattle.dependencies.specs.Counts.{counted_for, given, noted_for}
-use Rattle.dependencies.specs.Homes.{homes_with}
+use Rattle.dependencies.specs.Homes.{homes_with, slot_of}
 use Rattle.dependencies.specs.Index.{IndexValue, IsIndex, MayFree}
 use Rattle.dependencies.specs.Pending.{pends}
 use Rattle.dependencies.proofs.Counting.{accepted_counted, accepted_noted, begun_counted, started_counted, started_noted}
@@ -22,7 +22,7 @@ IsWithin f numbers = IfSome f (λ x. x < length numbers)
 
 -- a life starts
 pub started_index : (lives : Lives) (index : IndexValue) (b n : ℕ) (f : Option ℕ) (ty : ℕ) (bytes : List ℕ) → IsIndex lives index → IsWithin f index.pending →
-    IsWithin f index.oldest → IfSome f (λ x. x < 32) → n % length index.homes < length index.homes → slice_get lives b ≡ Some None →
+    IsWithin f index.oldest → IfSome f (λ x. x < 32) → slot_of (length index.homes) n < length index.homes → slice_get lives b ≡ Some None →
     ((c : ℕ) → pends n (life_at lives c) ≡ false) → IsIndex (slice_set lives b (Some (new_life n f ty bytes))) (record {
       free = slice_set index.free b false;
       pending = counted_for f index.pending;
@@ -41,7 +41,7 @@ started_index lives index b n f ty bytes is pending oldest few room free fresh =
 
 -- a block accepts one more state
 pub accepted_index : (lives : Lives) (index : IndexValue) (b : ℕ) (s : BlockState) (f : Option ℕ) → IsIndex lives index → IsWithin f index.pending →
-    IsWithin f index.oldest → IfSome f (λ x. x < 32) → s.entry % length index.homes < length index.homes → IsTrue (is_some (life_at lives b)) → s.fs ≡ f →
+    IsWithin f index.oldest → IfSome f (λ x. x < 32) → slot_of (length index.homes) s.entry < length index.homes → IsTrue (is_some (life_at lives b)) → s.fs ≡ f →
     ((c : ℕ) → pends s.entry (life_at lives c) ≡ false) → IsIndex (accepted_at lives b s) (record {
       free = index.free;
       pending = counted_for f index.pending;

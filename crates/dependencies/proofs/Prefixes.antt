@@ -1,13 +1,13 @@
 -- How many entries are safe.
 use Rattle.std.proofs.Common.{◌≡◌, ℕ, suc, ◌+◌, ◌<◌, ◌≤◌, Bool, true, false, cond, List, [], ◌∷◌, length, take, drop, get_or, map, Option, Some, None, refl, sym, ◌∙◌, ap, arith}
-use Rattle.std.specs.Prelude.{◌&&◌, ◌==◌, nat_lt, not, is_some, is_none, option_map}
+use Rattle.std.specs.Prelude.{◌&&◌, ◌==◌, not, is_some, is_none, option_map}
 use Rattle.std.specs.List.{list_all}
 use Rattle.std.proofs.Math.Seq.{drop-cons}
 use Rattle.std.proofs.lemmas.Bool.{ne_eqb}
 use Rattle.std.proofs.lemmas.List.{take_more, drop_all}
 use Rattle.std.proofs.lemmas.Option.{slice_get-get_or}
-use Rattle.xn_model.specs.Lives.{BlockState, Life, Lives, has_durable, is_after_met, is_all_durable, is_type_met, no_states, on_disk, prefix_of, safe, safe_count}
-use Rattle.xn_model.specs.Calls.{is_tainted, life_pending}
+use Rattle.xn_model.specs.Lives.{BlockState, Life, Lives, has_durable, is_after_met, is_all_durable, is_type_met, no_states, on_disk, safe, safe_count}
+use Rattle.xn_model.specs.Calls.{life_pending}
 use Rattle.block_cache.specs.Claims.{claim_of}
 use Rattle.dependencies.specs.Safety.{is_some_safe, is_safe_at}
 

@@ -1,12 +1,16 @@
 // In which block each of the newest entries is pending.
 
-ghost use Rattle.std.specs.Prelude.{◌≡◌, ◌+◌, ◌*◌, ◌%◌, ◌<◌, length, replicate, IfOk};
-ghost use Rattle.dependencies.specs.Homes.{home_of, homes_with};
+ghost use Rattle.std.specs.Prelude.{◌≡◌, ℕ, ◌<◌, length, replicate, IfOk};
+ghost use Rattle.dependencies.specs.Homes.{home_of, homes_with, slot_of};
 
 use std::alloc::{AllocError, Global};
 use std::marker::Model;
 
-/// The blocks of the newest entries, by their numbers: an entry never moves to another block.
+/// The least number of slots.
+const LEAST_SLOTS: usize = 64;
+
+/// The blocks of the newest entries, by their numbers: an entry never moves to another block. There are 2 ^ k slots, so that the slot of a number
+/// is its lowest bits, with no division.
 #[derive(Drop)]
 pub struct Homes {
     slots: Vec<(u64, u32)>,
@@ -23,11 +27,11 @@ impl Model for Homes {
 }
 
 impl Homes {
-    /// Slots for some of the entries of so many blocks: two for each, and 64 more.
+    /// Slots for some of the entries of so many blocks: two for each at least, and 64 of them.
     pub fn new(alloc: Global, blocks: u32) -> Result<Homes, AllocError>
-        ensures { IfOk result (λ homes. homes ≡ replicate (blocks * 2 + 64) (0, 0)) }
+        ensures { IfOk result (λ homes. (slots : ℕ) × (homes ≡ replicate slots (0, 0))) }
     {
-        let count = blocks as usize * 2 + 64;
+        let count = (blocks as usize * 2).max(LEAST_SLOTS).next_power_of_two();
         Ok(Homes {
             slots: vec![in alloc; (0, 0); count]?,
         })
@@ -40,21 +44,29 @@ impl Homes {
         self.slots.len()
     }
 
+    /// The slot of a number.
+    #[inline(always)]
+    fn slot(&self, number: u64) -> usize
+        ensures slot { result ≡ slot_of (length self.now) number }
+        ensures within { result < length self.now }
+    {
+        number as usize & (self.slots.len() - 1)
+    }
+
     /// The block of an entry, unless a later one has taken its slot.
     pub fn home(&self, number: u64) -> Option<u32>
         ensures { result ≡ home_of self.now number }
     {
-        let place = number % self.slots.len() as u64;
-        let slot = self.slots[place as usize];
+        let slot = self.slots[self.slot(number)];
         if slot.0 == number { Some(slot.1) } else { None }
     }
 
     /// Notes the block of a new entry.
     pub fn put(&mut self, number: u64, block: u32)
         ensures home { self.new ≡ homes_with self.old number block }
-        ensures room { number % length self.old < length self.old }
+        ensures room { slot_of (length self.old) number < length self.old }
     {
-        let place = number % self.slots.len() as u64;
-        self.slots[place as usize] = (number, block);
+        let slot = self.slot(number);
+        self.slots[slot] = (number, block);
     }
 }

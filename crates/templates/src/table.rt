@@ -1,6 +1,6 @@
 // The templates of all types.
 
-ghost use Rattle.std.specs.Prelude.{◌≡◌, ◌⊎◌, ◌↔◌, ◌-◌, ◌≤◌, map, slice_set, Some, None, IsTrue, IfOk};
+ghost use Rattle.std.specs.Prelude.{◌≡◌, ◌⊎◌, ◌↔◌, ℕ, List, ◌-◌, ◌≤◌, map, slice_set, Some, None, IsTrue, IfOk};
 ghost use Rattle.std.specs.Option.{option_copied};
 ghost use Rattle.templates.specs.Decided.{DecidesOwned};
 ghost use Rattle.templates.specs.Meaning.{numbers_of_pair};
@@ -12,7 +12,7 @@ use crate::template::Template;
 use arrayvec::ArrayVec;
 use std::alloc::{AllocError, Global};
 use std::marker::Model;
-use udf_run::{Pair, ReadSet, owns, owns_tracked, size};
+use udf_run::{Pair, ReadSet, constant_size, owns, owns_tracked, size};
 use udf_verify::Role;
 
 /// The type of blocks that hold a template.
@@ -136,6 +136,22 @@ impl Table {
         match self.get(ty) {
             Some(template) => owns_tracked(template.owns(), block, out),
             None => unreachable!(),
+        }
+    }
+
+    /// Whether each block of a type may use all its bytes, as far as that is known with no run of a program.
+    pub fn may_use_all(&self, ty: u32) -> bool
+        ensures { IsTrue result → (block : List ℕ) → (table_types self.now).size ty block ≡ 512 }
+    {
+        if is_leaf(ty) {
+            return true;
+        }
+        match self.get(ty) {
+            Some(template) => match constant_size(template.size()) {
+                Some(size) => size == 512,
+                None => false,
+            },
+            None => false,
         }
     }
 

@@ -13,4 +13,4 @@ mod step;
 
 pub use pair::Pair;
 pub use reads::ReadSet;
-pub use run::{owns, owns_tracked, size};
+pub use run::{constant_size, owns, owns_tracked, size};

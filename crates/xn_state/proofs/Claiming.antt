@@ -6,23 +6,20 @@ use Rattle.std.proofs.lemmas.Bool.{and_parts, eqb-false, ne_eqb, not-false}
 use Rattle.std.proofs.lemmas.Option.{same_Some}
 use Rattle.std.proofs.lemmas.List.Elements.{Contains-append_right}
 use Rattle.xn_model.specs.declared.refusal.Refusal.{Refusal}
-use Rattle.xn_model.specs.declared.refusal.Refusal.TheVariants.{BadPatch, BadAfter, NotFresh, NotOwned, NotEmpty, ClaimWrong, SizeWrong, TooManyPending, Exhausted, Cycle, RootTaken, InFlight}
+use Rattle.xn_model.specs.declared.refusal.Refusal.TheVariants.{BadPatch, BadAfter, NotFresh, NotOwned, NotEmpty, ClaimWrong, SizeWrong, TooManyPending, Exhausted, Cycle}
 use Rattle.xn_model.specs.Lists.{blocks_of, distinct, has_number}
 use Rattle.xn_model.specs.Types.{Types, claims, named_once, within_size}
 use Rattle.xn_model.specs.Root.{owned_by_root, templates_of, roots_of, with_slot}
 use Rattle.xn_model.specs.Lives.{Life, StoreState, life_at, alive_and, chain_end, current, is_for, is_fresh, is_owned_by}
 use Rattle.xn_model.specs.Results.{first_refusal, unless, result_map, result_and_then}
-use Rattle.xn_model.specs.Calls.{Edit, own_life, too_many, exhausted, within_limits, was_given, may_add, may_drop, is_empty, is_untouched, owns_nothing, patched, life_bytes, life_pending, root_now, slot_now, edit_tests}
+use Rattle.xn_model.specs.Calls.{Edit, own_life, too_many, exhausted, within_limits, was_given, may_add, may_drop, is_empty, owns_nothing, patched, life_bytes, life_pending, root_now, slot_now, edit_tests}
 use Rattle.xn_model.specs.Rules.{IsConsistent}
-use Rattle.xn_model.proofs.ForCallers.{Contains-cons, Contains-none, all_at, blocks_of_at, fresh_from, own_then, roots_from, same_ok, unless_ok}
+use Rattle.xn_model.proofs.ForCallers.{Contains-cons, Contains-none, all_at, blocks_of_at, own_then, roots_from, same_ok, unless_ok}
 use Rattle.claims.specs.Owners.{is_claimed, owned_count}
 use Rattle.claims.proofs.ForCallers.{claimed_is, owned_counted, pair_owned}
 use Rattle.block_cache.specs.declared.life.Facts.{Facts}
 use Rattle.block_cache.specs.Views.{facts_of}
 use Rattle.claims.specs.Owned.{MayClaim}
-use Rattle.dependencies.specs.Index.{IsUnowned}
-use Rattle.xn_state.specs.Forgets.{forget_plan, forget_plan_at}
-use Rattle.xn_state.specs.Plans.{make_root_plan, make_root_plan_at}
 use Rattle.xn_state.specs.Proposals.{drop_root_plan, edited_with, proposed_at, proposed_of}
 use Rattle.xn_state.proofs.Forgetting.{own_facts, own_is}
 

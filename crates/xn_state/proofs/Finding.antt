@@ -1,6 +1,6 @@
 -- The lives of blocks that are found, put into their places one after another.
 use Rattle.std.proofs.Common.{◌≡◌, ℕ, Bool, zero, suc, ◌+◌, ◌/◌, ◌<◌, true, false, not, List, [], ◌∷◌, ◌++◌, length, map, take, get_or, drop, replicate, slice_set, Option, Some, None, refl, sym, ◌∙◌, ap, arith, subst, inl, inr}
-use Rattle.std.specs.Prelude.{IsTrue, cond, find, is_none, ◌==◌, ◌||◌, slice_index}
+use Rattle.std.specs.Prelude.{IsTrue, cond, find, is_none, ◌==◌, ◌||◌}
 use Rattle.std.specs.List.{fold, range_with_len}
 use Rattle.std.specs.Simd.{first_chunks}
 use Rattle.std.proofs.lemmas.Bool.{cases_eq, eq-eqb, ne_eqb, cond-true, cond-false, and_parts, false≢true}

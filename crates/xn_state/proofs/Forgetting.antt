@@ -1,14 +1,13 @@
 -- What a forget leaves.
-use Rattle.std.proofs.Common.{◌≡◌, ℕ, ◌<◌, length, Option, Some, None, Result, Ok, Err, refl, sym, ◌∙◌, ap, slice_set, subst}
-use Rattle.std.specs.Prelude.{option_map, IsTrue}
-use Rattle.std.proofs.lemmas.Option.{none-some, same_Some, slice_get_within}
+use Rattle.std.proofs.Common.{◌≡◌, ℕ, Option, Some, None, Result, Ok, Err, refl, sym, ap, slice_set, subst}
+use Rattle.std.specs.Prelude.{IsTrue}
 use Rattle.xn_model.specs.declared.refusal.Refusal.{Refusal}
 use Rattle.xn_model.specs.Types.{Types}
-use Rattle.xn_model.specs.Lives.{StoreState, Life, Lives, life_at}
+use Rattle.xn_model.specs.Lives.{StoreState, Life, Lives}
 use Rattle.xn_model.specs.Results.{unless, result_map, result_and_then}
 use Rattle.xn_model.specs.Calls.{own_life, forget_refusal, forget_at, forget_of}
 use Rattle.xn_model.specs.Rules.{IsConsistent, Keeps}
-use Rattle.xn_model.proofs.ForCallers.{place_from, IsOwn, map_ok, same_ok, never_ok, own_then, forget_keeps}
+use Rattle.xn_model.proofs.ForCallers.{IsOwn, map_ok, same_ok, never_ok, own_then, forget_keeps}
 use Rattle.xn_state.specs.Forgets.{forget_plan, forget_plan_at}
 use Rattle.block_cache.specs.declared.life.Facts.{Facts}
 use Rattle.block_cache.specs.Views.{facts_of}

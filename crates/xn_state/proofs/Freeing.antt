@@ -1,12 +1,11 @@
 -- Blocks that are free once a write is done.
-use Rattle.std.proofs.Common.{◌≡◌, ◌≢◌, ℕ, zero, suc, ◌+◌, ◌<◌, Bool, List, [], ◌∷◌, length, take, Option, Some, None, refl, sym, ◌∙◌, ap, arith, subst, inl, inr}
-use Rattle.std.specs.Prelude.{All, Contains, Ok, slice_get, slice_set, slice_index, count_by, option_map}
-use Rattle.std.proofs.lemmas.Bool.{cases_eq}
+use Rattle.std.proofs.Common.{◌≡◌, ◌≢◌, ℕ, zero, suc, List, [], ◌∷◌, length, take, refl, sym, ◌∙◌, ap, arith, subst, inl, inr}
+use Rattle.std.specs.Prelude.{All, Contains, Ok, slice_get}
 use Rattle.xn_model.specs.Types.{Types}
-use Rattle.xn_model.specs.Lives.{BlockState, Life, Lives, StoreState, life_at, alive_and, is_owned_by, carried, first_states, settle, settled_at, freed, drops_of}
-use Rattle.xn_model.specs.Calls.{life_pending, pending_in, settled_place, first_pending}
+use Rattle.xn_model.specs.Lives.{BlockState, StoreState, life_at, alive_and, is_owned_by, carried, first_states, drops_of}
+use Rattle.xn_model.specs.Calls.{life_pending, settled_place, first_pending}
 use Rattle.xn_model.specs.Rules.{IsConsistent, IsBy}
-use Rattle.xn_model.proofs.ForCallers.{Contains-head, Contains-tail, Contains-none, Contains-take, set_other, settles_place, drops_at}
+use Rattle.xn_model.proofs.ForCallers.{Contains-head, Contains-tail, Contains-none, Contains-take, settles_place, drops_at}
 use Rattle.dependencies.specs.Index.{MayFree}
 
 -- none of the dropped blocks is the one that is written

@@ -1,5 +1,5 @@
 -- What edits and dropped roots decide, and what they leave.
-use Rattle.std.proofs.Common.{◌≡◌, ℕ, List, Option, Some, None, Result, Ok, Err, sym, ◌∙◌, ap}
+use Rattle.std.proofs.Common.{◌≡◌, ℕ, List, Option, Some, None, Result, Ok, Err, sym}
 use Rattle.xn_model.specs.declared.refusal.Refusal.{Refusal}
 use Rattle.xn_model.specs.Types.{Types}
 use Rattle.std.specs.Prelude.{option_map}
@@ -8,7 +8,7 @@ use Rattle.xn_model.specs.Lives.{Life, Lives, StoreState, current, life_at}
 use Rattle.xn_model.specs.Results.{unless, result_and_then}
 use Rattle.xn_model.specs.Calls.{Edit, own_life, accepts, edited, life_bytes, patched, propose_refusal, propose_at, propose_of}
 use Rattle.xn_model.specs.Rules.{IsConsistent}
-use Rattle.xn_model.proofs.ForCallers.{given_ok, own_then, same_ok, never_ok, propose_keeps}
+use Rattle.xn_model.proofs.ForCallers.{same_ok, never_ok, propose_keeps}
 use Rattle.xn_state.specs.Proposals.{proposed_at, proposed_of, accepted_entry}
 use Rattle.xn_state.specs.States.{Continues, own_types}
 use Rattle.xn_state.proofs.Keeping.{continues}

@@ -99,3 +99,19 @@ module _ (T : Types) (state : StoreState) (b ty chunks : ℕ) (l : Life) (new : 
       ap (λ t. T.owned t other) (sym same_type)
       ∙ (decides other is (λ i noted. also i noted ∙ agrees i noted)
       ∙ sym (still_owned bytes))
+
+-- an edit that leaves what decides the owned blocks, of a type whose blocks may use all bytes
+pub kept_left : (T : Types) (state : StoreState) (b ty chunks : ℕ) (l : Life) (old : List ℕ) (e : Edit) → life_at state.lives b ≡ Some l → newest_at state.lives b ≡ Some (ty, old) → length old ≡ 512 →
+    DecidesOwned T l.ty (current l) chunks → Leaves chunks e → IsConsistent T state → IsBlock (patched old e.patches) → within_limits e ≡ true → ((m : List ℕ) → T.size ty m ≡ 512) →
+    (first_refusal (last_tests T state b e ty (patched old e.patches)) ≡ None) × DecidesOwned T ty (patched old e.patches) chunks
+kept_left T state b ty chunks l old e alive newest long decides leaves h bytes limits whole =
+    let new = patched old e.patches in
+    let both : (l.ty, current l) ≡ (ty, old) = same_Some (l.ty, current l) (ty, old) (sym (ap newest_of alive) ∙ newest) in
+    let same : l.ty ≡ ty = ap (λ (p : ℕ × List ℕ). p.0) both in
+    let now : current l ≡ old = ap (λ (p : ℕ × List ℕ). p.1) both in
+    let edited : patched (current l) e.patches ≡ new = ap (λ m. patched m e.patches) now in
+    let size_now : length (current l) ≡ 512 = ap length now ∙ long in
+    let claim = kept_claim T state b ty chunks l new e alive same edited size_now decides leaves h bytes in
+    let fits = length_patched old e.patches long (patches_of_edit e limits) in
+    let size : within_size T ty new ≡ true = ap (λ n. blank (drop n new)) (whole new) ∙ ap blank (drop_all 512 new (omega (arith, fits))) in
+    ((λ i. first_refusal ((not (claim i), ClaimWrong) ∷ (not (size i), SizeWrong) ∷ [])), kept_decides T state b ty chunks l new e alive same edited size_now decides leaves bytes)

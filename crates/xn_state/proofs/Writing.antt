@@ -1,9 +1,9 @@
 -- What the facts and the bytes of a block say of its writes.
-use Rattle.std.proofs.Common.{◌≡◌, ℕ, ◌≤◌, Bool, true, false, List, [], ◌∷◌, length, Option, Some, None, Result, Ok, Err, refl, slice_get, sym, ◌∙◌, ap, arith, subst}
+use Rattle.std.proofs.Common.{◌≡◌, ℕ, ◌≤◌, Bool, false, List, [], ◌∷◌, length, Option, Some, None, Result, Ok, Err, refl, slice_get, sym, ◌∙◌, ap, arith, subst}
 use Rattle.std.specs.Prelude.{bytes_eq, if◌then◌else◌, is_some, option_map, unwrap_or, IfSome, ◌==◌}
-use Rattle.std.proofs.lemmas.Bool.{false≢true, ne_eqb}
+use Rattle.std.proofs.lemmas.Bool.{ne_eqb}
 use Rattle.std.proofs.lemmas.Option.{none-some, same_Some}
-use Rattle.xn_model.specs.Lives.{BlockState, Life, Lives, StoreState, alive_and, begun_at, bytes_of, prefix_of}
+use Rattle.xn_model.specs.Lives.{Life, Lives, StoreState, alive_and, begun_at, prefix_of}
 use Rattle.xn_model.specs.declared.refusal.Refusal.{Refusal}
 use Rattle.xn_model.specs.Results.{first_refusal, result_map, unless}
 use Rattle.xn_model.specs.declared.refusal.Refusal.TheVariants.{NothingSafe, NoSuchBlock, NotInUse, InFlight, NotMine}

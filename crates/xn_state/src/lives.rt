@@ -158,6 +158,7 @@ impl Lives {
     }
 
     /// The least of a number and the pending entries that count for a file system.
+    #[inline(always)]
     pub fn least_for(&self, fs: Fs, most: u64) -> u64
         ensures { result ≡ least_to most (entries_of fs.number self.now) }
     {

@@ -224,6 +224,7 @@ impl State {
     }
 
     /// The least pending entry of a file system, or the next number to be given.
+    #[inline(always)]
     pub fn floor(&self, fs: Fs) -> u64
         ensures { result ≡ floor_of self.now fs.number }
     {

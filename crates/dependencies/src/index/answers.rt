@@ -34,19 +34,29 @@ impl Index {
         self.pending[fs.index()]
     }
 
-    /// The least of a number and the pending entries that count for a file system.
+    /// The least of a number and the pending entries that count for a file system: mostly there are none.
+    #[inline(always)]
     pub fn least_for(&self, cache: &Cache, fs: Fs, most: u64) -> u64
         requires { IsIndex cache.now self.now }
         ensures { result ≡ least_to most (entries_of fs.number cache.now) }
     {
-        let pending = self.pending[fs.index()];
-        if pending > 0 {
-            let oldest = self.oldest[fs.index()];
-            if let Some(_block) = home_for(cache, &self.homes, fs, oldest) {
-                return oldest.min(most);
-            }
+        if self.pending[fs.index()] == 0 {
+            return most;
         }
-        least_for(cache, &self.dirty, fs, most, pending)
+        self.least_pending(cache, fs, most)
+    }
+
+    /// The same, where some are pending.
+    #[inline(never)]
+    fn least_pending(&self, cache: &Cache, fs: Fs, most: u64) -> u64
+        requires { IsIndex cache.now self.now }
+        ensures { result ≡ least_to most (entries_of fs.number cache.now) }
+    {
+        let oldest = self.oldest[fs.index()];
+        if let Some(_block) = home_for(cache, &self.homes, fs, oldest) {
+            return oldest.min(most);
+        }
+        least_for(cache, &self.dirty, fs, most, self.pending[fs.index()])
     }
 
     /// How many pending entries of a block, from the first on, are safe: they may go to the disk together.

@@ -12,6 +12,7 @@ ghost use Rattle.claims.specs.Owners.{is_claimed, owned_count};
 ghost use Rattle.templates.specs.Decided.{DecidesOwned};
 ghost use Rattle.claims.specs.Decided.{Decides, Leaves, newest_at};
 ghost use Rattle.xn_state.specs.Proposals.{edited_with, last_tests, proposed_of};
+ghost use Rattle.udf_run.specs.Safe.{IsBlock};
 ghost use Rattle.xn_state.specs.States.{own_types};
 
 use crate::state::accept::Claims;
@@ -191,8 +192,35 @@ impl State {
         self.left_by_run(block, ty, old, edit)
     }
 
-    /// The same, by runs of the programs.
+    /// The same, by runs of the programs. Mostly the edit leaves what decides which blocks this one owns, and its type may use all bytes: then
+    /// no look at the new ones is needed.
     fn left_by_run(
+        &self,
+        block: u32,
+        ty: u32,
+        old: &[u8; 512],
+        edit: &Edit,
+    ) -> Result<Option<ReadSet>, Refusal>
+        requires alive { IsTrue (is_some (life_at self.now.lives block)) }
+        requires installed { IsTrue ((own_types self.now).installed ty) }
+        requires newest { newest_at self.now.lives block ≡ Some (ty, old.now) }
+        requires limits { IsTrue (within_limits edit.now) }
+        ensures plan { result_map (λ reads. patched old.now edit.now.patches) result
+            ≡ unless (first_refusal (last_tests (own_types self.now) self.now block edit.now ty (patched old.now edit.now.patches)))
+            (Ok (patched old.now edit.now.patches)) }
+        ensures reads { IfOk result (λ reads. IfSome reads (λ set. DecidesOwned (own_types self.now) ty (patched old.now edit.now.patches) set.chunks)) }
+    {
+        if self.types().may_use_all(ty)
+            && let Some(reads) = self.kept_reads(block, edit)
+        {
+            are_bytes(old, edit);
+            return Ok(Some(reads));
+        }
+        self.left_by_copy(block, ty, old, edit)
+    }
+
+    /// The same, by a copy of the newest bytes that is edited.
+    fn left_by_copy(
         &self,
         block: u32,
         ty: u32,
@@ -325,4 +353,21 @@ impl State {
         };
         self.accept(fs, block, NewBytes::Patched(edit), reads, undo, claims)
     }
+}
+
+/// What an edit leaves of a block are bytes. A caller learns only that, so the compiler leaves the copy out.
+fn are_bytes(old: &[u8; 512], edit: &Edit)
+    requires { IsTrue (within_limits edit.now) }
+    ensures { IsBlock (patched old.now edit.now.patches) }
+{
+    let mut left = *old;
+    edit.apply(&mut left);
+    is_block(&left);
+}
+
+/// The bytes of a block are bytes. It does nothing.
+fn is_block(bytes: &[u8; 512])
+    ensures { IsBlock bytes.now }
+{
+    let _first = bytes[0];
 }

@@ -1,10 +1,10 @@
-use Rattle.std.proofs.Common.{◌≡◌, ◌∙◌, ◌%◌, ◌<◌, ℕ, ap, arith, cond, false, length, subst, sym, true}
+use Rattle.std.proofs.Common.{◌∙◌, ◌<◌, ap, arith, cond, length, subst, sym, true}
 use Rattle.std.specs.Prelude.{IfSome, slice_index}
 use Rattle.xn_model.specs.Lives.{life_at}
 use Rattle.block_cache.specs.Systems.{system_of}
 use Rattle.dependencies.specs.Candidates.{with_candidate}
 use Rattle.dependencies.specs.Counts.{noted_for}
-use Rattle.dependencies.specs.Homes.{homes_with}
+use Rattle.dependencies.specs.Homes.{homes_with, slot_of}
 use Rattle.dependencies.specs.Index.{IndexValue, IsIndex}
 use Rattle.dependencies.specs.Pending.{pends}
 use Rattle.dependencies.proofs.Counting.{system_few, system_within}
@@ -29,7 +29,7 @@ returns c = λ lives s is alive first entry for fresh.
     let number = sym entry in
     let note = c.note_entry.ensures ∙ ap (λ t. cond t (with_candidate index.candidates b true) index.candidates) first in
     let home = c.put.ensures.home ∙ ap (λ n. homes_with index.homes n b) number in
-    let room = subst (λ n. n % length index.homes < length index.homes) number c.put.ensures.room in
+    let room = subst (λ n. slot_of (length index.homes) n < length index.homes) number c.put.ensures.room in
     let noted = c.count_entry.ensures.oldest ∙ ap (λ n. noted_for f n index.pending index.oldest) number in
     rw (c.mark.ensures, note, home, c.count_entry.ensures.pending, noted) (
     accepted_index lives index b s f (subst (IsIndex lives) (sym c.self.view_is) is)

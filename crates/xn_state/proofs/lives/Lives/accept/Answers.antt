@@ -1,12 +1,11 @@
 use Rattle.std.proofs.Common.{◌≡◌, ◌∙◌, ℕ, ◌+◌, ◌-◌, ◌≤◌, length, ap, sym, subst, arith}
 use Rattle.std.specs.Prelude.{◌==◌, is_some, slice_index, slice_set, IsTrue}
-use Rattle.xn_model.specs.Lives.{Lives, accepted_at, dropped_after, life_at, owned_after}
+use Rattle.xn_model.specs.Lives.{Lives, dropped_after, life_at, owned_after}
 use Rattle.xn_model.specs.Calls.{life_bytes}
 use Rattle.block_cache.specs.Claims.{claimed_state}
 use Rattle.block_cache.specs.NewBytes.{new_bytes}
 use Rattle.claims.specs.Owned.{MayClaim}
 use Rattle.claims.proofs.ForCallers.{accepted_counts, alive_place, few_owned, may_drop_all}
-use Rattle.dependencies.specs.Index.{IsIndex}
 use Rattle.dependencies.specs.Pending.{pends}
 use Rattle.dependencies.proofs.ForCallers.{FewFor, few_counted}
 use Rattle.xn_state.proofs.lives.Lives.accept.Goals as goal
