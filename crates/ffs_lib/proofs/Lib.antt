@@ -27,6 +27,8 @@ pub mod Dropping
 pub mod Undoing
 pub mod Laws
 pub mod Orders
+pub mod NewOrder
+pub mod RepairOrder
 pub mod Removal
 pub mod NameLaws
 pub mod DataLaws

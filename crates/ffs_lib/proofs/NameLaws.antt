@@ -24,6 +24,7 @@ use Rattle.ffs_lookup.specs.declared.places.Room.TheVariants.{Entry, Pointer}
 use Rattle.ffs_lookup.specs.Places.{IsDirectory, IsEmptyPointer, IsFree, IsGap}
 use Rattle.ffs_lookup.proofs.ForCallers.{directory_is, find_none, free_mode, in_directory, root_again, same_ok}
 use Rattle.ffs_lib.specs.Edits.{edit_at}
+use Rattle.ffs_lib.specs.NewOrder.{missing_block}
 use Rattle.ffs_lib.specs.Outcomes.{HasFreePointer, IsAdded, IsGrown, IsMade}
 use Rattle.ffs_lib.specs.Results.{HasMore, IsLowestNumber, SameInode, SameOrNew, new_inode}
 use Rattle.ffs_lib.specs.Steps.{Entered, IsEntry, IsHome, MayName, ShortEdit, Stage, StopsAtRoom, StopsAttaching, StopsEntering, StopsGrowing, Tells, Wants, left_by}
@@ -33,6 +34,7 @@ use Rattle.ffs_lib.proofs.Fields.{free_blocks, one_more, same_blocks, zeros_inod
 use Rattle.ffs_lib.proofs.Laws.{can_edit, gives_of, home_of}
 use Rattle.ffs_lib.proofs.Linked.{same_room}
 use Rattle.ffs_lib.proofs.Tops.{never}
+use Rattle.ffs_lib.proofs.NewOrder.{missing_is}
 use Rattle.ffs_lib.proofs.Owners.{block_from, stands_from}
 use Rattle.ffs_lib.proofs.Same.{Touches, as_same, begun, begun_some, block_same, new_on, none_touched, place_added, place_kept, pointer_touched, root_bytes, root_same, same_on}
 use Rattle.ffs_lib.proofs.Undoing.{at_ok, attach_undone, undone_same}
@@ -242,6 +244,16 @@ module _ (T : Types) (fs : ℕ) (array : ℕ → Option ℕ) (zeroth first : Sto
   module _ (root : ℕ) (is_root : IsRoot (latest first.lives) fs root) (index : ℕ) (e : IsEmptyPointer first fs index) (small : block < 2 ^ 32) where
     pub point_short : ShortEdit T first fs root (edit_at (4 * index) (to_le_bytes w32 block) ((block, 4) ∷ []) [] None)
     point_short = pointer_short T first None (can_edit point_stage refl) fs s.few root index block is_root e small (begun_addable T zeroth first fs 4 block number zero_block (gives_of (init_of T zeroth fs 4 zero_block) zeroth first (block, number) done))
+
+    -- which pointer is missing
+    pub point_missing : IsLowest (latest zeroth.lives) fs None → ((r : ℕ) → Ok r ≡ root_in (latest first.lives) fs → Some index ≡ find (λ i. pointer_word (latest first.lives r) i == 0) (range_with_len 0 16)) → missing_block (latest zeroth.lives) fs ≡ Some (root, index)
+    point_missing full at =
+        let v = latest zeroth.lives in
+        let w = latest first.lives in
+        let top = root_again w fs root is_root in
+        let was = top ∙ root_same T s.library v w fs block 6 touched in
+        let bytes = root_bytes T s.library v w fs block 6 touched (λ z. omega (arith, z)) root was in
+        missing_is v fs root index was (full root was) (at root top ∙ ap (λ (m : List ℕ). find (λ i. pointer_word m i == 0) (range_with_len 0 16)) bytes)
 
     pub point_undone : (new : StoreState) → new ≡ left_by (forget_of T first fs block) first → (fault : FfsFault) → Wants T first fs root fault → StopsGrowing T fs zeroth new fault
     point_undone new left fault wants = record {

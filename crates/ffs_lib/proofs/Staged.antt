@@ -35,6 +35,7 @@ use Rattle.ffs_lib.proofs.Moving.{same_as}
 use Rattle.ffs_lib.proofs.Owners.{direct_block, pointers_apart, stands_from}
 use Rattle.ffs_lib.proofs.Removal.{FindsEntry}
 use Rattle.ffs_lib.proofs.Same.{same_on}
+use Rattle.ffs_lib.proofs.Undoing.{at_ok}
 use Rattle.ffs_lib.proofs.ValueMade.{directory_value}
 use Rattle.ffs_lib.proofs.ValueSteps.{clearing_value, inode_linked, kind, kind_is, takes_value, value_at}
 
@@ -175,10 +176,8 @@ pointers_of v w inode c = record { cleared = c.cleared; others = c.others }
 
 pub asks_entry : (T : Types) (fs d : ℕ) (old new : StoreState) (own : List ℕ) (slot : Slot) (at : ℕ × ℕ) → Ok own ≡ directory_in (latest old.lives) fs d → IsPlaceOf own slot at → (fault : FfsFault) → new ≡ old → Wants T old fs slot.block fault →
     Asks T fs (OfEntry d at.0) old new fault
-asks_entry T fs d old new own slot at is k fault same wants = (
-  same,
-  λ inode i. subst (λ (b : ℕ). Wants T old fs b fault) (sym k.block ∙ ap (λ (m : List ℕ). direct_in m at.0) (same_ok own inode (is ∙ sym i))) wants,
-)
+asks_entry T fs d old new own slot at is k fault same wants =
+    (same, at_ok (directory_in (latest old.lives) fs d) own (λ inode. Wants T old fs (direct_in inode at.0) fault) is (subst (λ (b : ℕ). Wants T old fs b fault) (sym k.block) wants))
 
 -- where a link could not be taken
 pub link_stage : (T : Types) (lib : IsLibrary T) (fs : ℕ) → fs < 32 → (middle new : StoreState) → IsConsistent T new → (n : ℕ) (files : Files) → files_of (latest middle.lives) fs ≡ files → (fault : FfsFault) → StopsTaking T fs middle new n fault →

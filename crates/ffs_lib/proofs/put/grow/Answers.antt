@@ -118,4 +118,4 @@ returns-clause-order g c = λ T array directory name n home e s m dir empty gap 
     let put1 = subst (λ (i : List ℕ). Attached T fs block found.block (edit_at (64 * found.place) i ((block, 2) ∷ []) [] (Some c.args.after)) first new c.attach.result) after (c.attach.ensures.put T types) in
     let put2 = subst (λ (k : ℕ). Attached T fs block found.block (edit_at (64 * k) (grown directory c.args.index block) ((block, 2) ∷ []) [] (Some c.args.after)) first new c.attach.result) at.at put1 in
     let put3 = subst (λ (k : ℕ). Attached T fs block k (grown_edit d directory c.args.index c.args.after block) first new c.attach.result) same put2 in
-    grow_act T fs home (put zero_block 0 bytes) (grown_edit d directory c.args.index c.args.after) block number zeroth first new done c.attach.result put3
+    grow_act T fs 2 home (put zero_block 0 bytes) (grown_edit d directory c.args.index c.args.after) block number zeroth first new done c.attach.result put3

@@ -1,4 +1,4 @@
-use Rattle.std.proofs.Common.{◌∙◌, ℕ, Option, Ok, Err, ap, refl, subst}
+use Rattle.std.proofs.Common.{◌∙◌, ℕ, Option, Ok, Err, ap, refl, subst, sym}
 use Rattle.std.proofs.lemmas.Result.{err_from_is_err_and}
 use Rattle.ffs_model.specs.Library.{library_layout}
 use Rattle.ffs_model.specs.Volumes.{VolumeKeeps}
@@ -6,6 +6,7 @@ use Rattle.ffs_lookup.specs.declared.fault.FfsFault.{FfsFault}
 use Rattle.ffs_lookup.specs.Newest.{mapped}
 use Rattle.ffs_lib.proofs.Kept.{on_err}
 use Rattle.ffs_lib.proofs.Making.{no_numbers}
+use Rattle.ffs_lib.proofs.NewOrder.{make_stops}
 use Rattle.ffs_lib.proofs.Opening.{make_found, make_stage}
 use Rattle.ffs_lib.proofs.ValueVolume.{make_does, make_fails, never_made}
 use Rattle.ffs_lib.proofs.volume.Volume.make.Goals as goal
@@ -63,3 +64,27 @@ returns-clause-ok g c =
       library = c.requires.library;
       keeps = subst (λ (array : ℕ → Option ℕ). VolumeKeeps T library_layout fs array (g.S.Store.state_of c.make_first.new.store)) no_numbers h.0.keeps;
     }
+
+pub returns-in_err-begun-clause-order : goal.returns-in_err-begun-clause-order
+returns-in_err-begun-clause-order g c = λ ok. absurd (never_made (g.S.Store.state_of c.args.store.now) c.args.fs.number _ c.in_err-begun.ensures.exact ok)
+
+pub returns-in_err-make_first-clause-order : goal.returns-in_err-make_first-clause-order
+returns-in_err-make_first-clause-order g c = λ ok.
+    let fs = c.args.fs.number in
+    let T = g.S.Store.types_of c.args.store.now in
+    let zeroth = g.S.Store.state_of c.args.store.now in
+    let exact = c.in_ok-begun.ensures.exact in
+    let s = make_stage T zeroth c.look_up_root.ensures.rules fs c.args.fs.few c.requires c.in_ok-begun.begun exact in
+    let h = c.in_err-make_first.ensures.ends T refl s (make_found zeroth fs c.in_ok-begun.begun exact).1 in
+    make_stops T fs zeroth (g.S.Store.state_of c.make_first.new.store) _ h.1.1 c.from_residual-in_err-make_first.result c.from_residual-in_err-make_first.ensures.1
+
+pub returns-clause-order : goal.returns-clause-order
+returns-clause-order g c = λ ok.
+    let fs = c.args.fs.number in
+    let zeroth = g.S.Store.state_of c.args.store.now in
+    let exact = c.in_ok-begun.ensures.exact in
+    let s = make_stage (g.S.Store.types_of c.args.store.now) zeroth c.look_up_root.ensures.rules fs c.args.fs.few c.requires c.in_ok-begun.begun exact in
+    c.in_ok-make_first.ensures.order (g.S.Store.types_of c.args.store.now) refl s (make_found zeroth fs c.in_ok-begun.begun exact).1
+
+pub returns-clause-added : goal.returns-clause-added
+returns-clause-added g c = sym no_numbers

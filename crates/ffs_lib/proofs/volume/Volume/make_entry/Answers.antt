@@ -1,6 +1,6 @@
-use Rattle.std.proofs.Common.{◌≡◌, ◌∙◌, ℕ, ap, inl, inr, subst, sym}
+use Rattle.std.proofs.Common.{◌≡◌, ◌∙◌, ℕ, Ok, ap, inl, inr, subst, sym}
 use Rattle.ffs_model.specs.Cuts.{latest}
-use Rattle.ffs_lookup.specs.Newest.{create_in}
+use Rattle.ffs_lookup.specs.Newest.{create_in, directory_in}
 use Rattle.ffs_lib.specs.Results.{IsLowestNumber, MadeEntry, SameOrNew}
 use Rattle.ffs_lib.specs.Steps.{StopsMaking, StopsNew}
 use Rattle.ffs_lib.specs.Volumes.{edits_of}
@@ -8,6 +8,7 @@ use Rattle.ffs_lib.proofs.Entering.{directory_from, directory_same, stays_made}
 use Rattle.ffs_lib.proofs.Laws.{answers_ok, is_ok_one, match_then, stops_err}
 use Rattle.ffs_lib.proofs.Linked.{free_pointer, same_room}
 use Rattle.ffs_lib.proofs.MakeLaws.{named_by}
+use Rattle.ffs_lib.proofs.NewOrder.{creates_stop, creates_then, new_lowest, new_refused, not_refused}
 use Rattle.ffs_lib.proofs.volume.Volume.make_entry.Goals as goal
 
 pub take_free-requires-clause-room : goal.take_free-requires-clause-room
@@ -69,3 +70,38 @@ returns-clause-keeps g c =
     let T = g.S.Store.types_of c.args.store.now in
     let y = named_by (g.S.Store.types_of c.take_free.new.store) T c.take_free.new.self.fs.number fs middle new d c.args.name.now c.args.mode c.in_ok-free.free.number c.name_inode.new.self c.name_inode.result (ap (λ f. f.number) c.take_free.ensures.fs) c.take_free.ensures.types c.name_inode.ensures.leaves (dir.0) (dir.1 ∙ sym (directory_same u v fs d (stays d).0)) (same_room u v fs d dir.0 ((stays d).0, (stays d).1) (directory_from u fs d dir.0 dir.1).0 ∙ dir.2) in
     y.0
+
+pub returns-in_err-found-clause-order : goal.returns-in_err-found-clause-order
+returns-in_err-found-clause-order g c = λ n e.
+    absurd (new_refused (latest (g.S.Store.state_of c.args.store.now).lives) c.args.self.now.fs.number c.args.directory c.args.name.now n _ (c.in_err-found.ensures.exact c.requires.volume.library) e)
+
+pub returns-in_err-free-clause-order : goal.returns-in_err-free-clause-order
+returns-in_err-free-clause-order g c = λ n e.
+    let fs = c.args.self.now.fs.number in
+    creates_stop (g.S.Store.types_of c.args.store.now) fs c.args.directory c.args.name.now c.args.mode n (edits_of c.args.self.now.added) (edits_of c.take_free.new.self.added) (g.S.Store.state_of c.args.store.now) (g.S.Store.state_of c.take_free.new.store)
+    c.in_err-free.field-0.0 c.in_err-free.ensures.order c.from_residual-in_err-free.result c.from_residual-in_err-free.ensures.1
+
+pub returns-clause-order : goal.returns-clause-order
+returns-clause-order g c = λ n e.
+    let T = g.S.Store.types_of c.args.store.now in
+    let old = g.S.Store.state_of c.args.store.now in
+    let middle = g.S.Store.state_of c.take_free.new.store in
+    let u = latest old.lives in
+    let v = latest middle.lives in
+    let fs = c.args.self.now.fs.number in
+    let d = c.args.directory in
+    let name = c.args.name.now in
+    let number = c.in_ok-free.free.number in
+    let dir = c.in_ok-found.ensures.room c.requires.volume.library in
+    let stays = c.in_ok-free.ensures.leaves.1.stays in
+    let again : Ok dir.0 ≡ directory_in v fs d = dir.1 ∙ sym (directory_same u v fs d (stays d).0) in
+    let same = ap (λ f. f.number) c.take_free.ensures.fs in
+    let names = c.name_inode.ensures.order dir.0 (subst (λ (x : ℕ). Ok dir.0 ≡ directory_in v x d) (sym same) again) (same_room u v fs d dir.0 ((stays d).0, (stays d).1) (directory_from u fs d dir.0 dir.1).0 ∙ dir.2) in
+    creates_then T (g.S.Store.types_of c.take_free.new.store) fs c.take_free.new.self.fs.number d name c.args.mode n number (edits_of c.args.self.now.added) (edits_of c.take_free.new.self.added) (edits_of c.name_inode.new.self.added) old middle (g.S.Store.state_of c.name_inode.new.store)
+    c.take_free.ensures.types same (new_lowest u fs d name n number e c.in_ok-free.ensures.leaves.1.lowest) c.in_ok-free.ensures.order c.name_inode.result names
+
+pub returns-in_err-free-clause-added : goal.returns-in_err-free-clause-added
+returns-in_err-free-clause-added g c = λ fault e. absurd (not_refused _ fault e (c.in_ok-found.ensures.exact c.requires.volume.library))
+
+pub returns-clause-added : goal.returns-clause-added
+returns-clause-added g c = λ fault e. absurd (not_refused _ fault e (c.in_ok-found.ensures.exact c.requires.volume.library))
