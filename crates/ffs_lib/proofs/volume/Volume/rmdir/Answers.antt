@@ -15,8 +15,8 @@ use Rattle.ffs_lib.proofs.Tops.{never}
 use Rattle.ffs_lib.proofs.ValueMade.{directory_value}
 use Rattle.ffs_lib.proofs.volume.Volume.rmdir.Goals as goal
 
-pub returns-clause-answers : goal.returns-clause-answers
-returns-clause-answers g c =
+pub returns : goal.returns
+returns g c =
     let T = g.S.Store.types_of c.args.store.now in
     let old = g.S.Store.state_of c.args.store.now in
     let new = g.S.Store.state_of c.remove.new.store in
@@ -27,46 +27,38 @@ returns-clause-answers g c =
     let name = c.args.name.now in
     let slot = c.in_ok-slot.slot in
     let exact = c.in_ok-slot.ensures.exact c.requires.library in
-    let f = rmdir_value u fs d name slot exact in
-    let x = c.remove.ensures.ends T (edits_of volume.added) refl (staged c.requires volume.fs.few) refl in
-    removed_does T c.requires.library fs volume.fs.few d name slot old new f c.requires.keeps.consistent x.0.keeps.consistent (removed (files_of u fs) d name)
-    (removed_ok u fs d name f.own slot (directory_value u fs d f.own f.is) f.entry exact) c.remove.result x.1
+    record {
+      types = search rules;
+      answers =
+          let f = rmdir_value u fs d name slot exact in
+          let x = c.remove.ensures.ends T (edits_of volume.added) refl (staged c.requires volume.fs.few) refl in
+          removed_does T c.requires.library fs volume.fs.few d name slot old new f c.requires.keeps.consistent x.0.keeps.consistent (removed (files_of u fs) d name)
+          (removed_ok u fs d name f.own slot (directory_value u fs d f.own f.is) f.entry exact) c.remove.result x.1;
+      inodes = λ entry e.
+          let f = rmdir_value (latest old.lives) volume.fs.number d c.args.name.now entry e in
+          let x = c.remove.ensures.ends T (edits_of volume.added) refl (staged c.requires volume.fs.few) refl in
+          let same = same_ok c.in_ok-slot.slot entry (c.in_ok-slot.ensures.exact c.requires.library ∙ sym e) in
+          unnames T c.requires.library volume.fs.number volume.fs.few d c.args.name.now entry old (g.S.Store.state_of c.remove.new.store) f x.0.keeps.consistent c.remove.result (rw same at x.1);
+      order = λ entry e.
+          let same = same_ok c.in_ok-slot.slot entry (c.in_ok-slot.ensures.exact c.requires.library ∙ sym e) in
+          subst (λ (s : Slot). Orders (g.S.Store.types_of c.args.store.now) volume.fs.number (removed_edits (latest old.lives) volume.fs.number s None old.next) old (g.S.Store.state_of c.remove.new.store) c.remove.result) same
+          (c.remove.ensures.order (g.S.Store.types_of c.args.store.now) (edits_of volume.added) refl (staged c.requires volume.fs.few) refl);
+      keeps =
+          let x = c.remove.ensures.ends (g.S.Store.types_of c.args.store.now) (edits_of c.args.self.now.added) refl (staged c.requires c.args.self.now.fs.few) refl in
+          record { library = c.requires.library; keeps = x.0.keeps };
+    }
 
-pub returns-clause-inodes : goal.returns-clause-inodes
-returns-clause-inodes g c = λ entry e.
-    let T = g.S.Store.types_of c.args.store.now in
-    let old = g.S.Store.state_of c.args.store.now in
-    let volume = c.args.self.now in
-    let d = c.args.directory in
-    let f = rmdir_value (latest old.lives) volume.fs.number d c.args.name.now entry e in
-    let x = c.remove.ensures.ends T (edits_of volume.added) refl (staged c.requires volume.fs.few) refl in
-    let same = same_ok c.in_ok-slot.slot entry (c.in_ok-slot.ensures.exact c.requires.library ∙ sym e) in
-    unnames T c.requires.library volume.fs.number volume.fs.few d c.args.name.now entry old (g.S.Store.state_of c.remove.new.store) f x.0.keeps.consistent c.remove.result (rw same at x.1)
-
-pub returns-clause-keeps : goal.returns-clause-keeps
-returns-clause-keeps g c =
-    let x = c.remove.ensures.ends (g.S.Store.types_of c.args.store.now) (edits_of c.args.self.now.added) refl (staged c.requires c.args.self.now.fs.few) refl in
-    record { library = c.requires.library; keeps = x.0.keeps }
-
-pub returns-in_err-slot-clause-answers : goal.returns-in_err-slot-clause-answers
-returns-in_err-slot-clause-answers g c =
+pub returns-in_err-slot : goal.returns-in_err-slot
+returns-in_err-slot g c =
     let old = g.S.Store.state_of c.args.store.now in
     let fs = c.args.self.now.fs.number in
     let u = latest old.lives in
     let d = c.args.directory in
     let name = c.args.name.now in
-    does_fault (g.S.Store.types_of c.args.store.now) fs (rmdir_in u fs d name) (removed (files_of u fs) d name) (removed_stages (files_of u fs) d name) old old c.from_residual.result (removed_told u fs d name) (search rules)
-
-pub returns-in_err-slot-clause-inodes : goal.returns-in_err-slot-clause-inodes
-returns-in_err-slot-clause-inodes g c = λ entry e. absurd (never entry _ (e ∙ sym (c.in_err-slot.ensures.exact c.requires.library)))
-
-pub returns-clause-order : goal.returns-clause-order
-returns-clause-order g c = λ entry e.
-    let old = g.S.Store.state_of c.args.store.now in
-    let volume = c.args.self.now in
-    let same = same_ok c.in_ok-slot.slot entry (c.in_ok-slot.ensures.exact c.requires.library ∙ sym e) in
-    subst (λ (s : Slot). Orders (g.S.Store.types_of c.args.store.now) volume.fs.number (removed_edits (latest old.lives) volume.fs.number s None old.next) old (g.S.Store.state_of c.remove.new.store) c.remove.result) same
-    (c.remove.ensures.order (g.S.Store.types_of c.args.store.now) (edits_of volume.added) refl (staged c.requires volume.fs.few) refl)
-
-pub returns-in_err-slot-clause-order : goal.returns-in_err-slot-clause-order
-returns-in_err-slot-clause-order g c = λ entry e. absurd (never entry _ (e ∙ sym (c.in_err-slot.ensures.exact c.requires.library)))
+    record {
+      types = search rules;
+      answers = does_fault (g.S.Store.types_of c.args.store.now) fs (rmdir_in u fs d name) (removed (files_of u fs) d name) (removed_stages (files_of u fs) d name) old old c.from_residual.result (removed_told u fs d name) (search rules);
+      inodes = λ entry e. absurd (never entry _ (e ∙ sym (c.in_err-slot.ensures.exact c.requires.library)));
+      order = λ entry e. absurd (never entry _ (e ∙ sym (c.in_err-slot.ensures.exact c.requires.library)));
+      keeps = search rules;
+    }
