@@ -42,6 +42,7 @@ pub mod Turning
 pub mod Replacing
 pub mod TurnLaws
 pub mod Replaced
+pub mod ReplaceSteps
 pub mod PairLaws
 pub mod ValueLists
 pub mod ValueSame
