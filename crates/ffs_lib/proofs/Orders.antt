@@ -185,6 +185,12 @@ pub numbered : (T : Types) (fs block : ℕ) (edit : Edit) (old new : StoreState)
 numbered T fs block edit old new (Ok entry) p = (number_is T old fs block edit entry new p, proposed_next T old new fs block edit entry p)
 numbered T fs block edit old new (Err fault) p = tt
 
+pub last_number : (T : Types) (fs block : ℕ) (edit : Edit) (old new : StoreState) (entry : ℕ) → propose_of T old fs block edit ≡ Ok (entry, new) → entry ≡ new.next - 1
+last_number T fs block edit old new entry done =
+    let given = number_is T old fs block edit entry new done in
+    let next = proposed_next T old new fs block edit entry done in
+    omega (arith, given, next)
+
 pub linked_is : (content : ℕ → List ℕ) (fs n home place : ℕ) (inode bytes : List ℕ) → Ok home ≡ inode_block_in content fs ((n - 1) / 8) → place ≡ (n - 1) % 8 → Ok inode ≡ inode_in content fs n → bytes ≡ put inode 2 (to_le_bytes w16 (inode_links inode + 1)) →
     (home, edit_at (64 * place) bytes [] [] None) ∷ [] ≡ linked_edits content fs n
 linked_is content fs n home place inode bytes e f i is =
