@@ -27,6 +27,8 @@ pub mod Dropping
 pub mod Undoing
 pub mod Laws
 pub mod Orders
+pub mod NewOrder
+pub mod RepairOrder
 pub mod Removal
 pub mod NameLaws
 pub mod DataLaws
@@ -40,6 +42,7 @@ pub mod Turning
 pub mod Replacing
 pub mod TurnLaws
 pub mod Replaced
+pub mod ReplaceSteps
 pub mod PairLaws
 pub mod ValueLists
 pub mod ValueSame

@@ -7,12 +7,13 @@ use Rattle.std.specs.List.{list_any, range_with_len}
 use Rattle.xn_model.specs.Types.{Types}
 use Rattle.xn_model.specs.Lists.{put}
 use Rattle.xn_model.specs.Lives.{StoreState}
-use Rattle.xn_model.specs.Calls.{forget_of, init_of, propose_of, was_given}
+use Rattle.xn_model.specs.Calls.{Edit, forget_of, init_of, propose_of, was_given}
 use Rattle.xn_model.proofs.ForCallers.{Contains-head}
 use Rattle.ffs_model.specs.Cuts.{latest}
 use Rattle.ffs_model.specs.Edits.{OneEntry}
 use Rattle.ffs_model.specs.Names.{IsInodes, IsRoot}
 use Rattle.ffs_model.specs.Library.{inode_at, inode_blocks, inode_links, inode_mode, inode_pairs, library_layout, pointer_word, zero_block}
+use Rattle.ffs_model.specs.Volumes.{without_edit}
 use Rattle.ffs_model.proofs.ForCallers.{Replaces, blocks_read, begun_next, given_later, library_reads, mode_read, one_entry, one_later, proposed_given, proposed_others, started_here, started_holds, started_keeps, started_names, under_direct, zeros_mode, zeros_pointer}
 use Rattle.ffs_format.specs.Fields.{Fields, direct_in, fields_of}
 use Rattle.ffs_lookup.specs.declared.places.Found.{Found}
@@ -24,15 +25,19 @@ use Rattle.ffs_lookup.specs.declared.places.Room.TheVariants.{Entry, Pointer}
 use Rattle.ffs_lookup.specs.Places.{IsDirectory, IsEmptyPointer, IsFree, IsGap}
 use Rattle.ffs_lookup.proofs.ForCallers.{directory_is, find_none, free_mode, in_directory, root_again, same_ok}
 use Rattle.ffs_lib.specs.Edits.{edit_at}
+use Rattle.ffs_lib.specs.NewOrder.{missing_block, new_edits}
+use Rattle.ffs_lib.specs.Orders.{made_of}
 use Rattle.ffs_lib.specs.Outcomes.{HasFreePointer, IsAdded, IsGrown, IsMade}
 use Rattle.ffs_lib.specs.Results.{HasMore, IsLowestNumber, SameInode, SameOrNew, new_inode}
-use Rattle.ffs_lib.specs.Steps.{Entered, IsEntry, IsHome, MayName, ShortEdit, Stage, StopsAtRoom, StopsAttaching, StopsEntering, StopsGrowing, Tells, Wants, left_by}
+use Rattle.ffs_lib.specs.Steps.{Entered, IsEntry, IsHome, MadeInode, MayName, ShortEdit, Stage, StopsAtRoom, StopsAttaching, StopsEntering, StopsGrowing, Tells, Wants, left_by}
 use Rattle.ffs_lib.proofs.Edited.{attached, entered, grown, made, same_root}
-use Rattle.ffs_lib.proofs.Entering.{begun_same, block_entered, directory_from, directory_same, gap_entered, inode_put}
+use Rattle.ffs_lib.proofs.Entering.{begun_same, block_entered, directory_from, directory_same, free_none, gap_entered, inode_put}
 use Rattle.ffs_lib.proofs.Fields.{free_blocks, one_more, same_blocks, zeros_inode}
 use Rattle.ffs_lib.proofs.Laws.{can_edit, gives_of, home_of}
 use Rattle.ffs_lib.proofs.Linked.{same_room}
 use Rattle.ffs_lib.proofs.Tops.{never}
+use Rattle.ffs_lib.proofs.NewOrder.{missing_is, new_is}
+use Rattle.ffs_lib.proofs.Orders.{last_number, one_order}
 use Rattle.ffs_lib.proofs.Owners.{block_from, stands_from}
 use Rattle.ffs_lib.proofs.Same.{Touches, as_same, begun, begun_some, block_same, new_on, none_touched, place_added, place_kept, pointer_touched, root_bytes, root_same, same_on}
 use Rattle.ffs_lib.proofs.Undoing.{at_ok, attach_undone, undone_same}
@@ -165,6 +170,15 @@ module _ (T : Types) (fs : ℕ) (array : ℕ → Option ℕ) (zeroth first : Sto
 
 -- A free inode comes into use
 
+-- and may be named, by what comes after its edit
+pub record MayBeNamed (T : Types) (fs : ℕ) (array : ℕ → Option ℕ) (old new : StoreState) (n mode entry : ℕ) : Type 0 where
+  pub keeps : Stage T fs array new
+  pub forgets : Stage T fs (without_edit array ((n - 1) / 8)) new
+  pub may : MayName new fs n entry
+  pub made : MadeInode (latest old.lives) (latest new.lives) fs mode n
+  pub one : made_of T fs (new_edits (latest old.lives) fs mode n (array ((n - 1) / 8))) old ≡ Ok new
+  pub last : entry ≡ new.next - 1
+
 pub record Made (T : Types) (fs : ℕ) (array : ℕ → Option ℕ) (old new : StoreState) (n mode entry : ℕ) : Type 0 where
   pub is : IsMade T fs array n entry new
   pub here : inode_in (latest new.lives) fs n ≡ Ok (new_inode mode)
@@ -189,6 +203,22 @@ module _ (T : Types) (fs : ℕ) (array : ℕ → Option ℕ) (old : StoreState) 
         here = p.0 ∙ ap (λ (i : List ℕ). Ok i) all;
         others = p.1;
         given = proposed_given T old new h fs free.block (edit_at (64 * free.place) bytes [] [] after) entry done;
+      }
+
+  pub named_after : (new : StoreState) (entry : ℕ) → mode ≢ 0 → bytes ≡ new_inode mode → after ≡ array ((free.number - 1) / 8) → propose_of T old fs free.block (edit_at (64 * free.place) bytes [] [] after) ≡ Ok (entry, new) →
+      MayBeNamed T fs array old new free.number mode entry
+  named_after new entry used all comes done =
+      let k = makes new entry used all comes done in
+      let edit = edit_at (64 * free.place) bytes [] [] after in
+      record {
+        keeps = record { library = s.library; few = s.few; keeps = k.is.keeps };
+        forgets = record { library = s.library; few = s.few; keeps = k.is.forgets };
+        may = record { some = is.stands.some; can = k.is.can; given = k.given };
+        made = record { free = free_none old fs free is; made = k.here; others = k.others };
+        one = subst (λ (edits : List (ℕ × Edit)). made_of T fs edits old ≡ Ok new)
+            (new_is (latest old.lives) fs mode free.number free.block free.place bytes after (array ((free.number - 1) / 8)) (home_of old fs free.number free.block free.place is.stands) is.stands.at all comes)
+            (one_order T fs free.block edit old new (Ok entry) done);
+        last = last_number T fs free.block edit old new entry done;
       }
 
 -- the directory that is to name it is as before, and is another one
@@ -242,6 +272,16 @@ module _ (T : Types) (fs : ℕ) (array : ℕ → Option ℕ) (zeroth first : Sto
   module _ (root : ℕ) (is_root : IsRoot (latest first.lives) fs root) (index : ℕ) (e : IsEmptyPointer first fs index) (small : block < 2 ^ 32) where
     pub point_short : ShortEdit T first fs root (edit_at (4 * index) (to_le_bytes w32 block) ((block, 4) ∷ []) [] None)
     point_short = pointer_short T first None (can_edit point_stage refl) fs s.few root index block is_root e small (begun_addable T zeroth first fs 4 block number zero_block (gives_of (init_of T zeroth fs 4 zero_block) zeroth first (block, number) done))
+
+    -- which pointer is missing
+    pub point_missing : IsLowest (latest zeroth.lives) fs None → ((r : ℕ) → Ok r ≡ root_in (latest first.lives) fs → Some index ≡ find (λ i. pointer_word (latest first.lives r) i == 0) (range_with_len 0 16)) → missing_block (latest zeroth.lives) fs ≡ Some (root, index)
+    point_missing full at =
+        let v = latest zeroth.lives in
+        let w = latest first.lives in
+        let top = root_again w fs root is_root in
+        let was = top ∙ root_same T s.library v w fs block 6 touched in
+        let bytes = root_bytes T s.library v w fs block 6 touched (λ z. omega (arith, z)) root was in
+        missing_is v fs root index was (full root was) (at root top ∙ ap (λ (m : List ℕ). find (λ i. pointer_word m i == 0) (range_with_len 0 16)) bytes)
 
     pub point_undone : (new : StoreState) → new ≡ left_by (forget_of T first fs block) first → (fault : FfsFault) → Wants T first fs root fault → StopsGrowing T fs zeroth new fault
     point_undone new left fault wants = record {

@@ -1,5 +1,5 @@
 -- The numbers of edits that a volume keeps.
-use Rattle.std.proofs.Common.{◌≡◌, ℕ, zero, suc, refl, [], ◌∷◌, ◌+◌, ◌-◌, ◌*◌, ◌/◌, ◌<◌, List, length, get_or, Option, Some, None, sym, ◌∙◌, ap, inl, inr, arith, subst, eq-eqb}
+use Rattle.std.proofs.Common.{◌≡◌, ℕ, zero, suc, refl, [], ◌∷◌, ◌+◌, ◌-◌, ◌*◌, ◌/◌, ◌<◌, ◌≤◌, List, length, get_or, Option, Some, None, sym, ◌∙◌, ap, inl, inr, arith, subst, eq-eqb}
 use Rattle.std.specs.Prelude.{if◌then◌else◌}
 use Rattle.std.proofs.Math.ListN.{set}
 use Rattle.std.proofs.lemmas.Bool.{cases_eq, ne_eqb}
@@ -56,3 +56,15 @@ first_free T state fs array index block entry low added =
       bare = ap (λ m. inode_at m 0) added.empty;
       low = omega arith;
     }
+
+-- the number that is kept of an inode's block
+pub record IsKept (added : List (Option ℕ)) (n index : ℕ) (kept : Option ℕ) : Type 0 where
+  pub low : index < length added
+  pub is : kept ≡ edits_of added ((n - 1) / 8)
+  pub forgets : without_edit (edits_of added) ((n - 1) / 8) ≡ edits_of (set added index None)
+
+pub is_kept : (added : List (Option ℕ)) (n before : ℕ) (other : Option ℕ) → before ≡ n - 1 → length added ≡ 16 → n ≤ 128 → IsKept added n (before / 8) (get_or added (before / 8) other)
+is_kept added n before other less long most =
+    let low : before / 8 < length added = omega (arith, less, long, most) in
+    let home : (n - 1) / 8 ≡ before / 8 = ap (λ x. x / 8) (sym less) in
+    record { low = low; is = same_read added (before / 8) other None low ∙ ap (edits_of added) (sym home); forgets = ap (without_edit (edits_of added)) home ∙ without_one added (before / 8) low }

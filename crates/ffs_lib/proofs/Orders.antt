@@ -89,7 +89,7 @@ last_link pointers home place inode after next t few e =
     else if has_data pointers inode then (word_at inode 56, pointers_edit pointers after) ∷ (home, free_edit place inode next) ∷ [] else (home, free_edit place inode after) ∷ []) (le-ltb 1 (inode_links inode) few)
     ∙ ap (λ (u : Bool). if u then (word_at inode 56, pointers_edit pointers after) ∷ (home, free_edit place inode next) ∷ [] else (home, free_edit place inode after) ∷ []) e)
 
-nothing_there : (block : ℕ) (numbers : List ℕ) → (block ≡ 0) ⊎ (numbers ≡ []) → not ((block == 0) || (length numbers == 0)) ≡ false
+pub nothing_there : (block : ℕ) (numbers : List ℕ) → (block ≡ 0) ⊎ (numbers ≡ []) → not ((block == 0) || (length numbers == 0)) ≡ false
 nothing_there block numbers (inl e) = ap (λ (t : Bool). not (t || (length numbers == 0))) (eq-eqb block 0 e)
 nothing_there block numbers (inr e) = go (block == 0)
   where
@@ -97,7 +97,7 @@ nothing_there block numbers (inr e) = go (block == 0)
     go true = refl
     go false = ap (λ (xs : List ℕ). not (length xs == 0)) e
 
-some_there : (block : ℕ) (numbers : List ℕ) → block ≢ 0 → numbers ≢ [] → not ((block == 0) || (length numbers == 0)) ≡ true
+pub some_there : (block : ℕ) (numbers : List ℕ) → block ≢ 0 → numbers ≢ [] → not ((block == 0) || (length numbers == 0)) ≡ true
 some_there block [] there some = absurd (some refl)
 some_there block (x ∷ xs) there some = ap (λ (t : Bool). not (t || (length (x ∷ xs) == 0))) (ne_eqb block 0 there) ∙ ap not (ne_eqb (length (x ∷ xs)) 0 (λ z. omega (arith, z)))
 
@@ -185,6 +185,12 @@ pub numbered : (T : Types) (fs block : ℕ) (edit : Edit) (old new : StoreState)
 numbered T fs block edit old new (Ok entry) p = (number_is T old fs block edit entry new p, proposed_next T old new fs block edit entry p)
 numbered T fs block edit old new (Err fault) p = tt
 
+pub last_number : (T : Types) (fs block : ℕ) (edit : Edit) (old new : StoreState) (entry : ℕ) → propose_of T old fs block edit ≡ Ok (entry, new) → entry ≡ new.next - 1
+last_number T fs block edit old new entry done =
+    let given = number_is T old fs block edit entry new done in
+    let next = proposed_next T old new fs block edit entry done in
+    omega (arith, given, next)
+
 pub linked_is : (content : ℕ → List ℕ) (fs n home place : ℕ) (inode bytes : List ℕ) → Ok home ≡ inode_block_in content fs ((n - 1) / 8) → place ≡ (n - 1) % 8 → Ok inode ≡ inode_in content fs n → bytes ≡ put inode 2 (to_le_bytes w16 (inode_links inode + 1)) →
     (home, edit_at (64 * place) bytes [] [] None) ∷ [] ≡ linked_edits content fs n
 linked_is content fs n home place inode bytes e f i is =
@@ -238,14 +244,14 @@ gap_act T fs d block place inode entry after home old new (Ok e) p =
     )
 gap_act T fs d block place inode entry after home old new (Err fault) p = (one_order T fs block (edit_at (32 * place) entry [] [] (Some after)) old new (Err fault) p, tt)
 
-pub grow_act : (T : Types) (fs home : ℕ) (bytes : List ℕ) (edit : ℕ → Edit) (block number : ℕ) (old first new : StoreState) → init_of T old fs 2 bytes ≡ Ok ((block, number), first) → (result : Result ℕ FfsFault) → Attached T fs block home (edit block) first new result →
-    Acts T fs (Attaches 2 bytes home edit) old new result × IfOk result (λ e. new.next ≡ e + 1)
-grow_act T fs home bytes edit block number old first new done (Ok e) p = (
+pub grow_act : (T : Types) (fs ty home : ℕ) (bytes : List ℕ) (edit : ℕ → Edit) (block number : ℕ) (old first new : StoreState) → init_of T old fs ty bytes ≡ Ok ((block, number), first) → (result : Result ℕ FfsFault) → Attached T fs block home (edit block) first new result →
+    Acts T fs (Attaches ty bytes home edit) old new result × IfOk result (λ e. new.next ≡ e + 1)
+grow_act T fs ty home bytes edit block number old first new done (Ok e) p = (
   ap (result_and_then (λ begun. made_of T fs ((home, edit begun.0.0) ∷ []) begun.1)) done ∙ one_order T fs home (edit block) first new (Ok e) p,
   proposed_next T first new fs home (edit block) e p ∙ ap (λ (k : ℕ). k + 1) (sym (number_is T first fs home (edit block) e new p)),
 )
-grow_act T fs home bytes edit block number old first new done (Err fault) p =
-    (inr (at_ok (init_of T old fs 2 bytes) ((block, number), first) (λ begun. new ≡ left_by (forget_of T begun.1 fs begun.0.0) begun.1) (sym done) p.0), tt)
+grow_act T fs ty home bytes edit block number old first new done (Err fault) p =
+    (inr (at_ok (init_of T old fs ty bytes) ((block, number), first) (λ begun. new ≡ left_by (forget_of T begun.1 fs begun.0.0) begun.1) (sym done) p.0), tt)
 
 pub act_err : {A : Type 0} (T : Types) (fs : ℕ) (action : Action) (old new : StoreState) → StopsAct T fs action old new → (P : A → Type 0) (fault : FfsFault) (result : Result A FfsFault) → IsErrAnd result (λ other. other ≡ fault) → Acts T fs action old new result × IfOk result P
 act_err {A} T fs action old new o P fault result from =

@@ -177,9 +177,9 @@ module _ (T : Types) (fs : ℕ) (array : ℕ → Option ℕ) (old : StoreState) 
         });
       }
 
-pub emptied_put : (T : Types) (fs block : ℕ) (old new : StoreState) (entry : ℕ) (items : List ℕ) → block ≢ 0 → length (latest old.lives block) ≡ 512 → items ≡ data_of_pointers (latest old.lives block) →
+pub emptied_put : (T : Types) (fs block : ℕ) (old new : StoreState) (entry : ℕ) (items : List ℕ) → block ≢ 0 → length (latest old.lives block) ≡ 512 → items ≡ data_of_pointers (latest old.lives block) → items ≢ [] →
     propose_of T old fs block (edit_at 0 (replicate 512 0) [] items None) ≡ Ok (entry, new) → Emptied T fs block old new (Ok tt)
-emptied_put T fs block old new entry items there long is p = inr (there, long, entry, subst (λ (ds : List ℕ). propose_of T old fs block (edit_at 0 (replicate 512 0) [] ds None) ≡ Ok (entry, new)) is p)
+emptied_put T fs block old new entry items there long is some p = inr (there, long, entry, subst (λ (ds : List ℕ). propose_of T old fs block (edit_at 0 (replicate 512 0) [] ds None) ≡ Ok (entry, new)) is p, λ z. some (is ∙ z))
 
 pub emptied_refused : (T : Types) (fs block : ℕ) (old new : StoreState) (fault : FfsFault) (items : List ℕ) → block ≢ 0 → length (latest old.lives block) ≡ 512 → items ≡ data_of_pointers (latest old.lives block) →
     (new ≡ old) × Tells (propose_of T old fs block (edit_at 0 (replicate 512 0) [] items None)) fault → (result : Result (Unit {0}) FfsFault) → IsErrAnd result (λ other. other ≡ fault) → Emptied T fs block old new result

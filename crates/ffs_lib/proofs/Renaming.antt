@@ -1,15 +1,16 @@
 -- What is looked up before a name is moved, in the order of the tests.
 use Rattle.std.proofs.Common.{◌≡◌, ◌≢◌, ℕ, Bool, true, false, List, Option, Some, None, refl, sym, ◌∙◌, ap, eq-eqb}
-use Rattle.std.specs.Prelude.{IsTrue, Result, Ok, Err, ◌==◌, ◌&&◌, not, is_some, if◌then◌else◌}
+use Rattle.std.specs.Prelude.{IsErrAnd, IsTrue, Result, Ok, Err, ◌==◌, ◌&&◌, not, is_some, if◌then◌else◌}
 use Rattle.std.specs.Option.{ok_or}
 use Rattle.std.proofs.lemmas.Bool.{and_parts, eqb-false, eqb-true, ne_eqb}
+use Rattle.std.proofs.lemmas.Result.{err_from_is_err_and}
 use Rattle.ffs_model.specs.Library.{inode_links, inode_mode}
 use Rattle.ffs_format.specs.Entries.{is_name}
 use Rattle.ffs_lookup.specs.declared.fault.FfsFault.{FfsFault}
 use Rattle.ffs_lookup.specs.declared.fault.FfsFault.TheVariants.{BadName, Exists, IsDir, NoEntry, NotDir, TooLarge}
 use Rattle.ffs_lookup.specs.declared.places.Slot.{Slot}
 use Rattle.ffs_lookup.specs.Newest.{and_then, directory_in, first_named, has_room, if_linkable, if_movable, if_unnamed, inode_in, rename_in}
-use Rattle.ffs_lookup.proofs.ForCallers.{directory_is, in_directory}
+use Rattle.ffs_lookup.proofs.ForCallers.{directory_is, in_directory, same_ok}
 use Rattle.ffs_lib.proofs.Owners.{not_first, only_first, passed}
 
 -- an option that was there, or was not
@@ -20,6 +21,10 @@ is_some_ok (Some y) x e = cc
 pub none_is_none : {A : Type 0} (o : Option A) (fault : FfsFault) → ◌≡◌ {A = Result A FfsFault} (Err fault) (ok_or o NoEntry) → (o ≡ None) × (fault ≡ NoEntry)
 none_is_none None fault e = (refl, cc)
 none_is_none (Some y) fault e = absurd (cc e)
+
+-- a fault that is handed on
+pub told : {A : Type 0} (r result : Result A FfsFault) (fault : FfsFault) → IsErrAnd result (λ other. other ≡ fault) → Err fault ≡ r → result ≡ r
+told {A} r result fault from e = let p = err_from_is_err_and result from in p.1 ∙ (ap (λ (f : FfsFault). Err f) p.2 ∙ e)
 
 module _ (content : ℕ → List ℕ) (fs d : ℕ) (name : List ℕ) (other : ℕ) (new_name : List ℕ) where
   abbrev all : Result Slot FfsFault
@@ -41,66 +46,79 @@ module _ (content : ℕ → List ℕ) (fs d : ℕ) (name : List ℕ) (other : �
       at_both : if_movable content fs (d == other) name new_name from to ≡ all
       at_both = ap (λ (r : Result (List ℕ) FfsFault). and_then r (λ x. if_movable content fs (d == other) name new_name from x)) f ∙ at_first
 
-      abbrev named : Result Slot FfsFault
-      named = and_then (ok_or (first_named content from name) NoEntry) (if_unnamed content fs (d == other) to new_name)
+      abbrev named : Option Slot → Result Slot FfsFault
+      named o = and_then (ok_or o NoEntry) (if_unnamed content fs (d == other) to new_name)
 
-      pub no_directory : (inode_mode from == 2) && (inode_mode to == 2) ≡ false → Err NotDir ≡ all
-      no_directory t = sym (ap (λ (x : Bool). if x then (if is_name name && is_name new_name then named else Err BadName) else Err NotDir) t) ∙ at_both
+      abbrev if_names : Bool → Result Slot FfsFault
+      if_names t = if t then named (first_named content from name) else Err BadName
 
-      module _ (dirs : (inode_mode from == 2) && (inode_mode to == 2) ≡ true) where
-        at_dirs : (if is_name name && is_name new_name then named else Err BadName) ≡ all
-        at_dirs = sym (ap (λ (x : Bool). if x then (if is_name name && is_name new_name then named else Err BadName) else Err NotDir) dirs) ∙ at_both
+      pub no_directory : false ≡ (inode_mode from == 2) && (inode_mode to == 2) → Err NotDir ≡ all
+      no_directory t = ap (λ (x : Bool). if x then if_names (is_name name && is_name new_name) else Err NotDir) t ∙ at_both
 
-        pub bad_names : is_name name && is_name new_name ≡ false → Err BadName ≡ all
-        bad_names t = sym (ap (λ (x : Bool). if x then named else Err BadName) t) ∙ at_dirs
+      module _ (dirs : true ≡ (inode_mode from == 2) && (inode_mode to == 2)) where
+        at_dirs : if_names (is_name name && is_name new_name) ≡ all
+        at_dirs = ap (λ (x : Bool). if x then if_names (is_name name && is_name new_name) else Err NotDir) dirs ∙ at_both
 
-        module _ (good : is_name name && is_name new_name ≡ true) where
-          at_names : named ≡ all
-          at_names = sym (ap (λ (x : Bool). if x then named else Err BadName) good) ∙ at_dirs
+        pub bad_names : false ≡ is_name name && is_name new_name → Err BadName ≡ all
+        bad_names t = ap if_names t ∙ at_dirs
 
-          pub no_name : None ≡ first_named content from name → Err NoEntry ≡ all
-          no_name n = ap (λ (o : Option Slot). and_then (ok_or o NoEntry) (if_unnamed content fs (d == other) to new_name)) n ∙ at_names
+        -- where an entry was looked up by the first name
+        module _ (good : true ≡ is_name name && is_name new_name) (o : Option Slot) (is : ◌≡◌ {A = Result (Option Slot) FfsFault} (Ok o) (Ok (first_named content from name))) where
+          at_names : named o ≡ all
+          at_names = ap named (same_ok o (first_named content from name) is) ∙ (ap if_names good ∙ at_dirs)
 
-          module _ (entry : Slot) (first : Some entry ≡ first_named content from name) where
-            at_entry : if_unnamed content fs (d == other) to new_name entry ≡ all
-            at_entry = ap (λ (o : Option Slot). and_then (ok_or o NoEntry) (if_unnamed content fs (d == other) to new_name)) first ∙ at_names
+          pub no_name : (fault : FfsFault) → Err fault ≡ ok_or o NoEntry → Err fault ≡ all
+          no_name fault n = ap (λ (r : Result Slot FfsFault). and_then r (if_unnamed content fs (d == other) to new_name)) n ∙ at_names
 
-            pub new_taken : is_some (first_named content to new_name) ≡ true → Err Exists ≡ all
-            new_taken t = sym (ap (λ (x : Bool). if x then Err Exists else and_then (inode_in content fs entry.inode) (if_linkable content (d == other) to entry)) t) ∙ at_entry
+          -- and one by the other
+          module _ (entry : Slot) (found : Ok entry ≡ ok_or o NoEntry) (o2 : Option Slot) (second : ◌≡◌ {A = Result (Option Slot) FfsFault} (Ok o2) (Ok (first_named content to new_name))) where
+            abbrev if_new : Bool → Result Slot FfsFault
+            if_new t = if t then Err Exists else and_then (inode_in content fs entry.inode) (if_linkable content (d == other) to entry)
 
-            module _ (free : is_some (first_named content to new_name) ≡ false) where
+            at_entry : if_new (is_some o2) ≡ all
+            at_entry =
+                ap (λ (x : Option Slot). if_new (is_some x)) (same_ok o2 (first_named content to new_name) second)
+                ∙ (ap (λ (r : Result Slot FfsFault). and_then r (if_unnamed content fs (d == other) to new_name)) found ∙ at_names)
+
+            pub new_taken : true ≡ is_some o2 → Err Exists ≡ all
+            new_taken t = ap if_new t ∙ at_entry
+
+            module _ (free : false ≡ is_some o2) where
               at_free : and_then (inode_in content fs entry.inode) (if_linkable content (d == other) to entry) ≡ all
-              at_free = sym (ap (λ (x : Bool). if x then Err Exists else and_then (inode_in content fs entry.inode) (if_linkable content (d == other) to entry)) free) ∙ at_entry
+              at_free = ap if_new free ∙ at_entry
 
               pub no_inode_named : (fault : FfsFault) → Err fault ≡ inode_in content fs entry.inode → Err fault ≡ all
               no_inode_named fault i = ap (λ (r : Result (List ℕ) FfsFault). and_then r (if_linkable content (d == other) to entry)) i ∙ at_free
 
               module _ (inode : List ℕ) (i : Ok inode ≡ inode_in content fs entry.inode) where
-                at_inode : if_linkable content (d == other) to entry inode ≡ all
+                abbrev if_room : Bool → Result Slot FfsFault
+                if_room t = if t then Ok entry else Err TooLarge
+
+                abbrev if_links : Bool → Result Slot FfsFault
+                if_links t = if t then Err TooLarge else if_room (has_room content to)
+
+                at_inode : (if (inode_mode inode == 2) && not (d == other) then Err IsDir else if_links (inode_links inode == 65535)) ≡ all
                 at_inode = ap (λ (r : Result (List ℕ) FfsFault). and_then r (if_linkable content (d == other) to entry)) i ∙ at_free
 
-                abbrev linked : Result Slot FfsFault
-                linked = if inode_links inode == 65535 then Err TooLarge else if has_room content to then Ok entry else Err TooLarge
+                pub other_directory : true ≡ (inode_mode inode == 2) && not (d == other) → Err IsDir ≡ all
+                other_directory t = ap (λ (x : Bool). if x then Err IsDir else if_links (inode_links inode == 65535)) t ∙ at_inode
 
-                pub other_directory : (inode_mode inode == 2) && not (d == other) ≡ true → Err IsDir ≡ all
-                other_directory t = sym (ap (λ (x : Bool). if x then Err IsDir else linked) t) ∙ at_inode
+                module _ (may : false ≡ (inode_mode inode == 2) && not (d == other)) (links : ℕ) (has : links ≡ inode_links inode) where
+                  at_may : if_links (links == 65535) ≡ all
+                  at_may = ap (λ (l : ℕ). if_links (l == 65535)) has ∙ (ap (λ (x : Bool). if x then Err IsDir else if_links (inode_links inode == 65535)) may ∙ at_inode)
 
-                module _ (may : (inode_mode inode == 2) && not (d == other) ≡ false) where
-                  at_may : linked ≡ all
-                  at_may = sym (ap (λ (x : Bool). if x then Err IsDir else linked) may) ∙ at_inode
+                  pub most_links : links ≡ 65535 → Err TooLarge ≡ all
+                  most_links l = ap if_links (sym (eq-eqb links 65535 l)) ∙ at_may
 
-                  pub most_links : inode_links inode ≡ 65535 → Err TooLarge ≡ all
-                  most_links l = sym (ap (λ (x : Bool). if x then Err TooLarge else if has_room content to then Ok entry else Err TooLarge) (eq-eqb (inode_links inode) 65535 l)) ∙ at_may
+                  module _ (fewer : links ≢ 65535) where
+                    at_links : if_room (has_room content to) ≡ all
+                    at_links = ap if_links (sym (ne_eqb links 65535 fewer)) ∙ at_may
 
-                  module _ (fewer : inode_links inode ≢ 65535) where
-                    at_links : (if has_room content to then Ok entry else Err TooLarge) ≡ all
-                    at_links = sym (ap (λ (x : Bool). if x then Err TooLarge else if has_room content to then Ok entry else Err TooLarge) (ne_eqb (inode_links inode) 65535 fewer)) ∙ at_may
-
-                    pub no_room_there : has_room content to ≡ false → Err TooLarge ≡ all
-                    no_room_there t = sym (ap (λ (x : Bool). if x then Ok entry else Err TooLarge) t) ∙ at_links
+                    pub no_room_there : (fault : FfsFault) → (fault ≡ TooLarge) × (has_room content to ≡ false) → Err fault ≡ all
+                    no_room_there fault t = ap (λ (x : FfsFault). Err x) t.0 ∙ (ap if_room (sym t.1) ∙ at_links)
 
                     pub may_move : has_room content to ≡ true → Ok entry ≡ all
-                    may_move t = sym (ap (λ (x : Bool). if x then Ok entry else Err TooLarge) t) ∙ at_links
+                    may_move t = ap if_room (sym t) ∙ at_links
 
 -- What was found where all of it passed
 pub record CanMove (content : ℕ → List ℕ) (fs d : ℕ) (name : List ℕ) (other : ℕ) (new_name : List ℕ) (entry : Slot) : Type 0 where

@@ -1,11 +1,12 @@
 -- A call does what its function of the files says, or leaves one of its stages.
 use Rattle.std.proofs.Common.{◌≡◌, ◌≢◌, ℕ, ◌-◌, ◌*◌, ◌/◌, ◌%◌, ◌<◌, ◌≤◌, ◌⊎◌, Bool, true, false, List, ◌++◌, length, map, take, replicate, get_or, Some, None, Result, Ok, Err, refl, sym, ◌∙◌, ap, inl, inr, arith, subst, length-append}
-use Rattle.std.specs.Prelude.{Contains, MatchResult, OnErr, ◌==◌, min, nat_le, nat_lt, if◌then◌else◌}
+use Rattle.std.specs.Prelude.{Contains, IsErrAnd, MatchResult, OnErr, ◌==◌, min, nat_le, nat_lt, if◌then◌else◌}
 use Rattle.std.specs.List.{range_with_len}
 use Rattle.std.specs.Option.{ok_or}
 use Rattle.std.proofs.lemmas.Bool.{cases_lt, eqb-false, le-leb, le-ltb, lt-ltb}
 use Rattle.std.proofs.lemmas.List.{get_or-append_right, get_or-replicate, get_or-take, get_or_append_left, length-replicate, length-take, same_lists}
 use Rattle.std.proofs.lemmas.List.FromFn.{get_or-map-range_with_len, length-map-range_with_len}
+use Rattle.std.proofs.lemmas.Result.{err_from_is_err_and}
 use Rattle.xn_model.specs.Root.{word_at}
 use Rattle.xn_model.specs.Types.{Types}
 use Rattle.xn_model.specs.Lives.{StoreState}
@@ -22,6 +23,7 @@ use Rattle.ffs_lookup.specs.Newest.{and_then, byte_in, byte_of, directory_in, fi
 use Rattle.ffs_lookup.specs.Files.{Answer, Blocks, Directory, File, Files, cleared, directory_of, entry_named, look_up, fault_told, with_entry, without_link}
 use Rattle.ffs_lookup.specs.FileValues.{blocks_value, bytes_value, files_of}
 use Rattle.ffs_lookup.proofs.ForCallers.{IsPlaceOf, direct_has, map_on, same_ok}
+use Rattle.ffs_lib.specs.Orders.{Orders, removed_edits}
 use Rattle.ffs_lib.specs.Results.{IsAs, OnlyChanges, SameContents, SameInode}
 use Rattle.ffs_lib.specs.Reclaiming.{PointersEmptied}
 use Rattle.ffs_lib.specs.Stages.{AreEmptied, Asks, Does, IsRefused, IsStage, KeptOrEmptied, OfEntry, Stages, Unnames, cleared_stages, cut_short, emptied, link_stages, removed_stages, stages_of, with_emptied}
@@ -35,6 +37,8 @@ use Rattle.ffs_lib.proofs.Moving.{same_as}
 use Rattle.ffs_lib.proofs.Owners.{direct_block, pointers_apart, stands_from}
 use Rattle.ffs_lib.proofs.Removal.{FindsEntry}
 use Rattle.ffs_lib.proofs.Same.{same_on}
+use Rattle.ffs_lib.proofs.Tops.{never}
+use Rattle.ffs_lib.proofs.Undoing.{at_ok}
 use Rattle.ffs_lib.proofs.ValueMade.{directory_value}
 use Rattle.ffs_lib.proofs.ValueSteps.{clearing_value, inode_linked, kind, kind_is, takes_value, value_at}
 
@@ -175,10 +179,8 @@ pointers_of v w inode c = record { cleared = c.cleared; others = c.others }
 
 pub asks_entry : (T : Types) (fs d : ℕ) (old new : StoreState) (own : List ℕ) (slot : Slot) (at : ℕ × ℕ) → Ok own ≡ directory_in (latest old.lives) fs d → IsPlaceOf own slot at → (fault : FfsFault) → new ≡ old → Wants T old fs slot.block fault →
     Asks T fs (OfEntry d at.0) old new fault
-asks_entry T fs d old new own slot at is k fault same wants = (
-  same,
-  λ inode i. subst (λ (b : ℕ). Wants T old fs b fault) (sym k.block ∙ ap (λ (m : List ℕ). direct_in m at.0) (same_ok own inode (is ∙ sym i))) wants,
-)
+asks_entry T fs d old new own slot at is k fault same wants =
+    (same, at_ok (directory_in (latest old.lives) fs d) own (λ inode. Wants T old fs (direct_in inode at.0) fault) is (subst (λ (b : ℕ). Wants T old fs b fault) (sym k.block) wants))
 
 -- where a link could not be taken
 pub link_stage : (T : Types) (lib : IsLibrary T) (fs : ℕ) → fs < 32 → (middle new : StoreState) → IsConsistent T new → (n : ℕ) (files : Files) → files_of (latest middle.lives) fs ≡ files → (fault : FfsFault) → StopsTaking T fs middle new n fault →
@@ -299,3 +301,31 @@ module _ (T : Types) (lib : IsLibrary T) (fs : ℕ) (few : fs < 32) (d : ℕ) (n
         let lost = unlisted u (latest q.0.lives) fs d slot f.own own_is has q.1 in
         (in_middle q.0 q.1 fault q.2, taking_kept T fs u q.0 new slot.inode (lost.others slot.inode (λ e. f.apart (sym e))) fault q.2 lib few after)
   ]
+
+-- The whole call: the look-up's fault, or what is done of the entry that it finds.
+
+pub record TakesName (T : Types) (fs d : ℕ) (name : List ℕ) (looked : Result Slot FfsFault) (answer : Answer (Unit {0})) (old new : StoreState) (result : Result (Unit {0}) FfsFault) : Type 0 where
+  pub answers : Does T fs answer (removed_stages (files_of (latest old.lives) fs) d name) old new result
+  pub inodes : (slot : Slot) → Ok slot ≡ looked → Unnames (latest old.lives) (latest new.lives) fs d slot.inode × OnErr result (KeptOrEmptied (latest old.lives) (latest new.lives) fs slot.inode)
+  pub order : (slot : Slot) → Ok slot ≡ looked → Orders T fs (removed_edits (latest old.lives) fs slot None old.next) old new result
+
+pub takes_name : (T : Types) → IsLibrary T → (fs : ℕ) → fs < 32 → (d : ℕ) (name : List ℕ) (looked : Result Slot FfsFault) (answer : Answer (Unit {0})) (old new : StoreState) → IsConsistent T old → IsConsistent T new → (slot : Slot) → Ok slot ≡ looked →
+    (f : FindsEntry (latest old.lives) fs d name slot) → answer ≡ Ok (tt, cleared (files_of (latest old.lives) fs) d (f.entry.at, slot.inode)) → (result : Result (Unit {0}) FfsFault) →
+    MatchResult result (λ _. Unnamed (latest old.lives) (latest new.lives) fs slot) (Stops (StopsUnnaming T fs old new slot)) → Orders T fs (removed_edits (latest old.lives) fs slot None old.next) old new result →
+    TakesName T fs d name looked answer old new result
+takes_name T lib fs few d name looked answer old new before after slot exact f is result ends order = record {
+  answers = removed_does T lib fs few d name slot old new f before after answer is result ends;
+  inodes = λ other e.
+      subst (λ (s : Slot). Unnames (latest old.lives) (latest new.lives) fs d s.inode × OnErr result (KeptOrEmptied (latest old.lives) (latest new.lives) fs s.inode)) (same_ok slot other (exact ∙ sym e))
+      (unnames T lib fs few d name slot old new f after result ends);
+  order = λ other e. subst (λ (s : Slot). Orders T fs (removed_edits (latest old.lives) fs s None old.next) old new result) (same_ok slot other (exact ∙ sym e)) order;
+}
+
+pub takes_none : (T : Types) (fs d : ℕ) (name : List ℕ) (looked : Result Slot FfsFault) (answer : Answer (Unit {0})) (old : StoreState) (fault : FfsFault) → Err fault ≡ looked → fault_told looked ≡ fault_told answer → (result : Result (Unit {0}) FfsFault) →
+    IsErrAnd result (λ other. other ≡ fault) → TakesName T fs d name looked answer old old result
+takes_none T fs d name looked answer old fault told is result from = record {
+  answers = does_fault T fs looked answer (removed_stages (files_of (latest old.lives) fs) d name) old old result is
+      (subst (λ (r : Result Slot FfsFault). Answers r (λ x y. ⊥) (λ x other. ⊥) old old result) told (let p = err_from_is_err_and result from in (p.1 ∙ ap (λ (f : FfsFault). Err f) p.2, refl)));
+  inodes = λ slot e. absurd (never slot fault (e ∙ sym told));
+  order = λ slot e. absurd (never slot fault (e ∙ sym told));
+}

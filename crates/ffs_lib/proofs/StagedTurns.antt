@@ -1,5 +1,5 @@
 -- What a `replace` does is what its function of the files says, or one of its stages.
-use Rattle.std.proofs.Common.{◌≡◌, ◌≢◌, ℕ, ◌<◌, ◌≤◌, Bool, true, false, List, [], ◌∷◌, ◌++◌, Result, Ok, Err, refl, sym, ◌∙◌, ap, inl, inr, arith, subst, eq-eqb}
+use Rattle.std.proofs.Common.{◌≡◌, ◌≢◌, ℕ, ◌<◌, ◌≤◌, Bool, true, false, List, [], ◌∷◌, ◌++◌, Result, Ok, Err, refl, sym, ◌∙◌, ap, inl, inr, arith, subst, eq-eqb, Option}
 use Rattle.std.specs.Prelude.{IsErrAnd, MatchResult, OnErr, ◌==◌, ◌&&◌, if◌then◌else◌}
 use Rattle.std.proofs.lemmas.Bool.{ne_eqb}
 use Rattle.std.proofs.lemmas.Result.{err_from_is_err_and}
@@ -24,6 +24,7 @@ use Rattle.ffs_lib.proofs.Moving.{same_as}
 use Rattle.ffs_lib.proofs.Owners.{direct_block, stands_from, two_blocks}
 use Rattle.ffs_lib.proofs.Removal.{FindsEntry}
 use Rattle.ffs_lib.proofs.Replaced.{Halfway, after_clear, after_less, after_link, after_turn, cleared_listed, ended, former_same, halted, home_named, nothing_taken, refused, target_named, there1, there2, turned_listed, two_links}
+use Rattle.ffs_lib.proofs.ReplaceSteps.{Begins}
 use Rattle.ffs_lib.proofs.Replacing.{CanReplace}
 use Rattle.ffs_lib.proofs.Staged.{asks_entry, cleared_does, link_stage, same_here}
 use Rattle.ffs_lib.proofs.ValueReplaced.{by_tests, left, left_then, linked_then, moved_then, named_then, replaced_files, replaced_ok, replaced_stages_ok, same_is}
@@ -103,8 +104,28 @@ first_stages T fs new fault (x ∷ xs) ys s = elim s [
 ]
 
 -- Where the entries name two files
-module _ (T : Types) (lib : IsLibrary T) (old : StoreState) (h : IsConsistent T old) (fs : ℕ) (few : fs < 32) (d : ℕ) (name : List ℕ) (other : ℕ) (other_name : List ℕ) (from to : Slot) (x : CanReplace (latest old.lives) fs d name other other_name from to)
-    (apart : from.inode ≢ to.inode) (places : is_at to from ≡ false) (linked : 1 ≤ inode_links x.own) where
+module _ (T : Types) (fs : ℕ) (array : ℕ → Option ℕ) (old : StoreState) (d : ℕ) (name : List ℕ) (other : ℕ) (other_name : List ℕ) (from to : Slot) (b : Begins T fs array old d name other other_name from to) where
+  abbrev lib : IsLibrary T
+  lib = b.stage.library
+
+  abbrev h : IsConsistent T old
+  h = b.stage.keeps.consistent
+
+  abbrev few : fs < 32
+  few = b.stage.few
+
+  abbrev x : CanReplace (latest old.lives) fs d name other other_name from to
+  x = b.found
+
+  abbrev apart : from.inode ≢ to.inode
+  apart = b.apart
+
+  abbrev places : is_at to from ≡ false
+  places = b.places
+
+  abbrev linked : 1 ≤ inode_links x.own
+  linked = b.linked
+
   abbrev n : ℕ
   n = from.inode
 

@@ -9,5 +9,7 @@ pub mod Replacing
 pub mod Values
 pub mod Making
 pub mod Orders
+pub mod NewOrder
+pub mod RepairOrder
 pub mod Stages
 pub mod Written

@@ -124,7 +124,8 @@ emptying old block = edit_at 0 zero_block [] (data_of_pointers (newest_block old
 abbrev pub Emptied : Types → ℕ → ℕ → StoreState → StoreState → Result (Unit {0}) FfsFault → Type 0
 Emptied T fs block old new (Ok done) =
     ((new ≡ old) × ((block ≡ 0) ⊎ (data_of_pointers (newest_block old block) ≡ [])))
-    ⊎ ((block ≢ 0) × (length (newest_block old block) ≡ 512) × (entry : ℕ) × (propose_of T old fs block (emptying old block) ≡ Ok (entry, new)))
+    ⊎ ((block ≢ 0) × (length (newest_block old block) ≡ 512) × (entry : ℕ) × (propose_of T old fs block (emptying old block) ≡ Ok (entry, new))
+    × (data_of_pointers (newest_block old block) ≢ []))
 Emptied T fs block old new (Err fault) =
     (new ≡ old) × (block ≢ 0) × (length (newest_block old block) ≡ 512) × Tells (propose_of T old fs block (emptying old block)) fault
 

@@ -64,7 +64,7 @@ pub data Ask : Type 0 where
 
 abbrev pub Asks : Types → ℕ → Ask → StoreState → StoreState → FfsFault → Type 0
 Asks T fs (OfEntry d index) before new fault =
-    (new ≡ before) × ((inode : List ℕ) → Ok inode ≡ directory_in (newest_block before) fs d → Wants T before fs (direct_in inode index) fault)
+    (new ≡ before) × MatchResult (directory_in (newest_block before) fs d) (λ inode. Wants T before fs (direct_in inode index) fault) (λ other. ⊥)
 Asks T fs (OfInode n) before new fault = StopsAtHome T fs before new n fault
 Asks T fs (OfLink n) before new fault = (new ≡ before) × (WantsHome T before fs n fault ⊎ WantsPointers T before fs n fault)
 Asks T fs (ForEntry d entry) before new fault = StopsEntering T fs before new d entry fault

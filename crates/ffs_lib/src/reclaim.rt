@@ -3,6 +3,9 @@
 ghost use Rattle.std.specs.Prelude.{◌≡◌, ◌≢◌, ℕ, Option};
 ghost use Rattle.xn_model.specs.Types.{Types};
 ghost use Rattle.ffs_model.specs.Cuts.{Under};
+ghost use Rattle.ffs_lookup.specs.FileValues.{files_of};
+ghost use Rattle.ffs_lib.specs.Orders.{InOrder, Orders};
+ghost use Rattle.ffs_lib.specs.RepairOrder.{reclaimed_parts, repaired_edits};
 ghost use Rattle.ffs_lib.specs.Reclaiming.{Emptied, MayRepair, Reclaims, RepairedOne, StopsRepairing};
 ghost use Rattle.ffs_lib.specs.Steps.{Ends, Stage, newest_block};
 
@@ -46,6 +49,8 @@ fn give_up<S: Store>(alloc: Global, store: &mut S, fs: Fs, number: u16) -> Resul
         MayRepair (S.state_of store.old) fs.number number Repair.GiveUp → Ends T fs.number array (S.state_of store.new) result
         (λ _. RepairedOne (S.state_of store.old) (S.state_of store.new) fs.number number Repair.GiveUp)
         (StopsRepairing T fs.number (S.state_of store.old) (S.state_of store.new) number Repair.GiveUp) }
+    ensures order { (T : Types) (array : ℕ → Option ℕ) → S.types_of store.old ≡ T → Stage T fs.number array (S.state_of store.old) →
+        Orders T fs.number (repaired_edits (newest_block (S.state_of store.old)) fs.number number Repair.GiveUp) (S.state_of store.old) (S.state_of store.new) result }
 {
     let found = find_inode(store, fs, number)?;
     empty_pointers(alloc, store, fs, found.inode.indirect())?;
@@ -77,6 +82,8 @@ fn set_links<S: Store>(
         MayRepair (S.state_of store.old) fs.number number (Repair.SetLinks links) → Ends T fs.number array (S.state_of store.new) result
         (λ _. RepairedOne (S.state_of store.old) (S.state_of store.new) fs.number number (Repair.SetLinks links))
         (StopsRepairing T fs.number (S.state_of store.old) (S.state_of store.new) number (Repair.SetLinks links)) }
+    ensures order { (T : Types) (array : ℕ → Option ℕ) → S.types_of store.old ≡ T → Stage T fs.number array (S.state_of store.old) →
+        Orders T fs.number (repaired_edits (newest_block (S.state_of store.old)) fs.number number (Repair.SetLinks links)) (S.state_of store.old) (S.state_of store.new) result }
 {
     let Found {
         block,
@@ -100,6 +107,8 @@ fn repair_inode<S: Store>(
         MayRepair (S.state_of store.old) fs.number number repair → Ends T fs.number array (S.state_of store.new) result
         (λ _. RepairedOne (S.state_of store.old) (S.state_of store.new) fs.number number repair)
         (StopsRepairing T fs.number (S.state_of store.old) (S.state_of store.new) number repair) }
+    ensures order { (T : Types) (array : ℕ → Option ℕ) → S.types_of store.old ≡ T → Stage T fs.number array (S.state_of store.old) →
+        Orders T fs.number (repaired_edits (newest_block (S.state_of store.old)) fs.number number repair) (S.state_of store.old) (S.state_of store.new) result }
 {
     let _ = match repair {
         Repair::Keep => return Ok(()),
@@ -114,6 +123,8 @@ pub fn reclaim_inodes<S: Store>(alloc: Global, store: &mut S, fs: Fs) -> Result<
     ensures types { S.types_of store.new ≡ S.types_of store.old }
     ensures reclaims { (T : Types) (array : ℕ → Option ℕ) → S.types_of store.old ≡ T → Stage T fs.number array (S.state_of store.old) →
         Stage T fs.number array (S.state_of store.new) × Reclaims T fs.number (S.state_of store.old) (S.state_of store.new) result }
+    ensures order { (T : Types) (array : ℕ → Option ℕ) → S.types_of store.old ≡ T → Stage T fs.number array (S.state_of store.old) →
+        InOrder T fs.number (reclaimed_parts (files_of (newest_block (S.state_of store.old)) fs.number) fs.number) (S.state_of store.old) (S.state_of store.new) result }
 {
     let repairs = look_up_repairs(store, fs)?;
     for at in 0..MOST_INODES {

@@ -1,6 +1,6 @@
 // How a volume is made: a root block, and a first block of inodes with the top directory.
 
-ghost use Rattle.std.specs.Prelude.{◌≡◌, true, ℕ, Contains, Ok, length};
+ghost use Rattle.std.specs.Prelude.{◌≡◌, true, ℕ, Contains, Ok, OnOk, length};
 ghost use Rattle.xn_model.specs.Lists.{put};
 ghost use Rattle.xn_model.specs.Calls.{make_root_of, slot_now};
 ghost use Rattle.xn_model.specs.Rules.{IsConsistent};
@@ -14,6 +14,7 @@ ghost use Rattle.ffs_lookup.specs.Counts.{make_from};
 ghost use Rattle.ffs_lookup.specs.Files.{empty_volume};
 ghost use Rattle.ffs_lookup.specs.FileValues.{files_of};
 ghost use Rattle.ffs_lib.specs.Making.{IsBegun, Rooted, StopsFirst, StopsRooting, StopsTop, first_pointer, with_root};
+ghost use Rattle.ffs_lib.specs.NewOrder.{made_top, rooted_by, top_attached};
 ghost use Rattle.ffs_lib.specs.Results.{new_inode};
 ghost use Rattle.ffs_lib.specs.Steps.{Ends, Follows, Proposed, Stage, newest_block};
 
@@ -103,6 +104,9 @@ fn prepare_root<S: Store>(store: &mut S, fs: Fs, begun: bool) -> Result<(), FfsF
         × (S.state_of store.new ≡ with_root T fs.number (S.state_of store.old)))
         (λ fault. ((slot_now (S.state_of store.old) fs.number).0 ≡ 0)
         × StopsRooting T fs.number (λ s. s) (S.state_of store.old) (S.state_of store.new) fault) }
+    ensures order { (T : Types) → S.types_of store.old ≡ T → Stage T fs.number no_edits (S.state_of store.old) →
+        Ok begun ≡ make_in (newest_block (S.state_of store.old)) fs.number →
+        OnOk result (rooted_by T fs.number (S.state_of store.old) ≡ Ok (S.state_of store.new)) }
 {
     if begun {
         return Ok(());
@@ -153,6 +157,9 @@ fn attach_first<S: Store>(
         Ends T fs.number no_edits (S.state_of store.new) result
         (λ _. (n : ℕ) → files_of (newest_block (S.state_of store.new)) fs.number n ≡ empty_volume n)
         (StopsFirst T fs.number (λ s. s) block (S.state_of store.old) (S.state_of store.new)) }
+    ensures order { (T : Types) → S.types_of store.old ≡ T → Stage T fs.number no_edits (S.state_of store.old) →
+        Ok begun ≡ make_in (newest_block (S.state_of store.old)) fs.number → IsBegun (S.state_of store.old) fs.number block →
+        OnOk result (top_attached T fs.number block (S.state_of store.old) ≡ Ok (S.state_of store.new)) }
 {
     prepare_root(store, fs, begun)?;
     put_pointer(alloc, store, fs, block)
@@ -171,6 +178,9 @@ pub fn make_first<S: Store>(
         Ends T fs.number no_edits (S.state_of store.new) result
         (λ _. (n : ℕ) → files_of (newest_block (S.state_of store.new)) fs.number n ≡ empty_volume n)
         (StopsTop T fs.number (S.state_of store.old) (S.state_of store.new)) }
+    ensures order { (T : Types) → S.types_of store.old ≡ T → Stage T fs.number no_edits (S.state_of store.old) →
+        Ok begun ≡ make_in (newest_block (S.state_of store.old)) fs.number →
+        OnOk result (made_top T fs.number (S.state_of store.old) ≡ Ok (S.state_of store.new)) }
 {
     let (block, _) = store.init(fs, INODE_BLOCK, &first_inodes())?;
     let attached = attach_first(alloc, store, fs, begun, block);

@@ -12,11 +12,13 @@ ghost use Rattle.ffs_lookup.specs.Newest.{mapped, root_in, write_in, listing, na
 ghost use Rattle.ffs_lookup.specs.Counts.{if_idle, open_in};
 ghost use Rattle.ffs_lookup.specs.Repairs.{idle_in, repair_at};
 ghost use Rattle.ffs_lib.specs.Reclaiming.{LeftByRepair, needs, reclaimed, reclaimed_stages};
+ghost use Rattle.ffs_lib.specs.RepairOrder.{reclaimed_parts};
 ghost use Rattle.ffs_lookup.specs.declared.places.Found.{Found};
 ghost use Rattle.ffs_lookup.specs.declared.places.Slot.{Slot};
 ghost use Rattle.ffs_model.specs.Volumes.{VolumeKeeps, no_edits};
 ghost use Rattle.ffs_lookup.specs.Places.{IsDirectory, IsFree, IsSlot};
 ghost use Rattle.ffs_lib.specs.Making.{newly_made};
+ghost use Rattle.ffs_lib.specs.NewOrder.{AddsBlock, CreatesInOrder, MakesInOrder, NamesNew, new_in};
 ghost use Rattle.ffs_lib.specs.Orders.{InOrder, NamesInOrder, Orders, moved_parts, removed_edits};
 ghost use Rattle.ffs_lib.specs.Outcomes.{HasFreePointer};
 ghost use Rattle.ffs_lib.specs.Replacing.{AreDirect, pair_of};
@@ -172,9 +174,12 @@ impl Volume {
         ensures types { S.types_of store.new ≡ S.types_of store.old }
         ensures ok { IfOk result (λ volume. IsVolume (S.types_of store.old) (S.state_of store.new) volume) }
         ensures fs { IfOk result (λ volume. volume.fs ≡ fs) }
+        ensures added { IfOk result (λ volume. edits_of volume.added ≡ no_edits) }
         ensures answers { let files = files_of (newest_block (S.state_of store.old)) fs.number in
             Does (S.types_of store.old) fs.number (newly_made (S.state_of store.old) fs.number files) (make_stages files)
             (S.state_of store.old) (S.state_of store.new) (mapped (λ volume. tt) result) }
+        ensures order { IsOk (newly_made (S.state_of store.old) fs.number (files_of (newest_block (S.state_of store.old)) fs.number)) →
+            MakesInOrder (S.types_of store.old) fs.number (S.state_of store.old) (S.state_of store.new) result }
         ensures err { IsOk (newly_made (S.state_of store.old) fs.number (files_of (newest_block (S.state_of store.old)) fs.number)) →
             OnErr result (VolumeKeeps (S.types_of store.old) library_layout fs.number no_edits (S.state_of store.new)) }
     {
@@ -193,6 +198,7 @@ impl Volume {
         requires { MayOpen (S.types_of store.now) (S.state_of store.now) fs.number }
         ensures ok { IfOk result (λ volume. IsVolume (S.types_of store.now) (S.state_of store.now) volume) }
         ensures fs { IfOk result (λ volume. volume.fs ≡ fs) }
+        ensures added { IfOk result (λ volume. edits_of volume.added ≡ no_edits) }
         ensures exact { mapped (λ volume. tt) result ≡ open_in (S.state_of store.now) fs.number }
     {
         look_up_volume(store, fs)?;
@@ -221,6 +227,11 @@ impl Volume {
         ensures inodes { let old = newest_block (S.state_of store.old) in let new = newest_block (S.state_of store.new) in let fs = self.old.fs.number in
             (next : ℕ × Files) → created new_file (files_of old fs) directory name.now ≡ Ok next →
             Makes old new fs directory FILE next.0 × OnErr result (OnlyMade old new fs next.0) }
+        ensures order { (n : ℕ) → Ok n ≡ new_in (newest_block (S.state_of store.old)) self.old.fs.number directory name.now →
+            CreatesInOrder (S.types_of store.old) self.old.fs.number directory name.now FILE n (edits_of self.old.added) (S.state_of store.old)
+            (edits_of self.new.added) (S.state_of store.new) result }
+        ensures added { (fault : FfsFault) → Err fault ≡ create_in (newest_block (S.state_of store.old)) self.old.fs.number directory name.now →
+            edits_of self.new.added ≡ edits_of self.old.added }
         ensures keeps { IsVolume (S.types_of store.old) (S.state_of store.new) self.new }
     {
         self.make_entry(alloc, store, directory, name, FILE)
@@ -243,6 +254,11 @@ impl Volume {
         ensures inodes { let old = newest_block (S.state_of store.old) in let new = newest_block (S.state_of store.new) in let fs = self.old.fs.number in
             (next : ℕ × Files) → created new_directory (files_of old fs) directory name.now ≡ Ok next →
             Makes old new fs directory DIRECTORY next.0 × OnErr result (OnlyMade old new fs next.0) }
+        ensures order { (n : ℕ) → Ok n ≡ new_in (newest_block (S.state_of store.old)) self.old.fs.number directory name.now →
+            CreatesInOrder (S.types_of store.old) self.old.fs.number directory name.now DIRECTORY n (edits_of self.old.added) (S.state_of store.old)
+            (edits_of self.new.added) (S.state_of store.new) result }
+        ensures added { (fault : FfsFault) → Err fault ≡ create_in (newest_block (S.state_of store.old)) self.old.fs.number directory name.now →
+            edits_of self.new.added ≡ edits_of self.old.added }
         ensures keeps { IsVolume (S.types_of store.old) (S.state_of store.new) self.new }
     {
         self.make_entry(alloc, store, directory, name, DIRECTORY)
@@ -262,6 +278,11 @@ impl Volume {
         ensures types { S.types_of store.new ≡ S.types_of store.old }
         ensures fs { self.new.fs ≡ self.old.fs }
         ensures answers { Creates (S.types_of store.old) self.old.fs.number directory name.now mode (S.state_of store.old) (S.state_of store.new) result }
+        ensures order { (n : ℕ) → Ok n ≡ new_in (newest_block (S.state_of store.old)) self.old.fs.number directory name.now →
+            CreatesInOrder (S.types_of store.old) self.old.fs.number directory name.now mode n (edits_of self.old.added) (S.state_of store.old)
+            (edits_of self.new.added) (S.state_of store.new) result }
+        ensures added { (fault : FfsFault) → Err fault ≡ create_in (newest_block (S.state_of store.old)) self.old.fs.number directory name.now →
+            edits_of self.new.added ≡ edits_of self.old.added }
         ensures keeps { IsVolume (S.types_of store.old) (S.state_of store.new) self.new }
     {
         let found = look_up_new(store, self.fs, directory, name)?;
@@ -285,6 +306,8 @@ impl Volume {
         ensures leaves { Leaves (S.types_of store.old) self.new (S.state_of store.new) result
             (TakesFree (S.state_of store.old) (S.state_of store.new) self.old.fs.number)
             (StopsGrowing (S.types_of store.old) self.old.fs.number (S.state_of store.old) (S.state_of store.new)) }
+        ensures order { AddsBlock (S.types_of store.old) self.old.fs.number (edits_of self.old.added) (S.state_of store.old)
+            (edits_of self.new.added) (S.state_of store.new) result }
     {
         match found {
             Some(free) => Ok(free),
@@ -312,6 +335,9 @@ impl Volume {
             has_room (newest_block (S.state_of store.old)) inode ≡ true → Leaves (S.types_of store.old) self.new (S.state_of store.new) result
             (λ n. MadeEntry (newest_block (S.state_of store.old)) (newest_block (S.state_of store.new)) self.old.fs.number directory name.now mode n × (n ≡ free.number))
             (StopsNew (S.types_of store.old) self.old.fs.number (S.state_of store.old) (S.state_of store.new) directory name.now mode free.number) }
+        ensures order { (inode : List ℕ) → Ok inode ≡ directory_in (newest_block (S.state_of store.old)) self.old.fs.number directory →
+            has_room (newest_block (S.state_of store.old)) inode ≡ true → NamesNew (S.types_of store.old) self.old.fs.number directory name.now mode free.number
+            (edits_of self.old.added) (S.state_of store.old) (edits_of self.new.added) (S.state_of store.new) result }
     {
         has_places(&self.added);
         let index = usize::from(free.number - 1) / INODES;
@@ -343,6 +369,8 @@ impl Volume {
         ensures leaves { Leaves (S.types_of store.old) self.new (S.state_of store.new) result
             (TakesFree (S.state_of store.old) (S.state_of store.new) self.old.fs.number)
             (StopsGrowing (S.types_of store.old) self.old.fs.number (S.state_of store.old) (S.state_of store.new)) }
+        ensures order { AddsBlock (S.types_of store.old) self.old.fs.number (edits_of self.old.added) (S.state_of store.old)
+            (edits_of self.new.added) (S.state_of store.new) result }
     {
         has_places(&self.added);
         let (block, _) = store.init(self.fs, INODE_BLOCK, &[0; 512])?;
@@ -601,6 +629,9 @@ impl Volume {
             (S.state_of store.old) (S.state_of store.new) (mapped (λ repairs. repair_at repairs.each) result) }
         ensures inodes { let old = newest_block (S.state_of store.old) in let new = newest_block (S.state_of store.new) in let fs = self.now.fs.number in
             (n : ℕ) → LeftByRepair old new fs n (needs (files_of old fs) n) }
+        ensures order { InOrder (S.types_of store.old) self.now.fs.number
+            (reclaimed_parts (files_of (newest_block (S.state_of store.old)) self.now.fs.number) self.now.fs.number)
+            (S.state_of store.old) (S.state_of store.new) result }
         ensures keeps { IsVolume (S.types_of store.old) (S.state_of store.new) self.now }
     {
         reclaim_inodes(alloc, store, self.fs)

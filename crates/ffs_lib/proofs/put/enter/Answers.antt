@@ -3,7 +3,7 @@ use Rattle.xn_model.specs.Lists.{put}
 use Rattle.ffs_lookup.specs.declared.places.Room.TheVariants.{Entry, Pointer}
 use Rattle.ffs_lib.specs.Orders.{Action, Acts, Attaches, grown_edit}
 use Rattle.ffs_lib.proofs.Orders.{entered_is, gap_act}
-use Rattle.std.proofs.Common.{◌≡◌, ◌+◌, ◌∙◌, ◌*◌, List, ℕ, [], Some, ap, subst, sym}
+use Rattle.std.proofs.Common.{rules, ◌≡◌, ◌+◌, ◌∙◌, ◌*◌, List, ℕ, [], Some, ap, subst, sym}
 use Rattle.ffs_format.specs.Fields.{direct_in}
 use Rattle.ffs_model.specs.Library.{IsLibrary, half_at, zero_block}
 use Rattle.ffs_model.specs.Cuts.{latest}
@@ -19,72 +19,64 @@ use Rattle.ffs_lib.proofs.Laws.{finishes, home_of}
 use Rattle.ffs_lib.proofs.NameLaws.{enters, enters_short, not_entered}
 use Rattle.ffs_lib.proofs.put.enter.Goals as goal
 
-pub returns-in-Entry-clause-ends : goal.returns-in-Entry-clause-ends
-returns-in-Entry-clause-ends g c = λ T array directory e s m dir free.
+pub returns-in-Entry : goal.returns-in-Entry
+returns-in-Entry g c =
     let old = g.S.Store.state_of c.args.store.now in
     let new = g.S.Store.state_of c.put.new.store in
     let fs = c.args.fs.number in
     let room = c.in-Entry in
     let found = c.in_ok-directory.directory in
-    let exact = c.in_ok-directory.ensures.exact (subst IsLibrary (sym e) s.library) in
     let bytes = c.entry_bytes-entry.result in
     let spelled = c.entry_bytes-entry.ensures.bytes in
     let b : IsEntry bytes c.args.inode c.args.name.now = record { spelled = spelled; whole = c.entry_bytes-entry.ensures.whole; named = c.requires; half = ap (λ (m : List ℕ). half_at m 0) spelled ∙ entry_names c.args.inode c.args.name.now c.ranges.inode.fits } in
     let gap = subst (IsRoom old found) room.is c.in_ok-block.ensures.room in
     let first = ap (λ (r : Room). Some r) (sym room.is) ∙ c.in_ok-block.ensures.place in
-    finishes T fs room.block (edit_at (32 * room.place) bytes [] [] (Some c.args.after)) array old new _ _ s c.put.result (c.put.ensures.put T e)
-    (enters_short T fs array old s c.args.number found c.in_ok-directory.ensures.found exact c.args.inode c.args.after m bytes c.args.name.now b room.block room.place gap first)
-    (enters T fs array old s c.args.number found c.in_ok-directory.ensures.found exact c.args.inode c.args.after m bytes c.args.name.now b room.block room.place gap first new)
-    (λ fault same told. not_entered T fs old new c.args.number found.inode exact same room.block room.place first (entry_of c.args.inode c.args.name.now) fault (edit_at (32 * room.place) bytes [] [] (Some c.args.after), told))
+    let d = c.args.number in
+    let at = c.in_ok-directory.ensures.found.is.stands in
+    let entry = entry_of c.args.inode c.args.name.now in
+    record {
+      types = search rules;
+      ends = λ T array directory e s m dir free.
+          let exact = c.in_ok-directory.ensures.exact (subst IsLibrary (sym e) s.library) in
+          finishes T fs room.block (edit_at (32 * room.place) bytes [] [] (Some c.args.after)) array old new _ _ s c.put.result (c.put.ensures.put T e)
+          (enters_short T fs array old s c.args.number found c.in_ok-directory.ensures.found exact c.args.inode c.args.after m bytes c.args.name.now b room.block room.place gap first)
+          (enters T fs array old s c.args.number found c.in_ok-directory.ensures.found exact c.args.inode c.args.after m bytes c.args.name.now b room.block room.place gap first new)
+          (λ fault same told. not_entered T fs old new c.args.number found.inode exact same room.block room.place first (entry_of c.args.inode c.args.name.now) fault (edit_at (32 * room.place) bytes [] [] (Some c.args.after), told));
+      order = λ T array directory e s m dir free.
+          let exact = c.in_ok-directory.ensures.exact (subst IsLibrary (sym e) s.library) in
+          let done = subst (λ (b : List ℕ). Proposed T fs room.block (edit_at (32 * room.place) b [] [] (Some c.args.after)) old new c.put.result) c.entry_bytes-entry.ensures.bytes (c.put.ensures.put T e) in
+          subst (λ (a : Action). Acts T fs a old new c.put.result × IfOk c.put.result (λ (k : ℕ). new.next ≡ k + 1))
+          (entered_is (latest old.lives) fs d found.block found.inode entry c.args.after (home_of old fs d found.block found.place at) exact (Some (Entry room.block room.place)) first)
+          (gap_act T fs d room.block room.place found.inode entry c.args.after found.block old new c.put.result done);
+    }
 
-pub returns-in-Pointer-clause-ends : goal.returns-in-Pointer-clause-ends
-returns-in-Pointer-clause-ends g c = λ T array directory e s m dir free.
+pub returns-in-Pointer : goal.returns-in-Pointer
+returns-in-Pointer g c =
     let old = g.S.Store.state_of c.args.store.now in
     let found = c.in_ok-directory.directory in
-    let exact = c.in_ok-directory.ensures.exact (subst IsLibrary (sym e) s.library) in
     let spelled = c.entry_bytes-entry.ensures.bytes in
     let b : IsEntry c.entry_bytes-entry.result c.args.inode c.args.name.now = record { spelled = spelled; whole = c.entry_bytes-entry.ensures.whole; named = c.requires; half = ap (λ (m : List ℕ). half_at m 0) spelled ∙ entry_names c.args.inode c.args.name.now c.ranges.inode.fits } in
     let gap = subst (IsRoom old found) c.in-Pointer.is c.in_ok-block.ensures.room in
     let new = g.S.Store.state_of c.grow.new.store in
-    subst (λ (m : List ℕ). Ends T c.args.fs.number array new c.grow.result (Enters old new c.args.fs.number c.args.number c.args.name.now c.args.inode) (StopsEntering T c.args.fs.number old new c.args.number m)) spelled
-    (c.grow.ensures.ends T array directory c.args.name.now c.args.inode e s m dir
-    (ap (λ (r : Room). Some r) (sym c.in-Pointer.is) ∙ (c.in_ok-block.ensures.place ∙ ap (room_in (latest old.lives)) (same_ok found.inode directory (exact ∙ sym dir))))
-    (ap (λ (i : List ℕ). direct_in i c.in-Pointer.index) (same_ok directory found.inode (dir ∙ sym exact)) ∙ gap.1) b)
-
-pub returns-in-Entry-clause-order : goal.returns-in-Entry-clause-order
-returns-in-Entry-clause-order g c = λ T array directory e s m dir free.
-    let old = g.S.Store.state_of c.args.store.now in
-    let new = g.S.Store.state_of c.put.new.store in
     let fs = c.args.fs.number in
     let d = c.args.number in
-    let room = c.in-Entry in
-    let found = c.in_ok-directory.directory in
-    let exact = c.in_ok-directory.ensures.exact (subst IsLibrary (sym e) s.library) in
     let at = c.in_ok-directory.ensures.found.is.stands in
     let entry = entry_of c.args.inode c.args.name.now in
-    let first = ap (λ (r : Room). Some r) (sym room.is) ∙ c.in_ok-block.ensures.place in
-    let done = subst (λ (b : List ℕ). Proposed T fs room.block (edit_at (32 * room.place) b [] [] (Some c.args.after)) old new c.put.result) c.entry_bytes-entry.ensures.bytes (c.put.ensures.put T e) in
-    subst (λ (a : Action). Acts T fs a old new c.put.result × IfOk c.put.result (λ (k : ℕ). new.next ≡ k + 1))
-    (entered_is (latest old.lives) fs d found.block found.inode entry c.args.after (home_of old fs d found.block found.place at) exact (Some (Entry room.block room.place)) first)
-    (gap_act T fs d room.block room.place found.inode entry c.args.after found.block old new c.put.result done)
-
-pub returns-in-Pointer-clause-order : goal.returns-in-Pointer-clause-order
-returns-in-Pointer-clause-order g c = λ T array directory e s m dir free.
-    let old = g.S.Store.state_of c.args.store.now in
-    let new = g.S.Store.state_of c.grow.new.store in
-    let fs = c.args.fs.number in
-    let d = c.args.number in
-    let found = c.in_ok-directory.directory in
-    let exact = c.in_ok-directory.ensures.exact (subst IsLibrary (sym e) s.library) in
-    let at = c.in_ok-directory.ensures.found.is.stands in
-    let entry = entry_of c.args.inode c.args.name.now in
-    let spelled = c.entry_bytes-entry.ensures.bytes in
-    let b : IsEntry c.entry_bytes-entry.result c.args.inode c.args.name.now = record { spelled = spelled; whole = c.entry_bytes-entry.ensures.whole; named = c.requires; half = ap (λ (m : List ℕ). half_at m 0) spelled ∙ entry_names c.args.inode c.args.name.now c.ranges.inode.fits } in
-    let gap = subst (IsRoom old found) c.in-Pointer.is c.in_ok-block.ensures.room in
-    let mine : found.inode ≡ directory = same_ok found.inode directory (exact ∙ sym dir) in
-    let first = ap (λ (r : Room). Some r) (sym c.in-Pointer.is) ∙ (c.in_ok-block.ensures.place ∙ ap (room_in (latest old.lives)) mine) in
     let home = home_of old fs d found.block found.place at in
-    let grows = c.grow.ensures.order T array directory c.args.name.now c.args.inode found.block e s m dir first (ap (λ (i : List ℕ). direct_in i c.in-Pointer.index) (sym mine) ∙ gap.1) b home in
-    subst (λ (a : Action). Acts T fs a old new c.grow.result × IfOk c.grow.result (λ (k : ℕ). new.next ≡ k + 1))
-    (entered_is (latest old.lives) fs d found.block directory entry c.args.after home dir (Some (Pointer c.in-Pointer.index)) first)
-    (subst (λ (x : List ℕ). Acts T fs (Attaches 2 (put zero_block 0 x) found.block (grown_edit d directory c.in-Pointer.index c.args.after)) old new c.grow.result × IfOk c.grow.result (λ (k : ℕ). new.next ≡ k + 1)) spelled grows)
+    record {
+      types = search rules;
+      ends = λ T array directory e s m dir free.
+          let exact = c.in_ok-directory.ensures.exact (subst IsLibrary (sym e) s.library) in
+          subst (λ (m : List ℕ). Ends T c.args.fs.number array new c.grow.result (Enters old new c.args.fs.number c.args.number c.args.name.now c.args.inode) (StopsEntering T c.args.fs.number old new c.args.number m)) spelled
+          (c.grow.ensures.ends T array directory c.args.name.now c.args.inode e s m dir
+          (ap (λ (r : Room). Some r) (sym c.in-Pointer.is) ∙ (c.in_ok-block.ensures.place ∙ ap (room_in (latest old.lives)) (same_ok found.inode directory (exact ∙ sym dir))))
+          (ap (λ (i : List ℕ). direct_in i c.in-Pointer.index) (same_ok directory found.inode (dir ∙ sym exact)) ∙ gap.1) b);
+      order = λ T array directory e s m dir free.
+          let exact = c.in_ok-directory.ensures.exact (subst IsLibrary (sym e) s.library) in
+          let mine : found.inode ≡ directory = same_ok found.inode directory (exact ∙ sym dir) in
+          let first = ap (λ (r : Room). Some r) (sym c.in-Pointer.is) ∙ (c.in_ok-block.ensures.place ∙ ap (room_in (latest old.lives)) mine) in
+          let grows = c.grow.ensures.order T array directory c.args.name.now c.args.inode found.block e s m dir first (ap (λ (i : List ℕ). direct_in i c.in-Pointer.index) (sym mine) ∙ gap.1) b home in
+          subst (λ (a : Action). Acts T fs a old new c.grow.result × IfOk c.grow.result (λ (k : ℕ). new.next ≡ k + 1))
+          (entered_is (latest old.lives) fs d found.block directory entry c.args.after home dir (Some (Pointer c.in-Pointer.index)) first)
+          (subst (λ (x : List ℕ). Acts T fs (Attaches 2 (put zero_block 0 x) found.block (grown_edit d directory c.in-Pointer.index c.args.after)) old new c.grow.result × IfOk c.grow.result (λ (k : ℕ). new.next ≡ k + 1)) spelled grows);
+    }

@@ -1,4 +1,4 @@
-use Rattle.std.proofs.Common.{◌≡◌, ◌∙◌, ◌*◌, ◌-◌, ℕ, List, [], Err, Some, ap, arith, refl, replicate, subst, sym, inl, inr}
+use Rattle.std.proofs.Common.{rules, ◌≡◌, ◌∙◌, ◌*◌, ◌-◌, ℕ, List, [], Err, Some, ap, arith, refl, replicate, subst, sym, inl, inr}
 use Rattle.std.specs.Int.{w16, to_le_bytes}
 use Rattle.xn_model.specs.declared.refusal.Refusal.TheVariants.{NoMemory}
 use Rattle.xn_model.specs.Lists.{put}
@@ -19,280 +19,146 @@ use Rattle.ffs_lib.proofs.Tops.{never}
 use Rattle.ffs_lib.proofs.TurnLaws.{data_waits, free_waits, link_waits, on_proposed}
 use Rattle.ffs_lib.proofs.put.take_link.Goals as goal
 
-pub returns-then-links-gt1-clause-ends : goal.returns-then-links-gt1-clause-ends
-returns-then-links-gt1-clause-ends g c = λ T array e s m.
-    let fs = c.args.fs.number in
-    let n = c.args.number in
-    let old = g.S.Store.state_of c.args.store.now in
-    let new = g.S.Store.state_of c.put_inode.new.store in
-    let found = c.in_ok-block.field-0 in
-    let is = c.in_ok-block.ensures.found in
-    let exact = c.in_ok-block.ensures.exact (subst IsLibrary (sym e) s.library) in
-    let bytes = c.set_links.new.self in
-    let links = c.links-links.ensures in
-    let more = c.if-links-gt1.true in
-    finishes T fs found.block (edit_at (64 * found.place) bytes [] [] (Some c.args.after)) array old new _ _ s c.put_inode.result (c.put_inode.ensures.put T e)
-    (link_short T fs array old s n c.args.after found is exact m.can m.given bytes c.put_inode.ensures.whole _ c.set_links.ensures.fields)
-    (link_less T fs array old s n c.args.after found is exact m.can m.given bytes c.put_inode.ensures.whole _ c.set_links.ensures.fields new (omega (arith, links, more)) (omega (arith, links, more)))
-    (λ fault same told. nothing_taken T fs old new n found.inode exact same found.block (inl (home_of old fs n found.block found.place is.stands)) fault (edit_at (64 * found.place) bytes [] [] (Some c.args.after), told))
-
-pub returns-in_err-dropped-clause-ends : goal.returns-in_err-dropped-clause-ends
-returns-in_err-dropped-clause-ends g c = λ T array e s m.
-    let fs = c.args.fs.number in
-    let n = c.args.number in
-    let old = g.S.Store.state_of c.args.store.now in
-    let found = c.in_ok-block.field-0 in
-    let is = c.in_ok-block.ensures.found in
-    let exact = c.in_ok-block.ensures.exact (subst IsLibrary (sym e) s.library) in
-    let points = sym c.indirect.ensures in
-    let block = c.indirect.result in
-    let p = c.in_err-dropped.ensures.put T e (at_pointers T fs array old s n c.args.after m.some found is exact block points m.can m.given) in
-    let new = g.S.Store.state_of c.drop_data.new.store in
-    let edit = clearing old block c.args.after in
-    fails _ _ (same_stage s p.0) c.from_residual-in_err-dropped.result _ c.from_residual-in_err-dropped.ensures.1
-    (short_told (propose_of T old fs block edit) (drops_short T fs array old s n c.args.after m.some found is exact block points m.can m.given p.1 p.2) _ p.3, nothing_taken T fs old new n found.inode exact p.0 block (inr (sym points)) _ (edit, p.3))
-
-pub returns-in_err-found-clause-ends : goal.returns-in_err-found-clause-ends
-returns-in_err-found-clause-ends g c = λ T array e s m.
-    let old = g.S.Store.state_of c.args.store.now in
-    let found = c.in_ok-block.field-0 in
-    let is = c.in_ok-block.ensures.found in
-    let exact = c.in_ok-block.ensures.exact (subst IsLibrary (sym e) s.library) in
-    let points = sym c.indirect.ensures in
-    let block = c.indirect.result in
-    let put = c.in_ok-dropped.ensures.put T e (at_pointers T c.args.fs.number array old s c.args.number c.args.after m.some found is exact block points m.can m.given) in
-    let k = drops T c.args.fs.number array old s c.args.number c.args.after m.some found is exact block points m.can m.given (g.S.Store.state_of c.drop_data.new.store) c.in_ok-dropped.dropped put in
-    absurd (never found.inode _ (k.same ∙ sym (c.in_err-found.ensures.exact (subst IsLibrary (sym (c.drop_data.ensures.types ∙ e)) s.library))))
-
-pub returns-in_err-drops-clause-ends : goal.returns-in_err-drops-clause-ends
-returns-in_err-drops-clause-ends g c = λ T array e s m.
-    let old = g.S.Store.state_of c.args.store.now in
-    let found = c.in_ok-block.field-0 in
-    let is = c.in_ok-block.ensures.found in
-    let exact = c.in_ok-block.ensures.exact (subst IsLibrary (sym e) s.library) in
-    let points = sym c.indirect.ensures in
-    let block = c.indirect.result in
-    let put = c.in_ok-dropped.ensures.put T e (at_pointers T c.args.fs.number array old s c.args.number c.args.after m.some found is exact block points m.can m.given) in
-    let k = drops T c.args.fs.number array old s c.args.number c.args.after m.some found is exact block points m.can m.given (g.S.Store.state_of c.drop_data.new.store) c.in_ok-dropped.dropped put in
-    let first = g.S.Store.state_of c.drop_data.new.store in
-    let again = c.in_ok-found.found in
-    let links = c.links-links.ensures in
-    let few = c.if-links-gt1.false in
-    let edit = clearing first again.block c.args.after in
-    fails _ _ k.stage c.from_residual-in_err-drops.result _ c.from_residual-in_err-drops.ensures.1
-    (refl, data_taken T c.args.fs.number array old first first c.args.number found.inode c.in_ok-dropped.dropped exact (omega (arith, links, few)) k refl again.block again.place c.in_ok-found.ensures.found.stands _ (edit, no_memory (propose_of T first c.args.fs.number again.block edit)))
-
-pub returns-clause-ends : goal.returns-clause-ends
-returns-clause-ends g c = λ T array e s m.
-    let fs = c.args.fs.number in
-    let n = c.args.number in
-    let old = g.S.Store.state_of c.args.store.now in
-    let first = g.S.Store.state_of c.drop_data.new.store in
-    let new = g.S.Store.state_of c.put_inode-2.new.store in
-    let found = c.in_ok-block.field-0 in
-    let is = c.in_ok-block.ensures.found in
-    let exact = c.in_ok-block.ensures.exact (subst IsLibrary (sym e) s.library) in
-    let points = sym c.indirect.ensures in
-    let block = c.indirect.result in
-    let put = c.in_ok-dropped.ensures.put T e (at_pointers T fs array old s n c.args.after m.some found is exact block points m.can m.given) in
-    let dropped = c.in_ok-dropped.dropped in
-    let k = drops T fs array old s n c.args.after m.some found is exact block points m.can m.given first dropped put in
-    let types = c.drop_data.ensures.types ∙ e in
-    let again = c.in_ok-found.found in
-    let exact2 = c.in_ok-found.ensures.exact (subst IsLibrary (sym types) s.library) in
-    let same : again.inode ≡ found.inode = same_ok again.inode found.inode (exact2 ∙ sym k.same) in
-    let links = c.links-links.ensures in
-    let few = c.if-links-gt1.false in
-    let own : inode_links m.inode ≡ inode_links found.inode = ap inode_links (same_ok m.inode found.inode (m.found ∙ sym exact)) in
-    let low = m.linked in
-    let one : inode_links found.inode ≡ 1 = omega (arith, links, few, own, low) in
-    let none : HasNoData T (latest first.lives) again.inode = subst (λ (i : List ℕ). HasNoData T (latest first.lives) i) (sym same) k.none in
-    let bytes = c.free.result in
-    let items = c.deref.result.now in
-    let edit = edit_at (64 * again.place) bytes [] items (Some dropped) in
-    finishes T fs again.block edit array first new _ _ k.stage c.put_inode-2.result (c.put_inode-2.ensures.put T types)
-    (subst (λ (ds : List ℕ). ShortEdit T first fs again.block (edit_at (64 * again.place) bytes [] ds (Some dropped))) (sym (c.deref.ensures.value ∙ c.in_ok-drops.ensures)) (free_short T fs array first k.stage n dropped again c.in_ok-found.ensures.found exact2 k.can k.given none bytes c.free.ensures))
-    (λ entry done.
-    let x = frees T fs array first k.stage n dropped again c.in_ok-found.ensures.found exact2 k.can k.given none bytes c.free.ensures new (ap inode_links same ∙ one) items entry done in
-    (x.0, given_up (latest old.lives) (latest first.lives) (latest new.lives) fs n found.inode exact (omega (arith, one)) k.others x.1 x.2))
-    (λ fault left told. data_taken T fs array old first new n found.inode dropped exact (omega (arith, links, few)) k left again.block again.place c.in_ok-found.ensures.found.stands fault (edit, told))
-
-pub returns-then-links-gt1-clause-waits : goal.returns-then-links-gt1-clause-waits
-returns-then-links-gt1-clause-waits g c = λ T array i a e s m other k.
-    let fs = c.args.fs.number in
-    let n = c.args.number in
-    let old = g.S.Store.state_of c.args.store.now in
-    let new = g.S.Store.state_of c.put_inode.new.store in
-    let found = c.in_ok-block.field-0 in
-    let exact = c.in_ok-block.ensures.exact (subst IsLibrary (sym e) s.library) in
-    let bytes = c.set_links.new.self in
-    let links = c.links-links.ensures in
-    let more = c.if-links-gt1.true in
-    on_proposed T fs found.block (edit_at (64 * found.place) bytes [] [] (Some c.args.after)) old new (MayLose new fs i a) c.put_inode.result (c.put_inode.ensures.put T e)
-    (link_waits T fs array old s i a k n c.args.after other found c.in_ok-block.ensures.found exact bytes c.put_inode.ensures.whole _ c.set_links.ensures.fields (omega (arith, links, more)) new)
-
-pub returns-clause-waits : goal.returns-clause-waits
-returns-clause-waits g c = λ T array i a e s m other k.
-    let fs = c.args.fs.number in
-    let n = c.args.number in
-    let old = g.S.Store.state_of c.args.store.now in
-    let first = g.S.Store.state_of c.drop_data.new.store in
-    let new = g.S.Store.state_of c.put_inode-2.new.store in
-    let found = c.in_ok-block.field-0 in
-    let is = c.in_ok-block.ensures.found in
-    let exact = c.in_ok-block.ensures.exact (subst IsLibrary (sym e) s.library) in
-    let points = sym c.indirect.ensures in
-    let block = c.indirect.result in
-    let under = at_pointers T fs array old s n c.args.after m.some found is exact block points m.can m.given in
-    let put = c.in_ok-dropped.ensures.put T e under in
-    let dropped = c.in_ok-dropped.dropped in
-    let d = drops T fs array old s n c.args.after m.some found is exact block points m.can m.given first dropped put in
-    let types = c.drop_data.ensures.types ∙ e in
-    let again = c.in_ok-found.found in
-    let exact2 = c.in_ok-found.ensures.exact (subst IsLibrary (sym types) s.library) in
-    let bytes = c.free.result in
-    let items = c.deref.result.now in
-    let later = data_waits T fs array old s i a k n c.args.after block other under first dropped found.inode put d in
-    on_proposed T fs again.block (edit_at (64 * again.place) bytes [] items (Some dropped)) first new (MayLose new fs i a) c.put_inode-2.result (c.put_inode-2.ensures.put T types)
-    (free_waits T fs array first d.stage i a later n dropped other again c.in_ok-found.ensures.found exact2 bytes c.free.ensures items new)
-
-pub returns-then-links-gt1-clause-pairs : goal.returns-then-links-gt1-clause-pairs
-returns-then-links-gt1-clause-pairs g c = λ T array e s m.
-    let found = c.in_ok-block.field-0 in
-    pairs_at_home T c.args.fs.number array (g.S.Store.state_of c.args.store.now) s (g.S.Store.state_of c.put_inode.new.store) c.args.number found.block found.place c.in_ok-block.ensures.found.stands
-    (edit_at (64 * found.place) c.set_links.new.self [] [] (Some c.args.after)) c.put_inode.result (c.put_inode.ensures.put T e)
-
-pub returns-in_err-dropped-clause-pairs : goal.returns-in_err-dropped-clause-pairs
-returns-in_err-dropped-clause-pairs g c = λ T array e s m.
-    let fs = c.args.fs.number in
-    let n = c.args.number in
-    let old = g.S.Store.state_of c.args.store.now in
-    let found = c.in_ok-block.field-0 in
-    let is = c.in_ok-block.ensures.found in
-    let exact = c.in_ok-block.ensures.exact (subst IsLibrary (sym e) s.library) in
-    let points = sym c.indirect.ensures in
-    let block = c.indirect.result in
-    let under = at_pointers T fs array old s n c.args.after m.some found is exact block points m.can m.given in
-    let p = c.in_err-dropped.ensures.put T e under in
-    pairs_same fs old (g.S.Store.state_of c.drop_data.new.store) p.0
-
-pub returns-in_err-found-clause-pairs : goal.returns-in_err-found-clause-pairs
-returns-in_err-found-clause-pairs g c = λ T array e s m.
-    let fs = c.args.fs.number in
-    let n = c.args.number in
-    let old = g.S.Store.state_of c.args.store.now in
-    let found = c.in_ok-block.field-0 in
-    let is = c.in_ok-block.ensures.found in
-    let exact = c.in_ok-block.ensures.exact (subst IsLibrary (sym e) s.library) in
-    let points = sym c.indirect.ensures in
-    let block = c.indirect.result in
-    let under = at_pointers T fs array old s n c.args.after m.some found is exact block points m.can m.given in
-    pairs_dropped T fs array old s (g.S.Store.state_of c.drop_data.new.store) block c.args.after under c.in_ok-dropped.dropped (c.in_ok-dropped.ensures.put T e under)
-
-pub returns-in_err-drops-clause-pairs : goal.returns-in_err-drops-clause-pairs
-returns-in_err-drops-clause-pairs g c = λ T array e s m.
-    let fs = c.args.fs.number in
-    let n = c.args.number in
-    let old = g.S.Store.state_of c.args.store.now in
-    let found = c.in_ok-block.field-0 in
-    let is = c.in_ok-block.ensures.found in
-    let exact = c.in_ok-block.ensures.exact (subst IsLibrary (sym e) s.library) in
-    let points = sym c.indirect.ensures in
-    let block = c.indirect.result in
-    let under = at_pointers T fs array old s n c.args.after m.some found is exact block points m.can m.given in
-    pairs_dropped T fs array old s (g.S.Store.state_of c.drop_data.new.store) block c.args.after under c.in_ok-dropped.dropped (c.in_ok-dropped.ensures.put T e under)
-
-pub returns-clause-pairs : goal.returns-clause-pairs
-returns-clause-pairs g c = λ T array e s m.
-    let fs = c.args.fs.number in
-    let n = c.args.number in
-    let old = g.S.Store.state_of c.args.store.now in
-    let found = c.in_ok-block.field-0 in
-    let is = c.in_ok-block.ensures.found in
-    let exact = c.in_ok-block.ensures.exact (subst IsLibrary (sym e) s.library) in
-    let points = sym c.indirect.ensures in
-    let block = c.indirect.result in
-    let under = at_pointers T fs array old s n c.args.after m.some found is exact block points m.can m.given in
-    let first = g.S.Store.state_of c.drop_data.new.store in
-    let dropped = c.in_ok-dropped.dropped in
-    let put = c.in_ok-dropped.ensures.put T e under in
-    let d = drops T fs array old s n c.args.after m.some found is exact block points m.can m.given first dropped put in
-    let again = c.in_ok-found.found in
-    pairs_then fs old first (g.S.Store.state_of c.put_inode-2.new.store) (direct_dropped T fs array old s first block c.args.after under dropped put) (pairs_dropped T fs array old s first block c.args.after under dropped put)
-    (pairs_at_home T fs array first d.stage (g.S.Store.state_of c.put_inode-2.new.store) n again.block again.place c.in_ok-found.ensures.found.stands (edit_at (64 * again.place) c.free.result [] c.deref.result.now (Some dropped)) c.put_inode-2.result
-    (c.put_inode-2.ensures.put T (c.drop_data.ensures.types ∙ e)))
-
 pub returns-in_err-block-clause-order : goal.returns-in_err-block-clause-order
 returns-in_err-block-clause-order g c = λ T array e s m.
     let old = g.S.Store.state_of c.args.store.now in
     none_order T c.args.fs.number (taken_edits (latest old.lives) c.args.fs.number c.args.number c.args.after old.next) old old refl _ c.from_residual.result c.from_residual.ensures.1
 
-pub returns-then-links-gt1-clause-order : goal.returns-then-links-gt1-clause-order
-returns-then-links-gt1-clause-order g c = λ T array e s m.
+pub returns-then-links-gt1 : goal.returns-then-links-gt1
+returns-then-links-gt1 g c =
     let fs = c.args.fs.number in
     let n = c.args.number in
     let old = g.S.Store.state_of c.args.store.now in
     let new = g.S.Store.state_of c.put_inode.new.store in
     let found = c.in_ok-block.field-0 in
     let is = c.in_ok-block.ensures.found in
-    let exact = c.in_ok-block.ensures.exact (subst IsLibrary (sym e) s.library) in
     let links = c.links-links.ensures in
     let more = c.if-links-gt1.true in
-    let bytes = c.set_links.ensures.bytes ∙ ap (λ (k : ℕ). put found.inode 2 (to_le_bytes w16 (k - 1))) links in
-    subst (λ (edits : Edits). Orders T fs edits old new c.put_inode.result)
-    (more_links (latest old.lives (word_at found.inode 56)) found.block found.place found.inode c.args.after old.next (omega (arith, links, more))
-    ∙ taken_is (latest old.lives) fs n found.block found.place found.inode c.args.after old.next (home_of old fs n found.block found.place is.stands) is.stands.at exact)
-    (one_order T fs found.block (links_edit found.place found.inode (inode_links found.inode - 1) c.args.after) old new c.put_inode.result
-    (subst (λ (b : List ℕ). Proposed T fs found.block (edit_at (64 * found.place) b [] [] (Some c.args.after)) old new c.put_inode.result) bytes (c.put_inode.ensures.put T e)))
+    record {
+      types = search rules;
+      ends = λ T array e s m.
+          let exact = c.in_ok-block.ensures.exact (subst IsLibrary (sym e) s.library) in
+          let bytes = c.set_links.new.self in
+          finishes T fs found.block (edit_at (64 * found.place) bytes [] [] (Some c.args.after)) array old new _ _ s c.put_inode.result (c.put_inode.ensures.put T e)
+          (link_short T fs array old s n c.args.after found is exact m.can m.given bytes c.put_inode.ensures.whole _ c.set_links.ensures.fields)
+          (link_less T fs array old s n c.args.after found is exact m.can m.given bytes c.put_inode.ensures.whole _ c.set_links.ensures.fields new (omega (arith, links, more)) (omega (arith, links, more)))
+          (λ fault same told. nothing_taken T fs old new n found.inode exact same found.block (inl (home_of old fs n found.block found.place is.stands)) fault (edit_at (64 * found.place) bytes [] [] (Some c.args.after), told));
+      order = λ T array e s m.
+          let exact = c.in_ok-block.ensures.exact (subst IsLibrary (sym e) s.library) in
+          let bytes = c.set_links.ensures.bytes ∙ ap (λ (k : ℕ). put found.inode 2 (to_le_bytes w16 (k - 1))) links in
+          subst (λ (edits : Edits). Orders T fs edits old new c.put_inode.result)
+          (more_links (latest old.lives (word_at found.inode 56)) found.block found.place found.inode c.args.after old.next (omega (arith, links, more))
+          ∙ taken_is (latest old.lives) fs n found.block found.place found.inode c.args.after old.next (home_of old fs n found.block found.place is.stands) is.stands.at exact)
+          (one_order T fs found.block (links_edit found.place found.inode (inode_links found.inode - 1) c.args.after) old new c.put_inode.result
+          (subst (λ (b : List ℕ). Proposed T fs found.block (edit_at (64 * found.place) b [] [] (Some c.args.after)) old new c.put_inode.result) bytes (c.put_inode.ensures.put T e)));
+      waits = λ T array i a e s m other k.
+          let exact = c.in_ok-block.ensures.exact (subst IsLibrary (sym e) s.library) in
+          let bytes = c.set_links.new.self in
+          on_proposed T fs found.block (edit_at (64 * found.place) bytes [] [] (Some c.args.after)) old new (MayLose new fs i a) c.put_inode.result (c.put_inode.ensures.put T e)
+          (link_waits T fs array old s i a k n c.args.after other found c.in_ok-block.ensures.found exact bytes c.put_inode.ensures.whole _ c.set_links.ensures.fields (omega (arith, links, more)) new);
+      pairs = λ T array e s m.
+          pairs_at_home T c.args.fs.number array (g.S.Store.state_of c.args.store.now) s (g.S.Store.state_of c.put_inode.new.store) c.args.number found.block found.place c.in_ok-block.ensures.found.stands
+          (edit_at (64 * found.place) c.set_links.new.self [] [] (Some c.args.after)) c.put_inode.result (c.put_inode.ensures.put T e);
+    }
 
-pub returns-in_err-dropped-clause-order : goal.returns-in_err-dropped-clause-order
-returns-in_err-dropped-clause-order g c = λ T array e s m.
+pub returns-in_err-dropped : goal.returns-in_err-dropped
+returns-in_err-dropped g c =
     let fs = c.args.fs.number in
     let n = c.args.number in
     let old = g.S.Store.state_of c.args.store.now in
     let found = c.in_ok-block.field-0 in
     let is = c.in_ok-block.ensures.found in
-    let exact = c.in_ok-block.ensures.exact (subst IsLibrary (sym e) s.library) in
-    let points = sym c.indirect.ensures in
-    let p = c.in_err-dropped.ensures.put T e (at_pointers T fs array old s n c.args.after m.some found is exact c.indirect.result points m.can m.given) in
-    none_order T fs (taken_edits (latest old.lives) fs n c.args.after old.next) old (g.S.Store.state_of c.drop_data.new.store) p.0 _ c.from_residual-in_err-dropped.result c.from_residual-in_err-dropped.ensures.1
-
-pub returns-in_err-found-clause-order : goal.returns-in_err-found-clause-order
-returns-in_err-found-clause-order g c = λ T array e s m.
-    let old = g.S.Store.state_of c.args.store.now in
-    let found = c.in_ok-block.field-0 in
-    let is = c.in_ok-block.ensures.found in
-    let exact = c.in_ok-block.ensures.exact (subst IsLibrary (sym e) s.library) in
     let points = sym c.indirect.ensures in
     let block = c.indirect.result in
-    let put = c.in_ok-dropped.ensures.put T e (at_pointers T c.args.fs.number array old s c.args.number c.args.after m.some found is exact block points m.can m.given) in
-    let k = drops T c.args.fs.number array old s c.args.number c.args.after m.some found is exact block points m.can m.given (g.S.Store.state_of c.drop_data.new.store) c.in_ok-dropped.dropped put in
-    absurd (never found.inode _ (k.same ∙ sym (c.in_err-found.ensures.exact (subst IsLibrary (sym (c.drop_data.ensures.types ∙ e)) s.library))))
+    let new = g.S.Store.state_of c.drop_data.new.store in
+    let edit = clearing old block c.args.after in
+    record {
+      types = search rules;
+      ends = λ T array e s m.
+          let exact = c.in_ok-block.ensures.exact (subst IsLibrary (sym e) s.library) in
+          let p = c.in_err-dropped.ensures.put T e (at_pointers T fs array old s n c.args.after m.some found is exact block points m.can m.given) in
+          fails _ _ (same_stage s p.0) c.from_residual-in_err-dropped.result _ c.from_residual-in_err-dropped.ensures.1
+          (short_told (propose_of T old fs block edit) (drops_short T fs array old s n c.args.after m.some found is exact block points m.can m.given p.1 p.2) _ p.3, nothing_taken T fs old new n found.inode exact p.0 block (inr (sym points)) _ (edit, p.3));
+      order = λ T array e s m.
+          let exact = c.in_ok-block.ensures.exact (subst IsLibrary (sym e) s.library) in
+          let p = c.in_err-dropped.ensures.put T e (at_pointers T fs array old s n c.args.after m.some found is exact c.indirect.result points m.can m.given) in
+          none_order T fs (taken_edits (latest old.lives) fs n c.args.after old.next) old (g.S.Store.state_of c.drop_data.new.store) p.0 _ c.from_residual-in_err-dropped.result c.from_residual-in_err-dropped.ensures.1;
+      waits = search rules;
+      pairs = λ T array e s m.
+          let exact = c.in_ok-block.ensures.exact (subst IsLibrary (sym e) s.library) in
+          let under = at_pointers T fs array old s n c.args.after m.some found is exact block points m.can m.given in
+          let p = c.in_err-dropped.ensures.put T e under in
+          pairs_same fs old (g.S.Store.state_of c.drop_data.new.store) p.0;
+    }
 
-pub returns-in_err-drops-clause-order : goal.returns-in_err-drops-clause-order
-returns-in_err-drops-clause-order g c = λ T array e s m.
+pub returns-in_err-found : goal.returns-in_err-found
+returns-in_err-found g c =
+    let old = g.S.Store.state_of c.args.store.now in
+    let found = c.in_ok-block.field-0 in
+    let is = c.in_ok-block.ensures.found in
+    let points = sym c.indirect.ensures in
+    let block = c.indirect.result in
     let fs = c.args.fs.number in
     let n = c.args.number in
+    record {
+      types = search rules;
+      ends = λ T array e s m.
+          let exact = c.in_ok-block.ensures.exact (subst IsLibrary (sym e) s.library) in
+          let put = c.in_ok-dropped.ensures.put T e (at_pointers T c.args.fs.number array old s c.args.number c.args.after m.some found is exact block points m.can m.given) in
+          let k = drops T c.args.fs.number array old s c.args.number c.args.after m.some found is exact block points m.can m.given (g.S.Store.state_of c.drop_data.new.store) c.in_ok-dropped.dropped put in
+          absurd (never found.inode _ (k.same ∙ sym (c.in_err-found.ensures.exact (subst IsLibrary (sym (c.drop_data.ensures.types ∙ e)) s.library))));
+      order = λ T array e s m.
+          let exact = c.in_ok-block.ensures.exact (subst IsLibrary (sym e) s.library) in
+          let put = c.in_ok-dropped.ensures.put T e (at_pointers T c.args.fs.number array old s c.args.number c.args.after m.some found is exact block points m.can m.given) in
+          let k = drops T c.args.fs.number array old s c.args.number c.args.after m.some found is exact block points m.can m.given (g.S.Store.state_of c.drop_data.new.store) c.in_ok-dropped.dropped put in
+          absurd (never found.inode _ (k.same ∙ sym (c.in_err-found.ensures.exact (subst IsLibrary (sym (c.drop_data.ensures.types ∙ e)) s.library))));
+      waits = search rules;
+      pairs = λ T array e s m.
+          let exact = c.in_ok-block.ensures.exact (subst IsLibrary (sym e) s.library) in
+          let under = at_pointers T fs array old s n c.args.after m.some found is exact block points m.can m.given in
+          pairs_dropped T fs array old s (g.S.Store.state_of c.drop_data.new.store) block c.args.after under c.in_ok-dropped.dropped (c.in_ok-dropped.ensures.put T e under);
+    }
+
+pub returns-in_err-drops : goal.returns-in_err-drops
+returns-in_err-drops g c =
     let old = g.S.Store.state_of c.args.store.now in
+    let found = c.in_ok-block.field-0 in
+    let is = c.in_ok-block.ensures.found in
+    let points = sym c.indirect.ensures in
+    let block = c.indirect.result in
     let first = g.S.Store.state_of c.drop_data.new.store in
-    let found = c.in_ok-block.field-0 in
-    let is = c.in_ok-block.ensures.found in
-    let exact = c.in_ok-block.ensures.exact (subst IsLibrary (sym e) s.library) in
-    let points = sym c.indirect.ensures in
-    let block = c.indirect.result in
-    let under = at_pointers T fs array old s n c.args.after m.some found is exact block points m.can m.given in
-    let dropped = c.in_ok-dropped.dropped in
-    let put = c.in_ok-dropped.ensures.put T e under in
     let again = c.in_ok-found.found in
-    let at = c.in_ok-found.ensures.found.stands in
     let links = c.links-links.ensures in
     let few = c.if-links-gt1.false in
-    order_err T fs (taken_edits (latest old.lives) fs n c.args.after old.next) old first
-    (taken_last T s.library fs s.few old first first s.keeps.consistent n found.inode exact (omega (arith, links, few)) block points c.args.after dropped under put again.block again.place (home_of first fs n again.block again.place at) at.at
-    (Err (Kernel NoMemory)) (refl, no_memory (propose_of T first fs again.block (free_edit again.place found.inode dropped)))) _ c.from_residual-in_err-drops.result c.from_residual-in_err-drops.ensures.1
+    let edit = clearing first again.block c.args.after in
+    let fs = c.args.fs.number in
+    let n = c.args.number in
+    let dropped = c.in_ok-dropped.dropped in
+    let at = c.in_ok-found.ensures.found.stands in
+    record {
+      types = search rules;
+      ends = λ T array e s m.
+          let exact = c.in_ok-block.ensures.exact (subst IsLibrary (sym e) s.library) in
+          let put = c.in_ok-dropped.ensures.put T e (at_pointers T c.args.fs.number array old s c.args.number c.args.after m.some found is exact block points m.can m.given) in
+          let k = drops T c.args.fs.number array old s c.args.number c.args.after m.some found is exact block points m.can m.given (g.S.Store.state_of c.drop_data.new.store) c.in_ok-dropped.dropped put in
+          fails _ _ k.stage c.from_residual-in_err-drops.result _ c.from_residual-in_err-drops.ensures.1
+          (refl, data_taken T c.args.fs.number array old first first c.args.number found.inode c.in_ok-dropped.dropped exact (omega (arith, links, few)) k refl again.block again.place c.in_ok-found.ensures.found.stands _ (edit, no_memory (propose_of T first c.args.fs.number again.block edit)));
+      order = λ T array e s m.
+          let exact = c.in_ok-block.ensures.exact (subst IsLibrary (sym e) s.library) in
+          let under = at_pointers T fs array old s n c.args.after m.some found is exact block points m.can m.given in
+          let put = c.in_ok-dropped.ensures.put T e under in
+          order_err T fs (taken_edits (latest old.lives) fs n c.args.after old.next) old first
+          (taken_last T s.library fs s.few old first first s.keeps.consistent n found.inode exact (omega (arith, links, few)) block points c.args.after dropped under put again.block again.place (home_of first fs n again.block again.place at) at.at
+          (Err (Kernel NoMemory)) (refl, no_memory (propose_of T first fs again.block (free_edit again.place found.inode dropped)))) _ c.from_residual-in_err-drops.result c.from_residual-in_err-drops.ensures.1;
+      waits = search rules;
+      pairs = λ T array e s m.
+          let exact = c.in_ok-block.ensures.exact (subst IsLibrary (sym e) s.library) in
+          let under = at_pointers T fs array old s n c.args.after m.some found is exact block points m.can m.given in
+          pairs_dropped T fs array old s (g.S.Store.state_of c.drop_data.new.store) block c.args.after under c.in_ok-dropped.dropped (c.in_ok-dropped.ensures.put T e under);
+    }
 
-pub returns-clause-order : goal.returns-clause-order
-returns-clause-order g c = λ T array e s m.
+pub returns : goal.returns
+returns g c =
     let fs = c.args.fs.number in
     let n = c.args.number in
     let old = g.S.Store.state_of c.args.store.now in
@@ -300,21 +166,64 @@ returns-clause-order g c = λ T array e s m.
     let new = g.S.Store.state_of c.put_inode-2.new.store in
     let found = c.in_ok-block.field-0 in
     let is = c.in_ok-block.ensures.found in
-    let exact = c.in_ok-block.ensures.exact (subst IsLibrary (sym e) s.library) in
     let points = sym c.indirect.ensures in
     let block = c.indirect.result in
-    let under = at_pointers T fs array old s n c.args.after m.some found is exact block points m.can m.given in
     let dropped = c.in_ok-dropped.dropped in
-    let put = c.in_ok-dropped.ensures.put T e under in
-    let k = drops T fs array old s n c.args.after m.some found is exact block points m.can m.given first dropped put in
-    let types = c.drop_data.ensures.types ∙ e in
     let again = c.in_ok-found.found in
-    let at = c.in_ok-found.ensures.found.stands in
-    let same : again.inode ≡ found.inode = same_ok again.inode found.inode (c.in_ok-found.ensures.exact (subst IsLibrary (sym types) s.library) ∙ sym k.same) in
-    let items = (c.deref.ensures.value ∙ c.in_ok-drops.ensures) ∙ ap data_of_inode same in
     let links = c.links-links.ensures in
     let few = c.if-links-gt1.false in
-    taken_last T s.library fs s.few old first new s.keeps.consistent n found.inode exact (omega (arith, links, few)) block points c.args.after dropped under put again.block again.place (home_of first fs n again.block again.place at) at.at
-    c.put_inode-2.result
-    (subst (λ (ds : List ℕ). Proposed T fs again.block (edit_at (64 * again.place) (replicate 64 0) [] ds (Some dropped)) first new c.put_inode-2.result) items
-    (subst (λ (b : List ℕ). Proposed T fs again.block (edit_at (64 * again.place) b [] c.deref.result.now (Some dropped)) first new c.put_inode-2.result) c.free.ensures (c.put_inode-2.ensures.put T types)))
+    let bytes = c.free.result in
+    let at = c.in_ok-found.ensures.found.stands in
+    record {
+      types = search rules;
+      ends = λ T array e s m.
+          let exact = c.in_ok-block.ensures.exact (subst IsLibrary (sym e) s.library) in
+          let put = c.in_ok-dropped.ensures.put T e (at_pointers T fs array old s n c.args.after m.some found is exact block points m.can m.given) in
+          let k = drops T fs array old s n c.args.after m.some found is exact block points m.can m.given first dropped put in
+          let types = c.drop_data.ensures.types ∙ e in
+          let exact2 = c.in_ok-found.ensures.exact (subst IsLibrary (sym types) s.library) in
+          let same : again.inode ≡ found.inode = same_ok again.inode found.inode (exact2 ∙ sym k.same) in
+          let own : inode_links m.inode ≡ inode_links found.inode = ap inode_links (same_ok m.inode found.inode (m.found ∙ sym exact)) in
+          let low = m.linked in
+          let one : inode_links found.inode ≡ 1 = omega (arith, links, few, own, low) in
+          let none : HasNoData T (latest first.lives) again.inode = subst (λ (i : List ℕ). HasNoData T (latest first.lives) i) (sym same) k.none in
+          let items = c.deref.result.now in
+          let edit = edit_at (64 * again.place) bytes [] items (Some dropped) in
+          finishes T fs again.block edit array first new _ _ k.stage c.put_inode-2.result (c.put_inode-2.ensures.put T types)
+          (subst (λ (ds : List ℕ). ShortEdit T first fs again.block (edit_at (64 * again.place) bytes [] ds (Some dropped))) (sym (c.deref.ensures.value ∙ c.in_ok-drops.ensures)) (free_short T fs array first k.stage n dropped again c.in_ok-found.ensures.found exact2 k.can k.given none bytes c.free.ensures))
+          (λ entry done.
+          let x = frees T fs array first k.stage n dropped again c.in_ok-found.ensures.found exact2 k.can k.given none bytes c.free.ensures new (ap inode_links same ∙ one) items entry done in
+          (x.0, given_up (latest old.lives) (latest first.lives) (latest new.lives) fs n found.inode exact (omega (arith, one)) k.others x.1 x.2))
+          (λ fault left told. data_taken T fs array old first new n found.inode dropped exact (omega (arith, links, few)) k left again.block again.place c.in_ok-found.ensures.found.stands fault (edit, told));
+      order = λ T array e s m.
+          let exact = c.in_ok-block.ensures.exact (subst IsLibrary (sym e) s.library) in
+          let under = at_pointers T fs array old s n c.args.after m.some found is exact block points m.can m.given in
+          let put = c.in_ok-dropped.ensures.put T e under in
+          let k = drops T fs array old s n c.args.after m.some found is exact block points m.can m.given first dropped put in
+          let types = c.drop_data.ensures.types ∙ e in
+          let same : again.inode ≡ found.inode = same_ok again.inode found.inode (c.in_ok-found.ensures.exact (subst IsLibrary (sym types) s.library) ∙ sym k.same) in
+          let items = (c.deref.ensures.value ∙ c.in_ok-drops.ensures) ∙ ap data_of_inode same in
+          taken_last T s.library fs s.few old first new s.keeps.consistent n found.inode exact (omega (arith, links, few)) block points c.args.after dropped under put again.block again.place (home_of first fs n again.block again.place at) at.at
+          c.put_inode-2.result
+          (subst (λ (ds : List ℕ). Proposed T fs again.block (edit_at (64 * again.place) (replicate 64 0) [] ds (Some dropped)) first new c.put_inode-2.result) items
+          (subst (λ (b : List ℕ). Proposed T fs again.block (edit_at (64 * again.place) b [] c.deref.result.now (Some dropped)) first new c.put_inode-2.result) c.free.ensures (c.put_inode-2.ensures.put T types)));
+      waits = λ T array i a e s m other k.
+          let exact = c.in_ok-block.ensures.exact (subst IsLibrary (sym e) s.library) in
+          let under = at_pointers T fs array old s n c.args.after m.some found is exact block points m.can m.given in
+          let put = c.in_ok-dropped.ensures.put T e under in
+          let d = drops T fs array old s n c.args.after m.some found is exact block points m.can m.given first dropped put in
+          let types = c.drop_data.ensures.types ∙ e in
+          let exact2 = c.in_ok-found.ensures.exact (subst IsLibrary (sym types) s.library) in
+          let items = c.deref.result.now in
+          let later = data_waits T fs array old s i a k n c.args.after block other under first dropped found.inode put d in
+          on_proposed T fs again.block (edit_at (64 * again.place) bytes [] items (Some dropped)) first new (MayLose new fs i a) c.put_inode-2.result (c.put_inode-2.ensures.put T types)
+          (free_waits T fs array first d.stage i a later n dropped other again c.in_ok-found.ensures.found exact2 bytes c.free.ensures items new);
+      pairs = λ T array e s m.
+          let exact = c.in_ok-block.ensures.exact (subst IsLibrary (sym e) s.library) in
+          let under = at_pointers T fs array old s n c.args.after m.some found is exact block points m.can m.given in
+          let put = c.in_ok-dropped.ensures.put T e under in
+          let d = drops T fs array old s n c.args.after m.some found is exact block points m.can m.given first dropped put in
+          pairs_then fs old first (g.S.Store.state_of c.put_inode-2.new.store) (direct_dropped T fs array old s first block c.args.after under dropped put) (pairs_dropped T fs array old s first block c.args.after under dropped put)
+          (pairs_at_home T fs array first d.stage (g.S.Store.state_of c.put_inode-2.new.store) n again.block again.place c.in_ok-found.ensures.found.stands (edit_at (64 * again.place) c.free.result [] c.deref.result.now (Some dropped)) c.put_inode-2.result
+          (c.put_inode-2.ensures.put T (c.drop_data.ensures.types ∙ e)));
+    }

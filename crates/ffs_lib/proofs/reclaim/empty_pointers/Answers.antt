@@ -4,7 +4,7 @@ use Rattle.xn_model.specs.Calls.{propose_of}
 use Rattle.ffs_lib.specs.Edits.{data_of_pointers}
 use Rattle.ffs_lib.specs.Steps.{Tells}
 use Rattle.ffs_lib.specs.Reclaiming.{Emptied, emptying}
-use Rattle.ffs_lib.proofs.Laws.{no_memory}
+use Rattle.ffs_lib.proofs.Laws.{no_memory, some_items}
 use Rattle.ffs_lib.proofs.Reclaiming.{emptied_put, emptied_refused}
 use Rattle.ffs_lib.proofs.reclaim.empty_pointers.Goals as goal
 
@@ -29,4 +29,4 @@ pub returns-clause-put : goal.returns-clause-put
 returns-clause-put g c = λ T e under.
     let bytes = c.in_ok-read_block.ensures.bytes in
     emptied_put T c.args.fs.number c.args.block (g.S.Store.state_of c.args.store.now) (g.S.Store.state_of c.put.new.store) c.in_ok-put.field-0 c.deref.result.now c.if-block-eq0.false
-    (ap length bytes ∙ c.in_ok-read_block.ensures.whole) (c.deref.ensures.value ∙ (c.in_ok-dropped.ensures ∙ ap data_of_pointers (sym bytes))) (c.in_ok-put.ensures.put T e)
+    (ap length bytes ∙ c.in_ok-read_block.ensures.whole) (c.deref.ensures.value ∙ (c.in_ok-dropped.ensures ∙ ap data_of_pointers (sym bytes))) (some_items _ _ c.deref.result.now c.is_empty.ensures c.if-is_empty.false c.deref.ensures.len) (c.in_ok-put.ensures.put T e)

@@ -1,67 +1,105 @@
-use Rattle.std.proofs.Common.{◌≡◌, ◌∙◌, ◌*◌, ℕ, List, [], None, inr, refl, subst, sym}
+use Rattle.std.proofs.Common.{rules, ◌≡◌, ◌∙◌, ◌*◌, ℕ, List, [], ◌∷◌, None, ap, inr, refl, replicate, subst, sym}
 use Rattle.xn_model.specs.Calls.{propose_of}
 use Rattle.ffs_model.specs.Cuts.{latest}
 use Rattle.ffs_model.specs.Volumes.{KeepsNumber}
 use Rattle.ffs_model.specs.Library.{IsLibrary, inode_links, library_layout}
 use Rattle.ffs_lookup.specs.declared.repairs.Repair.TheVariants.{GiveUp}
 use Rattle.ffs_lookup.proofs.ForCallers.{same_ok}
-use Rattle.ffs_lib.specs.Edits.{edit_at}
+use Rattle.ffs_lib.specs.Edits.{data_of_inode, edit_at}
 use Rattle.ffs_lib.specs.Outcomes.{HasNoData}
-use Rattle.ffs_lib.specs.Steps.{ShortEdit}
+use Rattle.ffs_lib.specs.RepairOrder.{repaired_edits}
+use Rattle.ffs_lib.specs.Steps.{Proposed, ShortEdit}
 use Rattle.ffs_lib.specs.Reclaiming.{emptying}
 use Rattle.ffs_lib.proofs.Laws.{fails, finishes, home_of, no_memory, same_stage, short_told}
+use Rattle.ffs_lib.proofs.Orders.{none_order, one_order}
+use Rattle.ffs_lib.proofs.RepairOrder.{gives_up_order}
 use Rattle.ffs_lib.proofs.Reclaiming.{empties, empties_short, give_no_keep, given_up_then, inode_goes, inode_short, nothing_repaired, pointers_emptied, reached_pointers}
 use Rattle.ffs_lib.proofs.Tops.{never}
 use Rattle.ffs_lib.proofs.reclaim.give_up.Goals as goal
 
-pub returns-in_err-empty_pointers-clause-ends : goal.returns-in_err-empty_pointers-clause-ends
-returns-in_err-empty_pointers-clause-ends g c = λ T array e s may.
+pub returns-in_err-found-clause-order : goal.returns-in_err-found-clause-order
+returns-in_err-found-clause-order g c = λ T array e s.
+    let old = g.S.Store.state_of c.args.store.now in
+    none_order T c.args.fs.number (repaired_edits (latest old.lives) c.args.fs.number c.args.number GiveUp) old old refl _ c.from_residual.result c.from_residual.ensures.1
+
+pub returns-in_err-empty_pointers : goal.returns-in_err-empty_pointers
+returns-in_err-empty_pointers g c =
     let fs = c.args.fs.number in
     let n = c.args.number in
     let old = g.S.Store.state_of c.args.store.now in
     let new = g.S.Store.state_of c.empty_pointers.new.store in
     let found = c.in_ok-found.found in
     let is = c.in_ok-found.ensures.found in
-    let exact = c.in_ok-found.ensures.exact (subst IsLibrary (sym e) s.library) in
     let points = sym c.indirect.ensures in
     let block = c.indirect.result in
-    let p = c.in_err-empty_pointers.ensures.put T e (reached_pointers T fs array old s n found is exact block points) in
     let edit = emptying old block in
-    fails _ _ (same_stage s p.0) c.from_residual-in_err-empty_pointers.result _ c.from_residual-in_err-empty_pointers.ensures.1
-    (short_told (propose_of T old fs block edit) (empties_short T fs array old s n found is exact block points p.1 p.2) _ p.3, nothing_repaired T fs old new n GiveUp give_no_keep found.inode exact p.0 block (inr (sym points)) _ (edit, p.3))
+    record {
+      types = search rules;
+      ends = λ T array e s may.
+          let exact = c.in_ok-found.ensures.exact (subst IsLibrary (sym e) s.library) in
+          let p = c.in_err-empty_pointers.ensures.put T e (reached_pointers T fs array old s n found is exact block points) in
+          fails _ _ (same_stage s p.0) c.from_residual-in_err-empty_pointers.result _ c.from_residual-in_err-empty_pointers.ensures.1
+          (short_told (propose_of T old fs block edit) (empties_short T fs array old s n found is exact block points p.1 p.2) _ p.3, nothing_repaired T fs old new n GiveUp give_no_keep found.inode exact p.0 block (inr (sym points)) _ (edit, p.3));
+      order = λ T array e s.
+          let exact = c.in_ok-found.ensures.exact (subst IsLibrary (sym e) s.library) in
+          let p = c.in_err-empty_pointers.ensures.put T e (reached_pointers T fs array old s n c.in_ok-found.found c.in_ok-found.ensures.found exact c.indirect.result (sym c.indirect.ensures)) in
+          none_order T fs (repaired_edits (latest old.lives) fs n GiveUp) old (g.S.Store.state_of c.empty_pointers.new.store) p.0 _ c.from_residual-in_err-empty_pointers.result c.from_residual-in_err-empty_pointers.ensures.1;
+    }
 
-pub returns-in_err-found-2-clause-ends : goal.returns-in_err-found-2-clause-ends
-returns-in_err-found-2-clause-ends g c = λ T array e s may.
+pub returns-in_err-found-2 : goal.returns-in_err-found-2
+returns-in_err-found-2 g c =
     let old = g.S.Store.state_of c.args.store.now in
     let found = c.in_ok-found.found in
     let is = c.in_ok-found.ensures.found in
-    let exact = c.in_ok-found.ensures.exact (subst IsLibrary (sym e) s.library) in
     let points = sym c.indirect.ensures in
     let block = c.indirect.result in
-    let put = c.in_ok-empty_pointers.ensures.put T e (reached_pointers T c.args.fs.number array old s c.args.number found is exact block points) in
-    let k = empties T c.args.fs.number array old s c.args.number found is exact block points (g.S.Store.state_of c.empty_pointers.new.store) put in
-    absurd (never found.inode _ (k.same ∙ sym (c.in_err-found-2.ensures.exact (subst IsLibrary (sym (c.empty_pointers.ensures.types ∙ e)) s.library))))
+    record {
+      types = search rules;
+      ends = λ T array e s may.
+          let exact = c.in_ok-found.ensures.exact (subst IsLibrary (sym e) s.library) in
+          let put = c.in_ok-empty_pointers.ensures.put T e (reached_pointers T c.args.fs.number array old s c.args.number found is exact block points) in
+          let k = empties T c.args.fs.number array old s c.args.number found is exact block points (g.S.Store.state_of c.empty_pointers.new.store) put in
+          absurd (never found.inode _ (k.same ∙ sym (c.in_err-found-2.ensures.exact (subst IsLibrary (sym (c.empty_pointers.ensures.types ∙ e)) s.library))));
+      order = λ T array e s.
+          let exact = c.in_ok-found.ensures.exact (subst IsLibrary (sym e) s.library) in
+          let put = c.in_ok-empty_pointers.ensures.put T e (reached_pointers T c.args.fs.number array old s c.args.number found is exact c.indirect.result points) in
+          let k = empties T c.args.fs.number array old s c.args.number found is exact c.indirect.result points (g.S.Store.state_of c.empty_pointers.new.store) put in
+          absurd (never found.inode _ (k.same ∙ sym (c.in_err-found-2.ensures.exact (subst IsLibrary (sym (c.empty_pointers.ensures.types ∙ e)) s.library))));
+    }
 
-pub returns-in_err-drops-clause-ends : goal.returns-in_err-drops-clause-ends
-returns-in_err-drops-clause-ends g c = λ T array e s may.
+pub returns-in_err-drops : goal.returns-in_err-drops
+returns-in_err-drops g c =
     let fs = c.args.fs.number in
     let n = c.args.number in
     let old = g.S.Store.state_of c.args.store.now in
     let first = g.S.Store.state_of c.empty_pointers.new.store in
     let found = c.in_ok-found.found in
     let is = c.in_ok-found.ensures.found in
-    let exact = c.in_ok-found.ensures.exact (subst IsLibrary (sym e) s.library) in
     let points = sym c.indirect.ensures in
     let block = c.indirect.result in
-    let put = c.in_ok-empty_pointers.ensures.put T e (reached_pointers T fs array old s n found is exact block points) in
-    let k = empties T fs array old s n found is exact block points first put in
     let again = c.in_ok-found-2.found in
     let edit = emptying first again.block in
-    fails _ _ k.stage c.from_residual-in_err-drops.result _ c.from_residual-in_err-drops.ensures.1
-    (refl, pointers_emptied T fs array old first first n found.inode exact k refl again.block (home_of first fs n again.block again.place c.in_ok-found-2.ensures.found.stands) _ (edit, no_memory (propose_of T first fs again.block edit)))
+    let at = c.in_ok-found-2.ensures.found.stands in
+    record {
+      types = search rules;
+      ends = λ T array e s may.
+          let exact = c.in_ok-found.ensures.exact (subst IsLibrary (sym e) s.library) in
+          let put = c.in_ok-empty_pointers.ensures.put T e (reached_pointers T fs array old s n found is exact block points) in
+          let k = empties T fs array old s n found is exact block points first put in
+          fails _ _ k.stage c.from_residual-in_err-drops.result _ c.from_residual-in_err-drops.ensures.1
+          (refl, pointers_emptied T fs array old first first n found.inode exact k refl again.block (home_of first fs n again.block again.place c.in_ok-found-2.ensures.found.stands) _ (edit, no_memory (propose_of T first fs again.block edit)));
+      order = λ T array e s.
+          let exact = c.in_ok-found.ensures.exact (subst IsLibrary (sym e) s.library) in
+          let under = reached_pointers T fs array old s n found is exact block points in
+          let put = c.in_ok-empty_pointers.ensures.put T e under in
+          let k = empties T fs array old s n found is exact block points first put in
+          let same : again.inode ≡ found.inode = same_ok again.inode found.inode (c.in_ok-found-2.ensures.exact (subst IsLibrary (sym (c.empty_pointers.ensures.types ∙ e)) s.library) ∙ sym k.same) in
+          gives_up_order T s.library fs s.few old first first s.keeps.consistent n found.inode exact block points under put again.block again.place (home_of first fs n again.block again.place at) at.at c.from_residual-in_err-drops.result
+          (none_order T fs ((again.block, edit_at (64 * again.place) (replicate 64 0) [] (data_of_inode found.inode) None) ∷ []) first first refl _ c.from_residual-in_err-drops.result c.from_residual-in_err-drops.ensures.1);
+    }
 
-pub returns-clause-ends : goal.returns-clause-ends
-returns-clause-ends g c = λ T array e s may.
+pub returns : goal.returns
+returns g c =
     let fs = c.args.fs.number in
     let n = c.args.number in
     let old = g.S.Store.state_of c.args.store.now in
@@ -69,25 +107,41 @@ returns-clause-ends g c = λ T array e s may.
     let new = g.S.Store.state_of c.put_inode.new.store in
     let found = c.in_ok-found.found in
     let is = c.in_ok-found.ensures.found in
-    let exact = c.in_ok-found.ensures.exact (subst IsLibrary (sym e) s.library) in
     let points = sym c.indirect.ensures in
     let block = c.indirect.result in
-    let put = c.in_ok-empty_pointers.ensures.put T e (reached_pointers T fs array old s n found is exact block points) in
-    let k = empties T fs array old s n found is exact block points first put in
-    let types = c.empty_pointers.ensures.types ∙ e in
     let again = c.in_ok-found-2.found in
     let is2 = c.in_ok-found-2.ensures.found in
-    let exact2 = c.in_ok-found-2.ensures.exact (subst IsLibrary (sym types) s.library) in
-    let same : again.inode ≡ found.inode = same_ok again.inode found.inode (exact2 ∙ sym k.same) in
-    let own : may.inode ≡ again.inode = same_ok may.inode found.inode (may.found ∙ sym exact) ∙ sym same in
-    let none : HasNoData T (latest first.lives) again.inode = subst (λ (i : List ℕ). HasNoData T (latest first.lives) i) (sym same) k.none in
-    let spare : KeepsNumber library_layout first.lives fs None (inode_links again.inode) n = subst (λ (i : List ℕ). KeepsNumber library_layout first.lives fs None (inode_links i) n) own (k.spares n (inode_links may.inode) may.some may.spares) in
     let bytes = c.free.result in
-    let items = c.deref.result.now in
-    let edit = edit_at (64 * again.place) bytes [] items None in
-    finishes T fs again.block edit array first new _ _ k.stage c.put_inode.result (c.put_inode.ensures.put T types)
-    (subst (λ (ds : List ℕ). ShortEdit T first fs again.block (edit_at (64 * again.place) bytes [] ds None)) (sym (c.deref.ensures.value ∙ c.in_ok-drops.ensures)) (inode_short T fs array first k.stage n again is2 exact2 none bytes c.free.ensures))
-    (λ entry done.
-    let x = inode_goes T fs array first k.stage n again is2 exact2 none bytes c.free.ensures spare new items entry done in
-    (x.0, given_up_then T fs array old first new n found.inode k x.1))
-    (λ fault left told. pointers_emptied T fs array old first new n found.inode exact k left again.block (home_of first fs n again.block again.place is2.stands) fault (edit, told))
+    let at = c.in_ok-found-2.ensures.found.stands in
+    record {
+      types = search rules;
+      ends = λ T array e s may.
+          let exact = c.in_ok-found.ensures.exact (subst IsLibrary (sym e) s.library) in
+          let put = c.in_ok-empty_pointers.ensures.put T e (reached_pointers T fs array old s n found is exact block points) in
+          let k = empties T fs array old s n found is exact block points first put in
+          let types = c.empty_pointers.ensures.types ∙ e in
+          let exact2 = c.in_ok-found-2.ensures.exact (subst IsLibrary (sym types) s.library) in
+          let same : again.inode ≡ found.inode = same_ok again.inode found.inode (exact2 ∙ sym k.same) in
+          let own : may.inode ≡ again.inode = same_ok may.inode found.inode (may.found ∙ sym exact) ∙ sym same in
+          let none : HasNoData T (latest first.lives) again.inode = subst (λ (i : List ℕ). HasNoData T (latest first.lives) i) (sym same) k.none in
+          let spare : KeepsNumber library_layout first.lives fs None (inode_links again.inode) n = subst (λ (i : List ℕ). KeepsNumber library_layout first.lives fs None (inode_links i) n) own (k.spares n (inode_links may.inode) may.some may.spares) in
+          let items = c.deref.result.now in
+          let edit = edit_at (64 * again.place) bytes [] items None in
+          finishes T fs again.block edit array first new _ _ k.stage c.put_inode.result (c.put_inode.ensures.put T types)
+          (subst (λ (ds : List ℕ). ShortEdit T first fs again.block (edit_at (64 * again.place) bytes [] ds None)) (sym (c.deref.ensures.value ∙ c.in_ok-drops.ensures)) (inode_short T fs array first k.stage n again is2 exact2 none bytes c.free.ensures))
+          (λ entry done.
+          let x = inode_goes T fs array first k.stage n again is2 exact2 none bytes c.free.ensures spare new items entry done in
+          (x.0, given_up_then T fs array old first new n found.inode k x.1))
+          (λ fault left told. pointers_emptied T fs array old first new n found.inode exact k left again.block (home_of first fs n again.block again.place is2.stands) fault (edit, told));
+      order = λ T array e s.
+          let exact = c.in_ok-found.ensures.exact (subst IsLibrary (sym e) s.library) in
+          let under = reached_pointers T fs array old s n found is exact block points in
+          let put = c.in_ok-empty_pointers.ensures.put T e under in
+          let k = empties T fs array old s n found is exact block points first put in
+          let same : again.inode ≡ found.inode = same_ok again.inode found.inode (c.in_ok-found-2.ensures.exact (subst IsLibrary (sym (c.empty_pointers.ensures.types ∙ e)) s.library) ∙ sym k.same) in
+          let items = c.deref.ensures.value ∙ (c.in_ok-drops.ensures ∙ ap data_of_inode same) in
+          let put1 = subst (λ (ds : List ℕ). Proposed T fs again.block (edit_at (64 * again.place) c.free.result [] ds None) first new c.put_inode.result) items (c.put_inode.ensures.put T (c.empty_pointers.ensures.types ∙ e)) in
+          let put2 = subst (λ (b : List ℕ). Proposed T fs again.block (edit_at (64 * again.place) b [] (data_of_inode found.inode) None) first new c.put_inode.result) c.free.ensures put1 in
+          gives_up_order T s.library fs s.few old first new s.keeps.consistent n found.inode exact block points under put again.block again.place (home_of first fs n again.block again.place at) at.at c.put_inode.result
+          (one_order T fs again.block (edit_at (64 * again.place) (replicate 64 0) [] (data_of_inode found.inode) None) first new c.put_inode.result put2);
+    }

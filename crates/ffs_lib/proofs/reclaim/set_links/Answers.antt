@@ -1,10 +1,18 @@
-use Rattle.std.proofs.Common.{◌≡◌, ◌-◌, ◌≤◌, ◌*◌, ◌∙◌, ℕ, List, [], None, ap, arith, inl, subst, sym}
+use Rattle.std.proofs.Common.{◌≡◌, ◌-◌, ◌≤◌, ◌*◌, ◌∙◌, ℕ, List, [], ◌∷◌, None, ap, arith, inl, refl, subst, sym}
+use Rattle.std.specs.Int.{w16, to_le_bytes}
+use Rattle.xn_model.specs.Lists.{put}
+use Rattle.ffs_model.specs.Cuts.{latest}
 use Rattle.ffs_model.specs.Volumes.{KeepsNumber}
 use Rattle.ffs_model.specs.Library.{IsLibrary, inode_links, library_layout}
 use Rattle.ffs_lookup.specs.declared.repairs.Repair.TheVariants.{SetLinks}
 use Rattle.ffs_lookup.proofs.ForCallers.{same_ok}
 use Rattle.ffs_lib.specs.Edits.{edit_at}
+use Rattle.ffs_lib.specs.Orders.{Edits, Orders}
+use Rattle.ffs_lib.specs.RepairOrder.{repaired_edits}
+use Rattle.ffs_lib.specs.Steps.{Proposed}
 use Rattle.ffs_lib.proofs.Laws.{finishes, home_of, more_short}
+use Rattle.ffs_lib.proofs.Orders.{none_order, one_order}
+use Rattle.ffs_lib.proofs.RepairOrder.{at_inode}
 use Rattle.ffs_lib.proofs.Reclaiming.{links_go, nothing_repaired, set_no_keep}
 use Rattle.ffs_lib.proofs.reclaim.set_links.Goals as goal
 
@@ -28,3 +36,21 @@ returns-clause-ends g c = λ T array e s may.
     (more_short T fs array old s n found is exact bytes c.put_inode.ensures.whole left c.set_links.ensures.fields)
     (links_go T fs array old s n found is exact bytes c.put_inode.ensures.whole left c.set_links.ensures.fields less spare new)
     (λ fault same told. nothing_repaired T fs old new n (SetLinks left) (set_no_keep left) found.inode exact same found.block (inl (home_of old fs n found.block found.place is.stands)) fault (edit, told))
+
+pub returns-in_err-block-clause-order : goal.returns-in_err-block-clause-order
+returns-in_err-block-clause-order g c = λ T array e s.
+    let old = g.S.Store.state_of c.args.store.now in
+    none_order T c.args.fs.number (repaired_edits (latest old.lives) c.args.fs.number c.args.number (SetLinks c.args.links)) old old refl _ c.from_residual.result c.from_residual.ensures.1
+
+pub returns-clause-order : goal.returns-clause-order
+returns-clause-order g c = λ T array e s.
+    let fs = c.args.fs.number in
+    let n = c.args.number in
+    let old = g.S.Store.state_of c.args.store.now in
+    let new = g.S.Store.state_of c.put_inode.new.store in
+    let found = c.in_ok-block.field-0 in
+    let at = c.in_ok-block.ensures.found.stands in
+    let exact = c.in_ok-block.ensures.exact (subst IsLibrary (sym e) s.library) in
+    let put1 = subst (λ (b : List ℕ). Proposed T fs found.block (edit_at (64 * found.place) b [] [] None) old new c.put_inode.result) c.set_links.ensures.bytes (c.put_inode.ensures.put T e) in
+    subst (λ (edits : Edits). Orders T fs edits old new c.put_inode.result) (at_inode (latest old.lives) fs n found.block found.place found.inode (λ h p m. (h, edit_at (64 * p) (put m 2 (to_le_bytes w16 c.args.links)) [] [] None) ∷ []) (home_of old fs n found.block found.place at) at.at exact)
+    (one_order T fs found.block (edit_at (64 * found.place) (put found.inode 2 (to_le_bytes w16 c.args.links)) [] [] None) old new c.put_inode.result put1)

@@ -6,6 +6,7 @@ use Rattle.ffs_lookup.proofs.ForCallers.{gives_err}
 use Rattle.ffs_lib.specs.Making.{top_inodes, without_block}
 use Rattle.ffs_lib.proofs.Laws.{begins_by, begins_err, told_by}
 use Rattle.ffs_lib.proofs.Making.{first_begun, first_made, first_stage, not_begun, still_found}
+use Rattle.ffs_lib.proofs.NewOrder.{made_order}
 use Rattle.ffs_lib.proofs.setup.make_first.Goals as goal
 
 pub returns-in_err-block-clause-ends : goal.returns-in_err-block-clause-ends
@@ -31,3 +32,15 @@ returns-clause-ends g c = λ T e s found.
     (c.attach_first-attached.ensures.ends T types (first_stage T fs zeroth s block number first done) (still_found T fs zeroth s block number first done c.args.begun found) (first_begun T fs zeroth s block number first done))
     c.forgotten.ensures.same c.forgotten.ensures.ok
     (subst (λ (t : Types). OnErr c.forgotten.result (new ≡ without_block t fs block second)) (c.attach_first-attached.ensures.types ∙ types) c.forgotten.ensures.forgotten)
+
+pub returns-clause-order : goal.returns-clause-order
+returns-clause-order g c = λ T e s found.
+    let fs = c.args.fs.number in
+    let zeroth = g.S.Store.state_of c.args.store.now in
+    let first = g.S.Store.state_of c.init.new.self in
+    let block = c.in_ok-block.block in
+    let number = c.in_ok-block.field-0-1 in
+    let done = begins_by (g.S.Store.types_of c.args.store.now) T fs 4 c.first_inodes.result top_inodes zeroth first (block, number) e c.first_inodes.ensures.exact c.in_ok-block.ensures.state in
+    made_order T fs block number zeroth first (g.S.Store.state_of c.attach_first-attached.new.store) (g.S.Store.state_of c.forgotten.new.store) done c.attach_first-attached.result c.forgotten.result c.forgotten.ensures.same
+    (c.attach_first-attached.ensures.order T (c.init.ensures.types ∙ e) (first_stage T fs zeroth s block number first done) (still_found T fs zeroth s block number first done c.args.begun found) (first_begun T fs zeroth s block number first done))
+    c.forgotten.ensures.ok

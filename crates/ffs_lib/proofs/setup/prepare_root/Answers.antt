@@ -5,6 +5,7 @@ use Rattle.xn_model.specs.Calls.{slot_now}
 use Rattle.ffs_lib.specs.Making.{IsBegun, StopsRooting, with_root}
 use Rattle.ffs_lib.proofs.Laws.{fails}
 use Rattle.ffs_lib.proofs.Making.{prepared, prepared_by}
+use Rattle.ffs_lib.proofs.NewOrder.{rooted_new, rooted_there}
 use Rattle.ffs_lib.proofs.setup.prepare_root.Goals as goal
 
 pub returns-then-begun-clause-ends : goal.returns-then-begun-clause-ends
@@ -29,3 +30,11 @@ returns-clause-ends g c = λ T block e s found b.
     let old = g.S.Store.state_of c.args.store.now in
     let none : Ok false ≡ make_in (latest old.lives) fs = ap (λ (t : Bool). Ok t) (sym c.if-begun.false) ∙ found in
     prepared T fs old s none block b (g.S.Store.state_of c.make_root.new.store) (Ok c.in_ok-make_root.field-0) (c.in_ok-make_root.ensures.rooted T e)
+
+pub returns-then-begun-clause-order : goal.returns-then-begun-clause-order
+returns-then-begun-clause-order g c = λ T e s found.
+    rooted_there T c.args.fs.number (g.S.Store.state_of c.args.store.now) (ap (λ (t : Bool). Ok t) (sym c.if-begun.true) ∙ found)
+
+pub returns-clause-order : goal.returns-clause-order
+returns-clause-order g c = λ T e s found.
+    rooted_new T c.args.fs.number (g.S.Store.state_of c.args.store.now) (g.S.Store.state_of c.make_root.new.store) c.in_ok-make_root.field-0 (ap (λ (t : Bool). Ok t) (sym c.if-begun.false) ∙ found) (c.in_ok-make_root.ensures.rooted T e)

@@ -1,4 +1,4 @@
-use Rattle.std.proofs.Common.{ℕ, Option, subst}
+use Rattle.std.proofs.Common.{ℕ, Option, subst, sym}
 use Rattle.ffs_model.specs.Library.{library_layout}
 use Rattle.ffs_model.specs.Volumes.{VolumeKeeps}
 use Rattle.ffs_lib.proofs.Making.{no_numbers}
@@ -15,3 +15,6 @@ returns-clause-ok g c =
       keeps = subst (λ (array : ℕ → Option ℕ). VolumeKeeps T library_layout fs.number array state) no_numbers
           (opened T state c.look_up_volume.ensures.rules fs.number fs.few c.requires (c.in_ok-look_up_volume.ensures.exact c.requires.library));
     }
+
+pub returns-clause-added : goal.returns-clause-added
+returns-clause-added g c = sym no_numbers

@@ -27,8 +27,8 @@ use Rattle.ffs_lib.proofs.ValueLists.{both_true}
 use Rattle.ffs_lib.proofs.ValueMoved.{moved_leads}
 use Rattle.ffs_lib.proofs.volume.Volume.rename.Goals as goal
 
-pub returns-in_err-entered-clause-answers : goal.returns-in_err-entered-clause-answers
-returns-in_err-entered-clause-answers g c =
+pub returns-in_err-entered : goal.returns-in_err-entered
+returns-in_err-entered g c =
     let T = g.S.Store.types_of c.args.store.now in
     let fs = c.args.self.now.fs in
     let array = edits_of c.args.self.now.added in
@@ -45,247 +45,28 @@ returns-in_err-entered-clause-answers g c =
     let s = staged c.requires fs.few in
     let new = g.S.Store.state_of c.name_again.new.store in
     let a = c.in_err-entered.ensures.ends T array x.own x.to refl s x.is_own x.few x.is_to x.room in
-    let k = answer T lib fs.number fs.few d name other new_name slot old x exact in
     let names = both_true (is_name name) (is_name new_name) x.good c.in_ok-slot.ensures.name in
-    let found = first_value u x.from name slot x.first in
-    does_found T fs.number (renamed (files_of u fs.number) d name other new_name) (moved (files_of u fs.number) d (found.at, slot.inode) other new_name k.0) (renamed_stages (files_of u fs.number) d name other new_name)
-    (stages T lib fs.number fs.few d name other new_name slot old x exact) (λ y. ⊥) (StopsNaming T fs.number old new other new_name slot.inode) old new c.from_residual-in_err-entered.result k.2
-    (rename_stages T lib fs.number fs.few d name other new_name slot old x exact names) (λ y none. absurd none) (naming_stage T lib fs.number fs.few d name other new_name slot old x exact new)
-    (stops_err _ (StopsNaming T fs.number old new other new_name slot.inode) c.from_residual-in_err-entered.result _ c.from_residual-in_err-entered.ensures.1 a.1)
-
-pub returns-in_err-entered-clause-inodes : goal.returns-in_err-entered-clause-inodes
-returns-in_err-entered-clause-inodes g c = λ found is.
-    let T = g.S.Store.types_of c.args.store.now in
-    let fs = c.args.self.now.fs in
-    let array = edits_of c.args.self.now.added in
-    let old = g.S.Store.state_of c.args.store.now in
-    let u = latest old.lives in
-    let d = c.args.directory in
-    let name = c.args.name.now in
-    let other = c.args.other in
-    let new_name = c.args.new_name.now in
-    let slot = c.in_ok-slot.slot in
-    let lib = c.requires.library in
-    let exact = c.in_ok-slot.ensures.exact lib in
-    let x = can_move u fs.number d name other new_name slot exact in
-    let s = staged c.requires fs.few in
-    let a = c.in_err-entered.ensures.ends T array x.own x.to refl s x.is_own x.few x.is_to x.room in
-    let new = g.S.Store.state_of c.name_again.new.store in
-    let same = same_ok slot found (exact ∙ sym is) in
-    subst (λ (y : Slot). MovedInodes u (latest new.lives) fs.number d other y.inode) same (naming_inodes T fs.number d other slot.inode new_name old new _ a.1.1)
-
-pub returns-in_err-entered-clause-keeps : goal.returns-in_err-entered-clause-keeps
-returns-in_err-entered-clause-keeps g c =
-    let T = g.S.Store.types_of c.args.store.now in
-    let fs = c.args.self.now.fs in
-    let array = edits_of c.args.self.now.added in
-    let old = g.S.Store.state_of c.args.store.now in
-    let u = latest old.lives in
-    let d = c.args.directory in
-    let name = c.args.name.now in
-    let other = c.args.other in
-    let new_name = c.args.new_name.now in
-    let slot = c.in_ok-slot.slot in
-    let lib = c.requires.library in
-    let exact = c.in_ok-slot.ensures.exact lib in
-    let x = can_move u fs.number d name other new_name slot exact in
-    let s = staged c.requires fs.few in
-    let a = c.in_err-entered.ensures.ends T array x.own x.to refl s x.is_own x.few x.is_to x.room in
-    record { library = lib; keeps = a.0.keeps }
-
-pub returns-in_err-entry-clause-answers : goal.returns-in_err-entry-clause-answers
-returns-in_err-entry-clause-answers g c =
-    let T = g.S.Store.types_of c.args.store.now in
-    let fs = c.args.self.now.fs in
-    let array = edits_of c.args.self.now.added in
-    let old = g.S.Store.state_of c.args.store.now in
-    let u = latest old.lives in
-    let d = c.args.directory in
-    let name = c.args.name.now in
-    let other = c.args.other in
-    let new_name = c.args.new_name.now in
-    let slot = c.in_ok-slot.slot in
-    let lib = c.requires.library in
-    let exact = c.in_ok-slot.ensures.exact lib in
-    let x = can_move u fs.number d name other new_name slot exact in
-    let s = staged c.requires fs.few in
-    let a = c.in_ok-entered.ensures.ends T array x.own x.to refl s x.is_own x.few x.is_to x.room in
-    let middle = g.S.Store.state_of c.name_again.new.store in
-    let w = latest middle.lives in
-    let lib2 = subst IsLibrary (sym c.name_again.ensures.types) lib in
-    absurd (never slot _ (still_there u w fs.number d name other new_name slot x a.1.0 ∙ sym (c.in_err-entry.ensures.exact lib2)))
-
-pub returns-in_err-entry-clause-inodes : goal.returns-in_err-entry-clause-inodes
-returns-in_err-entry-clause-inodes g c = λ found is.
-    let T = g.S.Store.types_of c.args.store.now in
-    let fs = c.args.self.now.fs in
-    let array = edits_of c.args.self.now.added in
-    let old = g.S.Store.state_of c.args.store.now in
-    let u = latest old.lives in
-    let d = c.args.directory in
-    let name = c.args.name.now in
-    let other = c.args.other in
-    let new_name = c.args.new_name.now in
-    let slot = c.in_ok-slot.slot in
-    let lib = c.requires.library in
-    let exact = c.in_ok-slot.ensures.exact lib in
-    let x = can_move u fs.number d name other new_name slot exact in
-    let s = staged c.requires fs.few in
-    let a = c.in_ok-entered.ensures.ends T array x.own x.to refl s x.is_own x.few x.is_to x.room in
-    let middle = g.S.Store.state_of c.name_again.new.store in
-    let w = latest middle.lives in
-    let lib2 = subst IsLibrary (sym c.name_again.ensures.types) lib in
-    absurd (never slot _ (still_there u w fs.number d name other new_name slot x a.1.0 ∙ sym (c.in_err-entry.ensures.exact lib2)))
-
-pub returns-in_err-entry-clause-keeps : goal.returns-in_err-entry-clause-keeps
-returns-in_err-entry-clause-keeps g c =
-    let T = g.S.Store.types_of c.args.store.now in
-    let fs = c.args.self.now.fs in
-    let array = edits_of c.args.self.now.added in
-    let old = g.S.Store.state_of c.args.store.now in
-    let u = latest old.lives in
-    let d = c.args.directory in
-    let name = c.args.name.now in
-    let other = c.args.other in
-    let new_name = c.args.new_name.now in
-    let slot = c.in_ok-slot.slot in
-    let lib = c.requires.library in
-    let exact = c.in_ok-slot.ensures.exact lib in
-    let x = can_move u fs.number d name other new_name slot exact in
-    let s = staged c.requires fs.few in
-    let a = c.in_ok-entered.ensures.ends T array x.own x.to refl s x.is_own x.few x.is_to x.room in
-    record { library = lib; keeps = a.0.keeps }
-
-pub returns-clause-answers : goal.returns-clause-answers
-returns-clause-answers g c =
-    let T = g.S.Store.types_of c.args.store.now in
-    let fs = c.args.self.now.fs in
-    let array = edits_of c.args.self.now.added in
-    let old = g.S.Store.state_of c.args.store.now in
-    let u = latest old.lives in
-    let d = c.args.directory in
-    let name = c.args.name.now in
-    let other = c.args.other in
-    let new_name = c.args.new_name.now in
-    let slot = c.in_ok-slot.slot in
-    let lib = c.requires.library in
-    let exact = c.in_ok-slot.ensures.exact lib in
-    let x = can_move u fs.number d name other new_name slot exact in
-    let s = staged c.requires fs.few in
-    let a = c.in_ok-entered.ensures.ends T array x.own x.to refl s x.is_own x.few x.is_to x.room in
-    let middle = g.S.Store.state_of c.name_again.new.store in
-    let w = latest middle.lives in
-    let lib2 = subst IsLibrary (sym c.name_again.ensures.types) lib in
-    let new = g.S.Store.state_of c.remove.new.store in
-    let entry = c.in_ok-entry.entry in
-    let b = c.remove.ensures.ends T array c.name_again.ensures.types a.0 a.1.1 in
-    let one = still_one u w fs.number d name other new_name slot x a.1.0 entry (c.in_ok-entry.ensures.exact lib2) in
-    let linked = linked_own T fs.number array old c.requires.keeps slot c.in_ok-slot.ensures.slot x.own x.is_own in
-    let once = blocks_once T lib middle a.0.keeps.consistent fs.number fs.few in
-    let found = first_value u x.from name slot x.first in
     let k = answer T lib fs.number fs.few d name other new_name slot old x exact in
-    let names = both_true (is_name name) (is_name new_name) x.good c.in_ok-slot.ensures.name in
-    does_found T fs.number (renamed (files_of u fs.number) d name other new_name) (moved (files_of u fs.number) d (found.at, slot.inode) other new_name k.0) (renamed_stages (files_of u fs.number) d name other new_name)
-    (stages T lib fs.number fs.few d name other new_name slot old x exact) (λ y. Unnamed w (latest new.lives) fs.number slot) (StopsUnnaming T fs.number middle new slot) old new c.remove.result k.2
-    (rename_stages T lib fs.number fs.few d name other new_name slot old x exact names)
-    (λ y r. moved_leads u w fs.number d name other new_name slot x a.1.0 once found k.0 k.1 linked (latest new.lives) r y)
-    (unnaming_stage T lib fs.number fs.few d name other new_name slot old x exact middle new a.0.keeps.consistent b.0.keeps.consistent a.1.0)
-    (subst (λ (y : Slot). MatchResult c.remove.result (λ _. Unnamed w (latest new.lives) fs.number y) (Stops (StopsUnnaming T fs.number middle new y))) one b.1)
+    let found = first_value u x.from name slot x.first in
+    record {
+      types = c.name_again.ensures.types;
+      answers =
+          does_found T fs.number (renamed (files_of u fs.number) d name other new_name) (moved (files_of u fs.number) d (found.at, slot.inode) other new_name k.0) (renamed_stages (files_of u fs.number) d name other new_name)
+          (stages T lib fs.number fs.few d name other new_name slot old x exact) (λ y. ⊥) (StopsNaming T fs.number old new other new_name slot.inode) old new c.from_residual-in_err-entered.result k.2
+          (rename_stages T lib fs.number fs.few d name other new_name slot old x exact names) (λ y none. absurd none) (naming_stage T lib fs.number fs.few d name other new_name slot old x exact new)
+          (stops_err _ (StopsNaming T fs.number old new other new_name slot.inode) c.from_residual-in_err-entered.result _ c.from_residual-in_err-entered.ensures.1 a.1);
+      inodes = λ found is.
+          let same = same_ok slot found (exact ∙ sym is) in
+          subst (λ (y : Slot). MovedInodes u (latest new.lives) fs.number d other y.inode) same (naming_inodes T fs.number d other slot.inode new_name old new _ a.1.1);
+      order = λ found is.
+          let o = c.in_err-entered.ensures.order T array x.own x.to refl s x.is_own x.few x.is_to x.room in
+          subst (λ (y : Slot). InOrder T fs.number (moved_parts fs.number y other new_name old.next) old new c.from_residual-in_err-entered.result) (same_ok slot found (exact ∙ sym is))
+          (order_in T fs.number (moved_parts fs.number slot other new_name old.next) old new (naming_stops T fs.number slot other new_name old new c.in_err-entered.field-0.0 o) c.in_err-entered.field-0.0 c.from_residual-in_err-entered.result c.from_residual-in_err-entered.ensures.1);
+      keeps = record { library = lib; keeps = a.0.keeps };
+    }
 
-pub returns-clause-inodes : goal.returns-clause-inodes
-returns-clause-inodes g c = λ found is.
-    let T = g.S.Store.types_of c.args.store.now in
-    let fs = c.args.self.now.fs in
-    let array = edits_of c.args.self.now.added in
-    let old = g.S.Store.state_of c.args.store.now in
-    let u = latest old.lives in
-    let d = c.args.directory in
-    let name = c.args.name.now in
-    let other = c.args.other in
-    let new_name = c.args.new_name.now in
-    let slot = c.in_ok-slot.slot in
-    let lib = c.requires.library in
-    let exact = c.in_ok-slot.ensures.exact lib in
-    let x = can_move u fs.number d name other new_name slot exact in
-    let s = staged c.requires fs.few in
-    let a = c.in_ok-entered.ensures.ends T array x.own x.to refl s x.is_own x.few x.is_to x.room in
-    let middle = g.S.Store.state_of c.name_again.new.store in
-    let w = latest middle.lives in
-    let lib2 = subst IsLibrary (sym c.name_again.ensures.types) lib in
-    let new = g.S.Store.state_of c.remove.new.store in
-    let entry = c.in_ok-entry.entry in
-    let b = c.remove.ensures.ends T array c.name_again.ensures.types a.0 a.1.1 in
-    let one = still_one u w fs.number d name other new_name slot x a.1.0 entry (c.in_ok-entry.ensures.exact lib2) in
-    let linked = linked_own T fs.number array old c.requires.keeps slot c.in_ok-slot.ensures.slot x.own x.is_own in
-    let once = blocks_once T lib middle a.0.keeps.consistent fs.number fs.few in
-    let k = answer T lib fs.number fs.few d name other new_name slot old x exact in
-    let ends = subst (λ (y : Slot). MatchResult c.remove.result (λ _. Unnamed w (latest new.lives) fs.number y) (Stops (StopsUnnaming T fs.number middle new y))) one b.1 in
-    subst (λ (y : Slot). MovedInodes u (latest new.lives) fs.number d other y.inode) (same_ok slot found (exact ∙ sym is)) (go c.remove.result ends
-    (λ r. moved_inodes u w fs.number d name other new_name slot x a.1.0 once k.0 k.1 linked (latest new.lives) r)
-    (λ fault stop. refused_inodes u w fs.number d name other new_name slot x a.1.0 once k.0 k.1 linked T middle new refl fault stop))
-  where
-    go : {A : Type 0} {P : Type 0} {R : FfsFault → Type 0} {Q : Type 0} (r : Result A FfsFault) → MatchResult r (λ _. P) (Stops R) → (P → Q) → ((fault : FfsFault) → R fault → Q) → Q
-    go (Ok y) m f h = f m
-    go (Err fault) m f h = h fault m.1
-
-pub returns-clause-keeps : goal.returns-clause-keeps
-returns-clause-keeps g c =
-    let T = g.S.Store.types_of c.args.store.now in
-    let fs = c.args.self.now.fs in
-    let array = edits_of c.args.self.now.added in
-    let old = g.S.Store.state_of c.args.store.now in
-    let u = latest old.lives in
-    let d = c.args.directory in
-    let name = c.args.name.now in
-    let other = c.args.other in
-    let new_name = c.args.new_name.now in
-    let slot = c.in_ok-slot.slot in
-    let lib = c.requires.library in
-    let exact = c.in_ok-slot.ensures.exact lib in
-    let x = can_move u fs.number d name other new_name slot exact in
-    let s = staged c.requires fs.few in
-    let a = c.in_ok-entered.ensures.ends T array x.own x.to refl s x.is_own x.few x.is_to x.room in
-    let b = c.remove.ensures.ends T array c.name_again.ensures.types a.0 a.1.1 in
-    record { library = lib; keeps = b.0.keeps }
-
-pub returns-in_err-slot-clause-answers : goal.returns-in_err-slot-clause-answers
-returns-in_err-slot-clause-answers g c =
-    let old = g.S.Store.state_of c.args.store.now in
-    let fs = c.args.self.now.fs.number in
-    let u = latest old.lives in
-    let d = c.args.directory in
-    let name = c.args.name.now in
-    let other = c.args.other in
-    let new_name = c.args.new_name.now in
-    does_fault (g.S.Store.types_of c.args.store.now) fs (rename_in u fs d name other new_name) (renamed (files_of u fs) d name other new_name) (renamed_stages (files_of u fs) d name other new_name) old old c.from_residual.result
-    (renamed_told u fs d name other new_name) (search rules)
-
-pub returns-in_err-slot-clause-inodes : goal.returns-in_err-slot-clause-inodes
-returns-in_err-slot-clause-inodes g c = λ entry e. absurd (never entry _ (e ∙ sym (c.in_err-slot.ensures.exact c.requires.library)))
-
-pub returns-in_err-entered-clause-order : goal.returns-in_err-entered-clause-order
-returns-in_err-entered-clause-order g c = λ found is.
-    let T = g.S.Store.types_of c.args.store.now in
-    let fs = c.args.self.now.fs in
-    let array = edits_of c.args.self.now.added in
-    let old = g.S.Store.state_of c.args.store.now in
-    let u = latest old.lives in
-    let d = c.args.directory in
-    let name = c.args.name.now in
-    let other = c.args.other in
-    let new_name = c.args.new_name.now in
-    let slot = c.in_ok-slot.slot in
-    let lib = c.requires.library in
-    let exact = c.in_ok-slot.ensures.exact lib in
-    let x = can_move u fs.number d name other new_name slot exact in
-    let s = staged c.requires fs.few in
-    let new = g.S.Store.state_of c.name_again.new.store in
-    let o = c.in_err-entered.ensures.order T array x.own x.to refl s x.is_own x.few x.is_to x.room in
-    subst (λ (y : Slot). InOrder T fs.number (moved_parts fs.number y other new_name old.next) old new c.from_residual-in_err-entered.result) (same_ok slot found (exact ∙ sym is))
-    (order_in T fs.number (moved_parts fs.number slot other new_name old.next) old new (naming_stops T fs.number slot other new_name old new c.in_err-entered.field-0.0 o) c.in_err-entered.field-0.0 c.from_residual-in_err-entered.result c.from_residual-in_err-entered.ensures.1)
-
-pub returns-in_err-entry-clause-order : goal.returns-in_err-entry-clause-order
-returns-in_err-entry-clause-order g c = λ found is.
+pub returns-in_err-entry : goal.returns-in_err-entry
+returns-in_err-entry g c =
     let T = g.S.Store.types_of c.args.store.now in
     let fs = c.args.self.now.fs in
     let array = edits_of c.args.self.now.added in
@@ -305,8 +86,8 @@ returns-in_err-entry-clause-order g c = λ found is.
     let lib2 = subst IsLibrary (sym c.name_again.ensures.types) lib in
     absurd (never slot _ (still_there u w fs.number d name other new_name slot x a.1.0 ∙ sym (c.in_err-entry.ensures.exact lib2)))
 
-pub returns-clause-order : goal.returns-clause-order
-returns-clause-order g c = λ found is.
+pub returns : goal.returns
+returns g c =
     let T = g.S.Store.types_of c.args.store.now in
     let fs = c.args.self.now.fs in
     let array = edits_of c.args.self.now.added in
@@ -322,21 +103,63 @@ returns-clause-order g c = λ found is.
     let x = can_move u fs.number d name other new_name slot exact in
     let s = staged c.requires fs.few in
     let a = c.in_ok-entered.ensures.ends T array x.own x.to refl s x.is_own x.few x.is_to x.room in
-    let o = c.in_ok-entered.ensures.order T array x.own x.to refl s x.is_own x.few x.is_to x.room in
     let middle = g.S.Store.state_of c.name_again.new.store in
     let w = latest middle.lives in
     let lib2 = subst IsLibrary (sym c.name_again.ensures.types) lib in
     let new = g.S.Store.state_of c.remove.new.store in
     let entry = c.in_ok-entry.entry in
-    let entered = c.in_ok-entered.entered in
+    let b = c.remove.ensures.ends T array c.name_again.ensures.types a.0 a.1.1 in
     let one = still_one u w fs.number d name other new_name slot x a.1.0 entry (c.in_ok-entry.ensures.exact lib2) in
-    let m = c.remove.ensures.order T array c.name_again.ensures.types a.0 a.1.1 in
-    let m1 = subst (λ (y : Slot). Orders T fs.number (removed_edits w fs.number y (Some entered) middle.next) middle new c.remove.result) one m in
-    let last = o.3 in
-    let number : entered ≡ middle.next - 1 = omega (arith, last) in
-    let m2 = subst (λ (k : ℕ). Orders T fs.number (removed_edits w fs.number slot (Some k) middle.next) middle new c.remove.result) number m1 in
-    subst (λ (y : Slot). InOrder T fs.number (moved_parts fs.number y other new_name old.next) old new c.remove.result) (same_ok slot found (exact ∙ sym is))
-    (moved_then T fs.number slot other new_name old o.0 middle new o.1 o.2 c.remove.result m2)
+    let linked = linked_own T fs.number array old c.requires.keeps slot c.in_ok-slot.ensures.slot x.own x.is_own in
+    let once = blocks_once T lib middle a.0.keeps.consistent fs.number fs.few in
+    let found = first_value u x.from name slot x.first in
+    let k = answer T lib fs.number fs.few d name other new_name slot old x exact in
+    let names = both_true (is_name name) (is_name new_name) x.good c.in_ok-slot.ensures.name in
+    let ends = subst (λ (y : Slot). MatchResult c.remove.result (λ _. Unnamed w (latest new.lives) fs.number y) (Stops (StopsUnnaming T fs.number middle new y))) one b.1 in
+    record {
+      types = c.remove.ensures.types ∙ c.name_again.ensures.types;
+      answers =
+          does_found T fs.number (renamed (files_of u fs.number) d name other new_name) (moved (files_of u fs.number) d (found.at, slot.inode) other new_name k.0) (renamed_stages (files_of u fs.number) d name other new_name)
+          (stages T lib fs.number fs.few d name other new_name slot old x exact) (λ y. Unnamed w (latest new.lives) fs.number slot) (StopsUnnaming T fs.number middle new slot) old new c.remove.result k.2
+          (rename_stages T lib fs.number fs.few d name other new_name slot old x exact names)
+          (λ y r. moved_leads u w fs.number d name other new_name slot x a.1.0 once found k.0 k.1 linked (latest new.lives) r y)
+          (unnaming_stage T lib fs.number fs.few d name other new_name slot old x exact middle new a.0.keeps.consistent b.0.keeps.consistent a.1.0)
+          ends;
+      inodes = λ found is.
+          subst (λ (y : Slot). MovedInodes u (latest new.lives) fs.number d other y.inode) (same_ok slot found (exact ∙ sym is)) (go c.remove.result ends
+          (λ r. moved_inodes u w fs.number d name other new_name slot x a.1.0 once k.0 k.1 linked (latest new.lives) r)
+          (λ fault stop. refused_inodes u w fs.number d name other new_name slot x a.1.0 once k.0 k.1 linked T middle new refl fault stop));
+      order = λ found is.
+          let o = c.in_ok-entered.ensures.order T array x.own x.to refl s x.is_own x.few x.is_to x.room in
+          let entered = c.in_ok-entered.entered in
+          let m = c.remove.ensures.order T array c.name_again.ensures.types a.0 a.1.1 in
+          let m1 = subst (λ (y : Slot). Orders T fs.number (removed_edits w fs.number y (Some entered) middle.next) middle new c.remove.result) one m in
+          let last = o.3 in
+          let number : entered ≡ middle.next - 1 = omega (arith, last) in
+          let m2 = subst (λ (k : ℕ). Orders T fs.number (removed_edits w fs.number slot (Some k) middle.next) middle new c.remove.result) number m1 in
+          subst (λ (y : Slot). InOrder T fs.number (moved_parts fs.number y other new_name old.next) old new c.remove.result) (same_ok slot found (exact ∙ sym is))
+          (moved_then T fs.number slot other new_name old o.0 middle new o.1 o.2 c.remove.result m2);
+      keeps = record { library = lib; keeps = b.0.keeps };
+    }
+  where
+    go : {A : Type 0} {P : Type 0} {R : FfsFault → Type 0} {Q : Type 0} (r : Result A FfsFault) → MatchResult r (λ _. P) (Stops R) → (P → Q) → ((fault : FfsFault) → R fault → Q) → Q
+    go (Ok y) m f h = f m
+    go (Err fault) m f h = h fault m.1
+
+pub returns-in_err-slot-clause-answers : goal.returns-in_err-slot-clause-answers
+returns-in_err-slot-clause-answers g c =
+    let old = g.S.Store.state_of c.args.store.now in
+    let fs = c.args.self.now.fs.number in
+    let u = latest old.lives in
+    let d = c.args.directory in
+    let name = c.args.name.now in
+    let other = c.args.other in
+    let new_name = c.args.new_name.now in
+    does_fault (g.S.Store.types_of c.args.store.now) fs (rename_in u fs d name other new_name) (renamed (files_of u fs) d name other new_name) (renamed_stages (files_of u fs) d name other new_name) old old c.from_residual.result
+    (renamed_told u fs d name other new_name) (search rules)
+
+pub returns-in_err-slot-clause-inodes : goal.returns-in_err-slot-clause-inodes
+returns-in_err-slot-clause-inodes g c = λ entry e. absurd (never entry _ (e ∙ sym (c.in_err-slot.ensures.exact c.requires.library)))
 
 pub returns-in_err-slot-clause-order : goal.returns-in_err-slot-clause-order
 returns-in_err-slot-clause-order g c = λ entry e. absurd (never entry _ (e ∙ sym (c.in_err-slot.ensures.exact c.requires.library)))

@@ -18,8 +18,8 @@ use Rattle.ffs_lib.proofs.Tops.{never}
 use Rattle.ffs_lib.proofs.ValueReplaced.{replaced_told}
 use Rattle.ffs_lib.proofs.volume.Volume.replace.Goals as goal
 
-pub returns-in_err-from-clause-answers : goal.returns-in_err-from-clause-answers
-returns-in_err-from-clause-answers g c =
+pub returns-in_err-from : goal.returns-in_err-from
+returns-in_err-from g c =
     let T = g.S.Store.types_of c.args.store.now in
     let fs = c.args.self.now.fs in
     let old = g.S.Store.state_of c.args.store.now in
@@ -28,14 +28,19 @@ returns-in_err-from-clause-answers g c =
     let name = c.args.name.now in
     let other = c.args.other in
     let other_name = c.args.other_name.now in
-    does_fault T fs.number (replace_in u fs.number d name other other_name) (replaced (files_of u fs.number) d name other other_name) (replaced_stages (files_of u fs.number) d name other other_name) old old c.from_residual.result
-    (replaced_told u fs.number d name other other_name) (search rules)
+    record {
+      types = search rules;
+      answers =
+          does_fault T fs.number (replace_in u fs.number d name other other_name) (replaced (files_of u fs.number) d name other other_name) (replaced_stages (files_of u fs.number) d name other other_name) old old c.from_residual.result
+          (replaced_told u fs.number d name other other_name) (search rules);
+      inodes = λ from to is. absurd (never (from, to) _ (is ∙ sym (c.in_err-from.ensures.exact c.requires.library)));
+      keeps = search rules;
+      stands = λ from to is apart. absurd (never (from, to) _ (is ∙ sym (c.in_err-from.ensures.exact c.requires.library)));
+      order = λ from to is apart. absurd (never (from, to) _ (is ∙ sym (c.in_err-from.ensures.exact c.requires.library)));
+    }
 
-pub returns-in_err-from-clause-inodes : goal.returns-in_err-from-clause-inodes
-returns-in_err-from-clause-inodes g c = λ from to is. absurd (never (from, to) _ (is ∙ sym (c.in_err-from.ensures.exact c.requires.library)))
-
-pub returns-then-is_same_place-clause-answers : goal.returns-then-is_same_place-clause-answers
-returns-then-is_same_place-clause-answers g c =
+pub returns-then-is_same_place : goal.returns-then-is_same_place
+returns-then-is_same_place g c =
     let T = g.S.Store.types_of c.args.store.now in
     let fs = c.args.self.now.fs in
     let old = g.S.Store.state_of c.args.store.now in
@@ -44,29 +49,32 @@ returns-then-is_same_place-clause-answers g c =
     let name = c.args.name.now in
     let other = c.args.other in
     let other_name = c.args.other_name.now in
-    let from = c.in_ok-from.from in
-    let to = c.in_ok-from.to in
     let lib = c.requires.library in
     let h = c.requires.keeps.consistent in
     let exact = c.in_ok-from.ensures.exact lib in
-    let x = can_replace u fs.number d name other other_name from to exact in
-    does_by T lib old h fs.number fs.few d name other other_name from to x true (from.inode == to.inode) (sym c.if-is_same_place.ensures) refl old (Ok tt) (refl, λ n. refl)
+    record {
+      types = search rules;
+      answers =
+          let from = c.in_ok-from.from in
+          let to = c.in_ok-from.to in
+          let x = can_replace u fs.number d name other other_name from to exact in
+          does_by T lib old h fs.number fs.few d name other other_name from to x true (from.inode == to.inode) (sym c.if-is_same_place.ensures) refl old (Ok tt) (refl, λ n. refl);
+      inodes = λ first second is.
+          let from = c.in_ok-from.from in
+          let to = c.in_ok-from.to in
+          let pair : (from, to) ≡ (first, second) = same_ok (from, to) (first, second) (exact ∙ sym is) in
+          subst (λ (p : Slot × Slot). Replaced old old fs.number d p.0 other p.1 (Ok tt)) pair (itself_done old fs.number d other from to c.in_ok-from.ensures.first c.in_ok-from.ensures.second (sym c.if-is_same_place.ensures));
+      keeps = search rules;
+      stands = λ from to is apart.
+          let pair : (c.in_ok-from.from, c.in_ok-from.to) ≡ (from, to) = same_ok (c.in_ok-from.from, c.in_ok-from.to) (from, to) (c.in_ok-from.ensures.exact c.requires.library ∙ sym is) in
+          absurd (apart (subst (λ (p : Slot × Slot). p.0.inode ≡ p.1.inode) pair (at_one_place old c.args.self.now.fs.number c.in_ok-from.from c.in_ok-from.to c.in_ok-from.ensures.first c.in_ok-from.ensures.second (sym c.if-is_same_place.ensures))));
+      order = λ from to is apart.
+          let pair : (c.in_ok-from.from, c.in_ok-from.to) ≡ (from, to) = same_ok (c.in_ok-from.from, c.in_ok-from.to) (from, to) (c.in_ok-from.ensures.exact c.requires.library ∙ sym is) in
+          absurd (apart (subst (λ (p : Slot × Slot). p.0.inode ≡ p.1.inode) pair (at_one_place old c.args.self.now.fs.number c.in_ok-from.from c.in_ok-from.to c.in_ok-from.ensures.first c.in_ok-from.ensures.second (sym c.if-is_same_place.ensures))));
+    }
 
-pub returns-then-is_same_place-clause-inodes : goal.returns-then-is_same_place-clause-inodes
-returns-then-is_same_place-clause-inodes g c = λ first second is.
-    let fs = c.args.self.now.fs in
-    let old = g.S.Store.state_of c.args.store.now in
-    let d = c.args.directory in
-    let other = c.args.other in
-    let from = c.in_ok-from.from in
-    let to = c.in_ok-from.to in
-    let lib = c.requires.library in
-    let exact = c.in_ok-from.ensures.exact lib in
-    let pair : (from, to) ≡ (first, second) = same_ok (from, to) (first, second) (exact ∙ sym is) in
-    subst (λ (p : Slot × Slot). Replaced old old fs.number d p.0 other p.1 (Ok tt)) pair (itself_done old fs.number d other from to c.in_ok-from.ensures.first c.in_ok-from.ensures.second (sym c.if-is_same_place.ensures))
-
-pub returns-then-from-to-clause-answers : goal.returns-then-from-to-clause-answers
-returns-then-from-to-clause-answers g c =
+pub returns-then-from-to : goal.returns-then-from-to
+returns-then-from-to g c =
     let T = g.S.Store.types_of c.args.store.now in
     let fs = c.args.self.now.fs in
     let old = g.S.Store.state_of c.args.store.now in
@@ -75,97 +83,61 @@ returns-then-from-to-clause-answers g c =
     let name = c.args.name.now in
     let other = c.args.other in
     let other_name = c.args.other_name.now in
-    let from = c.in_ok-from.from in
-    let to = c.in_ok-from.to in
     let lib = c.requires.library in
     let h = c.requires.keeps.consistent in
     let exact = c.in_ok-from.ensures.exact lib in
-    let x = can_replace u fs.number d name other other_name from to exact in
     let new = g.S.Store.state_of c.remove.new.store in
     let one = c.if-from-to.true in
     let b = c.remove.ensures.ends T (edits_of c.args.self.now.added) refl (staged c.requires fs.few) refl in
-    same_does T lib old h fs.number fs.few d name other other_name from to x (sym c.if-is_same_place.ensures) one new b.0.keeps.consistent c.remove.result b.1
+    record {
+      types = search rules;
+      answers =
+          let from = c.in_ok-from.from in
+          let to = c.in_ok-from.to in
+          let x = can_replace u fs.number d name other other_name from to exact in
+          same_does T lib old h fs.number fs.few d name other other_name from to x (sym c.if-is_same_place.ensures) one new b.0.keeps.consistent c.remove.result b.1;
+      inodes = λ first second is.
+          let from = c.in_ok-from.from in
+          let to = c.in_ok-from.to in
+          let x = can_replace u fs.number d name other other_name from to exact in
+          let pair : (from, to) ≡ (first, second) = same_ok (from, to) (first, second) (exact ∙ sym is) in
+          let f = finds_first T lib old h fs.number fs.few d name other other_name from to x in
+          subst (λ (p : Slot × Slot). Replaced old new fs.number d p.0 other p.1 c.remove.result) pair
+          (same_done old new fs.number d other from to c.remove.result (other_place from to (sym c.if-is_same_place.ensures)) one (unnames T lib fs.number fs.few d name from old new f b.0.keeps.consistent c.remove.result b.1));
+      keeps =
+          let x = c.remove.ensures.ends (g.S.Store.types_of c.args.store.now) (edits_of c.args.self.now.added) refl (staged c.requires c.args.self.now.fs.few) refl in
+          record { library = c.requires.library; keeps = x.0.keeps };
+      stands = λ from to is apart.
+          let pair : (c.in_ok-from.from, c.in_ok-from.to) ≡ (from, to) = same_ok (c.in_ok-from.from, c.in_ok-from.to) (from, to) (c.in_ok-from.ensures.exact c.requires.library ∙ sym is) in
+          absurd (apart (subst (λ (p : Slot × Slot). p.0.inode ≡ p.1.inode) pair c.if-from-to.true));
+      order = λ from to is apart.
+          let pair : (c.in_ok-from.from, c.in_ok-from.to) ≡ (from, to) = same_ok (c.in_ok-from.from, c.in_ok-from.to) (from, to) (c.in_ok-from.ensures.exact c.requires.library ∙ sym is) in
+          absurd (apart (subst (λ (p : Slot × Slot). p.0.inode ≡ p.1.inode) pair c.if-from-to.true));
+    }
 
-pub returns-then-from-to-clause-inodes : goal.returns-then-from-to-clause-inodes
-returns-then-from-to-clause-inodes g c = λ first second is.
-    let T = g.S.Store.types_of c.args.store.now in
-    let fs = c.args.self.now.fs in
-    let old = g.S.Store.state_of c.args.store.now in
-    let u = latest old.lives in
-    let d = c.args.directory in
-    let name = c.args.name.now in
-    let other = c.args.other in
-    let other_name = c.args.other_name.now in
-    let from = c.in_ok-from.from in
-    let to = c.in_ok-from.to in
-    let lib = c.requires.library in
-    let h = c.requires.keeps.consistent in
-    let exact = c.in_ok-from.ensures.exact lib in
-    let x = can_replace u fs.number d name other other_name from to exact in
-    let pair : (from, to) ≡ (first, second) = same_ok (from, to) (first, second) (exact ∙ sym is) in
-    let new = g.S.Store.state_of c.remove.new.store in
-    let one = c.if-from-to.true in
-    let b = c.remove.ensures.ends T (edits_of c.args.self.now.added) refl (staged c.requires fs.few) refl in
-    let f = finds_first T lib old h fs.number fs.few d name other other_name from to x in
-    subst (λ (p : Slot × Slot). Replaced old new fs.number d p.0 other p.1 c.remove.result) pair
-    (same_done old new fs.number d other from to c.remove.result (other_place from to (sym c.if-is_same_place.ensures)) one (unnames T lib fs.number fs.few d name from old new f b.0.keeps.consistent c.remove.result b.1))
-
-pub returns-then-from-to-clause-keeps : goal.returns-then-from-to-clause-keeps
-returns-then-from-to-clause-keeps g c =
-    let x = c.remove.ensures.ends (g.S.Store.types_of c.args.store.now) (edits_of c.args.self.now.added) refl (staged c.requires c.args.self.now.fs.few) refl in
-    record { library = c.requires.library; keeps = x.0.keeps }
-
-pub returns-clause-inodes : goal.returns-clause-inodes
-returns-clause-inodes g c = λ first second is.
-    let fs = c.args.self.now.fs in
+pub returns : goal.returns
+returns g c =
     let old = g.S.Store.state_of c.args.store.now in
     let d = c.args.directory in
     let other = c.args.other in
-    let from = c.in_ok-from.from in
-    let to = c.in_ok-from.to in
     let lib = c.requires.library in
     let exact = c.in_ok-from.ensures.exact lib in
-    let pair : (from, to) ≡ (first, second) = same_ok (from, to) (first, second) (exact ∙ sym is) in
     let new = g.S.Store.state_of c.name_over.new.store in
-    subst (λ (p : Slot × Slot). Replaced old new fs.number d p.0 other p.1 c.name_over.result) pair (another_done old new fs.number d other from to c.name_over.result c.if-from-to.false c.name_over.ensures.leaves.3)
-
-pub returns-in_err-from-clause-stands : goal.returns-in_err-from-clause-stands
-returns-in_err-from-clause-stands g c = λ from to is apart. absurd (never (from, to) _ (is ∙ sym (c.in_err-from.ensures.exact c.requires.library)))
-
-pub returns-then-is_same_place-clause-stands : goal.returns-then-is_same_place-clause-stands
-returns-then-is_same_place-clause-stands g c = λ from to is apart.
-    let old = g.S.Store.state_of c.args.store.now in
-    let pair : (c.in_ok-from.from, c.in_ok-from.to) ≡ (from, to) = same_ok (c.in_ok-from.from, c.in_ok-from.to) (from, to) (c.in_ok-from.ensures.exact c.requires.library ∙ sym is) in
-    absurd (apart (subst (λ (p : Slot × Slot). p.0.inode ≡ p.1.inode) pair (at_one_place old c.args.self.now.fs.number c.in_ok-from.from c.in_ok-from.to c.in_ok-from.ensures.first c.in_ok-from.ensures.second (sym c.if-is_same_place.ensures))))
-
-pub returns-then-from-to-clause-stands : goal.returns-then-from-to-clause-stands
-returns-then-from-to-clause-stands g c = λ from to is apart.
-    let pair : (c.in_ok-from.from, c.in_ok-from.to) ≡ (from, to) = same_ok (c.in_ok-from.from, c.in_ok-from.to) (from, to) (c.in_ok-from.ensures.exact c.requires.library ∙ sym is) in
-    absurd (apart (subst (λ (p : Slot × Slot). p.0.inode ≡ p.1.inode) pair c.if-from-to.true))
-
-pub returns-clause-stands : goal.returns-clause-stands
-returns-clause-stands g c = λ from to is apart.
-    let old = g.S.Store.state_of c.args.store.now in
-    let pair : (c.in_ok-from.from, c.in_ok-from.to) ≡ (from, to) = same_ok (c.in_ok-from.from, c.in_ok-from.to) (from, to) (c.in_ok-from.ensures.exact c.requires.library ∙ sym is) in
-    subst (λ (p : Slot × Slot). NamesStand old (g.S.Store.state_of c.name_over.new.store) p.0 p.1) pair c.name_over.ensures.leaves.1
-
-pub returns-in_err-from-clause-order : goal.returns-in_err-from-clause-order
-returns-in_err-from-clause-order g c = λ from to is apart. absurd (never (from, to) _ (is ∙ sym (c.in_err-from.ensures.exact c.requires.library)))
-
-pub returns-then-is_same_place-clause-order : goal.returns-then-is_same_place-clause-order
-returns-then-is_same_place-clause-order g c = λ from to is apart.
-    let old = g.S.Store.state_of c.args.store.now in
-    let pair : (c.in_ok-from.from, c.in_ok-from.to) ≡ (from, to) = same_ok (c.in_ok-from.from, c.in_ok-from.to) (from, to) (c.in_ok-from.ensures.exact c.requires.library ∙ sym is) in
-    absurd (apart (subst (λ (p : Slot × Slot). p.0.inode ≡ p.1.inode) pair (at_one_place old c.args.self.now.fs.number c.in_ok-from.from c.in_ok-from.to c.in_ok-from.ensures.first c.in_ok-from.ensures.second (sym c.if-is_same_place.ensures))))
-
-pub returns-then-from-to-clause-order : goal.returns-then-from-to-clause-order
-returns-then-from-to-clause-order g c = λ from to is apart.
-    let pair : (c.in_ok-from.from, c.in_ok-from.to) ≡ (from, to) = same_ok (c.in_ok-from.from, c.in_ok-from.to) (from, to) (c.in_ok-from.ensures.exact c.requires.library ∙ sym is) in
-    absurd (apart (subst (λ (p : Slot × Slot). p.0.inode ≡ p.1.inode) pair c.if-from-to.true))
-
-pub returns-clause-order : goal.returns-clause-order
-returns-clause-order g c = λ from to is apart.
-    let old = g.S.Store.state_of c.args.store.now in
-    let fs = c.args.self.now.fs.number in
-    let pair : (c.in_ok-from.from, c.in_ok-from.to) ≡ (from, to) = same_ok (c.in_ok-from.from, c.in_ok-from.to) (from, to) (c.in_ok-from.ensures.exact c.requires.library ∙ sym is) in
-    subst (λ (p : Slot × Slot). InOrder (g.S.Store.types_of c.args.store.now) fs (replaced_parts fs p.0 p.1 old.next) old (g.S.Store.state_of c.name_over.new.store) c.name_over.result) pair c.name_over.ensures.leaves.4
+    record {
+      types = search rules;
+      answers = search rules;
+      inodes = λ first second is.
+          let fs = c.args.self.now.fs in
+          let from = c.in_ok-from.from in
+          let to = c.in_ok-from.to in
+          let pair : (from, to) ≡ (first, second) = same_ok (from, to) (first, second) (exact ∙ sym is) in
+          subst (λ (p : Slot × Slot). Replaced old new fs.number d p.0 other p.1 c.name_over.result) pair (another_done old new fs.number d other from to c.name_over.result c.if-from-to.false c.name_over.ensures.leaves.3);
+      keeps = search rules;
+      stands = λ from to is apart.
+          let pair : (c.in_ok-from.from, c.in_ok-from.to) ≡ (from, to) = same_ok (c.in_ok-from.from, c.in_ok-from.to) (from, to) (c.in_ok-from.ensures.exact c.requires.library ∙ sym is) in
+          subst (λ (p : Slot × Slot). NamesStand old (g.S.Store.state_of c.name_over.new.store) p.0 p.1) pair c.name_over.ensures.leaves.1;
+      order = λ from to is apart.
+          let fs = c.args.self.now.fs.number in
+          let pair : (c.in_ok-from.from, c.in_ok-from.to) ≡ (from, to) = same_ok (c.in_ok-from.from, c.in_ok-from.to) (from, to) (c.in_ok-from.ensures.exact c.requires.library ∙ sym is) in
+          subst (λ (p : Slot × Slot). InOrder (g.S.Store.types_of c.args.store.now) fs (replaced_parts fs p.0 p.1 old.next) old (g.S.Store.state_of c.name_over.new.store) c.name_over.result) pair c.name_over.ensures.leaves.4;
+    }

@@ -1,72 +1,41 @@
-use Rattle.ffs_lookup.specs.declared.places.Slot.{Slot}
-use Rattle.ffs_lib.specs.Orders.{Orders, removed_edits}
-use Rattle.std.proofs.Common.{None, subst, refl, rules, sym, ◌∙◌}
+use Rattle.std.proofs.Common.{refl, rules}
 use Rattle.ffs_model.specs.Cuts.{latest}
 use Rattle.ffs_lookup.specs.Newest.{unlink_in}
 use Rattle.ffs_lookup.specs.Files.{unlinked}
 use Rattle.ffs_lookup.specs.FileValues.{files_of}
-use Rattle.ffs_lookup.proofs.ForCallers.{same_ok, unlinked_ok, unlinked_told}
-use Rattle.ffs_lib.specs.Stages.{removed_stages}
+use Rattle.ffs_lookup.proofs.ForCallers.{unlinked_ok, unlinked_told}
 use Rattle.ffs_lib.specs.Volumes.{edits_of}
 use Rattle.ffs_lib.proofs.Laws.{staged}
 use Rattle.ffs_lib.proofs.Removal.{unlink_value}
-use Rattle.ffs_lib.proofs.Staged.{does_fault, removed_does, unnames}
-use Rattle.ffs_lib.proofs.Tops.{never}
+use Rattle.ffs_lib.proofs.Staged.{takes_name, takes_none}
 use Rattle.ffs_lib.proofs.ValueMade.{directory_value}
 use Rattle.ffs_lib.proofs.volume.Volume.unlink.Goals as goal
 
-pub returns-clause-answers : goal.returns-clause-answers
-returns-clause-answers g c =
+pub returns : goal.returns
+returns g c =
     let T = g.S.Store.types_of c.args.store.now in
     let old = g.S.Store.state_of c.args.store.now in
-    let new = g.S.Store.state_of c.remove.new.store in
     let u = latest old.lives in
     let volume = c.args.self.now in
     let fs = volume.fs.number in
     let d = c.args.directory in
     let name = c.args.name.now in
     let slot = c.in_ok-slot.slot in
-    let exact = c.in_ok-slot.ensures.exact c.requires.library in
+    let lib = c.requires.library in
+    let exact = c.in_ok-slot.ensures.exact lib in
     let f = unlink_value u fs d name slot exact in
-    let x = c.remove.ensures.ends T (edits_of volume.added) refl (staged c.requires volume.fs.few) refl in
-    removed_does T c.requires.library fs volume.fs.few d name slot old new f c.requires.keeps.consistent x.0.keeps.consistent (unlinked (files_of u fs) d name)
-    (unlinked_ok u fs d name f.own slot (directory_value u fs d f.own f.is) f.entry exact) c.remove.result x.1
+    let s = staged c.requires volume.fs.few in
+    let x = c.remove.ensures.ends T (edits_of volume.added) refl s refl in
+    let r = takes_name T lib fs volume.fs.few d name (unlink_in u fs d name) (unlinked (files_of u fs) d name) old (g.S.Store.state_of c.remove.new.store) c.requires.keeps.consistent x.0.keeps.consistent slot exact f
+    (unlinked_ok u fs d name f.own slot (directory_value u fs d f.own f.is) f.entry exact) c.remove.result x.1 (c.remove.ensures.order T (edits_of volume.added) refl s refl) in
+    record { types = search rules; answers = r.answers; inodes = r.inodes; order = r.order; keeps = record { library = lib; keeps = x.0.keeps } }
 
-pub returns-clause-inodes : goal.returns-clause-inodes
-returns-clause-inodes g c = λ entry e.
-    let T = g.S.Store.types_of c.args.store.now in
+pub returns-in_err-slot : goal.returns-in_err-slot
+returns-in_err-slot g c =
     let old = g.S.Store.state_of c.args.store.now in
-    let volume = c.args.self.now in
-    let d = c.args.directory in
-    let f = unlink_value (latest old.lives) volume.fs.number d c.args.name.now entry e in
-    let x = c.remove.ensures.ends T (edits_of volume.added) refl (staged c.requires volume.fs.few) refl in
-    let same = same_ok c.in_ok-slot.slot entry (c.in_ok-slot.ensures.exact c.requires.library ∙ sym e) in
-    unnames T c.requires.library volume.fs.number volume.fs.few d c.args.name.now entry old (g.S.Store.state_of c.remove.new.store) f x.0.keeps.consistent c.remove.result (rw same at x.1)
-
-pub returns-clause-keeps : goal.returns-clause-keeps
-returns-clause-keeps g c =
-    let x = c.remove.ensures.ends (g.S.Store.types_of c.args.store.now) (edits_of c.args.self.now.added) refl (staged c.requires c.args.self.now.fs.few) refl in
-    record { library = c.requires.library; keeps = x.0.keeps }
-
-pub returns-in_err-slot-clause-answers : goal.returns-in_err-slot-clause-answers
-returns-in_err-slot-clause-answers g c =
-    let old = g.S.Store.state_of c.args.store.now in
-    let fs = c.args.self.now.fs.number in
     let u = latest old.lives in
+    let fs = c.args.self.now.fs.number in
     let d = c.args.directory in
     let name = c.args.name.now in
-    does_fault (g.S.Store.types_of c.args.store.now) fs (unlink_in u fs d name) (unlinked (files_of u fs) d name) (removed_stages (files_of u fs) d name) old old c.from_residual.result (unlinked_told u fs d name) (search rules)
-
-pub returns-in_err-slot-clause-inodes : goal.returns-in_err-slot-clause-inodes
-returns-in_err-slot-clause-inodes g c = λ entry e. absurd (never entry _ (e ∙ sym (c.in_err-slot.ensures.exact c.requires.library)))
-
-pub returns-clause-order : goal.returns-clause-order
-returns-clause-order g c = λ entry e.
-    let old = g.S.Store.state_of c.args.store.now in
-    let volume = c.args.self.now in
-    let same = same_ok c.in_ok-slot.slot entry (c.in_ok-slot.ensures.exact c.requires.library ∙ sym e) in
-    subst (λ (s : Slot). Orders (g.S.Store.types_of c.args.store.now) volume.fs.number (removed_edits (latest old.lives) volume.fs.number s None old.next) old (g.S.Store.state_of c.remove.new.store) c.remove.result) same
-    (c.remove.ensures.order (g.S.Store.types_of c.args.store.now) (edits_of volume.added) refl (staged c.requires volume.fs.few) refl)
-
-pub returns-in_err-slot-clause-order : goal.returns-in_err-slot-clause-order
-returns-in_err-slot-clause-order g c = λ entry e. absurd (never entry _ (e ∙ sym (c.in_err-slot.ensures.exact c.requires.library)))
+    let r = takes_none (g.S.Store.types_of c.args.store.now) fs d name (unlink_in u fs d name) (unlinked (files_of u fs) d name) old _ (c.in_err-slot.ensures.exact c.requires.library) (unlinked_told u fs d name) c.from_residual.result c.from_residual.ensures.1 in
+    record { types = search rules; answers = r.answers; inodes = r.inodes; order = r.order; keeps = search rules }
