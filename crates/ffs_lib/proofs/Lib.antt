@@ -27,6 +27,8 @@ pub mod Dropping
 pub mod Undoing
 pub mod Laws
 pub mod Orders
+pub mod Actions
+pub mod WriteParts
 pub mod Removal
 pub mod NameLaws
 pub mod DataLaws
@@ -54,6 +56,7 @@ pub mod ValueWritten
 pub mod Staged
 pub mod StagedNew
 pub mod StagedWritten
+pub mod WrittenOrder
 pub mod StagedMoves
 pub mod StagedTurns
 pub mod StagedRepairs
