@@ -1,5 +1,5 @@
 -- What the edits leave by which bytes of a file are written: one law for each kind.
-use Rattle.std.proofs.Common.{◌≡◌, ◌≢◌, ℕ, ◌+◌, ◌-◌, ◌*◌, ◌/◌, ◌^◌, ◌<◌, ◌≤◌, ◌⊎◌, List, [], ◌∷◌, length, Option, Ok, refl, sym, ◌∙◌, ap, arith, subst, inl, inr}
+use Rattle.std.proofs.Common.{◌≡◌, ◌≢◌, ℕ, ◌+◌, ◌-◌, ◌*◌, ◌/◌, ◌%◌, ◌^◌, ◌<◌, ◌≤◌, List, [], ◌∷◌, length, Option, Ok, Result, refl, sym, ◌∙◌, ap, arith, subst, inl, inr}
 use Rattle.std.specs.Prelude.{Contains, IsTrue, slice_set}
 use Rattle.std.specs.Int.{w32, to_le_bytes}
 use Rattle.std.proofs.lemmas.List.{length-replicate}
@@ -8,7 +8,7 @@ use Rattle.xn_model.specs.Types.{Types}
 use Rattle.xn_model.specs.Lists.{put}
 use Rattle.xn_model.specs.Root.{word_at}
 use Rattle.xn_model.specs.Lives.{StoreState, life_at}
-use Rattle.xn_model.specs.Calls.{forget_of, init_of, propose_of, was_given}
+use Rattle.xn_model.specs.Calls.{Edit, forget_of, init_of, propose_of, was_given}
 use Rattle.xn_model.proofs.ForCallers.{Contains-head}
 use Rattle.ffs_model.specs.Cuts.{Under, latest}
 use Rattle.ffs_model.specs.Library.{inode_blocks, inode_links, inode_mode, library_layout, pointer_word, zero_block}
@@ -22,17 +22,21 @@ use Rattle.ffs_lookup.proofs.ForCallers.{found_has, same_ok}
 use Rattle.ffs_lib.specs.Edits.{edit_at}
 use Rattle.ffs_lib.specs.Outcomes.{HasBlock, IsRaised}
 use Rattle.ffs_lib.specs.Results.{OnlyChanges, SameInode, WroteBytes}
-use Rattle.ffs_lib.specs.Steps.{IsHome, ShortEdit, Stage, Tells, Wants, left_by}
-use Rattle.ffs_lib.specs.Writes.{PointsTo, Puts, PutsBy, StopsPart}
+use Rattle.ffs_lib.specs.Orders.{Action, Attaches, Makes, act_of}
+use Rattle.ffs_lib.specs.Orders as orders
+use Rattle.ffs_lib.specs.Steps.{Attached, Ends, IsHome, Proposed, ShortEdit, Stage, Tells, left_by}
+use Rattle.ffs_lib.specs.WriteOrder.{TellsAct, data_action, direct_edit, indirect_edit, pointed_edit, pointers_action}
+use Rattle.ffs_lib.specs.Writes.{ActedBy, PointsTo, Puts, PutsBy, StopsAction, StopsPart}
+use Rattle.ffs_lib.proofs.Actions.{attach_acted, direct_is, edit_acted, pointed_is, pointers_is}
 use Rattle.ffs_lib.proofs.DataShort.{direct_refused, pointers_refused, size_refused}
 use Rattle.ffs_lib.proofs.Edited.{file_data, kept, pointed, pointed_data, pointers_reached}
 use Rattle.ffs_lib.proofs.Fields.{one_more, same_blocks}
-use Rattle.ffs_lib.proofs.Laws.{can_edit, gives_of, home_of}
+use Rattle.ffs_lib.proofs.Laws.{attaches, can_edit, finishes, gives_of, home_of}
 use Rattle.ffs_lib.proofs.Owners.{Stands, block_at, direct_block, pointers_at, stands_from, where_block}
 use Rattle.ffs_lib.proofs.Same.{Touches, begun, begun_some, block_same, none_touched, reached_before, same_on}
 use Rattle.ffs_lib.proofs.Short.{begun_addable}
-use Rattle.ffs_lib.proofs.Undoing.{attach_undone, left_next, undone_same}
-use Rattle.ffs_lib.proofs.Writing.{block_written, data_attached, data_written, direct_attached, file_from, file_now, file_others, file_same, indirect_block, no_pointers, pointers_attached, size_raised, wrote_none, written_none, written_same}
+use Rattle.ffs_lib.proofs.Undoing.{at_ok, left_next, undone_same}
+use Rattle.ffs_lib.proofs.Writing.{block_written, data_attached, data_written, direct_attached, file_from, file_now, file_others, file_same, indirect_block, pointers_attached, size_raised, wrote_none, written_none, written_same}
 
 -- Bytes that stay, and one write after another
 
@@ -96,19 +100,16 @@ puts_after old first second fs n start bytes a b = record {
   later = later_on old.next first.next second.next a.later b.later;
 }
 
--- a part that was refused after that
-pub stops_after : (T : Types) (fs : ℕ) (old first new : StoreState) (n index : ℕ) (fault : FfsFault) → Puts old first fs n 0 [] → StopsPart T fs first new n index fault → StopsPart T fs old new n index fault
-stops_after T fs old first new n index fault a x = record { same = puts_after old first new fs n 0 [] a x.same; before = x.before; told = x.told }
+-- an action that was refused after that
+pub stops_after : (T : Types) (fs : ℕ) (first : StoreState → Action) (rest : orders.Parts) (old middle new : StoreState) (n : ℕ) (fault : FfsFault) → Puts old middle fs n 0 [] → act_of T fs (first old) old ≡ Ok middle → StopsPart T fs rest middle new n fault →
+    StopsPart T fs (first ∷ rest) old new n fault
+stops_after T fs first rest old middle new n fault a made x = record { same = puts_after old middle new fs n 0 [] a x.same; told = inr (middle, made, x.told) }
+
+-- one that was refused at once
+pub stops_now : (T : Types) (fs : ℕ) (first : StoreState → Action) (rest : orders.Parts) (old new : StoreState) (n : ℕ) (fault : FfsFault) → StopsAction T fs (first old) old new n fault → StopsPart T fs (first ∷ rest) old new n fault
+stops_now T fs first rest old new n fault x = record { same = x.same; told = inl x.told }
 
 -- A block that is there
-
-pub refused_there : (T : Types) (fs : ℕ) (old new : StoreState) (n index block : ℕ) (inode : List ℕ) → Ok inode ≡ file_in (latest old.lives) fs n → file_block (latest old.lives) inode index ≡ block → block ≢ 0 → new ≡ old → (fault : FfsFault) → Wants T old fs block fault →
-    StopsPart T fs old new n index fault
-refused_there T fs old new n index block inode is points there same fault wants = subst (λ (s : StoreState). StopsPart T fs old s n index fault) (sym same) (record {
-  same = puts_none old fs n 0;
-  before = old;
-  told = inl (record { same = refl; inode = inode; file = is; there = λ z. there (sym points ∙ z); wants = subst (λ b. Wants T old fs b fault) (sym points) wants });
-})
 
 module _ (T : Types) (fs : ℕ) (array : ℕ → Option ℕ) (old : StoreState) (s : Stage T fs array old) (n : ℕ) (found : Found) (file : IsFile old fs n found) (is : Ok found.inode ≡ file_in (latest old.lives) fs n)
     (index block at : ℕ) (bytes : List ℕ) (low : index < 140) (points : file_block (latest old.lives) found.inode index ≡ block) (there : block ≢ 0) (long : length (latest old.lives block) ≡ 512) (fit : at + length bytes ≤ 512) (after : Option ℕ) where
@@ -143,15 +144,21 @@ module _ (T : Types) (fs : ℕ) (array : ℕ → Option ℕ) (old : StoreState) 
         ),
       )
 
+  pub there_ends : 0 < length bytes → IsTrue (was_given old after) → (new : StoreState) (result : Result ℕ FfsFault) → Proposed T fs block (edit_at at bytes [] [] after) old new result →
+      Ends T fs array new result (λ entry. PutsBy old new fs n (512 * index + at) bytes entry × ActedBy T fs (Makes ((block, edit_at at bytes [] [] after) ∷ [])) old new entry)
+      (StopsAction T fs (Makes ((block, edit_at at bytes [] [] after) ∷ [])) old new n)
+  there_ends some given new result p =
+      let edit = edit_at at bytes [] [] after in
+      let action : Action = Makes ((block, edit) ∷ []) in
+      finishes T fs block edit array old new _ _ s result p (there_short some given)
+      (λ entry done. let x = puts new entry done in (x.0, (x.1, edit_acted T fs block edit old new entry done)))
+      (λ fault same told. subst (λ (m : StoreState). StopsAction T fs action old m n fault) (sym same) (record { same = puts_none old fs n 0; told = (refl, told) }))
+
 -- A new block
 
-pub not_begun : (T : Types) (fs : ℕ) (old new : StoreState) (n index : ℕ) (inode : List ℕ) → Ok inode ≡ file_in (latest old.lives) fs n → file_block (latest old.lives) inode index ≡ 0 → (owner : ℕ) → IsHome (latest old.lives) fs n owner ⊎ (owner ≡ word_at inode 56) →
-    (ty : ℕ) (bytes : List ℕ) → (ty ≡ 2) ⊎ ((ty ≡ 5) × (bytes ≡ zero_block)) → new ≡ old → (fault : FfsFault) → Tells (init_of T old fs ty bytes) fault → StopsPart T fs old new n index fault
-not_begun T fs old new n index inode is hole owner of ty bytes kind same fault told = subst (λ (s : StoreState). StopsPart T fs old s n index fault) (sym same) (record {
-  same = puts_none old fs n 0;
-  before = old;
-  told = inr (record { inode = inode; file = is; hole = hole; owner = owner; of_inode = of; ty = ty; bytes = bytes; kind = kind; told = inl (refl, told) });
-})
+pub not_begun : (T : Types) (fs : ℕ) (old new : StoreState) (n ty : ℕ) (bytes : List ℕ) (home : ℕ) (edit : ℕ → Edit) (action : Action) → Attaches ty bytes home edit ≡ action → new ≡ old → (fault : FfsFault) → Tells (init_of T old fs ty bytes) fault → StopsAction T fs action old new n fault
+not_begun T fs old new n ty bytes home edit action is same fault told =
+    subst (λ (a : Action). StopsAction T fs a old new n fault) is (subst (λ (s : StoreState). StopsAction T fs (Attaches ty bytes home edit) old s n fault) (sym same) (record { same = puts_none old fs n 0; told = inl (refl, told) }))
 
 module _ (T : Types) (fs : ℕ) (array : ℕ → Option ℕ) (zeroth first : StoreState) (s : Stage T fs array zeroth) (n : ℕ) (inode : List ℕ) (is : Ok inode ≡ file_in (latest zeroth.lives) fs n) (ty : ℕ) (bytes : List ℕ) (block number : ℕ) (done : init_of T zeroth fs ty bytes ≡ Ok ((block, number), first)) where
   pub begun_stage : Stage T fs array first
@@ -175,24 +182,26 @@ module _ (T : Types) (fs : ℕ) (array : ℕ → Option ℕ) (zeroth first : Sto
   pub begun_puts : Puts zeroth first fs n 0 []
   begun_puts = all_same zeroth first fs n begun_all begun_later
 
-  pub undone_part : (new : StoreState) (index owner : ℕ) (fault : FfsFault) → file_block (latest zeroth.lives) inode index ≡ 0 → IsHome (latest zeroth.lives) fs n owner ⊎ (owner ≡ word_at inode 56) → (ty ≡ 2) ⊎ ((ty ≡ 5) × (bytes ≡ zero_block)) →
-      new ≡ left_by (forget_of T first fs block) first → Wants T first fs owner fault → StopsPart T fs zeroth new n index fault
-  undone_part new index owner fault hole of kind left wants = record {
-    same = all_same zeroth new fs n (λ d. subst (λ (m : StoreState). SameInode (latest zeroth.lives) (latest m.lives) fs d) (sym left) (undone_same T s.library zeroth first s.keeps.consistent fs s.few ty bytes block number done d))
-        (subst (λ (k : ℕ). zeroth.next ≤ k) (sym (ap (λ (m : StoreState). m.next) left ∙ left_next T first fs block)) begun_later);
-    before = zeroth;
-    told = inr (record {
-      inode = inode;
-      file = is;
-      hole = hole;
-      owner = owner;
-      of_inode = of;
-      ty = ty;
-      bytes = bytes;
-      kind = kind;
-      told = attach_undone T fs zeroth first new ty bytes block number owner done left fault wants;
-    });
-  }
+  pub undone : (new : StoreState) → new ≡ left_by (forget_of T first fs block) first → Puts zeroth new fs n 0 []
+  undone new left =
+      all_same zeroth new fs n (λ d. subst (λ (m : StoreState). SameInode (latest zeroth.lives) (latest m.lives) fs d) (sym left) (undone_same T s.library zeroth first s.keeps.consistent fs s.few ty bytes block number done d))
+      (subst (λ (k : ℕ). zeroth.next ≤ k) (sym (ap (λ (m : StoreState). m.next) left ∙ left_next T first fs block)) begun_later)
+
+  -- the block is attached, or forgotten
+  pub attached_ends : (home : ℕ) (edit : ℕ → Edit) (action : Action) → Attaches ty bytes home edit ≡ action → (real : Edit) → real ≡ edit block → (new : StoreState) (P : ℕ → Type 0) → ShortEdit T first fs home real →
+      ((entry : ℕ) → propose_of T first fs home real ≡ Ok (entry, new) → Stage T fs array new × P entry) → (result : Result ℕ FfsFault) → Attached T fs block home real first new result →
+      Ends T fs array new result (λ entry. P entry × ActedBy T fs action zeroth new entry) (StopsAction T fs action zeroth new n)
+  attached_ends home edit action is real same new P short then result put =
+      attaches T fs block home real array first new _ _ begun_stage result put short
+      (λ entry p. let x = then entry p in (
+        x.0,
+        (x.1, subst (λ (a : Action). ActedBy T fs a zeroth new entry) is (attach_acted T fs ty bytes home edit block number zeroth first new done entry (subst (λ (e : Edit). propose_of T first fs home e ≡ Ok (entry, new)) same p))),
+      ))
+      (λ fault left told. record {
+        same = undone new left;
+        told = subst (λ (a : Action). TellsAct T fs a zeroth new fault) is (inr (at_ok (init_of T zeroth fs ty bytes) ((block, number), first) (λ begun. (new ≡ left_by (forget_of T begun.1 fs begun.0.0) begun.1) × Tells (propose_of T begun.1 fs home (edit begun.0.0)) fault)
+            (sym done) (left, subst (λ (e : Edit). Tells (propose_of T first fs home e) fault) same told)));
+      })
 
   -- the block of its inode
   pub begun_home : (found : Found) → IsFile first fs n found → IsHome (latest zeroth.lives) fs n found.block
@@ -211,19 +220,14 @@ module _ (T : Types) (fs : ℕ) (array : ℕ → Option ℕ) (zeroth first : Sto
 module _ (T : Types) (fs : ℕ) (array : ℕ → Option ℕ) (zeroth first : StoreState) (s : Stage T fs array zeroth) (n : ℕ) (inode : List ℕ) (is : Ok inode ≡ file_in (latest zeroth.lives) fs n)
     (index at : ℕ) (bytes : List ℕ) (low : index < 12) (hole : direct_in inode index ≡ 0) (fit : at + length bytes ≤ 512) (block number : ℕ) (done : init_of T zeroth fs 2 (put zero_block at bytes) ≡ Ok ((block, number), first))
     (after : Option ℕ) (given : IsTrue (was_given zeroth after)) (found : Found) (file : IsFile first fs n found) (exact : Ok found.inode ≡ file_in (latest first.lives) fs n)
-    (own : List ℕ) (whole : length own ≡ 64) (set : fields_of own ≡ record (fields_of found.inode) { direct = slice_set (fields_of found.inode).direct index block }) where
+    (own : List ℕ) (whole : length own ≡ 64) (set : fields_of own ≡ record (fields_of found.inode) { direct = slice_set (fields_of found.inode).direct index block }) (spelled : own ≡ put found.inode (8 + 4 * index) (to_le_bytes w32 block)) where
   pub direct_short : ShortEdit T first fs found.block (edit_at (64 * found.place) own ((block, 2) ∷ []) [] after)
   direct_short =
       direct_refused T first after (can_edit (begun_stage T fs array zeroth first s n inode is 2 (put zero_block at bytes) block number done) (begun_given T fs array zeroth first s n inode is 2 (put zero_block at bytes) block number done after given))
       fs s.few n found file own whole index block low (ap (λ (f : Fields). f.direct) set) (ap (λ (f : Fields). f.indirect) set) (ap (λ i. direct_in i index) (begun_mine T fs array zeroth first s n inode is 2 (put zero_block at bytes) block number done found exact) ∙ hole)
       (begun_addable T zeroth first fs 2 block number (put zero_block at bytes) (gives_of (init_of T zeroth fs 2 (put zero_block at bytes)) zeroth first (block, number) done))
 
-  pub direct_undone : (new : StoreState) → new ≡ left_by (forget_of T first fs block) first → (fault : FfsFault) → Wants T first fs found.block fault → StopsPart T fs zeroth new n index fault
-  direct_undone new left fault wants =
-      undone_part T fs array zeroth first s n inode is 2 (put zero_block at bytes) block number done new index found.block fault (direct_block (latest zeroth.lives) inode index low ∙ hole)
-      (inl (begun_home T fs array zeroth first s n inode is 2 (put zero_block at bytes) block number done found file)) (inl refl) left wants
-
-  pub adds_direct : (second : StoreState) (entry : ℕ) → propose_of T first fs found.block (edit_at (64 * found.place) own ((block, 2) ∷ []) [] after) ≡ Ok (entry, second) → Stage T fs array second × PutsBy zeroth second fs n (512 * index + at) bytes entry
+  adds_direct : (second : StoreState) (entry : ℕ) → propose_of T first fs found.block (edit_at (64 * found.place) own ((block, 2) ∷ []) [] after) ≡ Ok (entry, second) → Stage T fs array second × PutsBy zeroth second fs n (512 * index + at) bytes entry
   adds_direct second entry put_done =
       let h = s.keeps.consistent in
       let s1 = begun_stage T fs array zeroth first s n inode is 2 (put zero_block at bytes) block number done in
@@ -254,6 +258,17 @@ module _ (T : Types) (fs : ℕ) (array : ℕ → Option ℕ) (zeroth first : Sto
         ),
       )
 
+  pub direct_ends : (new : StoreState) (result : Result ℕ FfsFault) → Attached T fs block found.block (edit_at (64 * found.place) own ((block, 2) ∷ []) [] after) first new result →
+      Ends T fs array new result (λ entry. PutsBy zeroth new fs n (512 * index + at) bytes entry × ActedBy T fs (data_action (latest zeroth.lives) fs n index at bytes after) zeroth new entry)
+      (StopsAction T fs (data_action (latest zeroth.lives) fs n index at bytes after) zeroth new n)
+  direct_ends new result p =
+      let home = begun_home T fs array zeroth first s n inode is 2 (put zero_block at bytes) block number done found file in
+      let mine = begun_mine T fs array zeroth first s n inode is 2 (put zero_block at bytes) block number done found exact in
+      attached_ends T fs array zeroth first s n inode is 2 (put zero_block at bytes) block number done found.block (direct_edit n inode index after) (data_action (latest zeroth.lives) fs n index at bytes after)
+      (direct_is (latest zeroth.lives) fs n found.block inode index at bytes after home is (direct_block (latest zeroth.lives) inode index low ∙ hole) low) (edit_at (64 * found.place) own ((block, 2) ∷ []) [] after)
+      (ap (λ k. edit_at (64 * k) own ((block, 2) ∷ []) [] after) file.is.stands.at ∙ ap (λ m. edit_at (64 * ((n - 1) % 8)) m ((block, 2) ∷ []) [] after) (spelled ∙ ap (λ i. put i (8 + 4 * index) (to_le_bytes w32 block)) mine))
+      new (PutsBy zeroth new fs n (512 * index + at) bytes) direct_short (adds_direct new) result p
+
 -- A new block of data, to which its block of pointers points
 
 module _ (T : Types) (fs : ℕ) (array : ℕ → Option ℕ) (zeroth first : StoreState) (s : Stage T fs array zeroth) (n : ℕ) (inode : List ℕ) (is : Ok inode ≡ file_in (latest zeroth.lives) fs n)
@@ -281,11 +296,7 @@ module _ (T : Types) (fs : ℕ) (array : ℕ → Option ℕ) (zeroth first : Sto
   pointed_hole : file_block (latest zeroth.lives) inode (12 + place) ≡ 0
   pointed_hole = indirect_block (latest zeroth.lives) inode last place points there ∙ none
 
-  pub pointed_undone : (new : StoreState) → new ≡ left_by (forget_of T first fs block) first → (fault : FfsFault) → Wants T first fs last fault → StopsPart T fs zeroth new n (12 + place) fault
-  pointed_undone new left fault wants =
-      undone_part T fs array zeroth first s n inode is 2 (put zero_block at bytes) block number done new (12 + place) last fault pointed_hole (inr (sym points)) (inl refl) left wants
-
-  pub adds_pointed : (second : StoreState) (entry : ℕ) → propose_of T first fs last (edit_at (4 * place) (to_le_bytes w32 block) ((block, 2) ∷ []) [] after) ≡ Ok (entry, second) →
+  adds_pointed : (second : StoreState) (entry : ℕ) → propose_of T first fs last (edit_at (4 * place) (to_le_bytes w32 block) ((block, 2) ∷ []) [] after) ≡ Ok (entry, second) →
       Stage T fs array second × PutsBy zeroth second fs n (512 * (12 + place) + at) bytes entry
   adds_pointed second entry put_done =
       let h = s.keeps.consistent in
@@ -307,11 +318,20 @@ module _ (T : Types) (fs : ℕ) (array : ℕ → Option ℕ) (zeroth first : Sto
         ),
       )
 
+  pub pointed_ends : (new : StoreState) (result : Result ℕ FfsFault) → Attached T fs block last (edit_at (4 * place) (to_le_bytes w32 block) ((block, 2) ∷ []) [] after) first new result →
+      Ends T fs array new result (λ entry. PutsBy zeroth new fs n (512 * (12 + place) + at) bytes entry × ActedBy T fs (data_action (latest zeroth.lives) fs n (12 + place) at bytes after) zeroth new entry)
+      (StopsAction T fs (data_action (latest zeroth.lives) fs n (12 + place) at bytes after) zeroth new n)
+  pointed_ends new result p =
+      attached_ends T fs array zeroth first s n inode is 2 (put zero_block at bytes) block number done last (pointed_edit (12 + place) after) (data_action (latest zeroth.lives) fs n (12 + place) at bytes after)
+      (pointed_is (latest zeroth.lives) fs n inode (12 + place) last at bytes after is pointed_hole (omega arith) points) (edit_at (4 * place) (to_le_bytes w32 block) ((block, 2) ∷ []) [] after)
+      (let less : place ≡ 12 + place - 12 = omega arith in ap (λ k. edit_at (4 * k) (to_le_bytes w32 block) ((block, 2) ∷ []) [] after) less)
+      new (PutsBy zeroth new fs n (512 * (12 + place) + at) bytes) pointed_short (adds_pointed new) result p
+
 -- A new block of pointers
 
 module _ (T : Types) (fs : ℕ) (array : ℕ → Option ℕ) (zeroth first : StoreState) (s : Stage T fs array zeroth) (n : ℕ) (inode : List ℕ) (is : Ok inode ≡ file_in (latest zeroth.lives) fs n) (none : word_at inode 56 ≡ 0)
     (block number : ℕ) (done : init_of T zeroth fs 5 zero_block ≡ Ok ((block, number), first)) (after : Option ℕ) (given : IsTrue (was_given zeroth after)) (found : Found) (file : IsFile first fs n found) (exact : Ok found.inode ≡ file_in (latest first.lives) fs n)
-    (own : List ℕ) (whole : length own ≡ 64) (set : fields_of own ≡ record (fields_of found.inode) { indirect = block }) where
+    (own : List ℕ) (whole : length own ≡ 64) (set : fields_of own ≡ record (fields_of found.inode) { indirect = block }) (spelled : own ≡ put found.inode 56 (to_le_bytes w32 block)) where
   same : found.inode ≡ inode
   same = begun_mine T fs array zeroth first s n inode is 5 zero_block block number done found exact
 
@@ -320,11 +340,6 @@ module _ (T : Types) (fs : ℕ) (array : ℕ → Option ℕ) (zeroth first : Sto
       pointers_refused T first after (can_edit (begun_stage T fs array zeroth first s n inode is 5 zero_block block number done) (begun_given T fs array zeroth first s n inode is 5 zero_block block number done after given))
       fs s.few n found file own whole block (ap (λ (f : Fields). f.direct) set) (ap (λ (f : Fields). f.indirect) set) (ap (λ i. word_at i 56) same ∙ none)
       (begun_addable T zeroth first fs 5 block number zero_block (gives_of (init_of T zeroth fs 5 zero_block) zeroth first (block, number) done))
-
-  pub pointers_undone : (new : StoreState) → new ≡ left_by (forget_of T first fs block) first → (index : ℕ) → 12 ≤ index → (fault : FfsFault) → Wants T first fs found.block fault → StopsPart T fs zeroth new n index fault
-  pointers_undone new left index far fault wants =
-      undone_part T fs array zeroth first s n inode is 5 zero_block block number done new index found.block fault (no_pointers (latest zeroth.lives) inode index far none)
-      (inl (begun_home T fs array zeroth first s n inode is 5 zero_block block number done found file)) (inr (refl, refl)) left wants
 
   apart : (c k : ℕ) → Under T (latest zeroth.lives) fs c k → c ≢ block
   apart c k r e =
@@ -338,7 +353,7 @@ module _ (T : Types) (fs : ℕ) (array : ℕ → Option ℕ) (zeroth first : Sto
       let at = under_inodes T library_layout (library_reads T s.library) (latest first.lives) fs (library_layout.home n).0 found.block file.is.stands.inodes in
       apart found.block 4 (reached_before T (latest zeroth.lives) (latest first.lives) fs block 9 t apart found.block 4 at)
 
-  pub adds_pointers : (second : StoreState) (entry : ℕ) → propose_of T first fs found.block (edit_at (64 * found.place) own ((block, 5) ∷ []) [] after) ≡ Ok (entry, second) →
+  adds_pointers : (second : StoreState) (entry : ℕ) → propose_of T first fs found.block (edit_at (64 * found.place) own ((block, 5) ∷ []) [] after) ≡ Ok (entry, second) →
       Stage T fs array second × PointsTo zeroth second fs n inode block
   adds_pointers second entry put_done =
       let s1 = begun_stage T fs array zeroth first s n inode is 5 zero_block block number done in
@@ -372,6 +387,16 @@ module _ (T : Types) (fs : ℕ) (array : ℕ → Option ℕ) (zeroth first : Sto
           holes = λ index far low hole. ap (λ m. pointer_word m (index - 12)) now ∙ zero_word (4 * (index - 12));
         },
       )
+
+  pub pointers_ends : (index : ℕ) → 12 ≤ index → (new : StoreState) (result : Result ℕ FfsFault) → Attached T fs block found.block (edit_at (64 * found.place) own ((block, 5) ∷ []) [] after) first new result →
+      Ends T fs array new result (λ entry. PointsTo zeroth new fs n inode block × ActedBy T fs (pointers_action (latest zeroth.lives) fs n index after) zeroth new entry)
+      (StopsAction T fs (pointers_action (latest zeroth.lives) fs n index after) zeroth new n)
+  pointers_ends index far new result p =
+      let home = begun_home T fs array zeroth first s n inode is 5 zero_block block number done found file in
+      attached_ends T fs array zeroth first s n inode is 5 zero_block block number done found.block (indirect_edit n inode after) (pointers_action (latest zeroth.lives) fs n index after)
+      (pointers_is (latest zeroth.lives) fs n found.block inode index after home is far none) (edit_at (64 * found.place) own ((block, 5) ∷ []) [] after)
+      (ap (λ k. edit_at (64 * k) own ((block, 5) ∷ []) [] after) file.is.stands.at ∙ ap (λ m. edit_at (64 * ((n - 1) % 8)) m ((block, 5) ∷ []) [] after) (spelled ∙ ap (λ i. put i 56 (to_le_bytes w32 block)) same))
+      new (λ entry. PointsTo zeroth new fs n inode block) pointers_short (adds_pointers new) result p
 
 -- The block of pointers that is there
 pub points_there : (state : StoreState) (fs n : ℕ) (inode : List ℕ) (block : ℕ) → Ok inode ≡ file_in (latest state.lives) fs n → word_at inode 56 ≡ block → block ≢ 0 → length (latest state.lives block) ≡ 512 → PointsTo state state fs n inode block

@@ -29,6 +29,8 @@ pub mod Laws
 pub mod Orders
 pub mod NewOrder
 pub mod RepairOrder
+pub mod Actions
+pub mod WriteParts
 pub mod Removal
 pub mod NameLaws
 pub mod DataLaws
@@ -57,6 +59,7 @@ pub mod ValueWritten
 pub mod Staged
 pub mod StagedNew
 pub mod StagedWritten
+pub mod WrittenOrder
 pub mod StagedMoves
 pub mod StagedTurns
 pub mod StagedRepairs

@@ -1,6 +1,6 @@
 -- Bytes of a file that are written block after block, and what a write comes to.
 use Rattle.std.proofs.Common.{◌≡◌, ◌≢◌, ℕ, ◌+◌, ◌-◌, ◌*◌, ◌/◌, ◌%◌, ◌<◌, ◌≤◌, Bool, true, false, List, ◌++◌, length, drop, take, get_or, replicate, Option, None, Some, Result, Ok, Err, refl, sym, ◌∙◌, ap, arith, subst, inl, inr, length-append}
-use Rattle.std.specs.Prelude.{IfErr, IfOk, IfSome, is_some, min}
+use Rattle.std.specs.Prelude.{IfErr, IfOk, IfSome, is_some, min, nat_lt, if◌then◌else◌}
 use Rattle.std.proofs.lemmas.List.{drop-append-le, drop-replicate, get_or-drop, get_or-replicate, get_or-take, length-drop, length-replicate, length-take-le, take-append-le, take-replicate}
 use Rattle.std.proofs.Math.Seq.{drop-append-add, take-add}
 use Rattle.xn_model.specs.Types.{Types}
@@ -11,11 +11,15 @@ use Rattle.ffs_lookup.specs.declared.fault.FfsFault.{FfsFault}
 use Rattle.ffs_lookup.specs.Newest.{byte_in, byte_of, file_block, file_end, file_in, mapped}
 use Rattle.ffs_lib.specs.Results.{WroteBytes, byte_written}
 use Rattle.ffs_lib.specs.Steps.{Ends, Stage, Stops}
-use Rattle.ffs_lib.specs.Writes.{IsBorder, LastGiven, PartStops, Parts, Puts, StopsPart, padded}
+use Rattle.ffs_lib.specs.Orders.{made_by}
+use Rattle.ffs_lib.specs.Orders as orders
+use Rattle.ffs_lib.specs.WriteOrder.{adds_direct, after_at, data_at, data_parts, last_after, last_at, no_last, parts_at, places, parts_made, zeros_parts}
+use Rattle.ffs_lib.specs.Writes.{IsBorder, LastGiven, MadeTo, PartStops, Parts, Puts, PutsParts, StopsPart, padded}
 use Rattle.ffs_lib.specs.declared.data.Last.{Last}
 use Rattle.ffs_lib.specs.declared.data.Progress.{Progress}
 use Rattle.ffs_lib.proofs.DataLaws.{later_on, puts_none, puts_still}
 use Rattle.ffs_lib.proofs.Same.{same_on}
+use Rattle.ffs_lib.proofs.WriteParts.{border_place, data_are, data_last, not_place, places_next, places_none, run_next, zeros_are, zeros_last}
 use Rattle.ffs_lib.proofs.Writing.{byte_there, cases_written, test_above, test_below, test_in, written_by, wrote_on}
 
 pub never_some : (x : FfsFault) → ◌≡◌ {A = Option FfsFault} (Some x) None → ⊥
@@ -62,47 +66,133 @@ zeros_puts state fs n inode is index at count fit none =
     ok_one a b e = cc
 
 -- the next part
+pub record PartMade (T : Types) (fs : ℕ) (old new : StoreState) (n end offset : ℕ) (bytes : List ℕ) (at : ℕ) (part : List ℕ) (last next : Last) : Type 0 where
+  pub puts : Puts old new fs n (512 * (at / 512) + at % 512) part
+  pub given : LastGiven new next
+  pub made : made_by T fs (parts_at fs n offset bytes at (after_at end offset bytes at last)) old ≡ Ok new
+  pub last_is : next ≡ last_at fs n end offset bytes at old new last
+
+abbrev pub MakesPart : Types → ℕ → (ℕ → Option ℕ) → StoreState → StoreState → ℕ → ℕ → ℕ → List ℕ → ℕ → List ℕ → Last → Result Last FfsFault → Type 0
+MakesPart T fs array old new n end offset bytes at part last result =
+    Ends T fs array new result (PartMade T fs old new n end offset bytes at part last) (StopsPart T fs (parts_at fs n offset bytes at (after_at end offset bytes at last)) old new n)
+
+-- of zeros, and of bytes, where one before the file's end keeps the last edits
+pub zeros_make : (T : Types) (fs : ℕ) (array : ℕ → Option ℕ) (old new : StoreState) (n end offset : ℕ) (bytes : List ℕ) (at count : ℕ) (last : Last) (result : Result Last FfsFault) → at < offset → count ≡ min (offset - at) (512 - at % 512) →
+    Ends T fs array new result (PutsParts T fs (zeros_parts fs n (at / 512) (at % 512) count last.edit) old new n (at / 512) (at % 512) (replicate count 0) last) (StopsPart T fs (zeros_parts fs n (at / 512) (at % 512) count last.edit) old new n) →
+    MakesPart T fs array old new n end offset bytes at (replicate count 0) last result
+zeros_make T fs array old new n end offset bytes at count last result lt e x = go result x
+  where
+    same : zeros_parts fs n (at / 512) (at % 512) count last.edit ≡ parts_at fs n offset bytes at (after_at end offset bytes at last)
+    same = ap (λ k. zeros_parts fs n (at / 512) (at % 512) k last.edit) e ∙ zeros_are T fs n end offset bytes at last lt
+
+    go : (r : Result Last FfsFault) → Ends T fs array new r (PutsParts T fs (zeros_parts fs n (at / 512) (at % 512) count last.edit) old new n (at / 512) (at % 512) (replicate count 0) last) (StopsPart T fs (zeros_parts fs n (at / 512) (at % 512) count last.edit) old new n) →
+        MakesPart T fs array old new n end offset bytes at (replicate count 0) last r
+    go (Ok next) y = (
+      y.0,
+      record { puts = y.1.puts; given = y.1.given; made = subst (λ (p : orders.Parts). made_by T fs p old ≡ Ok new) same y.1.made; last_is = y.1.last_is ∙ zeros_last T fs n end offset bytes at last lt old new },
+    )
+    go (Err fault) y = (y.0, (y.1.0, subst (λ (p : orders.Parts). StopsPart T fs p old new n fault) same y.1.1))
+
+pub last_given : (state : StoreState) (last : Last) (past : Bool) (mine : Last) → mine ≡ (if past then last else no_last) → LastGiven state last → LastGiven state mine
+last_given state last past mine own given = subst (LastGiven state) (sym own) (go past)
+  where
+    go : (t : Bool) → LastGiven state (if t then last else no_last)
+    go true = given
+    go false = (refl, refl)
+
+pub data_make : (T : Types) (fs : ℕ) (array : ℕ → Option ℕ) (old new : StoreState) (n end offset : ℕ) (bytes : List ℕ) (at : ℕ) (part : List ℕ) (last mine : Last) (past : Bool) (result kept : Result Last FfsFault) → offset ≤ at → part ≡ data_at offset bytes at →
+    nat_lt end (at + length part) ≡ past → mine ≡ (if past then last else no_last) → kept ≡ mapped (λ next. if past then next else last) result → LastGiven old last →
+    Ends T fs array new result (PutsParts T fs (data_parts fs n (at / 512) (at % 512) part mine.edit) old new n (at / 512) (at % 512) part mine) (StopsPart T fs (data_parts fs n (at / 512) (at % 512) part mine.edit) old new n) →
+    MakesPart T fs array old new n end offset bytes at part last kept
+data_make T fs array old new n end offset bytes at part last mine past result kept ge is less own e given x = subst (MakesPart T fs array old new n end offset bytes at part last) (sym e) (go result x)
+  where
+    is_past : nat_lt end (at + length (data_at offset bytes at)) ≡ past
+    is_past = ap (λ (m : List ℕ). nat_lt end (at + length m)) (sym is) ∙ less
+
+    after : (t : Bool) → (if t then last else no_last).edit ≡ (if t then last.edit else None)
+    after true = refl
+    after false = refl
+
+    same : data_parts fs n (at / 512) (at % 512) part mine.edit ≡ parts_at fs n offset bytes at (after_at end offset bytes at last)
+    same =
+        ap (λ (m : List ℕ). data_parts fs n (at / 512) (at % 512) m mine.edit) is
+        ∙ (ap (data_parts fs n (at / 512) (at % 512) (data_at offset bytes at)) (ap (λ (l : Last). l.edit) own ∙ after past) ∙ data_are T fs n end offset bytes at last ge past is_past)
+
+    lasts : (t : Bool) (next : Last) → next ≡ last_after (adds_direct (latest old.lives) fs n (at / 512)) old.next new.next (if t then last else no_last) →
+        (if t then next else last) ≡ (if t then last_after (adds_direct (latest old.lives) fs n (at / 512)) old.next new.next last else last)
+    lasts true next f = f
+    lasts false next f = refl
+
+    still : (t : Bool) (next : Last) → old.next ≤ new.next → LastGiven new next → LastGiven new (if t then next else last)
+    still true next later g = g
+    still false next later g = (given_later old new later last.edit given.0, given_later old new later last.size given.1)
+
+    go : (r : Result Last FfsFault) → Ends T fs array new r (PutsParts T fs (data_parts fs n (at / 512) (at % 512) part mine.edit) old new n (at / 512) (at % 512) part mine) (StopsPart T fs (data_parts fs n (at / 512) (at % 512) part mine.edit) old new n) →
+        MakesPart T fs array old new n end offset bytes at part last (mapped (λ next. if past then next else last) r)
+    go (Ok next) y = (
+      y.0,
+      record {
+        puts = y.1.puts;
+        given = still past next y.1.puts.later y.1.given;
+        made = subst (λ (p : orders.Parts). made_by T fs p old ≡ Ok new) same y.1.made;
+        last_is = lasts past next (y.1.last_is ∙ ap (last_after (adds_direct (latest old.lives) fs n (at / 512)) old.next new.next) own) ∙ data_last T fs n end offset bytes at last ge past is_past old new;
+      },
+    )
+    go (Err fault) y = (y.0, (y.1.0, subst (λ (p : orders.Parts). StopsPart T fs p old new n fault) same y.1.1))
+
 module _ (T : Types) (fs : ℕ) (array : ℕ → Option ℕ) (zeroth first second : StoreState) (n end offset : ℕ) (bytes part : List ℕ) (progress next : Progress) (count : ℕ) (p : Parts T fs array zeroth first n end offset bytes progress) (none : progress.fault ≡ None)
     (fit : progress.done + count ≤ length (padded end offset bytes)) (some : progress.done < length (padded end offset bytes)) (is : part ≡ take count (drop progress.done (padded end offset bytes)))
-    (edge : progress.done + count < length (padded end offset bytes) → IsBorder end offset (progress.done + count)) (more : 0 < count) (at : ℕ) (place : at ≡ min end offset + progress.done) where
+    (edge : progress.done + count < length (padded end offset bytes) → IsBorder end offset (progress.done + count)) (more : 0 < count) (at : ℕ) (place : at ≡ min end offset + progress.done) (inner : (x : ℕ) → at < x → x < at + count → (x ≢ offset) × (x % 512 ≢ 0)) where
   abbrev pads : List ℕ
   pads = padded end offset bytes
 
-  pub parts_by : (result : Result Last FfsFault) →
-      Ends T fs array second result (λ (last : Last). Puts first second fs n (512 * (at / 512) + at % 512) part × LastGiven second last) (StopsPart T fs first second n (at / 512)) →
+  here : 512 * (at / 512) + at % 512 ≡ min end offset + length (take progress.done pads)
+  here = let long : length (take progress.done pads) ≡ progress.done = length-take-le progress.done pads (omega (arith, fit)) in omega (arith, long, place)
+
+  made_to : MadeTo T fs n end offset bytes zeroth progress.done first progress.last
+  made_to = p.made none
+
+  made_next : (last : Last) → PartMade T fs first second n end offset bytes at part progress.last last → MadeTo T fs n end offset bytes zeroth (progress.done + count) second last
+  made_next last x =
+      let start : ℕ = min end offset in
+      let sum : at + count ≡ start + (progress.done + count) = omega (arith, place) in
+      subst (λ (to : ℕ). parts_made T fs n end offset bytes (places start offset to) (zeroth, no_last) ≡ Ok (second, last)) sum
+      (subst (λ (ys : List ℕ). parts_made T fs n end offset bytes ys (zeroth, no_last) ≡ Ok (second, last))
+      (sym (places_next offset start at count (omega (arith, place)) more (border_place end offset progress.done at place (p.border some)) (λ x lo hi. let k = inner x lo hi in not_place offset x k.0 k.1)))
+      (run_next T fs n end offset bytes (places start offset at) at (zeroth, no_last) first second progress.last last (subst (λ (to : ℕ). parts_made T fs n end offset bytes (places start offset to) (zeroth, no_last) ≡ Ok (first, progress.last)) (sym place) made_to) x.made x.last_is))
+
+  pub parts_by : (result : Result Last FfsFault) → MakesPart T fs array first second n end offset bytes at part progress.last result →
       IfOk result (λ last. next ≡ record { done = progress.done + count; last = last; fault = progress.fault }) → IfErr result (λ fault. next ≡ record { done = progress.done; last = progress.last; fault = Some fault }) →
       Parts T fs array zeroth second n end offset bytes next
-  parts_by (Ok last) x ok err =
-      let here : 512 * (at / 512) + at % 512 ≡ min end offset + length (take progress.done pads) = let long : length (take progress.done pads) ≡ progress.done = length-take-le progress.done pads (omega (arith, fit)) in omega (arith, long, place) in
-      subst (Parts T fs array zeroth second n end offset bytes) (sym ok) (record {
-        stage = x.0;
-        few = fit;
-        border = edge;
-        puts = subst (Puts zeroth second fs n (min end offset)) (ap (λ (m : List ℕ). take progress.done pads ++ m) is ∙ sym (take-add progress.done count pads))
-            (puts_on zeroth first second fs n (min end offset) (take progress.done pads) part p.puts (subst (λ (k : ℕ). Puts first second fs n k part) here x.1.0));
-        given = x.1.1;
-        first = λ z f. absurd (omega (arith, z, more));
-        ended = subst (λ (o : Option FfsFault). IfSome o (Stops (PartStops T fs zeroth second n end offset bytes (progress.done + count)))) (sym none) tt;
-      })
+  parts_by (Ok last) x ok err = subst (Parts T fs array zeroth second n end offset bytes) (sym ok) (record {
+    stage = x.0;
+    few = fit;
+    border = edge;
+    made = λ z. made_next last x.1;
+    puts = subst (Puts zeroth second fs n (min end offset)) (ap (λ (m : List ℕ). take progress.done pads ++ m) is ∙ sym (take-add progress.done count pads))
+        (puts_on zeroth first second fs n (min end offset) (take progress.done pads) part p.puts (subst (λ (k : ℕ). Puts first second fs n k part) here x.1.puts));
+    given = x.1.given;
+    ended = subst (λ (o : Option FfsFault). IfSome o (Stops (PartStops T fs zeroth second n end offset bytes (progress.done + count) last))) (sym none) tt;
+  })
   parts_by (Err fault) x ok err = subst (Parts T fs array zeroth second n end offset bytes) (sym err) (record {
     stage = x.0;
     few = p.few;
     border = p.border;
+    made = λ z. absurd (never_some fault z);
     puts = puts_still zeroth first second fs n (min end offset) (take progress.done pads) p.puts x.1.1.same;
     given = (given_later first second x.1.1.same.later progress.last.edit p.given.0, given_later first second x.1.1.same.later progress.last.size p.given.1);
-    first = λ z f. absurd (never_some fault f);
-    ended = (x.1.0, record { low = some; border = p.border some; before = first; puts = p.puts; first = λ z. p.first z none; told = subst (λ (k : ℕ). StopsPart T fs first second n (k / 512) fault) place x.1.1 });
+    ended = (
+      x.1.0,
+      record {
+        low = some;
+        border = p.border some;
+        before = first;
+        made = made_to;
+        puts = p.puts;
+        told = subst (λ (k : ℕ). StopsPart T fs (parts_at fs n offset bytes k (after_at end offset bytes k progress.last)) first second n fault) place x.1.1;
+      },
+    );
   })
-
--- where other edits are kept as its last ones
-pub parts_kept : (T : Types) (fs : ℕ) (array : ℕ → Option ℕ) (zeroth state : StoreState) (n end offset : ℕ) (bytes : List ℕ) (progress : Progress) (last : Last) → Parts T fs array zeroth state n end offset bytes progress → LastGiven state last →
-    Parts T fs array zeroth state n end offset bytes (record { done = progress.done; last = last; fault = progress.fault })
-parts_kept T fs array zeroth state n end offset bytes progress last p given = record { stage = p.stage; few = p.few; border = p.border; puts = p.puts; given = given; first = p.first; ended = p.ended }
-
-pub part_later : (T : Types) (fs : ℕ) (array : ℕ → Option ℕ) (first second : StoreState) (n index start : ℕ) (part : List ℕ) (result : Result Last FfsFault) →
-    Ends T fs array second result (λ (last : Last). Puts first second fs n start part × LastGiven second last) (StopsPart T fs first second n index) → first.next ≤ second.next
-part_later T fs array first second n index start part (Ok last) x = x.1.0.later
-part_later T fs array first second n index start part (Err fault) x = x.1.1.same.later
 
 pub parts_none : (T : Types) (fs : ℕ) (array : ℕ → Option ℕ) (state : StoreState) (n end offset : ℕ) (bytes : List ℕ) → Stage T fs array state →
     Parts T fs array state state n end offset bytes (record { done = 0; last = record { edit = None; size = None }; fault = None })
@@ -110,9 +200,12 @@ parts_none T fs array state n end offset bytes s = record {
   stage = s;
   few = omega arith;
   border = λ lt. inl refl;
+  made = λ z.
+      let start : ℕ = min end offset in
+      let same : start + 0 ≡ start = omega arith in
+      ap (λ (ys : List ℕ). parts_made T fs n end offset bytes ys (state, no_last)) (ap (places start offset) same ∙ places_none offset start);
   puts = puts_none state fs n (min end offset);
   given = (refl, refl);
-  first = λ z f. refl;
   ended = tt;
 }
 

@@ -1,11 +1,12 @@
 -- A write does what its function of the files says, or leaves one of its stages.
-use Rattle.std.proofs.Common.{◌≡◌, ◌≢◌, ℕ, zero, suc, ◌+◌, ◌-◌, ◌/◌, ◌%◌, ◌<◌, ◌≤◌, ◌⊎◌, Bool, true, false, List, [], ◌∷◌, ◌++◌, length, map, take, replicate, Option, Some, None, Result, Ok, Err, refl, sym, ◌∙◌, ap, inl, inr, arith, eq-eqb, subst, length-append}
+use Rattle.std.proofs.Common.{◌≡◌, ◌≢◌, ℕ, zero, suc, ◌+◌, ◌-◌, ◌%◌, ◌<◌, ◌≤◌, ◌⊎◌, Bool, true, false, List, [], ◌∷◌, ◌++◌, length, map, take, replicate, Option, Some, None, Result, Ok, Err, refl, sym, ◌∙◌, ap, inl, inr, arith, eq-eqb, subst, length-append}
 use Rattle.std.specs.Prelude.{IfErr, IfOk, IfSome, IsOk, MatchResult, OnOk, ◌==◌, ◌||◌, filter, min, nat_lt, if◌then◌else◌}
 use Rattle.std.specs.List.{range_with_len}
 use Rattle.std.proofs.lemmas.Bool.{cases_eq, le-ltb, lt-ltb, or_left, or_right}
 use Rattle.std.proofs.lemmas.List.{length-replicate, length-take-le, take_all}
 use Rattle.std.proofs.Math.Seq.{take-append-add}
 use Rattle.std.proofs.lemmas.List.FromFn.{length-map-range_with_len}
+use Rattle.xn_model.specs.declared.refusal.Refusal.{Refusal}
 use Rattle.xn_model.specs.declared.refusal.Refusal.TheVariants.{TooManyPending}
 use Rattle.xn_model.specs.Root.{word_at}
 use Rattle.xn_model.specs.Types.{Types}
@@ -23,9 +24,11 @@ use Rattle.ffs_lib.specs.Results.{OnlyChanges}
 use Rattle.ffs_lib.specs.Stages.{Ask, Asks, Does, IsRefused, IsStage, OfInode, OfPart, Stages, stages_of}
 use Rattle.ffs_lib.specs.Steps.{Answers, Stage, Stops, StopsAtHome}
 use Rattle.ffs_lib.specs.Values.{Leads}
-use Rattle.ffs_lib.specs.Writes.{PartStops, Parts, Puts, StopsPart, padded}
-use Rattle.ffs_lib.specs.Written.{DoesSome, Overwrites, RefusesSome, TakesSome, WritesSomeTo, WritesTo, borders, first_place, if_any, last_stages, next_stages, part_stages, place_stages, size_stages, written_stages, written_to}
+use Rattle.ffs_lib.specs.WriteOrder.{after_at, borders, no_last, places, parts_made}
+use Rattle.ffs_lib.specs.Writes.{MadeTo, PartStops, Parts, Puts, padded}
+use Rattle.ffs_lib.specs.Written.{DoesSome, Overwrites, RefusesSome, TakesSome, WritesSomeTo, WritesTo, first_place, if_any, last_stages, next_stages, part_stages, place_stages, size_stages, written_stages, written_to}
 use Rattle.ffs_lib.specs.Volumes.{IsVolume, edits_of}
+use Rattle.ffs_lib.specs.declared.data.Last.{Last}
 use Rattle.ffs_lib.specs.declared.data.Progress.{Progress}
 use Rattle.ffs_lib.specs.declared.volume.Volume.{Volume}
 use Rattle.ffs_lib.proofs.DataLaws.{puts_none}
@@ -33,6 +36,7 @@ use Rattle.ffs_lib.proofs.Laws.{staged}
 use Rattle.ffs_lib.proofs.Parting.{end_found, never_some}
 use Rattle.ffs_lib.proofs.Same.{same_on}
 use Rattle.ffs_lib.proofs.Staged.{does_found}
+use Rattle.ffs_lib.proofs.WriteParts.{places_none}
 use Rattle.ffs_lib.proofs.ValueWritten.{file, file_is, files, first_files, looked, none_leads, some_leads, written_leads}
 
 -- One of many stages
@@ -82,7 +86,7 @@ found_file content fs n size end e =
     let l = looked content fs n size f.0 f.1 in
     (f.0, l.0, f.2, l.1)
 
-some_or_none : (o : Option FfsFault) → (o ≡ None) ⊎ ((x : FfsFault) × (o ≡ Some x))
+pub some_or_none : (o : Option FfsFault) → (o ≡ None) ⊎ ((x : FfsFault) × (o ≡ Some x))
 some_or_none None = inl refl
 some_or_none (Some x) = inr (x, refl)
 
@@ -161,7 +165,26 @@ module _ (T : Types) (fs : ℕ) (array : ℕ → Option ℕ) (old middle : Store
       (file_is old fs n offset inode is) ∙ any_is bs (parts_list bs (first_place own offset) ++ size_list bs) ne
 
   abbrev Stopped : FfsFault → Type 0
-  Stopped fault = PartStops T fs old middle n (file_end inode) offset bytes progress.done fault
+  Stopped fault = PartStops T fs old middle n (file_end inode) offset bytes progress.done progress.last fault
+
+  abbrev Refused : ℕ → StoreState → FfsFault → Type 0
+  Refused at before fault = Asks T fs (OfPart n offset bytes at) before middle fault
+
+  refused : (fault : FfsFault) (k : Stopped fault) → Refused (start + progress.done) k.before fault
+  refused fault k = (after_at (file_end inode) offset bytes (start + progress.done) progress.last, k.told)
+
+  state_in : Result (StoreState × Last) Refusal → StoreState
+  state_in (Ok x) = x.0
+  state_in (Err refusal) = old
+
+  -- before the first part nothing is made
+  none_made : (before : StoreState) → progress.done ≡ 0 → MadeTo T fs n (file_end inode) offset bytes old progress.done before progress.last → before ≡ old
+  unfolding state_in
+  none_made before z made =
+      let here : start + progress.done ≡ start = omega (arith, z) in
+      let same : ◌≡◌ {A = Result (StoreState × Last) Refusal} (Ok (old, no_last)) (Ok (before, progress.last)) =
+      sym (ap (λ (ys : List ℕ). parts_made T fs n (file_end inode) offset bytes ys (old, no_last)) (ap (places start offset) here ∙ places_none offset start)) ∙ made in
+      sym (ap state_in same)
 
   -- a part was refused
   part_refused : (fault : FfsFault) → Stopped fault → IsRefused T fs old middle fault (written_stages all n offset bytes)
@@ -172,32 +195,32 @@ module _ (T : Types) (fs : ℕ) (array : ℕ → Option ℕ) (old middle : Store
       subst (IsRefused T fs old middle fault) (sym (written_are bytes b.there)) (subst (λ (x : ℕ). IsRefused T fs old middle fault (parts_list bytes x ++ size_list bytes)) (sym start_is) (elim (cases_eq done 0) [
         | inl z ↦
             let here : start + done ≡ start = omega (arith, z) in
-            inl (subst (λ (s : StoreState). StopsPart T fs s middle n (start / 512) fault) (k.first z) (subst (λ (x : ℕ). StopsPart T fs k.before middle n (x / 512) fault) here k.told))
+            inl (subst (λ (s : StoreState). Refused start s fault) (none_made k.before z k.made) (subst (λ (x : ℕ). Refused x k.before fault) here (refused fault k)))
         | inr ne ↦
             let border : is_place (start + done) ≡ true = elim k.border [
               | inl z ↦ absurd (ne z)
               | inr (inl e) ↦ or_left (start + done == offset) ((start + done) % 512 == 0) (eq-eqb (start + done) offset e)
               | inr (inr e) ↦ or_right (start + done == offset) ((start + done) % 512 == 0) (eq-eqb ((start + done) % 512) 0 e)
             ] in
-            inr (before_others T fs middle fault _ (size_list bytes) (at_place T fs middle fault (to bytes) (λ at. OfPart n (at / 512)) is_place (start + done) k.before (first_files old fs n offset inode is k.before bytes done (omega (arith, few)) k.puts) k.told border
+            inr (before_others T fs middle fault _ (size_list bytes) (at_place T fs middle fault (to bytes) (OfPart n offset bytes) is_place (start + done) k.before (first_files old fs n offset inode is k.before bytes done (omega (arith, few)) k.puts) (refused fault k) border
             (start + 1) (offset + length bytes - (start + 1)) (omega (arith, ne)) (omega (arith, few, l))))
       ]))
 
-  place_are : (done : ℕ) → place_stages all n offset bytes done ≡ (to bytes (start + done), OfPart n ((start + done) / 512)) ∷ (to bytes (start + done), OfInode n) ∷ []
+  place_are : (done : ℕ) → place_stages all n offset bytes done ≡ (to bytes (start + done), OfPart n offset bytes (start + done)) ∷ (to bytes (start + done), OfInode n) ∷ []
   place_are done =
       ap (λ r. stages_of r (λ f. part_stages all n offset bytes f ((first_place f offset + done) ∷ []) ++ size_stages all n offset bytes f ((first_place f offset + done) ∷ []))) (file_is old fs n offset inode is)
-      ∙ ap (λ x. (to bytes (x + done), OfPart n ((x + done) / 512)) ∷ (to bytes (x + done), OfInode n) ∷ []) start_is
+      ∙ ap (λ x. (to bytes (x + done), OfPart n offset bytes (x + done)) ∷ (to bytes (x + done), OfInode n) ∷ []) start_is
 
   part_place : (fault : FfsFault) → Stopped fault → IsStage T fs middle fault (place_stages all n offset bytes progress.done)
   part_place fault k =
       let few = k.low in
-      subst (IsStage T fs middle fault) (sym (place_are progress.done)) (inl (k.before, first_files old fs n offset inode is k.before bytes progress.done (omega (arith, few)) k.puts, k.told))
+      subst (IsStage T fs middle fault) (sym (place_are progress.done)) (inl (k.before, first_files old fs n offset inode is k.before bytes progress.done (omega (arith, few)) k.puts, refused fault k))
 
   size_place : (new : StoreState) (fault : FfsFault) → StopsAtHome T fs middle new n fault → IsStage T fs new fault (place_stages all n offset bytes progress.done)
   size_place new fault s = subst (IsStage T fs new fault) (sym (place_are progress.done)) (inr (inl (middle, first_files old fs n offset inode is middle bytes progress.done p.few p.puts, s)))
 
   abbrev last_of : Bool → ℕ → Stages
-  last_of test at = if test then (to bytes at, OfPart n (at / 512)) ∷ [] else (to bytes at, OfInode n) ∷ []
+  last_of test at = if test then (to bytes at, OfPart n offset bytes at) ∷ [] else (to bytes at, OfInode n) ∷ []
 
   last_are : (test : Bool) → nat_lt (start + progress.done) (offset + length bytes) ≡ test → last_stages all n offset bytes progress.done ≡ last_of test (start + progress.done)
   last_are test e =
@@ -210,7 +233,7 @@ module _ (T : Types) (fs : ℕ) (array : ℕ → Option ℕ) (old middle : Store
       let few = k.low in
       let l = long_pads in
       subst (IsStage T fs middle fault) (sym (last_are true (lt-ltb (start + progress.done) (offset + length bytes) (omega (arith, few, l)))))
-      (inl (k.before, first_files old fs n offset inode is k.before bytes progress.done (omega (arith, few)) k.puts, k.told))
+      (inl (k.before, first_files old fs n offset inode is k.before bytes progress.done (omega (arith, few)) k.puts, refused fault k))
 
   size_last : progress.done ≡ length pads → (new : StoreState) (fault : FfsFault) → StopsAtHome T fs middle new n fault → IsStage T fs new fault (last_stages all n offset bytes progress.done)
   size_last e new fault s =
@@ -218,7 +241,7 @@ module _ (T : Types) (fs : ℕ) (array : ℕ → Option ℕ) (old middle : Store
       subst (IsStage T fs new fault) (sym (last_are false (le-ltb (start + progress.done) (offset + length bytes) (omega (arith, e, l)))))
       (inl (middle, first_files old fs n offset inode is middle bytes progress.done p.few p.puts, s))
 
-  next_are : (count : ℕ) → next_stages all n offset bytes count ≡ (to bytes (offset + count), OfPart n ((offset + count) / 512)) ∷ []
+  next_are : (count : ℕ) → next_stages all n offset bytes count ≡ (to bytes (offset + count), OfPart n offset bytes (offset + count)) ∷ []
   next_are count = ap (λ r. stages_of r (λ f. part_stages all n offset bytes f ((offset + count) ∷ []))) (file_is old fs n offset inode is)
 
   abbrev next : List ℕ → Unit {0} × Files
@@ -401,7 +424,7 @@ module _ (T : Types) (fs : ℕ) (array : ℕ → Option ℕ) (old middle : Store
             x.0,
             stop.0,
             subst (IsStage T fs middle x.0) (sym (next_are taken))
-                (inl (k.before, first_files old fs n offset inode is k.before bytes progress.done (omega (arith, few)) k.puts ∙ ap (to bytes) here, subst (λ (at : ℕ). StopsPart T fs k.before middle n (at / 512) x.0) here k.told)),
+                (inl (k.before, first_files old fs n offset inode is k.before bytes progress.done (omega (arith, few)) k.puts ∙ ap (to bytes) here, subst (λ (at : ℕ). Refused at k.before x.0) here (refused x.0 k))),
           )
 
   -- by a count

@@ -3,6 +3,7 @@ pub mod Results
 pub mod Outcomes
 pub mod Volumes
 pub mod Steps
+pub mod WriteOrder
 pub mod Writes
 pub mod Reclaiming
 pub mod Replacing

@@ -11,7 +11,7 @@
 --     removed_stages, created_stages, renamed_stages, replaced_stages    of `unlink` and `rmdir`; of `create` and `mkdir`; of `rename`; of `replace`
 --     Unnames, KeptOrEmptied     what the files don't say of the inodes where a name is taken; what a refusal leaves of the inode that was named
 --     Makes, OnlyMade            what the files don't say of the inodes where one is made; all but that one are as before
-use Rattle.std.specs.Prelude.{◌≡◌, ◌≢◌, ℕ, ◌+◌, ◌-◌, ◌<◌, ◌⊎◌, nat_le, nat_lt, List, [], ◌∷◌, ◌++◌, length, take, replicate, None, Some, Result, Ok, Err, true}
+use Rattle.std.specs.Prelude.{◌≡◌, ◌≢◌, ℕ, ◌+◌, ◌-◌, ◌<◌, ◌⊎◌, nat_le, nat_lt, List, [], ◌∷◌, ◌++◌, length, take, replicate, Option, None, Some, Result, Ok, Err, true}
 use Rattle.std.specs.Prelude.{MatchResult, ◌==◌, if◌then◌else◌}
 use Rattle.std.specs.Option.{ok_or}
 use Rattle.xn_model.specs.Types.{Types}
@@ -29,6 +29,7 @@ use Rattle.ffs_lib.specs.Making.{StopsTop}
 use Rattle.ffs_lib.specs.Results.{IsAs, IsExtended, OthersSame, SameContents, SameOrNew, new_inode}
 use Rattle.ffs_lib.specs.Steps.{StopsAtHome, StopsEntering, StopsGrowing, Wants, WantsHome, WantsPointers, newest_block}
 use Rattle.ffs_lib.specs.Values.{Leads}
+use Rattle.ffs_lib.specs.WriteOrder.{parts_at}
 use Rattle.ffs_lib.specs.Writes.{StopsPart}
 
 abbrev pub more_a_link : InodeValue → InodeValue
@@ -51,15 +52,15 @@ abbrev pub with_emptied : Files → ℕ → Files
 with_emptied files n = with_value files n (emptied (files n))
 
 -- What is asked: an edit of a directory's block at an index; of the block that has an inode; of that, or of the inode's block of pointers; what an entry
--- more in a directory needs, by its 32 bytes; what a block of inodes more does; an edit of a file's block at an index, or what a block more there needs; what the first
--- block of inodes needs.
+-- more in a directory needs, by its 32 bytes; what a block of inodes more does; what the part does that begins at a place, where bytes are written into a file
+-- at an offset; what the first block of inodes needs.
 pub data Ask : Type 0 where
   OfEntry : (d index : ℕ) → Ask
   OfInode : (n : ℕ) → Ask
   OfLink : (n : ℕ) → Ask
   ForEntry : (d : ℕ) (entry : List ℕ) → Ask
   ForInodes : Ask
-  OfPart : (n index : ℕ) → Ask
+  OfPart : (n offset : ℕ) (bytes : List ℕ) (at : ℕ) → Ask
   ForTop : Ask
 
 abbrev pub Asks : Types → ℕ → Ask → StoreState → StoreState → FfsFault → Type 0
@@ -69,7 +70,8 @@ Asks T fs (OfInode n) before new fault = StopsAtHome T fs before new n fault
 Asks T fs (OfLink n) before new fault = (new ≡ before) × (WantsHome T before fs n fault ⊎ WantsPointers T before fs n fault)
 Asks T fs (ForEntry d entry) before new fault = StopsEntering T fs before new d entry fault
 Asks T fs ForInodes before new fault = StopsGrowing T fs before new fault
-Asks T fs (OfPart n index) before new fault = StopsPart T fs before new n index fault
+Asks T fs (OfPart n offset bytes at) before new fault =
+    (after : Option ℕ) × StopsPart T fs (parts_at fs n offset bytes at after) before new n fault
 Asks T fs ForTop before new fault = StopsTop T fs before new fault
 
 abbrev pub Stages : Type 0

@@ -2,7 +2,6 @@
 -- bytes, part after part, a block each, and then raises the size. The bytes from the file's end to the offset are zeros.
 --     first_written              the bytes of a file of which the first are written
 --     written_to                 the files with a file's bytes written so far
---     borders                    where the parts begin
 --     first_place                where the first part begins
 --     part_stages, size_stages   where a part is asked for; where the size is
 --     if_any                     no stages where there are no bytes
@@ -13,9 +12,8 @@
 --     DoesSome                   what `write_some` answers and leaves
 --     WritesTo, WritesSomeTo     how many bytes are written where a write ends, and what is asked there
 --     Overwrites                 what the files don't say of the inodes
-use Rattle.std.specs.Prelude.{◌≡◌, ◌≢◌, ℕ, ◌+◌, ◌-◌, ◌/◌, ◌%◌, ◌<◌, ◌≤◌, ◌==◌, ◌||◌, nat_lt, List, [], ◌∷◌, ◌++◌, length, drop, filter, map, min, take}
+use Rattle.std.specs.Prelude.{◌≡◌, ◌≢◌, ℕ, ◌+◌, ◌-◌, ◌<◌, ◌≤◌, nat_lt, List, [], ◌∷◌, ◌++◌, length, drop, filter, map, min, take}
 use Rattle.std.specs.Prelude.{Result, Ok, Err, true, MatchResult, if◌then◌else◌}
-use Rattle.std.specs.List.{range_with_len}
 use Rattle.xn_model.specs.declared.refusal.Refusal.TheVariants.{TooManyPending}
 use Rattle.xn_model.specs.Root.{word_at}
 use Rattle.xn_model.specs.Types.{Types}
@@ -29,6 +27,7 @@ use Rattle.ffs_lib.specs.Results.{OnlyChanges, byte_written}
 use Rattle.ffs_lib.specs.Stages.{IsRefused, IsStage, OfInode, OfPart, Stages, stages_of}
 use Rattle.ffs_lib.specs.Steps.{newest_block}
 use Rattle.ffs_lib.specs.Values.{Leads}
+use Rattle.ffs_lib.specs.WriteOrder.{borders}
 use Rattle.ffs_lib.specs.Writes.{IsBorder, padded}
 
 -- The bytes up to a place are what they are to be, those behind it what they were, and the size is as before.
@@ -38,12 +37,8 @@ first_written old new at = take (length old) (take at new ++ drop at old)
 abbrev pub written_to : Files → ℕ → ℕ → List ℕ → ℕ × List ℕ → ℕ → Files
 written_to files n offset bytes file at = with_value files n (File file.0 (first_written file.1 (written_bytes file.1 offset bytes) at))
 
--- where the first part begins, and from there to an end each place where a block begins, and the offset
-abbrev pub borders : ℕ → ℕ → ℕ → List ℕ
-borders start offset end = start ∷ filter (λ at. (at == offset) || (at % 512 == 0)) (range_with_len (start + 1) (end - (start + 1)))
-
 abbrev pub part_stages : Files → ℕ → ℕ → List ℕ → ℕ × List ℕ → List ℕ → Stages
-part_stages files n offset bytes file places = map (λ at. (written_to files n offset bytes file at, OfPart n (at / 512))) places
+part_stages files n offset bytes file places = map (λ at. (written_to files n offset bytes file at, OfPart n offset bytes at)) places
 
 abbrev pub size_stages : Files → ℕ → ℕ → List ℕ → ℕ × List ℕ → List ℕ → Stages
 size_stages files n offset bytes file places = map (λ at. (written_to files n offset bytes file at, OfInode n)) places

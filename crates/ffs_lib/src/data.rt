@@ -1,7 +1,7 @@
 // The bytes of files.
 
 ghost use Rattle.std.specs.Prelude.{◌≡◌, ◌≢◌, ◌⊎◌, ℕ, ◌<◌, ◌≤◌, ◌+◌, ◌-◌, ◌*◌, ◌/◌, ◌%◌, List, [], length, map, replicate, Option, None, Some, Ok};
-ghost use Rattle.std.specs.Prelude.{IfErr, IfOk, IsOk, IsTrue, OnOk, min, ◌^◌, ◌↔◌};
+ghost use Rattle.std.specs.Prelude.{IfErr, IfOk, IsOk, IsTrue, OnOk, min, ◌^◌, ◌↔◌, if◌then◌else◌};
 ghost use Rattle.std.specs.List.{range_with_len};
 ghost use Rattle.xn_model.specs.Root.{word_at};
 ghost use Rattle.xn_model.specs.Calls.{was_given};
@@ -16,7 +16,9 @@ ghost use Rattle.xn_model.specs.declared.refusal.Refusal.TheVariants.{TooManyPen
 ghost use Rattle.ffs_lib.specs.Outcomes.{IsRaised};
 ghost use Rattle.ffs_lib.specs.Results.{OnlyChanges};
 ghost use Rattle.ffs_lib.specs.Steps.{Ends, Stage, StopsAtHome, newest_block};
-ghost use Rattle.ffs_lib.specs.Writes.{LastGiven, Parts, PointsTo, Puts, PutsBy, StopsPart};
+ghost use Rattle.ffs_lib.specs.Orders.{Acts, act_of};
+ghost use Rattle.ffs_lib.specs.WriteOrder.{data_action, data_parts, no_last, pointers_action, size_action, zeros_parts};
+ghost use Rattle.ffs_lib.specs.Writes.{ActedBy, LastGiven, Parts, PointsTo, PutsBy, PutsParts, StopsAction, StopsPart};
 ghost use Rattle.ffs_lookup.specs.Places.{IsFile};
 
 use crate::put::{attach, put, put_inode};
@@ -56,8 +58,7 @@ pub struct Progress {
 
 /// What comes after an edit of another block than the inode's.
 fn next_after(edit: EditId) -> Last
-    ensures edit { result.edit ≡ Some edit }
-    ensures size { result.size ≡ Some edit }
+    ensures { result ≡ record { edit = Some edit; size = Some edit } }
 {
     Last {
         edit: Some(edit),
@@ -82,8 +83,11 @@ fn add_direct<S: Store>(
     ensures ends { (T : Types) (array : ℕ → Option ℕ) (inode : List ℕ) → S.types_of store.old ≡ T → Stage T fs.number array (S.state_of store.old) →
         Ok inode ≡ file_in (newest_block (S.state_of store.old)) fs.number number → direct_in inode index ≡ 0 → IsTrue (was_given (S.state_of store.old) after) →
         Ends T fs.number array (S.state_of store.new) result
-        (PutsBy (S.state_of store.old) (S.state_of store.new) fs.number number (512 * index + at) bytes.now)
-        (StopsPart T fs.number (S.state_of store.old) (S.state_of store.new) number index) }
+        (λ entry. PutsBy (S.state_of store.old) (S.state_of store.new) fs.number number (512 * index + at) bytes.now entry
+        × ActedBy T fs.number (data_action (newest_block (S.state_of store.old)) fs.number number index at bytes.now after)
+        (S.state_of store.old) (S.state_of store.new) entry)
+        (StopsAction T fs.number (data_action (newest_block (S.state_of store.old)) fs.number number index at bytes.now after)
+        (S.state_of store.old) (S.state_of store.new) number) }
 {
     let (block, _) = store.init(fs, DATA, &block_with(at, bytes))?;
     let Found {
@@ -118,8 +122,11 @@ fn add_pointers<S: Store>(
         Stage T fs.number array (S.state_of store.old) →
         Ok inode ≡ file_in (newest_block (S.state_of store.old)) fs.number number → word_at inode 56 ≡ 0 → IsTrue (was_given (S.state_of store.old) after) →
         Ends T fs.number array (S.state_of store.new) result
-        (PointsTo (S.state_of store.old) (S.state_of store.new) fs.number number inode)
-        (StopsPart T fs.number (S.state_of store.old) (S.state_of store.new) number index) }
+        (λ block. PointsTo (S.state_of store.old) (S.state_of store.new) fs.number number inode block
+        × (act_of T fs.number (pointers_action (newest_block (S.state_of store.old)) fs.number number index after) (S.state_of store.old)
+        ≡ Ok (S.state_of store.new)))
+        (StopsAction T fs.number (pointers_action (newest_block (S.state_of store.old)) fs.number number index after)
+        (S.state_of store.old) (S.state_of store.new) number) }
 {
     let (block, _) = store.init(fs, POINTER_BLOCK, &[0; 512])?;
     let Found {
@@ -156,8 +163,11 @@ fn pointers_of<S: Store>(
         Ok inode ≡ file_in (newest_block (S.state_of store.old)) fs.number number →
         (word_at inode 56 ≢ 0 → length (newest_block (S.state_of store.old) (word_at inode 56)) ≡ 512) → IsTrue (was_given (S.state_of store.old) after) →
         Ends T fs.number array (S.state_of store.new) result
-        (PointsTo (S.state_of store.old) (S.state_of store.new) fs.number number inode)
-        (StopsPart T fs.number (S.state_of store.old) (S.state_of store.new) number index) }
+        (λ block. PointsTo (S.state_of store.old) (S.state_of store.new) fs.number number inode block
+        × (act_of T fs.number (pointers_action (newest_block (S.state_of store.old)) fs.number number index after) (S.state_of store.old)
+        ≡ Ok (S.state_of store.new)))
+        (StopsAction T fs.number (pointers_action (newest_block (S.state_of store.old)) fs.number number index after)
+        (S.state_of store.old) (S.state_of store.new) number) }
 {
     let indirect = find_file(store, fs, number)?.inode.indirect();
     if indirect != 0 {
@@ -186,8 +196,11 @@ fn add_pointed<S: Store>(
         length (newest_block (S.state_of store.old) pointers) ≡ 512 → pointer_word (newest_block (S.state_of store.old) pointers) (index - 12) ≡ 0 →
         IsTrue (was_given (S.state_of store.old) after) →
         Ends T fs.number array (S.state_of store.new) result
-        (PutsBy (S.state_of store.old) (S.state_of store.new) fs.number n (512 * index + at) bytes.now)
-        (StopsPart T fs.number (S.state_of store.old) (S.state_of store.new) n index) }
+        (λ entry. PutsBy (S.state_of store.old) (S.state_of store.new) fs.number n (512 * index + at) bytes.now entry
+        × ActedBy T fs.number (data_action (newest_block (S.state_of store.old)) fs.number n index at bytes.now after)
+        (S.state_of store.old) (S.state_of store.new) entry)
+        (StopsAction T fs.number (data_action (newest_block (S.state_of store.old)) fs.number n index at bytes.now after)
+        (S.state_of store.old) (S.state_of store.new) n) }
 {
     let (block, _) = store.init(fs, DATA, &block_with(at, bytes))?;
     let here = 4 * (index - DIRECT_POINTERS);
@@ -222,8 +235,9 @@ fn add_block<S: Store>(
         Ok inode ≡ file_in (newest_block (S.state_of store.old)) fs.number number → file_block (newest_block (S.state_of store.old)) inode index ≡ 0 →
         (12 ≤ index → word_at inode 56 ≢ 0 → length (newest_block (S.state_of store.old) (word_at inode 56)) ≡ 512) →
         LastGiven (S.state_of store.old) last → Ends T fs.number array (S.state_of store.new) result
-        (λ next. Puts (S.state_of store.old) (S.state_of store.new) fs.number number (512 * index + at) bytes.now × LastGiven (S.state_of store.new) next)
-        (StopsPart T fs.number (S.state_of store.old) (S.state_of store.new) number index) }
+        (PutsParts T fs.number (data_parts fs.number number index at bytes.now last.edit) (S.state_of store.old) (S.state_of store.new)
+        number index at bytes.now last)
+        (StopsPart T fs.number (data_parts fs.number number index at bytes.now last.edit) (S.state_of store.old) (S.state_of store.new) number) }
 {
     if index < DIRECT_POINTERS {
         let added = add_direct(alloc, store, fs, number, index, at, bytes, last.edit)?;
@@ -255,8 +269,9 @@ fn write_block<S: Store>(
     ensures ends { (T : Types) (array : ℕ → Option ℕ) (inode : List ℕ) → S.types_of store.old ≡ T → Stage T fs.number array (S.state_of store.old) →
         Ok inode ≡ file_in (newest_block (S.state_of store.old)) fs.number number → LastGiven (S.state_of store.old) last →
         Ends T fs.number array (S.state_of store.new) result
-        (λ next. Puts (S.state_of store.old) (S.state_of store.new) fs.number number (512 * index + at) bytes.now × LastGiven (S.state_of store.new) next)
-        (StopsPart T fs.number (S.state_of store.old) (S.state_of store.new) number index) }
+        (PutsParts T fs.number (data_parts fs.number number index at bytes.now last.edit) (S.state_of store.old) (S.state_of store.new)
+        number index at bytes.now last)
+        (StopsPart T fs.number (data_parts fs.number number index at bytes.now last.edit) (S.state_of store.old) (S.state_of store.new) number) }
 {
     let file = find_file(store, fs, number)?;
     let block = file_block(store, fs, number, &file, index)?;
@@ -294,9 +309,9 @@ fn clear_block<S: Store>(
     ensures ends { (T : Types) (array : ℕ → Option ℕ) (inode : List ℕ) → S.types_of store.old ≡ T → Stage T fs.number array (S.state_of store.old) →
         Ok inode ≡ file_in (newest_block (S.state_of store.old)) fs.number number → LastGiven (S.state_of store.old) last →
         Ends T fs.number array (S.state_of store.new) result
-        (λ next. Puts (S.state_of store.old) (S.state_of store.new) fs.number number (512 * index + at) (replicate count 0)
-        × LastGiven (S.state_of store.new) next)
-        (StopsPart T fs.number (S.state_of store.old) (S.state_of store.new) number index) }
+        (PutsParts T fs.number (zeros_parts fs.number number index at count last.edit) (S.state_of store.old) (S.state_of store.new)
+        number index at (replicate count 0) last)
+        (StopsPart T fs.number (zeros_parts fs.number number index at count last.edit) (S.state_of store.old) (S.state_of store.new) number) }
 {
     let file = find_file(store, fs, number)?;
     let block = file_block(store, fs, number, &file, index)?;
@@ -333,7 +348,7 @@ fn step(progress: Progress, count: usize, part: Result<Last, FfsFault>) -> Progr
 
 /// The last edits of a write for a part past the file's end, and none for one before it.
 fn last_if(last: Last, past: bool) -> Last
-    ensures { (state : StoreState) → LastGiven state last → LastGiven state result }
+    ensures { result ≡ (if past then last else no_last) }
 {
     if past {
         last
@@ -342,6 +357,17 @@ fn last_if(last: Last, past: bool) -> Last
             edit: None,
             size: None,
         }
+    }
+}
+
+/// What a part comes to: one before the file's end keeps the last edits of the write.
+fn kept_if(last: Last, past: bool, written: Result<Last, FfsFault>) -> Result<Last, FfsFault>
+    ensures { result ≡ mapped (λ next. if past then next else last) written }
+{
+    match written {
+        Ok(next) if past => Ok(next),
+        Ok(_) => Ok(last),
+        Err(fault) => Err(fault),
     }
 }
 
@@ -390,11 +416,7 @@ fn write_part<S: Store>(
     let last = last_if(progress.last, past);
     let part = &bytes[from..from + count];
     let written = write_block(alloc, store, fs, number, index, within, part, last);
-    let next = step(progress, count, written);
-    Progress {
-        last: if past { next.last } else { progress.last },
-        ..next
-    }
+    step(progress, count, kept_if(progress.last, past, written))
 }
 
 /// Raises the size of a file to this, where it is below, after an edit.
@@ -413,6 +435,9 @@ pub fn raise_size<S: Store>(
         (λ _. IsRaised (newest_block (S.state_of store.old)) (newest_block (S.state_of store.new)) fs.number number inode size
         × OnlyChanges (newest_block (S.state_of store.old)) (newest_block (S.state_of store.new)) fs.number number)
         (λ fault. (word_at inode 4 < size) × StopsAtHome T fs.number (S.state_of store.old) (S.state_of store.new) number fault) }
+    ensures order { (T : Types) (array : ℕ → Option ℕ) (inode : List ℕ) → S.types_of store.old ≡ T → Stage T fs.number array (S.state_of store.old) →
+        Ok inode ≡ file_in (newest_block (S.state_of store.old)) fs.number number →
+        Acts T fs.number (size_action (newest_block (S.state_of store.old)) fs.number number size after) (S.state_of store.old) (S.state_of store.new) result }
 {
     let Found {
         block,

@@ -24,6 +24,7 @@ ghost use Rattle.ffs_lib.specs.Outcomes.{HasFreePointer};
 ghost use Rattle.ffs_lib.specs.Replacing.{AreDirect, pair_of};
 ghost use Rattle.ffs_model.specs.Standing.{StayNamed};
 ghost use Rattle.xn_model.specs.Lives.{Lives};
+ghost use Rattle.ffs_lib.specs.WriteOrder.{WritesInOrder, WritesSomeInOrder};
 ghost use Rattle.ffs_lib.specs.Written.{DoesSome, Overwrites, WritesSomeTo, WritesTo, written_stages};
 ghost use Rattle.ffs_lookup.specs.FileValues.{files_of};
 ghost use Rattle.ffs_lookup.specs.Files.{Files, created, listed, new_directory, new_file, read, read_over, removed, renamed, unlinked, written};
@@ -415,6 +416,9 @@ impl Volume {
         ensures inodes { let old = newest_block (S.state_of store.old) in let new = newest_block (S.state_of store.new) in let fs = self.now.fs.number in
             (file : List ℕ) → Ok file ≡ write_in old fs inode (offset + length bytes.now) → (done : ℕ) × Overwrites old new fs inode file offset bytes.now done
             × WritesTo (S.types_of store.old) fs (files_of old fs) inode file offset bytes.now done (S.state_of store.new) result }
+        ensures order { let old = newest_block (S.state_of store.old) in let fs = self.now.fs.number in
+            (file : List ℕ) → Ok file ≡ write_in old fs inode (offset + length bytes.now) →
+            WritesInOrder (S.types_of store.old) fs inode file offset bytes.now (S.state_of store.old) (S.state_of store.new) result }
         ensures none { length bytes.now ≡ 0 → S.state_of store.new ≡ S.state_of store.old }
         ensures keeps { IsVolume (S.types_of store.old) (S.state_of store.new) self.now }
     {
@@ -452,6 +456,9 @@ impl Volume {
         ensures inodes { let old = newest_block (S.state_of store.old) in let new = newest_block (S.state_of store.new) in let fs = self.now.fs.number in
             (file : List ℕ) → Ok file ≡ write_in old fs inode (offset + length bytes.now) → (done : ℕ) × Overwrites old new fs inode file offset bytes.now done
             × WritesSomeTo (S.types_of store.old) fs (files_of old fs) inode file offset bytes.now done (S.state_of store.new) result }
+        ensures order { let old = newest_block (S.state_of store.old) in let fs = self.now.fs.number in
+            (file : List ℕ) → Ok file ≡ write_in old fs inode (offset + length bytes.now) →
+            WritesSomeInOrder (S.types_of store.old) fs inode file offset bytes.now (S.state_of store.old) (S.state_of store.new) result }
         ensures none { length bytes.now ≡ 0 → S.state_of store.new ≡ S.state_of store.old }
         ensures keeps { IsVolume (S.types_of store.old) (S.state_of store.new) self.now }
     {

@@ -1,5 +1,4 @@
-use Rattle.std.proofs.Common.{◌≡◌, ◌∙◌, ◌*◌, ◌+◌, ◌-◌, ◌<◌, ℕ, List, [], ◌∷◌, ap, arith, refl, subst, sym, inl, inr}
-use Rattle.std.specs.Int.{w32, to_le_bytes}
+use Rattle.std.proofs.Common.{◌≡◌, ◌∙◌, ◌*◌, ◌+◌, ◌-◌, ◌<◌, ℕ, List, [], ◌∷◌, ap, arith, subst, sym}
 use Rattle.xn_model.specs.Lists.{put}
 use Rattle.xn_model.specs.Calls.{init_of}
 use Rattle.ffs_model.specs.Cuts.{latest}
@@ -8,11 +7,13 @@ use Rattle.ffs_model.proofs.ForCallers.{data_begun}
 use Rattle.ffs_lookup.proofs.ForCallers.{gives_err}
 use Rattle.ffs_lookup.specs.Newest.{file_block}
 use Rattle.ffs_lib.specs.Edits.{edit_at}
-use Rattle.ffs_lib.specs.Steps.{Attached}
-use Rattle.ffs_lib.specs.Writes.{PutsBy, StopsPart}
-use Rattle.ffs_lib.proofs.DataLaws.{adds_pointed, begun_stage, not_begun, pointed_short, pointed_undone}
+use Rattle.ffs_lib.specs.Steps.{Attached, Ends}
+use Rattle.ffs_lib.specs.WriteOrder.{data_action, pointed_edit}
+use Rattle.ffs_lib.specs.Writes.{ActedBy, PutsBy, StopsAction}
+use Rattle.ffs_lib.proofs.Actions.{pointed_is}
+use Rattle.ffs_lib.proofs.DataLaws.{not_begun, pointed_ends}
 use Rattle.ffs_lib.proofs.DataShort.{block_long}
-use Rattle.ffs_lib.proofs.Laws.{attaches, begins_by, begins_err, fails, same_stage, short_told, told_by}
+use Rattle.ffs_lib.proofs.Laws.{begins_by, begins_err, fails, same_stage, short_told, told_by}
 use Rattle.ffs_lib.proofs.Writing.{indirect_block}
 use Rattle.ffs_lib.proofs.data.add_pointed.Goals as goal
 
@@ -31,7 +32,7 @@ returns-in_err-block-clause-ends g c = λ T array n inode e s is points there lo
     let hole : file_block (latest old.lives) inode index ≡ 0 = ap (file_block (latest old.lives) inode) (sym at) ∙ (indirect_block (latest old.lives) inode c.args.pointers (index - 12) points there ∙ none) in
     fails _ _ (same_stage s same) c.from_residual.result _ c.from_residual.ensures.1 (
       short_told (init_of T old fs 2 bytes) (data_begun T old s.keeps.consistent fs bytes (block_long c.args.at c.args.bytes.now c.requires.within)) _ told,
-      not_begun T fs old new n index inode is hole c.args.pointers (inr (sym points)) 2 bytes (inl refl) same _ told,
+      not_begun T fs old new n 2 bytes c.args.pointers (pointed_edit index c.args.after) _ (pointed_is (latest old.lives) fs n inode index c.args.pointers c.args.at c.args.bytes.now c.args.after is hole far points) same _ told,
     )
 
 pub returns-clause-ends : goal.returns-clause-ends
@@ -54,12 +55,7 @@ returns-clause-ends g c = λ T array n inode e s is points there long none given
     let same : 12 + place ≡ index = omega (arith, far) in
     let done = begins_by (g.S.Store.types_of c.args.store.now) T fs 2 _ (put zero_block at bytes) zeroth first (block, number) e c.block_with.ensures c.in_ok-block.ensures.state in
     let types = c.init.ensures.types ∙ e in
-    let edit = edit_at (4 * place) (to_le_bytes w32 block) ((block, 2) ∷ []) [] c.args.after in
     let put_done = subst (λ (b : List ℕ). Attached T fs block last (edit_at (4 * place) b ((block, 2) ∷ []) [] c.args.after) first new c.attach.result) c.pointer_bytes.ensures.bytes (c.attach.ensures.put T types) in
-    attaches T fs block last edit array first new _ _
-    (begun_stage T fs array zeroth first s n inode is 2 (put zero_block at bytes) block number done) c.attach.result put_done
-    (pointed_short T fs array zeroth first s n inode is last place at bytes points there low long none c.requires.within block number small done c.args.after given)
-    (λ entry p. let x = adds_pointed T fs array zeroth first s n inode is last place at bytes points there low long none c.requires.within block number small done c.args.after given new entry p in
-    (x.0, subst (λ (i : ℕ). PutsBy zeroth new fs n (512 * i + at) bytes entry) same x.1))
-    (λ fault left told. subst (λ (i : ℕ). StopsPart T fs zeroth new n i fault) same
-    (pointed_undone T fs array zeroth first s n inode is last place at bytes points there low long none c.requires.within block number small done c.args.after given new left fault (edit, told)))
+    subst (λ (i : ℕ). Ends T fs array new c.attach.result (λ entry. PutsBy zeroth new fs n (512 * i + at) bytes entry × ActedBy T fs (data_action (latest zeroth.lives) fs n i at bytes c.args.after) zeroth new entry)
+    (StopsAction T fs (data_action (latest zeroth.lives) fs n i at bytes c.args.after) zeroth new n)) same
+    (pointed_ends T fs array zeroth first s n inode is last place at bytes points there low long none c.requires.within block number small done c.args.after given new c.attach.result put_done)

@@ -1,14 +1,16 @@
-use Rattle.std.proofs.Common.{◌≡◌, ◌∙◌, ◌+◌, ◌-◌, ℕ, List, [], Some, Ok, Option, ap, arith, drop, length, replicate, subst, sym, take}
-use Rattle.std.specs.Prelude.{IsTrue}
+use Rattle.std.proofs.Common.{◌≡◌, ◌∙◌, ◌+◌, ◌-◌, ℕ, List, [], true, false, Err, Ok, ap, arith, drop, length, replicate, subst, sym, take}
 use Rattle.std.proofs.lemmas.List.{length-replicate, take-replicate}
-use Rattle.xn_model.specs.Calls.{propose_of, was_given}
+use Rattle.xn_model.specs.Results.{result_and_then}
 use Rattle.ffs_model.specs.Cuts.{latest}
 use Rattle.ffs_model.specs.Library.{IsLibrary}
 use Rattle.ffs_lookup.specs.Newest.{byte_in, file_block}
 use Rattle.ffs_lib.specs.Edits.{edit_at}
-use Rattle.ffs_lib.specs.Steps.{Tells}
-use Rattle.ffs_lib.proofs.DataLaws.{puts, refused_there, there_short}
-use Rattle.ffs_lib.proofs.Laws.{fails, same_stage, short_told}
+use Rattle.ffs_lib.specs.Orders.{Action, made_by}
+use Rattle.ffs_lib.specs.Steps.{Proposed}
+use Rattle.ffs_lib.specs.Writes.{LastGiven, StopsAction}
+use Rattle.ffs_lib.proofs.Actions.{act_is, last_there, zeros_all, zeros_by, zeros_hole, zeros_none, zeros_not}
+use Rattle.ffs_lib.proofs.DataLaws.{stops_now, there_ends}
+use Rattle.ffs_lib.proofs.Laws.{fails}
 use Rattle.ffs_lib.proofs.Parting.{zero_part, zeros_held, zeros_puts}
 use Rattle.ffs_lib.proofs.data.clear_block.Goals as goal
 
@@ -19,7 +21,13 @@ returns-then-block-eq0-clause-ends g c = λ T array inode e s is given.
     let found = c.in_ok-file.file in
     let exact = c.in_ok-file.ensures.exact (subst IsLibrary (sym e) s.library) in
     let hole : file_block v found.inode c.args.index ≡ 0 = sym c.in_ok-block.ensures.block ∙ c.if-block-eq0.true in
-    (s, (zeros_puts old c.args.fs.number c.args.number found.inode exact c.args.index c.args.at c.args.count c.requires.within (λ k lo hi. ap (λ (b : ℕ). byte_in v b k) hole), given))
+    let fs = c.args.fs.number in
+    let n = c.args.number in (
+      s,
+      zeros_none T fs old n c.args.index c.args.at c.args.count c.args.last given
+          (zeros_puts old fs n found.inode exact c.args.index c.args.at c.args.count c.requires.within (λ k lo hi. ap (λ (b : ℕ). byte_in v b k) hole))
+          (zeros_hole v fs n found.inode c.args.index c.args.at c.args.count c.args.last.edit exact hole),
+    )
 
 pub returns-then-are_zeros-clause-ends : goal.returns-then-are_zeros-clause-ends
 returns-then-are_zeros-clause-ends g c = λ T array inode e s is given.
@@ -34,53 +42,77 @@ returns-then-are_zeros-clause-ends g c = λ T array inode e s is given.
     let held = c.in_ok-held.ensures.bytes in
     let long = c.in_ok-held.ensures.whole in
     let k : at + count - at ≡ count = omega arith in
-    let bare = ap (λ (m : List ℕ). take count (drop at m)) held ∙ zero_part _ at count _ k (omega (arith, long, within)) (c.are_zeros.ensures.0 c.if-are_zeros.true) in (
+    let bare = ap (λ (m : List ℕ). take count (drop at m)) held ∙ zero_part _ at count _ k (omega (arith, long, within)) (c.are_zeros.ensures.0 c.if-are_zeros.true) in
+    let points = sym c.in_ok-block.ensures.block in
+    let fs = c.args.fs.number in
+    let n = c.args.number in (
       s,
-      (
-        zeros_puts old c.args.fs.number c.args.number found.inode exact c.args.index c.args.at c.args.count c.requires.within
-            (λ k lo hi. zeros_held v block (file_block v found.inode c.args.index) c.args.at c.args.count k (sym c.in_ok-block.ensures.block) c.if-block-eq0.false bare lo hi),
-        given,
-      ),
+      zeros_none T fs old n c.args.index at count c.args.last given
+          (zeros_puts old fs n found.inode exact c.args.index at count within (λ j lo hi. zeros_held v block (file_block v found.inode c.args.index) at count j points c.if-block-eq0.false bare lo hi))
+          (zeros_by v fs n found.inode c.args.index at count block c.args.last.edit exact points c.if-block-eq0.false true (zeros_all _ count bare)),
     )
 
 pub returns-in_err-edit-clause-ends : goal.returns-in_err-edit-clause-ends
 returns-in_err-edit-clause-ends g c = λ T array inode e s is given.
     let old = g.S.Store.state_of c.args.store.now in
+    let v = latest old.lives in
     let new = g.S.Store.state_of c.put.new.store in
     let fs = c.args.fs.number in
     let n = c.args.number in
+    let index = c.args.index in
+    let at = c.args.at in
+    let count = c.args.count in
+    let last = c.args.last in
     let found = c.in_ok-file.file in
     let exact = c.in_ok-file.ensures.exact (subst IsLibrary (sym e) s.library) in
     let block = c.in_ok-block.block in
-    let bytes = replicate c.args.count 0 in
-    let edit = edit_at c.args.at bytes [] [] c.args.last.edit in
-    let count : length bytes ≡ c.args.count = length-replicate {A = ℕ} c.args.count 0 in
+    let points = sym c.in_ok-block.ensures.block in
+    let there = c.if-block-eq0.false in
+    let bytes = replicate count 0 in
+    let size : length bytes ≡ count = length-replicate {A = ℕ} count 0 in
     let within = c.requires.within in
     let some = c.requires.some in
     let long = ap length c.in_ok-held.ensures.bytes ∙ c.in_ok-held.ensures.whole in
-    let zeros : take c.args.count (replicate 512 0) ≡ bytes = take-replicate c.args.count 512 0 (omega (arith, within)) in
-    let p = c.in_err-edit.ensures.put T e in
-    let told = subst (λ (m : List ℕ). Tells (propose_of T old fs block (edit_at c.args.at m [] [] c.args.last.edit)) c.in_err-edit.field-0.0) zeros p.1 in
-    fails _ _ (same_stage s p.0) c.from_residual-in_err-edit.result _ c.from_residual-in_err-edit.ensures.1 (
-      short_told (propose_of T old fs block edit) (there_short T fs array old s n found c.in_ok-file.ensures.found exact c.args.index block c.args.at bytes c.requires.few (sym c.in_ok-block.ensures.block) c.if-block-eq0.false long (omega (arith, count, within)) c.args.last.edit (omega (arith, count, some)) given.0) _ told,
-      refused_there T fs old new n c.args.index block found.inode exact (sym c.in_ok-block.ensures.block) c.if-block-eq0.false p.0 _ (edit, told),
-    )
+    let zeros : take count (replicate 512 0) ≡ bytes = take-replicate count 512 0 (omega (arith, within)) in
+    let k : at + count - at ≡ count = omega arith in
+    let other = zeros_by v fs n found.inode index at count block last.edit exact points there false (zeros_not (v block) _ at count _ c.in_ok-held.ensures.bytes k c.are_zeros.ensures.1 c.if-are_zeros.false) in
+    let x = there_ends T fs array old s n found c.in_ok-file.ensures.found exact index block at bytes c.requires.few points there long (omega (arith, size, within)) last.edit (omega (arith, size, some)) given.0 new (Err c.in_err-edit.field-0.0)
+    (subst (λ (m : List ℕ). Proposed T fs block (edit_at at m [] [] last.edit) old new (Err c.in_err-edit.field-0.0)) zeros (c.in_err-edit.ensures.put T e)) in
+    fails _ _ x.0 c.from_residual-in_err-edit.result _ c.from_residual-in_err-edit.ensures.1 (x.1.0, stops_now T fs _ _ old new n _ (subst (λ (a : Action). StopsAction T fs a old new n c.in_err-edit.field-0.0) other x.1.1))
 
 pub returns-clause-ends : goal.returns-clause-ends
 returns-clause-ends g c = λ T array inode e s is given.
     let old = g.S.Store.state_of c.args.store.now in
+    let v = latest old.lives in
     let new = g.S.Store.state_of c.put.new.store in
     let fs = c.args.fs.number in
     let n = c.args.number in
+    let index = c.args.index in
+    let at = c.args.at in
+    let count = c.args.count in
+    let last = c.args.last in
     let found = c.in_ok-file.file in
     let exact = c.in_ok-file.ensures.exact (subst IsLibrary (sym e) s.library) in
     let block = c.in_ok-block.block in
-    let bytes = replicate c.args.count 0 in
-    let count : length bytes ≡ c.args.count = length-replicate {A = ℕ} c.args.count 0 in
+    let points = sym c.in_ok-block.ensures.block in
+    let there = c.if-block-eq0.false in
+    let bytes = replicate count 0 in
+    let size : length bytes ≡ count = length-replicate {A = ℕ} count 0 in
     let within = c.requires.within in
+    let some = c.requires.some in
     let long = ap length c.in_ok-held.ensures.bytes ∙ c.in_ok-held.ensures.whole in
-    let zeros : take c.args.count (replicate 512 0) ≡ bytes = take-replicate c.args.count 512 0 (omega (arith, within)) in
-    let done = subst (λ (m : List ℕ). propose_of T old fs block (edit_at c.args.at m [] [] c.args.last.edit) ≡ Ok (c.in_ok-edit.edit, new)) zeros (c.in_ok-edit.ensures.put T e) in
-    let x = puts T fs array old s n found c.in_ok-file.ensures.found exact c.args.index block c.args.at bytes c.requires.few (sym c.in_ok-block.ensures.block) c.if-block-eq0.false long (omega (arith, count, within)) c.args.last.edit new c.in_ok-edit.edit done in
-    let given2 = λ (o : Option ℕ) (z : o ≡ Some c.in_ok-edit.edit). subst (λ (m : Option ℕ). IsTrue (was_given new m)) (sym z) x.1.1 in
-    (x.0, (x.1.0, (given2 _ c.next_after.ensures.edit, given2 _ c.next_after.ensures.size)))
+    let zeros : take count (replicate 512 0) ≡ bytes = take-replicate count 512 0 (omega (arith, within)) in
+    let k : at + count - at ≡ count = omega arith in
+    let other = zeros_by v fs n found.inode index at count block last.edit exact points there false (zeros_not (v block) _ at count _ c.in_ok-held.ensures.bytes k c.are_zeros.ensures.1 c.if-are_zeros.false) in
+    let x = there_ends T fs array old s n found c.in_ok-file.ensures.found exact index block at bytes c.requires.few points there long (omega (arith, size, within)) last.edit (omega (arith, size, some)) given.0 new (Ok c.in_ok-edit.edit)
+    (subst (λ (m : List ℕ). Proposed T fs block (edit_at at m [] [] last.edit) old new (Ok c.in_ok-edit.edit)) zeros (c.in_ok-edit.ensures.put T e)) in
+    let p = x.1.0 in
+    let a = x.1.1 in (
+      x.0,
+      record {
+        puts = p.0;
+        given = subst (LastGiven new) (sym c.next_after.ensures) (p.1, p.1);
+        made = ap (result_and_then (made_by T fs [])) (act_is T fs _ _ old new other a.0);
+        last_is = c.next_after.ensures ∙ last_there v fs n found.inode index block exact points there old.next new.next _ last a.1 a.2;
+      },
+    )

@@ -1,4 +1,7 @@
-use Rattle.std.proofs.Common.{◌∙◌, ◌*◌, ◌<◌, ℕ, List, [], arith, subst, sym}
+use Rattle.std.proofs.Common.{◌∙◌, ◌*◌, ◌<◌, ◌≤◌, ℕ, List, [], Err, Ok, ap, arith, subst, sym}
+use Rattle.std.specs.Prelude.{⊤}
+use Rattle.std.specs.Int.{w32, to_le_bytes}
+use Rattle.xn_model.specs.Lists.{put}
 use Rattle.xn_model.specs.Root.{word_at}
 use Rattle.xn_model.specs.Calls.{propose_of}
 use Rattle.ffs_model.specs.Cuts.{latest}
@@ -7,7 +10,10 @@ use Rattle.ffs_lookup.proofs.ForCallers.{same_ok}
 use Rattle.ffs_lib.specs.Edits.{edit_at}
 use Rattle.ffs_lib.specs.Outcomes.{IsRaised}
 use Rattle.ffs_lib.proofs.DataLaws.{raises, size_short}
-use Rattle.ffs_lib.proofs.Laws.{at_home, fails, same_stage, short_told}
+use Rattle.ffs_lib.specs.WriteOrder.{size_action}
+use Rattle.ffs_lib.proofs.Actions.{size_acts, size_stays}
+use Rattle.ffs_lib.proofs.Orders.{act_err}
+use Rattle.ffs_lib.proofs.Laws.{at_home, fails, home_of, same_stage, short_told}
 use Rattle.ffs_lib.proofs.Tops.{never}
 use Rattle.ffs_lib.proofs.data.raise_size.Goals as goal
 
@@ -41,3 +47,39 @@ returns-in_ok-put_inode-clause-ends g c = λ T array inode e s is given.
     let less : word_at found.inode 4 < c.args.size = omega arith in
     let x = raises T fs array old s c.args.number found c.in_ok-block.ensures.found exact c.set_size.new.self c.put_inode.ensures.whole c.args.size c.set_size.ensures.fields c.args.after new _ less (c.in_ok-put_inode.ensures.put T e) in
     (x.0, (subst (λ (m : List ℕ). IsRaised (latest old.lives) (latest new.lives) fs c.args.number m c.args.size) (same_ok found.inode inode (exact ∙ sym is)) x.1, x.2))
+
+pub returns-in_err-block-clause-order : goal.returns-in_err-block-clause-order
+returns-in_err-block-clause-order g c = λ T array inode e s is.
+    absurd (never inode _ (is ∙ sym (c.in_err-block.ensures.exact (subst IsLibrary (sym e) s.library))))
+
+pub returns-in_err-put_inode-clause-order : goal.returns-in_err-put_inode-clause-order
+returns-in_err-put_inode-clause-order g c = λ T array inode e s is.
+    let old = g.S.Store.state_of c.args.store.now in
+    let new = g.S.Store.state_of c.put_inode.new.store in
+    let fs = c.args.fs.number in
+    let found = c.in_ok-block.field-0 in
+    let at = c.in_ok-block.ensures.found.is.stands in
+    let mine = same_ok found.inode inode (c.in_ok-block.ensures.exact (subst IsLibrary (sym e) s.library) ∙ sym is) in
+    let less : word_at found.inode 4 < c.args.size = omega arith in
+    let acts = size_acts T fs c.args.number old new inode c.args.size c.args.after is found.block found.place c.set_size.new.self (home_of old fs c.args.number found.block found.place at) at.at
+    (c.set_size.ensures.bytes ∙ ap (λ (m : List ℕ). put m 4 (to_le_bytes w32 c.args.size)) mine) (subst (λ (m : List ℕ). word_at m 4 < c.args.size) mine less) (Err c.in_err-put_inode.field-0.0) (c.in_err-put_inode.ensures.put T e) in
+    (act_err T fs (size_action (latest old.lives) fs c.args.number c.args.size c.args.after) old new acts (λ x. ⊤) _ c.from_residual-in_err-put_inode.result c.from_residual-in_err-put_inode.ensures.1).0
+
+pub returns-in_ok-put_inode-clause-order : goal.returns-in_ok-put_inode-clause-order
+returns-in_ok-put_inode-clause-order g c = λ T array inode e s is.
+    let old = g.S.Store.state_of c.args.store.now in
+    let new = g.S.Store.state_of c.put_inode.new.store in
+    let fs = c.args.fs.number in
+    let found = c.in_ok-block.field-0 in
+    let at = c.in_ok-block.ensures.found.is.stands in
+    let mine = same_ok found.inode inode (c.in_ok-block.ensures.exact (subst IsLibrary (sym e) s.library) ∙ sym is) in
+    let less : word_at found.inode 4 < c.args.size = omega arith in
+    size_acts T fs c.args.number old new inode c.args.size c.args.after is found.block found.place c.set_size.new.self (home_of old fs c.args.number found.block found.place at) at.at
+    (c.set_size.ensures.bytes ∙ ap (λ (m : List ℕ). put m 4 (to_le_bytes w32 c.args.size)) mine) (subst (λ (m : List ℕ). word_at m 4 < c.args.size) mine less) (Ok c.in_ok-put_inode.field-0) (c.in_ok-put_inode.ensures.put T e)
+
+pub returns-else-size-clause-order : goal.returns-else-size-clause-order
+returns-else-size-clause-order g c = λ T array inode e s is.
+    let old = g.S.Store.state_of c.args.store.now in
+    let mine = same_ok c.in_ok-block.field-0.inode inode (c.in_ok-block.ensures.exact (subst IsLibrary (sym e) s.library) ∙ sym is) in
+    let more : c.args.size ≤ word_at c.in_ok-block.field-0.inode 4 = omega arith in
+    size_stays T c.args.fs.number c.args.number old old inode c.args.size c.args.after is (subst (λ (m : List ℕ). c.args.size ≤ word_at m 4) mine more)

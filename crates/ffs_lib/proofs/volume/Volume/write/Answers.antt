@@ -12,6 +12,7 @@ use Rattle.ffs_lib.proofs.Staged.{does_fault}
 use Rattle.ffs_lib.proofs.StagedWritten.{Begun, begun, found_file, none_does, overwrites_none, volume_of, write_done, write_inodes, write_part_inodes, write_refused}
 use Rattle.ffs_lib.proofs.Tops.{never}
 use Rattle.ffs_lib.proofs.ValueWritten.{looked}
+use Rattle.ffs_lib.proofs.WrittenOrder.{order_none, size_order, stops_order}
 use Rattle.ffs_lib.proofs.volume.Volume.write.Goals as goal
 use Rattle.ffs_lib.proofs.volume.Volume.write.Goals.{After-write_parts-progress}
 
@@ -82,3 +83,22 @@ returns-in-None-clause-keeps g c =
     let w = b.first.puts.wrote b.inode b.is in
     let x = c.raise_size.ensures.ends (g.S.Store.types_of c.args.store.now) (edits_of c.args.self.now.added) w.after c.write_parts-progress.ensures.types b.first.stage w.file b.first.given.1 in
     volume_of (g.S.Store.types_of c.args.store.now) c.args.self.now _ x.0
+
+pub returns-in_err-end-clause-order : goal.returns-in_err-end-clause-order
+returns-in_err-end-clause-order g c = λ file e. absurd (never (file_end file) _ (ap (mapped file_end) e ∙ sym (c.in_err-end.ensures.exact c.requires.library)))
+
+pub returns-then-is_empty-clause-order : goal.returns-then-is_empty-clause-order
+returns-then-is_empty-clause-order g c = λ file e.
+    order_none (g.S.Store.types_of c.args.store.now) c.args.self.now.fs.number c.args.inode file c.args.offset c.args.bytes.now (g.S.Store.state_of c.args.store.now) _ (nil_from_length c.args.bytes.now (eqb-true (length c.args.bytes.now) 0 (sym c.is_empty.ensures ∙ c.if-is_empty.true)))
+
+pub returns-in-Some-clause-order : goal.returns-in-Some-clause-order
+returns-in-Some-clause-order g c =
+    let b = first g (goal.at.returns-in-Some-clause-order g c).After-write_parts-progress in
+    stops_order _ _ _ _ _ _ _ _ _ _ b c.in-Some.fault c.in-Some.is
+
+pub returns-in-None-clause-order : goal.returns-in-None-clause-order
+returns-in-None-clause-order g c =
+    let b = first g (goal.at.returns-in-None-clause-order g c).After-write_parts-progress in
+    let w = b.first.puts.wrote b.inode b.is in
+    let acts = c.raise_size.ensures.order (g.S.Store.types_of c.args.store.now) (edits_of c.args.self.now.added) w.after c.write_parts-progress.ensures.types b.first.stage w.file in
+    size_order _ _ _ _ _ _ _ _ _ _ b c.in-None.is (g.S.Store.state_of c.raise_size.new.store) c.raise_size.result acts

@@ -14,6 +14,7 @@ use Rattle.ffs_lib.specs.Volumes.{edits_of}
 use Rattle.ffs_lib.proofs.StagedWritten.{Begun, begun, count_none, count_refused, count_taken, fault_takes, found_file, none_takes, overwrites_none, same_taken, volume_of}
 use Rattle.ffs_lib.proofs.Tops.{never}
 use Rattle.ffs_lib.proofs.ValueWritten.{looked}
+use Rattle.ffs_lib.proofs.WrittenOrder.{none_order, refused_order, some_order_none, taken_order}
 use Rattle.ffs_lib.proofs.volume.Volume.write_some.Goals as goal
 use Rattle.ffs_lib.proofs.volume.Volume.write_some.Goals.{After-write_parts-progress}
 
@@ -129,3 +130,32 @@ returns-in-Err-clause-keeps g c =
     let w = b.first.puts.wrote b.inode b.is in
     let x = c.raise_size.ensures.ends (g.S.Store.types_of c.args.store.now) (edits_of c.args.self.now.added) w.after c.write_parts-progress.ensures.types b.first.stage w.file b.first.given.1 in
     volume_of (g.S.Store.types_of c.args.store.now) c.args.self.now _ x.0
+
+pub returns-in_err-end-clause-order : goal.returns-in_err-end-clause-order
+returns-in_err-end-clause-order g c = λ file e. absurd (never (file_end file) _ (ap (mapped file_end) e ∙ sym (c.in_err-end.ensures.exact c.requires.library)))
+
+pub returns-then-is_empty-clause-order : goal.returns-then-is_empty-clause-order
+returns-then-is_empty-clause-order g c = λ file e.
+    some_order_none (g.S.Store.types_of c.args.store.now) c.args.self.now.fs.number c.args.inode file c.args.offset c.args.bytes.now (g.S.Store.state_of c.args.store.now) _ (nil_from_length c.args.bytes.now (eqb-true (length c.args.bytes.now) 0 (sym c.is_empty.ensures ∙ c.if-is_empty.true)))
+
+pub returns-then-taken-eq0-clause-order : goal.returns-then-taken-eq0-clause-order
+returns-then-taken-eq0-clause-order g c =
+    let b = first g (goal.at.returns-then-taken-eq0-clause-order g c).After-write_parts-progress in
+    let same = same_taken _ _ _ _ _ _ _ _ _ _ b _ _ c.min.ensures c.saturating_sub-taken.ensures in
+    none_order _ _ _ _ _ _ _ _ _ _ b c.saturating_sub-taken.result same c.if-taken-eq0.true c.none_taken.result c.none_taken.ensures.count
+
+pub returns-in-Ok-clause-order : goal.returns-in-Ok-clause-order
+returns-in-Ok-clause-order g c =
+    let b = first g (goal.at.returns-in-Ok-clause-order g c).After-write_parts-progress in
+    let same = same_taken _ _ _ _ _ _ _ _ _ _ b _ _ c.min.ensures c.saturating_sub-taken.ensures in
+    let w = b.first.puts.wrote b.inode b.is in
+    let acts = c.in-Ok.ensures.order (g.S.Store.types_of c.args.store.now) (edits_of c.args.self.now.added) w.after c.write_parts-progress.ensures.types b.first.stage w.file in
+    taken_order _ _ _ _ _ _ _ _ _ _ b c.saturating_sub-taken.result same c.if-taken-eq0.false (g.S.Store.state_of c.raise_size.new.store) acts
+
+pub returns-in-Err-clause-order : goal.returns-in-Err-clause-order
+returns-in-Err-clause-order g c =
+    let b = first g (goal.at.returns-in-Err-clause-order g c).After-write_parts-progress in
+    let same = same_taken _ _ _ _ _ _ _ _ _ _ b _ _ c.min.ensures c.saturating_sub-taken.ensures in
+    let w = b.first.puts.wrote b.inode b.is in
+    let acts = c.in-Err.ensures.order (g.S.Store.types_of c.args.store.now) (edits_of c.args.self.now.added) w.after c.write_parts-progress.ensures.types b.first.stage w.file in
+    refused_order _ _ _ _ _ _ _ _ _ _ b c.saturating_sub-taken.result same c.if-taken-eq0.false (g.S.Store.state_of c.raise_size.new.store) c.in-Err.fault acts c.none_taken-in-Err.result c.none_taken-in-Err.ensures.count

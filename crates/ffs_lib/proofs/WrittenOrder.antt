@@ -1,0 +1,147 @@
+-- The edits of a write, in their order, by what its parts made and where they stopped.
+use Rattle.std.proofs.Common.{◌≡◌, ◌≢◌, ℕ, ◌+◌, ◌-◌, ◌<◌, ◌≤◌, ◌⊎◌, List, [], ◌∷◌, length, Option, Some, None, Result, Ok, Err, refl, sym, ◌∙◌, inl, inr, arith, subst}
+use Rattle.std.specs.Prelude.{IfOk, IfSome, MatchResult, min}
+use Rattle.xn_model.specs.Types.{Types}
+use Rattle.xn_model.specs.Lives.{StoreState}
+use Rattle.ffs_model.specs.Cuts.{latest}
+use Rattle.ffs_lookup.specs.declared.fault.FfsFault.{FfsFault}
+use Rattle.ffs_lookup.specs.Newest.{file_end, write_in}
+use Rattle.ffs_lookup.proofs.ForCallers.{same_ok}
+use Rattle.ffs_lib.specs.Orders.{Acts}
+use Rattle.ffs_lib.specs.Steps.{Stops}
+use Rattle.ffs_lib.specs.WriteOrder.{SizeMade, SizeStops, StopsAtPart, StopsBefore, StopsWriting, TakesUpTo, WritesInOrder, WritesSomeInOrder, no_last, places, reached, size_action, parts_made}
+use Rattle.ffs_lib.specs.Writes.{MadeTo, PartStops, padded}
+use Rattle.ffs_lib.specs.declared.data.Last.{Last}
+use Rattle.ffs_lib.specs.declared.data.Progress.{Progress}
+use Rattle.ffs_lib.proofs.Parting.{padded_long}
+use Rattle.ffs_lib.proofs.StagedWritten.{Begun, some_or_none}
+use Rattle.ffs_lib.proofs.Undoing.{at_ok}
+use Rattle.ffs_lib.proofs.ValueWritten.{looked}
+use Rattle.ffs_lib.proofs.WriteParts.{border_place, places_split, stops_next, tells_in}
+
+-- where there are bytes
+pub order_of : {A : Type 0} (T : Types) (fs n : ℕ) (inode : List ℕ) (offset : ℕ) (bytes : List ℕ) (old new : StoreState) (result : Result A FfsFault) → length bytes ≢ 0 →
+    MatchResult result (λ x. MatchResult (reached T fs n inode offset bytes (offset + length bytes) old) (λ there. SizeMade T fs n (offset + length bytes) there.1 there.0 new) (λ refusal. ⊥))
+    (λ fault. StopsWriting T fs n (file_end inode) offset bytes (places (min (file_end inode) offset) offset (offset + length bytes)) (old, no_last) new
+    ⊎ MatchResult (reached T fs n inode offset bytes (offset + length bytes) old) (λ there. SizeStops T fs n (offset + length bytes) there.1 there.0 new) (λ refusal. ⊥)) →
+    WritesInOrder T fs n inode offset bytes old new result
+order_of T fs n inode offset [] old new result some h = absurd (some refl)
+order_of T fs n inode offset (byte ∷ rest) old new result some h = h
+
+pub some_order_of : (T : Types) (fs n : ℕ) (inode : List ℕ) (offset : ℕ) (bytes : List ℕ) (old new : StoreState) (result : Result ℕ FfsFault) → length bytes ≢ 0 →
+    MatchResult result (λ count. (count ≢ 0 → TakesUpTo T fs n inode offset bytes count old (λ last middle. SizeMade T fs n (offset + count) last middle new)) × (count ≡ 0 → StopsBefore T fs n inode offset bytes old new))
+    (λ fault. StopsBefore T fs n inode offset bytes old new) → WritesSomeInOrder T fs n inode offset bytes old new result
+some_order_of T fs n inode offset [] old new result some h = absurd (some refl)
+some_order_of T fs n inode offset (byte ∷ rest) old new result some h = h
+
+-- where there are none
+pub order_none : {A : Type 0} (T : Types) (fs n : ℕ) (inode : List ℕ) (offset : ℕ) (bytes : List ℕ) (old : StoreState) (result : Result A FfsFault) → bytes ≡ [] → WritesInOrder T fs n inode offset bytes old old result
+order_none {A} T fs n inode offset bytes old result none = subst (λ (m : List ℕ). WritesInOrder T fs n inode offset m old old result) (sym none) refl
+
+pub some_order_none : (T : Types) (fs n : ℕ) (inode : List ℕ) (offset : ℕ) (bytes : List ℕ) (old : StoreState) (result : Result ℕ FfsFault) → bytes ≡ [] → WritesSomeInOrder T fs n inode offset bytes old old result
+some_order_none T fs n inode offset bytes old result none = subst (λ (m : List ℕ). WritesSomeInOrder T fs n inode offset m old old result) (sym none) refl
+
+module _ (T : Types) (fs : ℕ) (array : ℕ → Option ℕ) (old middle : StoreState) (n end offset : ℕ) (bytes : List ℕ) (progress : Progress) (b : Begun T fs array old middle n end offset bytes progress) where
+  abbrev inode : List ℕ
+  inode = b.inode
+
+  abbrev start : ℕ
+  start = min (file_end inode) offset
+
+  abbrev at : ℕ
+  at = start + progress.done
+
+  abbrev taken : ℕ
+  taken = at - offset
+
+  long : length (padded (file_end inode) offset bytes) ≡ (offset - file_end inode) + length bytes
+  long = padded_long (file_end inode) offset bytes 0 0
+
+  low : at ≤ offset + length bytes
+  low = let few = b.first.few in let l = long in omega (arith, few, l)
+
+  stopped_by : (fault : FfsFault) → progress.fault ≡ Some fault → PartStops T fs old middle n (file_end inode) offset bytes progress.done progress.last fault
+  stopped_by fault e = (subst (λ (o : Option FfsFault). IfSome o (Stops (PartStops T fs old middle n (file_end inode) offset bytes progress.done progress.last))) e b.first.ended).1
+
+  -- a part stops among those up to a place behind it
+  stops_to : (fault : FfsFault) → progress.fault ≡ Some fault → (to : ℕ) → at < to → StopsWriting T fs n (file_end inode) offset bytes (places start offset to) (old, no_last) middle
+  stops_to fault e to more =
+      let k = stopped_by fault e in
+      subst (λ (ys : List ℕ). StopsWriting T fs n (file_end inode) offset bytes ys (old, no_last) middle) (sym (places_split offset start at to (omega arith) more (border_place (file_end inode) offset progress.done at refl k.border)))
+      (stops_next T fs n (file_end inode) offset bytes (places start offset at) at _ (old, no_last) (k.before, progress.last) middle k.made (tells_in T fs _ k.before middle fault k.told.told))
+
+  reached_to : (to : ℕ) → at ≡ to → (before : StoreState) → MadeTo T fs n (file_end inode) offset bytes old progress.done before progress.last → Ok (before, progress.last) ≡ reached T fs n inode offset bytes to old
+  reached_to to e before made = sym (subst (λ (x : ℕ). parts_made T fs n (file_end inode) offset bytes (places start offset x) (old, no_last) ≡ Ok (before, progress.last)) e made)
+
+  -- `write`
+  pub stops_order : (fault : FfsFault) → progress.fault ≡ Some fault → ((other : List ℕ) → Ok other ≡ write_in (latest old.lives) fs n (offset + length bytes) → WritesInOrder {A = Unit {0}} T fs n other offset bytes old middle (Err fault))
+  stops_order fault e other found =
+      let k = stopped_by fault e in
+      let few = k.low in
+      let l = long in
+      subst (λ (m : List ℕ). WritesInOrder {A = Unit {0}} T fs n m offset bytes old middle (Err fault)) (same_ok inode other (b.is ∙ sym (looked (latest old.lives) fs n (offset + length bytes) other found).0))
+      (order_of {A = Unit {0}} T fs n inode offset bytes old middle (Err fault) b.there (inl (stops_to fault e (offset + length bytes) (omega (arith, few, l)))))
+
+  pub size_order : {A : Type 0} → progress.fault ≡ None → (new : StoreState) (result : Result A FfsFault) → Acts T fs (size_action (latest middle.lives) fs n (offset + length bytes) progress.last.size) middle new result →
+      ((other : List ℕ) → Ok other ≡ write_in (latest old.lives) fs n (offset + length bytes) → WritesInOrder T fs n other offset bytes old new result)
+  size_order {A} none new result acts other found =
+      subst (λ (m : List ℕ). WritesInOrder T fs n m offset bytes old new result) (same_ok inode other (b.is ∙ sym (looked (latest old.lives) fs n (offset + length bytes) other found).0))
+      (order_of T fs n inode offset bytes old new result b.there (go result acts))
+    where
+      size : ℕ
+      size = offset + length bytes
+
+      go : (r : Result A FfsFault) → Acts T fs (size_action (latest middle.lives) fs n size progress.last.size) middle new r →
+          MatchResult r (λ x. MatchResult (reached T fs n inode offset bytes size old) (λ there. SizeMade T fs n size there.1 there.0 new) (λ refusal. ⊥))
+          (λ fault. StopsWriting T fs n (file_end inode) offset bytes (places start offset size) (old, no_last) new ⊎ MatchResult (reached T fs n inode offset bytes size old) (λ there. SizeStops T fs n size there.1 there.0 new) (λ refusal. ⊥))
+      go (Ok x) a = at_ok (reached T fs n inode offset bytes size old) (middle, progress.last) (λ there. SizeMade T fs n size there.1 there.0 new) (reached_to size (b.whole none) middle (b.first.made none)) a
+      go (Err fault) a = inr (at_ok (reached T fs n inode offset bytes size old) (middle, progress.last) (λ there. SizeStops T fs n size there.1 there.0 new) (reached_to size (b.whole none) middle (b.first.made none)) a)
+
+  -- `write_some`
+  abbrev InOrderSome : StoreState → Result ℕ FfsFault → Type 0
+  InOrderSome new result = (other : List ℕ) → Ok other ≡ write_in (latest old.lives) fs n (offset + length bytes) → WritesSomeInOrder T fs n other offset bytes old new result
+
+  takes_to : taken ≢ 0 → (Q : Last → StoreState → Type 0) → Q progress.last middle → TakesUpTo T fs n inode offset bytes taken old Q
+  takes_to some Q q = elim (some_or_none progress.fault) [
+    | inl none ↦
+        let every : taken ≡ length bytes = let e = b.whole none in omega (arith, e) in
+        at_ok (reached T fs n inode offset bytes (offset + taken) old) (middle, progress.last)
+        (λ there. ((taken ≡ length bytes) × Q there.1 there.0) ⊎ ((m : StoreState) × StopsAtPart T fs n (file_end inode) offset bytes (offset + taken) there m × Q there.1 m)) (reached_to (offset + taken) (omega (arith, some)) middle (b.first.made none)) (inl (every, q))
+    | inr x ↦
+        let k = stopped_by x.0 x.1 in
+        let here : at ≡ offset + taken = omega (arith, some) in
+        at_ok (reached T fs n inode offset bytes (offset + taken) old) (k.before, progress.last)
+        (λ there. ((taken ≡ length bytes) × Q there.1 there.0) ⊎ ((m : StoreState) × StopsAtPart T fs n (file_end inode) offset bytes (offset + taken) there m × Q there.1 m)) (reached_to (offset + taken) here k.before k.made)
+        (inr (middle, subst (λ (x : ℕ). StopsAtPart T fs n (file_end inode) offset bytes x (k.before, progress.last) middle) here (tells_in T fs _ k.before middle x.0 k.told.told), q))
+  ]
+
+  some_by : (new : StoreState) (result : Result ℕ FfsFault) →
+      MatchResult result (λ count. (count ≢ 0 → TakesUpTo T fs n inode offset bytes count old (λ last m. SizeMade T fs n (offset + count) last m new)) × (count ≡ 0 → StopsBefore T fs n inode offset bytes old new))
+      (λ fault. StopsBefore T fs n inode offset bytes old new) → InOrderSome new result
+  some_by new result h other found =
+      subst (λ (m : List ℕ). WritesSomeInOrder T fs n m offset bytes old new result) (same_ok inode other (b.is ∙ sym (looked (latest old.lives) fs n (offset + length bytes) other found).0))
+      (some_order_of T fs n inode offset bytes old new result b.there h)
+
+  none_by : (new : StoreState) → StopsBefore T fs n inode offset bytes old new → (result : Result ℕ FfsFault) → IfOk result (λ count. count ≡ 0) → InOrderSome new result
+  none_by new stops (Ok count) z = some_by new (Ok count) (λ ne. absurd (ne z), λ e. stops)
+  none_by new stops (Err fault) z = some_by new (Err fault) stops
+
+  module _ (count : ℕ) (same : count ≡ taken) where
+    pub none_order : count ≡ 0 → (result : Result ℕ FfsFault) → IfOk result (λ k. k ≡ 0) → InOrderSome middle result
+    none_order z result told = elim (some_or_none progress.fault) [
+      | inl none ↦ absurd (b.there (let e = b.whole none in omega (arith, e, z, same)))
+      | inr x ↦ none_by middle (inl (stops_to x.0 x.1 (offset + 1) (omega (arith, z, same)))) result told
+    ]
+
+    pub taken_order : count ≢ 0 → (new : StoreState) → Acts {A = Unit {0}} T fs (size_action (latest middle.lives) fs n (offset + count) progress.last.size) middle new (Ok tt) → InOrderSome new (Ok count)
+    taken_order ne new acts =
+        some_by new (Ok count) (
+          λ z. subst (λ (k : ℕ). TakesUpTo T fs n inode offset bytes k old (λ last m. SizeMade T fs n (offset + k) last m new)) (sym same)
+              (takes_to (λ e. ne (same ∙ e)) (λ last m. SizeMade T fs n (offset + taken) last m new) (subst (λ (k : ℕ). SizeMade T fs n (offset + k) progress.last middle new) same acts)),
+          λ z. absurd (ne z),
+        )
+
+    pub refused_order : count ≢ 0 → (new : StoreState) (fault : FfsFault) → Acts {A = Unit {0}} T fs (size_action (latest middle.lives) fs n (offset + count) progress.last.size) middle new (Err fault) → (result : Result ℕ FfsFault) → IfOk result (λ k. k ≡ 0) → InOrderSome new result
+    refused_order ne new fault acts result told =
+        let some : taken ≢ 0 = λ e. ne (same ∙ e) in
+        none_by new (inr (taken, some, (let l = low in omega (arith, l)), takes_to some (λ last m. SizeStops T fs n (offset + taken) last m new) (subst (λ (k : ℕ). SizeStops T fs n (offset + k) progress.last middle new) same acts))) result told
