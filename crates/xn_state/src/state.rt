@@ -174,12 +174,12 @@ impl State {
     }
 
     /// Begins a write of a block: the bytes that its safe entries leave, and how many those are.
+    #[inline(always)]
     pub fn begun(&mut self, block: u32) -> Result<([u8; 512], u32), Refusal>
         ensures state { GivesExactly (begun_of self.old block) self.old self.new result }
     {
         let count = self.begun_count(block)?;
-        let mut bytes = [0u8; 512];
-        self.begin_into(block, count, &mut bytes);
+        let bytes = self.begin_counted(block, count);
         Ok((bytes, count))
     }
 
@@ -199,8 +199,20 @@ impl State {
         requires within { count ≤ life_pending (life_at self.old.lives block) }
         ensures { begun_of self.old block ≡ Ok ((bytes.new, count), self.new) }
     {
-        self.lives.image_into(block, count, bytes);
+        *bytes = self.begin_counted(block, count);
+    }
+
+    /// Begins a write of a block, where the first pending entries may be written: the bytes that they leave.
+    #[inline(always)]
+    fn begin_counted(&mut self, block: u32, count: u32) -> [u8; 512]
+        requires count { result_map (λ begun. begun.0.1) (begun_of self.old block) ≡ Ok count }
+        requires some { 1 ≤ count }
+        requires within { count ≤ life_pending (life_at self.old.lives block) }
+        ensures { begun_of self.old block ≡ Ok ((result, count), self.new) }
+    {
+        let bytes = self.lives.image(block, count);
         self.lives.begin(block, count);
+        bytes
     }
 
     /// Ends a write of a block by the bytes that are read back: how many entries are durable now,
