@@ -1,11 +1,13 @@
 -- What is looked up before a name is made.
-use Rattle.std.proofs.Common.{◌≡◌, ℕ, Bool, true, false, List, Option, refl, sym, ◌∙◌, ap}
-use Rattle.std.specs.Prelude.{Result, Ok, Err, IfErr, IsOk, ◌||◌, is_some, if◌then◌else◌}
-use Rattle.xn_model.specs.Lives.{StoreState}
+use Rattle.std.proofs.Common.{◌≡◌, ℕ, Bool, true, false, List, Option, refl, sym, ◌∙◌, ap, subst}
+use Rattle.std.proofs.lemmas.Result.{err_from_is_err_and}
+use Rattle.std.specs.Prelude.{Result, Ok, Err, IsErrAnd, IsOk, MatchResult, ◌||◌, is_some, if◌then◌else◌}
 use Rattle.ffs_format.specs.Entries.{is_name}
 use Rattle.ffs_lookup.specs.declared.fault.FfsFault.{FfsFault}
 use Rattle.ffs_lookup.specs.declared.fault.FfsFault.TheVariants.{BadName, Exists, NoInode, TooLarge}
-use Rattle.ffs_lookup.specs.Newest.{RefusesAs, and_then, create_in, directory_in, first_named, has_empty_pointer, has_free_inode, has_inode, has_room, if_new, if_room, is_own, root_in}
+use Rattle.ffs_lookup.specs.Newest.{and_then, create_in, directory_in, first_named, has_empty_pointer, has_free_inode, has_inode, has_room, if_new, if_room, root_in}
+use Rattle.ffs_lookup.specs.declared.places.Slot.{Slot}
+use Rattle.ffs_lookup.proofs.ForCallers.{same_ok}
 
 -- a free inode, or a pointer for a new block of them
 
@@ -31,32 +33,37 @@ module _ (content : ℕ → List ℕ) (fs d : ℕ) (name : List ℕ) where
     unfolding create_in
     in_directory = ap (λ (r : Result (List ℕ) FfsFault). and_then r (if_new content fs name)) found
 
-    pub bad_name : is_name name ≡ false → Err BadName ≡ create_in content fs d name
-    bad_name bad =
-        sym (ap (λ (t : Bool). if t then (if is_some (first_named content inode name) then Err Exists else and_then (root_in content fs) (if_room content inode)) else Err BadName) bad) ∙ in_directory
+    abbrev if_named : Bool → Result (List ℕ) FfsFault
+    if_named t = if t then Err Exists else and_then (root_in content fs) (if_room content inode)
 
-    module _ (good : is_name name ≡ true) where
-      named : (if is_some (first_named content inode name) then Err Exists else and_then (root_in content fs) (if_room content inode)) ≡ create_in content fs d name
-      named = sym (ap (λ (t : Bool). if t then (if is_some (first_named content inode name) then Err Exists else and_then (root_in content fs) (if_room content inode)) else Err BadName) good) ∙ in_directory
+    pub bad_name : false ≡ is_name name → Err BadName ≡ create_in content fs d name
+    bad_name bad = ap (λ (t : Bool). if t then if_named (is_some (first_named content inode name)) else Err BadName) bad ∙ in_directory
 
-      pub taken : is_some (first_named content inode name) ≡ true → Err Exists ≡ create_in content fs d name
-      taken some = sym (ap (λ (t : Bool). if t then Err Exists else and_then (root_in content fs) (if_room content inode)) some) ∙ named
+    module _ (good : true ≡ is_name name) (o : Option Slot) (is : ◌≡◌ {A = Result (Option Slot) FfsFault} (Ok o) (Ok (first_named content inode name))) where
+      named : if_named (is_some o) ≡ create_in content fs d name
+      named =
+          ap (λ (x : Option Slot). if_named (is_some x)) (same_ok o (first_named content inode name) is)
+          ∙ (ap (λ (t : Bool). if t then if_named (is_some (first_named content inode name)) else Err BadName) good ∙ in_directory)
 
-      module _ (new : is_some (first_named content inode name) ≡ false) (root : ℕ) (top : Ok root ≡ root_in content fs) where
-        at_root : if_room content inode root ≡ create_in content fs d name
-        at_root =
-            ap (λ (r : Result ℕ FfsFault). and_then r (if_room content inode)) top
-            ∙ (sym (ap (λ (t : Bool). if t then Err Exists else and_then (root_in content fs) (if_room content inode)) new) ∙ named)
+      pub taken : true ≡ is_some o → Err Exists ≡ create_in content fs d name
+      taken some = ap if_named some ∙ named
 
-        pub no_inode : has_inode content root ≡ false → Err NoInode ≡ create_in content fs d name
-        no_inode none = sym (ap (λ (t : Bool). if t then (if has_room content inode then Ok inode else Err TooLarge) else Err NoInode) none) ∙ at_root
+      module _ (new : false ≡ is_some o) (root : ℕ) (top : Ok root ≡ root_in content fs) where
+        abbrev if_inode : Bool → Result (List ℕ) FfsFault
+        if_inode t = if t then (if has_room content inode then Ok inode else Err TooLarge) else Err NoInode
+
+        at_root : if_inode (has_inode content root) ≡ create_in content fs d name
+        at_root = ap (λ (r : Result ℕ FfsFault). and_then r (if_room content inode)) top ∙ (ap if_named new ∙ named)
+
+        pub no_inode : (fault : FfsFault) → (fault ≡ NoInode) × (has_inode content root ≡ false) → Err fault ≡ create_in content fs d name
+        no_inode fault h = ap (λ (x : FfsFault). Err x) h.0 ∙ (sym (ap if_inode h.1) ∙ at_root)
 
         module _ (some : has_inode content root ≡ true) where
           with_inode : (if has_room content inode then Ok inode else Err TooLarge) ≡ create_in content fs d name
-          with_inode = sym (ap (λ (t : Bool). if t then (if has_room content inode then Ok inode else Err TooLarge) else Err NoInode) some) ∙ at_root
+          with_inode = sym (ap if_inode some) ∙ at_root
 
-          pub no_room : has_room content inode ≡ false → Err TooLarge ≡ create_in content fs d name
-          no_room full = sym (ap (λ (t : Bool). if t then Ok inode else Err TooLarge) full) ∙ with_inode
+          pub no_room : (fault : FfsFault) → (fault ≡ TooLarge) × (has_room content inode ≡ false) → Err fault ≡ create_in content fs d name
+          no_room fault h = ap (λ (x : FfsFault). Err x) h.0 ∙ (sym (ap (λ (t : Bool). if t then Ok inode else Err TooLarge) h.1) ∙ with_inode)
 
           pub may_create : has_room content inode ≡ true → Ok inode ≡ create_in content fs d name
           may_create room = sym (ap (λ (t : Bool). if t then Ok inode else Err TooLarge) room) ∙ with_inode
@@ -64,9 +71,8 @@ module _ (content : ℕ → List ℕ) (fs d : ℕ) (name : List ℕ) where
 pub is_found : {A : Type 0} (x : A) (r : Result A FfsFault) → Ok x ≡ r → IsOk r
 is_found x r e = rw (← e) refl
 
-pub passes : {A B : Type 0} (looked : Result A FfsFault) (result : Result B FfsFault) (old new : StoreState) → IsOk looked → IfErr result (λ fault. is_own fault ≡ false) → RefusesAs looked old new result
-passes (Ok x) result old new ok h = h
-passes (Err fault) result old new ok h = absurd (no ok)
-  where
-    no : false ≡ true → ⊥
-    no f = cc
+-- a fault that is handed on
+pub not_made : {A : Type 0} (looked : Result (List ℕ) FfsFault) (result : Result A FfsFault) (fault : FfsFault) → IsErrAnd result (λ other. other ≡ fault) → Err fault ≡ looked → MatchResult result (λ x. IsOk looked) (λ other. Err other ≡ looked)
+not_made {A} looked result fault from e =
+    let p = err_from_is_err_and result from in
+    subst (λ (r : Result A FfsFault). MatchResult r (λ x. IsOk looked) (λ other. Err other ≡ looked)) (sym (p.1 ∙ ap (λ (f : FfsFault). Err f) p.2)) e

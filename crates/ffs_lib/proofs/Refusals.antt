@@ -1,21 +1,13 @@
 -- Where the look-ups of a call fail, and where they pass.
-use Rattle.std.proofs.Common.{◌≡◌, ℕ, ◌<◌, ◌≤◌, Bool, true, false, List, [], ◌∷◌, length, refl, sym, ◌∙◌, ap, arith, subst}
-use Rattle.std.specs.Prelude.{Result, Ok, Err, IfErr, ◌==◌, find, nat_lt, if◌then◌else◌}
+use Rattle.std.proofs.Common.{◌≡◌, ℕ, ◌<◌, ◌≤◌, Bool, true, false, List, [], ◌∷◌, length, sym, ◌∙◌, ap, arith}
+use Rattle.std.specs.Prelude.{Result, Ok, Err, ◌==◌, find, nat_lt, if◌then◌else◌}
 use Rattle.std.proofs.lemmas.Bool.{le-ltb, lt-ltb, ne_eqb}
 use Rattle.std.specs.Option.{ok_or}
-use Rattle.xn_model.specs.Lives.{StoreState}
 use Rattle.ffs_format.specs.Entries.{is_name}
 use Rattle.ffs_lookup.specs.declared.fault.FfsFault.{FfsFault}
 use Rattle.ffs_lookup.specs.declared.fault.FfsFault.TheVariants.{BadName, DirNotEmpty, NoEntry, TooLarge}
 use Rattle.ffs_lookup.specs.declared.places.Slot.{Slot}
-use Rattle.ffs_lookup.specs.Newest.{RefusesAs, and_then, directory_in, slots_of, entry_named, file_in, has_name, if_empty, is_own, mapped, named_in, rmdir_in, unlink_in, write_in}
-
-module _ {A B : Type 0} (looked : Result A FfsFault) (result : Result B FfsFault) where
-  pub refuses : (fault : FfsFault) (state : StoreState) → Err fault ≡ looked → result ≡ Err fault → RefusesAs looked state state result
-  refuses fault state e is = subst (λ (r : Result A FfsFault). RefusesAs r state state result) e (is, refl)
-
-  pub goes_on : (x : A) (old new : StoreState) → Ok x ≡ looked → IfErr result (λ fault. is_own fault ≡ false) → RefusesAs looked old new result
-  goes_on x old new e h = subst (λ (r : Result A FfsFault). RefusesAs r old new result) e h
+use Rattle.ffs_lookup.specs.Newest.{and_then, directory_in, slots_of, entry_named, file_in, has_name, if_empty, mapped, named_in, rmdir_in, unlink_in, write_in}
 
 module _ (content : ℕ → List ℕ) (fs d : ℕ) (name : List ℕ) where
   pub unlink_nothing : (fault : FfsFault) → Err fault ≡ named_in content fs d name → Err fault ≡ unlink_in content fs d name

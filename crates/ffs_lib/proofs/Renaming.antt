@@ -18,10 +18,6 @@ pub is_some_ok : {A : Type 0} (o : Option A) (x : A) → ◌≡◌ {A = Result A
 is_some_ok None x e = absurd (cc e)
 is_some_ok (Some y) x e = cc
 
-pub none_is_none : {A : Type 0} (o : Option A) (fault : FfsFault) → ◌≡◌ {A = Result A FfsFault} (Err fault) (ok_or o NoEntry) → (o ≡ None) × (fault ≡ NoEntry)
-none_is_none None fault e = (refl, cc)
-none_is_none (Some y) fault e = absurd (cc e)
-
 -- a fault that is handed on
 pub told : {A : Type 0} (r result : Result A FfsFault) (fault : FfsFault) → IsErrAnd result (λ other. other ≡ fault) → Err fault ≡ r → result ≡ r
 told {A} r result fault from e = let p = err_from_is_err_and result from in p.1 ∙ (ap (λ (f : FfsFault). Err f) p.2 ∙ e)

@@ -1,5 +1,5 @@
 -- What is looked up before an entry is replaced, in the order of the tests.
-use Rattle.std.proofs.Common.{◌≡◌, ◌≢◌, ℕ, Bool, true, false, List, Option, Some, None, sym, ◌∙◌, ap, ne_eqb}
+use Rattle.std.proofs.Common.{◌≡◌, ◌≢◌, ℕ, Bool, true, false, List, Option, Some, sym, ◌∙◌, ap, ne_eqb}
 use Rattle.std.specs.Prelude.{IsTrue, Result, Ok, Err, ◌==◌, ◌&&◌, not, if◌then◌else◌}
 use Rattle.std.specs.Option.{ok_or}
 use Rattle.std.proofs.lemmas.Bool.{and_parts, eqb-false, eqb-true}
@@ -87,18 +87,26 @@ module _ (content : ℕ → List ℕ) (fs d : ℕ) (name : List ℕ) (other : �
     abbrev second_of : Slot → Result (Slot × Slot) FfsFault
     second_of from = and_then (ok_or (first_named content target other_name) NoEntry) (files_in content fs from)
 
-    pub no_first_entry : None ≡ first_named content home name → Err NoEntry ≡ all
-    no_first_entry n = ap (λ (o : Option Slot). and_then (ok_or o NoEntry) second_of) n ∙ at_directories
+    -- where an entry was looked up by the first name
+    module _ (o : Option Slot) (is : ◌≡◌ {A = Result (Option Slot) FfsFault} (Ok o) (Ok (first_named content home name))) where
+      at_names : and_then (ok_or o NoEntry) second_of ≡ all
+      at_names = ap (λ (x : Option Slot). and_then (ok_or x NoEntry) second_of) (same_ok o (first_named content home name) is) ∙ at_directories
 
-    module _ (from : Slot) (first : Some from ≡ first_named content home name) where
-      at_first : second_of from ≡ all
-      at_first = ap (λ (o : Option Slot). and_then (ok_or o NoEntry) second_of) first ∙ at_directories
+      pub no_first_entry : (fault : FfsFault) → Err fault ≡ ok_or o NoEntry → Err fault ≡ all
+      no_first_entry fault n = ap (λ (r : Result Slot FfsFault). and_then r second_of) n ∙ at_names
 
-      pub no_second_entry : None ≡ first_named content target other_name → Err NoEntry ≡ all
-      no_second_entry n = ap (λ (o : Option Slot). and_then (ok_or o NoEntry) (files_in content fs from)) n ∙ at_first
+      -- and one by the other
+      module _ (from : Slot) (first : Ok from ≡ ok_or o NoEntry) (o2 : Option Slot) (second : ◌≡◌ {A = Result (Option Slot) FfsFault} (Ok o2) (Ok (first_named content target other_name))) where
+        at_first : and_then (ok_or o2 NoEntry) (files_in content fs from) ≡ all
+        at_first =
+            ap (λ (x : Option Slot). and_then (ok_or x NoEntry) (files_in content fs from)) (same_ok o2 (first_named content target other_name) second)
+            ∙ (ap (λ (r : Result Slot FfsFault). and_then r second_of) first ∙ at_names)
 
-      pub both_are_named : (to : Slot) → Some to ≡ first_named content target other_name → files_in content fs from to ≡ all
-      both_are_named to second = ap (λ (o : Option Slot). and_then (ok_or o NoEntry) (files_in content fs from)) second ∙ at_first
+        pub no_second_entry : (fault : FfsFault) → Err fault ≡ ok_or o2 NoEntry → Err fault ≡ all
+        no_second_entry fault n = ap (λ (r : Result Slot FfsFault). and_then r (files_in content fs from)) n ∙ at_first
+
+        pub both_are_named : (to : Slot) → Ok to ≡ ok_or o2 NoEntry → files_in content fs from to ≡ all
+        both_are_named to n = ap (λ (r : Result Slot FfsFault). and_then r (files_in content fs from)) n ∙ at_first
 
 -- What was found where all of it passed
 
