@@ -27,6 +27,7 @@ pub mod Dropping
 pub mod Undoing
 pub mod Laws
 pub mod Orders
+pub mod Waiting
 pub mod Actions
 pub mod WriteParts
 pub mod Removal

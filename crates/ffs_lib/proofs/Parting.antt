@@ -2,6 +2,7 @@
 use Rattle.std.proofs.Common.{◌≡◌, ◌≢◌, ℕ, ◌+◌, ◌-◌, ◌*◌, ◌/◌, ◌%◌, ◌<◌, ◌≤◌, Bool, true, false, List, ◌++◌, length, drop, take, get_or, replicate, Option, None, Some, Result, Ok, Err, refl, sym, ◌∙◌, ap, arith, subst, inl, inr, length-append}
 use Rattle.std.specs.Prelude.{IfErr, IfOk, IfSome, is_some, min, nat_lt, if◌then◌else◌}
 use Rattle.std.proofs.lemmas.List.{drop-append-le, drop-replicate, get_or-drop, get_or-replicate, get_or-take, length-drop, length-replicate, length-take-le, take-append-le, take-replicate}
+use Rattle.std.proofs.lemmas.Bool.{lt-ltb}
 use Rattle.std.proofs.Math.Seq.{drop-append-add, take-add}
 use Rattle.xn_model.specs.Types.{Types}
 use Rattle.xn_model.specs.Lives.{StoreState}
@@ -14,11 +15,12 @@ use Rattle.ffs_lib.specs.Steps.{Ends, Stage, Stops}
 use Rattle.ffs_lib.specs.Orders.{made_by}
 use Rattle.ffs_lib.specs.Orders as orders
 use Rattle.ffs_lib.specs.WriteOrder.{adds_direct, after_at, data_at, data_parts, last_after, last_at, no_last, parts_at, places, parts_made, zeros_parts}
-use Rattle.ffs_lib.specs.Writes.{IsBorder, LastGiven, MadeTo, PartStops, Parts, Puts, PutsParts, StopsPart, padded}
+use Rattle.ffs_lib.specs.Writes.{IsBorder, LastGiven, MadeTo, PartStops, Parts, Puts, PutsParts, StopsPart, WaitsOn, padded}
 use Rattle.ffs_lib.specs.declared.data.Last.{Last}
 use Rattle.ffs_lib.specs.declared.data.Progress.{Progress}
 use Rattle.ffs_lib.proofs.DataLaws.{later_on, puts_none, puts_still}
 use Rattle.ffs_lib.proofs.Same.{same_on}
+use Rattle.ffs_lib.proofs.Waiting.{waits_same, waits_then}
 use Rattle.ffs_lib.proofs.WriteParts.{border_place, data_are, data_last, not_place, places_next, places_none, run_next, zeros_are, zeros_last}
 use Rattle.ffs_lib.proofs.Writing.{byte_there, cases_written, test_above, test_below, test_in, written_by, wrote_on}
 
@@ -71,6 +73,7 @@ pub record PartMade (T : Types) (fs : ℕ) (old new : StoreState) (n end offset 
   pub given : LastGiven new next
   pub made : made_by T fs (parts_at fs n offset bytes at (after_at end offset bytes at last)) old ≡ Ok new
   pub last_is : next ≡ last_at fs n end offset bytes at old new last
+  pub waits : end ≤ offset → WaitsOn fs n old new last next
 
 abbrev pub MakesPart : Types → ℕ → (ℕ → Option ℕ) → StoreState → StoreState → ℕ → ℕ → ℕ → List ℕ → ℕ → List ℕ → Last → Result Last FfsFault → Type 0
 MakesPart T fs array old new n end offset bytes at part last result =
@@ -89,7 +92,7 @@ zeros_make T fs array old new n end offset bytes at count last result lt e x = g
         MakesPart T fs array old new n end offset bytes at (replicate count 0) last r
     go (Ok next) y = (
       y.0,
-      record { puts = y.1.puts; given = y.1.given; made = subst (λ (p : orders.Parts). made_by T fs p old ≡ Ok new) same y.1.made; last_is = y.1.last_is ∙ zeros_last T fs n end offset bytes at last lt old new },
+      record { puts = y.1.puts; given = y.1.given; made = subst (λ (p : orders.Parts). made_by T fs p old ≡ Ok new) same y.1.made; last_is = y.1.last_is ∙ zeros_last T fs n end offset bytes at last lt old new; waits = λ le. y.1.waits },
     )
     go (Err fault) y = (y.0, (y.1.0, subst (λ (p : orders.Parts). StopsPart T fs p old new n fault) same y.1.1))
 
@@ -101,10 +104,10 @@ last_given state last past mine own given = subst (LastGiven state) (sym own) (g
     go false = (refl, refl)
 
 pub data_make : (T : Types) (fs : ℕ) (array : ℕ → Option ℕ) (old new : StoreState) (n end offset : ℕ) (bytes : List ℕ) (at : ℕ) (part : List ℕ) (last mine : Last) (past : Bool) (result kept : Result Last FfsFault) → offset ≤ at → part ≡ data_at offset bytes at →
-    nat_lt end (at + length part) ≡ past → mine ≡ (if past then last else no_last) → kept ≡ mapped (λ next. if past then next else last) result → LastGiven old last →
+    0 < length part → nat_lt end (at + length part) ≡ past → mine ≡ (if past then last else no_last) → kept ≡ mapped (λ next. if past then next else last) result → LastGiven old last →
     Ends T fs array new result (PutsParts T fs (data_parts fs n (at / 512) (at % 512) part mine.edit) old new n (at / 512) (at % 512) part mine) (StopsPart T fs (data_parts fs n (at / 512) (at % 512) part mine.edit) old new n) →
     MakesPart T fs array old new n end offset bytes at part last kept
-data_make T fs array old new n end offset bytes at part last mine past result kept ge is less own e given x = subst (MakesPart T fs array old new n end offset bytes at part last) (sym e) (go result x)
+data_make T fs array old new n end offset bytes at part last mine past result kept ge is some less own e given x = subst (MakesPart T fs array old new n end offset bytes at part last) (sym e) (go result x)
   where
     is_past : nat_lt end (at + length (data_at offset bytes at)) ≡ past
     is_past = ap (λ (m : List ℕ). nat_lt end (at + length m)) (sym is) ∙ less
@@ -123,6 +126,11 @@ data_make T fs array old new n end offset bytes at part last mine past result ke
     lasts true next f = f
     lasts false next f = refl
 
+    on : (next : Last) → WaitsOn fs n old new mine next → end ≤ offset → WaitsOn fs n old new last (if past then next else last)
+    on next w le =
+        let yes : past ≡ true = sym less ∙ lt-ltb end (at + length part) (omega (arith, le, ge, some)) in
+        subst (λ (t : Bool). WaitsOn fs n old new last (if t then next else last)) (sym yes) (subst (λ (l : Last). WaitsOn fs n old new l next) (own ∙ ap (λ (t : Bool). if t then last else no_last) yes) w)
+
     still : (t : Bool) (next : Last) → old.next ≤ new.next → LastGiven new next → LastGiven new (if t then next else last)
     still true next later g = g
     still false next later g = (given_later old new later last.edit given.0, given_later old new later last.size given.1)
@@ -136,6 +144,7 @@ data_make T fs array old new n end offset bytes at part last mine past result ke
         given = still past next y.1.puts.later y.1.given;
         made = subst (λ (p : orders.Parts). made_by T fs p old ≡ Ok new) same y.1.made;
         last_is = lasts past next (y.1.last_is ∙ ap (last_after (adds_direct (latest old.lives) fs n (at / 512)) old.next new.next) own) ∙ data_last T fs n end offset bytes at last ge past is_past old new;
+        waits = on next y.1.waits;
       },
     )
     go (Err fault) y = (y.0, (y.1.0, subst (λ (p : orders.Parts). StopsPart T fs p old new n fault) same y.1.1))
@@ -171,6 +180,7 @@ module _ (T : Types) (fs : ℕ) (array : ℕ → Option ℕ) (zeroth first secon
     made = λ z. made_next last x.1;
     puts = subst (Puts zeroth second fs n (min end offset)) (ap (λ (m : List ℕ). take progress.done pads ++ m) is ∙ sym (take-add progress.done count pads))
         (puts_on zeroth first second fs n (min end offset) (take progress.done pads) part p.puts (subst (λ (k : ℕ). Puts first second fs n k part) here x.1.puts));
+    waits = λ le z. waits_then fs n zeroth first second no_last progress.last last (p.waits le none) (x.1.waits le);
     given = x.1.given;
     ended = subst (λ (o : Option FfsFault). IfSome o (Stops (PartStops T fs zeroth second n end offset bytes (progress.done + count) last))) (sym none) tt;
   })
@@ -180,6 +190,7 @@ module _ (T : Types) (fs : ℕ) (array : ℕ → Option ℕ) (zeroth first secon
     border = p.border;
     made = λ z. absurd (never_some fault z);
     puts = puts_still zeroth first second fs n (min end offset) (take progress.done pads) p.puts x.1.1.same;
+    waits = λ le z. absurd (never_some fault z);
     given = (given_later first second x.1.1.same.later progress.last.edit p.given.0, given_later first second x.1.1.same.later progress.last.size p.given.1);
     ended = (
       x.1.0,
@@ -205,6 +216,7 @@ parts_none T fs array state n end offset bytes s = record {
       let same : start + 0 ≡ start = omega arith in
       ap (λ (ys : List ℕ). parts_made T fs n end offset bytes ys (state, no_last)) (ap (places start offset) same ∙ places_none offset start);
   puts = puts_none state fs n (min end offset);
+  waits = λ le z. waits_same fs n state no_last;
   given = (refl, refl);
   ended = tt;
 }

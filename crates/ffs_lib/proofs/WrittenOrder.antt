@@ -1,6 +1,7 @@
 -- The edits of a write, in their order, by what its parts made and where they stopped.
 use Rattle.std.proofs.Common.{◌≡◌, ◌≢◌, ℕ, ◌+◌, ◌-◌, ◌<◌, ◌≤◌, ◌⊎◌, List, [], ◌∷◌, length, Option, Some, None, Result, Ok, Err, refl, sym, ◌∙◌, inl, inr, arith, subst}
 use Rattle.std.specs.Prelude.{IfOk, IfSome, MatchResult, min}
+use Rattle.xn_model.specs.Root.{word_at}
 use Rattle.xn_model.specs.Types.{Types}
 use Rattle.xn_model.specs.Lives.{StoreState}
 use Rattle.ffs_model.specs.Cuts.{latest}
@@ -96,6 +97,17 @@ module _ (T : Types) (fs : ℕ) (array : ℕ → Option ℕ) (old middle : Store
           (λ fault. StopsWriting T fs n (file_end inode) offset bytes (places start offset size) (old, no_last) new ⊎ MatchResult (reached T fs n inode offset bytes size old) (λ there. SizeStops T fs n size there.1 there.0 new) (λ refusal. ⊥))
       go (Ok x) a = at_ok (reached T fs n inode offset bytes size old) (middle, progress.last) (λ there. SizeMade T fs n size there.1 there.0 new) (reached_to size (b.whole none) middle (b.first.made none)) a
       go (Err fault) a = inr (at_ok (reached T fs n inode offset bytes size old) (middle, progress.last) (λ there. SizeStops T fs n size there.1 there.0 new) (reached_to size (b.whole none) middle (b.first.made none)) a)
+
+  -- in the cuts, where the data begins at the end of the file or behind it
+  pub grows : file_end inode ≤ offset → word_at (b.first.puts.wrote inode b.is).after 4 < offset + length bytes
+  grows le =
+      let size = (b.first.puts.wrote inode b.is).size in
+      let most = b.low in
+      let some = b.there in
+      omega (arith, size, most, some, le)
+
+  pub other_is : (other : List ℕ) → Ok other ≡ write_in (latest old.lives) fs n (offset + length bytes) → file_end other ≤ offset → file_end inode ≤ offset
+  other_is other found le = subst (λ (m : List ℕ). file_end m ≤ offset) (sym (same_ok inode other (b.is ∙ sym (looked (latest old.lives) fs n (offset + length bytes) other found).0))) le
 
   -- `write_some`
   abbrev InOrderSome : StoreState → Result ℕ FfsFault → Type 0

@@ -58,7 +58,7 @@ returns-clause-parts g c = λ T array zeroth e ok p.
     let least_of : count ≡ min (length (drop from bytes)) (512 - at % 512) = least ∙ ap (λ k. min k (512 - at % 512)) (sym rest) in
     let ends : part ≡ data_at offset bytes at = ap (λ (k : ℕ). take k (drop from bytes)) same ∙ take_least (drop from bytes) count (512 - at % 512) least_of in
     let size : length part ≡ count = ap (λ (k : ℕ). length (take k (drop from bytes))) same ∙ length-take-le count (drop from bytes) (omega (arith, rest, least)) in
-    let x = data_make T fs array first second n end offset bytes at part progress.last c.last_if-last.result (nat_lt end (at + count)) c.write_block-written.result c.kept_if.result (omega arith) ends
+    let x = data_make T fs array first second n end offset bytes at part progress.last c.last_if-last.result (nat_lt end (at + count)) c.write_block-written.result c.kept_if.result (omega arith) ends (omega (arith, size, least, some, low))
     (ap (λ k. nat_lt end (at + k)) size) c.last_if-last.ensures c.kept_if.ensures p.given
     (c.write_block-written.ensures.ends T array wrote.after e p.stage wrote.file (last_given first progress.last (nat_lt end (at + count)) c.last_if-last.result c.last_if-last.ensures p.given)) in
     parts_by T fs array zeroth first second n end offset bytes _ progress c.step-2.result count p c.requires.none (omega (arith, least, some, long, low)) (omega (arith, some, long, low))
