@@ -8,14 +8,14 @@
 --     data_parts, zeros_parts, parts_at    bytes, with what they need before; zeros; what is written from a place on
 --     no_last, goes_past, after_at    no edit; whether a part ends past the file's end; what it comes after
 --     adds_direct, last_after, last_at     whether the inode comes to point to the block; the last edits then
---     borders, places                 where the parts begin, of some; and of none
+--     borders, places, first_past     where the parts begin, of some; and of none; where the first one does that ends past the file's end
 --     parts_made, StopsWriting        parts are made, with the last edits; the first ones are, and the next one stops
 --     EndsWriting, WritesInOrder      what `write` makes then; what it makes
 --     TakesUpTo, StopsBefore, WritesSomeInOrder    so many bytes are taken, and then this is so; none is told; what `write_some` makes
 --     IsIdle, HasEdit, ShowsWhole     nothing is pending for a block; an edit is; in the cuts the last edit comes with all bytes of the call
 --     TellsAct, TellsIn               an action is refused, and this is told of that; one of many is
 use Rattle.std.specs.Prelude.{◌≡◌, ◌≢◌, ◌⊎◌, ℕ, ◌+◌, ◌-◌, ◌*◌, ◌/◌, ◌%◌, ◌≤◌, ◌==◌, ◌||◌, ◌&&◌, not, nat_lt, Bool, false, List, [], ◌∷◌, length, take}
-use Rattle.std.specs.Prelude.{Contains, drop, filter, min, replicate, Option, None, Some, Result, Ok, Err, MatchResult, if◌then◌else◌}
+use Rattle.std.specs.Prelude.{Contains, drop, filter, max, min, replicate, Option, None, Some, Result, Ok, Err, MatchResult, if◌then◌else◌}
 use Rattle.std.specs.List.{list_all, range_with_len}
 use Rattle.std.specs.Int.{w32, to_le_bytes}
 use Rattle.xn_model.specs.declared.refusal.Refusal.{Refusal}
@@ -162,6 +162,10 @@ StopsWriting T fs n end offset bytes (at ∷ rest) from new =
     StopsAtPart T fs n end offset bytes at from new
     ⊎ MatchResult (made_by T fs (parts_at fs n offset bytes at (after_at end offset bytes at from.1)) from.0)
     (λ state. StopsWriting T fs n end offset bytes rest (state, last_at fs n end offset bytes at from.0 state from.1) new) (λ refusal. ⊥)
+
+-- where the first part begins that ends past the file's end
+abbrev pub first_past : ℕ → ℕ → ℕ
+first_past end offset = max (min end offset) (512 * (end / 512))
 
 -- The calls, of a file whose inode was this one
 

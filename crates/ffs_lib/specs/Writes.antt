@@ -13,6 +13,7 @@ use Rattle.std.specs.Prelude.{Contains, IsTrue, IfSome}
 use Rattle.xn_model.specs.Root.{word_at}
 use Rattle.xn_model.specs.Types.{Types}
 use Rattle.xn_model.specs.Lives.{BlockState, Life, Lives, StoreState, life_at}
+use Rattle.xn_model.specs.Rules.{IsConsistent}
 use Rattle.xn_model.specs.Calls.{was_given}
 use Rattle.ffs_model.specs.Cuts.{Choice, IsCut, IsFullAt, TakesAny}
 use Rattle.ffs_model.specs.Library.{pointer_word}
@@ -22,7 +23,7 @@ use Rattle.ffs_lib.specs.Orders.{Action, act_of, made_by}
 use Rattle.ffs_lib.specs.Orders as orders
 use Rattle.ffs_lib.specs.Results.{OnlyChanges, WroteBytes}
 use Rattle.ffs_lib.specs.Steps.{Stage, Stops, newest_block}
-use Rattle.ffs_lib.specs.WriteOrder.{TellsAct, TellsIn, adds_direct, after_at, last_after, no_last, parts_at, places, parts_made}
+use Rattle.ffs_lib.specs.WriteOrder.{TellsAct, TellsIn, adds_direct, after_at, first_past, last_after, no_last, parts_at, places, parts_made}
 use Rattle.ffs_lib.specs.declared.data.Last.{Last}
 use Rattle.ffs_lib.specs.declared.data.Progress.{Progress}
 
@@ -126,6 +127,9 @@ pub record Parts (T : Types) (fs : ℕ) (array : ℕ → Option ℕ) (old new : 
   pub border : progress.done < length (padded end offset bytes) → IsBorder end offset progress.done
   pub made : progress.fault ≡ None → MadeTo T fs n end offset bytes old progress.done new progress.last
   pub puts : Puts old new fs n (min end offset) (take progress.done (padded end offset bytes))
-  pub waits : end ≤ offset → progress.fault ≡ None → WaitsOn fs n old new no_last progress.last
+  pub calm : min end offset + progress.done ≤ first_past end offset → progress.last ≡ no_last
+  pub waits : (there : StoreState × Last) → parts_made T fs n end offset bytes (places (min end offset) offset (first_past end offset)) (old, no_last) ≡ Ok there →
+      first_past end offset ≤ min end offset + progress.done → end < offset + length bytes → progress.fault ≡ None →
+      IsConsistent T there.0 × WaitsOn fs n there.0 new no_last progress.last
   pub given : LastGiven new progress.last
   pub ended : IfSome progress.fault (Stops (PartStops T fs old new n end offset bytes progress.done progress.last))

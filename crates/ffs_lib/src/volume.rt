@@ -21,8 +21,9 @@ ghost use Rattle.ffs_lib.specs.Orders.{InOrder, NamesInOrder, Orders, moved_part
 ghost use Rattle.ffs_lib.specs.Outcomes.{HasFreePointer};
 ghost use Rattle.ffs_lib.specs.Replacing.{AreDirect, pair_of};
 ghost use Rattle.ffs_model.specs.Standing.{StayNamed};
-ghost use Rattle.xn_model.specs.Lives.{Lives};
-ghost use Rattle.ffs_lib.specs.WriteOrder.{ShowsWhole, WritesInOrder, WritesSomeInOrder};
+ghost use Rattle.xn_model.specs.Lives.{Lives, StoreState};
+ghost use Rattle.ffs_lib.specs.WriteOrder.{ShowsWhole, WritesInOrder, WritesSomeInOrder, first_past, reached};
+ghost use Rattle.ffs_lib.specs.declared.data.Last.{Last};
 ghost use Rattle.ffs_lib.specs.Written.{DoesSome, Overwrites, WritesSomeTo, WritesTo, written_stages};
 ghost use Rattle.ffs_lookup.specs.FileValues.{files_of};
 ghost use Rattle.ffs_lookup.specs.Files.{Files, created, listed, new_directory, new_file, read, read_over, removed, renamed, unlinked, written};
@@ -392,8 +393,9 @@ impl Volume {
             (file : List ℕ) → Ok file ≡ write_in old fs inode (offset + length bytes.now) →
             WritesInOrder (S.types_of store.old) fs inode file offset bytes.now (S.state_of store.old) (S.state_of store.new) result }
         ensures cuts { let old = newest_block (S.state_of store.old) in let fs = self.now.fs.number in
-            (file : List ℕ) → Ok file ≡ write_in old fs inode (offset + length bytes.now) → file_end file ≤ offset →
-            OnOk result (ShowsWhole (S.state_of store.old) (S.state_of store.new)) }
+            (file : List ℕ) (there : StoreState × Last) → Ok file ≡ write_in old fs inode (offset + length bytes.now) → file_end file < offset + length bytes.now →
+            reached (S.types_of store.old) fs inode file offset bytes.now (first_past (file_end file) offset) (S.state_of store.old) ≡ Ok there →
+            OnOk result (ShowsWhole there.0 (S.state_of store.new)) }
         ensures none { length bytes.now ≡ 0 → S.state_of store.new ≡ S.state_of store.old }
         ensures keeps { IsVolume (S.types_of store.old) (S.state_of store.new) self.now }
     {
