@@ -24,6 +24,7 @@ use Rattle.ffs_lib.specs.Writes.{ActedBy, LastGiven, Puts, PutsParts}
 use Rattle.ffs_lib.specs.declared.data.Last.{Last}
 use Rattle.ffs_lib.proofs.Orders.{number_is, one_order}
 use Rattle.ffs_lib.proofs.Owners.{stands_from, where_block}
+use Rattle.ffs_lib.proofs.Waiting.{waits_same}
 use Rattle.ffs_lib.proofs.Writing.{file_from}
 
 -- One edit, and a new block
@@ -181,6 +182,7 @@ zeros_none T fs old n index at count last given puts is = record {
   given = given;
   made = ap (λ (a : Action). result_and_then (made_by T fs []) (act_of T fs a old)) (sym is);
   last_is = last_same (adds_direct (latest old.lives) fs n index) old.next last;
+  waits = waits_same fs n old last;
 }
 
 -- a block at an index that is there

@@ -1,5 +1,5 @@
 -- What the edits leave by which bytes of a file are written: one law for each kind.
-use Rattle.std.proofs.Common.{◌≡◌, ◌≢◌, ℕ, ◌+◌, ◌-◌, ◌*◌, ◌/◌, ◌%◌, ◌^◌, ◌<◌, ◌≤◌, List, [], ◌∷◌, length, Option, Ok, Result, refl, sym, ◌∙◌, ap, arith, subst, inl, inr}
+use Rattle.std.proofs.Common.{◌≡◌, ◌≢◌, ℕ, ◌+◌, ◌-◌, ◌*◌, ◌/◌, ◌%◌, ◌^◌, ◌<◌, ◌≤◌, List, [], ◌∷◌, length, Option, Some, Ok, Result, refl, sym, ◌∙◌, ap, arith, subst, inl, inr}
 use Rattle.std.specs.Prelude.{Contains, IsTrue, slice_set}
 use Rattle.std.specs.Int.{w32, to_le_bytes}
 use Rattle.std.proofs.lemmas.List.{length-replicate}
@@ -16,7 +16,7 @@ use Rattle.ffs_model.proofs.ForCallers.{begun_next, data_short, given_later, lat
 use Rattle.ffs_format.specs.Fields.{Fields, direct_in, fields_of}
 use Rattle.ffs_lookup.specs.declared.fault.FfsFault.{FfsFault}
 use Rattle.ffs_lookup.specs.declared.places.Found.{Found}
-use Rattle.ffs_lookup.specs.Newest.{byte_of, file_block, file_in}
+use Rattle.ffs_lookup.specs.Newest.{byte_of, file_block, file_in, inode_block_in}
 use Rattle.ffs_lookup.specs.Places.{IsFile}
 use Rattle.ffs_lookup.proofs.ForCallers.{found_has, same_ok}
 use Rattle.ffs_lib.specs.Edits.{edit_at}
@@ -26,16 +26,19 @@ use Rattle.ffs_lib.specs.Orders.{Action, Attaches, Makes, act_of}
 use Rattle.ffs_lib.specs.Orders as orders
 use Rattle.ffs_lib.specs.Steps.{Attached, Ends, IsHome, Proposed, ShortEdit, Stage, Tells, left_by}
 use Rattle.ffs_lib.specs.WriteOrder.{TellsAct, data_action, direct_edit, indirect_edit, pointed_edit, pointers_action}
-use Rattle.ffs_lib.specs.Writes.{ActedBy, PointsTo, Puts, PutsBy, StopsAction, StopsPart}
+use Rattle.ffs_lib.specs.Writes.{ActedBy, PointsTo, Puts, PutsBy, IsFrom, StopsAction, StopsPart, WaitsAfter}
+use Rattle.ffs_lib.specs.declared.data.Last.{Last}
 use Rattle.ffs_lib.proofs.Actions.{attach_acted, direct_is, edit_acted, pointed_is, pointers_is}
 use Rattle.ffs_lib.proofs.DataShort.{direct_refused, pointers_refused, size_refused}
 use Rattle.ffs_lib.proofs.Edited.{file_data, kept, pointed, pointed_data, pointers_reached}
 use Rattle.ffs_lib.proofs.Fields.{one_more, same_blocks}
 use Rattle.ffs_lib.proofs.Laws.{attaches, can_edit, finishes, gives_of, home_of}
 use Rattle.ffs_lib.proofs.Owners.{Stands, block_at, direct_block, pointers_at, stands_from, where_block}
-use Rattle.ffs_lib.proofs.Same.{Touches, begun, begun_some, block_same, none_touched, reached_before, same_on}
+use Rattle.ffs_lib.proofs.Orders.{ok_same}
+use Rattle.ffs_lib.proofs.Same.{Touches, begun, begun_some, block_same, edited, none_touched, reached_before, same_on}
 use Rattle.ffs_lib.proofs.Short.{begun_addable}
 use Rattle.ffs_lib.proofs.Undoing.{at_ok, left_next, undone_same}
+use Rattle.ffs_lib.proofs.Waiting.{attach_waits, begun_newer, home_waits, put_newer, put_waits}
 use Rattle.ffs_lib.proofs.Writing.{block_written, data_attached, data_written, direct_attached, file_from, file_now, file_others, file_same, indirect_block, pointers_attached, size_raised, wrote_none, written_none, written_same}
 
 -- Bytes that stay, and one write after another
@@ -109,6 +112,11 @@ stops_after T fs first rest old middle new n fault a made x = record { same = pu
 pub stops_now : (T : Types) (fs : ℕ) (first : StoreState → Action) (rest : orders.Parts) (old new : StoreState) (n : ℕ) (fault : FfsFault) → StopsAction T fs (first old) old new n fault → StopsPart T fs (first ∷ rest) old new n fault
 stops_now T fs first rest old new n fault x = record { same = x.same; told = inl x.told }
 
+-- the blocks of inodes stay where another block is written
+home_edited : (T : Types) (fs : ℕ) (array : ℕ → Option ℕ) (state : StoreState) (s : Stage T fs array state) (new : StoreState) (c u : ℕ) (edit : Edit) (entry : ℕ) → propose_of T state fs c edit ≡ Ok (entry, new) → Under T (latest state.lives) fs c u → u ≢ 3 → (j : ℕ) →
+    inode_block_in (latest new.lives) fs j ≡ inode_block_in (latest state.lives) fs j
+home_edited T fs array state s new c u edit entry done at ne j = block_same T s.library (latest state.lives) (latest new.lives) fs c u (edited T state new s.keeps.consistent fs s.few c u edit entry done at) ne j
+
 -- A block that is there
 
 module _ (T : Types) (fs : ℕ) (array : ℕ → Option ℕ) (old : StoreState) (s : Stage T fs array old) (n : ℕ) (found : Found) (file : IsFile old fs n found) (is : Ok found.inode ≡ file_in (latest old.lives) fs n)
@@ -144,14 +152,24 @@ module _ (T : Types) (fs : ℕ) (array : ℕ → Option ℕ) (old : StoreState) 
         ),
       )
 
+  waits : (new : StoreState) (entry : ℕ) → propose_of T old fs block (edit_at at bytes [] [] after) ≡ Ok (entry, new) → WaitsAfter fs n old new after (λ last. record { edit = Some entry; size = Some entry })
+  waits new entry done last same =
+      let edit = edit_at at bytes [] [] after in
+      record {
+        home = home_edited T fs array old s new block 2 edit entry done (block_at T s.library old s.keeps.consistent fs s.few n found.inode own index block low points there) (λ z. omega (arith, z)) ((n - 1) / 8);
+        waits = λ b from low here w. put_waits T old new s.keeps.consistent fs block edit entry done b from last (sym same) w;
+        newer = put_newer T old new s.keeps.consistent fs block edit entry done;
+        later = one_later new.next old.next (proposed_next T old new fs block edit entry done);
+      }
+
   pub there_ends : 0 < length bytes → IsTrue (was_given old after) → (new : StoreState) (result : Result ℕ FfsFault) → Proposed T fs block (edit_at at bytes [] [] after) old new result →
-      Ends T fs array new result (λ entry. PutsBy old new fs n (512 * index + at) bytes entry × ActedBy T fs (Makes ((block, edit_at at bytes [] [] after) ∷ [])) old new entry)
+      Ends T fs array new result (λ entry. (PutsBy old new fs n (512 * index + at) bytes entry × WaitsAfter fs n old new after (λ last. record { edit = Some entry; size = Some entry })) × ActedBy T fs (Makes ((block, edit_at at bytes [] [] after) ∷ [])) old new entry)
       (StopsAction T fs (Makes ((block, edit_at at bytes [] [] after) ∷ [])) old new n)
   there_ends some given new result p =
       let edit = edit_at at bytes [] [] after in
       let action : Action = Makes ((block, edit) ∷ []) in
       finishes T fs block edit array old new _ _ s result p (there_short some given)
-      (λ entry done. let x = puts new entry done in (x.0, (x.1, edit_acted T fs block edit old new entry done)))
+      (λ entry done. let x = puts new entry done in (x.0, ((x.1, waits new entry done), edit_acted T fs block edit old new entry done)))
       (λ fault same told. subst (λ (m : StoreState). StopsAction T fs action old m n fault) (sym same) (record { same = puts_none old fs n 0; told = (refl, told) }))
 
 -- A new block
@@ -203,17 +221,52 @@ module _ (T : Types) (fs : ℕ) (array : ℕ → Option ℕ) (zeroth first : Sto
             (sym done) (left, subst (λ (e : Edit). Tells (propose_of T first fs home e) fault) same told)));
       })
 
+  begun_block : (j : ℕ) → inode_block_in (latest first.lives) fs j ≡ inode_block_in (latest zeroth.lives) fs j
+  begun_block = block_same T s.library (latest zeroth.lives) (latest first.lives) fs block 9 begun_touches (λ z. omega (arith, z))
+
   -- the block of its inode
   pub begun_home : (found : Found) → IsFile first fs n found → IsHome (latest zeroth.lives) fs n found.block
   begun_home found file =
-      home_of first fs n found.block found.place file.is.stands ∙ block_same T s.library (latest zeroth.lives) (latest first.lives) fs block 9 begun_touches (λ z. omega (arith, z)) ((n - 1) / 8)
+      home_of first fs n found.block found.place file.is.stands ∙ begun_block ((n - 1) / 8)
 
   pub begun_own : Stands (latest first.lives) fs n inode
   begun_own = stands_from (latest first.lives) fs n inode (file_from (latest first.lives) fs n inode begun_again)
 
+  home_at : (found : Found) → IsFile first fs n found → Under T (latest first.lives) fs found.block 4
+  home_at found file = under_inodes T library_layout (library_reads T s.library) (latest first.lives) fs (library_layout.home n).0 found.block file.is.stands.inodes
+
   -- what it has there is not another block
   pub begun_mine : (found : Found) → Ok found.inode ≡ file_in (latest first.lives) fs n → found.inode ≡ inode
   begun_mine found exact = same_ok found.inode inode (exact ∙ sym begun_again)
+
+  -- it is attached, in the cuts, by the inode's block or by another one
+  module _ (second : StoreState) (c u : ℕ) (edit : Edit) (entry : ℕ) (put_done : propose_of T first fs c edit ≡ Ok (entry, second)) (at : Under T (latest first.lives) fs c u) (not3 : u ≢ 3) (adds : Contains edit.adds (block, ty)) where
+    home_second : inode_block_in (latest second.lives) fs ((n - 1) / 8) ≡ inode_block_in (latest zeroth.lives) fs ((n - 1) / 8)
+    home_second = home_edited T fs array first begun_stage second c u edit entry put_done at not3 ((n - 1) / 8) ∙ begun_block ((n - 1) / 8)
+
+    newer_second : (from b : ℕ) → from ≤ zeroth.next → IsFrom from zeroth.lives b → IsFrom from second.lives b
+    newer_second from b low older =
+        put_newer T first second begun_stage.keeps.consistent fs c edit entry put_done from b (later_on from zeroth.next first.next low begun_later) (begun_newer T zeroth first s.keeps.consistent fs ty bytes block number done from b low older)
+
+    later_second : zeroth.next ≤ second.next
+    later_second = later_on zeroth.next first.next second.next begun_later (one_later second.next first.next (proposed_next T first second fs c edit entry put_done))
+
+    pub attach_waits_on : WaitsAfter fs n zeroth second edit.after (λ last. record { edit = Some entry; size = Some entry })
+    attach_waits_on last same = record {
+      home = home_second;
+      waits = λ b from low here w. attach_waits T zeroth first s.keeps.consistent fs ty bytes block number done second begun_stage.keeps.consistent c edit entry put_done adds b from last (sym same) w;
+      newer = newer_second;
+      later = later_second;
+    }
+
+    pub home_waits_on : IsHome (latest zeroth.lives) fs n c → (next : Last → Last) → ((last : Last) → (next last).edit ≡ last.edit) → WaitsAfter fs n zeroth second edit.after next
+    home_waits_on home next kept last same = record {
+      home = home_second;
+      waits = λ b from low here w. home_waits T zeroth first s.keeps.consistent fs ty bytes block number done second begun_stage.keeps.consistent c edit entry put_done adds b from last (sym same) w
+          (ok_same b c (here ∙ sym home)) (next last) (kept last);
+      newer = newer_second;
+      later = later_second;
+    }
 
 -- A new block of data, to which the inode points
 
@@ -227,7 +280,7 @@ module _ (T : Types) (fs : ℕ) (array : ℕ → Option ℕ) (zeroth first : Sto
       fs s.few n found file own whole index block low (ap (λ (f : Fields). f.direct) set) (ap (λ (f : Fields). f.indirect) set) (ap (λ i. direct_in i index) (begun_mine T fs array zeroth first s n inode is 2 (put zero_block at bytes) block number done found exact) ∙ hole)
       (begun_addable T zeroth first fs 2 block number (put zero_block at bytes) (gives_of (init_of T zeroth fs 2 (put zero_block at bytes)) zeroth first (block, number) done))
 
-  adds_direct : (second : StoreState) (entry : ℕ) → propose_of T first fs found.block (edit_at (64 * found.place) own ((block, 2) ∷ []) [] after) ≡ Ok (entry, second) → Stage T fs array second × PutsBy zeroth second fs n (512 * index + at) bytes entry
+  adds_direct : (second : StoreState) (entry : ℕ) → propose_of T first fs found.block (edit_at (64 * found.place) own ((block, 2) ∷ []) [] after) ≡ Ok (entry, second) → Stage T fs array second × (PutsBy zeroth second fs n (512 * index + at) bytes entry × WaitsAfter fs n zeroth second after (λ last. record { edit = last.edit; size = Some entry }))
   adds_direct second entry put_done =
       let h = s.keeps.consistent in
       let s1 = begun_stage T fs array zeroth first s n inode is 2 (put zero_block at bytes) block number done in
@@ -249,17 +302,21 @@ module _ (T : Types) (fs : ℕ) (array : ℕ → Option ℕ) (zeroth first : Sto
               ]);
         },
         (
-          record {
-            wrote = λ other i. subst (λ (x : List ℕ). WroteBytes (latest zeroth.lives) (latest second.lives) fs n x (512 * index + at) bytes) (same_ok inode other (is ∙ sym i)) wrote;
-            others = λ d ne. same_on (latest zeroth.lives) (latest first.lives) (latest second.lives) fs d (begun_all T fs array zeroth first s n inode is 2 (put zero_block at bytes) block number done d) (g.others d ne);
-            later = later_on zeroth.next first.next second.next (begun_later T fs array zeroth first s n inode is 2 (put zero_block at bytes) block number done) (one_later second.next first.next (proposed_next T first second fs found.block edit entry put_done));
-          },
-          proposed_given T first second h1 fs found.block edit entry put_done,
+          (
+            record {
+              wrote = λ other i. subst (λ (x : List ℕ). WroteBytes (latest zeroth.lives) (latest second.lives) fs n x (512 * index + at) bytes) (same_ok inode other (is ∙ sym i)) wrote;
+              others = λ d ne. same_on (latest zeroth.lives) (latest first.lives) (latest second.lives) fs d (begun_all T fs array zeroth first s n inode is 2 (put zero_block at bytes) block number done d) (g.others d ne);
+              later = later_on zeroth.next first.next second.next (begun_later T fs array zeroth first s n inode is 2 (put zero_block at bytes) block number done) (one_later second.next first.next (proposed_next T first second fs found.block edit entry put_done));
+            },
+            proposed_given T first second h1 fs found.block edit entry put_done,
+          ),
+          home_waits_on T fs array zeroth first s n inode is 2 (put zero_block at bytes) block number done second found.block 4 edit entry put_done (home_at T fs array zeroth first s n inode is 2 (put zero_block at bytes) block number done found file) (λ z. omega (arith, z))
+              (Contains-head (block, 2) []) (begun_home T fs array zeroth first s n inode is 2 (put zero_block at bytes) block number done found file) (λ last. record { edit = last.edit; size = Some entry }) (λ last. refl),
         ),
       )
 
   pub direct_ends : (new : StoreState) (result : Result ℕ FfsFault) → Attached T fs block found.block (edit_at (64 * found.place) own ((block, 2) ∷ []) [] after) first new result →
-      Ends T fs array new result (λ entry. PutsBy zeroth new fs n (512 * index + at) bytes entry × ActedBy T fs (data_action (latest zeroth.lives) fs n index at bytes after) zeroth new entry)
+      Ends T fs array new result (λ entry. (PutsBy zeroth new fs n (512 * index + at) bytes entry × WaitsAfter fs n zeroth new after (λ last. record { edit = last.edit; size = Some entry })) × ActedBy T fs (data_action (latest zeroth.lives) fs n index at bytes after) zeroth new entry)
       (StopsAction T fs (data_action (latest zeroth.lives) fs n index at bytes after) zeroth new n)
   direct_ends new result p =
       let home = begun_home T fs array zeroth first s n inode is 2 (put zero_block at bytes) block number done found file in
@@ -267,7 +324,7 @@ module _ (T : Types) (fs : ℕ) (array : ℕ → Option ℕ) (zeroth first : Sto
       attached_ends T fs array zeroth first s n inode is 2 (put zero_block at bytes) block number done found.block (direct_edit n inode index after) (data_action (latest zeroth.lives) fs n index at bytes after)
       (direct_is (latest zeroth.lives) fs n found.block inode index at bytes after home is (direct_block (latest zeroth.lives) inode index low ∙ hole) low) (edit_at (64 * found.place) own ((block, 2) ∷ []) [] after)
       (ap (λ k. edit_at (64 * k) own ((block, 2) ∷ []) [] after) file.is.stands.at ∙ ap (λ m. edit_at (64 * ((n - 1) % 8)) m ((block, 2) ∷ []) [] after) (spelled ∙ ap (λ i. put i (8 + 4 * index) (to_le_bytes w32 block)) mine))
-      new (PutsBy zeroth new fs n (512 * index + at) bytes) direct_short (adds_direct new) result p
+      new (λ entry. PutsBy zeroth new fs n (512 * index + at) bytes entry × WaitsAfter fs n zeroth new after (λ last. record { edit = last.edit; size = Some entry })) direct_short (adds_direct new) result p
 
 -- A new block of data, to which its block of pointers points
 
@@ -297,7 +354,7 @@ module _ (T : Types) (fs : ℕ) (array : ℕ → Option ℕ) (zeroth first : Sto
   pointed_hole = indirect_block (latest zeroth.lives) inode last place points there ∙ none
 
   adds_pointed : (second : StoreState) (entry : ℕ) → propose_of T first fs last (edit_at (4 * place) (to_le_bytes w32 block) ((block, 2) ∷ []) [] after) ≡ Ok (entry, second) →
-      Stage T fs array second × PutsBy zeroth second fs n (512 * (12 + place) + at) bytes entry
+      Stage T fs array second × (PutsBy zeroth second fs n (512 * (12 + place) + at) bytes entry × WaitsAfter fs n zeroth second after (λ last. record { edit = Some entry; size = Some entry }))
   adds_pointed second entry put_done =
       let h = s.keeps.consistent in
       let s1 = begun_stage T fs array zeroth first s n inode is 2 (put zero_block at bytes) block number done in
@@ -309,23 +366,26 @@ module _ (T : Types) (fs : ℕ) (array : ℕ → Option ℕ) (zeroth first : Sto
       let wrote = block_written T s.library zeroth first second h h1 fs s.few block number at bytes done n (12 + place) inode inode is (omega (arith, low)) pointed_hole fit again g in (
         record { library = s.library; few = s.few; keeps = pointed T s.library fs s.few array first second s1.keeps last entry edit still_reached put_done },
         (
-          record {
-            wrote = λ other i. subst (λ (x : List ℕ). WroteBytes (latest zeroth.lives) (latest second.lives) fs n x (512 * (12 + place) + at) bytes) (same_ok inode other (is ∙ sym i)) wrote;
-            others = λ d ne. same_on (latest zeroth.lives) (latest first.lives) (latest second.lives) fs d (begun_all T fs array zeroth first s n inode is 2 (put zero_block at bytes) block number done d) (g.others d ne);
-            later = later_on zeroth.next first.next second.next (begun_later T fs array zeroth first s n inode is 2 (put zero_block at bytes) block number done) (one_later second.next first.next (proposed_next T first second fs last edit entry put_done));
-          },
-          proposed_given T first second h1 fs last edit entry put_done,
+          (
+            record {
+              wrote = λ other i. subst (λ (x : List ℕ). WroteBytes (latest zeroth.lives) (latest second.lives) fs n x (512 * (12 + place) + at) bytes) (same_ok inode other (is ∙ sym i)) wrote;
+              others = λ d ne. same_on (latest zeroth.lives) (latest first.lives) (latest second.lives) fs d (begun_all T fs array zeroth first s n inode is 2 (put zero_block at bytes) block number done d) (g.others d ne);
+              later = later_on zeroth.next first.next second.next (begun_later T fs array zeroth first s n inode is 2 (put zero_block at bytes) block number done) (one_later second.next first.next (proposed_next T first second fs last edit entry put_done));
+            },
+            proposed_given T first second h1 fs last edit entry put_done,
+          ),
+          attach_waits_on T fs array zeroth first s n inode is 2 (put zero_block at bytes) block number done second last 5 edit entry put_done still_reached (λ z. omega (arith, z)) (Contains-head (block, 2) []),
         ),
       )
 
   pub pointed_ends : (new : StoreState) (result : Result ℕ FfsFault) → Attached T fs block last (edit_at (4 * place) (to_le_bytes w32 block) ((block, 2) ∷ []) [] after) first new result →
-      Ends T fs array new result (λ entry. PutsBy zeroth new fs n (512 * (12 + place) + at) bytes entry × ActedBy T fs (data_action (latest zeroth.lives) fs n (12 + place) at bytes after) zeroth new entry)
+      Ends T fs array new result (λ entry. (PutsBy zeroth new fs n (512 * (12 + place) + at) bytes entry × WaitsAfter fs n zeroth new after (λ last. record { edit = Some entry; size = Some entry })) × ActedBy T fs (data_action (latest zeroth.lives) fs n (12 + place) at bytes after) zeroth new entry)
       (StopsAction T fs (data_action (latest zeroth.lives) fs n (12 + place) at bytes after) zeroth new n)
   pointed_ends new result p =
       attached_ends T fs array zeroth first s n inode is 2 (put zero_block at bytes) block number done last (pointed_edit (12 + place) after) (data_action (latest zeroth.lives) fs n (12 + place) at bytes after)
       (pointed_is (latest zeroth.lives) fs n inode (12 + place) last at bytes after is pointed_hole (omega arith) points) (edit_at (4 * place) (to_le_bytes w32 block) ((block, 2) ∷ []) [] after)
       (let less : place ≡ 12 + place - 12 = omega arith in ap (λ k. edit_at (4 * k) (to_le_bytes w32 block) ((block, 2) ∷ []) [] after) less)
-      new (PutsBy zeroth new fs n (512 * (12 + place) + at) bytes) pointed_short (adds_pointed new) result p
+      new (λ entry. PutsBy zeroth new fs n (512 * (12 + place) + at) bytes entry × WaitsAfter fs n zeroth new after (λ last. record { edit = Some entry; size = Some entry })) pointed_short (adds_pointed new) result p
 
 -- A new block of pointers
 
@@ -354,7 +414,7 @@ module _ (T : Types) (fs : ℕ) (array : ℕ → Option ℕ) (zeroth first : Sto
       apart found.block 4 (reached_before T (latest zeroth.lives) (latest first.lives) fs block 9 t apart found.block 4 at)
 
   adds_pointers : (second : StoreState) (entry : ℕ) → propose_of T first fs found.block (edit_at (64 * found.place) own ((block, 5) ∷ []) [] after) ≡ Ok (entry, second) →
-      Stage T fs array second × PointsTo zeroth second fs n inode block
+      Stage T fs array second × (PointsTo zeroth second fs n inode block × WaitsAfter fs n zeroth second after (λ last. last))
   adds_pointers second entry put_done =
       let s1 = begun_stage T fs array zeroth first s n inode is 5 zero_block block number done in
       let h1 = s1.keeps.consistent in
@@ -377,26 +437,30 @@ module _ (T : Types) (fs : ℕ) (array : ℕ → Option ℕ) (zeroth first : Sto
           keeps = kept T s.library fs s.few array first second s1.keeps n found.block found.place file.is.stands own whole ((block, 5) ∷ []) [] after entry put_done (mode ∙ ap inode_mode file.is.bytes) (links ∙ ap inode_links file.is.bytes)
               (λ b m. inl (subst (λ xs. Contains xs b) (same_blocks found.inode own direct ∙ ap inode_blocks file.is.bytes) m));
         },
-        record {
-          puts = puts_after zeroth first second fs n 0 [] (begun_puts T fs array zeroth first s n inode is 5 zero_block block number done) puts;
-          after = own;
-          file = file_now T s.library first second h1 fs s.few n found file exact own whole mode ((block, 5) ∷ []) after entry put_done;
-          points = last;
-          there = begun_some T zeroth first s.keeps.consistent fs 5 zero_block (block, number) done;
-          long = ap length now ∙ length-replicate {A = ℕ} 512 0;
-          holes = λ index far low hole. ap (λ m. pointer_word m (index - 12)) now ∙ zero_word (4 * (index - 12));
-        },
+        (
+          record {
+            puts = puts_after zeroth first second fs n 0 [] (begun_puts T fs array zeroth first s n inode is 5 zero_block block number done) puts;
+            after = own;
+            file = file_now T s.library first second h1 fs s.few n found file exact own whole mode ((block, 5) ∷ []) after entry put_done;
+            points = last;
+            there = begun_some T zeroth first s.keeps.consistent fs 5 zero_block (block, number) done;
+            long = ap length now ∙ length-replicate {A = ℕ} 512 0;
+            holes = λ index far low hole. ap (λ m. pointer_word m (index - 12)) now ∙ zero_word (4 * (index - 12));
+          },
+          home_waits_on T fs array zeroth first s n inode is 5 zero_block block number done second found.block 4 edit entry put_done (home_at T fs array zeroth first s n inode is 5 zero_block block number done found file) (λ z. omega (arith, z))
+              (Contains-head (block, 5) []) (begun_home T fs array zeroth first s n inode is 5 zero_block block number done found file) (λ last. last) (λ last. refl),
+        ),
       )
 
   pub pointers_ends : (index : ℕ) → 12 ≤ index → (new : StoreState) (result : Result ℕ FfsFault) → Attached T fs block found.block (edit_at (64 * found.place) own ((block, 5) ∷ []) [] after) first new result →
-      Ends T fs array new result (λ entry. PointsTo zeroth new fs n inode block × ActedBy T fs (pointers_action (latest zeroth.lives) fs n index after) zeroth new entry)
+      Ends T fs array new result (λ entry. (PointsTo zeroth new fs n inode block × WaitsAfter fs n zeroth new after (λ last. last)) × ActedBy T fs (pointers_action (latest zeroth.lives) fs n index after) zeroth new entry)
       (StopsAction T fs (pointers_action (latest zeroth.lives) fs n index after) zeroth new n)
   pointers_ends index far new result p =
       let home = begun_home T fs array zeroth first s n inode is 5 zero_block block number done found file in
       attached_ends T fs array zeroth first s n inode is 5 zero_block block number done found.block (indirect_edit n inode after) (pointers_action (latest zeroth.lives) fs n index after)
       (pointers_is (latest zeroth.lives) fs n found.block inode index after home is far none) (edit_at (64 * found.place) own ((block, 5) ∷ []) [] after)
       (ap (λ k. edit_at (64 * k) own ((block, 5) ∷ []) [] after) file.is.stands.at ∙ ap (λ m. edit_at (64 * ((n - 1) % 8)) m ((block, 5) ∷ []) [] after) (spelled ∙ ap (λ i. put i 56 (to_le_bytes w32 block)) same))
-      new (λ entry. PointsTo zeroth new fs n inode block) pointers_short (adds_pointers new) result p
+      new (λ entry. PointsTo zeroth new fs n inode block × WaitsAfter fs n zeroth new after (λ last. last)) pointers_short (adds_pointers new) result p
 
 -- The block of pointers that is there
 pub points_there : (state : StoreState) (fs n : ℕ) (inode : List ℕ) (block : ℕ) → Ok inode ≡ file_in (latest state.lives) fs n → word_at inode 56 ≡ block → block ≢ 0 → length (latest state.lives block) ≡ 512 → PointsTo state state fs n inode block

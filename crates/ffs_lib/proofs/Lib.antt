@@ -29,6 +29,7 @@ pub mod Laws
 pub mod Orders
 pub mod NewOrder
 pub mod RepairOrder
+pub mod Waiting
 pub mod Actions
 pub mod WriteParts
 pub mod Removal

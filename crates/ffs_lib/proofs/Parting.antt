@@ -2,8 +2,11 @@
 use Rattle.std.proofs.Common.{◌≡◌, ◌≢◌, ℕ, ◌+◌, ◌-◌, ◌*◌, ◌/◌, ◌%◌, ◌<◌, ◌≤◌, Bool, true, false, List, ◌++◌, length, drop, take, get_or, replicate, Option, None, Some, Result, Ok, Err, refl, sym, ◌∙◌, ap, arith, subst, inl, inr, length-append}
 use Rattle.std.specs.Prelude.{IfErr, IfOk, IfSome, is_some, min, nat_lt, if◌then◌else◌}
 use Rattle.std.proofs.lemmas.List.{drop-append-le, drop-replicate, get_or-drop, get_or-replicate, get_or-take, length-drop, length-replicate, length-take-le, take-append-le, take-replicate}
+use Rattle.std.proofs.lemmas.Bool.{cases_lt, le-ltb, lt-ltb}
 use Rattle.std.proofs.Math.Seq.{drop-append-add, take-add}
+use Rattle.xn_model.specs.declared.refusal.Refusal.{Refusal}
 use Rattle.xn_model.specs.Types.{Types}
+use Rattle.xn_model.specs.Rules.{IsConsistent}
 use Rattle.xn_model.specs.Lives.{StoreState}
 use Rattle.ffs_model.specs.Cuts.{latest}
 use Rattle.ffs_model.proofs.ForCallers.{given_later}
@@ -13,12 +16,13 @@ use Rattle.ffs_lib.specs.Results.{WroteBytes, byte_written}
 use Rattle.ffs_lib.specs.Steps.{Ends, Stage, Stops}
 use Rattle.ffs_lib.specs.Orders.{made_by}
 use Rattle.ffs_lib.specs.Orders as orders
-use Rattle.ffs_lib.specs.WriteOrder.{adds_direct, after_at, data_at, data_parts, last_after, last_at, no_last, parts_at, places, parts_made, zeros_parts}
-use Rattle.ffs_lib.specs.Writes.{IsBorder, LastGiven, MadeTo, PartStops, Parts, Puts, PutsParts, StopsPart, padded}
+use Rattle.ffs_lib.specs.WriteOrder.{adds_direct, after_at, data_at, data_parts, first_past, last_after, last_at, no_last, parts_at, places, parts_made, zeros_parts}
+use Rattle.ffs_lib.specs.Writes.{IsBorder, LastGiven, MadeTo, PartStops, Parts, Puts, PutsParts, StopsPart, WaitsOn, padded}
 use Rattle.ffs_lib.specs.declared.data.Last.{Last}
 use Rattle.ffs_lib.specs.declared.data.Progress.{Progress}
 use Rattle.ffs_lib.proofs.DataLaws.{later_on, puts_none, puts_still}
 use Rattle.ffs_lib.proofs.Same.{same_on}
+use Rattle.ffs_lib.proofs.Waiting.{waits_same, waits_then}
 use Rattle.ffs_lib.proofs.WriteParts.{border_place, data_are, data_last, not_place, places_next, places_none, run_next, zeros_are, zeros_last}
 use Rattle.ffs_lib.proofs.Writing.{byte_there, cases_written, test_above, test_below, test_in, written_by, wrote_on}
 
@@ -65,23 +69,34 @@ zeros_puts state fs n inode is index at count fit none =
     ok_one : (a b : List ℕ) → ◌≡◌ {A = Result (List ℕ) FfsFault} (Ok a) (Ok b) → a ≡ b
     ok_one a b e = cc
 
+pub ran_same : (a b : StoreState × Last) → ◌≡◌ {A = Result (StoreState × Last) Refusal} (Ok a) (Ok b) → a ≡ b
+ran_same a b e = cc
+
 -- the next part
 pub record PartMade (T : Types) (fs : ℕ) (old new : StoreState) (n end offset : ℕ) (bytes : List ℕ) (at : ℕ) (part : List ℕ) (last next : Last) : Type 0 where
   pub puts : Puts old new fs n (512 * (at / 512) + at % 512) part
   pub given : LastGiven new next
   pub made : made_by T fs (parts_at fs n offset bytes at (after_at end offset bytes at last)) old ≡ Ok new
   pub last_is : next ≡ last_at fs n end offset bytes at old new last
+  pub kept : at + length part ≤ first_past end offset → next ≡ last
+  pub waits : first_past end offset ≤ at → end < offset + length bytes → WaitsOn fs n old new last next
 
 abbrev pub MakesPart : Types → ℕ → (ℕ → Option ℕ) → StoreState → StoreState → ℕ → ℕ → ℕ → List ℕ → ℕ → List ℕ → Last → Result Last FfsFault → Type 0
 MakesPart T fs array old new n end offset bytes at part last result =
     Ends T fs array new result (PartMade T fs old new n end offset bytes at part last) (StopsPart T fs (parts_at fs n offset bytes at (after_at end offset bytes at last)) old new n)
 
 -- of zeros, and of bytes, where one before the file's end keeps the last edits
-pub zeros_make : (T : Types) (fs : ℕ) (array : ℕ → Option ℕ) (old new : StoreState) (n end offset : ℕ) (bytes : List ℕ) (at count : ℕ) (last : Last) (result : Result Last FfsFault) → at < offset → count ≡ min (offset - at) (512 - at % 512) →
+pub zeros_make : (T : Types) (fs : ℕ) (array : ℕ → Option ℕ) (old new : StoreState) (n end offset : ℕ) (bytes : List ℕ) (at count : ℕ) (last : Last) (result : Result Last FfsFault) → min end offset ≤ at → at < offset → count ≡ min (offset - at) (512 - at % 512) →
     Ends T fs array new result (PutsParts T fs (zeros_parts fs n (at / 512) (at % 512) count last.edit) old new n (at / 512) (at % 512) (replicate count 0) last) (StopsPart T fs (zeros_parts fs n (at / 512) (at % 512) count last.edit) old new n) →
     MakesPart T fs array old new n end offset bytes at (replicate count 0) last result
-zeros_make T fs array old new n end offset bytes at count last result lt e x = go result x
+zeros_make T fs array old new n end offset bytes at count last result low lt e x = go result x
   where
+    never : at + length {A = ℕ} (replicate count 0) ≤ first_past end offset → ⊥
+    never le =
+        let size = length-replicate {A = ℕ} count 0 in
+        let first : first_past end offset ≤ at = omega (arith, low, lt) in
+        omega (arith, le, size, first, e, lt)
+
     same : zeros_parts fs n (at / 512) (at % 512) count last.edit ≡ parts_at fs n offset bytes at (after_at end offset bytes at last)
     same = ap (λ k. zeros_parts fs n (at / 512) (at % 512) k last.edit) e ∙ zeros_are T fs n end offset bytes at last lt
 
@@ -89,7 +104,7 @@ zeros_make T fs array old new n end offset bytes at count last result lt e x = g
         MakesPart T fs array old new n end offset bytes at (replicate count 0) last r
     go (Ok next) y = (
       y.0,
-      record { puts = y.1.puts; given = y.1.given; made = subst (λ (p : orders.Parts). made_by T fs p old ≡ Ok new) same y.1.made; last_is = y.1.last_is ∙ zeros_last T fs n end offset bytes at last lt old new },
+      record { puts = y.1.puts; given = y.1.given; made = subst (λ (p : orders.Parts). made_by T fs p old ≡ Ok new) same y.1.made; last_is = y.1.last_is ∙ zeros_last T fs n end offset bytes at last lt old new; kept = λ le. absurd (never le); waits = λ le grow. y.1.waits },
     )
     go (Err fault) y = (y.0, (y.1.0, subst (λ (p : orders.Parts). StopsPart T fs p old new n fault) same y.1.1))
 
@@ -101,10 +116,10 @@ last_given state last past mine own given = subst (LastGiven state) (sym own) (g
     go false = (refl, refl)
 
 pub data_make : (T : Types) (fs : ℕ) (array : ℕ → Option ℕ) (old new : StoreState) (n end offset : ℕ) (bytes : List ℕ) (at : ℕ) (part : List ℕ) (last mine : Last) (past : Bool) (result kept : Result Last FfsFault) → offset ≤ at → part ≡ data_at offset bytes at →
-    nat_lt end (at + length part) ≡ past → mine ≡ (if past then last else no_last) → kept ≡ mapped (λ next. if past then next else last) result → LastGiven old last →
+    (first_past end offset ≤ at → end < offset + length bytes → end < at + length part) → nat_lt end (at + length part) ≡ past → mine ≡ (if past then last else no_last) → kept ≡ mapped (λ next. if past then next else last) result → LastGiven old last →
     Ends T fs array new result (PutsParts T fs (data_parts fs n (at / 512) (at % 512) part mine.edit) old new n (at / 512) (at % 512) part mine) (StopsPart T fs (data_parts fs n (at / 512) (at % 512) part mine.edit) old new n) →
     MakesPart T fs array old new n end offset bytes at part last kept
-data_make T fs array old new n end offset bytes at part last mine past result kept ge is less own e given x = subst (MakesPart T fs array old new n end offset bytes at part last) (sym e) (go result x)
+data_make T fs array old new n end offset bytes at part last mine past result kept ge is reaches less own e given x = subst (MakesPart T fs array old new n end offset bytes at part last) (sym e) (go result x)
   where
     is_past : nat_lt end (at + length (data_at offset bytes at)) ≡ past
     is_past = ap (λ (m : List ℕ). nat_lt end (at + length m)) (sym is) ∙ less
@@ -123,6 +138,16 @@ data_make T fs array old new n end offset bytes at part last mine past result ke
     lasts true next f = f
     lasts false next f = refl
 
+    on : (next : Last) → WaitsOn fs n old new mine next → first_past end offset ≤ at → end < offset + length bytes → WaitsOn fs n old new last (if past then next else last)
+    on next w le grow =
+        let yes : past ≡ true = sym less ∙ lt-ltb end (at + length part) (reaches le grow) in
+        subst (λ (t : Bool). WaitsOn fs n old new last (if t then next else last)) (sym yes) (subst (λ (l : Last). WaitsOn fs n old new l next) (own ∙ ap (λ (t : Bool). if t then last else no_last) yes) w)
+
+    stays : (next : Last) → at + length part ≤ first_past end offset → (if past then next else last) ≡ last
+    stays next le =
+        let before : at + length part ≤ end = omega (arith, le) in
+        ap (λ (t : Bool). if t then next else last) (sym less ∙ le-ltb end (at + length part) before)
+
     still : (t : Bool) (next : Last) → old.next ≤ new.next → LastGiven new next → LastGiven new (if t then next else last)
     still true next later g = g
     still false next later g = (given_later old new later last.edit given.0, given_later old new later last.size given.1)
@@ -136,6 +161,8 @@ data_make T fs array old new n end offset bytes at part last mine past result ke
         given = still past next y.1.puts.later y.1.given;
         made = subst (λ (p : orders.Parts). made_by T fs p old ≡ Ok new) same y.1.made;
         last_is = lasts past next (y.1.last_is ∙ ap (last_after (adds_direct (latest old.lives) fs n (at / 512)) old.next new.next) own) ∙ data_last T fs n end offset bytes at last ge past is_past old new;
+        kept = stays next;
+        waits = on next y.1.waits;
       },
     )
     go (Err fault) y = (y.0, (y.1.0, subst (λ (p : orders.Parts). StopsPart T fs p old new n fault) same y.1.1))
@@ -161,6 +188,30 @@ module _ (T : Types) (fs : ℕ) (array : ℕ → Option ℕ) (zeroth first secon
       (sym (places_next offset start at count (omega (arith, place)) more (border_place end offset progress.done at place (p.border some)) (λ x lo hi. let k = inner x lo hi in not_place offset x k.0 k.1)))
       (run_next T fs n end offset bytes (places start offset at) at (zeroth, no_last) first second progress.last last (subst (λ (to : ℕ). parts_made T fs n end offset bytes (places start offset to) (zeroth, no_last) ≡ Ok (first, progress.last)) (sym place) made_to) x.made x.last_is))
 
+  calm_next : (last : Last) → PartMade T fs first second n end offset bytes at part progress.last last → min end offset + (progress.done + count) ≤ first_past end offset → last ≡ no_last
+  calm_next last x le =
+      let rest = length-drop progress.done pads in
+      let size : length part ≡ count = ap (λ (xs : List ℕ). length xs) is ∙ length-take-le count (drop progress.done pads) (omega (arith, rest, fit)) in
+      x.kept (omega (arith, size, place, le)) ∙ p.calm (omega (arith, le))
+
+  waits_next : (last : Last) → Stage T fs array second → PartMade T fs first second n end offset bytes at part progress.last last → (there : StoreState × Last) → parts_made T fs n end offset bytes (places (min end offset) offset (first_past end offset)) (zeroth, no_last) ≡ Ok there →
+      first_past end offset ≤ min end offset + (progress.done + count) → end < offset + length bytes → progress.fault ≡ None → IsConsistent T there.0 × WaitsOn fs n there.0 second no_last last
+  waits_next last stage x there made le grow z = elim (cases_lt at (first_past end offset)) [
+    | inr ge ↦
+        let w = p.waits there made (omega (arith, ge, place)) grow none in
+        (w.0, waits_then fs n there.0 first second no_last progress.last last w.1 (x.waits ge grow))
+    | inl lt ↦
+        let block : first_past end offset ≡ 512 * (end / 512) = omega (arith, lt, place) in
+        let even : 512 * (end / 512) % 512 ≡ 0 = omega arith in
+        let sum : first_past end offset ≡ min end offset + (progress.done + count) = elim (cases_lt (first_past end offset) (at + count)) [
+          | inl before ↦ absurd ((inner (first_past end offset) lt before).1 (ap (λ k. k % 512) block ∙ even))
+          | inr ge ↦ omega (arith, ge, le, place)
+        ] in
+        let ran = ap (λ (to : ℕ). parts_made T fs n end offset bytes (places (min end offset) offset to) (zeroth, no_last)) sum ∙ made_next last x in
+        let calm = calm_next last x (omega (arith, sum)) in
+        subst (λ (y : StoreState × Last). IsConsistent T y.0 × WaitsOn fs n y.0 second no_last last) (ran_same (second, last) there (sym ran ∙ made)) (stage.keeps.consistent, subst (λ (l : Last). WaitsOn fs n second second no_last l) (sym calm) (waits_same fs n second no_last))
+  ]
+
   pub parts_by : (result : Result Last FfsFault) → MakesPart T fs array first second n end offset bytes at part progress.last result →
       IfOk result (λ last. next ≡ record { done = progress.done + count; last = last; fault = progress.fault }) → IfErr result (λ fault. next ≡ record { done = progress.done; last = progress.last; fault = Some fault }) →
       Parts T fs array zeroth second n end offset bytes next
@@ -171,6 +222,8 @@ module _ (T : Types) (fs : ℕ) (array : ℕ → Option ℕ) (zeroth first secon
     made = λ z. made_next last x.1;
     puts = subst (Puts zeroth second fs n (min end offset)) (ap (λ (m : List ℕ). take progress.done pads ++ m) is ∙ sym (take-add progress.done count pads))
         (puts_on zeroth first second fs n (min end offset) (take progress.done pads) part p.puts (subst (λ (k : ℕ). Puts first second fs n k part) here x.1.puts));
+    calm = calm_next last x.1;
+    waits = waits_next last x.0 x.1;
     given = x.1.given;
     ended = subst (λ (o : Option FfsFault). IfSome o (Stops (PartStops T fs zeroth second n end offset bytes (progress.done + count) last))) (sym none) tt;
   })
@@ -180,6 +233,8 @@ module _ (T : Types) (fs : ℕ) (array : ℕ → Option ℕ) (zeroth first secon
     border = p.border;
     made = λ z. absurd (never_some fault z);
     puts = puts_still zeroth first second fs n (min end offset) (take progress.done pads) p.puts x.1.1.same;
+    calm = p.calm;
+    waits = λ there made le grow z. absurd (never_some fault z);
     given = (given_later first second x.1.1.same.later progress.last.edit p.given.0, given_later first second x.1.1.same.later progress.last.size p.given.1);
     ended = (
       x.1.0,
@@ -205,6 +260,12 @@ parts_none T fs array state n end offset bytes s = record {
       let same : start + 0 ≡ start = omega arith in
       ap (λ (ys : List ℕ). parts_made T fs n end offset bytes ys (state, no_last)) (ap (places start offset) same ∙ places_none offset start);
   puts = puts_none state fs n (min end offset);
+  calm = λ le. refl;
+  waits = λ there made le grow z.
+      let start : ℕ = min end offset in
+      let same : first_past end offset ≡ start = omega (arith, le) in
+      let none = ap (λ (ys : List ℕ). parts_made T fs n end offset bytes ys (state, no_last)) (ap (places start offset) same ∙ places_none offset start) in
+      subst (λ (y : StoreState × Last). IsConsistent T y.0 × WaitsOn fs n y.0 state no_last no_last) (ran_same (state, no_last) there (sym none ∙ made)) (s.keeps.consistent, waits_same fs n state no_last);
   given = (refl, refl);
   ended = tt;
 }

@@ -1,7 +1,9 @@
 -- The edits of a write, in their order, by what its parts made and where they stopped.
-use Rattle.std.proofs.Common.{◌≡◌, ◌≢◌, ℕ, ◌+◌, ◌-◌, ◌<◌, ◌≤◌, ◌⊎◌, List, [], ◌∷◌, length, Option, Some, None, Result, Ok, Err, refl, sym, ◌∙◌, inl, inr, arith, subst}
+use Rattle.std.proofs.Common.{◌≡◌, ◌≢◌, ℕ, ◌+◌, ◌-◌, ◌<◌, ◌≤◌, ◌⊎◌, List, [], ◌∷◌, length, Option, Some, None, Result, Ok, Err, refl, sym, ◌∙◌, ap, inl, inr, arith, subst}
 use Rattle.std.specs.Prelude.{IfOk, IfSome, MatchResult, min}
+use Rattle.xn_model.specs.Root.{word_at}
 use Rattle.xn_model.specs.Types.{Types}
+use Rattle.xn_model.specs.Rules.{IsConsistent}
 use Rattle.xn_model.specs.Lives.{StoreState}
 use Rattle.ffs_model.specs.Cuts.{latest}
 use Rattle.ffs_lookup.specs.declared.fault.FfsFault.{FfsFault}
@@ -9,15 +11,15 @@ use Rattle.ffs_lookup.specs.Newest.{file_end, write_in}
 use Rattle.ffs_lookup.proofs.ForCallers.{same_ok}
 use Rattle.ffs_lib.specs.Orders.{Acts}
 use Rattle.ffs_lib.specs.Steps.{Stops}
-use Rattle.ffs_lib.specs.WriteOrder.{SizeMade, SizeStops, StopsAtPart, StopsBefore, StopsWriting, TakesUpTo, WritesInOrder, WritesSomeInOrder, no_last, places, reached, size_action, parts_made}
-use Rattle.ffs_lib.specs.Writes.{MadeTo, PartStops, padded}
+use Rattle.ffs_lib.specs.WriteOrder.{SizeMade, SizeStops, StopsAtPart, StopsBefore, StopsWriting, TakesUpTo, WritesInOrder, WritesSomeInOrder, first_past, no_last, places, reached, size_action, parts_made}
+use Rattle.ffs_lib.specs.Writes.{MadeTo, PartStops, WaitsOn, padded}
 use Rattle.ffs_lib.specs.declared.data.Last.{Last}
 use Rattle.ffs_lib.specs.declared.data.Progress.{Progress}
-use Rattle.ffs_lib.proofs.Parting.{padded_long}
+use Rattle.ffs_lib.proofs.Parting.{padded_long, ran_same}
 use Rattle.ffs_lib.proofs.StagedWritten.{Begun, some_or_none}
 use Rattle.ffs_lib.proofs.Undoing.{at_ok}
 use Rattle.ffs_lib.proofs.ValueWritten.{looked}
-use Rattle.ffs_lib.proofs.WriteParts.{border_place, places_split, stops_next, tells_in}
+use Rattle.ffs_lib.proofs.WriteParts.{border_place, places_none, places_split, stops_next, tells_in}
 
 -- where there are bytes
 pub order_of : {A : Type 0} (T : Types) (fs n : ℕ) (inode : List ℕ) (offset : ℕ) (bytes : List ℕ) (old new : StoreState) (result : Result A FfsFault) → length bytes ≢ 0 →
@@ -40,6 +42,14 @@ order_none {A} T fs n inode offset bytes old result none = subst (λ (m : List �
 
 pub some_order_none : (T : Types) (fs n : ℕ) (inode : List ℕ) (offset : ℕ) (bytes : List ℕ) (old : StoreState) (result : Result ℕ FfsFault) → bytes ≡ [] → WritesSomeInOrder T fs n inode offset bytes old old result
 some_order_none T fs n inode offset bytes old result none = subst (λ (m : List ℕ). WritesSomeInOrder T fs n inode offset m old old result) (sym none) refl
+
+pub none_reached : (T : Types) (fs n : ℕ) (inode : List ℕ) (offset : ℕ) (bytes : List ℕ) (old : StoreState) (there : StoreState × Last) → bytes ≡ [] → file_end inode < offset + length bytes → reached T fs n inode offset bytes (first_past (file_end inode) offset) old ≡ Ok there → old ≡ there.0
+none_reached T fs n inode offset bytes old there none grow made =
+    let long = ap (λ (xs : List ℕ). length xs) none in
+    let start : ℕ = min (file_end inode) offset in
+    let same : first_past (file_end inode) offset ≡ start = omega (arith, long, grow) in
+    let ran = ap (λ (ys : List ℕ). parts_made T fs n (file_end inode) offset bytes ys (old, no_last)) (ap (places start offset) same ∙ places_none offset start) in
+    ap (λ (x : StoreState × Last). x.0) (ran_same (old, no_last) there (sym ran ∙ made))
 
 module _ (T : Types) (fs : ℕ) (array : ℕ → Option ℕ) (old middle : StoreState) (n end offset : ℕ) (bytes : List ℕ) (progress : Progress) (b : Begun T fs array old middle n end offset bytes progress) where
   abbrev inode : List ℕ
@@ -96,6 +106,19 @@ module _ (T : Types) (fs : ℕ) (array : ℕ → Option ℕ) (old middle : Store
           (λ fault. StopsWriting T fs n (file_end inode) offset bytes (places start offset size) (old, no_last) new ⊎ MatchResult (reached T fs n inode offset bytes size old) (λ there. SizeStops T fs n size there.1 there.0 new) (λ refusal. ⊥))
       go (Ok x) a = at_ok (reached T fs n inode offset bytes size old) (middle, progress.last) (λ there. SizeMade T fs n size there.1 there.0 new) (reached_to size (b.whole none) middle (b.first.made none)) a
       go (Err fault) a = inr (at_ok (reached T fs n inode offset bytes size old) (middle, progress.last) (λ there. SizeStops T fs n size there.1 there.0 new) (reached_to size (b.whole none) middle (b.first.made none)) a)
+
+  -- in the cuts, where the data begins at the end of the file or behind it
+  -- from where its parts go past the file's end
+  pub shown : progress.fault ≡ None → (other : List ℕ) → Ok other ≡ write_in (latest old.lives) fs n (offset + length bytes) → file_end other < offset + length bytes → (there : StoreState × Last) →
+      reached T fs n other offset bytes (first_past (file_end other) offset) old ≡ Ok there → (word_at (b.first.puts.wrote inode b.is).after 4 < offset + length bytes) × IsConsistent T there.0 × WaitsOn fs n there.0 middle no_last progress.last
+  shown none other found grow there made =
+      let same = same_ok inode other (b.is ∙ sym (looked (latest old.lives) fs n (offset + length bytes) other found).0) in
+      let size = (b.first.puts.wrote inode b.is).size in
+      let most = b.low in
+      let every = b.whole none in
+      let more : file_end inode < offset + length bytes = subst (λ (m : List ℕ). file_end m < offset + length bytes) (sym same) grow in
+      let w = b.first.waits there (subst (λ (m : List ℕ). reached T fs n m offset bytes (first_past (file_end m) offset) old ≡ Ok there) (sym same) made) (omega (arith, every, more)) more none in
+      (omega (arith, size, most, more), w.0, w.1)
 
   -- `write_some`
   abbrev InOrderSome : StoreState → Result ℕ FfsFault → Type 0

@@ -8,22 +8,24 @@
 --     data_parts, zeros_parts, parts_at    bytes, with what they need before; zeros; what is written from a place on
 --     no_last, goes_past, after_at    no edit; whether a part ends past the file's end; what it comes after
 --     adds_direct, last_after, last_at     whether the inode comes to point to the block; the last edits then
---     borders, places                 where the parts begin, of some; and of none
+--     borders, places, first_past     where the parts begin, of some; and of none; where the first one does that ends past the file's end
 --     parts_made, StopsWriting        parts are made, with the last edits; the first ones are, and the next one stops
 --     EndsWriting, WritesInOrder      what `write` makes then; what it makes
 --     TakesUpTo, StopsBefore, WritesSomeInOrder    so many bytes are taken, and then this is so; none is told; what `write_some` makes
+--     IsIdle, HasEdit, ShowsWhole     nothing is pending for a block; an edit is; in the cuts the last edit comes with all bytes of the call
 --     TellsAct, TellsIn               an action is refused, and this is told of that; one of many is
 use Rattle.std.specs.Prelude.{◌≡◌, ◌≢◌, ◌⊎◌, ℕ, ◌+◌, ◌-◌, ◌*◌, ◌/◌, ◌%◌, ◌≤◌, ◌==◌, ◌||◌, ◌&&◌, not, nat_lt, Bool, false, List, [], ◌∷◌, length, take}
-use Rattle.std.specs.Prelude.{drop, filter, min, replicate, Option, None, Some, Result, Ok, Err, MatchResult, if◌then◌else◌}
+use Rattle.std.specs.Prelude.{Contains, drop, filter, max, min, replicate, Option, None, Some, Result, Ok, Err, MatchResult, if◌then◌else◌}
 use Rattle.std.specs.List.{list_all, range_with_len}
 use Rattle.std.specs.Int.{w32, to_le_bytes}
 use Rattle.xn_model.specs.declared.refusal.Refusal.{Refusal}
 use Rattle.xn_model.specs.Types.{Types}
 use Rattle.xn_model.specs.Lists.{put}
 use Rattle.xn_model.specs.Root.{word_at}
-use Rattle.xn_model.specs.Lives.{StoreState}
+use Rattle.xn_model.specs.Lives.{BlockState, Life, Lives, StoreState, life_at}
 use Rattle.xn_model.specs.Results.{result_and_then}
 use Rattle.xn_model.specs.Calls.{Edit, forget_of, init_of, propose_of}
+use Rattle.ffs_model.specs.Cuts.{Choice, IsCut, Takes, latest, seen}
 use Rattle.ffs_model.specs.Library.{zero_block}
 use Rattle.ffs_lookup.specs.declared.fault.FfsFault.{FfsFault}
 use Rattle.ffs_lookup.specs.Newest.{file_block, file_end, file_in, inode_block_in}
@@ -161,6 +163,10 @@ StopsWriting T fs n end offset bytes (at ∷ rest) from new =
     ⊎ MatchResult (made_by T fs (parts_at fs n offset bytes at (after_at end offset bytes at from.1)) from.0)
     (λ state. StopsWriting T fs n end offset bytes rest (state, last_at fs n end offset bytes at from.0 state from.1) new) (λ refusal. ⊥)
 
+-- where the first part begins that ends past the file's end
+abbrev pub first_past : ℕ → ℕ → ℕ
+first_past end offset = max (min end offset) (512 * (end / 512))
+
 -- The calls, of a file whose inode was this one
 
 abbrev pub reached : Types → ℕ → ℕ → List ℕ → ℕ → List ℕ → ℕ → StoreState → Result (StoreState × Last) Refusal
@@ -207,6 +213,21 @@ WritesSomeInOrder T fs n inode offset (byte ∷ rest) old new result =
     (λ count. (count ≢ 0 → TakesUpTo T fs n inode offset bytes count old (λ last middle. SizeMade T fs n (offset + count) last middle new))
     × (count ≡ 0 → StopsBefore T fs n inode offset bytes old new))
     (λ fault. StopsBefore T fs n inode offset bytes old new)
+
+-- In the cuts
+
+-- nothing is pending for a block; an edit is, with a number from one on
+abbrev pub IsIdle : Lives → ℕ → Type 0
+IsIdle lives c = (l : Life) → life_at lives c ≡ Some l → l.pending ≡ []
+
+abbrev pub HasEdit : ℕ → Lives → ℕ → Type 0
+HasEdit from lives c = (l : Life) × (t : BlockState) × (life_at lives c ≡ Some l) × Contains l.pending t × (from ≤ t.entry)
+
+-- Each cut that takes the last edit of a call has the newest bytes of each block that the call wrote, and of each for which nothing was pending before it.
+abbrev pub ShowsWhole : StoreState → StoreState → Type 0
+ShowsWhole old new =
+    (k : Choice) → IsCut new.lives k → Takes new.lives k (new.next - 1) → (c : ℕ) → IsIdle old.lives c ⊎ HasEdit old.next new.lives c →
+    seen new.lives k c ≡ latest new.lives c
 
 -- What is told of a refusal
 

@@ -3,24 +3,27 @@
 --     Puts, PutsBy                 bytes are written into a file, by an edit
 --     PointsTo                     a file has a block of pointers, and its bytes stay
 --     ActedBy, StopsAction         an action was made, with an edit of this number; it was refused, and no byte of the file changed
+--     Waits, IsFrom, WaitsOn, WaitsAfter     in the cuts: an edit is taken with others; what is pending is new; a step keeps that; an action does
 --     PutsParts, StopsPart         bytes are written by the actions of a part; one of these was refused
 --     padded                       what a write writes: its bytes, and zeros before them from the file's end on
 --     PartStops                    a part was refused behind the first of that, which are written
 --     Parts                        the first of that are written, part after part, maybe up to a refusal
-use Rattle.std.specs.Prelude.{◌≡◌, ◌≢◌, ℕ, ◌+◌, ◌-◌, ◌*◌, ◌%◌, ◌<◌, ◌≤◌, ◌⊎◌, List, [], ◌++◌, length, min, replicate, take, Option, None, Some, Ok}
-use Rattle.std.specs.Prelude.{IsTrue, IfSome}
+use Rattle.std.specs.Prelude.{◌≡◌, ◌≢◌, ℕ, ◌+◌, ◌-◌, ◌*◌, ◌/◌, ◌%◌, ◌<◌, ◌≤◌, ◌⊎◌, List, [], ◌++◌, length, min, replicate, take, Option, None, Some, Ok}
+use Rattle.std.specs.Prelude.{Contains, IsTrue, IfSome}
 use Rattle.xn_model.specs.Root.{word_at}
 use Rattle.xn_model.specs.Types.{Types}
-use Rattle.xn_model.specs.Lives.{StoreState}
+use Rattle.xn_model.specs.Lives.{BlockState, Life, Lives, StoreState, life_at}
+use Rattle.xn_model.specs.Rules.{IsConsistent}
 use Rattle.xn_model.specs.Calls.{was_given}
+use Rattle.ffs_model.specs.Cuts.{Choice, IsCut, IsFullAt, TakesAny}
 use Rattle.ffs_model.specs.Library.{pointer_word}
 use Rattle.ffs_lookup.specs.declared.fault.FfsFault.{FfsFault}
-use Rattle.ffs_lookup.specs.Newest.{file_block, file_in}
+use Rattle.ffs_lookup.specs.Newest.{file_block, file_in, inode_block_in}
 use Rattle.ffs_lib.specs.Orders.{Action, act_of, made_by}
 use Rattle.ffs_lib.specs.Orders as orders
 use Rattle.ffs_lib.specs.Results.{OnlyChanges, WroteBytes}
 use Rattle.ffs_lib.specs.Steps.{Stage, Stops, newest_block}
-use Rattle.ffs_lib.specs.WriteOrder.{TellsAct, TellsIn, adds_direct, after_at, last_after, no_last, parts_at, places, parts_made}
+use Rattle.ffs_lib.specs.WriteOrder.{TellsAct, TellsIn, adds_direct, after_at, first_past, last_after, no_last, parts_at, places, parts_made}
 use Rattle.ffs_lib.specs.declared.data.Last.{Last}
 use Rattle.ffs_lib.specs.declared.data.Progress.{Progress}
 
@@ -57,12 +60,38 @@ pub record StopsAction (T : Types) (fs : ℕ) (action : Action) (old new : Store
   pub same : Puts old new fs n 0 []
   pub told : TellsAct T fs action old new fault
 
+-- In the cuts
+
+-- Each cut that has all states of one block, and takes the last edit, has all states of each block with an edit from a number on; and it takes that edit,
+-- where it takes the last one for the size.
+pub record Waits (block from : ℕ) (lives : Lives) (last : Last) : Type 0 where
+  pub all : (k : Choice) → IsCut lives k → IsFullAt lives k block → TakesAny lives k last.edit → (c : ℕ) (l : Life) (t : BlockState) →
+      life_at lives c ≡ Some l → Contains l.pending t → from ≤ t.entry → IsFullAt lives k c
+  pub size : (k : Choice) → IsCut lives k → IsFullAt lives k block → TakesAny lives k last.size → TakesAny lives k last.edit
+
+-- all that is pending for a block has a number from one on
+abbrev pub IsFrom : ℕ → Lives → ℕ → Type 0
+IsFrom from lives c = (l : Life) (t : BlockState) → life_at lives c ≡ Some l → Contains l.pending t → from ≤ t.entry
+
+-- the inode's block is the same one, and where that was so before the step it is so after it
+pub record WaitsOn (fs n : ℕ) (old new : StoreState) (last next : Last) : Type 0 where
+  pub home : inode_block_in (newest_block new) fs ((n - 1) / 8) ≡ inode_block_in (newest_block old) fs ((n - 1) / 8)
+  pub waits : (block from : ℕ) → from ≤ old.next → Ok block ≡ inode_block_in (newest_block old) fs ((n - 1) / 8) → Waits block from old.lives last →
+      Waits block from new.lives next
+  pub newer : (from c : ℕ) → from ≤ old.next → IsFrom from old.lives c → IsFrom from new.lives c
+  pub later : old.next ≤ new.next
+
+-- so it is of an action that comes after an edit
+abbrev pub WaitsAfter : ℕ → ℕ → StoreState → StoreState → Option ℕ → (Last → Last) → Type 0
+WaitsAfter fs n old new after next = (last : Last) → last.edit ≡ after → WaitsOn fs n old new last (next last)
+
 -- all actions of a part that writes at a place of a file's block at an index
 pub record PutsParts (T : Types) (fs : ℕ) (parts : orders.Parts) (old new : StoreState) (n index at : ℕ) (bytes : List ℕ) (last next : Last) : Type 0 where
   pub puts : Puts old new fs n (512 * index + at) bytes
   pub given : LastGiven new next
   pub made : made_by T fs parts old ≡ Ok new
   pub last_is : next ≡ last_after (adds_direct (newest_block old) fs n index) old.next new.next last
+  pub waits : WaitsOn fs n old new last next
 
 -- one of them was refused: no byte of the file changed, but it may have a block of pointers more
 pub record StopsPart (T : Types) (fs : ℕ) (parts : orders.Parts) (old new : StoreState) (n : ℕ) (fault : FfsFault) : Type 0 where
@@ -98,5 +127,9 @@ pub record Parts (T : Types) (fs : ℕ) (array : ℕ → Option ℕ) (old new : 
   pub border : progress.done < length (padded end offset bytes) → IsBorder end offset progress.done
   pub made : progress.fault ≡ None → MadeTo T fs n end offset bytes old progress.done new progress.last
   pub puts : Puts old new fs n (min end offset) (take progress.done (padded end offset bytes))
+  pub calm : min end offset + progress.done ≤ first_past end offset → progress.last ≡ no_last
+  pub waits : (there : StoreState × Last) → parts_made T fs n end offset bytes (places (min end offset) offset (first_past end offset)) (old, no_last) ≡ Ok there →
+      first_past end offset ≤ min end offset + progress.done → end < offset + length bytes → progress.fault ≡ None →
+      IsConsistent T there.0 × WaitsOn fs n there.0 new no_last progress.last
   pub given : LastGiven new progress.last
   pub ended : IfSome progress.fault (Stops (PartStops T fs old new n end offset bytes progress.done progress.last))

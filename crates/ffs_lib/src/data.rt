@@ -6,6 +6,7 @@ ghost use Rattle.std.specs.List.{range_with_len};
 ghost use Rattle.xn_model.specs.Root.{word_at};
 ghost use Rattle.xn_model.specs.Calls.{was_given};
 ghost use Rattle.xn_model.specs.Types.{Types};
+ghost use Rattle.xn_model.specs.Rules.{IsConsistent};
 ghost use Rattle.xn_model.specs.Lives.{StoreState};
 ghost use Rattle.ffs_model.specs.Cuts.{Under, latest};
 ghost use Rattle.ffs_model.specs.Library.{IsLibrary, pointer_word};
@@ -17,8 +18,9 @@ ghost use Rattle.ffs_lib.specs.Outcomes.{IsRaised};
 ghost use Rattle.ffs_lib.specs.Results.{OnlyChanges};
 ghost use Rattle.ffs_lib.specs.Steps.{Ends, Stage, StopsAtHome, newest_block};
 ghost use Rattle.ffs_lib.specs.Orders.{Acts, act_of};
-ghost use Rattle.ffs_lib.specs.WriteOrder.{data_action, data_parts, no_last, pointers_action, size_action, zeros_parts};
-ghost use Rattle.ffs_lib.specs.Writes.{ActedBy, LastGiven, Parts, PointsTo, PutsBy, PutsParts, StopsAction, StopsPart};
+ghost use Rattle.ffs_lib.specs.WriteOrder.{ShowsWhole, data_action, data_parts, no_last, pointers_action, size_action, zeros_parts};
+ghost use Rattle.ffs_lib.specs.declared.data.Last.{Last};
+ghost use Rattle.ffs_lib.specs.Writes.{ActedBy, LastGiven, Parts, PointsTo, PutsBy, PutsParts, StopsAction, StopsPart, WaitsAfter, WaitsOn};
 ghost use Rattle.ffs_lookup.specs.Places.{IsFile};
 
 use crate::put::{attach, put, put_inode};
@@ -83,7 +85,8 @@ fn add_direct<S: Store>(
     ensures ends { (T : Types) (array : ℕ → Option ℕ) (inode : List ℕ) → S.types_of store.old ≡ T → Stage T fs.number array (S.state_of store.old) →
         Ok inode ≡ file_in (newest_block (S.state_of store.old)) fs.number number → direct_in inode index ≡ 0 → IsTrue (was_given (S.state_of store.old) after) →
         Ends T fs.number array (S.state_of store.new) result
-        (λ entry. PutsBy (S.state_of store.old) (S.state_of store.new) fs.number number (512 * index + at) bytes.now entry
+        (λ entry. (PutsBy (S.state_of store.old) (S.state_of store.new) fs.number number (512 * index + at) bytes.now entry
+        × WaitsAfter fs.number number (S.state_of store.old) (S.state_of store.new) after (λ last. record { edit = last.edit; size = Some entry }))
         × ActedBy T fs.number (data_action (newest_block (S.state_of store.old)) fs.number number index at bytes.now after)
         (S.state_of store.old) (S.state_of store.new) entry)
         (StopsAction T fs.number (data_action (newest_block (S.state_of store.old)) fs.number number index at bytes.now after)
@@ -122,7 +125,8 @@ fn add_pointers<S: Store>(
         Stage T fs.number array (S.state_of store.old) →
         Ok inode ≡ file_in (newest_block (S.state_of store.old)) fs.number number → word_at inode 56 ≡ 0 → IsTrue (was_given (S.state_of store.old) after) →
         Ends T fs.number array (S.state_of store.new) result
-        (λ block. PointsTo (S.state_of store.old) (S.state_of store.new) fs.number number inode block
+        (λ block. (PointsTo (S.state_of store.old) (S.state_of store.new) fs.number number inode block
+        × WaitsAfter fs.number number (S.state_of store.old) (S.state_of store.new) after (λ last. last))
         × (act_of T fs.number (pointers_action (newest_block (S.state_of store.old)) fs.number number index after) (S.state_of store.old)
         ≡ Ok (S.state_of store.new)))
         (StopsAction T fs.number (pointers_action (newest_block (S.state_of store.old)) fs.number number index after)
@@ -163,7 +167,8 @@ fn pointers_of<S: Store>(
         Ok inode ≡ file_in (newest_block (S.state_of store.old)) fs.number number →
         (word_at inode 56 ≢ 0 → length (newest_block (S.state_of store.old) (word_at inode 56)) ≡ 512) → IsTrue (was_given (S.state_of store.old) after) →
         Ends T fs.number array (S.state_of store.new) result
-        (λ block. PointsTo (S.state_of store.old) (S.state_of store.new) fs.number number inode block
+        (λ block. (PointsTo (S.state_of store.old) (S.state_of store.new) fs.number number inode block
+        × WaitsAfter fs.number number (S.state_of store.old) (S.state_of store.new) after (λ last. last))
         × (act_of T fs.number (pointers_action (newest_block (S.state_of store.old)) fs.number number index after) (S.state_of store.old)
         ≡ Ok (S.state_of store.new)))
         (StopsAction T fs.number (pointers_action (newest_block (S.state_of store.old)) fs.number number index after)
@@ -196,7 +201,8 @@ fn add_pointed<S: Store>(
         length (newest_block (S.state_of store.old) pointers) ≡ 512 → pointer_word (newest_block (S.state_of store.old) pointers) (index - 12) ≡ 0 →
         IsTrue (was_given (S.state_of store.old) after) →
         Ends T fs.number array (S.state_of store.new) result
-        (λ entry. PutsBy (S.state_of store.old) (S.state_of store.new) fs.number n (512 * index + at) bytes.now entry
+        (λ entry. (PutsBy (S.state_of store.old) (S.state_of store.new) fs.number n (512 * index + at) bytes.now entry
+        × WaitsAfter fs.number n (S.state_of store.old) (S.state_of store.new) after (λ last. record { edit = Some entry; size = Some entry }))
         × ActedBy T fs.number (data_action (newest_block (S.state_of store.old)) fs.number n index at bytes.now after)
         (S.state_of store.old) (S.state_of store.new) entry)
         (StopsAction T fs.number (data_action (newest_block (S.state_of store.old)) fs.number n index at bytes.now after)
@@ -438,6 +444,10 @@ pub fn raise_size<S: Store>(
     ensures order { (T : Types) (array : ℕ → Option ℕ) (inode : List ℕ) → S.types_of store.old ≡ T → Stage T fs.number array (S.state_of store.old) →
         Ok inode ≡ file_in (newest_block (S.state_of store.old)) fs.number number →
         Acts T fs.number (size_action (newest_block (S.state_of store.old)) fs.number number size after) (S.state_of store.old) (S.state_of store.new) result }
+    ensures cuts { (T : Types) (array : ℕ → Option ℕ) (inode : List ℕ) (last : Last) (zeroth : StoreState) → S.types_of store.old ≡ T →
+        Stage T fs.number array (S.state_of store.old) → Ok inode ≡ file_in (newest_block (S.state_of store.old)) fs.number number →
+        word_at inode 4 < size → last.size ≡ after → IsConsistent T zeroth → WaitsOn fs.number number zeroth (S.state_of store.old) no_last last →
+        OnOk result (ShowsWhole zeroth (S.state_of store.new)) }
 {
     let Found {
         block,

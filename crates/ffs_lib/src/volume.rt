@@ -8,7 +8,7 @@ ghost use Rattle.ffs_model.specs.Cuts.{latest};
 ghost use Rattle.ffs_model.specs.Library.{library_layout, inode_mode, IsLibrary, inode_blocks, inode_links, zero_block};
 ghost use Rattle.xn_model.specs.Lists.{put};
 ghost use Rattle.ffs_lookup.specs.Newest.{IsLowest, TakesEntry, create_in, directory_in, first_named, has_empty_pointer, has_inode, has_room, is_at};
-ghost use Rattle.ffs_lookup.specs.Newest.{mapped, root_in, write_in, listing, named_in, names_at, rename_in, rmdir_in, unlink_in, without_entry, inode_in};
+ghost use Rattle.ffs_lookup.specs.Newest.{file_end, mapped, root_in, write_in, listing, named_in, names_at, rename_in, rmdir_in, unlink_in, without_entry, inode_in};
 ghost use Rattle.ffs_lookup.specs.Counts.{if_idle, open_in};
 ghost use Rattle.ffs_lookup.specs.Repairs.{idle_in, repair_at};
 ghost use Rattle.ffs_lib.specs.Reclaiming.{LeftByRepair, needs, reclaimed, reclaimed_stages};
@@ -23,8 +23,9 @@ ghost use Rattle.ffs_lib.specs.Orders.{InOrder, NamesInOrder, Orders, moved_part
 ghost use Rattle.ffs_lib.specs.Outcomes.{HasFreePointer};
 ghost use Rattle.ffs_lib.specs.Replacing.{AreDirect, pair_of};
 ghost use Rattle.ffs_model.specs.Standing.{StayNamed};
-ghost use Rattle.xn_model.specs.Lives.{Lives};
-ghost use Rattle.ffs_lib.specs.WriteOrder.{WritesInOrder, WritesSomeInOrder};
+ghost use Rattle.xn_model.specs.Lives.{Lives, StoreState};
+ghost use Rattle.ffs_lib.specs.WriteOrder.{ShowsWhole, WritesInOrder, WritesSomeInOrder, first_past, reached};
+ghost use Rattle.ffs_lib.specs.declared.data.Last.{Last};
 ghost use Rattle.ffs_lib.specs.Written.{DoesSome, Overwrites, WritesSomeTo, WritesTo, written_stages};
 ghost use Rattle.ffs_lookup.specs.FileValues.{files_of};
 ghost use Rattle.ffs_lookup.specs.Files.{Files, created, listed, new_directory, new_file, read, read_over, removed, renamed, unlinked, written};
@@ -419,6 +420,10 @@ impl Volume {
         ensures order { let old = newest_block (S.state_of store.old) in let fs = self.now.fs.number in
             (file : List ℕ) → Ok file ≡ write_in old fs inode (offset + length bytes.now) →
             WritesInOrder (S.types_of store.old) fs inode file offset bytes.now (S.state_of store.old) (S.state_of store.new) result }
+        ensures cuts { let old = newest_block (S.state_of store.old) in let fs = self.now.fs.number in
+            (file : List ℕ) (there : StoreState × Last) → Ok file ≡ write_in old fs inode (offset + length bytes.now) → file_end file < offset + length bytes.now →
+            reached (S.types_of store.old) fs inode file offset bytes.now (first_past (file_end file) offset) (S.state_of store.old) ≡ Ok there →
+            OnOk result (ShowsWhole there.0 (S.state_of store.new)) }
         ensures none { length bytes.now ≡ 0 → S.state_of store.new ≡ S.state_of store.old }
         ensures keeps { IsVolume (S.types_of store.old) (S.state_of store.new) self.now }
     {

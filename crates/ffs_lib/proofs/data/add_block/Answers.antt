@@ -1,12 +1,13 @@
-use Rattle.std.proofs.Common.{◌∙◌, ◌*◌, ◌+◌, Some, ap, inl, subst, sym}
+use Rattle.std.proofs.Common.{◌∙◌, ◌*◌, ◌+◌, Some, ap, inl, refl, subst, sym}
 use Rattle.std.specs.Prelude.{Bool, if◌then◌else◌}
 use Rattle.ffs_model.specs.Cuts.{latest}
 use Rattle.ffs_model.proofs.ForCallers.{given_later}
 use Rattle.ffs_lib.specs.Orders.{Action, act_of}
-use Rattle.ffs_lib.specs.Writes.{LastGiven}
+use Rattle.ffs_lib.specs.Writes.{LastGiven, WaitsOn}
 use Rattle.ffs_lib.proofs.Actions.{adds_far, adds_hole, data_made, last_made, pointers_none}
 use Rattle.ffs_lib.proofs.DataLaws.{later_on, puts_after, puts_none, stops_after, stops_now}
 use Rattle.ffs_lib.proofs.Laws.{fails}
+use Rattle.ffs_lib.proofs.Waiting.{waits_then}
 use Rattle.ffs_lib.proofs.Owners.{direct_block}
 use Rattle.ffs_lib.proofs.data.add_block.Goals as goal
 
@@ -32,7 +33,7 @@ returns-then-index-lt-DIRECT_POINTERS-clause-ends g c = λ T array inode e s is 
     let entry = c.in_ok-added.added in
     let low = c.if-index-lt-DIRECT_POINTERS.true in
     let x = c.in_ok-added.ensures.ends T array inode e s is (sym (direct_block (latest old.lives) inode index low) ∙ hole) given.0 in
-    let p = x.1.0 in
+    let p = x.1.0.0 in
     let a = x.1.1 in
     let none = ap (λ (a : Action). act_of T fs a old) (sym (pointers_none (latest old.lives) fs n inode index last.edit is (inl low))) in
     let adds = sym (adds_hole (latest old.lives) fs n inode index is low hole) in (
@@ -42,6 +43,7 @@ returns-then-index-lt-DIRECT_POINTERS-clause-ends g c = λ T array inode e s is 
         given = (given_later old new p.0.later last.edit given.0, p.1);
         made = data_made T fs n index c.args.at c.args.bytes.now last.edit old old new none a.0;
         last_is = ap (λ (t : Bool). record { edit = if t then last.edit else Some entry; size = Some entry }) adds ∙ last_made _ old.next new.next entry last a.1 a.2;
+        waits = x.1.0.1 last refl;
       },
     )
 
@@ -61,7 +63,7 @@ returns-in_err-added-2-clause-ends g c = λ T array inode e s is hole long given
     let n = c.args.number in
     let far = c.if-index-lt-DIRECT_POINTERS.false in
     let k = c.in_ok-pointers.ensures.ends T array inode c.args.index far e s is (long far) given.0 in
-    let p = k.1.0 in
+    let p = k.1.0.0 in
     let x = c.in_err-added-2.ensures.ends T array n p.after (c.pointers_of.ensures.types ∙ e) k.0 p.file p.points p.there p.long (p.holes c.args.index far c.requires.few hole)
     (given_later old first p.puts.later c.args.last.edit given.0) in
     fails _ _ x.0 c.from_residual-in_err-added-2.result _ c.from_residual-in_err-added-2.ensures.1 (x.1.0, stops_after T fs _ _ old first new n _ p.puts k.1.1 (stops_now T fs _ _ first new n _ x.1.1))
@@ -78,17 +80,18 @@ returns-clause-ends g c = λ T array inode e s is hole long given.
     let entry = c.in_ok-added-2.added in
     let far = c.if-index-lt-DIRECT_POINTERS.false in
     let k = c.in_ok-pointers.ensures.ends T array inode index far e s is (long far) given.0 in
-    let p = k.1.0 in
+    let p = k.1.0.0 in
     let x = c.in_ok-added-2.ensures.ends T array n p.after (c.pointers_of.ensures.types ∙ e) k.0 p.file p.points p.there p.long (p.holes index far c.requires.few hole)
     (given_later old first p.puts.later last.edit given.0) in
     let a = x.1.1 in
     let adds = sym (adds_far (latest old.lives) fs n inode index is far) in (
       x.0,
       record {
-        puts = puts_after old first new fs n (512 * index + c.args.at) c.args.bytes.now p.puts x.1.0.0;
-        given = subst (LastGiven new) (sym c.next_after.ensures) (x.1.0.1, x.1.0.1);
+        puts = puts_after old first new fs n (512 * index + c.args.at) c.args.bytes.now p.puts x.1.0.0.0;
+        given = subst (LastGiven new) (sym c.next_after.ensures) (x.1.0.0.1, x.1.0.0.1);
         made = data_made T fs n index c.args.at c.args.bytes.now last.edit old first new k.1.1 a.0;
         last_is = c.next_after.ensures
             ∙ (ap (λ (t : Bool). record { edit = if t then last.edit else Some entry; size = Some entry }) adds ∙ last_made _ old.next new.next entry last a.1 (later_on old.next first.next entry p.puts.later a.2));
+        waits = subst (WaitsOn fs n old new last) (sym c.next_after.ensures) (waits_then fs n old first new last last _ (k.1.0.1 last refl) (x.1.0.1 last refl));
       },
     )

@@ -1,4 +1,4 @@
-use Rattle.std.proofs.Common.{◌≡◌, ◌∙◌, ◌*◌, ◌+◌, ◌-◌, ◌<◌, ℕ, List, [], ◌∷◌, ap, arith, subst, sym}
+use Rattle.std.proofs.Common.{◌≡◌, ◌∙◌, ◌*◌, ◌+◌, ◌-◌, ◌<◌, ℕ, List, [], ◌∷◌, Some, ap, arith, subst, sym}
 use Rattle.xn_model.specs.Lists.{put}
 use Rattle.xn_model.specs.Calls.{init_of}
 use Rattle.ffs_model.specs.Cuts.{latest}
@@ -9,7 +9,7 @@ use Rattle.ffs_lookup.specs.Newest.{file_block}
 use Rattle.ffs_lib.specs.Edits.{edit_at}
 use Rattle.ffs_lib.specs.Steps.{Attached, Ends}
 use Rattle.ffs_lib.specs.WriteOrder.{data_action, pointed_edit}
-use Rattle.ffs_lib.specs.Writes.{ActedBy, PutsBy, StopsAction}
+use Rattle.ffs_lib.specs.Writes.{ActedBy, PutsBy, StopsAction, WaitsAfter}
 use Rattle.ffs_lib.proofs.Actions.{pointed_is}
 use Rattle.ffs_lib.proofs.DataLaws.{not_begun, pointed_ends}
 use Rattle.ffs_lib.proofs.DataShort.{block_long}
@@ -56,6 +56,6 @@ returns-clause-ends g c = λ T array n inode e s is points there long none given
     let done = begins_by (g.S.Store.types_of c.args.store.now) T fs 2 _ (put zero_block at bytes) zeroth first (block, number) e c.block_with.ensures c.in_ok-block.ensures.state in
     let types = c.init.ensures.types ∙ e in
     let put_done = subst (λ (b : List ℕ). Attached T fs block last (edit_at (4 * place) b ((block, 2) ∷ []) [] c.args.after) first new c.attach.result) c.pointer_bytes.ensures.bytes (c.attach.ensures.put T types) in
-    subst (λ (i : ℕ). Ends T fs array new c.attach.result (λ entry. PutsBy zeroth new fs n (512 * i + at) bytes entry × ActedBy T fs (data_action (latest zeroth.lives) fs n i at bytes c.args.after) zeroth new entry)
+    subst (λ (i : ℕ). Ends T fs array new c.attach.result (λ entry. (PutsBy zeroth new fs n (512 * i + at) bytes entry × WaitsAfter fs n zeroth new c.args.after (λ last. record { edit = Some entry; size = Some entry })) × ActedBy T fs (data_action (latest zeroth.lives) fs n i at bytes c.args.after) zeroth new entry)
     (StopsAction T fs (data_action (latest zeroth.lives) fs n i at bytes c.args.after) zeroth new n)) same
     (pointed_ends T fs array zeroth first s n inode is last place at bytes points there low long none c.requires.within block number small done c.args.after given new c.attach.result put_done)

@@ -1,4 +1,4 @@
-use Rattle.std.proofs.Common.{◌≡◌, ◌∙◌, ◌+◌, ◌-◌, ℕ, List, [], true, false, Err, Ok, ap, arith, drop, length, replicate, subst, sym, take}
+use Rattle.std.proofs.Common.{◌≡◌, ◌∙◌, ◌+◌, ◌-◌, ℕ, List, [], true, false, Err, Ok, ap, refl, arith, drop, length, replicate, subst, sym, take}
 use Rattle.std.proofs.lemmas.List.{length-replicate, take-replicate}
 use Rattle.xn_model.specs.Results.{result_and_then}
 use Rattle.ffs_model.specs.Cuts.{latest}
@@ -7,7 +7,7 @@ use Rattle.ffs_lookup.specs.Newest.{byte_in, file_block}
 use Rattle.ffs_lib.specs.Edits.{edit_at}
 use Rattle.ffs_lib.specs.Orders.{Action, made_by}
 use Rattle.ffs_lib.specs.Steps.{Proposed}
-use Rattle.ffs_lib.specs.Writes.{LastGiven, StopsAction}
+use Rattle.ffs_lib.specs.Writes.{LastGiven, StopsAction, WaitsOn}
 use Rattle.ffs_lib.proofs.Actions.{act_is, last_there, zeros_all, zeros_by, zeros_hole, zeros_none, zeros_not}
 use Rattle.ffs_lib.proofs.DataLaws.{stops_now, there_ends}
 use Rattle.ffs_lib.proofs.Laws.{fails}
@@ -106,7 +106,7 @@ returns-clause-ends g c = λ T array inode e s is given.
     let other = zeros_by v fs n found.inode index at count block last.edit exact points there false (zeros_not (v block) _ at count _ c.in_ok-held.ensures.bytes k c.are_zeros.ensures.1 c.if-are_zeros.false) in
     let x = there_ends T fs array old s n found c.in_ok-file.ensures.found exact index block at bytes c.requires.few points there long (omega (arith, size, within)) last.edit (omega (arith, size, some)) given.0 new (Ok c.in_ok-edit.edit)
     (subst (λ (m : List ℕ). Proposed T fs block (edit_at at m [] [] last.edit) old new (Ok c.in_ok-edit.edit)) zeros (c.in_ok-edit.ensures.put T e)) in
-    let p = x.1.0 in
+    let p = x.1.0.0 in
     let a = x.1.1 in (
       x.0,
       record {
@@ -114,5 +114,6 @@ returns-clause-ends g c = λ T array inode e s is given.
         given = subst (LastGiven new) (sym c.next_after.ensures) (p.1, p.1);
         made = ap (result_and_then (made_by T fs [])) (act_is T fs _ _ old new other a.0);
         last_is = c.next_after.ensures ∙ last_there v fs n found.inode index block exact points there old.next new.next _ last a.1 a.2;
+        waits = subst (WaitsOn fs n old new last) (sym c.next_after.ensures) (x.1.0.1 last refl);
       },
     )

@@ -7,6 +7,7 @@ use Rattle.ffs_lib.specs.Orders.{Action, act_of}
 use Rattle.ffs_lib.proofs.Actions.{pointers_none}
 use Rattle.ffs_lib.proofs.DataLaws.{points_there}
 use Rattle.ffs_lib.proofs.Tops.{never}
+use Rattle.ffs_lib.proofs.Waiting.{waits_same}
 use Rattle.ffs_lib.proofs.data.pointers_of.Goals as goal
 
 pub returns-in_err-find_file-clause-ends : goal.returns-in_err-find_file-clause-ends
@@ -24,7 +25,7 @@ returns-then-indirect-ne0-clause-ends g c = λ T array inode index far e s is lo
     let fs = c.args.fs.number in (
       s,
       (
-        points_there old fs n inode block is same there (ap (λ b. length (latest old.lives b)) (sym same) ∙ long (λ z. there (sym same ∙ z))),
+        (points_there old fs n inode block is same there (ap (λ b. length (latest old.lives b)) (sym same) ∙ long (λ z. there (sym same ∙ z))), λ last z. waits_same fs n old last),
         ap (λ (a : Action). act_of T fs a old) (sym (pointers_none (latest old.lives) fs n inode index c.args.after is (inr (λ z. there (sym same ∙ z))))),
       ),
     )

@@ -15,6 +15,7 @@ use Rattle.ffs_lib.proofs.Actions.{size_acts, size_stays}
 use Rattle.ffs_lib.proofs.Orders.{act_err}
 use Rattle.ffs_lib.proofs.Laws.{at_home, fails, home_of, same_stage, short_told}
 use Rattle.ffs_lib.proofs.Tops.{never}
+use Rattle.ffs_lib.proofs.Waiting.{size_shows}
 use Rattle.ffs_lib.proofs.data.raise_size.Goals as goal
 
 pub returns-in_err-block-clause-ends : goal.returns-in_err-block-clause-ends
@@ -83,3 +84,18 @@ returns-else-size-clause-order g c = λ T array inode e s is.
     let mine = same_ok c.in_ok-block.field-0.inode inode (c.in_ok-block.ensures.exact (subst IsLibrary (sym e) s.library) ∙ sym is) in
     let more : c.args.size ≤ word_at c.in_ok-block.field-0.inode 4 = omega arith in
     size_stays T c.args.fs.number c.args.number old old inode c.args.size c.args.after is (subst (λ (m : List ℕ). c.args.size ≤ word_at m 4) mine more)
+
+pub returns-in_ok-put_inode-clause-cuts : goal.returns-in_ok-put_inode-clause-cuts
+returns-in_ok-put_inode-clause-cuts g c = λ T array inode last zeroth e s is less same h on.
+    let old = g.S.Store.state_of c.args.store.now in
+    let fs = c.args.fs.number in
+    let n = c.args.number in
+    let found = c.in_ok-block.field-0 in
+    size_shows T fs array zeroth old (g.S.Store.state_of c.put_inode.new.store) h s n found.block (home_of old fs n found.block found.place c.in_ok-block.ensures.found.is.stands) (edit_at (64 * found.place) c.set_size.new.self [] [] c.args.after) c.in_ok-put_inode.field-0 (c.in_ok-put_inode.ensures.put T e) last same on
+
+pub returns-else-size-clause-cuts : goal.returns-else-size-clause-cuts
+returns-else-size-clause-cuts g c = λ T array inode last zeroth e s is less same h on.
+    let mine = same_ok c.in_ok-block.field-0.inode inode (c.in_ok-block.ensures.exact (subst IsLibrary (sym e) s.library) ∙ sym is) in
+    let more : c.args.size ≤ word_at c.in_ok-block.field-0.inode 4 = omega arith in
+    let most = subst (λ (m : List ℕ). c.args.size ≤ word_at m 4) mine more in
+    absurd (omega (arith, less, most))

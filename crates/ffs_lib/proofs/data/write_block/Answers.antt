@@ -1,11 +1,11 @@
-use Rattle.std.proofs.Common.{◌≡◌, ◌∙◌, ℕ, List, Err, Ok, ap, length, subst, sym}
+use Rattle.std.proofs.Common.{◌≡◌, ◌∙◌, ℕ, List, Err, Ok, ap, refl, length, subst, sym}
 use Rattle.xn_model.specs.Root.{word_at}
 use Rattle.ffs_model.specs.Cuts.{latest}
 use Rattle.ffs_model.specs.Library.{IsLibrary}
 use Rattle.ffs_lookup.specs.Newest.{file_block}
 use Rattle.ffs_lookup.proofs.ForCallers.{not_ok, same_ok}
 use Rattle.ffs_lib.specs.Orders.{Action, act_of}
-use Rattle.ffs_lib.specs.Writes.{LastGiven, StopsAction}
+use Rattle.ffs_lib.specs.Writes.{LastGiven, StopsAction, WaitsOn}
 use Rattle.ffs_lib.proofs.Actions.{act_is, data_made, has_pointers, last_there, pointers_none, there_is}
 use Rattle.ffs_lib.proofs.DataLaws.{puts_none, stops_after, stops_now, there_ends}
 use Rattle.ffs_lib.proofs.Laws.{fails}
@@ -70,7 +70,7 @@ returns-clause-ends g c = λ T array inode e s is given.
     let none = ap (λ (a : Action). act_of T fs a old) (sym (pointers_none (latest old.lives) fs n found.inode index last.edit exact (has_pointers (latest old.lives) found.inode index block points there))) in
     let real = there_is (latest old.lives) fs n found.inode index block c.args.at c.args.bytes.now last.edit exact points there in
     let x = there_ends T fs array old s n found c.in_ok-file.ensures.found exact index block c.args.at c.args.bytes.now c.requires.few points there long c.requires.within last.edit c.requires.some given.0 new (Ok c.in_ok-edit.edit) (c.in_ok-edit.ensures.put T e) in
-    let p = x.1.0 in
+    let p = x.1.0.0 in
     let a = x.1.1 in (
       x.0,
       record {
@@ -78,5 +78,6 @@ returns-clause-ends g c = λ T array inode e s is given.
         given = subst (LastGiven new) (sym c.next_after.ensures) (p.1, p.1);
         made = data_made T fs n index c.args.at c.args.bytes.now last.edit old old new none (act_is T fs _ _ old new real a.0);
         last_is = c.next_after.ensures ∙ last_there (latest old.lives) fs n found.inode index block exact points there old.next new.next _ last a.1 a.2;
+        waits = subst (WaitsOn fs n old new last) (sym c.next_after.ensures) (x.1.0.1 last refl);
       },
     )

@@ -1,18 +1,21 @@
-use Rattle.std.proofs.Common.{◌∙◌, ◌+◌, ap, length, sym, rules}
+use Rattle.std.proofs.Common.{◌∙◌, ◌+◌, ap, length, refl, subst, sym, rules}
 use Rattle.std.proofs.lemmas.Bool.{eqb-false, eqb-true}
 use Rattle.std.proofs.lemmas.List.{nil_from_length}
+use Rattle.xn_model.specs.Lives.{StoreState}
 use Rattle.ffs_model.specs.Cuts.{latest}
 use Rattle.ffs_lookup.specs.Files.{written}
 use Rattle.ffs_lookup.specs.FileValues.{files_of}
 use Rattle.ffs_lookup.specs.Newest.{file_end, mapped, write_in}
 use Rattle.ffs_lookup.proofs.ForCallers.{written_told}
 use Rattle.ffs_lib.specs.Volumes.{edits_of}
+use Rattle.ffs_lib.specs.WriteOrder.{ShowsWhole}
 use Rattle.ffs_lib.specs.Written.{written_stages}
 use Rattle.ffs_lib.proofs.Staged.{does_fault}
 use Rattle.ffs_lib.proofs.StagedWritten.{Begun, begun, found_file, none_does, overwrites_none, volume_of, write_done, write_inodes, write_part_inodes, write_refused}
 use Rattle.ffs_lib.proofs.Tops.{never}
 use Rattle.ffs_lib.proofs.ValueWritten.{looked}
-use Rattle.ffs_lib.proofs.WrittenOrder.{order_none, size_order, stops_order}
+use Rattle.ffs_lib.proofs.Waiting.{shows_same}
+use Rattle.ffs_lib.proofs.WrittenOrder.{none_reached, order_none, shown, size_order, stops_order}
 use Rattle.ffs_lib.proofs.volume.Volume.write.Goals as goal
 use Rattle.ffs_lib.proofs.volume.Volume.write.Goals.{After-write_parts-progress}
 
@@ -102,3 +105,17 @@ returns-in-None-clause-order g c =
     let w = b.first.puts.wrote b.inode b.is in
     let acts = c.raise_size.ensures.order (g.S.Store.types_of c.args.store.now) (edits_of c.args.self.now.added) w.after c.write_parts-progress.ensures.types b.first.stage w.file in
     size_order _ _ _ _ _ _ _ _ _ _ b c.in-None.is (g.S.Store.state_of c.raise_size.new.store) c.raise_size.result acts
+
+pub returns-then-is_empty-clause-cuts : goal.returns-then-is_empty-clause-cuts
+returns-then-is_empty-clause-cuts g c = λ file there e grow made.
+    let T = g.S.Store.types_of c.args.store.now in
+    let old = g.S.Store.state_of c.args.store.now in
+    let none = nil_from_length c.args.bytes.now (eqb-true (length c.args.bytes.now) 0 (sym c.is_empty.ensures ∙ c.if-is_empty.true)) in
+    subst (λ (s : StoreState). ShowsWhole s old) (none_reached T c.args.self.now.fs.number c.args.inode file c.args.offset c.args.bytes.now old there none grow made) (shows_same T old c.requires.keeps.consistent)
+
+pub returns-in-None-clause-cuts : goal.returns-in-None-clause-cuts
+returns-in-None-clause-cuts g c =
+    let b = first g (goal.at.returns-in-None-clause-cuts g c).After-write_parts-progress in
+    let w = b.first.puts.wrote b.inode b.is in λ file there e grow made.
+    let x = shown _ _ _ _ _ _ _ _ _ _ b c.in-None.is file e grow there made in
+    c.raise_size.ensures.cuts (g.S.Store.types_of c.args.store.now) (edits_of c.args.self.now.added) w.after c.write_parts-progress.result.last there.0 c.write_parts-progress.ensures.types b.first.stage w.file x.0 refl x.1 x.2
