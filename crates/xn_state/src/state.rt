@@ -1,6 +1,7 @@
 // The state of a store, and the calls that need no disk.
 
-ghost use Rattle.std.specs.Prelude.{◌≡◌, ◌<◌, ◌≤◌, [], ◌∷◌, length, Option, Some, None, is_some, Ok, IfOk, IsTrue};
+ghost use Rattle.std.specs.Prelude.{◌≡◌, ◌<◌, ◌≤◌, [], ◌∷◌, length, Option, Some, None, is_some, Ok, IfOk, IfSome, IsTrue};
+ghost use Rattle.block_cache.specs.Views.{image_at};
 ghost use Rattle.xn_model.specs.Types.{within_size};
 ghost use Rattle.xn_model.specs.Lists.{blank};
 ghost use Rattle.xn_model.specs.Lives.{StoreState, life_at, alive_and};
@@ -179,7 +180,8 @@ impl State {
         ensures state { GivesExactly (begun_of self.old block) self.old self.new result }
     {
         let count = self.begun_count(block)?;
-        let bytes = self.begin_counted(block, count);
+        let bytes = self.lives.image(block, count);
+        self.note_begun(block, count, &bytes);
         Ok((bytes, count))
     }
 
@@ -199,20 +201,20 @@ impl State {
         requires within { count ≤ life_pending (life_at self.old.lives block) }
         ensures { begun_of self.old block ≡ Ok ((bytes.new, count), self.new) }
     {
-        *bytes = self.begin_counted(block, count);
+        *bytes = self.lives.image(block, count);
+        self.note_begun(block, count, bytes);
     }
 
-    /// Begins a write of a block, where the first pending entries may be written: the bytes that they leave.
+    /// Notes that a write of a block begins, where the first pending entries may be written, which leave these bytes.
     #[inline(always)]
-    fn begin_counted(&mut self, block: u32, count: u32) -> [u8; 512]
+    fn note_begun(&mut self, block: u32, count: u32, _bytes: &[u8; 512])
         requires count { result_map (λ begun. begun.0.1) (begun_of self.old block) ≡ Ok count }
         requires some { 1 ≤ count }
         requires within { count ≤ life_pending (life_at self.old.lives block) }
-        ensures { begun_of self.old block ≡ Ok ((result, count), self.new) }
+        requires bytes { IfSome (life_at self.old.lives block) (λ l. _bytes.now ≡ image_at count l) }
+        ensures { begun_of self.old block ≡ Ok ((_bytes.now, count), self.new) }
     {
-        let bytes = self.lives.image(block, count);
         self.lives.begin(block, count);
-        bytes
     }
 
     /// Ends a write of a block by the bytes that are read back: how many entries are durable now,
