@@ -299,6 +299,13 @@ module _ (T : Types) (fs : ℕ) (array : ℕ → Option ℕ) (old : StoreState) 
         });
       }
 
+-- a block of pointers was emptied, if it points to anything
+pub record Drops (T : Types) (fs : ℕ) (array : ℕ → Option ℕ) (old first : StoreState) (n : ℕ) (inode : List ℕ) (block after e : ℕ) : Type 0 where
+  pub exact : Ok inode ≡ inode_in (latest old.lives) fs n
+  pub under : block ≢ 0 → Under T (latest old.lives) fs block 5
+  pub put : Dropped T fs block after old first (Ok e)
+  pub leaves : DroppedData T fs array old first n inode e
+
 pub some_items : (n : ℕ) (t : Bool) (xs : List ℕ) → t ≡ (n == 0) → t ≡ false → length xs ≡ n → xs ≢ []
 some_items n t xs e f long z = true_false t (e ∙ eq-eqb n 0 (sym long ∙ ap length z)) f
 

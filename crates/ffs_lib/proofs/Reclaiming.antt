@@ -177,6 +177,13 @@ module _ (T : Types) (fs : ℕ) (array : ℕ → Option ℕ) (old : StoreState) 
         });
       }
 
+-- the same with what was asked
+pub record Empties (T : Types) (fs : ℕ) (array : ℕ → Option ℕ) (old first : StoreState) (n : ℕ) (inode : List ℕ) (block : ℕ) : Type 0 where
+  pub exact : Ok inode ≡ inode_in (latest old.lives) fs n
+  pub under : block ≢ 0 → Under T (latest old.lives) fs block 5
+  pub put : Emptied T fs block old first (Ok tt)
+  pub leaves : EmptiedData T fs array old first n inode
+
 pub emptied_put : (T : Types) (fs block : ℕ) (old new : StoreState) (entry : ℕ) (items : List ℕ) → block ≢ 0 → length (latest old.lives block) ≡ 512 → items ≡ data_of_pointers (latest old.lives block) → items ≢ [] →
     propose_of T old fs block (edit_at 0 (replicate 512 0) [] items None) ≡ Ok (entry, new) → Emptied T fs block old new (Ok tt)
 emptied_put T fs block old new entry items there long is some p = inr (there, long, entry, subst (λ (ds : List ℕ). propose_of T old fs block (edit_at 0 (replicate 512 0) [] ds None) ≡ Ok (entry, new)) is p, λ z. some (is ∙ z))

@@ -16,8 +16,8 @@ use Rattle.ffs_lib.specs.Orders.{Edits, Makes, Parts, edits_at, has_data}
 use Rattle.ffs_lib.specs.Reclaiming.{needs}
 use Rattle.ffs_lib.specs.Steps.{newest_block}
 
--- of an inode with these 64 bytes, at a place of its block, whose block of pointers has these bytes: it is freed, and before that its block of pointers emptied,
--- if that points to anything
+-- of an inode with these 64 bytes, at a place of its block, whose block of pointers has these bytes: it is freed, and before that its block of pointers
+-- emptied, if that points to anything
 abbrev pub given_up_edits : List ℕ → ℕ → ℕ → List ℕ → Edits
 given_up_edits pointers home place inode =
     let freed = (home, edit_at (64 * place) (replicate 64 0) [] (data_of_inode inode) None) ∷ [] in

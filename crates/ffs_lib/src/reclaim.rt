@@ -50,7 +50,8 @@ fn give_up<S: Store>(alloc: Global, store: &mut S, fs: Fs, number: u16) -> Resul
         (λ _. RepairedOne (S.state_of store.old) (S.state_of store.new) fs.number number Repair.GiveUp)
         (StopsRepairing T fs.number (S.state_of store.old) (S.state_of store.new) number Repair.GiveUp) }
     ensures order { (T : Types) (array : ℕ → Option ℕ) → S.types_of store.old ≡ T → Stage T fs.number array (S.state_of store.old) →
-        Orders T fs.number (repaired_edits (newest_block (S.state_of store.old)) fs.number number Repair.GiveUp) (S.state_of store.old) (S.state_of store.new) result }
+        Orders T fs.number (repaired_edits (newest_block (S.state_of store.old)) fs.number number Repair.GiveUp)
+        (S.state_of store.old) (S.state_of store.new) result }
 {
     let found = find_inode(store, fs, number)?;
     empty_pointers(alloc, store, fs, found.inode.indirect())?;
@@ -83,7 +84,8 @@ fn set_links<S: Store>(
         (λ _. RepairedOne (S.state_of store.old) (S.state_of store.new) fs.number number (Repair.SetLinks links))
         (StopsRepairing T fs.number (S.state_of store.old) (S.state_of store.new) number (Repair.SetLinks links)) }
     ensures order { (T : Types) (array : ℕ → Option ℕ) → S.types_of store.old ≡ T → Stage T fs.number array (S.state_of store.old) →
-        Orders T fs.number (repaired_edits (newest_block (S.state_of store.old)) fs.number number (Repair.SetLinks links)) (S.state_of store.old) (S.state_of store.new) result }
+        Orders T fs.number (repaired_edits (newest_block (S.state_of store.old)) fs.number number (Repair.SetLinks links))
+        (S.state_of store.old) (S.state_of store.new) result }
 {
     let Found {
         block,
@@ -124,7 +126,8 @@ pub fn reclaim_inodes<S: Store>(alloc: Global, store: &mut S, fs: Fs) -> Result<
     ensures reclaims { (T : Types) (array : ℕ → Option ℕ) → S.types_of store.old ≡ T → Stage T fs.number array (S.state_of store.old) →
         Stage T fs.number array (S.state_of store.new) × Reclaims T fs.number (S.state_of store.old) (S.state_of store.new) result }
     ensures order { (T : Types) (array : ℕ → Option ℕ) → S.types_of store.old ≡ T → Stage T fs.number array (S.state_of store.old) →
-        InOrder T fs.number (reclaimed_parts (files_of (newest_block (S.state_of store.old)) fs.number) fs.number) (S.state_of store.old) (S.state_of store.new) result }
+        InOrder T fs.number (reclaimed_parts (files_of (newest_block (S.state_of store.old)) fs.number) fs.number)
+        (S.state_of store.old) (S.state_of store.new) result }
 {
     let repairs = look_up_repairs(store, fs)?;
     for at in 0..MOST_INODES {

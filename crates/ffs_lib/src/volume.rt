@@ -338,8 +338,9 @@ impl Volume {
             (λ n. MadeEntry (newest_block (S.state_of store.old)) (newest_block (S.state_of store.new)) self.old.fs.number directory name.now mode n × (n ≡ free.number))
             (StopsNew (S.types_of store.old) self.old.fs.number (S.state_of store.old) (S.state_of store.new) directory name.now mode free.number) }
         ensures order { (inode : List ℕ) → Ok inode ≡ directory_in (newest_block (S.state_of store.old)) self.old.fs.number directory →
-            has_room (newest_block (S.state_of store.old)) inode ≡ true → NamesNew (S.types_of store.old) self.old.fs.number directory name.now mode free.number
-            (edits_of self.old.added) (S.state_of store.old) (edits_of self.new.added) (S.state_of store.new) result }
+            has_room (newest_block (S.state_of store.old)) inode ≡ true →
+            NamesNew (S.types_of store.old) self.old.fs.number directory name.now mode free.number (edits_of self.old.added) (S.state_of store.old)
+            (edits_of self.new.added) (S.state_of store.new) result }
     {
         has_places(&self.added);
         let index = usize::from(free.number - 1) / INODES;

@@ -1,7 +1,8 @@
-use Rattle.std.proofs.Common.{rules, ◌≡◌, ◌∙◌, ◌*◌, ◌-◌, ℕ, List, [], Err, Some, ap, arith, refl, replicate, subst, sym, inl, inr}
+use Rattle.std.proofs.Common.{rules, ◌≡◌, ◌∙◌, ◌*◌, ◌-◌, ℕ, List, [], Err, Option, Some, ap, arith, refl, replicate, subst, sym, inl, inr}
 use Rattle.std.specs.Int.{w16, to_le_bytes}
 use Rattle.xn_model.specs.declared.refusal.Refusal.TheVariants.{NoMemory}
 use Rattle.xn_model.specs.Lists.{put}
+use Rattle.xn_model.specs.Types.{Types}
 use Rattle.xn_model.specs.Root.{word_at}
 use Rattle.xn_model.specs.Calls.{propose_of}
 use Rattle.ffs_model.specs.Cuts.{latest}
@@ -11,13 +12,30 @@ use Rattle.ffs_lookup.specs.declared.fault.FfsFault.TheVariants.{Kernel}
 use Rattle.ffs_lib.specs.Edits.{data_of_inode, edit_at}
 use Rattle.ffs_lib.specs.Orders.{Edits, Orders, free_edit, links_edit, taken_edits}
 use Rattle.ffs_lib.specs.Outcomes.{HasNoData}
-use Rattle.ffs_lib.specs.Steps.{MayLose, Proposed, ShortEdit, clearing}
+use Rattle.ffs_lib.specs.Steps.{MayLose, Proposed, ShortEdit, Stage, clearing}
 use Rattle.ffs_lib.proofs.Orders.{more_links, none_order, one_order, order_err, taken_is, taken_last}
-use Rattle.ffs_lib.proofs.Laws.{at_pointers, data_taken, drops, drops_short, fails, finishes, free_short, frees, given_up, home_of, link_less, link_short, no_memory, nothing_taken, same_stage, short_told}
+use Rattle.ffs_lib.proofs.Laws.{Drops, at_pointers, data_taken, drops, drops_short, fails, finishes, free_short, frees, given_up, home_of, link_less, link_short, no_memory, nothing_taken, same_stage, short_told}
 use Rattle.ffs_lib.proofs.PairLaws.{direct_dropped, pairs_at_home, pairs_dropped, pairs_same, pairs_then}
 use Rattle.ffs_lib.proofs.Tops.{never}
 use Rattle.ffs_lib.proofs.TurnLaws.{data_waits, free_waits, link_waits, on_proposed}
+use Rattle.ffs_lib.proofs.put.take_link.Given.{Over}
+use Rattle.ffs_lib.proofs.put.take_link.Goals.{In_ok-dropped}
 use Rattle.ffs_lib.proofs.put.take_link.Goals as goal
+
+dropped_so : (g : Over) (c : In_ok-dropped g) (T : Types) (array : ℕ → Option ℕ) → g.S.Store.types_of c.args.store.now ≡ T → Stage T c.args.fs.number array (g.S.Store.state_of c.args.store.now) → MayLose (g.S.Store.state_of c.args.store.now) c.args.fs.number c.args.number c.args.after →
+    Drops T c.args.fs.number array (g.S.Store.state_of c.args.store.now) (g.S.Store.state_of c.drop_data.new.store) c.args.number c.in_ok-block.field-0.inode c.indirect.result c.args.after c.in_ok-dropped.dropped
+dropped_so g c T array e s m =
+    let fs = c.args.fs.number in
+    let n = c.args.number in
+    let after = c.args.after in
+    let old = g.S.Store.state_of c.args.store.now in
+    let found = c.in_ok-block.field-0 in
+    let is = c.in_ok-block.ensures.found in
+    let exact = c.in_ok-block.ensures.exact (subst IsLibrary (sym e) s.library) in
+    let points = sym c.indirect.ensures in
+    let under = at_pointers T fs array old s n after m.some found is exact c.indirect.result points m.can m.given in
+    let put = c.in_ok-dropped.ensures.put T e under in
+    record { exact = exact; under = under; put = put; leaves = drops T fs array old s n after m.some found is exact c.indirect.result points m.can m.given (g.S.Store.state_of c.drop_data.new.store) c.in_ok-dropped.dropped put }
 
 pub returns-in_err-block-clause-order : goal.returns-in_err-block-clause-order
 returns-in_err-block-clause-order g c = λ T array e s m.
@@ -93,137 +111,102 @@ returns-in_err-dropped g c =
 
 pub returns-in_err-found : goal.returns-in_err-found
 returns-in_err-found g c =
-    let old = g.S.Store.state_of c.args.store.now in
-    let found = c.in_ok-block.field-0 in
-    let is = c.in_ok-block.ensures.found in
-    let points = sym c.indirect.ensures in
-    let block = c.indirect.result in
-    let fs = c.args.fs.number in
-    let n = c.args.number in
+    let p = (goal.at.returns-in_err-found g c).In_ok-dropped in
+    let types = c.drop_data.ensures.types in
     record {
       types = search rules;
-      ends = λ T array e s m.
-          let exact = c.in_ok-block.ensures.exact (subst IsLibrary (sym e) s.library) in
-          let put = c.in_ok-dropped.ensures.put T e (at_pointers T c.args.fs.number array old s c.args.number c.args.after m.some found is exact block points m.can m.given) in
-          let k = drops T c.args.fs.number array old s c.args.number c.args.after m.some found is exact block points m.can m.given (g.S.Store.state_of c.drop_data.new.store) c.in_ok-dropped.dropped put in
-          absurd (never found.inode _ (k.same ∙ sym (c.in_err-found.ensures.exact (subst IsLibrary (sym (c.drop_data.ensures.types ∙ e)) s.library))));
-      order = λ T array e s m.
-          let exact = c.in_ok-block.ensures.exact (subst IsLibrary (sym e) s.library) in
-          let put = c.in_ok-dropped.ensures.put T e (at_pointers T c.args.fs.number array old s c.args.number c.args.after m.some found is exact block points m.can m.given) in
-          let k = drops T c.args.fs.number array old s c.args.number c.args.after m.some found is exact block points m.can m.given (g.S.Store.state_of c.drop_data.new.store) c.in_ok-dropped.dropped put in
-          absurd (never found.inode _ (k.same ∙ sym (c.in_err-found.ensures.exact (subst IsLibrary (sym (c.drop_data.ensures.types ∙ e)) s.library))));
+      ends = λ T array e s m. absurd (never _ _ ((dropped_so g p T array e s m).leaves.same ∙ sym (c.in_err-found.ensures.exact (subst IsLibrary (sym (types ∙ e)) s.library))));
+      order = λ T array e s m. absurd (never _ _ ((dropped_so g p T array e s m).leaves.same ∙ sym (c.in_err-found.ensures.exact (subst IsLibrary (sym (types ∙ e)) s.library))));
       waits = search rules;
-      pairs = λ T array e s m.
-          let exact = c.in_ok-block.ensures.exact (subst IsLibrary (sym e) s.library) in
-          let under = at_pointers T fs array old s n c.args.after m.some found is exact block points m.can m.given in
-          pairs_dropped T fs array old s (g.S.Store.state_of c.drop_data.new.store) block c.args.after under c.in_ok-dropped.dropped (c.in_ok-dropped.ensures.put T e under);
+      pairs = λ T array e s m. absurd (never _ _ ((dropped_so g p T array e s m).leaves.same ∙ sym (c.in_err-found.ensures.exact (subst IsLibrary (sym (types ∙ e)) s.library))));
     }
 
 pub returns-in_err-drops : goal.returns-in_err-drops
 returns-in_err-drops g c =
-    let old = g.S.Store.state_of c.args.store.now in
-    let found = c.in_ok-block.field-0 in
-    let is = c.in_ok-block.ensures.found in
-    let points = sym c.indirect.ensures in
-    let block = c.indirect.result in
-    let first = g.S.Store.state_of c.drop_data.new.store in
-    let again = c.in_ok-found.found in
-    let links = c.links-links.ensures in
-    let few = c.if-links-gt1.false in
-    let edit = clearing first again.block c.args.after in
     let fs = c.args.fs.number in
     let n = c.args.number in
+    let after = c.args.after in
+    let old = g.S.Store.state_of c.args.store.now in
+    let first = g.S.Store.state_of c.drop_data.new.store in
+    let inode = c.in_ok-block.field-0.inode in
+    let block = c.indirect.result in
     let dropped = c.in_ok-dropped.dropped in
+    let again = c.in_ok-found.found in
     let at = c.in_ok-found.ensures.found.stands in
+    let links = c.links-links.ensures in
+    let few = c.if-links-gt1.false in
+    let edit = clearing first again.block after in
+    let from = c.from_residual-in_err-drops.ensures.1 in
+    let p = (goal.at.returns-in_err-drops g c).In_ok-dropped in
     record {
       types = search rules;
       ends = λ T array e s m.
-          let exact = c.in_ok-block.ensures.exact (subst IsLibrary (sym e) s.library) in
-          let put = c.in_ok-dropped.ensures.put T e (at_pointers T c.args.fs.number array old s c.args.number c.args.after m.some found is exact block points m.can m.given) in
-          let k = drops T c.args.fs.number array old s c.args.number c.args.after m.some found is exact block points m.can m.given (g.S.Store.state_of c.drop_data.new.store) c.in_ok-dropped.dropped put in
-          fails _ _ k.stage c.from_residual-in_err-drops.result _ c.from_residual-in_err-drops.ensures.1
-          (refl, data_taken T c.args.fs.number array old first first c.args.number found.inode c.in_ok-dropped.dropped exact (omega (arith, links, few)) k refl again.block again.place c.in_ok-found.ensures.found.stands _ (edit, no_memory (propose_of T first c.args.fs.number again.block edit)));
+          let d = dropped_so g p T array e s m in
+          fails _ _ d.leaves.stage c.from_residual-in_err-drops.result _ from
+          (refl, data_taken T fs array old first first n inode dropped d.exact (omega (arith, links, few)) d.leaves refl again.block again.place at _ (edit, no_memory (propose_of T first fs again.block edit)));
       order = λ T array e s m.
-          let exact = c.in_ok-block.ensures.exact (subst IsLibrary (sym e) s.library) in
-          let under = at_pointers T fs array old s n c.args.after m.some found is exact block points m.can m.given in
-          let put = c.in_ok-dropped.ensures.put T e under in
-          order_err T fs (taken_edits (latest old.lives) fs n c.args.after old.next) old first
-          (taken_last T s.library fs s.few old first first s.keeps.consistent n found.inode exact (omega (arith, links, few)) block points c.args.after dropped under put again.block again.place (home_of first fs n again.block again.place at) at.at
-          (Err (Kernel NoMemory)) (refl, no_memory (propose_of T first fs again.block (free_edit again.place found.inode dropped)))) _ c.from_residual-in_err-drops.result c.from_residual-in_err-drops.ensures.1;
+          let d = dropped_so g p T array e s m in
+          order_err T fs (taken_edits (latest old.lives) fs n after old.next) old first
+          (taken_last T s.library fs s.few old first first s.keeps.consistent n inode d.exact (omega (arith, links, few)) block (sym c.indirect.ensures) after dropped d.under d.put again.block again.place (home_of first fs n again.block again.place at) at.at
+          (Err (Kernel NoMemory)) (refl, no_memory (propose_of T first fs again.block (free_edit again.place inode dropped)))) _ c.from_residual-in_err-drops.result from;
       waits = search rules;
-      pairs = λ T array e s m.
-          let exact = c.in_ok-block.ensures.exact (subst IsLibrary (sym e) s.library) in
-          let under = at_pointers T fs array old s n c.args.after m.some found is exact block points m.can m.given in
-          pairs_dropped T fs array old s (g.S.Store.state_of c.drop_data.new.store) block c.args.after under c.in_ok-dropped.dropped (c.in_ok-dropped.ensures.put T e under);
+      pairs = λ T array e s m. let d = dropped_so g p T array e s m in pairs_dropped T fs array old s first block after d.under dropped d.put;
     }
 
 pub returns : goal.returns
 returns g c =
     let fs = c.args.fs.number in
     let n = c.args.number in
+    let after = c.args.after in
     let old = g.S.Store.state_of c.args.store.now in
     let first = g.S.Store.state_of c.drop_data.new.store in
     let new = g.S.Store.state_of c.put_inode-2.new.store in
-    let found = c.in_ok-block.field-0 in
-    let is = c.in_ok-block.ensures.found in
-    let points = sym c.indirect.ensures in
+    let inode = c.in_ok-block.field-0.inode in
     let block = c.indirect.result in
     let dropped = c.in_ok-dropped.dropped in
     let again = c.in_ok-found.found in
+    let is = c.in_ok-found.ensures.found in
+    let at = is.stands in
     let links = c.links-links.ensures in
     let few = c.if-links-gt1.false in
     let bytes = c.free.result in
-    let at = c.in_ok-found.ensures.found.stands in
+    let items = c.deref.result.now in
+    let edit = edit_at (64 * again.place) bytes [] items (Some dropped) in
+    let p = (goal.at.returns g c).In_ok-dropped in
     record {
       types = search rules;
       ends = λ T array e s m.
-          let exact = c.in_ok-block.ensures.exact (subst IsLibrary (sym e) s.library) in
-          let put = c.in_ok-dropped.ensures.put T e (at_pointers T fs array old s n c.args.after m.some found is exact block points m.can m.given) in
-          let k = drops T fs array old s n c.args.after m.some found is exact block points m.can m.given first dropped put in
+          let d = dropped_so g p T array e s m in
+          let k = d.leaves in
           let types = c.drop_data.ensures.types ∙ e in
-          let exact2 = c.in_ok-found.ensures.exact (subst IsLibrary (sym types) s.library) in
-          let same : again.inode ≡ found.inode = same_ok again.inode found.inode (exact2 ∙ sym k.same) in
-          let own : inode_links m.inode ≡ inode_links found.inode = ap inode_links (same_ok m.inode found.inode (m.found ∙ sym exact)) in
+          let exact = c.in_ok-found.ensures.exact (subst IsLibrary (sym types) s.library) in
+          let same : again.inode ≡ inode = same_ok again.inode inode (exact ∙ sym k.same) in
+          let own : inode_links m.inode ≡ inode_links inode = ap inode_links (same_ok m.inode inode (m.found ∙ sym d.exact)) in
           let low = m.linked in
-          let one : inode_links found.inode ≡ 1 = omega (arith, links, few, own, low) in
+          let one : inode_links inode ≡ 1 = omega (arith, links, few, own, low) in
           let none : HasNoData T (latest first.lives) again.inode = subst (λ (i : List ℕ). HasNoData T (latest first.lives) i) (sym same) k.none in
-          let items = c.deref.result.now in
-          let edit = edit_at (64 * again.place) bytes [] items (Some dropped) in
           finishes T fs again.block edit array first new _ _ k.stage c.put_inode-2.result (c.put_inode-2.ensures.put T types)
-          (subst (λ (ds : List ℕ). ShortEdit T first fs again.block (edit_at (64 * again.place) bytes [] ds (Some dropped))) (sym (c.deref.ensures.value ∙ c.in_ok-drops.ensures)) (free_short T fs array first k.stage n dropped again c.in_ok-found.ensures.found exact2 k.can k.given none bytes c.free.ensures))
+          (subst (λ (ds : List ℕ). ShortEdit T first fs again.block (edit_at (64 * again.place) bytes [] ds (Some dropped))) (sym (c.deref.ensures.value ∙ c.in_ok-drops.ensures)) (free_short T fs array first k.stage n dropped again is exact k.can k.given none bytes c.free.ensures))
           (λ entry done.
-          let x = frees T fs array first k.stage n dropped again c.in_ok-found.ensures.found exact2 k.can k.given none bytes c.free.ensures new (ap inode_links same ∙ one) items entry done in
-          (x.0, given_up (latest old.lives) (latest first.lives) (latest new.lives) fs n found.inode exact (omega (arith, one)) k.others x.1 x.2))
-          (λ fault left told. data_taken T fs array old first new n found.inode dropped exact (omega (arith, links, few)) k left again.block again.place c.in_ok-found.ensures.found.stands fault (edit, told));
+          let x = frees T fs array first k.stage n dropped again is exact k.can k.given none bytes c.free.ensures new (ap inode_links same ∙ one) items entry done in
+          (x.0, given_up (latest old.lives) (latest first.lives) (latest new.lives) fs n inode d.exact (omega (arith, one)) k.others x.1 x.2))
+          (λ fault left told. data_taken T fs array old first new n inode dropped d.exact (omega (arith, links, few)) k left again.block again.place at fault (edit, told));
       order = λ T array e s m.
-          let exact = c.in_ok-block.ensures.exact (subst IsLibrary (sym e) s.library) in
-          let under = at_pointers T fs array old s n c.args.after m.some found is exact block points m.can m.given in
-          let put = c.in_ok-dropped.ensures.put T e under in
-          let k = drops T fs array old s n c.args.after m.some found is exact block points m.can m.given first dropped put in
+          let d = dropped_so g p T array e s m in
           let types = c.drop_data.ensures.types ∙ e in
-          let same : again.inode ≡ found.inode = same_ok again.inode found.inode (c.in_ok-found.ensures.exact (subst IsLibrary (sym types) s.library) ∙ sym k.same) in
-          let items = (c.deref.ensures.value ∙ c.in_ok-drops.ensures) ∙ ap data_of_inode same in
-          taken_last T s.library fs s.few old first new s.keeps.consistent n found.inode exact (omega (arith, links, few)) block points c.args.after dropped under put again.block again.place (home_of first fs n again.block again.place at) at.at
+          let same : again.inode ≡ inode = same_ok again.inode inode (c.in_ok-found.ensures.exact (subst IsLibrary (sym types) s.library) ∙ sym d.leaves.same) in
+          taken_last T s.library fs s.few old first new s.keeps.consistent n inode d.exact (omega (arith, links, few)) block (sym c.indirect.ensures) after dropped d.under d.put again.block again.place (home_of first fs n again.block again.place at) at.at
           c.put_inode-2.result
-          (subst (λ (ds : List ℕ). Proposed T fs again.block (edit_at (64 * again.place) (replicate 64 0) [] ds (Some dropped)) first new c.put_inode-2.result) items
-          (subst (λ (b : List ℕ). Proposed T fs again.block (edit_at (64 * again.place) b [] c.deref.result.now (Some dropped)) first new c.put_inode-2.result) c.free.ensures (c.put_inode-2.ensures.put T types)));
+          (subst (λ (ds : List ℕ). Proposed T fs again.block (edit_at (64 * again.place) (replicate 64 0) [] ds (Some dropped)) first new c.put_inode-2.result) ((c.deref.ensures.value ∙ c.in_ok-drops.ensures) ∙ ap data_of_inode same)
+          (subst (λ (b : List ℕ). Proposed T fs again.block (edit_at (64 * again.place) b [] items (Some dropped)) first new c.put_inode-2.result) c.free.ensures (c.put_inode-2.ensures.put T types)));
       waits = λ T array i a e s m other k.
-          let exact = c.in_ok-block.ensures.exact (subst IsLibrary (sym e) s.library) in
-          let under = at_pointers T fs array old s n c.args.after m.some found is exact block points m.can m.given in
-          let put = c.in_ok-dropped.ensures.put T e under in
-          let d = drops T fs array old s n c.args.after m.some found is exact block points m.can m.given first dropped put in
+          let d = dropped_so g p T array e s m in
           let types = c.drop_data.ensures.types ∙ e in
-          let exact2 = c.in_ok-found.ensures.exact (subst IsLibrary (sym types) s.library) in
-          let items = c.deref.result.now in
-          let later = data_waits T fs array old s i a k n c.args.after block other under first dropped found.inode put d in
-          on_proposed T fs again.block (edit_at (64 * again.place) bytes [] items (Some dropped)) first new (MayLose new fs i a) c.put_inode-2.result (c.put_inode-2.ensures.put T types)
-          (free_waits T fs array first d.stage i a later n dropped other again c.in_ok-found.ensures.found exact2 bytes c.free.ensures items new);
+          let later = data_waits T fs array old s i a k n after block other d.under first dropped inode d.put d.leaves in
+          on_proposed T fs again.block edit first new (MayLose new fs i a) c.put_inode-2.result (c.put_inode-2.ensures.put T types)
+          (free_waits T fs array first d.leaves.stage i a later n dropped other again is (c.in_ok-found.ensures.exact (subst IsLibrary (sym types) s.library)) bytes c.free.ensures items new);
       pairs = λ T array e s m.
-          let exact = c.in_ok-block.ensures.exact (subst IsLibrary (sym e) s.library) in
-          let under = at_pointers T fs array old s n c.args.after m.some found is exact block points m.can m.given in
-          let put = c.in_ok-dropped.ensures.put T e under in
-          let d = drops T fs array old s n c.args.after m.some found is exact block points m.can m.given first dropped put in
-          pairs_then fs old first (g.S.Store.state_of c.put_inode-2.new.store) (direct_dropped T fs array old s first block c.args.after under dropped put) (pairs_dropped T fs array old s first block c.args.after under dropped put)
-          (pairs_at_home T fs array first d.stage (g.S.Store.state_of c.put_inode-2.new.store) n again.block again.place c.in_ok-found.ensures.found.stands (edit_at (64 * again.place) c.free.result [] c.deref.result.now (Some dropped)) c.put_inode-2.result
-          (c.put_inode-2.ensures.put T (c.drop_data.ensures.types ∙ e)));
+          let d = dropped_so g p T array e s m in
+          pairs_then fs old first new (direct_dropped T fs array old s first block after d.under dropped d.put) (pairs_dropped T fs array old s first block after d.under dropped d.put)
+          (pairs_at_home T fs array first d.leaves.stage new n again.block again.place at edit c.put_inode-2.result (c.put_inode-2.ensures.put T (c.drop_data.ensures.types ∙ e)));
     }

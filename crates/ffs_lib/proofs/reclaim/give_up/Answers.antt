@@ -1,4 +1,5 @@
-use Rattle.std.proofs.Common.{rules, ◌≡◌, ◌∙◌, ◌*◌, ℕ, List, [], ◌∷◌, None, ap, inr, refl, replicate, subst, sym}
+use Rattle.std.proofs.Common.{rules, ◌≡◌, ◌∙◌, ◌*◌, ℕ, List, [], ◌∷◌, None, Option, ap, inr, refl, replicate, subst, sym}
+use Rattle.xn_model.specs.Types.{Types}
 use Rattle.xn_model.specs.Calls.{propose_of}
 use Rattle.ffs_model.specs.Cuts.{latest}
 use Rattle.ffs_model.specs.Volumes.{KeepsNumber}
@@ -8,14 +9,29 @@ use Rattle.ffs_lookup.proofs.ForCallers.{same_ok}
 use Rattle.ffs_lib.specs.Edits.{data_of_inode, edit_at}
 use Rattle.ffs_lib.specs.Outcomes.{HasNoData}
 use Rattle.ffs_lib.specs.RepairOrder.{repaired_edits}
-use Rattle.ffs_lib.specs.Steps.{Proposed, ShortEdit}
+use Rattle.ffs_lib.specs.Steps.{Proposed, ShortEdit, Stage}
 use Rattle.ffs_lib.specs.Reclaiming.{emptying}
 use Rattle.ffs_lib.proofs.Laws.{fails, finishes, home_of, no_memory, same_stage, short_told}
 use Rattle.ffs_lib.proofs.Orders.{none_order, one_order}
 use Rattle.ffs_lib.proofs.RepairOrder.{gives_up_order}
-use Rattle.ffs_lib.proofs.Reclaiming.{empties, empties_short, give_no_keep, given_up_then, inode_goes, inode_short, nothing_repaired, pointers_emptied, reached_pointers}
+use Rattle.ffs_lib.proofs.Reclaiming.{Empties, empties, empties_short, give_no_keep, given_up_then, inode_goes, inode_short, nothing_repaired, pointers_emptied, reached_pointers}
 use Rattle.ffs_lib.proofs.Tops.{never}
+use Rattle.ffs_lib.proofs.reclaim.give_up.Given.{Over}
+use Rattle.ffs_lib.proofs.reclaim.give_up.Goals.{In_ok-empty_pointers}
 use Rattle.ffs_lib.proofs.reclaim.give_up.Goals as goal
+
+emptied_so : (g : Over) (c : In_ok-empty_pointers g) (T : Types) (array : ℕ → Option ℕ) → g.S.Store.types_of c.args.store.now ≡ T → Stage T c.args.fs.number array (g.S.Store.state_of c.args.store.now) →
+    Empties T c.args.fs.number array (g.S.Store.state_of c.args.store.now) (g.S.Store.state_of c.empty_pointers.new.store) c.args.number c.in_ok-found.found.inode c.indirect.result
+emptied_so g c T array e s =
+    let fs = c.args.fs.number in
+    let old = g.S.Store.state_of c.args.store.now in
+    let found = c.in_ok-found.found in
+    let is = c.in_ok-found.ensures.found in
+    let exact = c.in_ok-found.ensures.exact (subst IsLibrary (sym e) s.library) in
+    let points = sym c.indirect.ensures in
+    let under = reached_pointers T fs array old s c.args.number found is exact c.indirect.result points in
+    let put = c.in_ok-empty_pointers.ensures.put T e under in
+    record { exact = exact; under = under; put = put; leaves = empties T fs array old s c.args.number found is exact c.indirect.result points (g.S.Store.state_of c.empty_pointers.new.store) put }
 
 pub returns-in_err-found-clause-order : goal.returns-in_err-found-clause-order
 returns-in_err-found-clause-order g c = λ T array e s.
@@ -48,23 +64,12 @@ returns-in_err-empty_pointers g c =
 
 pub returns-in_err-found-2 : goal.returns-in_err-found-2
 returns-in_err-found-2 g c =
-    let old = g.S.Store.state_of c.args.store.now in
-    let found = c.in_ok-found.found in
-    let is = c.in_ok-found.ensures.found in
-    let points = sym c.indirect.ensures in
-    let block = c.indirect.result in
+    let p = (goal.at.returns-in_err-found-2 g c).In_ok-empty_pointers in
+    let types = c.empty_pointers.ensures.types in
     record {
       types = search rules;
-      ends = λ T array e s may.
-          let exact = c.in_ok-found.ensures.exact (subst IsLibrary (sym e) s.library) in
-          let put = c.in_ok-empty_pointers.ensures.put T e (reached_pointers T c.args.fs.number array old s c.args.number found is exact block points) in
-          let k = empties T c.args.fs.number array old s c.args.number found is exact block points (g.S.Store.state_of c.empty_pointers.new.store) put in
-          absurd (never found.inode _ (k.same ∙ sym (c.in_err-found-2.ensures.exact (subst IsLibrary (sym (c.empty_pointers.ensures.types ∙ e)) s.library))));
-      order = λ T array e s.
-          let exact = c.in_ok-found.ensures.exact (subst IsLibrary (sym e) s.library) in
-          let put = c.in_ok-empty_pointers.ensures.put T e (reached_pointers T c.args.fs.number array old s c.args.number found is exact c.indirect.result points) in
-          let k = empties T c.args.fs.number array old s c.args.number found is exact c.indirect.result points (g.S.Store.state_of c.empty_pointers.new.store) put in
-          absurd (never found.inode _ (k.same ∙ sym (c.in_err-found-2.ensures.exact (subst IsLibrary (sym (c.empty_pointers.ensures.types ∙ e)) s.library))));
+      ends = λ T array e s may. absurd (never _ _ ((emptied_so g p T array e s).leaves.same ∙ sym (c.in_err-found-2.ensures.exact (subst IsLibrary (sym (types ∙ e)) s.library))));
+      order = λ T array e s. absurd (never _ _ ((emptied_so g p T array e s).leaves.same ∙ sym (c.in_err-found-2.ensures.exact (subst IsLibrary (sym (types ∙ e)) s.library))));
     }
 
 pub returns-in_err-drops : goal.returns-in_err-drops
@@ -73,29 +78,23 @@ returns-in_err-drops g c =
     let n = c.args.number in
     let old = g.S.Store.state_of c.args.store.now in
     let first = g.S.Store.state_of c.empty_pointers.new.store in
-    let found = c.in_ok-found.found in
-    let is = c.in_ok-found.ensures.found in
-    let points = sym c.indirect.ensures in
-    let block = c.indirect.result in
+    let inode = c.in_ok-found.found.inode in
     let again = c.in_ok-found-2.found in
-    let edit = emptying first again.block in
     let at = c.in_ok-found-2.ensures.found.stands in
+    let home = home_of first fs n again.block again.place at in
+    let edit = emptying first again.block in
+    let from = c.from_residual-in_err-drops.ensures.1 in
+    let p = (goal.at.returns-in_err-drops g c).In_ok-empty_pointers in
     record {
       types = search rules;
       ends = λ T array e s may.
-          let exact = c.in_ok-found.ensures.exact (subst IsLibrary (sym e) s.library) in
-          let put = c.in_ok-empty_pointers.ensures.put T e (reached_pointers T fs array old s n found is exact block points) in
-          let k = empties T fs array old s n found is exact block points first put in
-          fails _ _ k.stage c.from_residual-in_err-drops.result _ c.from_residual-in_err-drops.ensures.1
-          (refl, pointers_emptied T fs array old first first n found.inode exact k refl again.block (home_of first fs n again.block again.place c.in_ok-found-2.ensures.found.stands) _ (edit, no_memory (propose_of T first fs again.block edit)));
+          let d = emptied_so g p T array e s in
+          fails _ _ d.leaves.stage c.from_residual-in_err-drops.result _ from
+          (refl, pointers_emptied T fs array old first first n inode d.exact d.leaves refl again.block home _ (edit, no_memory (propose_of T first fs again.block edit)));
       order = λ T array e s.
-          let exact = c.in_ok-found.ensures.exact (subst IsLibrary (sym e) s.library) in
-          let under = reached_pointers T fs array old s n found is exact block points in
-          let put = c.in_ok-empty_pointers.ensures.put T e under in
-          let k = empties T fs array old s n found is exact block points first put in
-          let same : again.inode ≡ found.inode = same_ok again.inode found.inode (c.in_ok-found-2.ensures.exact (subst IsLibrary (sym (c.empty_pointers.ensures.types ∙ e)) s.library) ∙ sym k.same) in
-          gives_up_order T s.library fs s.few old first first s.keeps.consistent n found.inode exact block points under put again.block again.place (home_of first fs n again.block again.place at) at.at c.from_residual-in_err-drops.result
-          (none_order T fs ((again.block, edit_at (64 * again.place) (replicate 64 0) [] (data_of_inode found.inode) None) ∷ []) first first refl _ c.from_residual-in_err-drops.result c.from_residual-in_err-drops.ensures.1);
+          let d = emptied_so g p T array e s in
+          gives_up_order T s.library fs s.few old first first s.keeps.consistent n inode d.exact c.indirect.result (sym c.indirect.ensures) d.under d.put again.block again.place home at.at c.from_residual-in_err-drops.result
+          (none_order T fs ((again.block, edit_at (64 * again.place) (replicate 64 0) [] (data_of_inode inode) None) ∷ []) first first refl _ c.from_residual-in_err-drops.result from);
     }
 
 pub returns : goal.returns
@@ -105,43 +104,37 @@ returns g c =
     let old = g.S.Store.state_of c.args.store.now in
     let first = g.S.Store.state_of c.empty_pointers.new.store in
     let new = g.S.Store.state_of c.put_inode.new.store in
-    let found = c.in_ok-found.found in
-    let is = c.in_ok-found.ensures.found in
-    let points = sym c.indirect.ensures in
-    let block = c.indirect.result in
+    let inode = c.in_ok-found.found.inode in
     let again = c.in_ok-found-2.found in
-    let is2 = c.in_ok-found-2.ensures.found in
+    let is = c.in_ok-found-2.ensures.found in
+    let home = home_of first fs n again.block again.place is.stands in
     let bytes = c.free.result in
-    let at = c.in_ok-found-2.ensures.found.stands in
+    let items = c.deref.result.now in
+    let edit = edit_at (64 * again.place) bytes [] items None in
+    let p = (goal.at.returns g c).In_ok-empty_pointers in
     record {
       types = search rules;
       ends = λ T array e s may.
-          let exact = c.in_ok-found.ensures.exact (subst IsLibrary (sym e) s.library) in
-          let put = c.in_ok-empty_pointers.ensures.put T e (reached_pointers T fs array old s n found is exact block points) in
-          let k = empties T fs array old s n found is exact block points first put in
+          let d = emptied_so g p T array e s in
+          let k = d.leaves in
           let types = c.empty_pointers.ensures.types ∙ e in
-          let exact2 = c.in_ok-found-2.ensures.exact (subst IsLibrary (sym types) s.library) in
-          let same : again.inode ≡ found.inode = same_ok again.inode found.inode (exact2 ∙ sym k.same) in
-          let own : may.inode ≡ again.inode = same_ok may.inode found.inode (may.found ∙ sym exact) ∙ sym same in
+          let exact = c.in_ok-found-2.ensures.exact (subst IsLibrary (sym types) s.library) in
+          let same : again.inode ≡ inode = same_ok again.inode inode (exact ∙ sym k.same) in
+          let own : may.inode ≡ again.inode = same_ok may.inode inode (may.found ∙ sym d.exact) ∙ sym same in
           let none : HasNoData T (latest first.lives) again.inode = subst (λ (i : List ℕ). HasNoData T (latest first.lives) i) (sym same) k.none in
           let spare : KeepsNumber library_layout first.lives fs None (inode_links again.inode) n = subst (λ (i : List ℕ). KeepsNumber library_layout first.lives fs None (inode_links i) n) own (k.spares n (inode_links may.inode) may.some may.spares) in
-          let items = c.deref.result.now in
-          let edit = edit_at (64 * again.place) bytes [] items None in
           finishes T fs again.block edit array first new _ _ k.stage c.put_inode.result (c.put_inode.ensures.put T types)
-          (subst (λ (ds : List ℕ). ShortEdit T first fs again.block (edit_at (64 * again.place) bytes [] ds None)) (sym (c.deref.ensures.value ∙ c.in_ok-drops.ensures)) (inode_short T fs array first k.stage n again is2 exact2 none bytes c.free.ensures))
+          (subst (λ (ds : List ℕ). ShortEdit T first fs again.block (edit_at (64 * again.place) bytes [] ds None)) (sym (c.deref.ensures.value ∙ c.in_ok-drops.ensures)) (inode_short T fs array first k.stage n again is exact none bytes c.free.ensures))
           (λ entry done.
-          let x = inode_goes T fs array first k.stage n again is2 exact2 none bytes c.free.ensures spare new items entry done in
-          (x.0, given_up_then T fs array old first new n found.inode k x.1))
-          (λ fault left told. pointers_emptied T fs array old first new n found.inode exact k left again.block (home_of first fs n again.block again.place is2.stands) fault (edit, told));
+          let x = inode_goes T fs array first k.stage n again is exact none bytes c.free.ensures spare new items entry done in
+          (x.0, given_up_then T fs array old first new n inode k x.1))
+          (λ fault left told. pointers_emptied T fs array old first new n inode d.exact k left again.block home fault (edit, told));
       order = λ T array e s.
-          let exact = c.in_ok-found.ensures.exact (subst IsLibrary (sym e) s.library) in
-          let under = reached_pointers T fs array old s n found is exact block points in
-          let put = c.in_ok-empty_pointers.ensures.put T e under in
-          let k = empties T fs array old s n found is exact block points first put in
-          let same : again.inode ≡ found.inode = same_ok again.inode found.inode (c.in_ok-found-2.ensures.exact (subst IsLibrary (sym (c.empty_pointers.ensures.types ∙ e)) s.library) ∙ sym k.same) in
-          let items = c.deref.ensures.value ∙ (c.in_ok-drops.ensures ∙ ap data_of_inode same) in
-          let put1 = subst (λ (ds : List ℕ). Proposed T fs again.block (edit_at (64 * again.place) c.free.result [] ds None) first new c.put_inode.result) items (c.put_inode.ensures.put T (c.empty_pointers.ensures.types ∙ e)) in
-          let put2 = subst (λ (b : List ℕ). Proposed T fs again.block (edit_at (64 * again.place) b [] (data_of_inode found.inode) None) first new c.put_inode.result) c.free.ensures put1 in
-          gives_up_order T s.library fs s.few old first new s.keeps.consistent n found.inode exact block points under put again.block again.place (home_of first fs n again.block again.place at) at.at c.put_inode.result
-          (one_order T fs again.block (edit_at (64 * again.place) (replicate 64 0) [] (data_of_inode found.inode) None) first new c.put_inode.result put2);
+          let d = emptied_so g p T array e s in
+          let types = c.empty_pointers.ensures.types ∙ e in
+          let same : again.inode ≡ inode = same_ok again.inode inode (c.in_ok-found-2.ensures.exact (subst IsLibrary (sym types) s.library) ∙ sym d.leaves.same) in
+          gives_up_order T s.library fs s.few old first new s.keeps.consistent n inode d.exact c.indirect.result (sym c.indirect.ensures) d.under d.put again.block again.place home is.stands.at c.put_inode.result
+          (one_order T fs again.block (edit_at (64 * again.place) (replicate 64 0) [] (data_of_inode inode) None) first new c.put_inode.result
+          (subst (λ (ds : List ℕ). Proposed T fs again.block (edit_at (64 * again.place) (replicate 64 0) [] ds None) first new c.put_inode.result) (c.deref.ensures.value ∙ (c.in_ok-drops.ensures ∙ ap data_of_inode same))
+          (subst (λ (b : List ℕ). Proposed T fs again.block (edit_at (64 * again.place) b [] items None) first new c.put_inode.result) c.free.ensures (c.put_inode.ensures.put T types))));
     }
