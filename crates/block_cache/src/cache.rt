@@ -15,7 +15,7 @@ ghost use Rattle.block_cache.specs.Systems.{system_of};
 ghost use Rattle.block_cache.specs.Named.{places_named};
 ghost use Rattle.block_cache.specs.Claims.{claimed_state, claim_of};
 ghost use Rattle.block_cache.specs.Kept.{IsAmong, IsApart, first_keys, keys_of};
-ghost use Rattle.block_cache.specs.NewBytes.{MayLeave, new_bytes};
+ghost use Rattle.block_cache.specs.NewBytes.{AreWithinLimits, new_bytes};
 ghost use Rattle.block_cache.specs.Views.{image_at, HasImage, facts_of, pending_at, rest_at};
 
 use crate::claim::Claim;
@@ -253,7 +253,7 @@ impl Cache {
     ) -> Result<(), AllocError>
         requires alive { IsTrue (is_some (life_at self.old block)) }
         requires room { life_pending (life_at self.old block) < 64 }
-        requires leaves { MayLeave bytes }
+        requires leaves { AreWithinLimits bytes }
         requires undoes { patched (new_bytes bytes (life_bytes (life_at self.old block))) undo ≡ life_bytes (life_at self.old block) }
         ensures ok { OnOk result (self.new ≡
             change_at self.old block (with_state (claimed_state claim (new_bytes bytes.entry (life_bytes (life_at self.old block)))))) }

@@ -1,4 +1,5 @@
 //! What each block has been since it was last free, kept as its newest bytes and what undoes its pending entries.
+//! May touch: memory.
 #![tactic(auto)]
 
 mod cache;

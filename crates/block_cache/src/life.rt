@@ -4,7 +4,7 @@ ghost use Rattle.std.specs.Prelude.{◌≡◌, ◌≤◌, ◌&&◌, ◌==◌, tr
 ghost use Rattle.xn_model.specs.Lives.{is_dropped, is_for, is_fresh, is_owned_by};
 ghost use Rattle.block_cache.specs.Systems.{system_of};
 ghost use Rattle.block_cache.specs.Kept.{started_life, resting};
-ghost use Rattle.block_cache.specs.NewBytes.{MayLeave, appended_by};
+ghost use Rattle.block_cache.specs.NewBytes.{AreWithinLimits, appended_by};
 
 use crate::new_bytes::NewBytes;
 use edit_list::Fs;
@@ -216,7 +216,7 @@ impl Life {
 
     /// Puts one more entry behind the others, which left these bytes.
     pub fn append(&mut self, key: usize, bytes: NewBytes<'_>) -> Result<(), AllocError>
-        requires { MayLeave bytes }
+        requires { AreWithinLimits bytes }
         ensures ok { OnOk result (self.new ≡ appended_by key bytes.entry self.old) }
         ensures err { OnErr result (self.new ≡ self.old) }
     {

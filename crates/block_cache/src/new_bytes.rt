@@ -1,7 +1,7 @@
 // What an entry leaves of a block's bytes.
 
 ghost use Rattle.std.specs.Prelude.{◌≡◌};
-ghost use Rattle.block_cache.specs.NewBytes.{MayLeave, new_bytes};
+ghost use Rattle.block_cache.specs.NewBytes.{AreWithinLimits, new_bytes};
 
 use edit_list::Edit;
 
@@ -17,7 +17,7 @@ pub enum NewBytes<'a> {
 impl NewBytes<'_> {
     /// Puts them in the place of the newest ones.
     pub(crate) fn put(self, current: &mut [u8; 512])
-        requires { MayLeave self }
+        requires { AreWithinLimits self }
         ensures { current.new ≡ new_bytes self.entry current.old }
     {
         match self {

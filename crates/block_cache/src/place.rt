@@ -4,7 +4,7 @@ ghost use Rattle.std.specs.Prelude.{◌≡◌, ◌≤◌, length, option_map, So
 ghost use Rattle.std.specs.Option.{option_copied};
 ghost use Rattle.block_cache.specs.Systems.{system_of};
 ghost use Rattle.block_cache.specs.Kept.{resting, settled, started_life, cached_with_status, with_begun};
-ghost use Rattle.block_cache.specs.NewBytes.{MayLeave, appended_by};
+ghost use Rattle.block_cache.specs.NewBytes.{AreWithinLimits, appended_by};
 
 use crate::life::{FoundLife, Life};
 use crate::new_bytes::NewBytes;
@@ -85,7 +85,7 @@ impl Place {
     /// Puts one more entry of a block in use behind the others, which left these bytes.
     pub fn append(&mut self, key: usize, bytes: NewBytes<'_>) -> Result<(), AllocError>
         requires alive { IsTrue (is_some self.old) }
-        requires leaves { MayLeave bytes }
+        requires leaves { AreWithinLimits bytes }
         ensures ok { OnOk result (self.new ≡ option_map (appended_by key bytes.entry) self.old) }
         ensures err { OnErr result (self.new ≡ self.old) }
     {

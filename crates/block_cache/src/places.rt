@@ -5,7 +5,7 @@ ghost use Rattle.std.specs.List.{range_with_len};
 ghost use Rattle.std.specs.Option.{option_copied};
 ghost use Rattle.block_cache.specs.Systems.{system_of};
 ghost use Rattle.block_cache.specs.Kept.{place_at, change_place, resting_at, settled, started_life, cached_with_status, with_begun};
-ghost use Rattle.block_cache.specs.NewBytes.{MayLeave, appended_by};
+ghost use Rattle.block_cache.specs.NewBytes.{AreWithinLimits, appended_by};
 ghost use Rattle.block_cache.specs.Totals.{pending_count, in_flight_of};
 
 use crate::life::{FoundLife, Life};
@@ -117,7 +117,7 @@ impl Places {
     /// Puts one more entry of a block behind the others, which left these bytes.
     pub fn append(&mut self, block: u32, key: usize, bytes: NewBytes<'_>) -> Result<(), AllocError>
         requires alive { IsTrue (is_some (place_at self.old block)) }
-        requires leaves { MayLeave bytes }
+        requires leaves { AreWithinLimits bytes }
         requires few { sum_by pending_count self.old + 1 < 2 ^ 64 }
         ensures ok { OnOk result (self.new ≡ change_place self.old block (appended_by key bytes.entry)) }
         ensures err { OnErr result (self.new ≡ self.old) }

@@ -1,4 +1,5 @@
 //! What a block owns: of how many blocks, whether its new bytes own what an edit claims, and which chunks of its bytes decide it.
+//! May touch: memory.
 #![tactic(auto)]
 
 mod chains;

@@ -1,4 +1,5 @@
 //! Which pending entries may go to the disk: the rules of soft updates.
+//! May touch: memory.
 #![tactic(auto)]
 
 mod after;

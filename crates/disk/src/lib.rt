@@ -1,4 +1,5 @@
 // A disk of blocks of 512 bytes, each read and written through a lane of its own.
+// May touch: memory.
 #![tactic(auto)]
 
 mod blocks;

@@ -1,4 +1,5 @@
 //! Edits of a block: patches of its bytes, the blocks that it is then to own, or to own no longer, and what undoes them.
+//! May touch: memory.
 #![tactic(auto)]
 
 mod edit;

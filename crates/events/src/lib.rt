@@ -1,4 +1,5 @@
 //! What may happen to a store on a disk, and what is replied, as values; and what each means in the model.
+//! May touch: nothing.
 #![tactic(auto)]
 
 mod event;

@@ -1,5 +1,6 @@
 //! The library file system's blocks: inodes, entries of directories, pointers and names, and the templates by which the kernel
 //! knows them.
+//! May touch: memory.
 #![tactic(auto)]
 
 pub mod entries;

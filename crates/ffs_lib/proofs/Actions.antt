@@ -19,7 +19,7 @@ use Rattle.ffs_lookup.proofs.ForCallers.{block_again}
 use Rattle.ffs_lib.specs.Edits.{edit_at}
 use Rattle.ffs_lib.specs.Orders.{Action, Acts, Attaches, Makes, act_of, made_by, made_of}
 use Rattle.ffs_lib.specs.Steps.{Proposed}
-use Rattle.ffs_lib.specs.WriteOrder.{adds_direct, at_file, at_home, data_action, data_in, data_parts, direct_edit, has_direct_hole, indirect_edit, last_after, new_pointers, pointed_edit, pointers_action, raised, size_action, size_edit, zeros_action, zeros_in, zeros_parts}
+use Rattle.ffs_lib.specs.WriteOrder.{adds_direct, at_file, home_action, data_action, data_in, data_parts, direct_edit, has_direct_hole, indirect_edit, last_after, new_pointers, pointed_edit, pointers_action, raised, size_action, size_edit, zeros_action, zeros_in, zeros_parts}
 use Rattle.ffs_lib.specs.Writes.{ActedBy, LastGiven, Puts, PutsParts}
 use Rattle.ffs_lib.specs.declared.data.Last.{Last}
 use Rattle.ffs_lib.proofs.Orders.{number_is, one_order}
@@ -48,7 +48,7 @@ attach_acted T fs ty bytes home edit block number old first new begun entry done
 -- Of a file
 
 pub file_action : (content : ℕ → List ℕ) (fs n home : ℕ) (inode : List ℕ) → Ok home ≡ inode_block_in content fs ((n - 1) / 8) → Ok inode ≡ file_in content fs n → (f : ℕ → List ℕ → Action) → f home inode ≡ at_file content fs n f
-file_action content fs n home inode e i f = ap (λ r. at_home r (Ok inode) f) e ∙ ap (λ r. at_home (inode_block_in content fs ((n - 1) / 8)) r f) i
+file_action content fs n home inode e i f = ap (λ r. home_action r (Ok inode) f) e ∙ ap (λ r. home_action (inode_block_in content fs ((n - 1) / 8)) r f) i
 
 pub home_there : (content : ℕ → List ℕ) (fs n : ℕ) (inode : List ℕ) → Ok inode ≡ file_in content fs n → (home : ℕ) × (Ok home ≡ inode_block_in content fs ((n - 1) / 8))
 home_there content fs n inode is = let own = stands_from content fs n inode (file_from content fs n inode is) in (own.block, block_again content fs ((n - 1) / 8) own.block own.inodes)

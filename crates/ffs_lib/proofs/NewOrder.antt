@@ -22,7 +22,7 @@ use Rattle.ffs_lookup.specs.Places.{IsFree}
 use Rattle.ffs_lookup.proofs.ForCallers.{pointer_is, root_again}
 use Rattle.ffs_lib.specs.Edits.{edit_at}
 use Rattle.ffs_lib.specs.Making.{StopsTop, first_pointer, rooted_of, top_inodes}
-use Rattle.ffs_lib.specs.NewOrder.{AddsBlock, CreatesInOrder, MakesInOrder, NamesNew, Numbers, at_home, block_action, empty_pointer, made_top, missing_block, missing_from, new_edits, new_in, rooted_by, top_attached, top_edits, with_last}
+use Rattle.ffs_lib.specs.NewOrder.{AddsBlock, CreatesInOrder, MakesInOrder, NamesNew, Numbers, home_edits, block_action, empty_pointer, made_top, missing_block, missing_from, new_edits, new_in, rooted_by, top_attached, top_edits, with_last}
 use Rattle.ffs_lib.specs.Orders.{Action, Attaches, Makes, StopsAct, act_of, entered_action, made_by, made_of}
 use Rattle.ffs_lib.specs.Results.{IsLowestNumber, new_inode}
 use Rattle.ffs_lib.specs.Steps.{Proposed}
@@ -79,7 +79,7 @@ new_is content fs mode n home place bytes recorded after e f all comes =
     ap (λ (m : List ℕ). (home, edit_at (64 * place) m [] [] recorded) ∷ []) all
     ∙ (ap (λ p. (home, edit_at (64 * p) (new_inode mode) [] [] recorded) ∷ []) f
     ∙ (ap (λ (o : Option ℕ). (home, edit_at (64 * ((n - 1) % 8)) (new_inode mode) [] [] o) ∷ []) comes
-    ∙ ap (λ r. at_home r (λ h. (h, edit_at (64 * ((n - 1) % 8)) (new_inode mode) [] [] after) ∷ [])) e))
+    ∙ ap (λ r. home_edits r (λ h. (h, edit_at (64 * ((n - 1) % 8)) (new_inode mode) [] [] after) ∷ [])) e))
 
 module _ (T : Types) (fs d : ℕ) (name : List ℕ) (mode n : ℕ) (numbers left : Numbers) (old first new : StoreState) (one : made_of T fs (new_edits (latest old.lives) fs mode n (numbers ((n - 1) / 8))) old ≡ Ok first) (made : ℕ) (last : made ≡ first.next - 1) where
   pub names_done : left ≡ without_edit numbers ((n - 1) / 8) → act_of T fs (entered_action (latest first.lives) fs d (entry_of n name) made) first ≡ Ok new → NamesNew T fs d name mode n numbers old left new (Ok n)
@@ -178,7 +178,7 @@ attached_order T fs block old second new rooted found (Err fault) puts = tt
 attached_order T fs block old second new rooted found (Ok e) puts =
     let bare = bare_from (latest second.lives) fs found in
     ap (result_and_then (λ (s : StoreState). made_of T fs (top_edits (latest s.lives) fs block) s)) rooted
-    ∙ (ap (λ (r : Result ℕ FfsFault). made_of T fs (at_home r (λ root. (root, first_pointer block) ∷ [])) second) (sym (root_again (latest second.lives) fs bare.block bare.is_root))
+    ∙ (ap (λ (r : Result ℕ FfsFault). made_of T fs (home_edits r (λ root. (root, first_pointer block) ∷ [])) second) (sym (root_again (latest second.lives) fs bare.block bare.is_root))
     ∙ one_order T fs bare.block (first_pointer block) second new (Ok e) (puts bare.block bare.is_root).1)
 
 pub made_order : (T : Types) (fs block number : ℕ) (zeroth first second new : StoreState) → init_of T zeroth fs 4 top_inodes ≡ Ok ((block, number), first) → (attached result : Result ℕ FfsFault) → result ≡ attached → OnOk attached (top_attached T fs block first ≡ Ok second) →

@@ -23,7 +23,7 @@ use Rattle.ffs_format.specs.Entries.{entry_of}
 use Rattle.ffs_lookup.specs.Places.{IsSlot}
 use Rattle.ffs_lookup.specs.Newest.{directory_in, inode_block_in, inode_in, room_in}
 use Rattle.ffs_lib.specs.Edits.{data_of_pointers, edit_at}
-use Rattle.ffs_lib.specs.Orders.{Action, Acts, Attaches, Edits, InOrder, Makes, Numbered, Orders, Parts, StopsAct, StopsIn, act_of, edits_at, entered_action, free_edit, has_data, inode_edits, linked_edits, links_edit, NamesInOrder, made_by, made_of, moved_parts, pointers_edit, removed_edits, replaced_parts, room_action, taken_edits, turned_edits, with_inode}
+use Rattle.ffs_lib.specs.Orders.{Action, Acts, Attaches, Edits, InOrder, Makes, Numbered, Orders, Parts, StopsAct, StopsIn, act_of, edits_at, entered_action, free_edit, has_data, inode_edits, linked_edits, links_edit, NamesInOrder, made_by, made_of, moved_parts, pointers_edit, removed_edits, replaced_parts, room_action, taken_edits, turned_edits, inode_action}
 use Rattle.ffs_lib.specs.Steps.{Attached, Dropped, Proposed, Stage, clearing, left_by}
 use Rattle.ffs_lib.proofs.Undoing.{at_ok}
 use Rattle.ffs_lib.proofs.Owners.{pointers_at, stands_from}
@@ -233,7 +233,7 @@ pub entered_is : (content : ℕ → List ℕ) (fs d home : ℕ) (inode entry : L
 entered_is content fs d home inode entry after e i room r =
     ap (room_action d inode entry after (Ok home)) r
     ∙ (ap (λ h. room_action d inode entry after h (room_in content inode)) e
-    ∙ ap (λ m. with_inode m (λ n. room_action d n entry after (inode_block_in content fs ((d - 1) / 8)) (room_in content n))) i)
+    ∙ ap (λ m. inode_action m (λ n. room_action d n entry after (inode_block_in content fs ((d - 1) / 8)) (room_in content n))) i)
 
 pub gap_act : (T : Types) (fs d block place : ℕ) (inode entry : List ℕ) (after home : ℕ) (old new : StoreState) (result : Result ℕ FfsFault) → Proposed T fs block (edit_at (32 * place) entry [] [] (Some after)) old new result →
     Acts T fs (room_action d inode entry after (Ok home) (Some (Entry block place))) old new result × IfOk result (λ e. new.next ≡ e + 1)

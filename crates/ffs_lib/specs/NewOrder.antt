@@ -70,13 +70,13 @@ AddsBlock T fs numbers old left new (Err fault) = StopsAct T fs (block_action (m
 
 -- An inode and its name
 
-abbrev pub at_home : Result ℕ FfsFault → (ℕ → Edits) → Edits
-at_home (Ok home) f = f home
-at_home (Err fault) f = []
+abbrev pub home_edits : Result ℕ FfsFault → (ℕ → Edits) → Edits
+home_edits (Ok home) f = f home
+home_edits (Err fault) f = []
 
 abbrev pub new_edits : (ℕ → List ℕ) → ℕ → ℕ → ℕ → Option ℕ → Edits
 new_edits content fs mode n after =
-    at_home (inode_block_in content fs ((n - 1) / 8)) (λ home. (home, edit_at (64 * ((n - 1) % 8)) (new_inode mode) [] [] after) ∷ [])
+    home_edits (inode_block_in content fs ((n - 1) / 8)) (λ home. (home, edit_at (64 * ((n - 1) % 8)) (new_inode mode) [] [] after) ∷ [])
 
 abbrev pub new_parts : ℕ → ℕ → List ℕ → ℕ → ℕ → Option ℕ → Parts
 new_parts fs d name mode n after =
@@ -109,7 +109,7 @@ abbrev pub rooted_by : Types → ℕ → StoreState → Result StoreState Refusa
 rooted_by T fs state = if (slot_now state fs).0 == 0 then result_and_then (λ made. Ok made.1) (rooted_of T fs state) else Ok state
 
 abbrev pub top_edits : (ℕ → List ℕ) → ℕ → ℕ → Edits
-top_edits content fs block = at_home (root_in content fs) (λ root. (root, first_pointer block) ∷ [])
+top_edits content fs block = home_edits (root_in content fs) (λ root. (root, first_pointer block) ∷ [])
 
 -- from where the first block of inodes is begun
 abbrev pub top_attached : Types → ℕ → ℕ → StoreState → Result StoreState Refusal

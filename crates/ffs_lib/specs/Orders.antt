@@ -146,14 +146,14 @@ room_action d inode entry after home (Some (Entry block place)) = Makes ((block,
 room_action d inode entry after (Ok home) (Some (Pointer index)) = Attaches 2 (put zero_block 0 entry) home (grown_edit d inode index after)
 room_action d inode entry after home other = Makes []
 
-abbrev pub with_inode : Result (List ℕ) FfsFault → (List ℕ → Action) → Action
-with_inode (Ok inode) f = f inode
-with_inode (Err fault) f = Makes []
+abbrev pub inode_action : Result (List ℕ) FfsFault → (List ℕ → Action) → Action
+inode_action (Ok inode) f = f inode
+inode_action (Err fault) f = Makes []
 
 -- a directory gets an entry, after an edit
 abbrev pub entered_action : (ℕ → List ℕ) → ℕ → ℕ → List ℕ → ℕ → Action
 entered_action content fs d entry after =
-    with_inode (directory_in content fs d) (λ inode.
+    inode_action (directory_in content fs d) (λ inode.
     room_action d inode entry after (inode_block_in content fs ((d - 1) / 8)) (room_in content inode))
 
 -- A link is added, and then the directory gets the entry.

@@ -51,12 +51,12 @@ size_edit n inode size after = edit_at (64 * ((n - 1) % 8)) (put inode 4 (to_le_
 -- Actions, by the newest bytes where they begin
 
 -- nothing where there is no such file
-abbrev pub at_home : Result ℕ FfsFault → Result (List ℕ) FfsFault → (ℕ → List ℕ → Action) → Action
-at_home (Ok home) (Ok inode) f = f home inode
-at_home home inode f = Makes []
+abbrev pub home_action : Result ℕ FfsFault → Result (List ℕ) FfsFault → (ℕ → List ℕ → Action) → Action
+home_action (Ok home) (Ok inode) f = f home inode
+home_action home inode f = Makes []
 
 abbrev pub at_file : (ℕ → List ℕ) → ℕ → ℕ → (ℕ → List ℕ → Action) → Action
-at_file content fs n f = at_home (inode_block_in content fs ((n - 1) / 8)) (file_in content fs n) f
+at_file content fs n f = home_action (inode_block_in content fs ((n - 1) / 8)) (file_in content fs n) f
 
 -- where the inode does not point to the block at the index itself, and there is no block of pointers
 abbrev pub new_pointers : ℕ → ℕ → Option ℕ → ℕ → List ℕ → Action

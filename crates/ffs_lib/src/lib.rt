@@ -1,5 +1,6 @@
 //! A library file system over a store: files and directories by name, whose names stay good in every image that a crash may
 //! leave.
+//! May touch: memory.
 #![tactic(auto)]
 
 mod data;

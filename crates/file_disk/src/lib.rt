@@ -10,6 +10,7 @@
 //! - in `open_writes`, that the list of what a crash may leave, which no memory holds, is changed by these alone.
 //!
 //! What is trusted of the system and of the drive stands in `docs/HEADLINE.md`.
+//! May touch: memory, files.
 #![tactic(auto)]
 
 mod fault;

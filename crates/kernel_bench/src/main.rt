@@ -1,5 +1,6 @@
 // Times what its words name, one after another: runs of metadata programs, calls of a kernel, checks of an image, edits that threads share.
 // What was done goes to standard output, and how long it took, in nanoseconds, to standard error.
+// May touch: memory, threads, streams, clock.
 #![tactic(auto)]
 
 mod calls;

@@ -38,6 +38,7 @@
 //! | `cp NAME NAME` | copies a file |
 //! | `cmp NAME NAME` | prints nothing where two files hold the same |
 //! | `chmod -r NAME`, `chmod -w NAME` | forbids to read a file, or to write it; `chmod -w .` forbids new files |
+//! May touch: memory, threads.
 #![tactic(auto)]
 
 mod bytes;

@@ -3,6 +3,7 @@
 // crashes again and again, keeps some of what it held, and is mounted, and each block is then what the record says: a type that block 0
 // doesn't name on the disk is gone. Prints how many calls of each kind were made and accepted, and how many answers were compared. The
 // same calls are made in each run.
+// May touch: memory, threads, streams.
 #![tactic(auto)]
 
 mod answers;

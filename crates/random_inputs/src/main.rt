@@ -2,6 +2,7 @@
 // prints how they were answered. The same are taken in each run. The first two lines are what `bench/reference.py` prints, which is another
 // implementation; of the next ones, up to the pairs, the last two numbers have to be the same. The line of the images is what
 // `bench/reference_images.py` prints, written from the rules of images alone.
+// May touch: memory, threads, streams.
 #![tactic(auto)]
 
 mod answers;

@@ -1,5 +1,6 @@
 //! Scripts for a block store: each event is a line of words, a script is read whole before any of it runs, and each reply is
 //! printed as a line.
+//! May touch: memory, streams.
 #![tactic(auto)]
 
 mod bytes;

@@ -1,4 +1,5 @@
 //! A kernel that threads share: the lock, what lies under it, and the threads that write blocks with no lock.
+//! May touch: memory, threads.
 #![tactic(auto)]
 
 mod clients;

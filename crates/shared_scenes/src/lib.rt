@@ -1,4 +1,5 @@
 //! Threads that share a kernel, as tests.
+//! May touch: memory, threads, clock.
 #![tactic(auto)]
 
 #[cfg(test)]

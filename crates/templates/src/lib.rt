@@ -1,4 +1,5 @@
 //! Templates: how blocks of a type are read, the block that spells one, the table of all types, and fresh images.
+//! May touch: memory.
 #![tactic(auto)]
 
 pub mod block;

@@ -1,4 +1,5 @@
 // Plays the transcripts that its arguments name, and prints how many lines were as written, or the first that wasn't.
+// May touch: memory, threads, files, streams.
 #![tactic(auto)]
 
 use player::play;

@@ -1,5 +1,6 @@
 // A small library file system, taken through a few changes, with a crash after each step of each of their writes. Prints how many crashes left the
 // files as before the change, and how many as after it.
+// May touch: memory, threads, streams.
 #![tactic(auto)]
 
 mod directory;

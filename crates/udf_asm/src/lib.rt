@@ -1,4 +1,5 @@
 // Programs as text: a line for each word.
+// May touch: memory.
 #![tactic(auto)]
 
 mod assembler;

@@ -1,4 +1,5 @@
 // The words of a metadata program, how they stand in bytes, and which lists of words are programs.
+// May touch: memory.
 #![tactic(auto)]
 
 pub mod bytes;

@@ -1,6 +1,7 @@
 //! Runs checked programs on blocks.
 //!
 //! The verifier's promise holds for each run, so nothing is tested while a program runs: neither a budget nor a range.
+//! May touch: nothing.
 #![tactic(auto)]
 
 mod blocks;

@@ -1,5 +1,6 @@
 //! The verifier of metadata programs. It accepts programs that run on every block without a trap and within a
 //! budget, and says of any other which word breaks which rule.
+//! May touch: memory.
 #![tactic(auto)]
 
 mod check;

@@ -1,4 +1,5 @@
 //! Tests of what no line of the program shows. They stand in a crate of their own, since a crate with tests is proved twice.
+//! May touch: memory, threads, streams.
 #![tactic(auto)]
 
 #[cfg(test)]

@@ -1,5 +1,6 @@
 //! Two file systems beside each other on one store, each with its volume. What is known of both stays over the calls of each, over
 //! drains, over what the device does, and over crashes. The store is a kernel, one that threads share, or a world.
+//! May touch: memory, threads.
 #![tactic(auto)]
 
 mod disks;

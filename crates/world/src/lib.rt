@@ -1,4 +1,5 @@
 // A disk in memory with its kernel, run by events.
+// May touch: memory, threads.
 #![tactic(auto)]
 
 pub mod law;

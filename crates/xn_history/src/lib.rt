@@ -1,4 +1,5 @@
 //! What a store's replies tell of its blocks, and what every image keeps of that.
+//! May touch: nothing.
 #![tactic(auto)]
 
 ghost use Rattle.std.specs.Prelude.{◌≡◌, ◌≢◌, ◌≤◌, ◌<◌, ◌⊎◌, ℕ, List, [], ◌∷◌, Option, None, Some, false, length, take};

@@ -1,4 +1,5 @@
 // The kernel of a store: its state over the lanes of a disk.
+// May touch: memory.
 #![tactic(auto)]
 
 mod kernel;

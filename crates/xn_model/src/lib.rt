@@ -1,4 +1,5 @@
 //! The abstract model of a block store with soft updates, and its laws.
+//! May touch: nothing.
 #![tactic(auto)]
 
 ghost use Rattle.std.specs.Prelude.{◌≡◌, ◌≢◌, ◌≤◌, ◌<◌, ◌⊎◌, ◌+◌, ◌*◌, ℕ, List, [], ◌∷◌, Option, length, take, slice_get, slice_set, Some, None, Ok, All};

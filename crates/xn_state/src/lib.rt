@@ -1,4 +1,5 @@
 // The state of a store without its disk: what each block has been since it was last free.
+// May touch: memory.
 #![tactic(auto)]
 
 mod answer;

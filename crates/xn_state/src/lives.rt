@@ -11,7 +11,7 @@ ghost use Rattle.xn_model.specs.Calls.{is_ready, is_tainted, life_bytes, life_pe
 ghost use Rattle.xn_model.specs.Images.{blocks_in};
 ghost use Rattle.block_cache.specs.Systems.{system_of};
 ghost use Rattle.block_cache.specs.Claims.{claimed_state};
-ghost use Rattle.block_cache.specs.NewBytes.{MayLeave, new_bytes};
+ghost use Rattle.block_cache.specs.NewBytes.{AreWithinLimits, new_bytes};
 ghost use Rattle.block_cache.specs.Views.{facts_of};
 ghost use Rattle.xn_model.specs.Mounts.{found_status};
 ghost use Rattle.claims.specs.Owners.{is_claimed, owned_count};
@@ -272,7 +272,7 @@ impl Lives {
         requires claims { MayClaim self.old block adds.now drops.now }
         requires few_adds { length adds.now ≤ 128 }
         requires few_drops { length drops.now ≤ 128 }
-        requires leaves { MayLeave bytes }
+        requires leaves { AreWithinLimits bytes }
         requires undoes { patched (new_bytes bytes (life_bytes (life_at self.old block))) undo ≡ life_bytes (life_at self.old block) }
         requires fresh { (b : ℕ) → pends claim.entry (life_at self.old b) ≡ false }
         requires fs { claim.fs ≡ system_of fs }

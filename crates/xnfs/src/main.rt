@@ -1,4 +1,5 @@
 // Files in a disk image: made, listed, brought in and out, each line on the disk when it ends.
+// May touch: memory, threads, files, streams.
 #![tactic(auto)]
 
 use std::io::{BufReader, BufWriter, Write};

@@ -2,6 +2,7 @@
 //!
 //! Of these functions it is proved that they are safe and end. That names stay good in every image that a crash may leave is proved of
 //! each session (`xnfs_session`), whatever is done here. The rest is tested.
+//! May touch: memory, threads, files, streams.
 #![tactic(auto)]
 
 mod changing;

@@ -3,6 +3,7 @@
 // mounted anew again and again; then all that stands on it is compared, and so it is before. The last ones go to a disk in a file, as one shell.
 // Prints how many lines of each kind were played, how many of them were done, and how many answers were others than the tree's. The same lines
 // are played in each run. An argument that is a number says how many.
+// May touch: memory, threads, files, streams.
 #![tactic(auto)]
 
 mod answers;

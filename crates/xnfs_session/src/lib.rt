@@ -2,6 +2,7 @@
 //!
 //! It is proved of each session that the rules of its volume hold, whatever its calls answer: so names are good in every image that a
 //! crash may leave; and that each of its calls does what the same call of a volume does (`ffs_lib`).
+//! May touch: memory.
 #![tactic(auto)]
 
 mod flushing;

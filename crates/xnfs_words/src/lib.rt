@@ -1,4 +1,5 @@
 //! The words of a command line of `xnfs`, and of the lines of its shell.
+//! May touch: memory.
 #![tactic(auto)]
 
 mod forms;

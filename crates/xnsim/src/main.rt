@@ -1,5 +1,6 @@
 // A simulator of the block store: it formats and checks images, runs scripts of commands on them, assembles templates, and
 // verifies programs.
+// May touch: memory, threads, files, streams.
 #![tactic(auto)]
 
 mod files;

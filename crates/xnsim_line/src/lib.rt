@@ -1,5 +1,6 @@
 //! The simulator's command line: its words, as they are read, and what it does. It formats and checks images, runs scripts of commands
 //! on them, assembles templates, and verifies programs; and tells faults. Files and standard streams are the caller's.
+//! May touch: memory, threads, files, streams.
 #![tactic(auto)]
 
 ghost use Rattle.std.specs.Prelude.{◌≡◌, ◌≤◌, map, string_bytes};

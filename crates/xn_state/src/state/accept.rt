@@ -4,7 +4,7 @@ ghost use Rattle.std.specs.Prelude.{◌≡◌, ◌<◌, ◌≤◌, ◌^◌, ◌-
 ghost use Rattle.xn_model.specs.Lives.{life_at};
 ghost use Rattle.xn_model.specs.Results.{Gives};
 ghost use Rattle.xn_model.specs.Calls.{accepts, life_bytes, life_pending, patched, pending_of};
-ghost use Rattle.block_cache.specs.NewBytes.{MayLeave, new_bytes};
+ghost use Rattle.block_cache.specs.NewBytes.{AreWithinLimits, new_bytes};
 ghost use Rattle.claims.specs.Owned.{MayClaim};
 ghost use Rattle.claims.specs.Decided.{Decides};
 ghost use Rattle.xn_state.specs.Proposals.{accepted_entry};
@@ -44,7 +44,7 @@ impl State {
         requires small { length claims.drops.now ≤ 128 }
         requires reads { Decides (own_types self.old) self.old.lives block (new_bytes bytes (life_bytes (life_at self.old.lives block))) reads }
         requires undoes { patched (new_bytes bytes (life_bytes (life_at self.old.lives block))) undo ≡ life_bytes (life_at self.old.lives block) }
-        requires leaves { MayLeave bytes }
+        requires leaves { AreWithinLimits bytes }
         requires continues { Continues self.old (accepts self.old block
             (accepted_entry self.old fs.number (new_bytes bytes (life_bytes (life_at self.old.lives block))) claims.adds.now claims.drops.now claims.after)).1 }
         ensures state { Gives (Ok (accepts self.old block (accepted_entry self.old fs.number (new_bytes bytes.entry (life_bytes (life_at self.old.lives block)))
