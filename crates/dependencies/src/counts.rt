@@ -10,8 +10,7 @@ ghost use Rattle.dependencies.specs.Counts.{claim_drops, counted_for, given, not
 
 use crate::oldest::note_number;
 use block_cache::{Cache, Claim, Fs};
-use free_map::BlockSet;
-use free_map::FreeMap;
+use free_map::{BlockSet, FreeMap};
 
 /// Takes the first entries of a block out of the counts. Answers for which file system the last of them counted, of which no
 /// contract speaks: only what is looked at next depends on it.

@@ -8,8 +8,7 @@ ghost use Rattle.dependencies.specs.Pending.{is_dirty};
 
 use crate::candidates::Candidates;
 use crate::homes::Homes;
-use free_map::BlockSet;
-use free_map::FreeMap;
+use free_map::{BlockSet, FreeMap};
 use std::alloc::{AllocError, Global};
 use std::marker::Model;
 

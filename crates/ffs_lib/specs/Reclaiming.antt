@@ -12,7 +12,8 @@
 --     StopsRepairing               what is left where an inode was to be repaired, and of what the fault tells
 --     InMiddle                     the inodes up to a number are repaired
 --     Reclaims                     the call
-use Rattle.std.specs.Prelude.{◌≡◌, ◌≢◌, ℕ, ◌-◌, ◌<◌, ◌≤◌, ◌==◌, ◌⊎◌, nat_lt, List, [], ◌∷◌, length, map, flat_map, count_by, replicate, Option, None, Result, Ok, Err, ⊤, if◌then◌else◌}
+use Rattle.std.specs.Prelude.{◌≡◌, ◌≢◌, ℕ, ◌-◌, ◌<◌, ◌≤◌, ◌==◌, ◌⊎◌, nat_lt, List, [], ◌∷◌, length, map, flat_map, count_by}
+use Rattle.std.specs.Prelude.{replicate, Option, None, Result, Ok, Err, ⊤, if◌then◌else◌}
 use Rattle.std.specs.List.{range_with_len}
 use Rattle.xn_model.specs.Root.{word_at}
 use Rattle.xn_model.specs.Types.{Types}

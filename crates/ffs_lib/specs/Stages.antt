@@ -11,7 +11,8 @@
 --     removed_stages, created_stages, renamed_stages, replaced_stages    of `unlink` and `rmdir`; of `create` and `mkdir`; of `rename`; of `replace`
 --     Unnames, KeptOrEmptied     what the files don't say of the inodes where a name is taken; what a refusal leaves of the inode that was named
 --     Makes, OnlyMade            what the files don't say of the inodes where one is made; all but that one are as before
-use Rattle.std.specs.Prelude.{◌≡◌, ◌≢◌, ℕ, ◌+◌, ◌-◌, ◌<◌, ◌⊎◌, nat_le, nat_lt, List, [], ◌∷◌, ◌++◌, length, take, replicate, Option, None, Some, Result, Ok, Err, true}
+use Rattle.std.specs.Prelude.{◌≡◌, ◌≢◌, ℕ, ◌+◌, ◌-◌, ◌<◌, ◌⊎◌, nat_le, nat_lt, List, [], ◌∷◌, ◌++◌, length, take}
+use Rattle.std.specs.Prelude.{replicate, Option, None, Some, Result, Ok, Err, true}
 use Rattle.std.specs.Prelude.{MatchResult, ◌==◌, if◌then◌else◌}
 use Rattle.std.specs.Option.{ok_or}
 use Rattle.xn_model.specs.Types.{Types}
@@ -21,7 +22,8 @@ use Rattle.ffs_format.specs.Entries.{entry_of}
 use Rattle.ffs_format.specs.Fields.{direct_in}
 use Rattle.ffs_lookup.specs.declared.fault.FfsFault.{FfsFault}
 use Rattle.ffs_lookup.specs.declared.fault.FfsFault.TheVariants.{NoEntry, TooLarge}
-use Rattle.ffs_lookup.specs.Files.{Answer, Blocks, Directory, File, Files, InodeValue, both_directories, created, directory_of, entry_named, is_same, links_of, look_up, room}
+use Rattle.ffs_lookup.specs.Files.{Answer, Blocks, Directory, File, Files, InodeValue, both_directories, created, directory_of}
+use Rattle.ffs_lookup.specs.Files.{entry_named, is_same, links_of, look_up, room}
 use Rattle.ffs_lookup.specs.Files.{with_block, with_entry, with_value, without_link}
 use Rattle.ffs_lookup.specs.FileValues.{files_of, place_in}
 use Rattle.ffs_lookup.specs.Newest.{and_then, byte_of, directory_in, inode_in, is_short, listing}

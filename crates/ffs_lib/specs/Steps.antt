@@ -13,7 +13,8 @@
 --     TakesLink, Removed  an inode lost a link; a directory lost an entry, and the inode that it named a link
 --     StopsAt, ..         what is left where a part of a call is refused, and of what the fault tells
 --     Creates    the calls
-use Rattle.std.specs.Prelude.{◌≡◌, ◌≢◌, ℕ, ◌+◌, ◌-◌, ◌/◌, ◌<◌, ◌≤◌, ◌⊎◌, List, [], length, Contains, Option, Some, None, Result, Ok, Err, true, MatchResult, IsTrue}
+use Rattle.std.specs.Prelude.{◌≡◌, ◌≢◌, ℕ, ◌+◌, ◌-◌, ◌/◌, ◌<◌, ◌≤◌, ◌⊎◌, List, [], length, Contains, Option}
+use Rattle.std.specs.Prelude.{Some, None, Result, Ok, Err, true, MatchResult, IsTrue}
 use Rattle.xn_model.specs.declared.refusal.Refusal.{Refusal}
 use Rattle.xn_model.specs.declared.refusal.Refusal.TheVariants.{NoMemory}
 use Rattle.xn_model.specs.Root.{word_at}
@@ -239,7 +240,8 @@ StopsAtRoom T fs old new d entry fault None = ⊥
 
 pub record StopsEntering (T : Types) (fs : ℕ) (old new : StoreState) (d : ℕ) (entry : List ℕ) (fault : FfsFault) : Type 0 where
   pub same : AllSame old new fs
-  pub told : MatchResult (directory_in (newest_block old) fs d) (λ inode. StopsAtRoom T fs old new d entry fault (room_in (newest_block old) inode)) (λ other. ⊥)
+  pub told : MatchResult (directory_in (newest_block old) fs d) (λ inode. StopsAtRoom T fs old new d entry fault
+      (room_in (newest_block old) inode)) (λ other. ⊥)
 
 -- only the block of pointers of an inode changed, which owns nothing now
 pub record ClearedPointers (old new : ℕ → List ℕ) (inode : List ℕ) : Type 0 where
@@ -284,5 +286,6 @@ StopsMaking T fs old new d name mode fault =
 
 abbrev pub Creates : Types → ℕ → ℕ → List ℕ → ℕ → StoreState → StoreState → Result ℕ FfsFault → Type 0
 Creates T fs d name mode old new result =
-    Answers (create_in (newest_block old) fs d name) (λ _ n. MadeEntry (newest_block old) (newest_block new) fs d name mode n × IsLowestNumber (newest_block old) fs n)
+    Answers (create_in (newest_block old) fs d name) (λ _ n. MadeEntry (newest_block old) (newest_block new) fs d name mode n
+    × IsLowestNumber (newest_block old) fs n)
     (λ _ fault. StopsMaking T fs old new d name mode fault) old new result

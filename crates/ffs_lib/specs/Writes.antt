@@ -128,7 +128,8 @@ pub record Parts (T : Types) (fs : ℕ) (array : ℕ → Option ℕ) (old new : 
   pub made : progress.fault ≡ None → MadeTo T fs n end offset bytes old progress.done new progress.last
   pub puts : Puts old new fs n (min end offset) (take progress.done (padded end offset bytes))
   pub calm : min end offset + progress.done ≤ first_past end offset → progress.last ≡ no_last
-  pub waits : (there : StoreState × Last) → parts_made T fs n end offset bytes (places (min end offset) offset (first_past end offset)) (old, no_last) ≡ Ok there →
+  pub waits : (there : StoreState × Last) → parts_made T fs n end offset bytes (places (min end offset) offset (first_past end offset)) (old, no_last)
+      ≡ Ok there →
       first_past end offset ≤ min end offset + progress.done → end < offset + length bytes → progress.fault ≡ None →
       IsConsistent T there.0 × WaitsOn fs n there.0 new no_last progress.last
   pub given : LastGiven new progress.last

@@ -83,7 +83,8 @@ fn add_direct<S: Store>(
     requires within { at + length bytes.now ≤ 512 }
     ensures types { S.types_of store.new ≡ S.types_of store.old }
     ensures ends { (T : Types) (array : ℕ → Option ℕ) (inode : List ℕ) → S.types_of store.old ≡ T → Stage T fs.number array (S.state_of store.old) →
-        Ok inode ≡ file_in (newest_block (S.state_of store.old)) fs.number number → direct_in inode index ≡ 0 → IsTrue (was_given (S.state_of store.old) after) →
+        Ok inode ≡ file_in (newest_block (S.state_of store.old)) fs.number number → direct_in inode index ≡ 0 →
+        IsTrue (was_given (S.state_of store.old) after) →
         Ends T fs.number array (S.state_of store.new) result
         (λ entry. (PutsBy (S.state_of store.old) (S.state_of store.new) fs.number number (512 * index + at) bytes.now entry
         × WaitsAfter fs.number number (S.state_of store.old) (S.state_of store.new) after (λ last. record { edit = last.edit; size = Some entry }))
@@ -395,7 +396,8 @@ fn write_part<S: Store>(
     ensures types { S.types_of store.new ≡ S.types_of store.old }
     ensures falls { result.fault ≡ None → progress.done < result.done }
     ensures few { min end offset + result.done ≤ offset + length bytes.now }
-    ensures parts { (T : Types) (array : ℕ → Option ℕ) (zeroth : StoreState) → S.types_of store.old ≡ T → IsOk (file_in (newest_block zeroth) fs.number number) →
+    ensures parts { (T : Types) (array : ℕ → Option ℕ) (zeroth : StoreState) → S.types_of store.old ≡ T →
+        IsOk (file_in (newest_block zeroth) fs.number number) →
         Parts T fs.number array zeroth (S.state_of store.old) number end offset bytes.now progress →
         Parts T fs.number array zeroth (S.state_of store.new) number end offset bytes.now result }
 {
@@ -471,7 +473,8 @@ pub fn look_up_end<S: Store>(
 ) -> Result<usize, FfsFault>
     ensures within { OnOk result (offset + count ≤ 71680) }
     ensures few { IfOk result (λ end. end ≤ 71680) }
-    ensures exact { IsLibrary (S.types_of store.now) → result ≡ mapped file_end (write_in (newest_block (S.state_of store.now)) fs.number number (offset + count)) }
+    ensures exact { IsLibrary (S.types_of store.now) → result
+        ≡ mapped file_end (write_in (newest_block (S.state_of store.now)) fs.number number (offset + count)) }
 {
     let file = find_file(store, fs, number)?;
     if offset > MOST_BYTES || count > MOST_BYTES - offset {

@@ -168,7 +168,8 @@ pub fn take_link<S: Store>(
         (StopsTaking T fs.number (S.state_of store.old) (S.state_of store.new) number) }
     ensures order { (T : Types) (array : ℕ → Option ℕ) → S.types_of store.old ≡ T → Stage T fs.number array (S.state_of store.old) →
         MayLose (S.state_of store.old) fs.number number after → Orders T fs.number
-        (taken_edits (newest_block (S.state_of store.old)) fs.number number after (S.state_of store.old).next) (S.state_of store.old) (S.state_of store.new) result }
+        (taken_edits (newest_block (S.state_of store.old)) fs.number number after (S.state_of store.old).next)
+        (S.state_of store.old) (S.state_of store.new) result }
     ensures waits { (T : Types) (array : ℕ → Option ℕ) (n e : ℕ) → S.types_of store.old ≡ T → Stage T fs.number array (S.state_of store.old) →
         MayLose (S.state_of store.old) fs.number number after → n ≢ number → MayLose (S.state_of store.old) fs.number n e →
         OnOk result (MayLose (S.state_of store.new) fs.number n e) }
@@ -325,7 +326,8 @@ pub fn add_link<S: Store>(
     ensures ends { (T : Types) (array : ℕ → Option ℕ) (inode : List ℕ) → S.types_of store.old ≡ T → Stage T fs.number array (S.state_of store.old) →
         Ok inode ≡ inode_in (newest_block (S.state_of store.old)) fs.number number → inode_links inode ≢ 65535 →
         Ends T fs.number array (S.state_of store.new) result
-        (λ e. MayName (S.state_of store.new) fs.number number e × AddsLink (newest_block (S.state_of store.old)) (newest_block (S.state_of store.new)) fs.number number)
+        (λ e. MayName (S.state_of store.new) fs.number number e
+        × AddsLink (newest_block (S.state_of store.old)) (newest_block (S.state_of store.new)) fs.number number)
         (StopsAtHome T fs.number (S.state_of store.old) (S.state_of store.new) number) }
     ensures order { (T : Types) (array : ℕ → Option ℕ) (inode : List ℕ) → S.types_of store.old ≡ T → Stage T fs.number array (S.state_of store.old) →
         Ok inode ≡ inode_in (newest_block (S.state_of store.old)) fs.number number → inode_links inode ≢ 65535 →

@@ -8,7 +8,8 @@ ghost use Rattle.ffs_model.specs.Cuts.{latest};
 ghost use Rattle.ffs_model.specs.Library.{library_layout, inode_mode, IsLibrary, inode_blocks, inode_links, zero_block};
 ghost use Rattle.xn_model.specs.Lists.{put};
 ghost use Rattle.ffs_lookup.specs.Newest.{IsLowest, TakesEntry, create_in, directory_in, first_named, has_empty_pointer, has_inode, has_room, is_at};
-ghost use Rattle.ffs_lookup.specs.Newest.{file_end, mapped, root_in, write_in, listing, named_in, names_at, rename_in, rmdir_in, unlink_in, without_entry, inode_in};
+ghost use Rattle.ffs_lookup.specs.Newest.{file_end, mapped, root_in, write_in, listing, named_in, names_at, rename_in};
+ghost use Rattle.ffs_lookup.specs.Newest.{rmdir_in, unlink_in, without_entry, inode_in};
 ghost use Rattle.ffs_lookup.specs.Counts.{if_idle, open_in};
 ghost use Rattle.ffs_lookup.specs.Repairs.{idle_in, repair_at};
 ghost use Rattle.ffs_lib.specs.Reclaiming.{LeftByRepair, needs, reclaimed, reclaimed_stages};
@@ -335,7 +336,8 @@ impl Volume {
         ensures fs { self.new.fs ≡ self.old.fs }
         ensures leaves { (inode : List ℕ) → Ok inode ≡ directory_in (newest_block (S.state_of store.old)) self.old.fs.number directory →
             has_room (newest_block (S.state_of store.old)) inode ≡ true → Leaves (S.types_of store.old) self.new (S.state_of store.new) result
-            (λ n. MadeEntry (newest_block (S.state_of store.old)) (newest_block (S.state_of store.new)) self.old.fs.number directory name.now mode n × (n ≡ free.number))
+            (λ n. MadeEntry (newest_block (S.state_of store.old)) (newest_block (S.state_of store.new)) self.old.fs.number directory name.now mode n
+            × (n ≡ free.number))
             (StopsNew (S.types_of store.old) self.old.fs.number (S.state_of store.old) (S.state_of store.new) directory name.now mode free.number) }
         ensures order { (inode : List ℕ) → Ok inode ≡ directory_in (newest_block (S.state_of store.old)) self.old.fs.number directory →
             has_room (newest_block (S.state_of store.old)) inode ≡ true →
@@ -422,7 +424,8 @@ impl Volume {
             (file : List ℕ) → Ok file ≡ write_in old fs inode (offset + length bytes.now) →
             WritesInOrder (S.types_of store.old) fs inode file offset bytes.now (S.state_of store.old) (S.state_of store.new) result }
         ensures cuts { let old = newest_block (S.state_of store.old) in let fs = self.now.fs.number in
-            (file : List ℕ) (there : StoreState × Last) → Ok file ≡ write_in old fs inode (offset + length bytes.now) → file_end file < offset + length bytes.now →
+            (file : List ℕ) (there : StoreState × Last) → Ok file ≡ write_in old fs inode (offset + length bytes.now) →
+            file_end file < offset + length bytes.now →
             reached (S.types_of store.old) fs inode file offset bytes.now (first_past (file_end file) offset) (S.state_of store.old) ≡ Ok there →
             OnOk result (ShowsWhole there.0 (S.state_of store.new)) }
         ensures none { length bytes.now ≡ 0 → S.state_of store.new ≡ S.state_of store.old }
@@ -798,7 +801,8 @@ impl Volume {
         directory: u16,
     ) -> Result<Vec<(Vec<u8>, u16)>, FfsFault>
         ensures value { IsLibrary (S.types_of store.now) → MatchResult result
-            (λ names. Ok (map (λ name. (name.0.items, name.1)) names.items) ≡ listed (files_of (newest_block (S.state_of store.now)) self.now.fs.number) directory)
+            (λ names. Ok (map (λ name. (name.0.items, name.1)) names.items)
+            ≡ listed (files_of (newest_block (S.state_of store.now)) self.now.fs.number) directory)
             (λ fault. ((fault ≡ FfsFault.Kernel Refusal.NoMemory)
             × IsOk (listed (files_of (newest_block (S.state_of store.now)) self.now.fs.number) directory))
             ⊎ (Err fault ≡ listed (files_of (newest_block (S.state_of store.now)) self.now.fs.number) directory)) }

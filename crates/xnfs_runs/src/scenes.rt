@@ -67,11 +67,7 @@ fn root_a_block(kernel: &mut Kernel<FileLane>, alloc: Global, fs: Fs) -> Result<
 }
 
 /// Plays the scenes, and prints what each comes to.
-pub fn play_scenes(
-    rt: &HostRuntime,
-    threads: &(impl Threads + Sync),
-    alloc: Global,
-) -> Result<()> {
+pub fn play_scenes(rt: &HostRuntime, threads: &(impl Threads + Sync), alloc: Global) -> Result<()> {
     let Some(fs) = Fs::new(0) else {
         return Err(anyhow!("no file system"));
     };

@@ -4,13 +4,13 @@ ghost use Rattle.std.specs.Prelude.{length, IfErr, IfOk, OnOk};
 ghost use Rattle.std.specs.Io.KnownBytes.{Appends};
 ghost use Rattle.xnsim_line.specs.Assembling.{template_line, IsTemplateFault, IsTemplateOf};
 
+use crate::Fault;
 use crate::program::read_program;
 use std::alloc::Global;
 use std::io;
 use std::io::Write;
 use templates::Template;
 use udf_verify::Role;
-use crate::Fault;
 
 /// The template whose two programs have these texts. A fault of the owns text or its program comes before those of the size
 /// text, and `TooManyWords` last.

@@ -11,8 +11,10 @@ ghost use Rattle.xnsim_line.specs.Lines.{IsNoLine};
 use crate::assembling::{make_template, print_template};
 use crate::checking::print_report;
 use crate::formatting::{all_templates, made_image, read_files};
+use crate::invocation::{Stop, read};
 use crate::program::verify_text;
 use crate::replay::{run_on_image, run_script};
+use crate::{Fault, Files, Invocation};
 use crash_check::check;
 use disk::BLOCK_LEN;
 use script::parse;
@@ -22,8 +24,6 @@ use std::thread::Threads;
 use std::{io, str};
 use templates::{MAX_BLOCKS, MIN_BLOCKS, write_block};
 use udf_verify::Role;
-use crate::invocation::{Stop, read};
-use crate::{Fault, Files, Invocation};
 
 /// How many bytes the image of the largest disk has.
 const GREATEST_IMAGE_LEN: usize = BLOCK_LEN * MAX_BLOCKS as usize;

@@ -7,11 +7,11 @@ ghost use Rattle.templates.specs.Templates.{TemplateValue};
 ghost use Rattle.xnsim_line.specs.Files.{AreHeld, IsHeld};
 ghost use Rattle.xnsim_line.specs.Formatting.{installed, IsBlockFault, IsFileFault, IsImageFault, AreTemplates};
 
+use crate::{Fault, Files};
 use disk::BLOCK_LEN;
 use ffs_format::templates as file_system_templates;
 use std::alloc::Global;
 use templates::{FormatFault, Template, TemplateFault, format_image, read_block};
-use crate::{Fault, Files};
 
 /// The block in the file of this name, which has 512 bytes.
 fn read_file<'a, F: Files>(

@@ -20,12 +20,11 @@ mod replay;
 mod stopping;
 mod telling;
 
+use commands::run;
 pub use fault::Fault;
 pub use files::Files;
 pub use invocation::{Invocation, LineFault};
 pub use program_fault::ProgramFault;
-
-use commands::run;
 use std::alloc::Global;
 use std::io::{Read, Write};
 use std::thread::Threads;

@@ -4,12 +4,12 @@ ghost use Rattle.std.specs.Prelude.{◌≡◌, IfErr, IfOk, OnOk};
 ghost use Rattle.std.specs.Io.KnownBytes.{Appends};
 ghost use Rattle.xnsim_line.specs.Programs.{accepted_line, IsProgramFault, IsProgramOf, IsTextFault, PrintsAccepted};
 
+use crate::{Fault, ProgramFault};
 use std::alloc::Global;
 use std::io;
 use std::io::Write;
 use udf_asm::assemble;
 use udf_verify::{Checked, Role, verify};
-use crate::{Fault, ProgramFault};
 
 /// The program of a text, verified for a role. A fault of the text comes before those of the program.
 pub fn read_program(alloc: Global, text: &str, role: Role) -> Result<Checked, ProgramFault>

@@ -8,6 +8,8 @@ ghost use Rattle.xnsim_line.specs.Done.{IsFaultOnImage, IsRunFault};
 ghost use Rattle.xnsim_line.specs.Runs.{fresh_world, IsPrintedRun, IsRunLine, RunsLines};
 ghost use Rattle.xnsim_line.specs.Stops.{IsAskedOn, IsAskedRun};
 
+use crate::Fault;
+use crate::invocation::Stop;
 use crate::stopping::run_lines_until;
 use script::{ScriptLine, print_reply};
 use std::alloc::{AllocError, Global};
@@ -15,8 +17,6 @@ use std::io::Write;
 use std::thread::Threads;
 use templates::{FormatFault, Template};
 use world::{Reply, World};
-use crate::Fault;
-use crate::invocation::Stop;
 
 /// The first mount of a fresh disk.
 fn fresh_world(

@@ -13,6 +13,8 @@ ghost use Rattle.xnsim_line.specs.Done.{IsRunFault};
 ghost use Rattle.xnsim_line.specs.Runs.{RunsLines};
 ghost use Rattle.xnsim_line.specs.Stops.{is_drain, is_write, writes_by, IsHeldBack, IsLineHeldBack, IsLineWithin, IsStoppedRun};
 
+use crate::Fault;
+use crate::invocation::Stop;
 use script::{ScriptLine, print_reply};
 use std::alloc::Global;
 use std::io;
@@ -20,8 +22,6 @@ use std::io::Write;
 use std::thread::Threads;
 use world::{Answer, Call, Event, Reply, World};
 use xn_state::Fs;
-use crate::Fault;
-use crate::invocation::Stop;
 
 /// Prints that the run stopped.
 fn print_stopped<W: Write>(out: &mut W) -> io::Result<()>

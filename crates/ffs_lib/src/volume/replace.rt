@@ -198,7 +198,8 @@ impl Volume {
             Orders T self.now.fs.number (turned_edits slot inode after) (S.state_of store.old) (S.state_of store.new) result
             × IfOk result (Numbered (S.state_of store.old) (S.state_of store.new)) }
         ensures pairs { (T : Types) (array : ℕ → Option ℕ) (first : Lives) (from slot : Slot) → S.types_of store.old ≡ T →
-            Stage T self.now.fs.number array (S.state_of store.old) → Ok slot ≡ named_in (newest_block (S.state_of store.old)) self.now.fs.number directory name.now →
+            Stage T self.now.fs.number array (S.state_of store.old) →
+            Ok slot ≡ named_in (newest_block (S.state_of store.old)) self.now.fs.number directory name.now →
             from.inode ≡ inode → StayNamed library_layout first (S.state_of store.old).lives (pair_of from slot) None →
             MatchResult result (λ e. StayNamed library_layout first (S.state_of store.new).lives (pair_of from slot) (Some e))
             (λ _. StayNamed library_layout first (S.state_of store.new).lives (pair_of from slot) None) }
