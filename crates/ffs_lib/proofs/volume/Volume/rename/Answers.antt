@@ -67,24 +67,10 @@ returns-in_err-entered g c =
 
 pub returns-in_err-entry : goal.returns-in_err-entry
 returns-in_err-entry g c =
-    let T = g.S.Store.types_of c.args.store.now in
-    let fs = c.args.self.now.fs in
-    let array = edits_of c.args.self.now.added in
-    let old = g.S.Store.state_of c.args.store.now in
-    let u = latest old.lives in
-    let d = c.args.directory in
-    let name = c.args.name.now in
-    let other = c.args.other in
-    let new_name = c.args.new_name.now in
-    let slot = c.in_ok-slot.slot in
     let lib = c.requires.library in
-    let exact = c.in_ok-slot.ensures.exact lib in
-    let x = can_move u fs.number d name other new_name slot exact in
-    let s = staged c.requires fs.few in
-    let a = c.in_ok-entered.ensures.ends T array x.own x.to refl s x.is_own x.few x.is_to x.room in
-    let w = latest (g.S.Store.state_of c.name_again.new.store).lives in
-    let lib2 = subst IsLibrary (sym c.name_again.ensures.types) lib in
-    absurd (never slot _ (still_there u w fs.number d name other new_name slot x a.1.0 ∙ sym (c.in_err-entry.ensures.exact lib2)))
+    let x = can_move _ _ _ _ _ _ _ (c.in_ok-slot.ensures.exact lib) in
+    let a = c.in_ok-entered.ensures.ends _ _ x.own x.to refl (staged c.requires c.args.self.now.fs.few) x.is_own x.few x.is_to x.room in
+    absurd (never _ _ (still_there _ _ _ _ _ _ _ _ x a.1.0 ∙ sym (c.in_err-entry.ensures.exact (subst IsLibrary (sym c.name_again.ensures.types) lib))))
 
 pub returns : goal.returns
 returns g c =
