@@ -12,7 +12,7 @@
 --     parts_made, StopsWriting        parts are made, with the last edits; the first ones are, and the next one stops
 --     EndsWriting, WritesInOrder      what `write` makes then; what it makes
 --     TakesUpTo, StopsBefore, WritesSomeInOrder    so many bytes are taken, and then this is so; none is told; what `write_some` makes
---     NothingPending, HasEdit, ShowsWhole     nothing is pending for a block; an edit is; in the cuts the last edit comes with all bytes of the call
+--     NonePendingAt, HasEdit, ShowsWhole     nothing is pending for a block; an edit is; in the cuts the last edit comes with all bytes of the call
 --     TellsAct, TellsIn               an action is refused, and this is told of that; one of many is
 use Rattle.std.specs.Prelude.{◌≡◌, ◌≢◌, ◌⊎◌, ℕ, ◌+◌, ◌-◌, ◌*◌, ◌/◌, ◌%◌, ◌≤◌, ◌==◌, ◌||◌, ◌&&◌, not, nat_lt, Bool, false, List, [], ◌∷◌, length, take}
 use Rattle.std.specs.Prelude.{Contains, drop, filter, max, min, replicate, Option, None, Some, Result, Ok, Err, MatchResult, if◌then◌else◌}
@@ -217,8 +217,8 @@ WritesSomeInOrder T fs n inode offset (byte ∷ rest) old new result =
 -- In the cuts
 
 -- nothing is pending for a block; an edit is, with a number from one on
-abbrev pub NothingPending : Lives → ℕ → Type 0
-NothingPending lives c = (l : Life) → life_at lives c ≡ Some l → l.pending ≡ []
+abbrev pub NonePendingAt : Lives → ℕ → Type 0
+NonePendingAt lives c = (l : Life) → life_at lives c ≡ Some l → l.pending ≡ []
 
 abbrev pub HasEdit : ℕ → Lives → ℕ → Type 0
 HasEdit from lives c = (l : Life) × (t : BlockState) × (life_at lives c ≡ Some l) × Contains l.pending t × (from ≤ t.entry)
@@ -226,7 +226,7 @@ HasEdit from lives c = (l : Life) × (t : BlockState) × (life_at lives c ≡ So
 -- Each cut that takes the last edit of a call has the newest bytes of each block that the call wrote, and of each for which nothing was pending before it.
 abbrev pub ShowsWhole : StoreState → StoreState → Type 0
 ShowsWhole old new =
-    (k : Choice) → IsCut new.lives k → Takes new.lives k (new.next - 1) → (c : ℕ) → NothingPending old.lives c ⊎ HasEdit old.next new.lives c →
+    (k : Choice) → IsCut new.lives k → Takes new.lives k (new.next - 1) → (c : ℕ) → NonePendingAt old.lives c ⊎ HasEdit old.next new.lives c →
     seen new.lives k c ≡ latest new.lives c
 
 -- What is told of a refusal
