@@ -11,11 +11,7 @@ use Rattle.xn_model.specs.Rules.{IsConsistent}
 use Rattle.xn_model.proofs.ForCallers.{Contains-cons, Contains-head, Contains-none, Contains-tail, accept, accepted, below_next, each_back, set_other, set_same}
 use Rattle.ffs_model.specs.Cuts.{Choice, IsChosen, IsCut, IsFullAt, Takes, TakesAny, latest}
 use Rattle.ffs_lookup.specs.Newest.{inode_block_in}
-use Rattle.ffs_model.proofs.Accepted.{cut_before, full_before, full_took, takes_before, takes_took, took_adds, took_after, took_full, took_now}
-use Rattle.ffs_model.proofs.Chosen.{full_seen}
-use Rattle.ffs_model.proofs.Foreign.{start_cut, takes_then}
-use Rattle.ffs_model.proofs.ForCallers.{started}
-use Rattle.ffs_model.proofs.Given.{Proposed, Started, proposed}
+use Rattle.ffs_model.proofs.ForCallers.{Proposed, Started, cut_before, full_before, full_seen, full_took, proposed, start_cut, started, takes_before, takes_then, takes_took, took_adds, took_after, took_full, took_now}
 use Rattle.ffs_lib.specs.Steps.{Stage}
 use Rattle.ffs_lib.specs.WriteOrder.{ShowsWhole, no_last}
 use Rattle.ffs_lib.specs.Writes.{IsFrom, Waits, WaitsOn}

@@ -1,7 +1,9 @@
 -- What crates above cite in their proofs, by subject. They import no other module of these proofs.
 
 -- cuts and what is reached
-pub use Rattle.ffs_model.proofs.Chosen.{everything, everything_cut, everything_full, everything_seen, everything_taken}
+pub use Rattle.ffs_model.proofs.Chosen.{everything, everything_cut, everything_full, everything_seen, everything_taken, full_seen}
+pub use Rattle.ffs_model.proofs.Accepted.{cut_before, full_before, full_took, takes_before, takes_took, took_adds, took_after, took_full, took_now}
+pub use Rattle.ffs_model.proofs.Foreign.{start_cut, takes_then}
 pub use Rattle.ffs_model.proofs.Same.{under_direct, under_inodes}
 pub use Rattle.ffs_model.proofs.Newest.{data_owned, indirect_owned, indirect_reached, one_type, proposed_here, proposed_others, rooted_here, rooted_others, started_here, started_others}
 pub use Rattle.ffs_model.proofs.Found.{read_latest, root_found}
@@ -16,7 +18,7 @@ pub use Rattle.ffs_model.proofs.Rewritten as rewritten
 pub use Rattle.ffs_model.proofs.Once.{data_once, direct_distinct, direct_once, direct_where, indirect_once}
 -- calls
 pub use Rattle.ffs_model.proofs.Rooted.{newest_types}
-pub use Rattle.ffs_model.proofs.Given.{started, rooted}
+pub use Rattle.ffs_model.proofs.Given.{Proposed, Started, proposed, rooted, started}
 pub use Rattle.ffs_model.proofs.Opened.{ended_keeps, nothing_pending, opened_keeps, remembers, root_made, started_frame, started_holds, started_keeps, started_names}
 pub use Rattle.ffs_model.proofs.Proposals.{directory_grown, entry_cleared, entry_made, entry_turned, freed_waits, inode_forgets, inode_freed, inode_kept, inode_made, inode_unlinked, inodes_set, inodes_stay, link_added, link_taken, links_taken, pointer_set, root_stays, slot_waits, spare_by_freed, spare_by_taken, taken_waits}
 pub use Rattle.ffs_model.proofs.Quiet.{below_written, file_written, other_number, other_spare, other_waits, other_written}
