@@ -11,12 +11,14 @@ ghost use Rattle.ffs_lookup.specs.Counts.{if_idle};
 ghost use Rattle.ffs_lookup.specs.Repairs.{idle_in, repair_at};
 ghost use Rattle.ffs_lib.specs.Orders.{InOrder, Orders, moved_parts, removed_edits, replaced_parts};
 ghost use Rattle.ffs_lib.specs.Reclaiming.{LeftByRepair, needs, reclaimed, reclaimed_stages};
+ghost use Rattle.ffs_lib.specs.RepairOrder.{reclaimed_parts};
 ghost use Rattle.ffs_lib.specs.Replacing.{NamesStand, Replaced, replace_in};
 ghost use Rattle.ffs_lib.specs.Results.{MovedInodes};
 ghost use Rattle.ffs_lib.specs.Stages.{Does, KeptOrEmptied, Makes, OnlyMade, Unnames, created_stages, removed_stages, renamed_stages, replaced_stages};
 ghost use Rattle.ffs_lib.specs.Steps.{newest_block};
 ghost use Rattle.ffs_lib.specs.Volumes.{NothingPending};
 ghost use Rattle.ffs_lib.specs.Written.{DoesSome, Overwrites, WritesSomeTo};
+ghost use Rattle.ffs_lib.specs.WriteOrder.{WritesSomeInOrder};
 ghost use Rattle.xn_model.specs.Calls.{free_of, pending_of, tainted_of};
 ghost use Rattle.xn_model.specs.declared.refusal.Refusal.{Refusal};
 ghost use Rattle.xn_state.specs.Awaits.{awaited_of};
@@ -277,6 +279,9 @@ impl<S: FlushStore + Drop> Session<S> {
         ensures inodes { let old = newest_block (S.state_of self.old.store) in let new = newest_block (S.state_of self.new.store) in let fs = self.old.fs in
             (file : List ℕ) → Ok file ≡ write_in old fs inode (offset + length bytes.now) → (done : ℕ) × Overwrites old new fs inode file offset bytes.now done
             × WritesSomeTo (S.types_of self.old.store) fs (files_of old fs) inode file offset bytes.now done (S.state_of self.new.store) result }
+        ensures order { let old = newest_block (S.state_of self.old.store) in let fs = self.old.fs in
+            (file : List ℕ) → Ok file ≡ write_in old fs inode (offset + length bytes.now) → WritesSomeInOrder (S.types_of self.old.store) fs inode file
+            offset bytes.now (S.state_of self.old.store) (S.state_of self.new.store) result }
         ensures none { length bytes.now ≡ 0 → S.state_of self.new.store ≡ S.state_of self.old.store }
         ensures few { IfOk result (λ count. count ≤ length bytes.now) }
     {
@@ -391,6 +396,9 @@ impl<S: FlushStore + Drop> Session<S> {
             (S.state_of self.old.store) (S.state_of self.new.store) (mapped (λ repairs. repair_at repairs.each) result) }
         ensures inodes { let old = newest_block (S.state_of self.old.store) in let new = newest_block (S.state_of self.new.store) in let fs = self.old.fs in
             (n : ℕ) → LeftByRepair old new fs n (needs (files_of old fs) n) }
+        ensures order { InOrder (S.types_of self.old.store) self.old.fs
+            (reclaimed_parts (files_of (newest_block (S.state_of self.old.store)) self.old.fs) self.old.fs)
+            (S.state_of self.old.store) (S.state_of self.new.store) result }
     {
         self.volume.reclaim(alloc, &mut self.store)
     }

@@ -4,6 +4,8 @@ use Rattle.ffs_lookup.specs.FileValues.{files_of}
 use Rattle.ffs_lookup.specs.Newest.{mapped}
 use Rattle.ffs_lookup.specs.Repairs.{repair_at}
 use Rattle.ffs_lib.specs.Reclaiming.{LeftByRepair, needs, reclaimed, reclaimed_stages}
+use Rattle.ffs_lib.specs.Orders.{InOrder}
+use Rattle.ffs_lib.specs.RepairOrder.{reclaimed_parts}
 use Rattle.ffs_lib.specs.Stages.{Does}
 use Rattle.ffs_lib.specs.Steps.{newest_block}
 use Rattle.xnfs_session.proofs.session.Session.reclaim.Goals as goal
@@ -17,3 +19,8 @@ pub returns-clause-inodes : goal.returns-clause-inodes
 returns-clause-inodes g c =
     subst (λ v. (n : ℕ) → LeftByRepair (newest_block (g.S.Store.state_of v.store)) (newest_block (g.S.Store.state_of c.reclaim.new.store)) v.fs n (needs (files_of (newest_block (g.S.Store.state_of v.store)) v.fs) n)) c.self.view_is
     c.reclaim.ensures.inodes
+
+pub returns-clause-order : goal.returns-clause-order
+returns-clause-order g c =
+    subst (λ v. InOrder (g.S.Store.types_of v.store) v.fs (reclaimed_parts (files_of (newest_block (g.S.Store.state_of v.store)) v.fs) v.fs) (g.S.Store.state_of v.store) (g.S.Store.state_of c.reclaim.new.store) c.reclaim.result)
+    c.self.view_is c.reclaim.ensures.order

@@ -3,6 +3,7 @@ use Rattle.ffs_lookup.specs.FileValues.{files_of}
 use Rattle.ffs_lookup.specs.Newest.{write_in}
 use Rattle.ffs_lib.specs.Steps.{newest_block}
 use Rattle.ffs_lib.specs.Written.{Overwrites, WritesSomeTo}
+use Rattle.ffs_lib.specs.WriteOrder.{WritesSomeInOrder}
 use Rattle.xnfs_session.proofs.Taken.{few}
 use Rattle.xnfs_session.proofs.session.Session.write_some.Goals as goal
 
@@ -15,3 +16,9 @@ returns-clause-inodes g c =
     (done : ℕ) × Overwrites (newest_block (g.S.Store.state_of v.store)) (newest_block (g.S.Store.state_of c.write_some.new.store)) v.fs c.args.inode file c.args.offset c.args.bytes.now done
     × WritesSomeTo (g.S.Store.types_of v.store) v.fs (files_of (newest_block (g.S.Store.state_of v.store)) v.fs) c.args.inode file c.args.offset c.args.bytes.now done (g.S.Store.state_of c.write_some.new.store) c.write_some.result)
     c.self.view_is c.write_some.ensures.inodes
+
+pub returns-clause-order : goal.returns-clause-order
+returns-clause-order g c =
+    subst (λ v. (file : List ℕ) → Ok file ≡ write_in (newest_block (g.S.Store.state_of v.store)) v.fs c.args.inode (c.args.offset + length c.args.bytes.now) →
+    WritesSomeInOrder (g.S.Store.types_of v.store) v.fs c.args.inode file c.args.offset c.args.bytes.now (g.S.Store.state_of v.store) (g.S.Store.state_of c.write_some.new.store) c.write_some.result)
+    c.self.view_is c.write_some.ensures.order
