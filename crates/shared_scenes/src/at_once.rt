@@ -4,10 +4,9 @@ ghost use Rattle.std.specs.Prelude.{◌≡◌, ◌≢◌, All, IfOk};
 ghost use Rattle.durable_floor.specs.Rules.{zero_floor};
 ghost use Rattle.xn_state.specs.declared.call.Call.TheVariants.{Drain};
 
-use crate::disks::{bare_lanes, disk_of, edit_of, file_system, mounted};
+use crate::disks::{bare_lanes, disk_of, edit_of, file_system, mounted, reaches};
 use crate::hold::Open;
 use crate::sharing::{end_of, share};
-use crash_check::check;
 use disk::{Lane, MemLane};
 use durable_floor::{Floor, Naming, Publisher, Reader};
 use shared::{FlushEnd, Flusher, Gate, Shared, worker};
@@ -161,13 +160,7 @@ fn all_told<L: Lane, G: Gate, K: Naming, R: Wait + Abort>(
 
 /// The disk is sound, with the four blocks reached, and they have all edits.
 fn all_on_disk<R: Threads + Abort + Sync>(rt: &R, alloc: Global, image: &[u8]) -> Result<(), Fail> {
-    match check(rt, alloc, image) {
-        Ok(report) => {
-            assert_eq!(rt; report.reached.len(), 5);
-            assert_eq!(rt; report.free.len(), 27);
-        }
-        Err(fault) => return Err(fault.into()),
-    }
+    reaches(rt, alloc, image, 5)?;
     for (at, block) in image.chunks(512).enumerate() {
         if 1 <= at && at <= 4 {
             assert!(rt; is_edited(block), "block {at}");

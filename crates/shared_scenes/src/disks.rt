@@ -1,11 +1,14 @@
 // Bare disks of 32 blocks, and their mounts.
 
-use crash_check::mount;
+ghost use Rattle.std.specs.Prelude.{◌≤◌};
+
+use crash_check::{check, mount};
 use disk::{Lane, Lanes, MemDisk, MemLane};
 use durable_floor::Naming;
 use shared::{Gate, Shared};
 use std::alloc::{AllocError, Global};
-use std::test::Fail;
+use std::process::Abort;
+use std::test::*;
 use std::thread::Threads;
 use templates::format_image;
 use xn_kernel::{Edit, Fs, Kernel, Patch};
@@ -42,6 +45,25 @@ pub fn disk_of<G: Gate + Drop, K: Naming>(
     match MemDisk::join(alloc, shared.into_held().into_kernel().into_lanes()) {
         Ok(disk) => Ok(disk),
         Err(_) => Err("a lane is away".into()),
+    }
+}
+
+/// The image of a disk of 32 blocks is sound, and so many of them are reached.
+pub fn reaches<R: Threads + Abort + Sync>(
+    rt: &R,
+    alloc: Global,
+    image: &[u8],
+    count: usize,
+) -> Result<(), Fail>
+    requires { count ≤ 32 }
+{
+    match check(rt, alloc, image) {
+        Ok(report) => {
+            assert_eq!(rt; report.reached.len(), count);
+            assert_eq!(rt; report.free.len(), 32 - count);
+            Ok(())
+        }
+        Err(fault) => Err(fault.into()),
     }
 }
 

@@ -9,6 +9,8 @@ mod at_once;
 #[cfg(test)]
 mod disks;
 #[cfg(test)]
+mod failing;
+#[cfg(test)]
 mod held;
 #[cfg(test)]
 mod hold;

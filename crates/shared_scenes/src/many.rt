@@ -1,14 +1,13 @@
 // Eight file systems and four flushers, over lanes that fail now and then.
 
 ghost use Rattle.std.specs.Prelude.{◌≡◌};
-ghost use Rattle.disk.specs.Mem.{memory_leaves};
 ghost use Rattle.durable_floor.specs.Rules.{zero_floor};
 
-use crate::disks::{bare_lanes, file_system, mounted};
+use crate::disks::{bare_lanes, file_system, mounted, reaches};
+use crate::failing::{FailingLane, Fails, failing_lanes};
 use crate::hold::Open;
 use crate::sharing::{share, sync_and_finish};
-use crash_check::check;
-use disk::{DeviceFault, Lane, Lanes, MemDisk, MemLane};
+use disk::{Lane, Lanes, MemDisk, MemLane};
 use durable_floor::{Floor, Naming, Publisher, Reader};
 use shared::{FlushEnd, Flusher, Gate, Shared};
 use std::alloc::{AllocError, Global};
@@ -26,85 +25,6 @@ const EDITS: u32 = 2500;
 /// How many places of four bytes the edits of a block go round.
 const PLACES: u32 = 128;
 
-/// A lane in memory whose every 20th write fails, in turns with the old and the new bytes, and whose every 30th sync fails.
-#[derive(Drop)]
-pub struct FailingLane {
-    lane: MemLane,
-    writes: u32,
-    syncs: u32,
-}
-
-impl Lane for FailingLane {
-    ghost use Rattle.std.specs.Prelude.{⊤};
-
-    ghost number_of = { λ failing. failing.lane.number };
-
-    ghost bytes_of = { λ failing. failing.lane.bytes };
-
-    ghost faults_of = { λ failing. failing.lane.faults };
-
-    ghost read_gives = { λ old answer new. ⊤ };
-
-    ghost write_gives = { λ old bytes answer new. ⊤ };
-
-    ghost crash_leaves = { λ failing left. memory_leaves failing.lane left };
-
-    ghost sync_gives = { λ old answer new. ⊤ };
-
-    fn number(&self) -> u32 {
-        self.lane.number()
-    }
-
-    fn faults(&self) -> u64 {
-        self.lane.faults()
-    }
-
-    fn read(&mut self, into: &mut [u8; 512]) -> Result<(), DeviceFault> {
-        self.lane.read(into)
-    }
-
-    fn write(&mut self, from: &[u8; 512]) -> Result<(), DeviceFault> {
-        self.writes = self.writes.wrapping_add(1);
-        if self.writes % 20 == 0 {
-            self.lane.fail_write(self.writes % 40 == 0);
-        }
-        self.lane.write(from)
-    }
-
-    fn sync(&mut self) -> Result<(), DeviceFault> {
-        self.syncs = self.syncs.wrapping_add(1);
-        if self.syncs % 30 == 0 {
-            self.lane.fail_sync();
-        }
-        self.lane.sync()
-    }
-}
-
-/// Lanes that fail now and then.
-fn failing_lanes(
-    alloc: Global,
-    mut lanes: Lanes<MemLane>,
-) -> Result<Lanes<FailingLane>, AllocError> {
-    let mut all = Lanes::new(alloc, 32)?;
-    for block in 0..32 {
-        if lanes.blocks() <= block as usize {
-            return Err(AllocError);
-        }
-        let Some(lane) = lanes.take(block) else {
-            return Err(AllocError);
-        };
-        let failing = FailingLane {
-            lane,
-            writes: 0,
-            syncs: 0,
-        };
-        if let Err(_) = all.give(failing) {
-            return Err(AllocError);
-        }
-    }
-    Ok(all)
-}
-
 /// The lanes of a disk whose faults are over.
 fn sound_lanes(alloc: Global, mut lanes: Lanes<FailingLane>) -> Result<Lanes<MemLane>, AllocError> {
     let mut all = Lanes::new(alloc, 32)?;
@@ -112,10 +32,10 @@ fn sound_lanes(alloc: Global, mut lanes: Lanes<FailingLane>) -> Result<Lanes<Mem
         if lanes.blocks() <= block as usize {
             return Err(AllocError);
         }
-        let Some(FailingLane { lane, .. }) = lanes.take(block) else {
+        let Some(failing) = lanes.take(block) else {
             return Err(AllocError);
         };
-        if let Err(_) = all.give(lane) {
+        if let Err(_) = all.give(failing.into_lane()) {
             return Err(AllocError);
         }
     }
@@ -353,13 +273,7 @@ fn all_told<L: Lane, G: Gate, K: Naming, R: Wait + Abort>(
 
 /// The image is sound, with the eight blocks reached, and they have the last edits.
 fn all_on_disk<R: Threads + Abort + Sync>(rt: &R, alloc: Global, image: &[u8]) -> Result<(), Fail> {
-    match check(rt, alloc, image) {
-        Ok(report) => {
-            assert_eq!(rt; report.reached.len(), 9);
-            assert_eq!(rt; report.free.len(), 23);
-        }
-        Err(fault) => return Err(fault.into()),
-    }
+    reaches(rt, alloc, image, 9)?;
     for (at, block) in image.chunks(512).enumerate() {
         if 1 <= at && at <= 8 {
             assert!(rt; is_last(block), "block {at}");
@@ -394,7 +308,7 @@ fn many<K: Naming + Send + Sync, R: Threads + Wait + Abort + Sync>(
 
 #[test]
 fn many_edits_over_failing_lanes(rt: HostRuntime) -> Result<(), Fail> {
-    let lanes = failing_lanes(rt.alloc(), bare_lanes(rt.alloc())?)?;
+    let lanes = failing_lanes(rt.alloc(), bare_lanes(rt.alloc())?, Fails::NowAndThen, None)?;
     let kernel = mounted(&rt, rt.alloc(), lanes)?;
     let (floor, publisher, mut readers) = Floor::new(rt.alloc(), 1)?;
     let reader = readers.pop().ok_or("a reader")?;

@@ -1,92 +1,22 @@
 // A sync that fails ends a flusher with its ticket, and the write is then ended by hand.
 
 ghost use Rattle.std.specs.Prelude.{◌≡◌};
-ghost use Rattle.disk.specs.Mem.{memory_leaves};
 ghost use Rattle.durable_floor.specs.Rules.{zero_floor};
 
 use crate::alone::starts;
 use crate::disks::{bare_lanes, mounted};
+use crate::failing::{FailingLane, Fails, failing_lanes};
 use crate::hold::Open;
 use crate::sharing::{end_of, finish, share, sync_and_finish};
-use disk::{DeviceFault, Lane, Lanes, MemLane};
+use disk::Lane;
 use durable_floor::{Floor, Naming, Publisher};
 use shared::{FlushEnd, Flusher, Gate, Shared};
-use std::alloc::{AllocError, Global};
+use std::alloc::Global;
 use std::marker::Brand;
 use std::process::Abort;
 use std::sync::Wait;
 use std::test::*;
 use xn_kernel::{Kernel, Landed, Refusal, Ticket};
-
-/// A lane in memory; of one of them the sync after the first write fails.
-#[derive(Drop)]
-pub struct UnsyncedLane {
-    lane: MemLane,
-    fails: bool,
-}
-
-impl Lane for UnsyncedLane {
-    ghost use Rattle.std.specs.Prelude.{⊤};
-
-    ghost number_of = { λ unsynced. unsynced.lane.number };
-
-    ghost bytes_of = { λ unsynced. unsynced.lane.bytes };
-
-    ghost faults_of = { λ unsynced. unsynced.lane.faults };
-
-    ghost read_gives = { λ old answer new. ⊤ };
-
-    ghost write_gives = { λ old bytes answer new. ⊤ };
-
-    ghost crash_leaves = { λ unsynced left. memory_leaves unsynced.lane left };
-
-    ghost sync_gives = { λ old answer new. ⊤ };
-
-    fn number(&self) -> u32 {
-        self.lane.number()
-    }
-
-    fn faults(&self) -> u64 {
-        self.lane.faults()
-    }
-
-    fn read(&mut self, into: &mut [u8; 512]) -> Result<(), DeviceFault> {
-        self.lane.read(into)
-    }
-
-    fn write(&mut self, from: &[u8; 512]) -> Result<(), DeviceFault> {
-        if self.fails {
-            self.fails = false;
-            self.lane.fail_sync();
-        }
-        self.lane.write(from)
-    }
-
-    fn sync(&mut self) -> Result<(), DeviceFault> {
-        self.lane.sync()
-    }
-}
-
-/// Lanes of which that of block 1 fails to sync its first write.
-fn unsynced_lanes(
-    alloc: Global,
-    mut lanes: Lanes<MemLane>,
-) -> Result<Lanes<UnsyncedLane>, AllocError> {
-    let mut all = Lanes::new(alloc, 32)?;
-    for block in 0..32 {
-        if lanes.blocks() <= block as usize {
-            return Err(AllocError);
-        }
-        let Some(lane) = lanes.take(block) else {
-            return Err(AllocError);
-        };
-        let fails = block == 1;
-        if let Err(_) = all.give(UnsyncedLane { lane, fails }) {
-            return Err(AllocError);
-        }
-    }
-    Ok(all)
-}
 
 /// The ticket of a flusher that a failed sync ended, before it finished a write.
 fn ticket_of<L: Lane + Drop>(end: FlushEnd<L>) -> Option<Ticket<L>> {
@@ -127,12 +57,12 @@ fn unsynced<K: Naming, R: Wait + Abort>(
     alloc: Global,
     floor: Floor,
     publisher: Publisher,
-    kernel: Kernel<UnsyncedLane>,
+    kernel: Kernel<FailingLane>,
 ) -> Result<(), Fail>
     requires floor { floor ≡ K.floor }
     requires publisher { publisher ≡ record { floor = floor; seen = zero_floor } }
 {
-    let shared: Shared<UnsyncedLane, Open, K> = share(alloc, kernel, floor, publisher, Open)?;
+    let shared: Shared<FailingLane, Open, K> = share(alloc, kernel, floor, publisher, Open)?;
     starts(rt, &shared)?;
     shared.stop();
     let ticket = ticket_of(Flusher::new(&shared).run(rt)).ok_or("a ticket")?;
@@ -145,7 +75,12 @@ fn unsynced<K: Naming, R: Wait + Abort>(
 
 #[test]
 fn a_failed_sync_ends_a_flusher(rt: HostRuntime) -> Result<(), Fail> {
-    let lanes = unsynced_lanes(rt.alloc(), bare_lanes(rt.alloc())?)?;
+    let lanes = failing_lanes(
+        rt.alloc(),
+        bare_lanes(rt.alloc())?,
+        Fails::FirstSync,
+        Some(1),
+    )?;
     let kernel = mounted(&rt, rt.alloc(), lanes)?;
     let (floor, publisher, _readers) = Floor::new(rt.alloc(), 0)?;
     unsynced::<Brand, _>(&rt, rt.alloc(), floor, publisher, kernel)
