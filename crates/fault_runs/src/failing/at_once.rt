@@ -190,6 +190,19 @@ fn written<K: Naming + Send + Sync, R: Threads + Wait + Sync>(
     }
 }
 
+/// Whether the words of the four file systems are past all entries.
+fn are_past_all(floor: &Floor, mut reader: Reader) -> bool
+    requires { reader.floor ≡ floor.now }
+{
+    let words = [
+        floor.read(&mut reader, 0),
+        floor.read(&mut reader, 1),
+        floor.read(&mut reader, 2),
+        floor.read(&mut reader, 3),
+    ];
+    words == [u64::from(4 * (2 + EDITS) + 1); 4]
+}
+
 /// The kernel behind workers and who writes, and how many faults were met. Each file system's word is past all its entries then: each made two
 /// and its edits.
 fn scene<K: Naming + Send + Sync, R: Threads + Wait + Sync>(
@@ -207,16 +220,9 @@ fn scene<K: Naming + Send + Sync, R: Threads + Wait + Sync>(
 {
     let (hub, floor) = hub_of(alloc, kernel, floor, publisher)?;
     let shared: SharedKernel<K> = Shared::new(hub, floor, Open);
-    let mut reader = readers.pop()?;
+    let reader = readers.pop()?;
     let faults = written(rt, alloc, &shared, writer)?;
-    let floor = shared.floor();
-    let words = [
-        floor.read(&mut reader, 0),
-        floor.read(&mut reader, 1),
-        floor.read(&mut reader, 2),
-        floor.read(&mut reader, 3),
-    ];
-    if words != [u64::from(4 * (2 + EDITS) + 1); 4] {
+    if !are_past_all(shared.floor(), reader) {
         return None;
     }
     Some((shared.into_held().into_kernel(), faults))

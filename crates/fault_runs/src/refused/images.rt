@@ -19,24 +19,27 @@ pub enum Left {
     Wrong,
 }
 
+/// Makes what is pending of a block durable, or only lands it where no further write may come; how many writes are left then.
+fn write_block(files: &mut Files<Running>, block: u32, left: u32) -> u32 {
+    if left == 1 {
+        let _ = files.begin(block) && files.land(block);
+    } else {
+        let _ = files.write(block);
+    }
+    left.saturating_sub(1)
+}
+
 /// Makes what is pending durable, with so many writes at most, of which the last one only lands; how many are left then.
 fn write_pending(files: &mut Files<Running>, left: u32) -> u32 {
     let mut left = left;
     for _ in 0..BLOCKS {
+        if left == 0 {
+            return 0;
+        }
         let Some(block) = files.pick() else {
             return left;
         };
-        match left {
-            0 => return 0,
-            1 => {
-                let _ = files.begin(block) && files.land(block);
-                return 0;
-            }
-            _ => {
-                let _ = files.write(block);
-                left -= 1;
-            }
-        }
+        left = write_block(files, block, left);
     }
     left
 }
