@@ -15,7 +15,7 @@ use crate::invocation::{Stop, read};
 use crate::program::verify_text;
 use crate::replay::{run_on_image, run_script};
 use crate::{Fault, Files, Invocation};
-use crash_check::check;
+use crash_check::count;
 use disk::BLOCK_LEN;
 use script::parse;
 use std::alloc::Global;
@@ -139,11 +139,11 @@ fn check_file<'a, F: Files, W: Write>(
     let bytes = files
         .read_start(alloc, image, GREATEST_IMAGE_LEN + 1)
         .ok_or(Fault::CannotRead(image))?;
-    let report = match check(rt, alloc, bytes.as_slice()) {
-        Ok(report) => report,
+    let counts = match count(rt, alloc, bytes.as_slice()) {
+        Ok(counts) => counts,
         Err(fault) => return Err(Fault::Image(fault)),
     };
-    print_report(out, report.reached.len(), report.free.len())?;
+    print_report(out, counts.reached, counts.free)?;
     Ok(())
 }
 

@@ -1,4 +1,4 @@
-use Rattle.std.proofs.Common.{rules, ◌≡◌, ◌<◌, ◌≤◌, ◌*◌, ◌∙◌, length, sym, subst, arith, vec_len}
+use Rattle.std.proofs.Common.{rules, ◌≡◌, ◌<◌, ◌≤◌, ◌*◌, length, sym, subst, arith}
 use Rattle.std.specs.Io.KnownBytes.{Appends}
 use Rattle.xn_model.specs.Images.{blocks_in}
 use Rattle.image_model.specs.Walk.{count_of}
@@ -20,15 +20,15 @@ returns-clause-done g c =
     let long : length image ≡ 512 * count_of image = sound.whole in
     let most : count_of image ≤ 32768 = sound.blocks.size.1 in
     let few : length image < 16777217 = omega (arith, long, most) in
-    let free : vec_len c.in-Ok.report.free ≡ length c.in-Ok.report.free.items = search rules in
+    let report = c.in-Ok.ensures.report in
     record {
       image = image;
-      reached = c.in-Ok.report.reached.entries;
-      free = c.in-Ok.report.free.items;
+      reached = report.0;
+      free = report.1;
       image_held = whole_held held c.args.image.now image 16777217 (subst (IsStartHeld held c.args.image.now 16777217) (sym same) start) few;
       sound = sound;
-      report = c.in-Ok.ensures.report;
+      report = report.2;
       printed = subst (Appends (g.W.Write.contents c.args.out.now) (g.W.Write.contents c.print_report.new.out))
-          (λ i. report_line (c.len.ensures.len i) ((c.len-2.ensures ∙ free) i)) c.in_ok-print_report.ensures;
+          (λ i. report_line (report.3 i) (report.4 i)) c.in_ok-print_report.ensures;
       kept = search rules;
     }
