@@ -1,9 +1,9 @@
 -- Parts of the list of named blocks, and what is seen of them.
-use Rattle.std.proofs.Common.{◌≡◌, ℕ, zero, suc, ◌+◌, ◌-◌, ◌≤◌, List, [], ◌∷◌, ◌++◌, length, map, take, drop, Some, Result, Ok, Err, Vec, IfOk, sym, ◌∙◌, ap, arith, slice_get}
+use Rattle.std.proofs.Common.{◌≡◌, ℕ, zero, suc, ◌+◌, ◌-◌, ◌≤◌, List, [], ◌∷◌, ◌++◌, map, take, drop, Some, Result, Ok, Err, Vec, IfOk, sym, ◌∙◌, ap, arith, slice_get}
 use Rattle.std.specs.Prelude.{IsOk, OnOk}
 use Rattle.std.proofs.lemmas.Bool.{false≢true}
 use Rattle.std.proofs.lemmas.Option.{none-some, same_Some}
-use Rattle.std.proofs.lemmas.List.{take-append-drop, take-take, drop-take, drop-drop, map-append, take_all, length-drop}
+use Rattle.std.proofs.lemmas.List.{take-append-drop, take-take, drop-take, drop-drop, map-append}
 use Rattle.crash_check.specs.Parts.{part}
 
 pub part_cut : {A : Type 0} (xs : List A) (from cut to : ℕ) → from ≤ cut → cut ≤ to → part xs from cut ++ part xs cut to ≡ part xs from to

@@ -1,4 +1,4 @@
-use Rattle.std.proofs.Common.{◌≡◌, ◌∙◌, ◌+◌, ◌-◌, ◌++◌, ◌∷◌, [], length, ap, sym, arith, not, filter, length-append}
+use Rattle.std.proofs.Common.{◌≡◌, ◌∙◌, ◌+◌, ◌-◌, ◌∷◌, [], length, ap, sym, arith, not, filter, length-append}
 use Rattle.std.specs.List.{range_with_len}
 use Rattle.image_model.specs.Walk.{free_list, has_block}
 use Rattle.image_model.proofs.ForCallers.{free-named, free-other}
