@@ -63,21 +63,21 @@ impl Model for MemLane {
 }
 
 impl MemLane {
+    /// The bytes are put where they stay, so that they are copied once.
     fn new(alloc: Global, number: u32, bytes: &[u8; BLOCK_LEN]) -> Result<MemLane, AllocError>
         ensures { IfOk result (λ lane. lane ≡ fresh_lane number bytes.now) }
     {
         let held = Held {
-            blocks: Blocks::new(bytes),
+            blocks: Blocks::new(),
             open_write: OpenWrite::Absent,
             faults: 0,
             write_fault: None,
             read_fault: false,
             sync_fault: false,
         };
-        Ok(MemLane {
-            number,
-            held: Box::new(alloc, held)?,
-        })
+        let mut held = Box::new(alloc, held)?;
+        held.blocks.set_bytes(bytes);
+        Ok(MemLane { number, held })
     }
 
     /// The bytes of the block.

@@ -127,7 +127,7 @@ impl MountedDisk {
         } = self;
         let mut lanes = kernel.into_lanes();
         take_lanes_back(&mut lanes, &mut tickets);
-        bytes_of_all(alloc, &lanes)
+        bytes_of_all(alloc, lanes)
     }
 
     /// Whether a write of the block is under way.

@@ -134,27 +134,30 @@ impl UnmountedDisk {
     }
 }
 
-/// The bytes of all lanes, block after block.
-pub fn bytes_of_all(alloc: Global, lanes: &Lanes<MemLane>) -> Result<Vec<u8>, AllocError>
-    requires { AllByRecursion IsLaneHome lanes.now }
-    ensures { IfOk result (λ image. image.items ≡ joined (image_of lanes.now (replicate (length lanes.now) None))) }
+/// The bytes of all lanes, block after block. Each lane is dropped as soon as its bytes are copied, while what it stands in is in the
+/// processor's memory.
+pub fn bytes_of_all(alloc: Global, mut lanes: Lanes<MemLane>) -> Result<Vec<u8>, AllocError>
+    requires { AllByRecursion IsLaneHome lanes }
+    ensures { IfOk result (λ image. image.items ≡ joined (image_of lanes (replicate (length lanes) None))) }
 {
     let blocks = lanes.blocks() as u32;
     let mut image = Vec::with_capacity(alloc, BLOCK_LEN.saturating_mul(blocks as usize))?;
     for block in 0..blocks {
-        image.extend_from_slice(bytes_at_home(lanes, block))?;
+        let lane = take_home(&mut lanes, block);
+        image.extend_from_slice(lane.bytes())?;
     }
     Ok(image)
 }
 
-/// The bytes of one block.
-fn bytes_at_home(lanes: &Lanes<MemLane>, block: u32) -> &[u8; 512]
-    requires home { AllByRecursion IsLaneHome lanes.now }
-    requires within { block < length lanes.now }
-    ensures { result.now ≡ block_of (image_of lanes.now (replicate (length lanes.now) None)) block }
+/// Takes the lane of a block, which is at home.
+fn take_home(lanes: &mut Lanes<MemLane>, block: u32) -> MemLane
+    requires home { slice_get lanes.old block ≢ Some None }
+    requires within { block < length lanes.old }
+    ensures lane { slice_get lanes.old block ≡ Some (Some result) }
+    ensures rest { lanes.new ≡ slice_set lanes.old block None }
 {
-    match lanes.lane(block) {
-        Some(lane) => lane.bytes(),
+    match lanes.take(block) {
+        Some(lane) => lane,
         None => unreachable!(),
     }
 }
