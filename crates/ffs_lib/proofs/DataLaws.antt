@@ -24,9 +24,9 @@ use Rattle.ffs_lib.specs.Outcomes.{HasBlock, IsRaised}
 use Rattle.ffs_lib.specs.Results.{OnlyChanges, SameInode, WroteBytes}
 use Rattle.ffs_lib.specs.Orders.{Action, Attaches, Makes, act_of}
 use Rattle.ffs_lib.specs.Orders as orders
-use Rattle.ffs_lib.specs.Steps.{Attached, Ends, IsHome, Proposed, ShortEdit, Stage, Tells, left_by}
+use Rattle.ffs_lib.specs.Steps.{Attached, Ends, IsHome, Proposed, ShortEdit, Stage, Tells, left_by, skipped}
 use Rattle.ffs_lib.specs.WriteOrder.{TellsAct, data_action, direct_edit, indirect_edit, pointed_edit, pointers_action}
-use Rattle.ffs_lib.specs.Writes.{ActedBy, PointsTo, Puts, PutsBy, IsFrom, StopsAction, StopsPart, WaitsAfter}
+use Rattle.ffs_lib.specs.Writes.{ActedBy, PointsTo, Puts, PutsBy, IsFrom, RefusesPart, StopsAction, WaitsAfter, WaitsOn}
 use Rattle.ffs_lib.specs.declared.data.Last.{Last}
 use Rattle.ffs_lib.proofs.Actions.{attach_acted, direct_is, edit_acted, pointed_is, pointers_is}
 use Rattle.ffs_lib.proofs.DataShort.{direct_refused, pointers_refused, size_refused}
@@ -37,8 +37,8 @@ use Rattle.ffs_lib.proofs.Owners.{Stands, block_at, direct_block, pointers_at, s
 use Rattle.ffs_lib.proofs.Orders.{ok_same}
 use Rattle.ffs_lib.proofs.Same.{Touches, begun, begun_some, block_same, edited, none_touched, reached_before, same_on}
 use Rattle.ffs_lib.proofs.Short.{begun_addable}
-use Rattle.ffs_lib.proofs.Undoing.{at_ok, left_next, undone_same}
-use Rattle.ffs_lib.proofs.Waiting.{attach_waits, begun_newer, home_waits, put_newer, put_waits}
+use Rattle.ffs_lib.proofs.Undoing.{at_ok, forgotten_is, told_lives, undone_same}
+use Rattle.ffs_lib.proofs.Waiting.{attach_waits, begun_newer, home_waits, lives_wait, put_newer, put_waits, waits_then}
 use Rattle.ffs_lib.proofs.Writing.{block_written, data_attached, data_written, direct_attached, file_from, file_now, file_others, file_same, indirect_block, pointers_attached, size_raised, wrote_none, written_none, written_same}
 
 -- Bytes that stay, and one write after another
@@ -104,13 +104,14 @@ puts_after old first second fs n start bytes a b = record {
 }
 
 -- an action that was refused after that
-pub stops_after : (T : Types) (fs : ℕ) (first : StoreState → Action) (rest : orders.Parts) (old middle new : StoreState) (n : ℕ) (fault : FfsFault) → Puts old middle fs n 0 [] → act_of T fs (first old) old ≡ Ok middle → StopsPart T fs rest middle new n fault →
-    StopsPart T fs (first ∷ rest) old new n fault
-stops_after T fs first rest old middle new n fault a made x = record { same = puts_after old middle new fs n 0 [] a x.same; told = inr (middle, made, x.told) }
+pub stops_after : (T : Types) (fs : ℕ) (first : StoreState → Action) (rest : orders.Parts) (old middle new : StoreState) (n : ℕ) (last : Last) (fault : FfsFault) → Puts old middle fs n 0 [] → WaitsOn fs n old middle last last → act_of T fs (first old) old ≡ Ok middle →
+    RefusesPart T fs rest middle new n last fault → RefusesPart T fs (first ∷ rest) old new n last fault
+stops_after T fs first rest old middle new n last fault a w made x =
+    (record { same = puts_after old middle new fs n 0 [] a x.0.same; told = inr (middle, made, x.0.told) }, waits_then fs n old middle new last last last w x.1)
 
 -- one that was refused at once
-pub stops_now : (T : Types) (fs : ℕ) (first : StoreState → Action) (rest : orders.Parts) (old new : StoreState) (n : ℕ) (fault : FfsFault) → StopsAction T fs (first old) old new n fault → StopsPart T fs (first ∷ rest) old new n fault
-stops_now T fs first rest old new n fault x = record { same = x.same; told = inl x.told }
+pub stops_now : (T : Types) (fs : ℕ) (first : StoreState → Action) (rest : orders.Parts) (old new : StoreState) (n : ℕ) (last : Last) (fault : FfsFault) → StopsAction T fs (first old) old new n fault → RefusesPart T fs (first ∷ rest) old new n last fault
+stops_now T fs first rest old new n last fault x = let k = told_lives T fs (first old) old new fault x.told in (record { same = x.same; told = inl x.told }, lives_wait fs n old new last k.lives k.later)
 
 -- the blocks of inodes stay where another block is written
 home_edited : (T : Types) (fs : ℕ) (array : ℕ → Option ℕ) (state : StoreState) (s : Stage T fs array state) (new : StoreState) (c u : ℕ) (edit : Edit) (entry : ℕ) → propose_of T state fs c edit ≡ Ok (entry, new) → Under T (latest state.lives) fs c u → u ≢ 3 → (j : ℕ) →
@@ -202,8 +203,8 @@ module _ (T : Types) (fs : ℕ) (array : ℕ → Option ℕ) (zeroth first : Sto
 
   pub undone : (new : StoreState) → new ≡ left_by (forget_of T first fs block) first → Puts zeroth new fs n 0 []
   undone new left =
-      all_same zeroth new fs n (λ d. subst (λ (m : StoreState). SameInode (latest zeroth.lives) (latest m.lives) fs d) (sym left) (undone_same T s.library zeroth first s.keeps.consistent fs s.few ty bytes block number done d))
-      (subst (λ (k : ℕ). zeroth.next ≤ k) (sym (ap (λ (m : StoreState). m.next) left ∙ left_next T first fs block)) begun_later)
+      let next = ap (λ (m : StoreState). m.next) (left ∙ forgotten_is T zeroth first fs ty bytes block number done) in
+      all_same zeroth new fs n (undone_same T zeroth first fs ty bytes block number done new left) (omega (arith, next))
 
   -- the block is attached, or forgotten
   pub attached_ends : (home : ℕ) (edit : ℕ → Edit) (action : Action) → Attaches ty bytes home edit ≡ action → (real : Edit) → real ≡ edit block → (new : StoreState) (P : ℕ → Type 0) → ShortEdit T first fs home real →
@@ -217,8 +218,8 @@ module _ (T : Types) (fs : ℕ) (array : ℕ → Option ℕ) (zeroth first : Sto
       ))
       (λ fault left told. record {
         same = undone new left;
-        told = subst (λ (a : Action). TellsAct T fs a zeroth new fault) is (inr (at_ok (init_of T zeroth fs ty bytes) ((block, number), first) (λ begun. (new ≡ left_by (forget_of T begun.1 fs begun.0.0) begun.1) × Tells (propose_of T begun.1 fs home (edit begun.0.0)) fault)
-            (sym done) (left, subst (λ (e : Edit). Tells (propose_of T first fs home e) fault) same told)));
+        told = subst (λ (a : Action). TellsAct T fs a zeroth new fault) is (inr (at_ok (init_of T zeroth fs ty bytes) ((block, number), first) (λ begun. (new ≡ skipped zeroth) × Tells (propose_of T begun.1 fs home (edit begun.0.0)) fault)
+            (sym done) (left ∙ forgotten_is T zeroth first fs ty bytes block number done, subst (λ (e : Edit). Tells (propose_of T first fs home e) fault) same told)));
       })
 
   begun_block : (j : ℕ) → inode_block_in (latest first.lives) fs j ≡ inode_block_in (latest zeroth.lives) fs j

@@ -115,7 +115,7 @@ module _ (T : Types) (fs : ℕ) (array : ℕ → Option ℕ) (zeroth first : Sto
 
     pub grow_undone : (new : StoreState) → new ≡ left_by (forget_of T first fs block) first → (fault : FfsFault) → Wants T first fs found.block fault → StopsEntering T fs zeroth new d bytes fault
     grow_undone new left fault wants = record {
-      same = λ x. subst (λ (s : StoreState). SameInode (latest zeroth.lives) (latest s.lives) fs x) (sym left) (undone_same T s.library zeroth first s.keeps.consistent fs s.few 2 (put zero_block 0 bytes) block number done x);
+      same = undone_same T zeroth first fs 2 (put zero_block 0 bytes) block number done new left;
       told = at_ok (directory_in (latest zeroth.lives) fs d) inode (λ i. StopsAtRoom T fs zeroth new d bytes fault (room_in (latest zeroth.lives) i)) dir (subst (StopsAtRoom T fs zeroth new d bytes fault) empty
           (at_ok (inode_block_in (latest zeroth.lives) fs ((d - 1) / 8)) found.block (λ owner. StopsAttaching T fs zeroth new 2 (put zero_block 0 bytes) owner fault) home_begun
           (attach_undone T fs zeroth first new 2 (put zero_block 0 bytes) block number found.block done left fault wants)));
@@ -285,7 +285,7 @@ module _ (T : Types) (fs : ℕ) (array : ℕ → Option ℕ) (zeroth first : Sto
 
     pub point_undone : (new : StoreState) → new ≡ left_by (forget_of T first fs block) first → (fault : FfsFault) → Wants T first fs root fault → StopsGrowing T fs zeroth new fault
     point_undone new left fault wants = record {
-      same = λ x. subst (λ (m : StoreState). SameInode (latest zeroth.lives) (latest m.lives) fs x) (sym left) (undone_same T s.library zeroth first s.keeps.consistent fs s.few 4 zero_block block number done x);
+      same = undone_same T zeroth first fs 4 zero_block block number done new left;
       told = at_ok (root_in (latest zeroth.lives) fs) root (λ r. StopsAttaching T fs zeroth new 4 zero_block r fault)
           (root_again (latest first.lives) fs root is_root ∙ root_same T s.library (latest zeroth.lives) (latest first.lives) fs block 6 touched) (attach_undone T fs zeroth first new 4 zero_block block number root done left fault wants);
     }

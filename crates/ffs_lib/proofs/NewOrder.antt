@@ -26,12 +26,13 @@ use Rattle.ffs_lib.specs.NewOrder.{AddsBlock, CreatesInOrder, MakesInOrder, Name
 use Rattle.ffs_lib.specs.Orders.{Action, Attaches, Makes, StopsAct, act_of, entered_action, made_by, made_of}
 use Rattle.ffs_lib.specs.Results.{IsLowestNumber, new_inode}
 use Rattle.ffs_lib.specs.Steps.{Proposed}
+use Rattle.ffs_lib.proofs.Counted.{first_none}
 use Rattle.ffs_lib.proofs.Orders.{one_order}
 use Rattle.ffs_lib.proofs.Tops.{bare_from, rootless_slot}
 
 -- nothing was done
 pub stops_same : (T : Types) (fs : ℕ) (action : Action) (old new : StoreState) → new ≡ old → StopsAct T fs action old new
-stops_same T fs (Makes edits) old new e = (0, ap (λ (s : StoreState). Ok s) (sym e))
+stops_same T fs (Makes edits) old new e = first_none T fs edits old new e
 stops_same T fs (Attaches ty bytes home edit) old new e = inl e
 
 -- Whether a block of inodes is missing

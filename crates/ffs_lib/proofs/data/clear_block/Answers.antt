@@ -78,7 +78,7 @@ returns-in_err-edit-clause-ends g c = λ T array inode e s is given.
     let other = zeros_by v fs n found.inode index at count block last.edit exact points there false (zeros_not (v block) _ at count _ c.in_ok-held.ensures.bytes k c.are_zeros.ensures.1 c.if-are_zeros.false) in
     let x = there_ends T fs array old s n found c.in_ok-file.ensures.found exact index block at bytes c.requires.few points there long (omega (arith, size, within)) last.edit (omega (arith, size, some)) given.0 new (Err c.in_err-edit.field-0.0)
     (subst (λ (m : List ℕ). Proposed T fs block (edit_at at m [] [] last.edit) old new (Err c.in_err-edit.field-0.0)) zeros (c.in_err-edit.ensures.put T e)) in
-    fails _ _ x.0 c.from_residual-in_err-edit.result _ c.from_residual-in_err-edit.ensures.1 (x.1.0, stops_now T fs _ _ old new n _ (subst (λ (a : Action). StopsAction T fs a old new n c.in_err-edit.field-0.0) other x.1.1))
+    fails _ _ x.0 c.from_residual-in_err-edit.result _ c.from_residual-in_err-edit.ensures.1 (x.1.0, stops_now T fs _ _ old new n last _ (subst (λ (a : Action). StopsAction T fs a old new n c.in_err-edit.field-0.0) other x.1.1))
 
 pub returns-clause-ends : goal.returns-clause-ends
 returns-clause-ends g c = λ T array inode e s is given.

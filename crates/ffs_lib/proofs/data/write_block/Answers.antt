@@ -10,6 +10,7 @@ use Rattle.ffs_lib.proofs.Actions.{act_is, data_made, has_pointers, last_there, 
 use Rattle.ffs_lib.proofs.DataLaws.{puts_none, stops_after, stops_now, there_ends}
 use Rattle.ffs_lib.proofs.Laws.{fails}
 use Rattle.ffs_lib.proofs.Tops.{never}
+use Rattle.ffs_lib.proofs.Waiting.{waits_same}
 use Rattle.ffs_lib.proofs.data.write_block.Goals as goal
 
 pub returns-in_err-file-clause-ends : goal.returns-in_err-file-clause-ends
@@ -51,7 +52,7 @@ returns-in_err-edit-clause-ends g c = λ T array inode e s is given.
     let real = there_is (latest old.lives) fs n found.inode index block c.args.at c.args.bytes.now last.edit exact points there in
     let x = there_ends T fs array old s n found c.in_ok-file.ensures.found exact index block c.args.at c.args.bytes.now c.requires.few points there long c.requires.within last.edit c.requires.some given.0 new (Err c.in_err-edit.field-0.0) (c.in_err-edit.ensures.put T e) in
     fails _ _ x.0 c.from_residual-in_err-edit.result _ c.from_residual-in_err-edit.ensures.1
-    (x.1.0, stops_after T fs _ _ old old new n _ (puts_none old fs n 0) none (stops_now T fs _ _ old new n _ (subst (λ (a : Action). StopsAction T fs a old new n c.in_err-edit.field-0.0) real x.1.1)))
+    (x.1.0, stops_after T fs _ _ old old new n last _ (puts_none old fs n 0) (waits_same fs n old last) none (stops_now T fs _ _ old new n last _ (subst (λ (a : Action). StopsAction T fs a old new n c.in_err-edit.field-0.0) real x.1.1)))
 
 pub returns-clause-ends : goal.returns-clause-ends
 returns-clause-ends g c = λ T array inode e s is given.

@@ -8,6 +8,7 @@ use Rattle.ffs_lookup.specs.Repairs.{repair_in}
 use Rattle.ffs_lib.specs.Orders.{Makes, StopsAct, made_by, made_of}
 use Rattle.ffs_lib.specs.Reclaiming.{needs}
 use Rattle.ffs_lib.specs.RepairOrder.{reclaimed_parts, repair_parts, repaired_edits}
+use Rattle.ffs_lib.proofs.Counted.{first_none}
 use Rattle.ffs_lib.proofs.Orders.{order_in}
 use Rattle.ffs_lib.proofs.RepairOrder.{parts_more, parts_stop}
 use Rattle.ffs_lib.proofs.ValueRepairs.{need_is}
@@ -86,7 +87,7 @@ pub returns-in_err-repairs-clause-order : goal.returns-in_err-repairs-clause-ord
 returns-in_err-repairs-clause-order g c = λ T array e s.
     let old = g.S.Store.state_of c.args.store.now in
     let fs = c.args.fs.number in
-    order_in T fs (reclaimed_parts (files_of (latest old.lives) fs) fs) old old (inl (0, refl)) _ c.from_residual.result c.from_residual.ensures.1
+    order_in T fs (reclaimed_parts (files_of (latest old.lives) fs) fs) old old (inl (first_none T fs _ old old refl)) _ c.from_residual.result c.from_residual.ensures.1
 
 pub returns-in_err-repair_inode-clause-order : goal.returns-in_err-repair_inode-clause-order
 returns-in_err-repair_inode-clause-order g c = λ T array e s.

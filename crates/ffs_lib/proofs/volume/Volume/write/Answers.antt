@@ -8,7 +8,7 @@ use Rattle.ffs_lookup.specs.FileValues.{files_of}
 use Rattle.ffs_lookup.specs.Newest.{file_end, mapped, write_in}
 use Rattle.ffs_lookup.proofs.ForCallers.{written_told}
 use Rattle.ffs_lib.specs.Volumes.{edits_of}
-use Rattle.ffs_lib.specs.WriteOrder.{ShowsWhole}
+use Rattle.ffs_lib.specs.WriteOrder.{ShowsWhole, after_in}
 use Rattle.ffs_lib.specs.Written.{written_stages}
 use Rattle.ffs_lib.proofs.Staged.{does_fault}
 use Rattle.ffs_lib.proofs.StagedWritten.{Begun, begun, found_file, none_does, overwrites_none, volume_of, write_done, write_inodes, write_part_inodes, write_refused}
@@ -33,7 +33,8 @@ returns-in_err-end-clause-answers g c =
     let n = c.args.inode in
     let u = latest old.lives in
     let bytes = c.args.bytes.now in
-    does_fault (g.S.Store.types_of c.args.store.now) fs (write_in u fs n (c.args.offset + length bytes)) (written (files_of u fs) n c.args.offset bytes) (written_stages (files_of u fs) n c.args.offset bytes) old old c.from_residual.result
+    does_fault (g.S.Store.types_of c.args.store.now) fs (write_in u fs n (c.args.offset + length bytes)) (written (files_of u fs) n c.args.offset bytes)
+    (written_stages (files_of u fs) (after_in (g.S.Store.types_of c.args.store.now) fs n c.args.offset bytes old) n c.args.offset bytes) old old c.from_residual.result
     (written_told u fs n c.args.offset bytes) (search rules)
 
 pub returns-in_err-end-clause-inodes : goal.returns-in_err-end-clause-inodes
@@ -45,11 +46,17 @@ returns-then-is_empty-clause-answers g c =
     let fs = c.args.self.now.fs.number in
     let bytes = c.args.bytes.now in
     let f = found_file (latest old.lives) fs c.args.inode (c.args.offset + length bytes) c.in_ok-end.end (c.in_ok-end.ensures.exact c.requires.library) in
-    none_does (g.S.Store.types_of c.args.store.now) fs old c.args.inode f.0 c.args.offset bytes f.1 f.3 (nil_from_length c.args.bytes.now (eqb-true (length c.args.bytes.now) 0 (sym c.is_empty.ensures ∙ c.if-is_empty.true)))
+    none_does (g.S.Store.types_of c.args.store.now) fs old c.args.inode f.0 c.args.offset bytes f.1 (nil_from_length c.args.bytes.now (eqb-true (length c.args.bytes.now) 0 (sym c.is_empty.ensures ∙ c.if-is_empty.true)))
+    (after_in (g.S.Store.types_of c.args.store.now) fs c.args.inode c.args.offset bytes old) f.3
 
 pub returns-then-is_empty-clause-inodes : goal.returns-then-is_empty-clause-inodes
 returns-then-is_empty-clause-inodes g c = λ file e.
-    (0, overwrites_none (g.S.Store.state_of c.args.store.now) c.args.self.now.fs.number c.args.inode file c.args.offset c.args.bytes.now (looked (latest (g.S.Store.state_of c.args.store.now).lives) c.args.self.now.fs.number c.args.inode (c.args.offset + length c.args.bytes.now) file e).0, λ some. absurd (some (nil_from_length c.args.bytes.now (eqb-true (length c.args.bytes.now) 0 (sym c.is_empty.ensures ∙ c.if-is_empty.true)))))
+    let old = g.S.Store.state_of c.args.store.now in
+    let fs = c.args.self.now.fs.number in
+    let bytes = c.args.bytes.now in
+    let none = nil_from_length bytes (eqb-true (length bytes) 0 (sym c.is_empty.ensures ∙ c.if-is_empty.true)) in
+    let is = (looked (latest old.lives) fs c.args.inode (c.args.offset + length bytes) file e).0 in
+    (overwrites_none (g.S.Store.types_of c.args.store.now) fs old c.args.inode file c.args.offset bytes is none, λ some. absurd (some none))
 
 pub returns-in-Some-clause-answers : goal.returns-in-Some-clause-answers
 returns-in-Some-clause-answers g c =
@@ -78,7 +85,8 @@ returns-in-None-clause-inodes g c =
     let b = first g (goal.at.returns-in-None-clause-inodes g c).After-write_parts-progress in
     let w = b.first.puts.wrote b.inode b.is in
     let x = c.raise_size.ensures.ends (g.S.Store.types_of c.args.store.now) (edits_of c.args.self.now.added) w.after c.write_parts-progress.ensures.types b.first.stage w.file b.first.given.1 in
-    write_inodes _ _ _ _ _ _ _ _ _ _ b c.in-None.is (g.S.Store.state_of c.raise_size.new.store) c.raise_size.result x.1
+    let acts = c.raise_size.ensures.order (g.S.Store.types_of c.args.store.now) (edits_of c.args.self.now.added) w.after c.write_parts-progress.ensures.types b.first.stage w.file in
+    write_inodes _ _ _ _ _ _ _ _ _ _ b c.in-None.is (g.S.Store.state_of c.raise_size.new.store) c.raise_size.result acts x.1
 
 pub returns-in-None-clause-keeps : goal.returns-in-None-clause-keeps
 returns-in-None-clause-keeps g c =
@@ -117,5 +125,5 @@ pub returns-in-None-clause-cuts : goal.returns-in-None-clause-cuts
 returns-in-None-clause-cuts g c =
     let b = first g (goal.at.returns-in-None-clause-cuts g c).After-write_parts-progress in
     let w = b.first.puts.wrote b.inode b.is in λ file there e grow made.
-    let x = shown _ _ _ _ _ _ _ _ _ _ b c.in-None.is file e grow there made in
+    let x = shown _ _ _ _ _ _ _ _ _ _ b _ (b.whole c.in-None.is) file e grow there made in
     c.raise_size.ensures.cuts (g.S.Store.types_of c.args.store.now) (edits_of c.args.self.now.added) w.after c.write_parts-progress.result.last there.0 c.write_parts-progress.ensures.types b.first.stage w.file x.0 refl x.1 x.2

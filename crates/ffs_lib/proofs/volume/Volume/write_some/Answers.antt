@@ -11,10 +11,11 @@ use Rattle.ffs_lib.specs.Outcomes.{IsRaised}
 use Rattle.ffs_lib.specs.Results.{OnlyChanges}
 use Rattle.ffs_lib.specs.Steps.{StopsAtHome}
 use Rattle.ffs_lib.specs.Volumes.{edits_of}
+use Rattle.ffs_lib.specs.WriteOrder.{ShowsWhole, after_in}
 use Rattle.ffs_lib.proofs.StagedWritten.{Begun, begun, count_none, count_refused, count_taken, fault_takes, found_file, none_takes, overwrites_none, same_taken, volume_of}
 use Rattle.ffs_lib.proofs.Tops.{never}
 use Rattle.ffs_lib.proofs.ValueWritten.{looked}
-use Rattle.ffs_lib.proofs.WrittenOrder.{none_order, refused_order, some_order_none, taken_order}
+use Rattle.ffs_lib.proofs.WrittenOrder.{none_order, none_shows, refused_order, shown, some_order_none, taken_order, taken_place}
 use Rattle.ffs_lib.proofs.volume.Volume.write_some.Goals as goal
 use Rattle.ffs_lib.proofs.volume.Volume.write_some.Goals.{After-write_parts-progress}
 
@@ -38,7 +39,7 @@ returns-in_err-end-clause-answers g c =
     let n = c.args.inode in
     let u = latest old.lives in
     let bytes = c.args.bytes.now in
-    fault_takes (g.S.Store.types_of c.args.store.now) fs (files_of u fs) n c.args.offset bytes (write_in u fs n (c.args.offset + length bytes)) (written (files_of u fs) n c.args.offset bytes) old old c.from_residual.result
+    fault_takes (g.S.Store.types_of c.args.store.now) fs (files_of u fs) (after_in (g.S.Store.types_of c.args.store.now) fs n c.args.offset bytes old) n c.args.offset bytes (write_in u fs n (c.args.offset + length bytes)) (written (files_of u fs) n c.args.offset bytes) old old c.from_residual.result
     (written_told u fs n c.args.offset bytes) (search rules)
 
 pub returns-in_err-end-clause-inodes : goal.returns-in_err-end-clause-inodes
@@ -50,11 +51,17 @@ returns-then-is_empty-clause-answers g c =
     let fs = c.args.self.now.fs.number in
     let bytes = c.args.bytes.now in
     let f = found_file (latest old.lives) fs c.args.inode (c.args.offset + length bytes) c.in_ok-end.end (c.in_ok-end.ensures.exact c.requires.library) in
-    none_takes (g.S.Store.types_of c.args.store.now) fs old c.args.inode f.0 c.args.offset bytes f.1 f.3 (nil_from_length c.args.bytes.now (eqb-true (length c.args.bytes.now) 0 (sym c.is_empty.ensures ∙ c.if-is_empty.true)))
+    none_takes (g.S.Store.types_of c.args.store.now) fs old c.args.inode f.0 c.args.offset bytes f.1 (nil_from_length c.args.bytes.now (eqb-true (length c.args.bytes.now) 0 (sym c.is_empty.ensures ∙ c.if-is_empty.true)))
+    (after_in (g.S.Store.types_of c.args.store.now) fs c.args.inode c.args.offset bytes old) f.3
 
 pub returns-then-is_empty-clause-inodes : goal.returns-then-is_empty-clause-inodes
 returns-then-is_empty-clause-inodes g c = λ file e.
-    (0, overwrites_none (g.S.Store.state_of c.args.store.now) c.args.self.now.fs.number c.args.inode file c.args.offset c.args.bytes.now (looked (latest (g.S.Store.state_of c.args.store.now).lives) c.args.self.now.fs.number c.args.inode (c.args.offset + length c.args.bytes.now) file e).0, (λ some. absurd (some refl), λ z some. absurd (some (nil_from_length c.args.bytes.now (eqb-true (length c.args.bytes.now) 0 (sym c.is_empty.ensures ∙ c.if-is_empty.true))))))
+    let old = g.S.Store.state_of c.args.store.now in
+    let fs = c.args.self.now.fs.number in
+    let bytes = c.args.bytes.now in
+    let none = nil_from_length bytes (eqb-true (length bytes) 0 (sym c.is_empty.ensures ∙ c.if-is_empty.true)) in
+    let is = (looked (latest old.lives) fs c.args.inode (c.args.offset + length bytes) file e).0 in
+    (overwrites_none (g.S.Store.types_of c.args.store.now) fs old c.args.inode file c.args.offset bytes is none, λ z some. absurd (some none))
 
 pub returns-then-taken-eq0-clause-answers : goal.returns-then-taken-eq0-clause-answers
 returns-then-taken-eq0-clause-answers g c =
@@ -158,4 +165,19 @@ returns-in-Err-clause-order g c =
     let same = same_taken _ _ _ _ _ _ _ _ _ _ b _ _ c.min.ensures c.saturating_sub-taken.ensures in
     let w = b.first.puts.wrote b.inode b.is in
     let acts = c.in-Err.ensures.order (g.S.Store.types_of c.args.store.now) (edits_of c.args.self.now.added) w.after c.write_parts-progress.ensures.types b.first.stage w.file in
-    refused_order _ _ _ _ _ _ _ _ _ _ b c.saturating_sub-taken.result same c.if-taken-eq0.false (g.S.Store.state_of c.raise_size.new.store) c.in-Err.fault acts c.none_taken-in-Err.result c.none_taken-in-Err.ensures.count
+    let ends = c.in-Err.ensures.ends (g.S.Store.types_of c.args.store.now) (edits_of c.args.self.now.added) w.after c.write_parts-progress.ensures.types b.first.stage w.file b.first.given.1 in
+    refused_order _ _ _ _ _ _ _ _ _ _ b c.saturating_sub-taken.result same c.if-taken-eq0.false (g.S.Store.state_of c.raise_size.new.store) c.in-Err.fault ends.1.1.1.0 acts c.none_taken-in-Err.result c.none_taken-in-Err.ensures.count
+
+pub returns-then-taken-eq0-clause-cuts : goal.returns-then-taken-eq0-clause-cuts
+returns-then-taken-eq0-clause-cuts g c = λ file there e made. none_shows c.none_taken.result c.none_taken.ensures.count (λ count. file_end file < c.args.offset + count → ShowsWhole there.0 (g.S.Store.state_of c.write_parts-progress.new.store))
+
+pub returns-in-Err-clause-cuts : goal.returns-in-Err-clause-cuts
+returns-in-Err-clause-cuts g c = λ file there e made. none_shows c.none_taken-in-Err.result c.none_taken-in-Err.ensures.count (λ count. file_end file < c.args.offset + count → ShowsWhole there.0 (g.S.Store.state_of c.raise_size.new.store))
+
+pub returns-in-Ok-clause-cuts : goal.returns-in-Ok-clause-cuts
+returns-in-Ok-clause-cuts g c =
+    let b = first g (goal.at.returns-in-Ok-clause-cuts g c).After-write_parts-progress in
+    let same = same_taken _ _ _ _ _ _ _ _ _ _ b _ _ c.min.ensures c.saturating_sub-taken.ensures in
+    let w = b.first.puts.wrote b.inode b.is in λ file there e made some grow.
+    let x = shown _ _ _ _ _ _ _ _ _ _ b _ (taken_place _ _ _ _ _ _ _ _ _ _ b _ same some) file e grow there made in
+    c.in-Ok.ensures.cuts (g.S.Store.types_of c.args.store.now) (edits_of c.args.self.now.added) w.after c.write_parts-progress.result.last there.0 c.write_parts-progress.ensures.types b.first.stage w.file x.0 refl x.1 x.2
