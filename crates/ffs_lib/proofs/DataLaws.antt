@@ -47,11 +47,10 @@ use Rattle.ffs_lib.proofs.Writing.{block_written, data_attached, data_written, d
 pub all_same : (old new : StoreState) (fs n : ℕ) → ((d : ℕ) → SameInode (latest old.lives) (latest new.lives) fs d) → old.next ≤ new.next → Puts old new fs n 0 []
 all_same old new fs n same later =
     let u = latest old.lives in
-    let w = latest new.lives in
     record {
       wrote = λ inode is. record {
         after = inode;
-        file = is ∙ sym (file_same u w fs n (same n).0);
+        file = is ∙ sym (file_same u (latest new.lives) fs n (same n).0);
         size = refl;
         marks = (refl, refl);
         each = λ at low. ((same n).1 inode (file_from u fs n inode is)).1 at low ∙ written_none (byte_of u inode) 0 at;
@@ -405,8 +404,7 @@ module _ (T : Types) (fs : ℕ) (array : ℕ → Option ℕ) (zeroth first : Sto
   apart : (c k : ℕ) → Under T (latest zeroth.lives) fs c k → c ≢ block
   apart c k r e =
       let y = latest_reached T zeroth s.keeps.consistent fs s.few c k r in
-      let m = started T zeroth first fs 5 zero_block (block, number) done in
-      none-some y.life (sym m.free ∙ (ap (life_at zeroth.lives) (sym e) ∙ y.alive))
+      none-some y.life (sym (started T zeroth first fs 5 zero_block (block, number) done).free ∙ (ap (life_at zeroth.lives) (sym e) ∙ y.alive))
 
   home_apart : found.block ≢ block
   home_apart =

@@ -49,9 +49,8 @@ module _ (T : Types) (fs : ℕ) (array : ℕ → Option ℕ) (old : StoreState) 
     (bytes name : List ℕ) (b : IsEntry bytes n name) (block place : ℕ) (gap : IsGap old found block place) (first : Some (Entry block place) ≡ room_in (latest old.lives) found.inode) where
   pub enters_short : ShortEdit T old fs block (edit_at (32 * place) bytes [] [] (Some e))
   enters_short =
-      let stands = dir.is.stands in
       entry_short T old (Some e) (can_edit s m.given) fs s.few block place
-      (under_direct T library_layout (library_reads T s.library) (latest old.lives) fs (library_layout.home d).0 found.block found.place block stands.inodes gap.has) gap.long gap.few bytes b.whole
+      (under_direct T library_layout (library_reads T s.library) (latest old.lives) fs (library_layout.home d).0 found.block found.place block dir.is.stands.inodes gap.has) gap.long gap.few bytes b.whole
 
   pub enters : (new : StoreState) (entry : ℕ) → propose_of T old fs block (edit_at (32 * place) bytes [] [] (Some e)) ≡ Ok (entry, new) →
       Stage T fs array new × (Entered (latest old.lives) (latest new.lives) fs d name n × IsTrue (was_given new (Some entry)))
@@ -303,8 +302,7 @@ module _ (T : Types) (fs : ℕ) (array : ℕ → Option ℕ) (zeroth first : Sto
         let only = started_holds T library_layout (library_reads T s.library) fs s.few array zeroth first s.keeps fs 4 zero_block (block, number) done in
         let same = same_root w fs e.root root e.is_root is_root in
         let apart : block ≢ root = λ z.
-        let one = same_root w fs top.root root top.is_root is_root in
-        top.there (sym top.points ∙ (ap (λ r. library_layout.pointer (w r) 0) one ∙ (ap (λ m. library_layout.pointer m 0) (ap w (sym z) ∙ bare) ∙ zeros_pointer 0))) in (
+        top.there (sym top.points ∙ (ap (λ r. library_layout.pointer (w r) 0) (same_root w fs top.root root top.is_root is_root) ∙ (ap (λ m. library_layout.pointer m 0) (ap w (sym z) ∙ bare) ∙ zeros_pointer 0))) in (
           attached T s.library fs s.few array first second point_stage.keeps root index block point_free.first entry is_root e small top only bare there put_done,
           λ x.
               let first_same = none_touched T s.library zeroth h fs s.few w block 6 touched (λ z. omega (arith, z)) (λ z. omega (arith, z)) (λ z. omega (arith, z)) (λ z. omega (arith, z)) x in

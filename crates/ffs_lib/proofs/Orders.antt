@@ -63,15 +63,13 @@ then_order T fs block edit rest old first new entry done (Err fault) o =
 
 pub none_order : {A : Type 0} (T : Types) (fs : ℕ) (edits : Edits) (old new : StoreState) → new ≡ old → (fault : FfsFault) (result : Result A FfsFault) → IsErrAnd result (λ other. other ≡ fault) → Orders T fs edits old new result
 none_order {A} T fs edits old new e fault result from =
-    let p = err_from_is_err_and result from in
-    subst (λ (r : Result A FfsFault). Orders T fs edits old new r) (sym p.1) (first_none T fs edits old new e)
+    subst (λ (r : Result A FfsFault). Orders T fs edits old new r) (sym (err_from_is_err_and result from).1) (first_none T fs edits old new e)
 
 -- a refusal that is handed on
 pub order_err : {B : Type 0} (T : Types) (fs : ℕ) (edits : Edits) (old new : StoreState) → FirstMade T fs edits old new → (fault : FfsFault) (result : Result B FfsFault) → IsErrAnd result (λ other. other ≡ fault) →
     Orders T fs edits old new result
 order_err {B} T fs edits old new o fault result from =
-    let p = err_from_is_err_and result from in
-    subst (λ (r : Result B FfsFault). Orders T fs edits old new r) (sym p.1) o
+    subst (λ (r : Result B FfsFault). Orders T fs edits old new r) (sym (err_from_is_err_and result from).1) o
 
 -- A link is taken
 
@@ -208,8 +206,7 @@ linked_is content fs n home place inode bytes e f i is =
 
 pub order_in : {A : Type 0} (T : Types) (fs : ℕ) (parts : Parts) (old new : StoreState) → StopsIn T fs parts old new → (fault : FfsFault) (result : Result A FfsFault) → IsErrAnd result (λ other. other ≡ fault) → InOrder T fs parts old new result
 order_in {A} T fs parts old new o fault result from =
-    let p = err_from_is_err_and result from in
-    subst (λ (r : Result A FfsFault). InOrder T fs parts old new r) (sym p.1) o
+    subst (λ (r : Result A FfsFault). InOrder T fs parts old new r) (sym (err_from_is_err_and result from).1) o
 
 -- all parts of a `replace`
 pub all_parts : (T : Types) (fs : ℕ) (from to : Slot) (old first second third new : StoreState) → made_of T fs (linked_edits (latest old.lives) fs from.inode) old ≡ Ok first → made_of T fs (turned_edits to from.inode old.next) first ≡ Ok second →
@@ -260,8 +257,7 @@ grow_act T fs ty home bytes edit block number old first new done (Err fault) p =
 
 pub act_err : {A : Type 0} (T : Types) (fs : ℕ) (action : Action) (old new : StoreState) → StopsAct T fs action old new → (P : A → Type 0) (fault : FfsFault) (result : Result A FfsFault) → IsErrAnd result (λ other. other ≡ fault) → Acts T fs action old new result × IfOk result P
 act_err {A} T fs action old new o P fault result from =
-    let p = err_from_is_err_and result from in
-    subst (λ (r : Result A FfsFault). Acts T fs action old new r × IfOk r P) (sym p.1) (o, tt)
+    subst (λ (r : Result A FfsFault). Acts T fs action old new r × IfOk r P) (sym (err_from_is_err_and result from).1) (o, tt)
 
 pub ok_same : (a b : ℕ) → ◌≡◌ {A = Result ℕ FfsFault} (Ok a) (Ok b) → a ≡ b
 ok_same a b e = cc
@@ -276,8 +272,7 @@ home_begun T fs array zeroth first s block number bytes done d home at =
 
 pub names_err : (T : Types) (fs d n : ℕ) (name : List ℕ) (old new : StoreState) → StopsAct T fs (Makes (linked_edits (latest old.lives) fs n)) old new → (fault : FfsFault) (result : Result ℕ FfsFault) → IsErrAnd result (λ other. other ≡ fault) → NamesInOrder T fs d n name old new result
 names_err T fs d n name old new o fault result from =
-    let p = err_from_is_err_and result from in
-    subst (NamesInOrder T fs d n name old new) (sym p.1) (inl o)
+    subst (NamesInOrder T fs d n name old new) (sym (err_from_is_err_and result from).1) (inl o)
 
 pub names_then : (T : Types) (fs d n : ℕ) (name : List ℕ) (old first new : StoreState) → made_of T fs (linked_edits (latest old.lives) fs n) old ≡ Ok first → (result : Result ℕ FfsFault) →
     Acts T fs (entered_action (latest first.lives) fs d (entry_of n name) old.next) first new result × IfOk result (λ e. new.next ≡ e + 1) → NamesInOrder T fs d n name old new result

@@ -54,8 +54,7 @@ root_from content fs r e =
     let s = slot (content 0) fs in
     let x = not_first (s.0 == 0) NoEntry (if s.1 == 3 then Ok s.0 else Err NoEntry) r e in
     let y = only_first (s.1 == 3) s.0 r NoEntry x.1 in
-    let three = eqb-true s.1 3 y.0 in
-    record { at = λ i. (y.1 i, three i); there = λ z. eqb-false s.0 0 x.0 (y.1 ∙ z) }
+    record { at = λ i. (y.1 i, (eqb-true s.1 3 y.0) i); there = λ z. eqb-false s.0 0 x.0 (y.1 ∙ z) }
 
 pub block_from : (content : ℕ → List ℕ) (fs j b : ℕ) → j < 16 → Ok b ≡ inode_block_in content fs j → IsInodes library_layout content fs j b
 unfolding inode_block_in

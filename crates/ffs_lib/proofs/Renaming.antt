@@ -159,7 +159,6 @@ can_move content fs d name other new_name entry e =
     let i = passed (inode_in content fs o.0.inode) (if_linkable content same b.0 o.0) entry f.1 in
     let linkable = linkable_is content same b.0 o.0 entry i.0 i.2 in
     let one : o.0 ≡ entry = linkable.0 in
-    let names = and_parts (is_name name) (is_name new_name) n.0 in
     let modes = and_parts (inode_mode a.0 == 2) (inode_mode b.0 == 2) c.0 in
     record {
       from = a.0;
@@ -168,7 +167,7 @@ can_move content fs d name other new_name entry e =
       is_to = directory_is b.0 (eqb-true (inode_mode b.0) 2 modes.1) ∙ in_directory content fs other (Ok b.0) b.1;
       first = ap (λ s. Some s) (sym one) ∙ is_some_ok (first_named content a.0 name) o.0 o.1;
       free = none_from (first_named content b.0 new_name) f.0;
-      good = names.0;
+      good = (and_parts (is_name name) (is_name new_name) n.0).0;
       own = i.0;
       is_own = i.1 ∙ ap (λ (s : Slot). inode_in content fs s.inode) one;
       few = linkable.1;

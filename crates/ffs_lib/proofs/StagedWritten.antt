@@ -280,8 +280,7 @@ module _ (T : Types) (fs : ℕ) (array : ℕ → Option ℕ) (old middle : Store
 
   same_part : taken ≢ 0 → take progress.done pads ≡ padded (file_end inode) offset part
   same_part some =
-      let long = length-replicate {A = ℕ} (offset - file_end inode) 0 in
-      ap (λ x. take x pads) (counted some ∙ ap (λ x. x + taken) (sym long)) ∙ take-append-add (replicate (offset - file_end inode) 0) bytes taken
+      ap (λ x. take x pads) (counted some ∙ ap (λ x. x + taken) (sym (length-replicate {A = ℕ} (offset - file_end inode) 0))) ∙ take-append-add (replicate (offset - file_end inode) 0) bytes taken
 
   abbrev after : List ℕ
   after = (p.puts.wrote inode is).after

@@ -161,9 +161,7 @@ module _ (entry : Slot) (name : List ℕ) (front back all : List Listed) (was : 
       go : (t : Bool) → (entry.block == b) && (entry.place == p) ≡ t → there_in b p (front ++ (entry, name) ∷ back) ≡ (if t then Some (name, entry.inode) else there_in b p all)
       go true e =
           let k = parts_true (entry.block == b) (entry.place == p) e in
-          let eb = eqb-true entry.block b k.0 in
-          let ep = eqb-true entry.place p k.1 in
-          ap (λ x. there_in x p (front ++ (entry, name) ∷ back)) (sym eb) ∙ (ap (λ x. there_in entry.block x (front ++ (entry, name) ∷ back)) (sym ep) ∙ more_here)
+          ap (λ x. there_in x p (front ++ (entry, name) ∷ back)) (sym (eqb-true entry.block b k.0)) ∙ (ap (λ x. there_in entry.block x (front ++ (entry, name) ∷ back)) (sym (eqb-true entry.place p k.1)) ∙ more_here)
       go false e = more_apart b p (λ f g. cc (sym (both_true (entry.block == b) (entry.place == p) (eq-eqb entry.block b f) (eq-eqb entry.place p g)) ∙ e))
 
 -- One less
@@ -173,9 +171,8 @@ there_without entry b p all = go ((entry.block == b) && (entry.place == p)) refl
     apart : (e : Listed) → (entry.block == b) && (entry.place == p) ≡ false → stands_there b p e ≡ true → is_at entry e.0 ≡ false
     apart e f g =
         let k = parts_true (e.0.block == b) (e.0.place == p) g in
-        let eb = eqb-true e.0.block b k.0 in
         let ep = eqb-true e.0.place p k.1 in
-        ap (λ x. (x == entry.block) && (e.0.place == entry.place)) eb ∙ (ap (λ x. (b == entry.block) && (x == entry.place)) ep ∙ turned (cases_eq entry.block b) (cases_eq entry.place p))
+        ap (λ x. (x == entry.block) && (e.0.place == entry.place)) (eqb-true e.0.block b k.0) ∙ (ap (λ x. (b == entry.block) && (x == entry.place)) ep ∙ turned (cases_eq entry.block b) (cases_eq entry.place p))
       where
         turned : (entry.block ≡ b) ⊎ (entry.block ≢ b) → (entry.place ≡ p) ⊎ (entry.place ≢ p) → (b == entry.block) && (p == entry.place) ≡ false
         turned (inr away) c = ap (λ t. t && (p == entry.place)) (ne_eqb b entry.block (λ z. away (sym z)))

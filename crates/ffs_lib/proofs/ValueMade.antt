@@ -167,8 +167,7 @@ module _ (v w : ℕ → List ℕ) (fs d n : ℕ) (name inode : List ℕ) (m : Ha
       (fields_of m.after).direct ≡ (fields_of inode).direct → ⊥
   pointer_new at e index points set equal =
       let found : room_in v inode ≡ Some (room_of v inode at) = room_is v inode ∙ ap (option_map (room_of v inode)) (sym e) in
-      let known = room_known v inode at e in
-      new_one (direct_in inode at.0 == 0) refl known.0 (same_Some (Pointer index) (room_of v inode at) (points ∙ found))
+      new_one (direct_in inode at.0 == 0) refl (room_known v inode at e).0 (same_Some (Pointer index) (room_of v inode at) (points ∙ found))
     where
       new_one : (t : Bool) → (direct_in inode at.0 == 0) ≡ t → at.0 < 12 → Pointer index ≡ (if t then Pointer at.0 else InBlock (direct_in inode at.0) at.1) → ⊥
       new_one false z low same = cc same

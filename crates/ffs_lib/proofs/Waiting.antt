@@ -185,11 +185,10 @@ module _ (T : Types) (zeroth first : StoreState) (h0 : IsConsistent T zeroth) (f
 
     reach : (k : Choice) → IsCut news k → length g.life.pending < k b → TakesAny first.lives k last.edit → IsFullAt news k at → (c : ℕ) (l : Life) (t : BlockState) → life_at news c ≡ Some l → Contains l.pending t → from ≤ t.entry → IsFullAt news k c
     reach k cut lt any full =
-        let cut1 = cut_then T first new h fs b edit entry done k cut in
         let full1 = full_then T first new h fs b edit entry done k at full in
         full_by T first new h fs b edit entry done k from lt (λ c l t ne e i lo. elim (begun_was c l e) [
           | inl p ↦ subst (IsFullAt first.lives k) (sym p.0) (begun_taken k (took_adds T first h b g.life state_new g.own.alive refl k cut lt block ty adds))
-          | inr old ↦ begun_full_forth k c (not_here c l old) (w.all k (begun_cut k cut1) (begun_full k at full1) (begun_any k last.edit any) c l t old i lo)
+          | inr old ↦ begun_full_forth k c (not_here c l old) (w.all k (begun_cut k (cut_then T first new h fs b edit entry done k cut)) (begun_full k at full1) (begun_any k last.edit any) c l t old i lo)
         ])
 
     turn : (next : Last) → Waits at from news next → Waits at from new.lives next

@@ -24,15 +24,13 @@ returns-in_err-block-clause-ends g c = λ T array inode e s is given.
 pub returns-then-block-eq0-clause-ends : goal.returns-then-block-eq0-clause-ends
 returns-then-block-eq0-clause-ends g c = λ T array inode e s is given.
     let old = g.S.Store.state_of c.args.store.now in
-    let found = c.in_ok-file.file in
-    let same = same_ok found.inode inode (c.in_ok-file.ensures.exact (subst IsLibrary (sym e) s.library) ∙ sym is) in
+    let same = same_ok c.in_ok-file.file.inode inode (c.in_ok-file.ensures.exact (subst IsLibrary (sym e) s.library) ∙ sym is) in
     let hole : file_block (latest old.lives) inode c.args.index ≡ 0 = ap (λ (m : List ℕ). file_block (latest old.lives) m c.args.index) (sym same) ∙ (sym c.in_ok-block.ensures.block ∙ c.if-block-eq0.true) in
     c.add_block.ensures.ends T array inode e s is hole (λ far some. ap (λ (m : List ℕ). length (latest old.lives (word_at m 56))) (sym same) ∙ c.in_ok-block.ensures.long far (λ z. some (ap (λ (m : List ℕ). word_at m 56) (sym same) ∙ z))) given
 
 pub returns-in_err-read_block-clause-ends : goal.returns-in_err-read_block-clause-ends
 returns-in_err-read_block-clause-ends g c = λ T array inode e s is given.
-    let lib = subst IsLibrary (sym e) s.library in
-    absurd (not_ok (c.in_err-read_block.ensures.reached 2 (c.in_ok-block.ensures.reached lib c.if-block-eq0.false)))
+    absurd (not_ok (c.in_err-read_block.ensures.reached 2 (c.in_ok-block.ensures.reached (subst IsLibrary (sym e) s.library) c.if-block-eq0.false)))
 
 pub returns-in_err-edit-clause-ends : goal.returns-in_err-edit-clause-ends
 returns-in_err-edit-clause-ends g c = λ T array inode e s is given.
