@@ -36,7 +36,6 @@ use Rattle.ffs_lib.proofs.Edited.{file_data, kept, pointed, pointed_data, pointe
 use Rattle.ffs_lib.proofs.Fields.{one_more, same_blocks}
 use Rattle.ffs_lib.proofs.Laws.{attaches, can_edit, finishes, gives_of, home_of}
 use Rattle.ffs_lib.proofs.Owners.{Stands, block_at, direct_block, pointers_at, stands_from, where_block}
-use Rattle.ffs_lib.proofs.Orders.{ok_same}
 use Rattle.ffs_lib.proofs.Same.{Touches, begun, begun_some, block_same, edited, none_touched, reached_before, same_on}
 use Rattle.ffs_lib.proofs.Short.{begun_addable}
 use Rattle.ffs_lib.proofs.Undoing.{at_ok, forgotten_is, told_lives, undone_same}
@@ -299,7 +298,7 @@ module _ (T : Types) (fs : ℕ) (array : ℕ → Option ℕ) (zeroth first : Sto
     home_waits_on home next kept last same = record {
       home = home_second;
       waits = λ b from low here w. home_waits T zeroth first s.keeps.consistent fs ty bytes block number done second begun_stage.keeps.consistent c edit entry put_done adds b from last (sym same) w
-          (ok_same b c (here ∙ sym home)) (next last) (kept last);
+          (same_ok b c (here ∙ sym home)) (next last) (kept last);
       newer = newer_second;
       later = later_second;
     }

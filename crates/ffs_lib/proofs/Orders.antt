@@ -3,18 +3,17 @@ use Rattle.std.proofs.Common.{◌≡◌, ◌≢◌, ℕ, suc, ◌+◌, ◌-◌, 
 use Rattle.std.specs.Prelude.{IfOk, IsErrAnd, ◌==◌, ◌||◌, not, nat_lt, if◌then◌else◌}
 use Rattle.std.proofs.lemmas.Bool.{cases_eq, le-ltb, lt-ltb, ne_eqb}
 use Rattle.std.proofs.lemmas.Result.{err_from_is_err_and}
-use Rattle.xn_model.specs.declared.refusal.Refusal.{Refusal}
 use Rattle.std.specs.Int.{w16, to_le_bytes}
 use Rattle.xn_model.specs.Lists.{put}
 use Rattle.xn_model.specs.Types.{Types}
 use Rattle.xn_model.specs.Root.{word_at}
-use Rattle.xn_model.specs.Lives.{Life, StoreState}
-use Rattle.xn_model.specs.Results.{result_and_then, unless}
-use Rattle.xn_model.specs.Calls.{Edit, accepts, init_of, edited, own_life, propose_at, propose_of, propose_refusal}
+use Rattle.xn_model.specs.Lives.{StoreState}
+use Rattle.xn_model.specs.Results.{result_and_then}
+use Rattle.xn_model.specs.Calls.{Edit, init_of, propose_of}
 use Rattle.xn_model.specs.Rules.{IsConsistent}
 use Rattle.ffs_model.specs.Cuts.{Under, latest}
 use Rattle.ffs_model.specs.Library.{IsLibrary, inode_links, library_layout}
-use Rattle.ffs_model.proofs.ForCallers.{library_reads, one_type, proposed_next, proposed_others, under_direct}
+use Rattle.ffs_model.proofs.ForCallers.{library_reads, one_type, proposed, proposed_next, proposed_others, under_direct}
 use Rattle.ffs_lookup.specs.declared.fault.FfsFault.{FfsFault}
 use Rattle.ffs_lookup.specs.declared.places.Slot.{Slot}
 use Rattle.ffs_lookup.specs.declared.places.Room.{Room}
@@ -33,19 +32,7 @@ use Rattle.ffs_lib.proofs.Same as same
 
 -- the number that the store gives
 pub number_is : (T : Types) (old : StoreState) (fs b : ℕ) (edit : Edit) (entry : ℕ) (new : StoreState) → propose_of T old fs b edit ≡ Ok (entry, new) → entry ≡ old.next
-number_is T old fs b edit entry new done = at (own_life old fs b) done
-  where
-    number : Result (ℕ × StoreState) Refusal → ℕ
-    number (Ok x) = x.0
-    number (Err refusal) = old.next
-
-    by : (refusal : Option Refusal) (x : StoreState) → unless {A = ℕ × StoreState} refusal (Ok (old.next, x)) ≡ Ok (entry, new) → entry ≡ old.next
-    by None x e = sym (ap number e)
-    by (Some refusal) x e = absurd (cc e)
-
-    at : (own : Result Life Refusal) → result_and_then (propose_at T old fs b edit) own ≡ Ok (entry, new) → entry ≡ old.next
-    at (Ok l) e = by (propose_refusal T old fs b edit l) (accepts old b (edited old.next fs edit l)).1 e
-    at (Err refusal) e = absurd (cc e)
+number_is T old fs b edit entry new done = (proposed T old new fs b edit entry done).entry_is
 
 -- one edit, and one more at the start; or none
 pub one_order : (T : Types) (fs block : ℕ) (edit : Edit) (old new : StoreState) (result : Result ℕ FfsFault) → Proposed T fs block edit old new result → Orders T fs ((block, edit) ∷ []) old new result
@@ -258,9 +245,6 @@ grow_act T fs ty home bytes edit block number old first new done (Err fault) p =
 pub act_err : {A : Type 0} (T : Types) (fs : ℕ) (action : Action) (old new : StoreState) → StopsAct T fs action old new → (P : A → Type 0) (fault : FfsFault) (result : Result A FfsFault) → IsErrAnd result (λ other. other ≡ fault) → Acts T fs action old new result × IfOk result P
 act_err {A} T fs action old new o P fault result from =
     subst (λ (r : Result A FfsFault). Acts T fs action old new r × IfOk r P) (sym (err_from_is_err_and result from).1) (o, tt)
-
-pub ok_same : (a b : ℕ) → ◌≡◌ {A = Result ℕ FfsFault} (Ok a) (Ok b) → a ≡ b
-ok_same a b e = cc
 
 -- the block of an inode is as before where another block began its life
 pub home_begun : (T : Types) (fs : ℕ) (array : ℕ → Option ℕ) (zeroth first : StoreState) (s : Stage T fs array zeroth) (block number : ℕ) (bytes : List ℕ) → init_of T zeroth fs 2 bytes ≡ Ok ((block, number), first) → (d home : ℕ) →

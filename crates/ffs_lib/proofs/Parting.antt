@@ -4,13 +4,14 @@ use Rattle.std.specs.Prelude.{IfErr, IfOk, IfSome, is_some, min, nat_lt, if◌th
 use Rattle.std.proofs.lemmas.List.{drop-append-le, drop-replicate, get_or-drop, get_or-replicate, get_or-take, length-drop, length-replicate, length-take-le, take-append-le, take-replicate}
 use Rattle.std.proofs.lemmas.Bool.{cases_lt, le-ltb, lt-ltb}
 use Rattle.std.proofs.Math.Seq.{drop-append-add, take-add}
-use Rattle.xn_model.specs.declared.refusal.Refusal.{Refusal}
 use Rattle.xn_model.specs.Types.{Types}
 use Rattle.xn_model.specs.Rules.{IsConsistent}
 use Rattle.xn_model.specs.Lives.{StoreState}
 use Rattle.ffs_model.specs.Cuts.{latest}
 use Rattle.ffs_model.proofs.ForCallers.{given_later}
+use Rattle.xn_model.proofs.ForCallers.{same_ok as same_run}
 use Rattle.ffs_lookup.specs.declared.fault.FfsFault.{FfsFault}
+use Rattle.ffs_lookup.proofs.ForCallers.{same_ok}
 use Rattle.ffs_lookup.specs.Newest.{byte_in, byte_of, file_block, file_end, file_in, mapped}
 use Rattle.ffs_lib.specs.Results.{WroteBytes, byte_written}
 use Rattle.ffs_lib.specs.Steps.{Ends, Stage, Stops}
@@ -61,16 +62,10 @@ zeros_puts state fs n inode is index at count fit none =
     record {
       wrote = λ other i.
           let wrote : WroteBytes v v fs n inode (512 * index + at) (replicate count 0) = record { after = inode; file = is; size = refl; marks = (refl, refl); each = zeros_stand v inode index at count fit none } in
-          subst (λ (x : List ℕ). WroteBytes v v fs n x (512 * index + at) (replicate count 0)) (ok_one inode other (is ∙ sym i)) wrote;
+          subst (λ (x : List ℕ). WroteBytes v v fs n x (512 * index + at) (replicate count 0)) (same_ok inode other (is ∙ sym i)) wrote;
       others = λ d ne. (refl, λ x i. (refl, λ at low. refl), λ some few. refl);
       later = omega arith;
     }
-  where
-    ok_one : (a b : List ℕ) → ◌≡◌ {A = Result (List ℕ) FfsFault} (Ok a) (Ok b) → a ≡ b
-    ok_one a b e = cc
-
-pub ran_same : (a b : StoreState × Last) → ◌≡◌ {A = Result (StoreState × Last) Refusal} (Ok a) (Ok b) → a ≡ b
-ran_same a b e = cc
 
 -- the next part
 pub record PartMade (T : Types) (fs : ℕ) (old new : StoreState) (n end offset : ℕ) (bytes : List ℕ) (at : ℕ) (part : List ℕ) (last next : Last) : Type 0 where
@@ -215,7 +210,7 @@ module _ (T : Types) (fs : ℕ) (array : ℕ → Option ℕ) (zeroth first secon
         ] in
         let ran = ap (λ (to : ℕ). parts_made T fs n end offset bytes (places (min end offset) offset to) (zeroth, no_last)) sum ∙ made_next last x in
         let calm = calm_next last x (omega (arith, sum)) in
-        subst (λ (y : StoreState × Last). IsConsistent T y.0 × WaitsOn fs n y.0 second no_last last) (ran_same (second, last) there (sym ran ∙ made)) (stage.keeps.consistent, subst (λ (l : Last). WaitsOn fs n second second no_last l) (sym calm) (waits_same fs n second no_last))
+        subst (λ (y : StoreState × Last). IsConsistent T y.0 × WaitsOn fs n y.0 second no_last last) (same_run (second, last) there (sym ran ∙ made)) (stage.keeps.consistent, subst (λ (l : Last). WaitsOn fs n second second no_last l) (sym calm) (waits_same fs n second no_last))
   ]
 
   pub parts_by : (result : Result Last FfsFault) → MakesPart T fs array first second n end offset bytes at part progress.last result →
@@ -273,7 +268,7 @@ parts_none T fs array state n end offset bytes s = record {
       let start : ℕ = min end offset in
       let same : first_past end offset ≡ start = omega (arith, le) in
       let none = ap (λ (ys : List ℕ). parts_made T fs n end offset bytes ys (state, no_last)) (ap (places start offset) same ∙ places_none offset start) in
-      subst (λ (y : StoreState × Last). IsConsistent T y.0 × WaitsOn fs n y.0 state no_last no_last) (ran_same (state, no_last) there (sym none ∙ made)) (s.keeps.consistent, waits_same fs n state no_last);
+      subst (λ (y : StoreState × Last). IsConsistent T y.0 × WaitsOn fs n y.0 state no_last no_last) (same_run (state, no_last) there (sym none ∙ made)) (s.keeps.consistent, waits_same fs n state no_last);
   given = (refl, refl);
   ended = tt;
 }

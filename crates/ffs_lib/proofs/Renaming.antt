@@ -11,7 +11,7 @@ use Rattle.ffs_lookup.specs.declared.fault.FfsFault.TheVariants.{BadName, Exists
 use Rattle.ffs_lookup.specs.declared.places.Slot.{Slot}
 use Rattle.ffs_lookup.specs.Newest.{and_then, directory_in, first_named, has_room, if_linkable, if_movable, if_unnamed, inode_in, rename_in}
 use Rattle.ffs_lookup.proofs.ForCallers.{directory_is, in_directory, same_ok}
-use Rattle.ffs_lib.proofs.Owners.{not_first, only_first, passed}
+use Rattle.ffs_lib.proofs.Owners.{not_first, only_first, passed, then_first}
 
 -- an option that was there, or was not
 pub is_some_ok : {A : Type 0} (o : Option A) (x : A) → ◌≡◌ {A = Result A FfsFault} (Ok x) (ok_or o NoEntry) → Some x ≡ o
@@ -129,10 +129,6 @@ pub record CanMove (content : ℕ → List ℕ) (fs d : ℕ) (name : List ℕ) (
   pub is_own : Ok own ≡ inode_in content fs entry.inode
   pub few : inode_links own ≢ 65535
   pub room : has_room content to ≡ true
-
-pub then_first : {A : Type 0} (t : Bool) (r : Result A FfsFault) (fault : FfsFault) (y : A) → Ok y ≡ (if t then r else Err fault) → (t ≡ true) × (Ok y ≡ r)
-then_first true r fault y e = (refl, e)
-then_first false r fault y e = absurd (cc e)
 
 pub none_from : {A : Type 0} (o : Option A) → is_some o ≡ false → None ≡ o
 none_from None e = refl

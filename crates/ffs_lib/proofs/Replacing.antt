@@ -11,8 +11,8 @@ use Rattle.ffs_lookup.specs.declared.places.Slot.{Slot}
 use Rattle.ffs_lookup.specs.Newest.{and_then, directory_in, file_in, first_named, inode_in}
 use Rattle.ffs_lookup.proofs.ForCallers.{directory_is, in_directory, same_ok}
 use Rattle.ffs_lib.specs.Replacing.{directories_in, entries_named, files_in, if_directories, is_full_for, replace_in}
-use Rattle.ffs_lib.proofs.Owners.{not_first, passed}
-use Rattle.ffs_lib.proofs.Renaming.{is_some_ok, then_first}
+use Rattle.ffs_lib.proofs.Owners.{not_first, passed, then_first}
+use Rattle.ffs_lib.proofs.Renaming.{is_some_ok}
 
 -- Both directories
 

@@ -5,7 +5,7 @@ use Rattle.std.proofs.lemmas.Bool.{le-ltb, lt-ltb}
 use Rattle.xn_model.specs.declared.refusal.Refusal.{Refusal}
 use Rattle.xn_model.specs.Types.{Types}
 use Rattle.xn_model.specs.Lives.{StoreState}
-use Rattle.xn_model.specs.Results.{result_and_then}
+use Rattle.xn_model.proofs.ForCallers.{same_ok, then_ok}
 use Rattle.xn_model.specs.Calls.{init_of}
 use Rattle.ffs_lookup.specs.declared.fault.FfsFault.{FfsFault}
 use Rattle.ffs_lookup.specs.Newest.{file_end}
@@ -15,11 +15,7 @@ use Rattle.ffs_lib.specs.Steps.{skipped}
 use Rattle.ffs_lib.specs.WriteOrder.{TellsIn, after_at, last_at, no_last, parts_at, parts_made, places, stop_among, stop_or, stops_at}
 use Rattle.ffs_lib.specs.declared.data.Last.{Last}
 use Rattle.ffs_lib.proofs.Counted.{act_next, edits_next, parts_later}
-use Rattle.ffs_lib.proofs.Parting.{ran_same}
 use Rattle.ffs_lib.proofs.Undoing.{told_lives}
-
-ok_one : (a b : StoreState) → ◌≡◌ {A = Result StoreState Refusal} (Ok a) (Ok b) → a ≡ b
-ok_one a b e = cc
 
 -- no numbers are taken back
 pub acts_later : {A : Type 0} (T : Types) (fs : ℕ) (action : Action) (old new : StoreState) (result : Result A FfsFault) → Acts T fs action old new result → old.next ≤ new.next
@@ -37,21 +33,15 @@ acts_later T fs (Attaches ty bytes home edit) old new (Err fault) a = elim a [
 -- fewer numbers are given where a part is refused than where it is made
 pub told_before : (T : Types) (fs : ℕ) (parts : orders.Parts) (old new other : StoreState) (fault : FfsFault) → TellsIn T fs parts old new fault → made_by T fs parts old ≡ Ok other → new.next < other.next
 told_before T fs [] old new other fault x e = absurd x
-told_before T fs (first ∷ rest) old new other fault x e = go (λ middle y m. told_before T fs rest middle new other fault y m) (act_of T fs (first old) old) refl e
-  where
-    go : ((middle : StoreState) → TellsIn T fs rest middle new fault → made_by T fs rest middle ≡ Ok other → new.next < other.next) → (r : Result StoreState Refusal) → act_of T fs (first old) old ≡ r →
-        result_and_then (made_by T fs rest) r ≡ Ok other → new.next < other.next
-    go more (Ok middle) a m = elim x [
+told_before T fs (first ∷ rest) old new other fault t e =
+    let x = then_ok (made_by T fs rest) (act_of T fs (first old) old) other e in elim t [
       | inl y ↦
           let less = (told_lives T fs (first old) old new fault y).fewer in
-          let next = act_next T fs (first old) old middle a in
-          let last = parts_later T fs rest middle other m in
+          let next = act_next T fs (first old) old x.0 x.1 in
+          let last = parts_later T fs rest x.0 other x.2 in
           omega (arith, less, next, last)
-      | inr y ↦
-          let same : y.0 ≡ middle = ok_one y.0 middle (sym y.1 ∙ a) in
-          more middle (subst (λ (s : StoreState). TellsIn T fs rest s new fault) same y.2) m
+      | inr y ↦ told_before T fs rest x.0 new other fault (subst (λ (s : StoreState). TellsIn T fs rest s new fault) (same_ok y.0 x.0 (sym y.1 ∙ x.1)) y.2) x.2
     ]
-    go more (Err refusal) a m = absurd (cc m)
 
 module _ (T : Types) (fs n end offset : ℕ) (bytes : List ℕ) (limit : ℕ) where
   abbrev run : List ℕ → StoreState × Last → Result (StoreState × Last) Refusal
@@ -67,26 +57,21 @@ module _ (T : Types) (fs n end offset : ℕ) (bytes : List ℕ) (limit : ℕ) wh
   stop = stop_among T fs n end offset bytes limit
 
   runs_later : (xs : List ℕ) (x there : StoreState × Last) → run xs x ≡ Ok there → x.0.next ≤ there.0.next
-  runs_later [] x there e = let next = ap (λ (y : StoreState × Last). y.0.next) (ran_same x there e) in omega (arith, next)
-  runs_later (at ∷ xs) x there e = go (λ state m. runs_later xs (then_last at x state) there m) (step at x) (λ state s. parts_later T fs (parts_at fs n offset bytes at (after_at end offset bytes at x.1)) x.0 state s) e
-    where
-      go : ((state : StoreState) → run xs (then_last at x state) ≡ Ok there → state.next ≤ there.0.next) → (r : Result StoreState Refusal) → ((state : StoreState) → r ≡ Ok state → x.0.next ≤ state.next) →
-          result_and_then (λ state. run xs (then_last at x state)) r ≡ Ok there → x.0.next ≤ there.0.next
-      go more (Ok state) one m = let first = one state refl in let last = more state m in omega (arith, first, last)
-      go more (Err refusal) one m = absurd (cc m)
+  runs_later [] x there e = let next = ap (λ (y : StoreState × Last). y.0.next) (same_ok x there e) in omega (arith, next)
+  runs_later (at ∷ xs) x there e =
+      let y = then_ok (λ state. run xs (then_last at x state)) (step at x) there e in
+      let first = parts_later T fs (parts_at fs n offset bytes at (after_at end offset bytes at x.1)) x.0 y.0 y.1 in
+      let last = runs_later xs (then_last at x y.0) there y.2 in
+      omega (arith, first, last)
 
   -- behind parts that are made
   pub stops_behind : (xs ys : List ℕ) (x there : StoreState × Last) → run xs x ≡ Ok there → there.0.next ≤ limit → stop (xs ++ ys) x ≡ stop ys there
-  stops_behind [] ys x there e low = ap (stop ys) (ran_same x there e)
-  stops_behind (at ∷ xs) ys x there e low = go (λ state m. (stops_behind xs ys (then_last at x state) there m low, runs_later xs (then_last at x state) there m)) (step at x) e
-    where
-      go : ((state : StoreState) → run xs (then_last at x state) ≡ Ok there → (stop (xs ++ ys) (then_last at x state) ≡ stop ys there) × (state.next ≤ there.0.next)) → (r : Result StoreState Refusal) →
-          result_and_then (λ state. run xs (then_last at x state)) r ≡ Ok there → stop_or limit at r (λ state. stop (xs ++ ys) (then_last at x state)) ≡ stop ys there
-      go more (Ok state) m =
-          let k = more state m in
-          let first = k.1 in
-          ap (λ (t : Bool). if t then at else stop (xs ++ ys) (then_last at x state)) (le-ltb limit state.next (omega (arith, first, low))) ∙ k.0
-      go more (Err refusal) m = absurd (cc m)
+  stops_behind [] ys x there e low = ap (stop ys) (same_ok x there e)
+  stops_behind (at ∷ xs) ys x there e low =
+      let y = then_ok (λ state. run xs (then_last at x state)) (step at x) there e in
+      let first = runs_later xs (then_last at x y.0) there y.2 in
+      ap (λ r. stop_or limit at r (λ state. stop (xs ++ ys) (then_last at x state))) y.1
+      ∙ (ap (λ (t : Bool). if t then at else stop (xs ++ ys) (then_last at x y.0)) (le-ltb limit y.0.next (omega (arith, first, low))) ∙ stops_behind xs ys (then_last at x y.0) there y.2 low)
 
   -- at the one that is refused
   pub stops_here : (at : ℕ) (rest : List ℕ) (there : StoreState × Last) (new : StoreState) (fault : FfsFault) → TellsIn T fs (parts_at fs n offset bytes at (after_at end offset bytes at there.1)) there.0 new fault → limit ≡ new.next → stop (at ∷ rest) there ≡ at

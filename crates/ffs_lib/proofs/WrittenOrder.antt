@@ -6,6 +6,7 @@ use Rattle.xn_model.specs.Root.{word_at}
 use Rattle.xn_model.specs.Types.{Types}
 use Rattle.xn_model.specs.Rules.{IsConsistent}
 use Rattle.xn_model.specs.Lives.{StoreState}
+use Rattle.xn_model.proofs.ForCallers.{same_ok as same_run}
 use Rattle.ffs_model.specs.Cuts.{latest}
 use Rattle.ffs_lookup.specs.declared.fault.FfsFault.{FfsFault}
 use Rattle.ffs_lookup.specs.Newest.{file_end, write_in}
@@ -16,7 +17,7 @@ use Rattle.ffs_lib.specs.WriteOrder.{SizeMade, SizeStops, StopsAtPart, StopsBefo
 use Rattle.ffs_lib.specs.Writes.{MadeTo, PartStops, WaitsOn, padded}
 use Rattle.ffs_lib.specs.declared.data.Last.{Last}
 use Rattle.ffs_lib.specs.declared.data.Progress.{Progress}
-use Rattle.ffs_lib.proofs.Parting.{padded_long, ran_same}
+use Rattle.ffs_lib.proofs.Parting.{padded_long}
 use Rattle.ffs_lib.proofs.StagedWritten.{Begun, some_or_none, stops_there, stops_whole}
 use Rattle.ffs_lib.proofs.Stopping.{acts_later}
 use Rattle.ffs_lib.proofs.Undoing.{at_ok}
@@ -55,7 +56,7 @@ none_reached T fs n inode offset bytes old there none grow made =
     let start : ℕ = min (file_end inode) offset in
     let same : first_past (file_end inode) offset ≡ start = omega (arith, long, grow) in
     let ran = ap (λ (ys : List ℕ). parts_made T fs n (file_end inode) offset bytes ys (old, no_last)) (ap (places start offset) same ∙ places_none offset start) in
-    ap (λ (x : StoreState × Last). x.0) (ran_same (old, no_last) there (sym ran ∙ made))
+    ap (λ (x : StoreState × Last). x.0) (same_run (old, no_last) there (sym ran ∙ made))
 
 module _ (T : Types) (fs : ℕ) (array : ℕ → Option ℕ) (old middle : StoreState) (n end offset : ℕ) (bytes : List ℕ) (progress : Progress) (b : Begun T fs array old middle n end offset bytes progress) where
   abbrev inode : List ℕ

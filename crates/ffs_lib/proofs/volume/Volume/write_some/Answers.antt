@@ -1,15 +1,11 @@
-use Rattle.std.proofs.Common.{◌≡◌, ◌∙◌, ◌+◌, ◌<◌, true, ap, arith, length, refl, sym, rules}
+use Rattle.std.proofs.Common.{◌∙◌, ◌+◌, ◌<◌, ap, arith, length, refl, sym, rules}
 use Rattle.std.proofs.lemmas.Bool.{eqb-false, eqb-true}
 use Rattle.std.proofs.lemmas.List.{nil_from_length}
-use Rattle.xn_model.specs.Root.{word_at}
 use Rattle.ffs_model.specs.Cuts.{latest}
 use Rattle.ffs_lookup.specs.Files.{written}
 use Rattle.ffs_lookup.specs.FileValues.{files_of}
-use Rattle.ffs_lookup.specs.Newest.{file_end, is_short, mapped, write_in}
+use Rattle.ffs_lookup.specs.Newest.{file_end, mapped, write_in}
 use Rattle.ffs_lookup.proofs.ForCallers.{written_told}
-use Rattle.ffs_lib.specs.Outcomes.{IsRaised}
-use Rattle.ffs_lib.specs.Results.{OnlyChanges}
-use Rattle.ffs_lib.specs.Steps.{StopsAtHome}
 use Rattle.ffs_lib.specs.Volumes.{edits_of}
 use Rattle.ffs_lib.specs.WriteOrder.{ShowsWhole, after_in}
 use Rattle.ffs_lib.proofs.StagedWritten.{Begun, begun, count_none, count_refused, count_taken, fault_takes, found_file, none_takes, overwrites_none, same_taken, volume_of}
