@@ -2,7 +2,7 @@
 use Rattle.std.proofs.Common.{◌≡◌, ◌≢◌, ℕ, zero, suc, ◌+◌, ◌*◌, ◌/◌, ◌-◌, ◌%◌, ◌<◌, ◌≤◌, ◌⊎◌, Bool, true, false, List, [], ◌∷◌, length, take, drop, replicate, Option, Some, Result, Ok, refl, sym, ◌∙◌, ap, inl, inr, arith, subst, eq-eqb}
 use Rattle.std.specs.Prelude.{◌==◌, ◌||◌, ◌&&◌, not, nat_lt, if◌then◌else◌}
 use Rattle.std.specs.List.{list_all}
-use Rattle.std.proofs.lemmas.Bool.{eqb-true, le-ltb, lt-ltb, ne_eqb}
+use Rattle.std.proofs.lemmas.Bool.{and_parts, eqb-true, le-ltb, lt-ltb, ne_eqb}
 use Rattle.std.specs.Int.{w32, to_le_bytes}
 use Rattle.xn_model.specs.Lists.{put}
 use Rattle.xn_model.specs.Types.{Types}
@@ -195,11 +195,6 @@ all_zero [] e = refl
 all_zero (byte ∷ rest) e =
     let p = and_parts (byte == 0) (list_all (λ b. b == 0) rest) e in
     ap (λ b. b ∷ rest) (eqb-true byte 0 p.0) ∙ ap (λ bs. 0 ∷ bs) (all_zero rest p.1)
-  where
-    and_parts : (t u : Bool) → t && u ≡ true → (t ≡ true) × (u ≡ true)
-    and_parts true true f = (refl, refl)
-    and_parts true false f = absurd (cc f)
-    and_parts false u f = absurd (cc f)
 
 pub zeros_all : (m : List ℕ) (count : ℕ) → m ≡ replicate count 0 → list_all (λ byte. byte == 0) m ≡ true
 zeros_all m count e = ap (list_all (λ byte. byte == 0)) e ∙ all count

@@ -1,13 +1,15 @@
 -- What the edits leave by which bytes of a file are written: one law for each kind.
-use Rattle.std.proofs.Common.{◌≡◌, ◌≢◌, ℕ, ◌+◌, ◌-◌, ◌*◌, ◌/◌, ◌%◌, ◌^◌, ◌<◌, ◌≤◌, List, [], ◌∷◌, length, Option, Some, Ok, Result, refl, sym, ◌∙◌, ap, arith, subst, inl, inr}
-use Rattle.std.specs.Prelude.{Contains, IsTrue, slice_set}
+use Rattle.std.proofs.Common.{◌≡◌, ◌≢◌, ℕ, ◌+◌, ◌-◌, ◌*◌, ◌/◌, ◌%◌, ◌^◌, ◌<◌, ◌≤◌, false, List, [], ◌∷◌, length, drop, replicate, take, Option, Some, Ok, Err, Result, refl, sym, ◌∙◌, ap, arith, subst, inl, inr}
+use Rattle.std.specs.Prelude.{Contains, IsTrue, slice_set, ◌==◌}
 use Rattle.std.specs.Int.{w32, to_le_bytes}
-use Rattle.std.proofs.lemmas.List.{length-replicate}
+use Rattle.std.specs.List.{list_all}
+use Rattle.std.proofs.lemmas.List.{length-replicate, take-replicate}
 use Rattle.std.proofs.lemmas.Option.{none-some}
 use Rattle.xn_model.specs.Types.{Types}
 use Rattle.xn_model.specs.Lists.{put}
 use Rattle.xn_model.specs.Root.{word_at}
 use Rattle.xn_model.specs.Lives.{StoreState, life_at}
+use Rattle.xn_model.specs.Results.{result_and_then}
 use Rattle.xn_model.specs.Calls.{Edit, forget_of, init_of, propose_of, was_given}
 use Rattle.xn_model.proofs.ForCallers.{Contains-head}
 use Rattle.ffs_model.specs.Cuts.{Under, latest}
@@ -16,29 +18,28 @@ use Rattle.ffs_model.proofs.ForCallers.{begun_next, data_short, given_later, lat
 use Rattle.ffs_format.specs.Fields.{Fields, direct_in, fields_of}
 use Rattle.ffs_lookup.specs.declared.fault.FfsFault.{FfsFault}
 use Rattle.ffs_lookup.specs.declared.places.Found.{Found}
-use Rattle.ffs_lookup.specs.Newest.{byte_of, file_block, file_in, inode_block_in}
+use Rattle.ffs_lookup.specs.Newest.{byte_of, file_block, file_in, inode_block_in, mapped}
 use Rattle.ffs_lookup.specs.Places.{IsFile}
 use Rattle.ffs_lookup.proofs.ForCallers.{found_has, same_ok}
 use Rattle.ffs_lib.specs.Edits.{edit_at}
 use Rattle.ffs_lib.specs.Outcomes.{HasBlock, IsRaised}
 use Rattle.ffs_lib.specs.Results.{OnlyChanges, SameInode, WroteBytes}
-use Rattle.ffs_lib.specs.Orders.{Action, Attaches, Makes, act_of}
+use Rattle.ffs_lib.specs.Orders.{Action, Attaches, Makes, act_of, made_by}
 use Rattle.ffs_lib.specs.Orders as orders
-use Rattle.ffs_lib.specs.Steps.{Attached, Ends, IsHome, Proposed, ShortEdit, Stage, Tells, left_by}
-use Rattle.ffs_lib.specs.WriteOrder.{TellsAct, data_action, direct_edit, indirect_edit, pointed_edit, pointers_action}
-use Rattle.ffs_lib.specs.Writes.{ActedBy, PointsTo, Puts, PutsBy, IsFrom, StopsAction, StopsPart, WaitsAfter}
+use Rattle.ffs_lib.specs.Steps.{Attached, Ends, IsHome, Proposed, ShortEdit, Stage, Tells, left_by, skipped}
+use Rattle.ffs_lib.specs.WriteOrder.{TellsAct, data_action, data_parts, zeros_parts, direct_edit, indirect_edit, pointed_edit, pointers_action}
+use Rattle.ffs_lib.specs.Writes.{ActedBy, PointsTo, Puts, PutsBy, PutsParts, IsFrom, RefusesPart, StopsAction, WaitsAfter, WaitsOn}
 use Rattle.ffs_lib.specs.declared.data.Last.{Last}
-use Rattle.ffs_lib.proofs.Actions.{attach_acted, direct_is, edit_acted, pointed_is, pointers_is}
+use Rattle.ffs_lib.proofs.Actions.{act_is, attach_acted, data_made, direct_is, edit_acted, has_pointers, last_there, pointed_is, pointers_is, pointers_none, there_is, zeros_by}
 use Rattle.ffs_lib.proofs.DataShort.{direct_refused, pointers_refused, size_refused}
 use Rattle.ffs_lib.proofs.Edited.{file_data, kept, pointed, pointed_data, pointers_reached}
 use Rattle.ffs_lib.proofs.Fields.{one_more, same_blocks}
 use Rattle.ffs_lib.proofs.Laws.{attaches, can_edit, finishes, gives_of, home_of}
 use Rattle.ffs_lib.proofs.Owners.{Stands, block_at, direct_block, pointers_at, stands_from, where_block}
-use Rattle.ffs_lib.proofs.Orders.{ok_same}
 use Rattle.ffs_lib.proofs.Same.{Touches, begun, begun_some, block_same, edited, none_touched, reached_before, same_on}
 use Rattle.ffs_lib.proofs.Short.{begun_addable}
-use Rattle.ffs_lib.proofs.Undoing.{at_ok, left_next, undone_same}
-use Rattle.ffs_lib.proofs.Waiting.{attach_waits, begun_newer, home_waits, put_newer, put_waits}
+use Rattle.ffs_lib.proofs.Undoing.{at_ok, forgotten_is, told_lives, undone_same}
+use Rattle.ffs_lib.proofs.Waiting.{attach_waits, begun_newer, home_waits, lives_wait, put_newer, put_waits, waits_same, waits_then}
 use Rattle.ffs_lib.proofs.Writing.{block_written, data_attached, data_written, direct_attached, file_from, file_now, file_others, file_same, indirect_block, pointers_attached, size_raised, wrote_none, written_none, written_same}
 
 -- Bytes that stay, and one write after another
@@ -47,11 +48,10 @@ use Rattle.ffs_lib.proofs.Writing.{block_written, data_attached, data_written, d
 pub all_same : (old new : StoreState) (fs n : ℕ) → ((d : ℕ) → SameInode (latest old.lives) (latest new.lives) fs d) → old.next ≤ new.next → Puts old new fs n 0 []
 all_same old new fs n same later =
     let u = latest old.lives in
-    let w = latest new.lives in
     record {
       wrote = λ inode is. record {
         after = inode;
-        file = is ∙ sym (file_same u w fs n (same n).0);
+        file = is ∙ sym (file_same u (latest new.lives) fs n (same n).0);
         size = refl;
         marks = (refl, refl);
         each = λ at low. ((same n).1 inode (file_from u fs n inode is)).1 at low ∙ written_none (byte_of u inode) 0 at;
@@ -104,13 +104,14 @@ puts_after old first second fs n start bytes a b = record {
 }
 
 -- an action that was refused after that
-pub stops_after : (T : Types) (fs : ℕ) (first : StoreState → Action) (rest : orders.Parts) (old middle new : StoreState) (n : ℕ) (fault : FfsFault) → Puts old middle fs n 0 [] → act_of T fs (first old) old ≡ Ok middle → StopsPart T fs rest middle new n fault →
-    StopsPart T fs (first ∷ rest) old new n fault
-stops_after T fs first rest old middle new n fault a made x = record { same = puts_after old middle new fs n 0 [] a x.same; told = inr (middle, made, x.told) }
+pub stops_after : (T : Types) (fs : ℕ) (first : StoreState → Action) (rest : orders.Parts) (old middle new : StoreState) (n : ℕ) (last : Last) (fault : FfsFault) → Puts old middle fs n 0 [] → WaitsOn fs n old middle last last → act_of T fs (first old) old ≡ Ok middle →
+    RefusesPart T fs rest middle new n last fault → RefusesPart T fs (first ∷ rest) old new n last fault
+stops_after T fs first rest old middle new n last fault a w made x =
+    (record { same = puts_after old middle new fs n 0 [] a x.0.same; told = inr (middle, made, x.0.told) }, waits_then fs n old middle new last last last w x.1)
 
 -- one that was refused at once
-pub stops_now : (T : Types) (fs : ℕ) (first : StoreState → Action) (rest : orders.Parts) (old new : StoreState) (n : ℕ) (fault : FfsFault) → StopsAction T fs (first old) old new n fault → StopsPart T fs (first ∷ rest) old new n fault
-stops_now T fs first rest old new n fault x = record { same = x.same; told = inl x.told }
+pub stops_now : (T : Types) (fs : ℕ) (first : StoreState → Action) (rest : orders.Parts) (old new : StoreState) (n : ℕ) (last : Last) (fault : FfsFault) → StopsAction T fs (first old) old new n fault → RefusesPart T fs (first ∷ rest) old new n last fault
+stops_now T fs first rest old new n last fault x = let k = told_lives T fs (first old) old new fault x.told in (record { same = x.same; told = inl x.told }, lives_wait fs n old new last k.lives k.later)
 
 -- the blocks of inodes stay where another block is written
 home_edited : (T : Types) (fs : ℕ) (array : ℕ → Option ℕ) (state : StoreState) (s : Stage T fs array state) (new : StoreState) (c u : ℕ) (edit : Edit) (entry : ℕ) → propose_of T state fs c edit ≡ Ok (entry, new) → Under T (latest state.lives) fs c u → u ≢ 3 → (j : ℕ) →
@@ -118,6 +119,9 @@ home_edited : (T : Types) (fs : ℕ) (array : ℕ → Option ℕ) (state : Store
 home_edited T fs array state s new c u edit entry done at ne j = block_same T s.library (latest state.lives) (latest new.lives) fs c u (edited T state new s.keeps.consistent fs s.few c u edit entry done at) ne j
 
 -- A block that is there
+
+abbrev both : ℕ → Last
+both entry = record { edit = Some entry; size = Some entry }
 
 module _ (T : Types) (fs : ℕ) (array : ℕ → Option ℕ) (old : StoreState) (s : Stage T fs array old) (n : ℕ) (found : Found) (file : IsFile old fs n found) (is : Ok found.inode ≡ file_in (latest old.lives) fs n)
     (index block at : ℕ) (bytes : List ℕ) (low : index < 140) (points : file_block (latest old.lives) found.inode index ≡ block) (there : block ≢ 0) (long : length (latest old.lives block) ≡ 512) (fit : at + length bytes ≤ 512) (after : Option ℕ) where
@@ -172,6 +176,37 @@ module _ (T : Types) (fs : ℕ) (array : ℕ → Option ℕ) (old : StoreState) 
       (λ entry done. let x = puts new entry done in (x.0, ((x.1, waits new entry done), edit_acted T fs block edit old new entry done)))
       (λ fault same told. subst (λ (m : StoreState). StopsAction T fs action old m n fault) (sym same) (record { same = puts_none old fs n 0; told = (refl, told) }))
 
+  -- the parts of a write that come to this edit
+  there_parts : (parts : orders.Parts) (last : Last) → last.edit ≡ after → 0 < length bytes → IsTrue (was_given old after) → ((new : StoreState) → act_of T fs (Makes ((block, edit_at at bytes [] [] after) ∷ [])) old ≡ Ok new → made_by T fs parts old ≡ Ok new) →
+      ((new : StoreState) (fault : FfsFault) → StopsAction T fs (Makes ((block, edit_at at bytes [] [] after) ∷ [])) old new n fault → RefusesPart T fs parts old new n last fault) → (new : StoreState) (result : Result ℕ FfsFault) →
+      Proposed T fs block (edit_at at bytes [] [] after) old new result → Ends T fs array new (mapped both result) (PutsParts T fs parts old new n index at bytes last) (RefusesPart T fs parts old new n last)
+  there_parts parts last comes some given made stops new (Ok entry) p =
+      let x = there_ends some given new (Ok entry) p in
+      let put = x.1.0.0 in
+      let a = x.1.1 in
+      (x.0, record { puts = put.0; given = (put.1, put.1); made = made new a.0; last_is = last_there (latest old.lives) fs n found.inode index block is points there old.next new.next entry last a.1 a.2; waits = x.1.0.1 last comes })
+  there_parts parts last comes some given made stops new (Err fault) p = let x = there_ends some given new (Err fault) p in (x.0, (x.1.0, stops new fault x.1.1))
+
+  pub there_data : (last : Last) → last.edit ≡ after → 0 < length bytes → IsTrue (was_given old after) → (new : StoreState) (result : Result ℕ FfsFault) → Proposed T fs block (edit_at at bytes [] [] after) old new result →
+      Ends T fs array new (mapped both result) (PutsParts T fs (data_parts fs n index at bytes after) old new n index at bytes last) (RefusesPart T fs (data_parts fs n index at bytes after) old new n last)
+  there_data last comes some given =
+      let none = ap (λ (a : Action). act_of T fs a old) (sym (pointers_none (latest old.lives) fs n found.inode index after is (has_pointers (latest old.lives) found.inode index block points there))) in
+      let real = there_is (latest old.lives) fs n found.inode index block at bytes after is points there in
+      there_parts (data_parts fs n index at bytes after) last comes some given (λ new a. data_made T fs n index at bytes after old old new none (act_is T fs _ _ old new real a))
+      (λ new fault x. stops_after T fs _ _ old old new n last fault (puts_none old fs n 0) (waits_same fs n old last) none (stops_now T fs _ _ old new n last fault (subst (λ (a : Action). StopsAction T fs a old new n fault) real x)))
+
+-- zeros, where it has other bytes
+pub there_zeros : (T : Types) (fs : ℕ) (array : ℕ → Option ℕ) (old : StoreState) → Stage T fs array old → (n : ℕ) (found : Found) → IsFile old fs n found → Ok found.inode ≡ file_in (latest old.lives) fs n → (index block at count : ℕ) → index < 140 →
+    file_block (latest old.lives) found.inode index ≡ block → block ≢ 0 → length (latest old.lives block) ≡ 512 → at + count ≤ 512 → 0 < count → list_all (λ byte. byte == 0) (take count (drop at (latest old.lives block))) ≡ false → (last : Last) → IsTrue (was_given old last.edit) →
+    (new : StoreState) (result : Result ℕ FfsFault) → Proposed T fs block (edit_at at (take count (replicate 512 0)) [] [] last.edit) old new result →
+    Ends T fs array new (mapped both result) (PutsParts T fs (zeros_parts fs n index at count last.edit) old new n index at (replicate count 0) last) (RefusesPart T fs (zeros_parts fs n index at count last.edit) old new n last)
+there_zeros T fs array old s n found file is index block at count low points there long within some other last given new result put =
+    let size : length {A = ℕ} (replicate count 0) ≡ count = length-replicate {A = ℕ} count 0 in
+    let real = zeros_by (latest old.lives) fs n found.inode index at count block last.edit is points there false other in
+    there_parts T fs array old s n found file is index block at (replicate count 0) low points there long (omega (arith, size, within)) last.edit (zeros_parts fs n index at count last.edit) last refl (omega (arith, size, some)) given
+    (λ new a. ap (result_and_then (made_by T fs [])) (act_is T fs _ _ old new real a)) (λ new fault x. stops_now T fs _ _ old new n last fault (subst (λ (a : Action). StopsAction T fs a old new n fault) real x))
+    new result (subst (λ (m : List ℕ). Proposed T fs block (edit_at at m [] [] last.edit) old new result) (take-replicate count 512 0 (omega (arith, within))) put)
+
 -- A new block
 
 pub not_begun : (T : Types) (fs : ℕ) (old new : StoreState) (n ty : ℕ) (bytes : List ℕ) (home : ℕ) (edit : ℕ → Edit) (action : Action) → Attaches ty bytes home edit ≡ action → new ≡ old → (fault : FfsFault) → Tells (init_of T old fs ty bytes) fault → StopsAction T fs action old new n fault
@@ -202,8 +237,8 @@ module _ (T : Types) (fs : ℕ) (array : ℕ → Option ℕ) (zeroth first : Sto
 
   pub undone : (new : StoreState) → new ≡ left_by (forget_of T first fs block) first → Puts zeroth new fs n 0 []
   undone new left =
-      all_same zeroth new fs n (λ d. subst (λ (m : StoreState). SameInode (latest zeroth.lives) (latest m.lives) fs d) (sym left) (undone_same T s.library zeroth first s.keeps.consistent fs s.few ty bytes block number done d))
-      (subst (λ (k : ℕ). zeroth.next ≤ k) (sym (ap (λ (m : StoreState). m.next) left ∙ left_next T first fs block)) begun_later)
+      let next = ap (λ (m : StoreState). m.next) (left ∙ forgotten_is T zeroth first fs ty bytes block number done) in
+      all_same zeroth new fs n (undone_same T zeroth first fs ty bytes block number done new left) (omega (arith, next))
 
   -- the block is attached, or forgotten
   pub attached_ends : (home : ℕ) (edit : ℕ → Edit) (action : Action) → Attaches ty bytes home edit ≡ action → (real : Edit) → real ≡ edit block → (new : StoreState) (P : ℕ → Type 0) → ShortEdit T first fs home real →
@@ -217,8 +252,8 @@ module _ (T : Types) (fs : ℕ) (array : ℕ → Option ℕ) (zeroth first : Sto
       ))
       (λ fault left told. record {
         same = undone new left;
-        told = subst (λ (a : Action). TellsAct T fs a zeroth new fault) is (inr (at_ok (init_of T zeroth fs ty bytes) ((block, number), first) (λ begun. (new ≡ left_by (forget_of T begun.1 fs begun.0.0) begun.1) × Tells (propose_of T begun.1 fs home (edit begun.0.0)) fault)
-            (sym done) (left, subst (λ (e : Edit). Tells (propose_of T first fs home e) fault) same told)));
+        told = subst (λ (a : Action). TellsAct T fs a zeroth new fault) is (inr (at_ok (init_of T zeroth fs ty bytes) ((block, number), first) (λ begun. (new ≡ skipped zeroth) × Tells (propose_of T begun.1 fs home (edit begun.0.0)) fault)
+            (sym done) (left ∙ forgotten_is T zeroth first fs ty bytes block number done, subst (λ (e : Edit). Tells (propose_of T first fs home e) fault) same told)));
       })
 
   begun_block : (j : ℕ) → inode_block_in (latest first.lives) fs j ≡ inode_block_in (latest zeroth.lives) fs j
@@ -263,7 +298,7 @@ module _ (T : Types) (fs : ℕ) (array : ℕ → Option ℕ) (zeroth first : Sto
     home_waits_on home next kept last same = record {
       home = home_second;
       waits = λ b from low here w. home_waits T zeroth first s.keeps.consistent fs ty bytes block number done second begun_stage.keeps.consistent c edit entry put_done adds b from last (sym same) w
-          (ok_same b c (here ∙ sym home)) (next last) (kept last);
+          (same_ok b c (here ∙ sym home)) (next last) (kept last);
       newer = newer_second;
       later = later_second;
     }
@@ -404,8 +439,7 @@ module _ (T : Types) (fs : ℕ) (array : ℕ → Option ℕ) (zeroth first : Sto
   apart : (c k : ℕ) → Under T (latest zeroth.lives) fs c k → c ≢ block
   apart c k r e =
       let y = latest_reached T zeroth s.keeps.consistent fs s.few c k r in
-      let m = started T zeroth first fs 5 zero_block (block, number) done in
-      none-some y.life (sym m.free ∙ (ap (life_at zeroth.lives) (sym e) ∙ y.alive))
+      none-some y.life (sym (started T zeroth first fs 5 zero_block (block, number) done).free ∙ (ap (life_at zeroth.lives) (sym e) ∙ y.alive))
 
   home_apart : found.block ≢ block
   home_apart =

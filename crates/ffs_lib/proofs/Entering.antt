@@ -185,7 +185,6 @@ module _ (T : Types) (lib : IsLibrary T) (zeroth first second : StoreState) (h :
   block_entered d index n name inode0 dir empty low gap there inode again g is whole named half some =
       let same = begun_same d in
       let one : inode ≡ inode0 = same_ok inode inode0 (again ∙ (directory_same v0 v1 fs d same.0 ∙ sym dir)) in
-      let kept = same.1 inode0 (directory_from v0 fs d inode0 dir).0 in
       let own = stands_from v1 fs d inode (directory_from v1 fs d inode again).0 in
       let number_low = own.low in
       let own_bytes : (c : ℕ) → Contains (inode_blocks inode) c → v2 c ≡ v1 c =
@@ -208,7 +207,7 @@ module _ (T : Types) (lib : IsLibrary T) (zeroth first second : StoreState) (h :
       let y = direct_where inode0 c i in
       let lt = y.1 in
       new_block.apart c 2 (block_at T lib zeroth h fs few d inode0 first_own y.0 c (omega (arith, lt)) (direct_block v0 inode0 y.0 lt ∙ y.2) y.3) (λ z. omega (arith, z)) in
-      let before : listing v2 inode ≡ listing v0 inode0 = listing_same v2 v1 inode own_bytes ∙ (ap (listing v1) one ∙ kept.0) in
+      let before : listing v2 inode ≡ listing v0 inode0 = listing_same v2 v1 inode own_bytes ∙ (ap (listing v1) one ∙ (same.1 inode0 (directory_from v0 fs d inode0 dir).0).0) in
       record {
         after = g.after;
         directory = g.directory;

@@ -31,9 +31,8 @@ on_err (Err e) p = p
 pub begun_there : (T : Types) (fs : ℕ) (array : ℕ → Option ℕ) (old new : StoreState) → VolumeKeeps T library_layout fs array old → (x ty : ℕ) (bytes : List ℕ) (block number : ℕ) →
     init_of T old x ty bytes ≡ Ok ((block, number), new) → block ≢ 0
 begun_there T fs array old new v x ty bytes block number done e =
-    let r = started T old new x ty bytes (block, number) done in
     let top = v.consistent.lives_sound.root in
-    none-some top.life (sym r.free ∙ (ap (life_at old.lives) e ∙ top.alive))
+    none-some top.life (sym (started T old new x ty bytes (block, number) done).free ∙ (ap (life_at old.lives) e ∙ top.alive))
 
 pub on_ok : {A E : Type 0} (r : Result A E) {P : Type 0} → P → OnOk r P
 on_ok (Ok x) p = p

@@ -24,6 +24,7 @@ pub mod StillNamed
 pub mod Moving
 pub mod Short
 pub mod Dropping
+pub mod Counted
 pub mod Undoing
 pub mod Laws
 pub mod Orders
@@ -59,6 +60,7 @@ pub mod BlocksOnce
 pub mod ValueWritten
 pub mod Staged
 pub mod StagedNew
+pub mod Stopping
 pub mod StagedWritten
 pub mod WrittenOrder
 pub mod StagedMoves

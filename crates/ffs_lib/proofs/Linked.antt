@@ -64,10 +64,9 @@ linked_own T fs array state v entry is own e =
 -- where there is a block of inodes there is a first one
 pub first_there : (T : Types) (fs : ℕ) (array : ℕ → Option ℕ) (state : StoreState) → VolumeKeeps T library_layout fs array state → (i c : ℕ) → IsInodes library_layout (latest state.lives) fs i c → (b : ℕ) × IsInodes library_layout (latest state.lives) fs 0 b
 first_there T fs array state v i c at =
-    let all = everything state.lives in
     let same = everything_seen state.lives in
     subst (λ (u : ℕ → List ℕ). (b : ℕ) × IsInodes library_layout u fs 0 b) same
-    (v.frame.first all i c (everything_cut T state v.consistent) (subst (λ (u : ℕ → List ℕ). IsInodes library_layout u fs i c) (sym same) at))
+    (v.frame.first (everything state.lives) i c (everything_cut T state v.consistent) (subst (λ (u : ℕ → List ℕ). IsInodes library_layout u fs i c) (sym same) at))
 
 pub free_pointer : (T : Types) (fs : ℕ) (array : ℕ → Option ℕ) (state : StoreState) → VolumeKeeps T library_layout fs array state → (n : ℕ) (inode : List ℕ) → Ok inode ≡ inode_in (latest state.lives) fs n →
     ((root : ℕ) → Ok root ≡ root_in (latest state.lives) fs → has_empty_pointer (latest state.lives) root ≡ true) → HasFreePointer (latest state.lives) fs

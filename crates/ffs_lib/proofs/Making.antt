@@ -65,9 +65,8 @@ holds_started T old new fs ty begun made done c bytes h =
 
 may_begun : (T : Types) (old new : StoreState) (fs ty : ℕ) (bytes : List ℕ) (made : ℕ × ℕ) → init_of T old fs ty bytes ≡ Ok (made, new) → (p : ℕ × ℕ) → p.0 ≢ made.0 → may_add new fs p ≡ may_add old fs p
 may_begun T old new fs ty bytes made done p ne =
-    let r = started T old new fs ty bytes made done in
     ap (alive_and (λ l. is_fresh l.status && ((l.ty == p.1) && is_for fs l.fs)))
-    (ap (λ xs. life_at xs p.0) r.lives ∙ set_other old.lives made.0 p.0 (Some (new_life old.next (Some fs) ty bytes)) ne)
+    (ap (λ xs. life_at xs p.0) (started T old new fs ty bytes made done).lives ∙ set_other old.lives made.0 p.0 (Some (new_life old.next (Some fs) ty bytes)) ne)
 
 -- A root block
 

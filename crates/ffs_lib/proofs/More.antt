@@ -120,8 +120,7 @@ words_more (w ∷ ws) (suc k) b low e ne =
 short : (name : List ℕ) → IsTrue (is_name name) → length name ≤ 28
 short name named =
     let tests = (and_parts (is_name_length (length name) && list_all is_name_byte name) (not (is_dots name)) named).0 in
-    let long = (and_parts (is_name_length (length name)) (list_all is_name_byte name) tests).0 in
-    leb-true (length name) 28 (and_parts (nat_le 1 (length name)) (nat_le (length name) 28) long).1
+    leb-true (length name) 28 (and_parts (nat_le 1 (length name)) (nat_le (length name) 28) ((and_parts (is_name_length (length name)) (list_all is_name_byte name) tests).0)).1
 
 entry_name : (n : ℕ) (name : List ℕ) → IsTrue (is_name name) → name_in (entry_of n name) 0 ≡ name
 entry_name n name named =

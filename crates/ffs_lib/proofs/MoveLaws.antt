@@ -69,10 +69,9 @@ module _ (u w : ℕ → List ℕ) (fs d : ℕ) (name : List ℕ) (other : ℕ) (
   -- the directory that is entered has an entry more
   more_listed : (inode after : List ℕ) → Ok inode ≡ directory_in u fs other → Ok after ≡ directory_in w fs other → listing w after ≡ listing u inode → ⊥
   more_listed inode after i now same =
-      let v = z.middle in
       let dir = directory_from u fs other inode i in
       let to1 = z.linked.before other inode dir.0 in
-      let more = z.entered.more to1.after (directory_to v fs other to1.after to1.found (to1.mode ∙ dir.1)) in
+      let more = z.entered.more to1.after (directory_to z.middle fs other to1.after to1.found (to1.mode ∙ dir.1)) in
       let one : more.after ≡ after = same_ok more.after after (more.directory ∙ sym now) in
       longer more.front more.back (more.entry, new_name) (sym more.is ∙ (ap (listing w) one ∙ (same ∙ (sym to1.entries ∙ more.was))))
 

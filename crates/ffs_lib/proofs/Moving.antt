@@ -1,6 +1,6 @@
 -- What is left of names and files where a name is moved.
 use Rattle.std.proofs.Common.{◌≡◌, ◌≢◌, ℕ, ◌*◌, ◌/◌, ◌%◌, ◌<◌, Bool, true, false, cond, List, [], ◌∷◌, length, map, get_or, replicate, Option, Some, None, Ok, refl, sym, ◌∙◌, ap, inl, inr, arith, subst}
-use Rattle.std.specs.Prelude.{Contains, Result, Err, ◌==◌, filter_map, find, flat_map, if◌then◌else◌}
+use Rattle.std.specs.Prelude.{Contains, ◌==◌, filter_map, find, flat_map, if◌then◌else◌}
 use Rattle.std.specs.List.{cons_option, range_with_len}
 use Rattle.std.specs.Option.{ok_or, option_or}
 use Rattle.std.proofs.lemmas.Bool.{cases_eq}
@@ -17,7 +17,6 @@ use Rattle.ffs_model.specs.Library.{IsLibrary, half_at, inode_blocks, inode_mode
 use Rattle.ffs_model.proofs.ForCallers.{direct_where, library_reads, proposed_here, proposed_others, under_direct, under_inodes}
 use Rattle.ffs_format.specs.Fields.{fields_of}
 use Rattle.ffs_format.specs.Entries.{is_name}
-use Rattle.ffs_lookup.specs.declared.fault.FfsFault.{FfsFault}
 use Rattle.ffs_lookup.specs.declared.fault.FfsFault.TheVariants.{BadName, NoEntry}
 use Rattle.ffs_lookup.specs.declared.places.Found.{Found}
 use Rattle.ffs_lookup.specs.declared.places.Slot.{Slot}
@@ -29,7 +28,7 @@ use Rattle.ffs_lib.proofs.Entering.{directory_from, inode_put}
 use Rattle.ffs_lib.proofs.Fields.{direct_get, same_blocks}
 use Rattle.ffs_lib.proofs.Frames.{listing_same, listing_without}
 use Rattle.ffs_lookup.proofs.ForCallers.{directory_is, in_directory, same_ok}
-use Rattle.ffs_lib.proofs.Owners.{Stands, block_at, direct_block, passed, pointers_at, stands_from}
+use Rattle.ffs_lib.proofs.Owners.{Stands, block_at, direct_block, passed, pointers_at, stands_from, then_first}
 use Rattle.ffs_lib.proofs.Renaming.{is_some_ok}
 use Rattle.ffs_lib.proofs.Rooms.{room_by}
 use Rattle.ffs_lib.proofs.Same.{data_touched, edited, file_block_by, inodes_same}
@@ -154,12 +153,8 @@ pub named_from : (content : ℕ → List ℕ) (fs d : ℕ) (name : List ℕ) (en
 unfolding named_in
 named_from content fs d name entry e =
     let r = passed (directory_in content fs d) (entry_named content name) entry e in
-    let good = second_first (is_name name) (ok_or (first_named content r.0 name) NoEntry) entry BadName r.2 in
+    let good = (then_first (is_name name) (ok_or (first_named content r.0 name) NoEntry) BadName entry r.2).1 in
     (r.0, r.1, is_some_ok (first_named content r.0 name) entry good)
-  where
-    second_first : (t : Bool) (x : Result Slot FfsFault) (y : Slot) (fault : FfsFault) → Ok y ≡ (if t then x else Err fault) → Ok y ≡ x
-    second_first true x y fault f = f
-    second_first false x y fault f = absurd (cc f)
 
 -- the entry that has a name stands in a block of its directory
 pub named_block : (content : ℕ → List ℕ) (fs d : ℕ) (name : List ℕ) (entry : Slot) → Ok entry ≡ named_in content fs d name → (own : List ℕ) × (Ok own ≡ inode_in content fs d) × Contains (inode_blocks own) entry.block

@@ -1,5 +1,5 @@
 -- Names are good where no inode has more names than links.
-use Rattle.std.proofs.Common.{◌≡◌, ◌≢◌, ℕ, zero, suc, ◌+◌, ◌-◌, ◌*◌, ◌/◌, ◌%◌, ◌<◌, ◌≤◌, inl, inr, Bool, true, false, cond, List, [], ◌∷◌, map, length, Option, Some, None, refl, sym, ◌∙◌, ap, arith, subst}
+use Rattle.std.proofs.Common.{◌≡◌, ◌≢◌, ℕ, suc, ◌+◌, ◌-◌, ◌*◌, ◌/◌, ◌%◌, ◌<◌, ◌≤◌, inl, inr, Bool, true, false, cond, List, [], ◌∷◌, map, length, Option, Some, None, refl, sym, ◌∙◌, ap, arith, subst}
 use Rattle.std.specs.Prelude.{Contains, Result, Ok, Err, ◌==◌, nat_lt, filter, filter_map, flat_map, if◌then◌else◌}
 use Rattle.std.specs.List.{range_with_len, cons_option}
 use Rattle.std.specs.Result.{result_ok}
@@ -16,6 +16,7 @@ use Rattle.ffs_lookup.specs.Newest.{directory_in, slots_in_block, slots_of, entr
 use Rattle.ffs_lookup.specs.Counts.{all_entries, directory_inodes_in, is_over, links_in, links_or_none, named_numbers, names_count, numbers_of, over_named}
 use Rattle.ffs_lookup.proofs.ForCallers.{directory_is, in_directory, least_none}
 use Rattle.ffs_lib.proofs.Owners.{stands_from, stands_to}
+use Rattle.ffs_lib.proofs.Tops.{among}
 
 -- Lists
 
@@ -42,13 +43,6 @@ flat_map_has f [] x y i j = absurd (Contains-none x i)
 flat_map_has f (z ∷ xs) x y i j = elim (Contains-cons z xs x i) [
   | inl s ↦ Contains-append_left (f z) (flat_map f xs) y (subst (λ w. Contains (f w) y) (sym s) j)
   | inr k ↦ Contains-append_right (f z) (flat_map f xs) y (flat_map_has f xs x y k j)
-]
-
-range_has : (n a x : ℕ) → a ≤ x → x < a + n → Contains (range_with_len a n) x
-range_has zero a x low high = absurd (omega (arith, low, high))
-range_has (suc n) a x low high = elim (cases_lt a x) [
-  | inl lt ↦ Contains-tail a (range_with_len (a + 1) n) x (range_has n (a + 1) x (omega (arith, lt)) (omega (arith, high)))
-  | inr ge ↦ let e : a ≡ x = omega (arith, low, ge) in subst (λ z. Contains (range_with_len a (suc n)) z) e (Contains-head a (range_with_len (a + 1) n))
 ]
 
 -- there are at most as many distinct slots in a list as it is long
@@ -121,14 +115,14 @@ module _ (content : ℕ → List ℕ) (fs n : ℕ) (y : ℕ × ℕ) (some : n �
       let low = place_few in
       let read = under_test (nat_lt y.1 16) (half_at (content y.0) (32 * y.1)) n x.names some in
       let there : Contains (directory_inodes_in content fs) inode =
-      filter_map_has (λ k. result_ok (directory_in content fs k)) (range_with_len 1 128) number inode (range_has 128 1 number (omega arith) (omega (arith, few, low))) (ap result_ok (sym found)) in
+      filter_map_has (λ k. result_ok (directory_in content fs k)) (range_with_len 1 128) number inode (among 128 1 number (omega arith) (omega (arith, few, low))) (ap result_ok (sym found)) in
       let has : Contains (inode_blocks inode) y.0 = subst (λ xs. Contains xs y.0) (blocks_read (content x.block) x.place place_few) x.has in
       let is : used_entry (entry_at content y.0 y.1) ≡ Some slot =
       ap (λ (t : Bool). if t then None else Some (entry_at content y.0 y.1)) (ne_eqb (half_at (content y.0) (32 * y.1)) 0 (λ z. some (sym read.1 ∙ z)))
       ∙ ap (λ k. Some (record { block = y.0; place = y.1; inode = k })) read.1 in
       flat_map_has (slots_of content) (directory_inodes_in content fs) inode slot there
       (flat_map_has (slots_in_block content) (inode_blocks inode) y.0 slot has
-      (filter_map_has (λ place. used_entry (entry_at content y.0 place)) (range_with_len 0 16) y.1 slot (range_has 16 0 y.1 (omega arith) (is_less y.1 16 read.0)) is))
+      (filter_map_has (λ place. used_entry (entry_at content y.0 place)) (range_with_len 0 16) y.1 slot (among 16 0 y.1 (omega arith) (is_less y.1 16 read.0)) is))
 
 -- How many there are
 

@@ -49,9 +49,8 @@ module _ (T : Types) (fs : ℕ) (array : ℕ → Option ℕ) (old : StoreState) 
     (bytes name : List ℕ) (b : IsEntry bytes n name) (block place : ℕ) (gap : IsGap old found block place) (first : Some (Entry block place) ≡ room_in (latest old.lives) found.inode) where
   pub enters_short : ShortEdit T old fs block (edit_at (32 * place) bytes [] [] (Some e))
   enters_short =
-      let stands = dir.is.stands in
       entry_short T old (Some e) (can_edit s m.given) fs s.few block place
-      (under_direct T library_layout (library_reads T s.library) (latest old.lives) fs (library_layout.home d).0 found.block found.place block stands.inodes gap.has) gap.long gap.few bytes b.whole
+      (under_direct T library_layout (library_reads T s.library) (latest old.lives) fs (library_layout.home d).0 found.block found.place block dir.is.stands.inodes gap.has) gap.long gap.few bytes b.whole
 
   pub enters : (new : StoreState) (entry : ℕ) → propose_of T old fs block (edit_at (32 * place) bytes [] [] (Some e)) ≡ Ok (entry, new) →
       Stage T fs array new × (Entered (latest old.lives) (latest new.lives) fs d name n × IsTrue (was_given new (Some entry)))
@@ -115,7 +114,7 @@ module _ (T : Types) (fs : ℕ) (array : ℕ → Option ℕ) (zeroth first : Sto
 
     pub grow_undone : (new : StoreState) → new ≡ left_by (forget_of T first fs block) first → (fault : FfsFault) → Wants T first fs found.block fault → StopsEntering T fs zeroth new d bytes fault
     grow_undone new left fault wants = record {
-      same = λ x. subst (λ (s : StoreState). SameInode (latest zeroth.lives) (latest s.lives) fs x) (sym left) (undone_same T s.library zeroth first s.keeps.consistent fs s.few 2 (put zero_block 0 bytes) block number done x);
+      same = undone_same T zeroth first fs 2 (put zero_block 0 bytes) block number done new left;
       told = at_ok (directory_in (latest zeroth.lives) fs d) inode (λ i. StopsAtRoom T fs zeroth new d bytes fault (room_in (latest zeroth.lives) i)) dir (subst (StopsAtRoom T fs zeroth new d bytes fault) empty
           (at_ok (inode_block_in (latest zeroth.lives) fs ((d - 1) / 8)) found.block (λ owner. StopsAttaching T fs zeroth new 2 (put zero_block 0 bytes) owner fault) home_begun
           (attach_undone T fs zeroth first new 2 (put zero_block 0 bytes) block number found.block done left fault wants)));
@@ -285,7 +284,7 @@ module _ (T : Types) (fs : ℕ) (array : ℕ → Option ℕ) (zeroth first : Sto
 
     pub point_undone : (new : StoreState) → new ≡ left_by (forget_of T first fs block) first → (fault : FfsFault) → Wants T first fs root fault → StopsGrowing T fs zeroth new fault
     point_undone new left fault wants = record {
-      same = λ x. subst (λ (m : StoreState). SameInode (latest zeroth.lives) (latest m.lives) fs x) (sym left) (undone_same T s.library zeroth first s.keeps.consistent fs s.few 4 zero_block block number done x);
+      same = undone_same T zeroth first fs 4 zero_block block number done new left;
       told = at_ok (root_in (latest zeroth.lives) fs) root (λ r. StopsAttaching T fs zeroth new 4 zero_block r fault)
           (root_again (latest first.lives) fs root is_root ∙ root_same T s.library (latest zeroth.lives) (latest first.lives) fs block 6 touched) (attach_undone T fs zeroth first new 4 zero_block block number root done left fault wants);
     }
@@ -303,8 +302,7 @@ module _ (T : Types) (fs : ℕ) (array : ℕ → Option ℕ) (zeroth first : Sto
         let only = started_holds T library_layout (library_reads T s.library) fs s.few array zeroth first s.keeps fs 4 zero_block (block, number) done in
         let same = same_root w fs e.root root e.is_root is_root in
         let apart : block ≢ root = λ z.
-        let one = same_root w fs top.root root top.is_root is_root in
-        top.there (sym top.points ∙ (ap (λ r. library_layout.pointer (w r) 0) one ∙ (ap (λ m. library_layout.pointer m 0) (ap w (sym z) ∙ bare) ∙ zeros_pointer 0))) in (
+        top.there (sym top.points ∙ (ap (λ r. library_layout.pointer (w r) 0) (same_root w fs top.root root top.is_root is_root) ∙ (ap (λ m. library_layout.pointer m 0) (ap w (sym z) ∙ bare) ∙ zeros_pointer 0))) in (
           attached T s.library fs s.few array first second point_stage.keeps root index block point_free.first entry is_root e small top only bare there put_done,
           λ x.
               let first_same = none_touched T s.library zeroth h fs s.few w block 6 touched (λ z. omega (arith, z)) (λ z. omega (arith, z)) (λ z. omega (arith, z)) (λ z. omega (arith, z)) x in

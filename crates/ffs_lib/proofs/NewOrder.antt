@@ -26,12 +26,13 @@ use Rattle.ffs_lib.specs.NewOrder.{AddsBlock, CreatesInOrder, MakesInOrder, Name
 use Rattle.ffs_lib.specs.Orders.{Action, Attaches, Makes, StopsAct, act_of, entered_action, made_by, made_of}
 use Rattle.ffs_lib.specs.Results.{IsLowestNumber, new_inode}
 use Rattle.ffs_lib.specs.Steps.{Proposed}
+use Rattle.ffs_lib.proofs.Counted.{first_none}
 use Rattle.ffs_lib.proofs.Orders.{one_order}
 use Rattle.ffs_lib.proofs.Tops.{bare_from, rootless_slot}
 
 -- nothing was done
 pub stops_same : (T : Types) (fs : ℕ) (action : Action) (old new : StoreState) → new ≡ old → StopsAct T fs action old new
-stops_same T fs (Makes edits) old new e = (0, ap (λ (s : StoreState). Ok s) (sym e))
+stops_same T fs (Makes edits) old new e = first_none T fs edits old new e
 stops_same T fs (Attaches ty bytes home edit) old new e = inl e
 
 -- Whether a block of inodes is missing
@@ -93,15 +94,13 @@ module _ (T : Types) (fs d : ℕ) (name : List ℕ) (mode n : ℕ) (numbers left
   pub names_stop : left ≡ numbers → StopsAct T fs (entered_action (latest first.lives) fs d (entry_of n name) made) first new → (fault : FfsFault) (result : Result ℕ FfsFault) → IsErrAnd result (λ other. other ≡ fault) →
       NamesNew T fs d name mode n numbers old left new result
   names_stop kept stop fault result from =
-      let p = err_from_is_err_and result from in
-      subst (NamesNew T fs d name mode n numbers old left new) (sym p.1)
+      subst (NamesNew T fs d name mode n numbers old left new) (sym (err_from_is_err_and result from).1)
       (inr (first, one, inl (subst (λ (k : ℕ). StopsAct T fs (entered_action (latest first.lives) fs d (entry_of n name) k) first new) last stop)), kept)
 
 pub names_none : (T : Types) (fs d : ℕ) (name : List ℕ) (mode n : ℕ) (numbers left : Numbers) (old new : StoreState) → left ≡ numbers → new ≡ old → (fault : FfsFault) (result : Result ℕ FfsFault) → IsErrAnd result (λ other. other ≡ fault) →
     NamesNew T fs d name mode n numbers old left new result
 names_none T fs d name mode n numbers left old new kept same fault result from =
-    let p = err_from_is_err_and result from in
-    subst (NamesNew T fs d name mode n numbers old left new) (sym p.1) (inl (stops_same T fs (Makes (new_edits (latest old.lives) fs mode n (numbers ((n - 1) / 8)))) old new same), kept)
+    subst (NamesNew T fs d name mode n numbers old left new) (sym (err_from_is_err_and result from).1) (inl (stops_same T fs (Makes (new_edits (latest old.lives) fs mode n (numbers ((n - 1) / 8)))) old new same), kept)
 
 -- A block of inodes more
 
@@ -111,14 +110,12 @@ module _ (T : Types) (fs : ℕ) (numbers left : Numbers) (old new : StoreState) 
 
   pub adds_stop : {A : Type 0} → StopsAct T fs (block_action missing) old new → left ≡ numbers → (fault : FfsFault) (result : Result A FfsFault) → IsErrAnd result (λ other. other ≡ fault) → AddsBlock T fs numbers old left new result
   adds_stop {A} stop kept fault result from =
-      let p = err_from_is_err_and result from in
-      subst (AddsBlock T fs numbers old left new) (sym p.1) (subst (λ (m : Option (ℕ × ℕ)). StopsAct T fs (block_action m) old new) (sym e) stop, kept)
+      subst (AddsBlock T fs numbers old left new) (sym (err_from_is_err_and result from).1) (subst (λ (m : Option (ℕ × ℕ)). StopsAct T fs (block_action m) old new) (sym e) stop, kept)
 
 -- nothing was begun
 pub adds_none : {A : Type 0} (T : Types) (fs : ℕ) (numbers : Numbers) (old new : StoreState) → new ≡ old → (fault : FfsFault) (result : Result A FfsFault) → IsErrAnd result (λ other. other ≡ fault) → AddsBlock T fs numbers old numbers new result
 adds_none {A} T fs numbers old new same fault result from =
-    let p = err_from_is_err_and result from in
-    subst (AddsBlock T fs numbers old numbers new) (sym p.1) (stops_same T fs (block_action (missing_block (latest old.lives) fs)) old new same, refl)
+    subst (AddsBlock T fs numbers old numbers new) (sym (err_from_is_err_and result from).1) (stops_same T fs (block_action (missing_block (latest old.lives) fs)) old new same, refl)
 
 -- Both
 

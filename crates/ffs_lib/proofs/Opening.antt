@@ -1,6 +1,6 @@
 -- What a volume is opened or made with.
-use Rattle.std.proofs.Common.{◌≡◌, ℕ, ◌<◌, inl, inr, Bool, true, false, Option, Some, None, Result, Ok, Err, refl, arith}
-use Rattle.std.specs.Prelude.{◌==◌, if◌then◌else◌}
+use Rattle.std.proofs.Common.{◌≡◌, ℕ, ◌<◌, inl, inr, Bool, true, false, Option, Some, None, Ok, refl, arith}
+use Rattle.std.specs.Prelude.{◌==◌}
 use Rattle.std.proofs.lemmas.Bool.{eqb-true}
 use Rattle.xn_model.specs.Types.{Types}
 use Rattle.xn_model.specs.Lives.{StoreState}
@@ -11,19 +11,14 @@ use Rattle.ffs_model.specs.Names.{IsInodes}
 use Rattle.ffs_model.specs.Library.{library_layout}
 use Rattle.ffs_model.specs.Volumes.{KeepsImage, VolumeKeeps, no_edits}
 use Rattle.ffs_model.proofs.ForCallers.{library_reads, newest_types, no_root_keeps, nothing_pending, opened_keeps, rest_keeps}
-use Rattle.ffs_lookup.specs.declared.fault.FfsFault.{FfsFault}
 use Rattle.ffs_lookup.specs.declared.fault.FfsFault.TheVariants.{Pending}
 use Rattle.ffs_lookup.specs.Newest.{inode_block_in, make_in}
 use Rattle.ffs_lookup.specs.Counts.{make_from, open_in, over_named, sound_in, unless_over}
 use Rattle.ffs_lib.specs.Steps.{Stage}
 use Rattle.ffs_lib.specs.Volumes.{MayOpen, NothingPending}
 use Rattle.ffs_lib.proofs.NameCounts.{counted_good}
-use Rattle.ffs_lib.proofs.Owners.{block_from, passed}
+use Rattle.ffs_lib.proofs.Owners.{block_from, passed, then_first}
 use Rattle.ffs_lib.proofs.Tops.{bare_from, no_pointers, rootless_slot}
-
-if_true : {A : Type 0} (t : Bool) (r : Result A FfsFault) (fault : FfsFault) (x : A) → Ok x ≡ (if t then r else Err fault) → (t ≡ true) × (Ok x ≡ r)
-if_true true r fault x e = (refl, e)
-if_true false r fault x e = absurd (cc e)
 
 none_over : (o : Option ℕ) → Ok tt ≡ unless_over o → o ≡ None
 none_over None e = refl
@@ -39,7 +34,7 @@ pub record OpenFound (state : StoreState) (fs : ℕ) : Type 0 where
 pub open_found : (state : StoreState) (fs : ℕ) → Ok tt ≡ open_in state fs → OpenFound state fs
 open_found state fs e =
     let content = latest state.lives in
-    let x = if_true (pending_of state fs == 0) (sound_in content fs) Pending tt e in
+    let x = then_first (pending_of state fs == 0) (sound_in content fs) Pending tt e in
     let r = passed (inode_block_in content fs 0) (λ block. unless_over (over_named content fs)) tt x.1 in
     record {
       idle = eqb-true (pending_of state fs) 0 x.0;
@@ -50,7 +45,7 @@ open_found state fs e =
 
 pub make_found : (state : StoreState) (fs : ℕ) (begun : Bool) → Ok begun ≡ make_from state fs → (pending_of state fs ≡ 0) × (Ok begun ≡ make_in (latest state.lives) fs)
 make_found state fs begun e =
-    let x = if_true (pending_of state fs == 0) (make_in (latest state.lives) fs) Pending begun e in
+    let x = then_first (pending_of state fs == 0) (make_in (latest state.lives) fs) Pending begun e in
     (eqb-true (pending_of state fs) 0 x.0, x.1)
 
 module _ (T : Types) (state : StoreState) (h : IsConsistent T state) (fs : ℕ) (few : fs < 32) (may : MayOpen T state fs) where

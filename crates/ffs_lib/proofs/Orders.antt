@@ -3,18 +3,17 @@ use Rattle.std.proofs.Common.{◌≡◌, ◌≢◌, ℕ, suc, ◌+◌, ◌-◌, 
 use Rattle.std.specs.Prelude.{IfOk, IsErrAnd, ◌==◌, ◌||◌, not, nat_lt, if◌then◌else◌}
 use Rattle.std.proofs.lemmas.Bool.{cases_eq, le-ltb, lt-ltb, ne_eqb}
 use Rattle.std.proofs.lemmas.Result.{err_from_is_err_and}
-use Rattle.xn_model.specs.declared.refusal.Refusal.{Refusal}
 use Rattle.std.specs.Int.{w16, to_le_bytes}
 use Rattle.xn_model.specs.Lists.{put}
 use Rattle.xn_model.specs.Types.{Types}
 use Rattle.xn_model.specs.Root.{word_at}
-use Rattle.xn_model.specs.Lives.{Life, StoreState}
-use Rattle.xn_model.specs.Results.{result_and_then, unless}
-use Rattle.xn_model.specs.Calls.{Edit, accepts, forget_of, init_of, edited, own_life, propose_at, propose_of, propose_refusal}
+use Rattle.xn_model.specs.Lives.{StoreState}
+use Rattle.xn_model.specs.Results.{result_and_then}
+use Rattle.xn_model.specs.Calls.{Edit, init_of, propose_of}
 use Rattle.xn_model.specs.Rules.{IsConsistent}
 use Rattle.ffs_model.specs.Cuts.{Under, latest}
 use Rattle.ffs_model.specs.Library.{IsLibrary, inode_links, library_layout}
-use Rattle.ffs_model.proofs.ForCallers.{library_reads, one_type, proposed_next, proposed_others, under_direct}
+use Rattle.ffs_model.proofs.ForCallers.{library_reads, one_type, proposed, proposed_next, proposed_others, under_direct}
 use Rattle.ffs_lookup.specs.declared.fault.FfsFault.{FfsFault}
 use Rattle.ffs_lookup.specs.declared.places.Slot.{Slot}
 use Rattle.ffs_lookup.specs.declared.places.Room.{Room}
@@ -23,50 +22,41 @@ use Rattle.ffs_format.specs.Entries.{entry_of}
 use Rattle.ffs_lookup.specs.Places.{IsSlot}
 use Rattle.ffs_lookup.specs.Newest.{directory_in, inode_block_in, inode_in, room_in}
 use Rattle.ffs_lib.specs.Edits.{data_of_pointers, edit_at}
-use Rattle.ffs_lib.specs.Orders.{Action, Acts, Attaches, Edits, InOrder, Makes, Numbered, Orders, Parts, StopsAct, StopsIn, act_of, edits_at, entered_action, free_edit, has_data, inode_edits, linked_edits, links_edit, NamesInOrder, made_by, made_of, moved_parts, pointers_edit, removed_edits, replaced_parts, room_action, taken_edits, turned_edits, inode_action}
-use Rattle.ffs_lib.specs.Steps.{Attached, Dropped, Proposed, Stage, clearing, left_by}
-use Rattle.ffs_lib.proofs.Undoing.{at_ok}
+use Rattle.ffs_lib.specs.Orders.{Action, Acts, Attaches, Edits, FirstMade, InOrder, Makes, Numbered, Orders, Parts, StopsAct, StopsIn, act_of, edits_at, entered_action, free_edit, has_data, inode_edits, linked_edits, links_edit, NamesInOrder, made_by, made_of, moved_parts, pointers_edit, removed_edits, replaced_parts, room_action, taken_edits, turned_edits, inode_action}
+use Rattle.ffs_lib.specs.Steps.{Attached, Dropped, Proposed, Stage, clearing, skipped}
+use Rattle.ffs_lib.proofs.Counted.{edits_next, first_none}
+use Rattle.ffs_lib.proofs.Undoing.{at_ok, forgotten_is}
 use Rattle.ffs_lib.proofs.Owners.{pointers_at, stands_from}
 use Rattle.ffs_lib.proofs.Same.{begun, block_same, inodes_same}
 use Rattle.ffs_lib.proofs.Same as same
 
 -- the number that the store gives
 pub number_is : (T : Types) (old : StoreState) (fs b : ℕ) (edit : Edit) (entry : ℕ) (new : StoreState) → propose_of T old fs b edit ≡ Ok (entry, new) → entry ≡ old.next
-number_is T old fs b edit entry new done = at (own_life old fs b) done
-  where
-    number : Result (ℕ × StoreState) Refusal → ℕ
-    number (Ok x) = x.0
-    number (Err refusal) = old.next
-
-    by : (refusal : Option Refusal) (x : StoreState) → unless {A = ℕ × StoreState} refusal (Ok (old.next, x)) ≡ Ok (entry, new) → entry ≡ old.next
-    by None x e = sym (ap number e)
-    by (Some refusal) x e = absurd (cc e)
-
-    at : (own : Result Life Refusal) → result_and_then (propose_at T old fs b edit) own ≡ Ok (entry, new) → entry ≡ old.next
-    at (Ok l) e = by (propose_refusal T old fs b edit l) (accepts old b (edited old.next fs edit l)).1 e
-    at (Err refusal) e = absurd (cc e)
+number_is T old fs b edit entry new done = (proposed T old new fs b edit entry done).entry_is
 
 -- one edit, and one more at the start; or none
 pub one_order : (T : Types) (fs block : ℕ) (edit : Edit) (old new : StoreState) (result : Result ℕ FfsFault) → Proposed T fs block edit old new result → Orders T fs ((block, edit) ∷ []) old new result
 one_order T fs block edit old new (Ok entry) p = ap (result_and_then (λ done. made_of T fs [] done.1)) p
-one_order T fs block edit old new (Err fault) p = (0, ap (λ (s : StoreState). Ok s) (sym p.0))
+one_order T fs block edit old new (Err fault) p = first_none T fs ((block, edit) ∷ []) old new p.0
 
 pub then_order : {A : Type 0} (T : Types) (fs block : ℕ) (edit : Edit) (rest : Edits) (old first new : StoreState) (entry : ℕ) → propose_of T old fs block edit ≡ Ok (entry, first) → (result : Result A FfsFault) → Orders T fs rest first new result →
     Orders T fs ((block, edit) ∷ rest) old new result
 then_order T fs block edit rest old first new entry done (Ok x) o = ap (result_and_then (λ y. made_of T fs rest y.1)) done ∙ o
-then_order T fs block edit rest old first new entry done (Err fault) o = (suc o.0, ap (result_and_then (λ y. made_of T fs (take o.0 rest) y.1)) done ∙ o.1)
+then_order T fs block edit rest old first new entry done (Err fault) o =
+    let one = proposed_next T old first fs block edit entry done in
+    let more = edits_next T fs (take (new.next - first.next) rest) first new o in
+    let count : new.next - old.next ≡ suc (new.next - first.next) = omega (arith, one, more) in
+    ap (λ k. made_of T fs (take k ((block, edit) ∷ rest)) old) count ∙ (ap (result_and_then (λ y. made_of T fs (take (new.next - first.next) rest) y.1)) done ∙ o)
 
 pub none_order : {A : Type 0} (T : Types) (fs : ℕ) (edits : Edits) (old new : StoreState) → new ≡ old → (fault : FfsFault) (result : Result A FfsFault) → IsErrAnd result (λ other. other ≡ fault) → Orders T fs edits old new result
 none_order {A} T fs edits old new e fault result from =
-    let p = err_from_is_err_and result from in
-    subst (λ (r : Result A FfsFault). Orders T fs edits old new r) (sym p.1) (0, ap (λ (s : StoreState). Ok s) (sym e))
+    subst (λ (r : Result A FfsFault). Orders T fs edits old new r) (sym (err_from_is_err_and result from).1) (first_none T fs edits old new e)
 
 -- a refusal that is handed on
-pub order_err : {B : Type 0} (T : Types) (fs : ℕ) (edits : Edits) (old new : StoreState) → (count : ℕ) × (made_of T fs (take count edits) old ≡ Ok new) → (fault : FfsFault) (result : Result B FfsFault) → IsErrAnd result (λ other. other ≡ fault) →
+pub order_err : {B : Type 0} (T : Types) (fs : ℕ) (edits : Edits) (old new : StoreState) → FirstMade T fs edits old new → (fault : FfsFault) (result : Result B FfsFault) → IsErrAnd result (λ other. other ≡ fault) →
     Orders T fs edits old new result
 order_err {B} T fs edits old new o fault result from =
-    let p = err_from_is_err_and result from in
-    subst (λ (r : Result B FfsFault). Orders T fs edits old new r) (sym p.1) o
+    subst (λ (r : Result B FfsFault). Orders T fs edits old new r) (sym (err_from_is_err_and result from).1) o
 
 -- A link is taken
 
@@ -203,8 +193,7 @@ linked_is content fs n home place inode bytes e f i is =
 
 pub order_in : {A : Type 0} (T : Types) (fs : ℕ) (parts : Parts) (old new : StoreState) → StopsIn T fs parts old new → (fault : FfsFault) (result : Result A FfsFault) → IsErrAnd result (λ other. other ≡ fault) → InOrder T fs parts old new result
 order_in {A} T fs parts old new o fault result from =
-    let p = err_from_is_err_and result from in
-    subst (λ (r : Result A FfsFault). InOrder T fs parts old new r) (sym p.1) o
+    subst (λ (r : Result A FfsFault). InOrder T fs parts old new r) (sym (err_from_is_err_and result from).1) o
 
 -- all parts of a `replace`
 pub all_parts : (T : Types) (fs : ℕ) (from to : Slot) (old first second third new : StoreState) → made_of T fs (linked_edits (latest old.lives) fs from.inode) old ≡ Ok first → made_of T fs (turned_edits to from.inode old.next) first ≡ Ok second →
@@ -251,15 +240,11 @@ grow_act T fs ty home bytes edit block number old first new done (Ok e) p = (
   proposed_next T first new fs home (edit block) e p ∙ ap (λ (k : ℕ). k + 1) (sym (number_is T first fs home (edit block) e new p)),
 )
 grow_act T fs ty home bytes edit block number old first new done (Err fault) p =
-    (inr (at_ok (init_of T old fs ty bytes) ((block, number), first) (λ begun. new ≡ left_by (forget_of T begun.1 fs begun.0.0) begun.1) (sym done) p.0), tt)
+    (inr (at_ok (init_of T old fs ty bytes) ((block, number), first) (λ begun. new ≡ skipped old) (sym done) (p.0 ∙ forgotten_is T old first fs ty bytes block number done)), tt)
 
 pub act_err : {A : Type 0} (T : Types) (fs : ℕ) (action : Action) (old new : StoreState) → StopsAct T fs action old new → (P : A → Type 0) (fault : FfsFault) (result : Result A FfsFault) → IsErrAnd result (λ other. other ≡ fault) → Acts T fs action old new result × IfOk result P
 act_err {A} T fs action old new o P fault result from =
-    let p = err_from_is_err_and result from in
-    subst (λ (r : Result A FfsFault). Acts T fs action old new r × IfOk r P) (sym p.1) (o, tt)
-
-pub ok_same : (a b : ℕ) → ◌≡◌ {A = Result ℕ FfsFault} (Ok a) (Ok b) → a ≡ b
-ok_same a b e = cc
+    subst (λ (r : Result A FfsFault). Acts T fs action old new r × IfOk r P) (sym (err_from_is_err_and result from).1) (o, tt)
 
 -- the block of an inode is as before where another block began its life
 pub home_begun : (T : Types) (fs : ℕ) (array : ℕ → Option ℕ) (zeroth first : StoreState) (s : Stage T fs array zeroth) (block number : ℕ) (bytes : List ℕ) → init_of T zeroth fs 2 bytes ≡ Ok ((block, number), first) → (d home : ℕ) →
@@ -271,8 +256,7 @@ home_begun T fs array zeroth first s block number bytes done d home at =
 
 pub names_err : (T : Types) (fs d n : ℕ) (name : List ℕ) (old new : StoreState) → StopsAct T fs (Makes (linked_edits (latest old.lives) fs n)) old new → (fault : FfsFault) (result : Result ℕ FfsFault) → IsErrAnd result (λ other. other ≡ fault) → NamesInOrder T fs d n name old new result
 names_err T fs d n name old new o fault result from =
-    let p = err_from_is_err_and result from in
-    subst (NamesInOrder T fs d n name old new) (sym p.1) (inl o)
+    subst (NamesInOrder T fs d n name old new) (sym (err_from_is_err_and result from).1) (inl o)
 
 pub names_then : (T : Types) (fs d n : ℕ) (name : List ℕ) (old first new : StoreState) → made_of T fs (linked_edits (latest old.lives) fs n) old ≡ Ok first → (result : Result ℕ FfsFault) →
     Acts T fs (entered_action (latest first.lives) fs d (entry_of n name) old.next) first new result × IfOk result (λ e. new.next ≡ e + 1) → NamesInOrder T fs d n name old new result

@@ -17,7 +17,7 @@ use Rattle.ffs_lookup.specs.declared.fault.FfsFault.{FfsFault}
 use Rattle.ffs_lookup.specs.declared.fault.FfsFault.TheVariants.{NoEntry}
 use Rattle.ffs_lookup.specs.Newest.{and_then, file_block, inode_block_in, inode_in, root_in, unless_unused, unless_zero}
 use Rattle.ffs_lib.proofs.Edited.{same_root}
-use Rattle.ffs_lookup.proofs.ForCallers.{block_again, direct_has, good_number, in_inode_block, owner_of, pointer_is, used_is}
+use Rattle.ffs_lookup.proofs.ForCallers.{block_again, direct_has, good_number, in_inode_block, owner_of, pointer_is, same_ok, used_is}
 use Rattle.ffs_lib.proofs.Listed.{fits_newest}
 
 -- Look-ups that pass
@@ -30,12 +30,13 @@ pub not_first : {A : Type 0} (t : Bool) (fault : FfsFault) (r : Result A FfsFaul
 not_first true fault r y e = absurd (cc e)
 not_first false fault r y e = (refl, e)
 
+pub then_first : {A : Type 0} (t : Bool) (r : Result A FfsFault) (fault : FfsFault) (y : A) → Ok y ≡ (if t then r else Err fault) → (t ≡ true) × (Ok y ≡ r)
+then_first true r fault y e = (refl, e)
+then_first false r fault y e = absurd (cc e)
+
 pub only_first : {A : Type 0} (t : Bool) (x y : A) (fault : FfsFault) → Ok y ≡ (if t then Ok x else Err fault) → (t ≡ true) × (x ≡ y)
 only_first true x y fault e = (refl, cc)
 only_first false x y fault e = absurd (cc e)
-
-ok_same : {A : Type 0} (x y : A) → ◌≡◌ {A = Result A FfsFault} (Ok x) (Ok y) → x ≡ y
-ok_same x y e = cc
 
 pub number_from : (n : ℕ) → (n == 0) || nat_lt 128 n ≡ false → (n ≢ 0) × (n ≤ 128)
 number_from n e = two (n == 0) (nat_lt 128 n) refl refl e
@@ -54,15 +55,14 @@ root_from content fs r e =
     let s = slot (content 0) fs in
     let x = not_first (s.0 == 0) NoEntry (if s.1 == 3 then Ok s.0 else Err NoEntry) r e in
     let y = only_first (s.1 == 3) s.0 r NoEntry x.1 in
-    let three = eqb-true s.1 3 y.0 in
-    record { at = λ i. (y.1 i, three i); there = λ z. eqb-false s.0 0 x.0 (y.1 ∙ z) }
+    record { at = λ i. (y.1 i, (eqb-true s.1 3 y.0) i); there = λ z. eqb-false s.0 0 x.0 (y.1 ∙ z) }
 
 pub block_from : (content : ℕ → List ℕ) (fs j b : ℕ) → j < 16 → Ok b ≡ inode_block_in content fs j → IsInodes library_layout content fs j b
 unfolding inode_block_in
 block_from content fs j b few e =
     let r = passed (root_in content fs) (λ root. unless_zero (pointer_word (content root) j)) b e in
     let x = not_first (pointer_word (content r.0) j == 0) NoEntry (Ok (pointer_word (content r.0) j)) b r.2 in
-    let same : b ≡ pointer_word (content r.0) j = ok_same b (pointer_word (content r.0) j) x.1 in
+    let same : b ≡ pointer_word (content r.0) j = same_ok b (pointer_word (content r.0) j) x.1 in
     record {
       root = r.0;
       is_root = root_from content fs r.0 r.1;
@@ -87,7 +87,7 @@ stands_from content fs n inode e =
     let r = passed (inode_block_in content fs ((n - 1) / 8)) (λ block. unless_unused (inode_at (content block) ((n - 1) % 8))) inode x.1 in
     let m = inode_at (content r.0) ((n - 1) % 8) in
     let u = not_first (inode_mode m == 0) NoEntry (Ok m) inode r.2 in
-    let same : inode ≡ m = ok_same inode m u.1 in
+    let same : inode ≡ m = same_ok inode m u.1 in
     let some = right.0 in
     let low = right.1 in
     let few : (n - 1) / 8 < 16 = omega (arith, low) in

@@ -89,9 +89,8 @@ module _ (T : Types) (fs : ℕ) (array : ℕ → Option ℕ) (old : StoreState) 
     pub pairs_cleared : (new : StoreState) (first : Lives) (to : Slot) (e entry : ℕ) (after : Option ℕ) → after ≡ Some e → propose_of T old fs slot.block (edit_at (32 * slot.place) (replicate 32 0) [] [] after) ≡ Ok (entry, new) → is_at to slot ≡ false →
         StayNamed library_layout first old.lives (pair_of slot to) after → StayNamed library_layout first new.lives (pair_of slot to) after
     pairs_cleared new first to e entry after comes done apart x =
-        let edit = edit_at (32 * slot.place) (replicate 32 0) [] [] after in
         subst (StayNamed library_layout first new.lives (pair_of slot to)) (sym comes)
-        (stands_cleared T library_layout first old new s.keeps.consistent fs slot.block edit entry done (pair_of slot to) e refl comes
+        (stands_cleared T library_layout first old new s.keeps.consistent fs slot.block (edit_at (32 * slot.place) (replicate 32 0) [] [] after) entry done (pair_of slot to) e refl comes
         (λ same. (entry_written (latest old.lives slot.block) is.long slot.place is.few (replicate 32 0) refl).others to.place (λ z. other same z))
         (subst (StayNamed library_layout first old.lives (pair_of slot to)) comes x))
       where

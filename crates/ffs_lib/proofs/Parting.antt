@@ -4,20 +4,21 @@ use Rattle.std.specs.Prelude.{IfErr, IfOk, IfSome, is_some, min, nat_lt, if◌th
 use Rattle.std.proofs.lemmas.List.{drop-append-le, drop-replicate, get_or-drop, get_or-replicate, get_or-take, length-drop, length-replicate, length-take-le, take-append-le, take-replicate}
 use Rattle.std.proofs.lemmas.Bool.{cases_lt, le-ltb, lt-ltb}
 use Rattle.std.proofs.Math.Seq.{drop-append-add, take-add}
-use Rattle.xn_model.specs.declared.refusal.Refusal.{Refusal}
 use Rattle.xn_model.specs.Types.{Types}
 use Rattle.xn_model.specs.Rules.{IsConsistent}
 use Rattle.xn_model.specs.Lives.{StoreState}
 use Rattle.ffs_model.specs.Cuts.{latest}
 use Rattle.ffs_model.proofs.ForCallers.{given_later}
+use Rattle.xn_model.proofs.ForCallers.{same_ok as same_run}
 use Rattle.ffs_lookup.specs.declared.fault.FfsFault.{FfsFault}
+use Rattle.ffs_lookup.proofs.ForCallers.{same_ok}
 use Rattle.ffs_lookup.specs.Newest.{byte_in, byte_of, file_block, file_end, file_in, mapped}
 use Rattle.ffs_lib.specs.Results.{WroteBytes, byte_written}
 use Rattle.ffs_lib.specs.Steps.{Ends, Stage, Stops}
 use Rattle.ffs_lib.specs.Orders.{made_by}
 use Rattle.ffs_lib.specs.Orders as orders
 use Rattle.ffs_lib.specs.WriteOrder.{adds_direct, after_at, data_at, data_parts, first_past, last_after, last_at, no_last, parts_at, places, parts_made, zeros_parts}
-use Rattle.ffs_lib.specs.Writes.{IsBorder, LastGiven, MadeTo, PartStops, Parts, Puts, PutsParts, StopsPart, WaitsOn, padded}
+use Rattle.ffs_lib.specs.Writes.{IsBorder, LastGiven, MadeTo, PartStops, Parts, Puts, PutsParts, RefusesPart, StopsPart, WaitsOn, padded}
 use Rattle.ffs_lib.specs.declared.data.Last.{Last}
 use Rattle.ffs_lib.specs.declared.data.Progress.{Progress}
 use Rattle.ffs_lib.proofs.DataLaws.{later_on, puts_none, puts_still}
@@ -61,16 +62,10 @@ zeros_puts state fs n inode is index at count fit none =
     record {
       wrote = λ other i.
           let wrote : WroteBytes v v fs n inode (512 * index + at) (replicate count 0) = record { after = inode; file = is; size = refl; marks = (refl, refl); each = zeros_stand v inode index at count fit none } in
-          subst (λ (x : List ℕ). WroteBytes v v fs n x (512 * index + at) (replicate count 0)) (ok_one inode other (is ∙ sym i)) wrote;
+          subst (λ (x : List ℕ). WroteBytes v v fs n x (512 * index + at) (replicate count 0)) (same_ok inode other (is ∙ sym i)) wrote;
       others = λ d ne. (refl, λ x i. (refl, λ at low. refl), λ some few. refl);
       later = omega arith;
     }
-  where
-    ok_one : (a b : List ℕ) → ◌≡◌ {A = Result (List ℕ) FfsFault} (Ok a) (Ok b) → a ≡ b
-    ok_one a b e = cc
-
-pub ran_same : (a b : StoreState × Last) → ◌≡◌ {A = Result (StoreState × Last) Refusal} (Ok a) (Ok b) → a ≡ b
-ran_same a b e = cc
 
 -- the next part
 pub record PartMade (T : Types) (fs : ℕ) (old new : StoreState) (n end offset : ℕ) (bytes : List ℕ) (at : ℕ) (part : List ℕ) (last next : Last) : Type 0 where
@@ -83,11 +78,12 @@ pub record PartMade (T : Types) (fs : ℕ) (old new : StoreState) (n end offset 
 
 abbrev pub MakesPart : Types → ℕ → (ℕ → Option ℕ) → StoreState → StoreState → ℕ → ℕ → ℕ → List ℕ → ℕ → List ℕ → Last → Result Last FfsFault → Type 0
 MakesPart T fs array old new n end offset bytes at part last result =
-    Ends T fs array new result (PartMade T fs old new n end offset bytes at part last) (StopsPart T fs (parts_at fs n offset bytes at (after_at end offset bytes at last)) old new n)
+    Ends T fs array new result (PartMade T fs old new n end offset bytes at part last)
+    (λ fault. StopsPart T fs (parts_at fs n offset bytes at (after_at end offset bytes at last)) old new n fault × (first_past end offset ≤ at → end < offset + length bytes → WaitsOn fs n old new last last))
 
 -- of zeros, and of bytes, where one before the file's end keeps the last edits
 pub zeros_make : (T : Types) (fs : ℕ) (array : ℕ → Option ℕ) (old new : StoreState) (n end offset : ℕ) (bytes : List ℕ) (at count : ℕ) (last : Last) (result : Result Last FfsFault) → min end offset ≤ at → at < offset → count ≡ min (offset - at) (512 - at % 512) →
-    Ends T fs array new result (PutsParts T fs (zeros_parts fs n (at / 512) (at % 512) count last.edit) old new n (at / 512) (at % 512) (replicate count 0) last) (StopsPart T fs (zeros_parts fs n (at / 512) (at % 512) count last.edit) old new n) →
+    Ends T fs array new result (PutsParts T fs (zeros_parts fs n (at / 512) (at % 512) count last.edit) old new n (at / 512) (at % 512) (replicate count 0) last) (RefusesPart T fs (zeros_parts fs n (at / 512) (at % 512) count last.edit) old new n last) →
     MakesPart T fs array old new n end offset bytes at (replicate count 0) last result
 zeros_make T fs array old new n end offset bytes at count last result low lt e x = go result x
   where
@@ -100,13 +96,13 @@ zeros_make T fs array old new n end offset bytes at count last result low lt e x
     same : zeros_parts fs n (at / 512) (at % 512) count last.edit ≡ parts_at fs n offset bytes at (after_at end offset bytes at last)
     same = ap (λ k. zeros_parts fs n (at / 512) (at % 512) k last.edit) e ∙ zeros_are T fs n end offset bytes at last lt
 
-    go : (r : Result Last FfsFault) → Ends T fs array new r (PutsParts T fs (zeros_parts fs n (at / 512) (at % 512) count last.edit) old new n (at / 512) (at % 512) (replicate count 0) last) (StopsPart T fs (zeros_parts fs n (at / 512) (at % 512) count last.edit) old new n) →
+    go : (r : Result Last FfsFault) → Ends T fs array new r (PutsParts T fs (zeros_parts fs n (at / 512) (at % 512) count last.edit) old new n (at / 512) (at % 512) (replicate count 0) last) (RefusesPart T fs (zeros_parts fs n (at / 512) (at % 512) count last.edit) old new n last) →
         MakesPart T fs array old new n end offset bytes at (replicate count 0) last r
     go (Ok next) y = (
       y.0,
       record { puts = y.1.puts; given = y.1.given; made = subst (λ (p : orders.Parts). made_by T fs p old ≡ Ok new) same y.1.made; last_is = y.1.last_is ∙ zeros_last T fs n end offset bytes at last lt old new; kept = λ le. absurd (never le); waits = λ le grow. y.1.waits },
     )
-    go (Err fault) y = (y.0, (y.1.0, subst (λ (p : orders.Parts). StopsPart T fs p old new n fault) same y.1.1))
+    go (Err fault) y = (y.0, (y.1.0, (subst (λ (p : orders.Parts). StopsPart T fs p old new n fault) same y.1.1.0, λ le grow. y.1.1.1)))
 
 pub last_given : (state : StoreState) (last : Last) (past : Bool) (mine : Last) → mine ≡ (if past then last else no_last) → LastGiven state last → LastGiven state mine
 last_given state last past mine own given = subst (LastGiven state) (sym own) (go past)
@@ -117,7 +113,7 @@ last_given state last past mine own given = subst (LastGiven state) (sym own) (g
 
 pub data_make : (T : Types) (fs : ℕ) (array : ℕ → Option ℕ) (old new : StoreState) (n end offset : ℕ) (bytes : List ℕ) (at : ℕ) (part : List ℕ) (last mine : Last) (past : Bool) (result kept : Result Last FfsFault) → offset ≤ at → part ≡ data_at offset bytes at →
     (first_past end offset ≤ at → end < offset + length bytes → end < at + length part) → nat_lt end (at + length part) ≡ past → mine ≡ (if past then last else no_last) → kept ≡ mapped (λ next. if past then next else last) result → LastGiven old last →
-    Ends T fs array new result (PutsParts T fs (data_parts fs n (at / 512) (at % 512) part mine.edit) old new n (at / 512) (at % 512) part mine) (StopsPart T fs (data_parts fs n (at / 512) (at % 512) part mine.edit) old new n) →
+    Ends T fs array new result (PutsParts T fs (data_parts fs n (at / 512) (at % 512) part mine.edit) old new n (at / 512) (at % 512) part mine) (RefusesPart T fs (data_parts fs n (at / 512) (at % 512) part mine.edit) old new n mine) →
     MakesPart T fs array old new n end offset bytes at part last kept
 data_make T fs array old new n end offset bytes at part last mine past result kept ge is reaches less own e given x = subst (MakesPart T fs array old new n end offset bytes at part last) (sym e) (go result x)
   where
@@ -143,6 +139,11 @@ data_make T fs array old new n end offset bytes at part last mine past result ke
         let yes : past ≡ true = sym less ∙ lt-ltb end (at + length part) (reaches le grow) in
         subst (λ (t : Bool). WaitsOn fs n old new last (if t then next else last)) (sym yes) (subst (λ (l : Last). WaitsOn fs n old new l next) (own ∙ ap (λ (t : Bool). if t then last else no_last) yes) w)
 
+    still_on : WaitsOn fs n old new mine mine → first_past end offset ≤ at → end < offset + length bytes → WaitsOn fs n old new last last
+    still_on w le grow =
+        let yes : past ≡ true = sym less ∙ lt-ltb end (at + length part) (reaches le grow) in
+        subst (λ (l : Last). WaitsOn fs n old new l l) (own ∙ ap (λ (t : Bool). if t then last else no_last) yes) w
+
     stays : (next : Last) → at + length part ≤ first_past end offset → (if past then next else last) ≡ last
     stays next le =
         let before : at + length part ≤ end = omega (arith, le) in
@@ -152,7 +153,7 @@ data_make T fs array old new n end offset bytes at part last mine past result ke
     still true next later g = g
     still false next later g = (given_later old new later last.edit given.0, given_later old new later last.size given.1)
 
-    go : (r : Result Last FfsFault) → Ends T fs array new r (PutsParts T fs (data_parts fs n (at / 512) (at % 512) part mine.edit) old new n (at / 512) (at % 512) part mine) (StopsPart T fs (data_parts fs n (at / 512) (at % 512) part mine.edit) old new n) →
+    go : (r : Result Last FfsFault) → Ends T fs array new r (PutsParts T fs (data_parts fs n (at / 512) (at % 512) part mine.edit) old new n (at / 512) (at % 512) part mine) (RefusesPart T fs (data_parts fs n (at / 512) (at % 512) part mine.edit) old new n mine) →
         MakesPart T fs array old new n end offset bytes at part last (mapped (λ next. if past then next else last) r)
     go (Ok next) y = (
       y.0,
@@ -165,7 +166,7 @@ data_make T fs array old new n end offset bytes at part last mine past result ke
         waits = on next y.1.waits;
       },
     )
-    go (Err fault) y = (y.0, (y.1.0, subst (λ (p : orders.Parts). StopsPart T fs p old new n fault) same y.1.1))
+    go (Err fault) y = (y.0, (y.1.0, (subst (λ (p : orders.Parts). StopsPart T fs p old new n fault) same y.1.1.0, still_on y.1.1.1)))
 
 module _ (T : Types) (fs : ℕ) (array : ℕ → Option ℕ) (zeroth first second : StoreState) (n end offset : ℕ) (bytes part : List ℕ) (progress next : Progress) (count : ℕ) (p : Parts T fs array zeroth first n end offset bytes progress) (none : progress.fault ≡ None)
     (fit : progress.done + count ≤ length (padded end offset bytes)) (some : progress.done < length (padded end offset bytes)) (is : part ≡ take count (drop progress.done (padded end offset bytes)))
@@ -195,10 +196,10 @@ module _ (T : Types) (fs : ℕ) (array : ℕ → Option ℕ) (zeroth first secon
       x.kept (omega (arith, size, place, le)) ∙ p.calm (omega (arith, le))
 
   waits_next : (last : Last) → Stage T fs array second → PartMade T fs first second n end offset bytes at part progress.last last → (there : StoreState × Last) → parts_made T fs n end offset bytes (places (min end offset) offset (first_past end offset)) (zeroth, no_last) ≡ Ok there →
-      first_past end offset ≤ min end offset + (progress.done + count) → end < offset + length bytes → progress.fault ≡ None → IsConsistent T there.0 × WaitsOn fs n there.0 second no_last last
-  waits_next last stage x there made le grow z = elim (cases_lt at (first_past end offset)) [
+      first_past end offset ≤ min end offset + (progress.done + count) → end < offset + length bytes → IsConsistent T there.0 × WaitsOn fs n there.0 second no_last last
+  waits_next last stage x there made le grow = elim (cases_lt at (first_past end offset)) [
     | inr ge ↦
-        let w = p.waits there made (omega (arith, ge, place)) grow none in
+        let w = p.waits there made (omega (arith, ge, place)) grow in
         (w.0, waits_then fs n there.0 first second no_last progress.last last w.1 (x.waits ge grow))
     | inl lt ↦
         let block : first_past end offset ≡ 512 * (end / 512) = omega (arith, lt, place) in
@@ -209,7 +210,7 @@ module _ (T : Types) (fs : ℕ) (array : ℕ → Option ℕ) (zeroth first secon
         ] in
         let ran = ap (λ (to : ℕ). parts_made T fs n end offset bytes (places (min end offset) offset to) (zeroth, no_last)) sum ∙ made_next last x in
         let calm = calm_next last x (omega (arith, sum)) in
-        subst (λ (y : StoreState × Last). IsConsistent T y.0 × WaitsOn fs n y.0 second no_last last) (ran_same (second, last) there (sym ran ∙ made)) (stage.keeps.consistent, subst (λ (l : Last). WaitsOn fs n second second no_last l) (sym calm) (waits_same fs n second no_last))
+        subst (λ (y : StoreState × Last). IsConsistent T y.0 × WaitsOn fs n y.0 second no_last last) (same_run (second, last) there (sym ran ∙ made)) (stage.keeps.consistent, subst (λ (l : Last). WaitsOn fs n second second no_last l) (sym calm) (waits_same fs n second no_last))
   ]
 
   pub parts_by : (result : Result Last FfsFault) → MakesPart T fs array first second n end offset bytes at part progress.last result →
@@ -232,10 +233,12 @@ module _ (T : Types) (fs : ℕ) (array : ℕ → Option ℕ) (zeroth first secon
     few = p.few;
     border = p.border;
     made = λ z. absurd (never_some fault z);
-    puts = puts_still zeroth first second fs n (min end offset) (take progress.done pads) p.puts x.1.1.same;
+    puts = puts_still zeroth first second fs n (min end offset) (take progress.done pads) p.puts x.1.1.0.same;
     calm = p.calm;
-    waits = λ there made le grow z. absurd (never_some fault z);
-    given = (given_later first second x.1.1.same.later progress.last.edit p.given.0, given_later first second x.1.1.same.later progress.last.size p.given.1);
+    waits = λ there made le grow.
+        let w = p.waits there made le grow in
+        (w.0, waits_then fs n there.0 first second no_last progress.last progress.last w.1 (x.1.1.1 (omega (arith, le, place)) grow));
+    given = (given_later first second x.1.1.0.same.later progress.last.edit p.given.0, given_later first second x.1.1.0.same.later progress.last.size p.given.1);
     ended = (
       x.1.0,
       record {
@@ -244,7 +247,7 @@ module _ (T : Types) (fs : ℕ) (array : ℕ → Option ℕ) (zeroth first secon
         before = first;
         made = made_to;
         puts = p.puts;
-        told = subst (λ (k : ℕ). StopsPart T fs (parts_at fs n offset bytes k (after_at end offset bytes k progress.last)) first second n fault) place x.1.1;
+        told = subst (λ (k : ℕ). StopsPart T fs (parts_at fs n offset bytes k (after_at end offset bytes k progress.last)) first second n fault) place x.1.1.0;
       },
     );
   })
@@ -261,11 +264,11 @@ parts_none T fs array state n end offset bytes s = record {
       ap (λ (ys : List ℕ). parts_made T fs n end offset bytes ys (state, no_last)) (ap (places start offset) same ∙ places_none offset start);
   puts = puts_none state fs n (min end offset);
   calm = λ le. refl;
-  waits = λ there made le grow z.
+  waits = λ there made le grow.
       let start : ℕ = min end offset in
       let same : first_past end offset ≡ start = omega (arith, le) in
       let none = ap (λ (ys : List ℕ). parts_made T fs n end offset bytes ys (state, no_last)) (ap (places start offset) same ∙ places_none offset start) in
-      subst (λ (y : StoreState × Last). IsConsistent T y.0 × WaitsOn fs n y.0 state no_last no_last) (ran_same (state, no_last) there (sym none ∙ made)) (s.keeps.consistent, waits_same fs n state no_last);
+      subst (λ (y : StoreState × Last). IsConsistent T y.0 × WaitsOn fs n y.0 state no_last no_last) (same_run (state, no_last) there (sym none ∙ made)) (s.keeps.consistent, waits_same fs n state no_last);
   given = (refl, refl);
   ended = tt;
 }

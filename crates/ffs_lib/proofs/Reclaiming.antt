@@ -73,8 +73,7 @@ module _ (T : Types) (fs : ℕ) (array : ℕ → Option ℕ) (old : StoreState) 
         let sum : inode_links bytes + spared ≡ inode_links (inode_at m found.place) = let same = ap inode_links is.bytes in omega (arith, now, less, same) in
         let taken : LinksTaken library_layout m (with_inode m found.place bytes) (library_layout.home n).1 spared = subst (λ p. LinksTaken library_layout m (with_inode m found.place bytes) p spared) is.stands.at
         (rewritten.fewer m is.stands.long found.place is.stands.few bytes whole spared (mode ∙ ap inode_mode is.bytes) sum (same_blocks found.inode bytes (ap (λ (f : Fields). f.direct) set) ∙ ap inode_blocks is.bytes)) in
-        let low = (stands_from (latest old.lives) fs n found.inode exact).low in
-        let p = inode_put T lib old new h fs s.few n found.block found.place is.stands low bytes whole (λ z. is.used (sym mode ∙ z)) [] [] None entry done in
+        let p = inode_put T lib old new h fs s.few n found.block found.place is.stands ((stands_from (latest old.lives) fs n found.inode exact).low) bytes whole (λ z. is.used (sym mode ∙ z)) [] [] None entry done in
         let kept = relinked T lib old new h fs s.few n found is exact bytes whole mode (ap (λ (f : Fields). f.direct) set) (ap (λ (f : Fields). f.indirect) set) (ap (λ (f : Fields). f.size) set) None entry done n in (
           record {
             library = lib;
@@ -106,7 +105,6 @@ module _ (T : Types) (fs : ℕ) (array : ℕ → Option ℕ) (old : StoreState) 
         let edit = edit_at (64 * found.place) bytes [] drops None in
         let m = latest old.lives found.block in
         let whole : length bytes ≡ 64 = ap length free in
-        let low = (stands_from (latest old.lives) fs n found.inode exact).low in
         let freed : InodeFreed library_layout m (with_inode m found.place bytes) (library_layout.home n).1 = subst (λ p. InodeFreed library_layout m (with_inode m found.place bytes) p) is.stands.at
         (rewritten.freed m is.stands.long found.place is.stands.few bytes whole (ap inode_mode free ∙ free_mode) (ap inode_blocks free ∙ free_blocks)) in
         let links : library_layout.links m (library_layout.home n).1 ≡ inode_links found.inode = subst (λ p. library_layout.links m p ≡ inode_links found.inode) is.stands.at (links_read m found.place is.stands.few ∙ ap inode_links (sym is.bytes)) in (
@@ -117,7 +115,7 @@ module _ (T : Types) (fs : ℕ) (array : ℕ → Option ℕ) (old : StoreState) 
           },
           record {
             repaired = (
-              inode_gone T lib old new h fs s.few n found.block found.place is.stands bytes whole [] drops None entry done low (ap inode_mode free ∙ free_mode),
+              inode_gone T lib old new h fs s.few n found.block found.place is.stands bytes whole [] drops None entry done ((stands_from (latest old.lives) fs n found.inode exact).low) (ap inode_mode free ∙ free_mode),
               place_put T lib old new h fs s.few n found.block found.place is.stands bytes whole [] drops None entry done ∙ ap (λ (b : List ℕ). Ok b) free,
             );
             others = others_put T lib old new h fs s.few n found.block found.place is.stands bytes whole [] drops None entry done;
@@ -275,11 +273,10 @@ module _ (T : Types) (fs : ℕ) (array : ℕ → Option ℕ) (old : StoreState) 
   may_repair now done x n next Keep e = tt
   may_repair now done x n next GiveUp e =
       let r = given_up (latest old.lives) fs n (sym e) in
-      let at = stands_from (latest old.lives) fs n r.inode r.found in
       let none = r.none in
       let all_links : inode_links r.inode - names_count (latest old.lives) fs n ≡ inode_links r.inode = omega (arith, none) in
       record {
-        some = at.some;
+        some = (stands_from (latest old.lives) fs n r.inode r.found).some;
         inode = r.inode;
         found = r.found ∙ sym (x.later n (inr (omega (arith, next)))).0;
         spares = x.spares n (inode_links r.inode) (omega (arith, next)) (subst (λ m. KeepsNumber library_layout old.lives fs None m n) all_links (spare_of n r.inode r.found));
@@ -310,8 +307,7 @@ middle_more T fs array old now new done next is low repair e x stage r = record 
   later = λ i of. same_on u v w fs i (x.later i (elim of [ inl z ↦ inl z | inr lt ↦ inr (omega (arith, lt, is)) ]))
       (r.others i (elim of [ inl z ↦ λ f. absurd (omega (arith, z, f, is)) | inr lt ↦ λ f. absurd (omega (arith, lt, f)) ]));
   nothing = λ none.
-      let all = sym (stages_more (files_of u fs) done next is) ∙ none in
-      let parts = both_none (flat_map (stages_at (files_of u fs)) (range_with_len 1 done)) (stages_at (files_of u fs) next) all in
+      let parts = both_none (flat_map (stages_at (files_of u fs)) (range_with_len 1 done)) (stages_at (files_of u fs) next) (sym (stages_more (files_of u fs) done next is) ∙ none) in
       r.nothing (e ∙ (need_is u fs next ∙ none_kept (repaired_below (files_of u fs) next) next (needs (files_of u fs) next) parts.1)) ∙ x.nothing parts.0;
   spares = λ i m lt k. r.spares i m (omega (arith, lt)) (λ f. absurd (omega (arith, lt, f))) (x.spares i m (omega (arith, lt, is)) k);
 }

@@ -10,9 +10,8 @@ use Rattle.ffs_lookup.specs.Newest.{and_then, directory_in, slots_of, entry_name
 use Rattle.ffs_lookup.proofs.ForCallers.{EntryAt, first_value, not_both}
 use Rattle.ffs_lib.proofs.Entering.{directory_from}
 use Rattle.ffs_lib.proofs.Moving.{named_from}
-use Rattle.ffs_lib.proofs.Owners.{only_first, passed}
+use Rattle.ffs_lib.proofs.Owners.{only_first, passed, then_first}
 use Rattle.ffs_lib.proofs.Refusals.{not_bare}
-use Rattle.ffs_lib.proofs.Renaming.{then_first}
 use Rattle.ffs_lib.proofs.Writing.{file_from}
 
 pub record FindsEntry (content : ℕ → List ℕ) (fs d : ℕ) (name : List ℕ) (slot : Slot) : Type 0 where

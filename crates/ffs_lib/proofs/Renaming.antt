@@ -11,7 +11,7 @@ use Rattle.ffs_lookup.specs.declared.fault.FfsFault.TheVariants.{BadName, Exists
 use Rattle.ffs_lookup.specs.declared.places.Slot.{Slot}
 use Rattle.ffs_lookup.specs.Newest.{and_then, directory_in, first_named, has_room, if_linkable, if_movable, if_unnamed, inode_in, rename_in}
 use Rattle.ffs_lookup.proofs.ForCallers.{directory_is, in_directory, same_ok}
-use Rattle.ffs_lib.proofs.Owners.{not_first, only_first, passed}
+use Rattle.ffs_lib.proofs.Owners.{not_first, only_first, passed, then_first}
 
 -- an option that was there, or was not
 pub is_some_ok : {A : Type 0} (o : Option A) (x : A) → ◌≡◌ {A = Result A FfsFault} (Ok x) (ok_or o NoEntry) → Some x ≡ o
@@ -130,10 +130,6 @@ pub record CanMove (content : ℕ → List ℕ) (fs d : ℕ) (name : List ℕ) (
   pub few : inode_links own ≢ 65535
   pub room : has_room content to ≡ true
 
-pub then_first : {A : Type 0} (t : Bool) (r : Result A FfsFault) (fault : FfsFault) (y : A) → Ok y ≡ (if t then r else Err fault) → (t ≡ true) × (Ok y ≡ r)
-then_first true r fault y e = (refl, e)
-then_first false r fault y e = absurd (cc e)
-
 pub none_from : {A : Type 0} (o : Option A) → is_some o ≡ false → None ≡ o
 none_from None e = refl
 none_from (Some x) e = absurd (cc e)
@@ -159,7 +155,6 @@ can_move content fs d name other new_name entry e =
     let i = passed (inode_in content fs o.0.inode) (if_linkable content same b.0 o.0) entry f.1 in
     let linkable = linkable_is content same b.0 o.0 entry i.0 i.2 in
     let one : o.0 ≡ entry = linkable.0 in
-    let names = and_parts (is_name name) (is_name new_name) n.0 in
     let modes = and_parts (inode_mode a.0 == 2) (inode_mode b.0 == 2) c.0 in
     record {
       from = a.0;
@@ -168,7 +163,7 @@ can_move content fs d name other new_name entry e =
       is_to = directory_is b.0 (eqb-true (inode_mode b.0) 2 modes.1) ∙ in_directory content fs other (Ok b.0) b.1;
       first = ap (λ s. Some s) (sym one) ∙ is_some_ok (first_named content a.0 name) o.0 o.1;
       free = none_from (first_named content b.0 new_name) f.0;
-      good = names.0;
+      good = (and_parts (is_name name) (is_name new_name) n.0).0;
       own = i.0;
       is_own = i.1 ∙ ap (λ (s : Slot). inode_in content fs s.inode) one;
       few = linkable.1;

@@ -1,14 +1,14 @@
 -- Which edits `reclaim` makes, one after another.
-use Rattle.std.proofs.Common.{◌≡◌, ◌≢◌, ℕ, suc, ◌+◌, ◌-◌, ◌*◌, ◌/◌, ◌%◌, ◌<◌, ◌≤◌, Bool, List, [], ◌∷◌, ◌++◌, replicate, None, Result, Ok, Err, refl, sym, ◌∙◌, ap, inl, inr, arith, subst}
+use Rattle.std.proofs.Common.{◌≡◌, ◌≢◌, ℕ, suc, ◌+◌, ◌-◌, ◌*◌, ◌/◌, ◌%◌, ◌<◌, ◌≤◌, Bool, List, [], ◌∷◌, ◌++◌, replicate, None, Result, Ok, sym, ◌∙◌, ap, inl, inr, arith, subst}
 use Rattle.std.specs.Prelude.{if◌then◌else◌}
 use Rattle.std.specs.List.{range_with_len}
 use Rattle.std.proofs.lemmas.List.{map-append}
-use Rattle.xn_model.specs.declared.refusal.Refusal.{Refusal}
 use Rattle.xn_model.specs.Types.{Types}
 use Rattle.xn_model.specs.Root.{word_at}
 use Rattle.xn_model.specs.Lives.{StoreState}
 use Rattle.xn_model.specs.Results.{result_and_then}
 use Rattle.xn_model.specs.Rules.{IsConsistent}
+use Rattle.xn_model.proofs.ForCallers.{same_ok, then_ok}
 use Rattle.ffs_model.specs.Cuts.{Under, latest}
 use Rattle.ffs_model.specs.Library.{IsLibrary, zero_block}
 use Rattle.ffs_lookup.specs.declared.fault.FfsFault.{FfsFault}
@@ -67,27 +67,16 @@ gives_up_order {A} T lib fs few old first new h n inode exact block points under
 -- All inodes
 
 made_more : (T : Types) (fs : ℕ) (front : Parts) (part : StoreState → Action) (old now new : StoreState) → made_by T fs front old ≡ Ok now → act_of T fs (part now) now ≡ Ok new → made_by T fs (front ++ part ∷ []) old ≡ Ok new
-made_more T fs [] part old now new e done =
-    let k : ◌≡◌ {A = Result StoreState Refusal} (Ok old) (Ok now) = e in
-    let one : old ≡ now = cc in
-    subst (λ (s : StoreState). result_and_then (made_by T fs []) (act_of T fs (part s) s) ≡ Ok new) (sym one) (ap (result_and_then (made_by T fs [])) done)
-made_more T fs (first ∷ front) part old now new e done = go (act_of T fs (first old) old) (λ middle f. made_more T fs front part middle now new f done) e
-  where
-    go : (x : Result StoreState Refusal) → ((middle : StoreState) → made_by T fs front middle ≡ Ok now → made_by T fs (front ++ part ∷ []) middle ≡ Ok new) → result_and_then (made_by T fs front) x ≡ Ok now → result_and_then (made_by T fs (front ++ part ∷ [])) x ≡ Ok new
-    go (Ok middle) rest f = rest middle f
-    go (Err refusal) rest f = absurd (cc f)
+made_more T fs [] part old now new e done = subst (λ (s : StoreState). result_and_then (made_by T fs []) (act_of T fs (part s) s) ≡ Ok new) (sym (same_ok old now e)) (ap (result_and_then (made_by T fs [])) done)
+made_more T fs (first ∷ front) part old now new e done =
+    let x = then_ok (made_by T fs front) (act_of T fs (first old) old) now e in
+    ap (result_and_then (made_by T fs (front ++ part ∷ []))) x.1 ∙ made_more T fs front part x.0 now new x.2 done
 
 stops_later : (T : Types) (fs : ℕ) (front rest : Parts) (part : StoreState → Action) (old now new : StoreState) → made_by T fs front old ≡ Ok now → StopsAct T fs (part now) now new → StopsIn T fs (front ++ part ∷ rest) old new
-stops_later T fs [] rest part old now new e stop =
-    let k : ◌≡◌ {A = Result StoreState Refusal} (Ok old) (Ok now) = e in
-    let one : old ≡ now = cc in
-    inl (subst (λ (s : StoreState). StopsAct T fs (part s) s new) (sym one) stop)
-stops_later T fs (first ∷ front) rest part old now new e stop = go (act_of T fs (first old) old) (λ middle f. stops_later T fs front rest part middle now new f stop) refl e
-  where
-    go : (x : Result StoreState Refusal) → ((middle : StoreState) → made_by T fs front middle ≡ Ok now → StopsIn T fs (front ++ part ∷ rest) middle new) → act_of T fs (first old) old ≡ x → result_and_then (made_by T fs front) x ≡ Ok now →
-        StopsIn T fs (first ∷ front ++ part ∷ rest) old new
-    go (Ok middle) later g f = inr (middle, g, later middle f)
-    go (Err refusal) later g f = absurd (cc f)
+stops_later T fs [] rest part old now new e stop = inl (subst (λ (s : StoreState). StopsAct T fs (part s) s new) (sym (same_ok old now e)) stop)
+stops_later T fs (first ∷ front) rest part old now new e stop =
+    let x = then_ok (made_by T fs front) (act_of T fs (first old) old) now e in
+    inr (x.0, x.1, stops_later T fs front rest part x.0 now new x.2 stop)
 
 module _ (T : Types) (fs : ℕ) (files : Files) (old now : StoreState) (done next : ℕ) (is : next ≡ done + 1) (made : made_by T fs (repair_parts files fs (range_with_len 1 done)) old ≡ Ok now) where
   abbrev part : ℕ → StoreState → Action

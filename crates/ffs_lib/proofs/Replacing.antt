@@ -11,8 +11,8 @@ use Rattle.ffs_lookup.specs.declared.places.Slot.{Slot}
 use Rattle.ffs_lookup.specs.Newest.{and_then, directory_in, file_in, first_named, inode_in}
 use Rattle.ffs_lookup.proofs.ForCallers.{directory_is, in_directory, same_ok}
 use Rattle.ffs_lib.specs.Replacing.{directories_in, entries_named, files_in, if_directories, is_full_for, replace_in}
-use Rattle.ffs_lib.proofs.Owners.{not_first, passed}
-use Rattle.ffs_lib.proofs.Renaming.{is_some_ok, then_first}
+use Rattle.ffs_lib.proofs.Owners.{not_first, passed, then_first}
+use Rattle.ffs_lib.proofs.Renaming.{is_some_ok}
 
 -- Both directories
 
@@ -148,8 +148,7 @@ files_from content fs from to a b e =
 pub can_replace : (content : ℕ → List ℕ) (fs d : ℕ) (name : List ℕ) (other : ℕ) (other_name : List ℕ) (from to : Slot) → Ok (from, to) ≡ replace_in content fs d name other other_name → CanReplace content fs d name other other_name from to
 unfolding replace_in directories_in
 can_replace content fs d name other other_name from to e =
-    let dirs = directories_in content fs d name other other_name in
-    let r = passed dirs (entries_named content fs name other_name) (from, to) e in
+    let r = passed (directories_in content fs d name other other_name) (entries_named content fs name other_name) (from, to) e in
     let a = passed (inode_in content fs d) (λ x. and_then (inode_in content fs other) (if_directories name other_name x)) r.0 r.1 in
     let b = passed (inode_in content fs other) (if_directories name other_name a.0) r.0 a.2 in
     let c = then_first ((inode_mode a.0 == 2) && (inode_mode b.0 == 2)) (if is_name name && is_name other_name then Ok (a.0, b.0) else Err BadName) NotDir r.0 b.2 in

@@ -348,9 +348,8 @@ module _ (T : Types) (lib : IsLibrary T) (state new : StoreState) (h : IsConsist
 -- A new block is not block 0
 pub begun_some : (T : Types) (state new : StoreState) → IsConsistent T state → (fs ty : ℕ) (bytes : List ℕ) (made : ℕ × ℕ) → init_of T state fs ty bytes ≡ Ok (made, new) → made.0 ≢ 0
 begun_some T state new h fs ty bytes made done e =
-    let r = started T state new fs ty bytes made done in
     let zeroth = h.lives_sound.root in
-    none-some zeroth.life (sym r.free ∙ (ap (life_at state.lives) e ∙ zeroth.alive))
+    none-some zeroth.life (sym (started T state new fs ty bytes made done).free ∙ (ap (life_at state.lives) e ∙ zeroth.alive))
 
 -- One after another
 pub contents_on : (u v w : ℕ → List ℕ) (inode : List ℕ) → SameContents u v inode → SameContents v w inode → SameContents u w inode

@@ -198,13 +198,12 @@ kept_or_emptied T lib fs few u middle new after n same own was is stage = (
   sym is ∙ (was ∙ same.0),
   λ inode i.
       let m = latest middle.lives in
-      let z = latest new.lives in
       let k = same.1 inode i in
       elim stage [
         | inl e ↦ inl (subst (λ (y : StoreState). SameContents u (latest y.lives) inode) (sym e) k)
         | inr e ↦
             let one : own ≡ inode = same_ok own inode (was ∙ (same.0 ∙ sym i)) in
-            let x = subst (AreEmptied m z) one (emptied_contents T lib fs few m new after n own was is e) in
+            let x = subst (AreEmptied m (latest new.lives)) one (emptied_contents T lib fs few m new after n own was is e) in
             inr (x.0 ∙ k.0, λ at low. x.1 at low ∙ ap (λ (b : ℕ). if nat_lt at 6144 then b else 0) (k.1 at low))
       ],
 )
@@ -298,8 +297,7 @@ module _ (T : Types) (lib : IsLibrary T) (fs : ℕ) (few : fs < 32) (d : ℕ) (n
     | inl p ↦
         subst (λ (s : StoreState). Unnames u (latest s.lives) fs d slot.inode × KeptOrEmptied u (latest s.lives) fs slot.inode) (sym p.0) (nothing, (refl, λ inode i. inl (refl, λ at low. refl)))
     | inr q ↦
-        let lost = unlisted u (latest q.0.lives) fs d slot f.own own_is has q.1 in
-        (in_middle q.0 q.1 fault q.2, taking_kept T fs u q.0 new slot.inode (lost.others slot.inode (λ e. f.apart (sym e))) fault q.2 lib few after)
+        (in_middle q.0 q.1 fault q.2, taking_kept T fs u q.0 new slot.inode ((unlisted u (latest q.0.lives) fs d slot f.own own_is has q.1).others slot.inode (λ e. f.apart (sym e))) fault q.2 lib few after)
   ]
 
 -- The whole call: the look-up's fault, or what is done of the entry that it finds.

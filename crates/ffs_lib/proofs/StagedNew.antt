@@ -192,9 +192,7 @@ module _ (T : Types) (fs d : ℕ) (name : List ℕ) (mode : ℕ) (old new : Stor
       elim s [
         | inl home ↦ all_same u2 w2 fs d mode n (λ x. subst (λ (y : StoreState). SameOrNew u2 (latest y.lives) fs n x) (sym home.0) (t.stays x))
         | inr q ↦
-            let k = q.1 in
-            let now = q.2.same in
-            made_apart u2 w2 fs d mode n (sym (t.stays n).0 ∙ free_none middle fs free t.is) (place_used w2 fs n (new_inode mode) (sym k.made ∙ sym (now n).0)) (new_stays fault middle free t (inr q))
+            made_apart u2 w2 fs d mode n (sym (t.stays n).0 ∙ free_none middle fs free t.is) (place_used w2 fs n (new_inode mode) (sym q.1.made ∙ sym (q.2.same n).0)) (new_stays fault middle free t (inr q))
       ]
 
   pub created_makes : (value : InodeValue) (next : ℕ × Files) → created value (files_of u2 fs) d name ≡ Ok next → (result : Result ℕ FfsFault) → Creates T fs d name mode old new result → Makes u2 w2 fs d mode next.0

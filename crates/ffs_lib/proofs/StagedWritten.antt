@@ -1,9 +1,9 @@
 -- A write does what its function of the files says, or leaves one of its stages.
-use Rattle.std.proofs.Common.{◌≡◌, ◌≢◌, ℕ, zero, suc, ◌+◌, ◌-◌, ◌%◌, ◌<◌, ◌≤◌, ◌⊎◌, Bool, true, false, List, [], ◌∷◌, ◌++◌, length, map, take, replicate, Option, Some, None, Result, Ok, Err, refl, sym, ◌∙◌, ap, inl, inr, arith, eq-eqb, subst, length-append}
-use Rattle.std.specs.Prelude.{IfErr, IfOk, IfSome, IsOk, MatchResult, OnOk, ◌==◌, ◌||◌, filter, min, nat_lt, if◌then◌else◌}
+use Rattle.std.proofs.Common.{◌≡◌, ◌≢◌, ℕ, ◌+◌, ◌-◌, ◌%◌, ◌<◌, ◌≤◌, ◌⊎◌, Bool, true, false, List, [], ◌∷◌, ◌++◌, length, map, take, replicate, Option, Some, None, Result, Ok, Err, refl, sym, ◌∙◌, ap, inl, inr, arith, eq-eqb, subst, length-append}
+use Rattle.std.specs.Prelude.{Contains, IfErr, IfOk, IfSome, IsOk, MatchResult, OnOk, ◌==◌, ◌&&◌, ◌||◌, filter, min, nat_lt, if◌then◌else◌}
 use Rattle.std.specs.List.{range_with_len}
-use Rattle.std.proofs.lemmas.Bool.{cases_eq, le-ltb, lt-ltb, or_left, or_right}
-use Rattle.std.proofs.lemmas.List.{length-replicate, length-take-le, take_all}
+use Rattle.std.proofs.lemmas.Bool.{cases_eq, le-ltb, lt-ltb, ne_eqb, or_left, or_right}
+use Rattle.std.proofs.lemmas.List.{append-nil, length-replicate, length-take-le, take_all}
 use Rattle.std.proofs.Math.Seq.{take-append-add}
 use Rattle.std.proofs.lemmas.List.FromFn.{length-map-range_with_len}
 use Rattle.xn_model.specs.declared.refusal.Refusal.{Refusal}
@@ -11,22 +11,24 @@ use Rattle.xn_model.specs.declared.refusal.Refusal.TheVariants.{TooManyPending}
 use Rattle.xn_model.specs.Root.{word_at}
 use Rattle.xn_model.specs.Types.{Types}
 use Rattle.xn_model.specs.Lives.{StoreState}
+use Rattle.xn_model.proofs.ForCallers.{Contains-cons, Contains-none, filter_from}
 use Rattle.ffs_model.specs.Cuts.{latest}
 use Rattle.ffs_model.specs.Library.{IsLibrary}
 use Rattle.ffs_lookup.specs.declared.fault.FfsFault.{FfsFault}
 use Rattle.ffs_lookup.specs.declared.fault.FfsFault.TheVariants.{Kernel}
-use Rattle.ffs_lookup.specs.Files.{Answer, File, Files, fault_told, with_value, written, written_bytes}
+use Rattle.ffs_lookup.specs.Files.{Answer, File, Files, fault_told, file_of, with_value, written, written_bytes}
 use Rattle.ffs_lookup.specs.FileValues.{files_of}
 use Rattle.ffs_lookup.specs.Newest.{byte_of, file_end, file_in, is_short, mapped, write_in}
 use Rattle.ffs_lookup.proofs.ForCallers.{same_ok}
 use Rattle.ffs_lib.specs.Outcomes.{IsRaised}
+use Rattle.ffs_lib.specs.Orders.{Acts}
 use Rattle.ffs_lib.specs.Results.{OnlyChanges}
 use Rattle.ffs_lib.specs.Stages.{Ask, Asks, Does, IsRefused, IsStage, OfInode, OfPart, Stages, stages_of}
 use Rattle.ffs_lib.specs.Steps.{Answers, Stage, Stops, StopsAtHome}
 use Rattle.ffs_lib.specs.Values.{Leads}
-use Rattle.ffs_lib.specs.WriteOrder.{after_at, borders, no_last, places, parts_made}
-use Rattle.ffs_lib.specs.Writes.{MadeTo, PartStops, Parts, Puts, padded}
-use Rattle.ffs_lib.specs.Written.{DoesSome, Overwrites, RefusesSome, TakesSome, WritesSomeTo, WritesTo, first_place, if_any, last_stages, next_stages, part_stages, place_stages, size_stages, written_stages, written_to}
+use Rattle.ffs_lib.specs.WriteOrder.{after_at, after_in, after_of, after_reached, borders, no_last, parts_at, parts_made, places, size_action, stop_among, stops_at, written_by}
+use Rattle.ffs_lib.specs.Writes.{MadeTo, PartStops, Parts, StopsPart, padded}
+use Rattle.ffs_lib.specs.Written.{DoesSome, Overwrites, TakesSome, WritesSomeTo, WritesTo, first_place, if_any, is_size, last_stages, next_stages, part_stages, place_stages, size_stages, some_by, some_stages, written_stages, written_to}
 use Rattle.ffs_lib.specs.Volumes.{IsVolume, edits_of}
 use Rattle.ffs_lib.specs.declared.data.Last.{Last}
 use Rattle.ffs_lib.specs.declared.data.Progress.{Progress}
@@ -36,7 +38,9 @@ use Rattle.ffs_lib.proofs.Laws.{staged}
 use Rattle.ffs_lib.proofs.Parting.{end_found, never_some}
 use Rattle.ffs_lib.proofs.Same.{same_on}
 use Rattle.ffs_lib.proofs.Staged.{does_found}
-use Rattle.ffs_lib.proofs.WriteParts.{places_none}
+use Rattle.ffs_lib.proofs.Stopping.{acts_later, stops_any, stops_behind, stops_here}
+use Rattle.ffs_lib.proofs.Tops.{among}
+use Rattle.ffs_lib.proofs.WriteParts.{border_place, places_none, places_split}
 use Rattle.ffs_lib.proofs.ValueWritten.{file, file_is, files, first_files, looked, none_leads, some_leads, written_leads}
 
 -- One of many stages
@@ -50,34 +54,22 @@ module _ (T : Types) (fs : ℕ) (new : StoreState) (fault : FfsFault) where
   before_others [] ys h = absurd h
   before_others ((f, ask) ∷ xs) ys h = elim h [ inl x ↦ inl x | inr x ↦ inr (before_others xs ys x) ]
 
+  at_one : (f : ℕ → Files) (ask : ℕ → Ask) (at : ℕ) (before : StoreState) → files_of (latest before.lives) fs ≡ f at → Asks T fs (ask at) before new fault → (xs : List ℕ) → Contains xs at → IsStage T fs new fault (map (λ x. (f x, ask x)) xs)
+  at_one f ask at before is asks [] i = absurd (Contains-none at i)
+  at_one f ask at before is asks (x ∷ xs) i = elim (Contains-cons x xs at i) [
+    | inl e ↦ inl (before, is ∙ ap f (sym e), subst (λ (y : ℕ). Asks T fs (ask y) before new fault) (sym e) asks)
+    | inr j ↦ inr (at_one f ask at before is asks xs j)
+  ]
+
   -- at one of the places from one on that a test picks
   at_place : (f : ℕ → Files) (ask : ℕ → Ask) (test : ℕ → Bool) (at : ℕ) (before : StoreState) → files_of (latest before.lives) fs ≡ f at → Asks T fs (ask at) before new fault → test at ≡ true → (a k : ℕ) → a ≤ at → at < a + k →
       IsStage T fs new fault (map (λ x. (f x, ask x)) (filter test (range_with_len a k)))
-  at_place f ask test at before is asks picked a zero low high = absurd (omega (arith, low, high))
-  at_place f ask test at before is asks picked a (suc k) low high = elim (cases_eq a at) [
-    | inl z ↦
-        let here : test a ≡ true = ap test z ∙ picked in
-        subst (λ (t : Bool). IsStage T fs new fault (map (λ x. (f x, ask x)) (if t then a ∷ filter test (range_with_len (a + 1) k) else filter test (range_with_len (a + 1) k)))) (sym here)
-        (inl (before, is ∙ ap f (sym z), subst (λ (x : ℕ). Asks T fs (ask x) before new fault) (sym z) asks))
-    | inr ne ↦ go (test a) (at_place f ask test at before is asks picked (a + 1) k (omega (arith, ne, low)) (omega (arith, high)))
-  ]
-    where
-      go : (t : Bool) → IsStage T fs new fault (map (λ x. (f x, ask x)) (filter test (range_with_len (a + 1) k))) →
-          IsStage T fs new fault (map (λ x. (f x, ask x)) (if t then a ∷ filter test (range_with_len (a + 1) k) else filter test (range_with_len (a + 1) k)))
-      go true h = inr h
-      go false h = h
+  at_place f ask test at before is asks picked a k low high =
+      at_one f ask at before is asks (filter test (range_with_len a k)) (filter_from test (range_with_len a k) at (among k a at low high) picked)
 
 any_is : (bytes : List ℕ) (stages : Stages) → length bytes ≢ 0 → if_any bytes stages ≡ stages
 any_is [] stages ne = absurd (ne refl)
 any_is (byte ∷ rest) stages ne = refl
-
--- What the files don't say
-
-pub overwrites_none : (state : StoreState) (fs n : ℕ) (inode : List ℕ) (offset : ℕ) (bytes : List ℕ) → Ok inode ≡ file_in (latest state.lives) fs n → Overwrites (latest state.lives) (latest state.lives) fs n inode offset bytes 0
-overwrites_none state fs n inode offset bytes is =
-    let a = puts_none state fs n (min (file_end inode) offset) in
-    let k = a.wrote inode is in
-    record { others = a.others; after = k.after; file = k.file; mode = k.marks.0; size = λ high. k.size; few = omega arith; border = λ lt. inl refl; each = k.each }
 
 -- The file that is looked up
 pub found_file : (content : ℕ → List ℕ) (fs n size end : ℕ) → Ok end ≡ mapped file_end (write_in content fs n size) → (inode : List ℕ) × (Ok inode ≡ file_in content fs n) × (file_end inode ≡ end) × (size ≤ 71680)
@@ -139,8 +131,11 @@ module _ (T : Types) (fs : ℕ) (array : ℕ → Option ℕ) (old middle : Store
   abbrev pads : List ℕ
   pads = padded (file_end inode) offset bytes
 
-  abbrev to : List ℕ → ℕ → Files
-  to bs at = written_to all n offset bs own at
+  abbrev to : ℕ → Files
+  to at = written_to all n offset bytes own at
+
+  abbrev asked : ℕ → Option ℕ
+  asked = after_in T fs n offset bytes old
 
   long_own : length own.1 ≡ file_end inode
   long_own = length-map-range_with_len (byte_of (latest old.lives) inode) 0 (file_end inode)
@@ -154,24 +149,37 @@ module _ (T : Types) (fs : ℕ) (array : ℕ → Option ℕ) (old middle : Store
   abbrev is_place : ℕ → Bool
   is_place at = (at == offset) || (at % 512 == 0)
 
-  abbrev parts_list : List ℕ → ℕ → Stages
-  parts_list bs first = part_stages all n offset bs own (borders first offset (offset + length bs))
+  abbrev parts_list : ℕ → ℕ → Stages
+  parts_list first last = part_stages all asked n offset bytes own (borders first offset last)
 
-  abbrev size_list : List ℕ → Stages
-  size_list bs = size_stages all n offset bs own (filter (nat_lt (length own.1)) ((offset + length bs) ∷ []))
+  abbrev size_list : Stages
+  size_list = size_stages all n offset bytes own (filter (nat_lt (length own.1)) ((offset + length bytes) ∷ []))
 
-  written_are : (bs : List ℕ) → length bs ≢ 0 → written_stages all n offset bs ≡ parts_list bs (first_place own offset) ++ size_list bs
-  written_are bs ne = ap (λ r. stages_of r (λ f. if_any bs (part_stages all n offset bs f (borders (first_place f offset) offset (offset + length bs)) ++ size_stages all n offset bs f (filter (nat_lt (length f.1)) ((offset + length bs) ∷ [])))))
-      (file_is old fs n offset inode is) ∙ any_is bs (parts_list bs (first_place own offset) ++ size_list bs) ne
+  abbrev some_sizes : Stages
+  some_sizes = size_stages all n offset bytes own (filter (is_size (length own.1) (offset + length bytes)) (range_with_len (offset + 1) (length bytes)))
+
+  any_are : (f : ℕ × List ℕ → Stages) → stages_of (file_of (all n)) (λ x. if_any bytes (f x)) ≡ f own
+  any_are f = ap (λ r. stages_of r (λ x. if_any bytes (f x))) (file_is old fs n offset inode is) ∙ any_is bytes (f own) b.there
+
+  written_are : written_stages all asked n offset bytes ≡ parts_list start (offset + length bytes) ++ size_list
+  written_are = any_are (λ f. part_stages all asked n offset bytes f (borders (first_place f offset) offset (offset + length bytes)) ++ size_stages all n offset bytes f (filter (nat_lt (length f.1)) ((offset + length bytes) ∷ [])))
+      ∙ ap (λ x. parts_list x (offset + length bytes) ++ size_list) start_is
+
+  some_are : some_stages all asked n offset bytes ≡ parts_list start (offset + 1) ++ some_sizes
+  some_are = any_are (λ f. part_stages all asked n offset bytes f (borders (first_place f offset) offset (offset + 1))
+      ++ size_stages all n offset bytes f (filter (is_size (length f.1) (offset + length bytes)) (range_with_len (offset + 1) (length bytes)))) ∙ ap (λ x. parts_list x (offset + 1) ++ some_sizes) start_is
 
   abbrev Stopped : FfsFault → Type 0
   Stopped fault = PartStops T fs old middle n (file_end inode) offset bytes progress.done progress.last fault
 
   abbrev Refused : ℕ → StoreState → FfsFault → Type 0
-  Refused at before fault = Asks T fs (OfPart n offset bytes at) before middle fault
+  Refused at before fault = Asks T fs (OfPart n offset bytes at (asked at)) before middle fault
 
   refused : (fault : FfsFault) (k : Stopped fault) → Refused (start + progress.done) k.before fault
-  refused fault k = (after_at (file_end inode) offset bytes (start + progress.done) progress.last, k.told)
+  refused fault k =
+      let at : ℕ = start + progress.done in
+      let comes : asked at ≡ after_at (file_end inode) offset bytes at progress.last = sym (ap (λ r. after_of T fs n offset bytes old r at) is) ∙ ap (after_reached (file_end inode) offset bytes at) k.made in
+      subst (λ (o : Option ℕ). StopsPart T fs (parts_at fs n offset bytes at o) k.before middle n fault) (sym comes) k.told
 
   state_in : Result (StoreState × Last) Refusal → StoreState
   state_in (Ok x) = x.0
@@ -186,13 +194,11 @@ module _ (T : Types) (fs : ℕ) (array : ℕ → Option ℕ) (old middle : Store
       sym (ap (λ (ys : List ℕ). parts_made T fs n (file_end inode) offset bytes ys (old, no_last)) (ap (places start offset) here ∙ places_none offset start)) ∙ made in
       sym (ap state_in same)
 
-  -- a part was refused
-  part_refused : (fault : FfsFault) → Stopped fault → IsRefused T fs old middle fault (written_stages all n offset bytes)
-  part_refused fault k =
+  -- a part was refused, among those up to a place
+  part_among : (fault : FfsFault) → Stopped fault → (last : ℕ) → start + progress.done < last → (rest : Stages) → IsRefused T fs old middle fault (parts_list start last ++ rest)
+  part_among fault k last less rest =
       let few = k.low in
-      let l = long_pads in
-      let done = progress.done in
-      subst (IsRefused T fs old middle fault) (sym (written_are bytes b.there)) (subst (λ (x : ℕ). IsRefused T fs old middle fault (parts_list bytes x ++ size_list bytes)) (sym start_is) (elim (cases_eq done 0) [
+      let done = progress.done in elim (cases_eq done 0) [
         | inl z ↦
             let here : start + done ≡ start = omega (arith, z) in
             inl (subst (λ (s : StoreState). Refused start s fault) (none_made k.before z k.made) (subst (λ (x : ℕ). Refused x k.before fault) here (refused fault k)))
@@ -202,47 +208,50 @@ module _ (T : Types) (fs : ℕ) (array : ℕ → Option ℕ) (old middle : Store
               | inr (inl e) ↦ or_left (start + done == offset) ((start + done) % 512 == 0) (eq-eqb (start + done) offset e)
               | inr (inr e) ↦ or_right (start + done == offset) ((start + done) % 512 == 0) (eq-eqb ((start + done) % 512) 0 e)
             ] in
-            inr (before_others T fs middle fault _ (size_list bytes) (at_place T fs middle fault (to bytes) (OfPart n offset bytes) is_place (start + done) k.before (first_files old fs n offset inode is k.before bytes done (omega (arith, few)) k.puts) (refused fault k) border
-            (start + 1) (offset + length bytes - (start + 1)) (omega (arith, ne)) (omega (arith, few, l))))
-      ]))
+            inr (before_others T fs middle fault _ rest (at_place T fs middle fault to (λ at. OfPart n offset bytes at (asked at)) is_place (start + done) k.before (first_files old fs n offset inode is k.before bytes done (omega (arith, few)) k.puts) (refused fault k) border
+            (start + 1) (last - (start + 1)) (omega (arith, ne)) (omega (arith, less, ne))))
+      ]
 
-  place_are : (done : ℕ) → place_stages all n offset bytes done ≡ (to bytes (start + done), OfPart n offset bytes (start + done)) ∷ (to bytes (start + done), OfInode n) ∷ []
+  part_refused : (fault : FfsFault) → Stopped fault → IsRefused T fs old middle fault (written_stages all asked n offset bytes)
+  part_refused fault k = let few = k.low in let l = long_pads in subst (IsRefused T fs old middle fault) (sym written_are) (part_among fault k (offset + length bytes) (omega (arith, few, l)) size_list)
+
+  place_are : (done : ℕ) → place_stages all asked n offset bytes done ≡ (to (start + done), OfPart n offset bytes (start + done) (asked (start + done))) ∷ (to (start + done), OfInode n) ∷ []
   place_are done =
-      ap (λ r. stages_of r (λ f. part_stages all n offset bytes f ((first_place f offset + done) ∷ []) ++ size_stages all n offset bytes f ((first_place f offset + done) ∷ []))) (file_is old fs n offset inode is)
-      ∙ ap (λ x. (to bytes (x + done), OfPart n offset bytes (x + done)) ∷ (to bytes (x + done), OfInode n) ∷ []) start_is
+      ap (λ r. stages_of r (λ f. part_stages all asked n offset bytes f ((first_place f offset + done) ∷ []) ++ size_stages all n offset bytes f ((first_place f offset + done) ∷ []))) (file_is old fs n offset inode is)
+      ∙ ap (λ x. (to (x + done), OfPart n offset bytes (x + done) (asked (x + done))) ∷ (to (x + done), OfInode n) ∷ []) start_is
 
-  part_place : (fault : FfsFault) → Stopped fault → IsStage T fs middle fault (place_stages all n offset bytes progress.done)
+  part_place : (fault : FfsFault) → Stopped fault → IsStage T fs middle fault (place_stages all asked n offset bytes progress.done)
   part_place fault k =
       let few = k.low in
       subst (IsStage T fs middle fault) (sym (place_are progress.done)) (inl (k.before, first_files old fs n offset inode is k.before bytes progress.done (omega (arith, few)) k.puts, refused fault k))
 
-  size_place : (new : StoreState) (fault : FfsFault) → StopsAtHome T fs middle new n fault → IsStage T fs new fault (place_stages all n offset bytes progress.done)
+  size_place : (new : StoreState) (fault : FfsFault) → StopsAtHome T fs middle new n fault → IsStage T fs new fault (place_stages all asked n offset bytes progress.done)
   size_place new fault s = subst (IsStage T fs new fault) (sym (place_are progress.done)) (inr (inl (middle, first_files old fs n offset inode is middle bytes progress.done p.few p.puts, s)))
 
   abbrev last_of : Bool → ℕ → Stages
-  last_of test at = if test then (to bytes at, OfPart n offset bytes at) ∷ [] else (to bytes at, OfInode n) ∷ []
+  last_of test at = if test then (to at, OfPart n offset bytes at (asked at)) ∷ [] else (to at, OfInode n) ∷ []
 
-  last_are : (test : Bool) → nat_lt (start + progress.done) (offset + length bytes) ≡ test → last_stages all n offset bytes progress.done ≡ last_of test (start + progress.done)
+  last_are : (test : Bool) → nat_lt (start + progress.done) (offset + length bytes) ≡ test → last_stages all asked n offset bytes progress.done ≡ last_of test (start + progress.done)
   last_are test e =
       let done = progress.done in
-      ap (λ r. stages_of r (λ f. if nat_lt (first_place f offset + done) (offset + length bytes) then part_stages all n offset bytes f ((first_place f offset + done) ∷ []) else size_stages all n offset bytes f ((first_place f offset + done) ∷ [])))
+      ap (λ r. stages_of r (λ f. if nat_lt (first_place f offset + done) (offset + length bytes) then part_stages all asked n offset bytes f ((first_place f offset + done) ∷ []) else size_stages all n offset bytes f ((first_place f offset + done) ∷ [])))
       (file_is old fs n offset inode is) ∙ (ap (λ x. last_of (nat_lt (x + done) (offset + length bytes)) (x + done)) start_is ∙ ap (λ t. last_of t (start + done)) e)
 
-  part_last : (fault : FfsFault) → Stopped fault → IsStage T fs middle fault (last_stages all n offset bytes progress.done)
+  part_last : (fault : FfsFault) → Stopped fault → IsStage T fs middle fault (last_stages all asked n offset bytes progress.done)
   part_last fault k =
       let few = k.low in
       let l = long_pads in
       subst (IsStage T fs middle fault) (sym (last_are true (lt-ltb (start + progress.done) (offset + length bytes) (omega (arith, few, l)))))
       (inl (k.before, first_files old fs n offset inode is k.before bytes progress.done (omega (arith, few)) k.puts, refused fault k))
 
-  size_last : progress.done ≡ length pads → (new : StoreState) (fault : FfsFault) → StopsAtHome T fs middle new n fault → IsStage T fs new fault (last_stages all n offset bytes progress.done)
+  size_last : progress.done ≡ length pads → (new : StoreState) (fault : FfsFault) → StopsAtHome T fs middle new n fault → IsStage T fs new fault (last_stages all asked n offset bytes progress.done)
   size_last e new fault s =
       let l = long_pads in
       subst (IsStage T fs new fault) (sym (last_are false (le-ltb (start + progress.done) (offset + length bytes) (omega (arith, e, l)))))
       (inl (middle, first_files old fs n offset inode is middle bytes progress.done p.few p.puts, s))
 
-  next_are : (count : ℕ) → next_stages all n offset bytes count ≡ (to bytes (offset + count), OfPart n offset bytes (offset + count)) ∷ []
-  next_are count = ap (λ r. stages_of r (λ f. part_stages all n offset bytes f ((offset + count) ∷ []))) (file_is old fs n offset inode is)
+  next_are : (count : ℕ) → next_stages all asked n offset bytes count ≡ (to (offset + count), OfPart n offset bytes (offset + count) (asked (offset + count))) ∷ []
+  next_are count = ap (λ r. stages_of r (λ f. part_stages all asked n offset bytes f ((offset + count) ∷ []))) (file_is old fs n offset inode is)
 
   abbrev next : List ℕ → Unit {0} × Files
   next bs = (tt, with_value all n (File own.0 (written_bytes own.1 offset bs)))
@@ -271,8 +280,7 @@ module _ (T : Types) (fs : ℕ) (array : ℕ → Option ℕ) (old middle : Store
 
   same_part : taken ≢ 0 → take progress.done pads ≡ padded (file_end inode) offset part
   same_part some =
-      let long = length-replicate {A = ℕ} (offset - file_end inode) 0 in
-      ap (λ x. take x pads) (counted some ∙ ap (λ x. x + taken) (sym long)) ∙ take-append-add (replicate (offset - file_end inode) 0) bytes taken
+      ap (λ x. take x pads) (counted some ∙ ap (λ x. x + taken) (sym (length-replicate {A = ℕ} (offset - file_end inode) 0))) ∙ take-append-add (replicate (offset - file_end inode) 0) bytes taken
 
   abbrev after : List ℕ
   after = (p.puts.wrote inode is).after
@@ -286,23 +294,69 @@ module _ (T : Types) (fs : ℕ) (array : ℕ → Option ℕ) (old middle : Store
   stopped_by : (fault : FfsFault) → progress.fault ≡ Some fault → Stops Stopped fault
   stopped_by fault e = subst (λ (o : Option FfsFault). IfSome o (Stops Stopped)) e p.ended
 
-  -- the size was refused, where some bytes are written
-  size_refused : taken ≢ 0 → (new : StoreState) (fault : FfsFault) → (word_at after 4 < offset + taken) × StopsAtHome T fs middle new n fault → IsRefused T fs old new fault (written_stages all n offset part)
-  size_refused some new fault s =
+  -- the size was refused, at one of some places
+  size_among : (test : ℕ → Bool) (a k : ℕ) → test (start + progress.done) ≡ true → a ≤ start + progress.done → start + progress.done < a + k → (new : StoreState) (fault : FfsFault) → StopsAtHome T fs middle new n fault →
+      IsStage T fs new fault (size_stages all n offset bytes own (filter test (range_with_len a k)))
+  size_among test a k picked lo hi new fault s =
+      at_place T fs new fault to (λ at. OfInode n) test (start + progress.done) middle (first_files old fs n offset inode is middle bytes progress.done p.few p.puts) s picked a k lo hi
+
+  size_below : (size : ℕ) → size ≤ 71680 → word_at after 4 < size → nat_lt (length own.1) size ≡ true
+  size_below size few less = let w = (p.puts.wrote inode is).size in let l = long_own in lt-ltb (length own.1) size (omega (arith, l, less, w, few))
+
+  size_refused : start + progress.done ≡ offset + length bytes → (new : StoreState) (fault : FfsFault) → (word_at after 4 < offset + length bytes) × StopsAtHome T fs middle new n fault → IsRefused T fs old new fault (written_stages all asked n offset bytes)
+  size_refused ends new fault s =
+      let picked = ap (nat_lt (length own.1)) ends ∙ size_below (offset + length bytes) low s.0 in
+      subst (IsRefused T fs old new fault) (sym written_are) (inr (behind T fs new fault _ size_list
+      (size_among (nat_lt (length own.1)) (offset + length bytes) 1 picked (omega (arith, ends)) (omega (arith, ends)) new fault s.1)))
+
+  -- where some bytes are written
+  size_some : taken ≢ 0 → (new : StoreState) (fault : FfsFault) → (word_at after 4 < offset + taken) × StopsAtHome T fs middle new n fault → IsRefused T fs old new fault (some_stages all asked n offset bytes)
+  size_some some new fault s =
       let few = few_taken in
-      let long = part_long in
-      let w = (p.puts.wrote inode is).size in
-      let less = s.0 in
-      let below : nat_lt (length own.1) (offset + length part) ≡ true = let l = long_own in lt-ltb (length own.1) (offset + length part) (omega (arith, l, less, w, long, few, low)) in
-      let a : Puts old middle fs n start (padded (file_end inode) offset part) = subst (Puts old middle fs n start) (same_part some) p.puts in
-      let all_part = length-append (replicate (offset - file_end inode) 0) part in
-      let zeros = length-replicate {A = ℕ} (offset - file_end inode) 0 in
-      let count : ℕ = length (padded (file_end inode) offset part) in
-      let here : start + count ≡ offset + length part = omega (arith, all_part, zeros) in
-      let files_are : files_of (latest middle.lives) fs ≡ to part (offset + length part) =
-      first_files old fs n offset inode is middle part count (omega arith) (subst (Puts old middle fs n start) (sym (take_all count (padded (file_end inode) offset part) (omega arith))) a) ∙ ap (to part) here in
-      subst (IsRefused T fs old new fault) (sym (written_are part (λ z. some (sym long ∙ z))))
-      (inr (behind T fs new fault _ (size_list part) (subst (λ (t : Bool). IsStage T fs new fault (size_stages all n offset part own (if t then (offset + length part) ∷ [] else []))) (sym below) (inl (middle, files_are, s.1)))))
+      let l = long_pads in
+      let at : ℕ = start + progress.done in
+      let here = place some in
+      let below : nat_lt (length own.1) at ≡ true = ap (nat_lt (length own.1)) here ∙ size_below (offset + taken) (omega (arith, few, low)) s.0 in
+      let edge : (at % 512 == 0) || (at == offset + length bytes) ≡ true = elim (cases_eq at (offset + length bytes)) [
+        | inl e ↦ or_right (at % 512 == 0) (at == offset + length bytes) (eq-eqb at (offset + length bytes) e)
+        | inr ne ↦ elim (p.border (omega (arith, ne, few, l, here))) [
+          | inl z ↦ absurd (omega (arith, z, here, some))
+          | inr (inl e) ↦ absurd (omega (arith, e, here, some))
+          | inr (inr e) ↦ or_left (at % 512 == 0) (at == offset + length bytes) (eq-eqb (at % 512) 0 e)
+        ]
+      ] in
+      subst (IsRefused T fs old new fault) (sym some_are) (inr (behind T fs new fault _ some_sizes
+      (size_among (is_size (length own.1) (offset + length bytes)) (offset + 1) (length bytes) (ap (λ (t : Bool). t && ((at % 512 == 0) || (at == offset + length bytes))) below ∙ edge) (omega (arith, here, some)) (omega (arith, here, few)) new fault s.1)))
+
+  -- where it stops, by the numbers of its edits
+  abbrev stop : StoreState → ℕ
+  stop = stops_at T fs n inode offset bytes old
+
+  pub stops_whole : progress.fault ≡ None → (new : StoreState) → middle.next ≤ new.next → stop new ≡ start + progress.done
+  stops_whole none new later =
+      let at : ℕ = start + progress.done in
+      stops_any T fs n inode offset bytes old new b.there
+      ∙ (ap (λ (ys : List ℕ). stop_among T fs n (file_end inode) offset bytes new.next ys (old, no_last)) (ap (places start offset) (sym (b.whole none)) ∙ sym (append-nil (places start offset at)))
+      ∙ (stops_behind T fs n (file_end inode) offset bytes new.next (places start offset at) [] (old, no_last) (middle, progress.last) (p.made none) later ∙ sym (b.whole none)))
+
+  pub stops_there : (new : StoreState) → new.next ≡ middle.next → stop new ≡ start + progress.done
+  stops_there new same = elim (some_or_none progress.fault) [
+    | inl none ↦ stops_whole none new (omega (arith, same))
+    | inr x ↦
+        let k = (stopped_by x.0 x.1).1 in
+        let few = k.low in
+        let l = long_pads in
+        let before = k.told.same.later in
+        let at : ℕ = start + progress.done in
+        let rest : List ℕ = filter is_place (range_with_len (at + 1) (offset + length bytes - (at + 1))) in
+        stops_any T fs n inode offset bytes old new b.there
+        ∙ (ap (λ (ys : List ℕ). stop_among T fs n (file_end inode) offset bytes new.next ys (old, no_last)) (places_split offset start at (offset + length bytes) (omega arith) (omega (arith, few, l)) (border_place (file_end inode) offset progress.done at refl k.border))
+        ∙ (stops_behind T fs n (file_end inode) offset bytes new.next (places start offset at) (at ∷ rest) (old, no_last) (k.before, progress.last) k.made (omega (arith, before, same))
+        ∙ stops_here T fs n (file_end inode) offset bytes new.next at rest (k.before, progress.last) middle x.0 k.told.told same))
+  ]
+
+  by_done : (new : StoreState) → stop new ≡ start + progress.done → written_by T fs n inode offset bytes old new ≡ progress.done
+  by_done new e = omega (arith, e)
 
   pub whole : progress.fault ≡ None → taken ≡ length bytes
   whole none = let e = b.whole none in omega (arith, e)
@@ -317,30 +371,31 @@ module _ (T : Types) (fs : ℕ) (array : ℕ → Option ℕ) (old middle : Store
   abbrev RaiseStops : StoreState → ℕ → FfsFault → Type 0
   RaiseStops new size fault = (word_at after 4 < size) × StopsAtHome T fs middle new n fault
 
-  pub write_refused : (fault : FfsFault) → progress.fault ≡ Some fault → Does T fs (written all n offset bytes) (written_stages all n offset bytes) old middle (Err fault)
+  pub write_refused : (fault : FfsFault) → progress.fault ≡ Some fault → Does T fs (written all n offset bytes) (written_stages all asked n offset bytes) old middle (Err fault)
   write_refused fault e =
       let stop = stopped_by fault e in
-      does_found T fs (written all n offset bytes) (next bytes) (written_stages all n offset bytes) (written_stages all n offset bytes) (λ x. ⊥) (λ x. IsRefused T fs old middle x (written_stages all n offset bytes)) old middle (Err fault)
+      does_found T fs (written all n offset bytes) (next bytes) (written_stages all asked n offset bytes) (written_stages all asked n offset bytes) (λ x. ⊥) (λ x. IsRefused T fs old middle x (written_stages all asked n offset bytes)) old middle (Err fault)
       (some_leads old fs n offset inode is bytes low b.there) refl (λ y none. absurd none) (λ x r. r) (stop.0, part_refused fault stop.1)
 
   pub write_done : progress.fault ≡ None → (new : StoreState) (result : Result (Unit {0}) FfsFault) → MatchResult result (Raises new (offset + length bytes)) (Stops (RaiseStops new (offset + length bytes))) →
-      Does T fs (written all n offset bytes) (written_stages all n offset bytes) old new result
+      Does T fs (written all n offset bytes) (written_stages all asked n offset bytes) old new result
   write_done none new result ends =
       let every = whole none in
       let some : taken ≢ 0 = λ z. b.there (sym every ∙ z) in
       let same : part ≡ bytes = take_all taken bytes (omega (arith, every)) in
-      does_found T fs (written all n offset bytes) (next bytes) (written_stages all n offset bytes) (written_stages all n offset bytes) (Raises new (offset + length bytes)) (RaiseStops new (offset + length bytes)) old new result
+      does_found T fs (written all n offset bytes) (next bytes) (written_stages all asked n offset bytes) (written_stages all asked n offset bytes) (Raises new (offset + length bytes)) (RaiseStops new (offset + length bytes)) old new result
       (some_leads old fs n offset inode is bytes low b.there) refl
       (λ y r. subst (λ (m : List ℕ). Leads (Ok (next m)) (latest new.lives) fs y) same (raised some new (subst (λ (k : ℕ). IsRaised (latest middle.lives) (latest new.lives) fs n after (offset + k)) (sym every) r.0) r.1 y))
-      (λ fault s. subst (λ (m : List ℕ). IsRefused T fs old new fault (written_stages all n offset m)) same (size_refused some new fault (subst (λ (k : ℕ). word_at after 4 < offset + k) (sym every) s.0, s.1))) ends
+      (size_refused (b.whole none) new) ends
 
   -- What the files don't say
-  abbrev Inodes : StoreState → (List ℕ → ℕ → Type 0) → Type 0
-  Inodes new Q = (other : List ℕ) → Ok other ≡ write_in (latest old.lives) fs n (offset + length bytes) → (done : ℕ) × Overwrites (latest old.lives) (latest new.lives) fs n other offset bytes done × Q other done
+  abbrev Inodes : StoreState → (List ℕ → ℕ) → (List ℕ → ℕ → Type 0) → Type 0
+  Inodes new by Q = (other : List ℕ) → Ok other ≡ write_in (latest old.lives) fs n (offset + length bytes) → Overwrites (latest old.lives) (latest new.lives) fs n other offset bytes (by other) × Q other (by other)
 
-  inodes_by : (new : StoreState) (Q : List ℕ → ℕ → Type 0) → Overwrites (latest old.lives) (latest new.lives) fs n inode offset bytes progress.done → Q inode progress.done → Inodes new Q
-  inodes_by new Q o q other e =
-      subst (λ (m : List ℕ). (done : ℕ) × Overwrites (latest old.lives) (latest new.lives) fs n m offset bytes done × Q m done) (same_ok inode other (is ∙ sym (looked (latest old.lives) fs n (offset + length bytes) other e).0)) (progress.done, o, q)
+  inodes_by : (new : StoreState) (by : List ℕ → ℕ) (Q : List ℕ → ℕ → Type 0) → by inode ≡ progress.done → Overwrites (latest old.lives) (latest new.lives) fs n inode offset bytes progress.done → Q inode progress.done → Inodes new by Q
+  inodes_by new by Q is_done o q other e =
+      subst (λ (m : List ℕ). Overwrites (latest old.lives) (latest new.lives) fs n m offset bytes (by m) × Q m (by m)) (same_ok inode other (is ∙ sym (looked (latest old.lives) fs n (offset + length bytes) other e).0))
+      (subst (λ (d : ℕ). Overwrites (latest old.lives) (latest new.lives) fs n inode offset bytes d × Q inode d) (sym is_done) (o, q))
 
   overwritten : Overwrites (latest old.lives) (latest middle.lives) fs n inode offset bytes progress.done
   overwritten =
@@ -363,46 +418,57 @@ module _ (T : Types) (fs : ℕ) (array : ℕ → Option ℕ) (old middle : Store
       }
   overwritten_then size few new (Err fault) stop = subst (λ (s : StoreState). Overwrites (latest old.lives) (latest s.lives) fs n inode offset bytes progress.done) (sym stop.1.1.0) overwritten
 
-  pub write_part_inodes : (fault : FfsFault) → progress.fault ≡ Some fault → Inodes middle (λ m done. WritesTo T fs all n m offset bytes done middle (Err fault))
-  write_part_inodes fault e = inodes_by middle (λ m done. WritesTo T fs all n m offset bytes done middle (Err fault)) overwritten (part_last fault (stopped_by fault e).1)
+  abbrev Writes : StoreState → Result (Unit {0}) FfsFault → Type 0
+  Writes new result = Inodes new (λ m. written_by T fs n m offset bytes old new) (λ m done. WritesTo T fs all asked n m offset bytes done new result)
 
-  pub write_inodes : progress.fault ≡ None → (new : StoreState) (result : Result (Unit {0}) FfsFault) → MatchResult result (Raises new (offset + length bytes)) (Stops (RaiseStops new (offset + length bytes))) →
-      Inodes new (λ m done. WritesTo T fs all n m offset bytes done new result)
-  write_inodes none new result ends = inodes_by new (λ m done. WritesTo T fs all n m offset bytes done new result) (overwritten_then (offset + length bytes) low new result ends) (go result ends)
+  pub write_part_inodes : (fault : FfsFault) → progress.fault ≡ Some fault → Writes middle (Err fault)
+  write_part_inodes fault e =
+      inodes_by middle (λ m. written_by T fs n m offset bytes old middle) (λ m done. WritesTo T fs all asked n m offset bytes done middle (Err fault)) (by_done middle (stops_there middle refl)) overwritten (part_last fault (stopped_by fault e).1)
+
+  pub write_inodes : progress.fault ≡ None → (new : StoreState) (result : Result (Unit {0}) FfsFault) → Acts T fs (size_action (latest middle.lives) fs n (offset + length bytes) progress.last.size) middle new result →
+      MatchResult result (Raises new (offset + length bytes)) (Stops (RaiseStops new (offset + length bytes))) → Writes new result
+  write_inodes none new result acts ends =
+      let later = acts_later T fs (size_action (latest middle.lives) fs n (offset + length bytes) progress.last.size) middle new result acts in
+      inodes_by new (λ m. written_by T fs n m offset bytes old new) (λ m done. WritesTo T fs all asked n m offset bytes done new result) (by_done new (stops_whole none new later)) (overwritten_then (offset + length bytes) low new result ends) (go result ends)
     where
-      go : (r : Result (Unit {0}) FfsFault) → MatchResult r (Raises new (offset + length bytes)) (Stops (RaiseStops new (offset + length bytes))) → WritesTo T fs all n inode offset bytes progress.done new r
+      go : (r : Result (Unit {0}) FfsFault) → MatchResult r (Raises new (offset + length bytes)) (Stops (RaiseStops new (offset + length bytes))) → WritesTo T fs all asked n inode offset bytes progress.done new r
       go (Ok x) h = λ ne. all_done (whole none)
       go (Err fault) h = size_last (all_done (whole none)) new fault h.1.1
 
   -- `write_some`
   abbrev Takes : StoreState → Result ℕ FfsFault → Type 0
-  Takes new result = DoesSome T fs all n offset bytes (written all n offset bytes) old new result × Inodes new (λ m done. WritesSomeTo T fs all n m offset bytes done new result)
+  Takes new result =
+      DoesSome T fs all asked n offset bytes (written all n offset bytes) old new result × Inodes new (λ m. some_by T fs n m offset bytes old new result) (λ m done. WritesSomeTo T fs all asked n offset bytes done new result)
 
-  takes_by : (new : StoreState) (result : Result ℕ FfsFault) → Overwrites (latest old.lives) (latest new.lives) fs n inode offset bytes progress.done →
-      DoesSome T fs all n offset bytes (Ok (next bytes)) old new result × WritesSomeTo T fs all n inode offset bytes progress.done new result → Takes new result
-  takes_by new result o h = (
-    subst (λ (a : Answer (Unit {0})). DoesSome T fs all n offset bytes a old new result) (sym (some_leads old fs n offset inode is bytes low b.there)) h.0,
-    inodes_by new (λ m done. WritesSomeTo T fs all n m offset bytes done new result) o h.1,
+  takes_by : (new : StoreState) (result : Result ℕ FfsFault) → some_by T fs n inode offset bytes old new result ≡ progress.done → Overwrites (latest old.lives) (latest new.lives) fs n inode offset bytes progress.done →
+      DoesSome T fs all asked n offset bytes (Ok (next bytes)) old new result × WritesSomeTo T fs all asked n offset bytes progress.done new result → Takes new result
+  takes_by new result done o h = (
+    subst (λ (a : Answer (Unit {0})). DoesSome T fs all asked n offset bytes a old new result) (sym (some_leads old fs n offset inode is bytes low b.there)) h.0,
+    inodes_by new (λ m. some_by T fs n m offset bytes old new result) (λ m d. WritesSomeTo T fs all asked n offset bytes d new result) done o h.1,
   )
 
   -- where it takes no byte
   abbrev IsTold : Option FfsFault → Result ℕ FfsFault → Type 0
   IsTold fault result = OnOk result ((fault ≡ None) ⊎ (fault ≡ Some (Kernel TooManyPending))) × IfOk result (λ count. count ≡ 0) × IfErr result (λ other. (fault ≡ Some other) × (other ≢ Kernel TooManyPending))
 
-  takes_none : (new : StoreState) (fault : Option FfsFault) → fault ≢ None → ((x : FfsFault) → fault ≡ Some x → Stops (λ y. RefusesSome T fs all n offset bytes old new y × IsStage T fs new y (place_stages all n offset bytes progress.done)) x) →
-      (result : Result ℕ FfsFault) → IsTold fault result → DoesSome T fs all n offset bytes (Ok (next bytes)) old new result × WritesSomeTo T fs all n inode offset bytes progress.done new result
-  takes_none new fault there stop (Ok count) fault_told = (
-    record { few = let z = fault_told.1 in omega (arith, z); leads = λ ne. absurd (ne fault_told.1); stopped = λ ne less. absurd (ne fault_told.1); none = λ z any. (told_stop fault_told.0).0 },
-    (λ ne. absurd (ne fault_told.1), λ z any. (told_stop fault_told.0).1),
-  )
+  abbrev NoneStops : StoreState → FfsFault → Type 0
+  NoneStops new y = IsRefused T fs old new y (some_stages all asked n offset bytes) × IsStage T fs new y (place_stages all asked n offset bytes progress.done)
+
+  takes_none : (new : StoreState) (fault : Option FfsFault) → new.next ≡ middle.next → Overwrites (latest old.lives) (latest new.lives) fs n inode offset bytes progress.done → fault ≢ None → ((x : FfsFault) → fault ≡ Some x → Stops (NoneStops new) x) →
+      (result : Result ℕ FfsFault) → IsTold fault result → Takes new result
+  takes_none new fault same o there stop (Ok count) fault_told =
+      takes_by new (Ok count) (ap (λ (t : Bool). if t then written_by T fs n inode offset bytes old new else (offset - file_end inode) + count) (eq-eqb count 0 fault_told.1) ∙ by_done new (stops_there new same)) o (
+        record { few = let z = fault_told.1 in omega (arith, z); leads = λ ne. absurd (ne fault_told.1); stopped = λ ne less. absurd (ne fault_told.1); none = λ z any. (told_stop fault_told.0).0 },
+        λ z any. (told_stop fault_told.0).1,
+      )
     where
-      told_stop : (fault ≡ None) ⊎ (fault ≡ Some (Kernel TooManyPending)) → RefusesSome T fs all n offset bytes old new (Kernel TooManyPending) × IsStage T fs new (Kernel TooManyPending) (place_stages all n offset bytes progress.done)
+      told_stop : (fault ≡ None) ⊎ (fault ≡ Some (Kernel TooManyPending)) → NoneStops new (Kernel TooManyPending)
       told_stop (inl none) = absurd (there none)
       told_stop (inr e) = (stop (Kernel TooManyPending) e).1
-  takes_none new fault there stop (Err other) fault_told = let s = stop other fault_told.2.0 in ((fault_told.2.1, s.0, s.1.0), s.1.1)
+  takes_none new fault same o there stop (Err other) fault_told = let s = stop other fault_told.2.0 in takes_by new (Err other) (by_done new (stops_there new same)) o ((fault_told.2.1, s.0, s.1.0), s.1.1)
 
   -- where it takes some
-  takes_some : taken ≢ 0 → (new : StoreState) → Raises new (offset + taken) tt → TakesSome T fs all n offset bytes old new taken
+  takes_some : taken ≢ 0 → (new : StoreState) → Raises new (offset + taken) tt → TakesSome T fs all asked n offset bytes old new taken
   takes_some some new r = record {
     few = few_taken;
     leads = λ z.
@@ -413,7 +479,7 @@ module _ (T : Types) (fs : ℕ) (array : ℕ → Option ℕ) (old middle : Store
     none = λ z any. absurd (some z);
   }
     where
-      stopped : taken < length bytes → (progress.fault ≡ None) ⊎ ((x : FfsFault) × (progress.fault ≡ Some x)) → (m : StoreState) × (fault : FfsFault) × (is_short fault ≡ true) × IsStage T fs m fault (next_stages all n offset bytes taken)
+      stopped : taken < length bytes → (progress.fault ≡ None) ⊎ ((x : FfsFault) × (progress.fault ≡ Some x)) → (m : StoreState) × (fault : FfsFault) × (is_short fault ≡ true) × IsStage T fs m fault (next_stages all asked n offset bytes taken)
       stopped less (inl none) = let every = whole none in absurd (omega (arith, every, less))
       stopped less (inr x) =
           let stop = stopped_by x.0 x.1 in
@@ -424,16 +490,16 @@ module _ (T : Types) (fs : ℕ) (array : ℕ → Option ℕ) (old middle : Store
             x.0,
             stop.0,
             subst (IsStage T fs middle x.0) (sym (next_are taken))
-                (inl (k.before, first_files old fs n offset inode is k.before bytes progress.done (omega (arith, few)) k.puts ∙ ap (to bytes) here, subst (λ (at : ℕ). Refused at k.before x.0) here (refused x.0 k))),
+                (inl (k.before, first_files old fs n offset inode is k.before bytes progress.done (omega (arith, few)) k.puts ∙ ap to here, subst (λ (at : ℕ). Refused at k.before x.0) here (refused x.0 k))),
           )
 
   -- by a count
   module _ (count : ℕ) (same : count ≡ taken) where
     pub count_none : count ≡ 0 → (result : Result ℕ FfsFault) → IsTold progress.fault result → Takes middle result
     count_none z result fault_told =
-        takes_by middle result overwritten (takes_none middle progress.fault (λ e. b.there (sym (whole e) ∙ (sym same ∙ z))) (λ x e.
+        takes_none middle progress.fault refl overwritten (λ e. b.there (sym (whole e) ∙ (sym same ∙ z))) (λ x e.
         let stop = stopped_by x e in
-        (stop.0, ((length bytes, omega arith, subst (λ (m : List ℕ). IsRefused T fs old middle x (written_stages all n offset m)) (sym (take_all (length bytes) bytes (omega arith))) (part_refused x stop.1)), part_place x stop.1))) result fault_told)
+        (stop.0, (subst (IsRefused T fs old middle x) (sym some_are) (part_among x stop.1 (offset + 1) (omega (arith, same, z)) some_sizes), part_place x stop.1))) result fault_told
 
     count_low : offset + count ≤ 71680
     count_low = let few = few_taken in omega (arith, few, low, same)
@@ -441,33 +507,48 @@ module _ (T : Types) (fs : ℕ) (array : ℕ → Option ℕ) (old middle : Store
     pub count_taken : count ≢ 0 → (new : StoreState) → Raises new (offset + count) tt → Takes new (Ok count)
     count_taken ne new r =
         let some : taken ≢ 0 = λ z. ne (same ∙ z) in
-        takes_by new (Ok count) (overwritten_then (offset + count) count_low new (Ok tt) r) (
-          subst (λ (k : ℕ). TakesSome T fs all n offset bytes old new k) (sym same) (takes_some some new (subst (λ (k : ℕ). Raises new (offset + k) tt) same r)),
-          (λ z. subst (λ (k : ℕ). progress.done ≡ (offset - file_end inode) + k) (sym same) (counted some), λ z. absurd (ne z)),
+        takes_by new (Ok count)
+        (ap (λ (t : Bool). if t then written_by T fs n inode offset bytes old new else (offset - file_end inode) + count) (ne_eqb count 0 ne) ∙ (ap (λ k. (offset - file_end inode) + k) same ∙ sym (counted some)))
+        (overwritten_then (offset + count) count_low new (Ok tt) r) (
+          subst (λ (k : ℕ). TakesSome T fs all asked n offset bytes old new k) (sym same) (takes_some some new (subst (λ (k : ℕ). Raises new (offset + k) tt) same r)),
+          λ z. absurd (ne z),
         )
 
     pub count_refused : count ≢ 0 → (new : StoreState) (fault : FfsFault) → Stops (RaiseStops new (offset + count)) fault → (result : Result ℕ FfsFault) → IsTold (Some fault) result → Takes new result
     count_refused ne new fault stop result fault_told =
-        takes_by new result (overwritten_then (offset + count) count_low new (Err fault) stop)
-        (takes_none new (Some fault) (λ z. never_some fault z) (λ y e. subst (Stops (λ x. RefusesSome T fs all n offset bytes old new x × IsStage T fs new x (place_stages all n offset bytes progress.done))) (same_fault fault y e)
-        (stop.0, ((taken, few_taken, size_refused (λ z. ne (same ∙ z)) new fault (subst (λ (k : ℕ). word_at after 4 < offset + k) same stop.1.0, stop.1.1)), size_place new fault stop.1.1))) result fault_told)
+        takes_none new (Some fault) (ap (λ (s : StoreState). s.next) stop.1.1.0) (overwritten_then (offset + count) count_low new (Err fault) stop) (λ z. never_some fault z) (λ y e. subst (Stops (NoneStops new)) (same_fault fault y e)
+        (stop.0, (size_some (λ z. ne (same ∙ z)) new fault (subst (λ (k : ℕ). word_at after 4 < offset + k) same stop.1.0, stop.1.1), size_place new fault stop.1.1))) result fault_told
 
 -- No bytes
-pub none_does : (T : Types) (fs : ℕ) (old : StoreState) (n : ℕ) (inode : List ℕ) (offset : ℕ) (bytes : List ℕ) → Ok inode ≡ file_in (latest old.lives) fs n → offset + length bytes ≤ 71680 → bytes ≡ [] →
-    Does T fs (written (files_of (latest old.lives) fs) n offset bytes) (written_stages (files_of (latest old.lives) fs) n offset bytes) old old (Ok tt)
-none_does T fs old n inode offset bytes is low none =
-    subst (λ (a : Answer (Unit {0})). Does T fs a (written_stages (files_of (latest old.lives) fs) n offset bytes) old old (Ok tt)) (sym (ap (written (files_of (latest old.lives) fs) n offset) none ∙ none_leads old fs n offset inode is (omega (arith, low)))) (refl, λ i. refl)
+module _ (T : Types) (fs : ℕ) (old : StoreState) (n : ℕ) (inode : List ℕ) (offset : ℕ) (bytes : List ℕ) (is : Ok inode ≡ file_in (latest old.lives) fs n) (none : bytes ≡ []) where
+  abbrev now : Files
+  now = files_of (latest old.lives) fs
 
-pub none_takes : (T : Types) (fs : ℕ) (old : StoreState) (n : ℕ) (inode : List ℕ) (offset : ℕ) (bytes : List ℕ) → Ok inode ≡ file_in (latest old.lives) fs n → offset + length bytes ≤ 71680 → bytes ≡ [] →
-    DoesSome T fs (files_of (latest old.lives) fs) n offset bytes (written (files_of (latest old.lives) fs) n offset bytes) old old (Ok 0)
-none_takes T fs old n inode offset bytes is low none =
-    subst (λ (a : Answer (Unit {0})). DoesSome T fs (files_of (latest old.lives) fs) n offset bytes a old old (Ok 0)) (sym (ap (written (files_of (latest old.lives) fs) n offset) none ∙ none_leads old fs n offset inode is (omega (arith, low))))
-    (record { few = omega arith; leads = λ ne. absurd (ne refl); stopped = λ ne less. absurd (ne refl); none = λ z any. absurd (any none) })
+  led : offset + length bytes ≤ 71680 → written now n offset bytes ≡ Ok (tt, now)
+  led low = ap (written now n offset) none ∙ none_leads old fs n offset inode is (omega (arith, low))
+
+  pub none_does : (after : ℕ → Option ℕ) → offset + length bytes ≤ 71680 → Does T fs (written now n offset bytes) (written_stages now after n offset bytes) old old (Ok tt)
+  none_does after low = subst (λ (a : Answer (Unit {0})). Does T fs a (written_stages now after n offset bytes) old old (Ok tt)) (sym (led low)) (refl, λ i. refl)
+
+  pub none_takes : (after : ℕ → Option ℕ) → offset + length bytes ≤ 71680 → DoesSome T fs now after n offset bytes (written now n offset bytes) old old (Ok 0)
+  none_takes after low = subst (λ (a : Answer (Unit {0})). DoesSome T fs now after n offset bytes a old old (Ok 0)) (sym (led low))
+      (record { few = omega arith; leads = λ ne. absurd (ne refl); stopped = λ ne less. absurd (ne refl); none = λ z any. absurd (any none) })
+
+  -- what the files don't say
+  pub overwrites_none : Overwrites (latest old.lives) (latest old.lives) fs n inode offset bytes (written_by T fs n inode offset bytes old old)
+  overwrites_none =
+      let a = puts_none old fs n (min (file_end inode) offset) in
+      let k = a.wrote inode is in
+      let nothing : Overwrites (latest old.lives) (latest old.lives) fs n inode offset bytes 0 =
+      record { others = a.others; after = k.after; file = k.file; mode = k.marks.0; size = λ high. k.size; few = omega arith; border = λ lt. inl refl; each = k.each } in
+      let e = ap (λ (m : List ℕ). stops_at T fs n inode offset m old old) none in
+      let zero_written : 0 ≡ written_by T fs n inode offset bytes old old = omega (arith, e) in
+      subst (Overwrites (latest old.lives) (latest old.lives) fs n inode offset bytes) zero_written nothing
 
 -- Look-ups that fail
-pub fault_takes : (T : Types) (fs : ℕ) (files : Files) (n offset : ℕ) (bytes : List ℕ) (looked : Result (List ℕ) FfsFault) (answer : Answer (Unit {0})) (old new : StoreState) (result : Result ℕ FfsFault) → fault_told looked ≡ fault_told answer →
-    Answers looked (λ x y. ⊥) (λ x fault. ⊥) old new result → DoesSome T fs files n offset bytes answer old new result
-fault_takes T fs files n offset bytes (Err fault) (Err other) old new result e h = let same : fault ≡ other = cc e in (h.0 ∙ ap (λ (f : FfsFault). Err f) same, h.1)
-fault_takes T fs files n offset bytes (Err fault) (Ok next) old new result e h = absurd (cc e)
-fault_takes T fs files n offset bytes (Ok x) answer old new (Ok y) e h = absurd h
-fault_takes T fs files n offset bytes (Ok x) answer old new (Err fault) e h = absurd h.1
+pub fault_takes : (T : Types) (fs : ℕ) (files : Files) (after : ℕ → Option ℕ) (n offset : ℕ) (bytes : List ℕ) (looked : Result (List ℕ) FfsFault) (answer : Answer (Unit {0})) (old new : StoreState) (result : Result ℕ FfsFault) → fault_told looked ≡ fault_told answer →
+    Answers looked (λ x y. ⊥) (λ x fault. ⊥) old new result → DoesSome T fs files after n offset bytes answer old new result
+fault_takes T fs files after n offset bytes (Err fault) (Err other) old new result e h = let same : fault ≡ other = cc e in (h.0 ∙ ap (λ (f : FfsFault). Err f) same, h.1)
+fault_takes T fs files after n offset bytes (Err fault) (Ok next) old new result e h = absurd (cc e)
+fault_takes T fs files after n offset bytes (Ok x) answer old new (Ok y) e h = absurd h
+fault_takes T fs files after n offset bytes (Ok x) answer old new (Err fault) e h = absurd h.1

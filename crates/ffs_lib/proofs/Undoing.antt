@@ -1,66 +1,87 @@
--- What stands after a new block was begun, and forgotten.
-use Rattle.std.proofs.Common.{◌≡◌, ◌≢◌, ℕ, ◌<◌, ◌⊎◌, List, Option, None, Some, Result, Ok, Err, refl, sym, ◌∙◌, ap, inl, inr, arith, subst}
-use Rattle.std.specs.Prelude.{MatchResult, slice_set}
+-- A new block was begun, and forgotten: the store is as it was before, but for the number that the block got.
+use Rattle.std.proofs.Common.{◌≡◌, ℕ, zero, suc, ◌+◌, ◌<◌, ◌≤◌, List, [], ◌∷◌, length, Option, None, Some, Result, Ok, Err, refl, sym, ◌∙◌, ap, eq-eqb, inl, inr, arith, subst, false}
+use Rattle.std.specs.Prelude.{MatchResult, ◌||◌, is_some, nat_lt, not, slice_set}
+use Rattle.xn_model.specs.Types.{Types, within_size}
+use Rattle.xn_model.specs.Lives.{Life, Lives, StoreState, current, is_dropped, is_for, is_fresh, life_at, lowest_free}
 use Rattle.xn_model.specs.declared.refusal.Refusal.{Refusal}
-use Rattle.xn_model.specs.Types.{Types}
-use Rattle.xn_model.specs.Lives.{Life, Lives, StoreState}
-use Rattle.xn_model.specs.Results.{result_and_then, unless}
-use Rattle.xn_model.specs.Calls.{forget_at, forget_of, forget_refusal, init_of, life_bytes, own_life}
-use Rattle.xn_model.specs.Rules.{IsConsistent}
-use Rattle.xn_model.proofs.ForCallers.{set_other}
+use Rattle.xn_model.specs.declared.refusal.Refusal.TheVariants.{BadType, ClaimWrong, Exhausted, InFlight, NotEmpty, NotFresh, NotInUse, NotYours, SizeWrong, TooManyPending}
+use Rattle.xn_model.specs.Results.{result_and_then}
+use Rattle.xn_model.specs.Calls.{exhausted, forget_at, forget_of, init_at, init_of, is_untouched, new_life, own_life, own_place, owns_nothing, propose_of, too_many}
+use Rattle.xn_model.proofs.ForCallers.{place_from, set_same, unless_ok, unless_passed}
 use Rattle.ffs_model.specs.Cuts.{latest}
-use Rattle.ffs_model.specs.Library.{IsLibrary}
+use Rattle.ffs_model.proofs.ForCallers.{begun_next, started}
 use Rattle.ffs_lookup.specs.declared.fault.FfsFault.{FfsFault}
+use Rattle.ffs_lib.specs.Orders.{Action, Attaches, Makes}
 use Rattle.ffs_lib.specs.Results.{SameInode}
-use Rattle.ffs_lib.specs.Steps.{StopsAttaching, Wants, left_by}
-use Rattle.ffs_lib.proofs.Same.{Touches, begun, begun_some, none_touched}
+use Rattle.ffs_lib.specs.Steps.{StopsAttaching, Tells, Wants, left_by, skipped}
+use Rattle.ffs_lib.specs.WriteOrder.{TellsAct}
+use Rattle.ffs_lib.proofs.Counted.{numbers_of}
 
-module _ (T : Types) (state : StoreState) (fs b : ℕ) where
-  abbrev left : StoreState
-  left = left_by (forget_of T state fs b) state
+set_back : (lives : Lives) (b : ℕ) (o : Option Life) → life_at lives b ≡ None → slice_set (slice_set lives b o) b None ≡ lives
+set_back [] b o e = refl
+set_back (x ∷ os) zero o e = ap (λ (y : Option Life). y ∷ os) (sym e)
+set_back (x ∷ os) (suc b) o e = ap (λ (ys : Lives). x ∷ ys) (set_back os b o e)
 
-  left_lives : (left.lives ≡ state.lives) ⊎ (left.lives ≡ slice_set state.lives b None)
-  left_lives = at (own_life state fs b)
-    where
-      by : (refusal : Option Refusal) → ((left_by {A = Unit {0}} (unless refusal (Ok (tt, record state { lives = slice_set state.lives b None }))) state).lives ≡ state.lives)
-          ⊎ ((left_by {A = Unit {0}} (unless refusal (Ok (tt, record state { lives = slice_set state.lives b None }))) state).lives ≡ slice_set state.lives b None)
-      by None = inr refl
-      by (Some refusal) = inl refl
+module _ (T : Types) (zeroth first : StoreState) (fs ty : ℕ) (bytes : List ℕ) (block number : ℕ) (done : init_of T zeroth fs ty bytes ≡ Ok ((block, number), first)) where
+  abbrev start : Life
+  start = new_life zeroth.next (Some fs) ty bytes
 
-      at : (own : Result Life Refusal) → ((left_by (result_and_then (forget_at T state b) own) state).lives ≡ state.lives) ⊎ ((left_by (result_and_then (forget_at T state b) own) state).lives ≡ slice_set state.lives b None)
-      at (Err refusal) = inl refl
-      at (Ok l) = by (forget_refusal T l)
+  owns_none : not (owns_nothing T ty bytes) ≡ false
+  owns_none =
+      let u = unless_ok (
+      (nat_lt ty 2 || not (T.installed ty), BadType)
+      ∷ (too_many zeroth fs 0, TooManyPending)
+      ∷ (exhausted zeroth, Exhausted)
+      ∷ (not (within_size T ty bytes), SizeWrong)
+      ∷ (not (owns_nothing T ty bytes), ClaimWrong)
+      ∷ []) (init_at zeroth fs ty bytes (lowest_free zeroth.lives)) ((block, number), first) done in
+      u.0.1.1.1.1.0
 
-  pub left_next : left.next ≡ state.next
-  left_next = at (own_life state fs b)
-    where
-      by : (refusal : Option Refusal) → (left_by {A = Unit {0}} (unless refusal (Ok (tt, record state { lives = slice_set state.lives b None }))) state).next ≡ state.next
-      by None = refl
-      by (Some refusal) = refl
+  pub forgotten_is : left_by (forget_of T first fs block) first ≡ skipped zeroth
+  forgotten_is =
+      let r = started T zeroth first fs ty bytes (block, number) done in
+      let at = place_from first.lives block start (ap (λ (xs : Lives). life_at xs block) r.lives ∙ set_same zeroth.lives block (Some start) r.within) in
+      let own : own_life first fs block ≡ Ok start =
+      ap (own_place fs) at ∙ unless_passed ((is_dropped start.status, NotInUse) ∷ (not (is_for fs start.fs), NotYours) ∷ []) (Ok start) (refl, (ap not (eq-eqb fs fs refl), tt)) in
+      let gone : StoreState = record first { lives = slice_set first.lives block None } in
+      let forgets : forget_at T first block start ≡ Ok (tt, gone) = unless_passed (
+      (not (is_fresh start.status), NotFresh)
+      ∷ (not (owns_nothing T start.ty (current start)), NotEmpty)
+      ∷ (not (is_untouched start), TooManyPending)
+      ∷ (is_some start.begun, InFlight)
+      ∷ []) (Ok (tt, gone)) (refl, (owns_none, (refl, (refl, tt)))) in
+      let to : Lives → ℕ → StoreState = λ xs k. record { lives = xs; next = k } in
+      ap (λ (x : Result (Unit {0} × StoreState) Refusal). left_by x first) (ap (result_and_then (forget_at T first block)) own ∙ forgets)
+      ∙ (ap (λ (xs : Lives). to xs first.next) (ap (λ (xs : Lives). slice_set xs block None) r.lives ∙ set_back zeroth.lives block (Some start) r.free)
+      ∙ ap (to zeroth.lives) (begun_next T zeroth first fs ty bytes (block, number) done))
 
-      at : (own : Result Life Refusal) → (left_by (result_and_then (forget_at T state b) own) state).next ≡ state.next
-      at (Err refusal) = refl
-      at (Ok l) = by (forget_refusal T l)
+  pub undone_same : (new : StoreState) → new ≡ left_by (forget_of T first fs block) first → (d : ℕ) → SameInode (latest zeroth.lives) (latest new.lives) fs d
+  undone_same new left d =
+      subst (λ (m : StoreState). SameInode (latest zeroth.lives) (latest m.lives) fs d) (sym (left ∙ forgotten_is)) (refl, λ inode is. (refl, λ at low. refl), λ some few. refl)
 
-  latest_left : (c : ℕ) → c ≢ b → latest left.lives c ≡ latest state.lives c
-  latest_left c ne = elim left_lives [
-    | inl e ↦ ap (λ (xs : Lives). latest xs c) e
-    | inr e ↦ ap (λ (xs : Lives). latest xs c) e ∙ ap life_bytes (set_other state.lives b c None ne)
-  ]
+-- A refused action leaves the lives, and fewer numbers than it takes are given.
+pub record Untouched (old new : StoreState) (count : ℕ) : Type 0 where
+  pub lives : new.lives ≡ old.lives
+  pub later : old.next ≤ new.next
+  pub fewer : new.next < old.next + count
 
-pub undone_same : (T : Types) (lib : IsLibrary T) (zeroth first : StoreState) (h : IsConsistent T zeroth) (fs : ℕ) (few : fs < 32) (ty : ℕ) (bytes : List ℕ) (block number : ℕ) → init_of T zeroth fs ty bytes ≡ Ok ((block, number), first) →
-    (d : ℕ) → SameInode (latest zeroth.lives) (latest (left_by (forget_of T first fs block) first).lives) fs d
-undone_same T lib zeroth first h fs few ty bytes block number done d =
-    let v = latest zeroth.lives in
-    let w = latest (left_by (forget_of T first fs block) first).lives in
-    let t = begun T zeroth first h fs few ty 6 bytes (block, number) done in
-    let there = begun_some T zeroth first h fs ty bytes (block, number) done in
-    let after : Touches T v w fs block 6 = record {
-      top = latest_left T first fs block 0 (λ z. there (sym z)) ∙ t.top;
-      others = λ c u at ne. latest_left T first fs block c ne ∙ t.others c u at ne;
-      apart = t.apart;
-    } in
-    none_touched T lib zeroth h fs few w block 6 after (λ z. omega (arith, z)) (λ z. omega (arith, z)) (λ z. omega (arith, z)) (λ z. omega (arith, z)) d
+pub told_lives : (T : Types) (fs : ℕ) (action : Action) (old new : StoreState) (fault : FfsFault) → TellsAct T fs action old new fault → Untouched old new (numbers_of action)
+told_lives T fs action old new fault told = go action told
+  where
+    by : (count k : ℕ) → old.next ≤ k → k < old.next + count → new ≡ record old { next = k } → Untouched old new count
+    by count k low high e = let next = ap (λ (s : StoreState). s.next) e in record { lives = ap (λ (s : StoreState). s.lives) e; later = omega (arith, next, low); fewer = omega (arith, next, high) }
+
+    begun : {A : Type 0} (P : A → Type 0) (r : Result A Refusal) → MatchResult r (λ x. (new ≡ skipped old) × P x) (λ refusal. ⊥) → Untouched old new 2
+    begun P (Ok x) y = by 2 (old.next + 1) (omega arith) (omega arith) y.0
+    begun P (Err refusal) y = absurd y
+
+    go : (a : Action) → TellsAct T fs a old new fault → Untouched old new (numbers_of a)
+    go (Makes []) x = absurd x
+    go (Makes (edit ∷ rest)) x = by (length (edit ∷ rest)) old.next (omega arith) (omega arith) x.0
+    go (Attaches ty bytes home edit) x = elim x [
+      | inl y ↦ by 2 old.next (omega arith) (omega arith) y.0
+      | inr y ↦ begun (λ x. Tells (propose_of T x.1 fs home (edit x.0.0)) fault) (init_of T old fs ty bytes) y
+    ]
 
 -- one of its two results, where a call has it
 pub at_ok : {A E : Type 0} (r : Result A E) (x : A) (P : A → Type 0) → Ok x ≡ r → P x → MatchResult r P (λ other. ⊥)
@@ -69,4 +90,4 @@ at_ok r x P e p = subst (λ y. MatchResult y P (λ other. ⊥)) e p
 pub attach_undone : (T : Types) (fs : ℕ) (zeroth first new : StoreState) (ty : ℕ) (bytes : List ℕ) (block number home : ℕ) → init_of T zeroth fs ty bytes ≡ Ok ((block, number), first) → new ≡ left_by (forget_of T first fs block) first → (fault : FfsFault) →
     Wants T first fs home fault → StopsAttaching T fs zeroth new ty bytes home fault
 attach_undone T fs zeroth first new ty bytes block number home done left fault wants =
-    inr (at_ok (init_of T zeroth fs ty bytes) ((block, number), first) (λ made. (new ≡ left_by (forget_of T made.1 fs made.0.0) made.1) × Wants T made.1 fs home fault) (sym done) (left, wants))
+    inr (at_ok (init_of T zeroth fs ty bytes) ((block, number), first) (λ made. (new ≡ skipped zeroth) × Wants T made.1 fs home fault) (sym done) (left ∙ forgotten_is T zeroth first fs ty bytes block number done, wants))

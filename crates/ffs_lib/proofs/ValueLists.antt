@@ -3,7 +3,7 @@ use Rattle.std.proofs.Common.{◌≡◌, ◌≢◌, ℕ, zero, suc, ◌+◌, ◌
 use Rattle.std.specs.Prelude.{Contains, ◌==◌, ◌&&◌, ◌||◌, not, filter, filter_map, find, flat_map, option_map, if◌then◌else◌}
 use Rattle.std.specs.List.{cons_option, list_any, range_with_len}
 use Rattle.std.specs.Option.{option_or}
-use Rattle.std.proofs.lemmas.Bool.{cases_eq, eqb-true, ne_eqb}
+use Rattle.std.proofs.lemmas.Bool.{and_parts, cases_eq, eqb-true, ne_eqb}
 use Rattle.std.proofs.lemmas.List.Folds.{find-append}
 use Rattle.xn_model.proofs.ForCallers.{Contains-cons, Contains-head, Contains-none, Contains-tail}
 use Rattle.ffs_model.specs.Library.{half_at, inode_blocks}
@@ -26,11 +26,6 @@ pub both_true : (s t : Bool) → s ≡ true → t ≡ true → s && t ≡ true
 both_true true true f g = refl
 both_true true false f g = absurd (cc g)
 both_true false t f g = absurd (cc f)
-
-parts_true : (s t : Bool) → s && t ≡ true → (s ≡ true) × (t ≡ true)
-parts_true true true f = (refl, refl)
-parts_true true false f = absurd (cc f)
-parts_true false t f = absurd (cc f)
 
 and_false : (t : Bool) → t && false ≡ false
 and_false true = refl
@@ -160,10 +155,8 @@ module _ (entry : Slot) (name : List ℕ) (front back all : List Listed) (was : 
     where
       go : (t : Bool) → (entry.block == b) && (entry.place == p) ≡ t → there_in b p (front ++ (entry, name) ∷ back) ≡ (if t then Some (name, entry.inode) else there_in b p all)
       go true e =
-          let k = parts_true (entry.block == b) (entry.place == p) e in
-          let eb = eqb-true entry.block b k.0 in
-          let ep = eqb-true entry.place p k.1 in
-          ap (λ x. there_in x p (front ++ (entry, name) ∷ back)) (sym eb) ∙ (ap (λ x. there_in entry.block x (front ++ (entry, name) ∷ back)) (sym ep) ∙ more_here)
+          let k = and_parts (entry.block == b) (entry.place == p) e in
+          ap (λ x. there_in x p (front ++ (entry, name) ∷ back)) (sym (eqb-true entry.block b k.0)) ∙ (ap (λ x. there_in entry.block x (front ++ (entry, name) ∷ back)) (sym (eqb-true entry.place p k.1)) ∙ more_here)
       go false e = more_apart b p (λ f g. cc (sym (both_true (entry.block == b) (entry.place == p) (eq-eqb entry.block b f) (eq-eqb entry.place p g)) ∙ e))
 
 -- One less
@@ -172,10 +165,9 @@ there_without entry b p all = go ((entry.block == b) && (entry.place == p)) refl
   where
     apart : (e : Listed) → (entry.block == b) && (entry.place == p) ≡ false → stands_there b p e ≡ true → is_at entry e.0 ≡ false
     apart e f g =
-        let k = parts_true (e.0.block == b) (e.0.place == p) g in
-        let eb = eqb-true e.0.block b k.0 in
+        let k = and_parts (e.0.block == b) (e.0.place == p) g in
         let ep = eqb-true e.0.place p k.1 in
-        ap (λ x. (x == entry.block) && (e.0.place == entry.place)) eb ∙ (ap (λ x. (b == entry.block) && (x == entry.place)) ep ∙ turned (cases_eq entry.block b) (cases_eq entry.place p))
+        ap (λ x. (x == entry.block) && (e.0.place == entry.place)) (eqb-true e.0.block b k.0) ∙ (ap (λ x. (b == entry.block) && (x == entry.place)) ep ∙ turned (cases_eq entry.block b) (cases_eq entry.place p))
       where
         turned : (entry.block ≡ b) ⊎ (entry.block ≢ b) → (entry.place ≡ p) ⊎ (entry.place ≢ p) → (b == entry.block) && (p == entry.place) ≡ false
         turned (inr away) c = ap (λ t. t && (p == entry.place)) (ne_eqb b entry.block (λ z. away (sym z)))
@@ -205,7 +197,7 @@ there_without entry b p all = go ((entry.block == b) && (entry.place == p)) refl
 
     go : (t : Bool) → (entry.block == b) && (entry.place == p) ≡ t → there_in b p (without_entry entry all) ≡ (if t then None else there_in b p all)
     go true e =
-        let k = parts_true (entry.block == b) (entry.place == p) e in
+        let k = and_parts (entry.block == b) (entry.place == p) e in
         ap (option_map value_of_listed) (gone (eqb-true entry.block b k.0) (eqb-true entry.place p k.1) all)
     go false e = ap (option_map value_of_listed) (kept e all)
 
@@ -237,7 +229,7 @@ there_turned entry n b p all = ap (option_map value_of_listed) (find_map (stands
 
     same_test : (e : Listed) → stands_there b p e ≡ true → is_at entry e.0 ≡ (entry.block == b) && (entry.place == p)
     same_test e is =
-        let k = parts_true (e.0.block == b) (e.0.place == p) is in
+        let k = and_parts (e.0.block == b) (e.0.place == p) is in
         ap (λ x. (x == entry.block) && (e.0.place == entry.place)) (eqb-true e.0.block b k.0)
         ∙ (ap (λ x. (b == entry.block) && (x == entry.place)) (eqb-true e.0.place p k.1) ∙ (ap (λ t. t && (p == entry.place)) (both_ways b entry.block) ∙ ap (λ t. (entry.block == b) && t) (both_ways p entry.place)))
 

@@ -21,7 +21,7 @@ use Rattle.ffs_lib.proofs.Entering.{directory_from}
 use Rattle.ffs_lib.proofs.Fields.{direct_get}
 use Rattle.ffs_lib.proofs.Owners.{Stands, number_from, passed, stands_from}
 use Rattle.ffs_lib.proofs.ValueSame.{block_apart, block_here_free, stays_value, together}
-use Rattle.ffs_lib.proofs.ValueLists.{none_listed_there, place_listed, there_in, there_more, value_of_listed}
+use Rattle.ffs_lib.proofs.ValueLists.{both_true, none_listed_there, place_listed, there_in, there_more, value_of_listed}
 
 -- The directory
 
@@ -38,13 +38,8 @@ module _ (v w : ℕ → List ℕ) (fs d n : ℕ) (name inode : List ℕ) (m : Ha
   lists : (b p : ℕ) → there_in b p (listing w m.after) ≡ (if (block == b) && (place == p) then Some (name, m.entry.inode) else there_in b p (listing v inode))
   lists b p = ap (there_in b p) m.is ∙ there_more m.entry name m.front m.back (listing v inode) m.was m.alone b p
 
-  both : (s t : Bool) → s ≡ true → t ≡ true → s && t ≡ true
-  both true true f g = refl
-  both true false f g = absurd (cc g)
-  both false t f g = absurd (cc f)
-
   is_here : (b p : ℕ) → block ≡ b → place ≡ p → there_in b p (listing w m.after) ≡ Some (name, m.entry.inode)
-  is_here b p e f = lists b p ∙ ap (λ t. if t then Some (name, m.entry.inode) else there_in b p (listing v inode)) (both (block == b) (place == p) (eq-eqb block b e) (eq-eqb place p f))
+  is_here b p e f = lists b p ∙ ap (λ t. if t then Some (name, m.entry.inode) else there_in b p (listing v inode)) (both_true (block == b) (place == p) (eq-eqb block b e) (eq-eqb place p f))
 
   apart : (b p : ℕ) → (block ≢ b) ⊎ (place ≢ p) → there_in b p (listing w m.after) ≡ there_in b p (listing v inode)
   apart b p h = lists b p ∙ ap (λ t. if t then Some (name, m.entry.inode) else there_in b p (listing v inode)) (away h)
@@ -167,8 +162,7 @@ module _ (v w : ℕ → List ℕ) (fs d n : ℕ) (name inode : List ℕ) (m : Ha
       (fields_of m.after).direct ≡ (fields_of inode).direct → ⊥
   pointer_new at e index points set equal =
       let found : room_in v inode ≡ Some (room_of v inode at) = room_is v inode ∙ ap (option_map (room_of v inode)) (sym e) in
-      let known = room_known v inode at e in
-      new_one (direct_in inode at.0 == 0) refl known.0 (same_Some (Pointer index) (room_of v inode at) (points ∙ found))
+      new_one (direct_in inode at.0 == 0) refl (room_known v inode at e).0 (same_Some (Pointer index) (room_of v inode at) (points ∙ found))
     where
       new_one : (t : Bool) → (direct_in inode at.0 == 0) ≡ t → at.0 < 12 → Pointer index ≡ (if t then Pointer at.0 else InBlock (direct_in inode at.0) at.1) → ⊥
       new_one false z low same = cc same

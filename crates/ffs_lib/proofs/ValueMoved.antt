@@ -66,8 +66,7 @@ module _ (u w : ℕ → List ℕ) (fs d : ℕ) (name : List ℕ) (other : ℕ) (
       | inr ne ↦
           let from_at = directory_from u fs d x.from x.is_from in
           let from1 = z.linked.before d x.from from_at.0 in
-          let then = directory_to m fs d from1.after from1.found (from1.mode ∙ from_at.1) in
-          (from1.after, then ∙ sym (directory_same m w fs d (z.entered.others d ne).0), λ i lt some. as_direct u m fs d x.from from1 i lt)
+          (from1.after, (directory_to m fs d from1.after from1.found (from1.mode ∙ from_at.1)) ∙ sym (directory_same m w fs d (z.entered.others d ne).0), λ i lt some. as_direct u m fs d x.from from1 i lt)
     ]
 
     pub home_place : IsPlaceOf home.0 slot entry.at

@@ -110,10 +110,8 @@ module _ (u : ℕ → List ℕ) (fs d : ℕ) (name : List ℕ) (other : ℕ) (ot
 
     pub replaced_ok : replaced files d name other other_name ≡ by_tests f g false (is_same d f other g) (from.inode == to.inode)
     replaced_ok =
-        let home = directory_value u fs d x.home x.is_home in
-        let target = directory_value u fs other x.target x.is_target in
-        ap (λ v. and_then (and_then (in_use v) (λ a. and_then (in_use (files other)) (λ b. and_then (directories a b) if_names))) found_directories) home
-        ∙ (ap (λ v. and_then (and_then (in_use v) (λ b. and_then (directories (Directory (inode_links x.home) (blocks_value u x.home)) b) if_names)) found_directories) target
+        ap (λ v. and_then (and_then (in_use v) (λ a. and_then (in_use (files other)) (λ b. and_then (directories a b) if_names))) found_directories) (directory_value u fs d x.home x.is_home)
+        ∙ (ap (λ v. and_then (and_then (in_use v) (λ b. and_then (directories (Directory (inode_links x.home) (blocks_value u x.home)) b) if_names)) found_directories) (directory_value u fs other x.target x.is_target)
         ∙ (ap (λ t. and_then (if t && is_name other_name then Ok (both_parts u (x.home, x.target)) else Err BadName) found_directories) x.good
         ∙ (ap (λ t. and_then (if t then Ok (both_parts u (x.home, x.target)) else Err BadName) found_directories) x.other_good
         ∙ (ap (λ o. and_then (ok_or o NoEntry) (found_first (both_parts u (x.home, x.target)))) k.looked
@@ -124,12 +122,10 @@ module _ (u : ℕ → List ℕ) (fs d : ℕ) (name : List ℕ) (other : ℕ) (ot
 
     pub replaced_stages_ok : replaced_stages files d name other other_name ≡ over_stages files d f other other_name g
     replaced_stages_ok =
-        let home = directory_value u fs d x.home x.is_home in
-        let target = directory_value u fs other x.target x.is_target in
         let K : (ℕ × Blocks) × (ℕ × Blocks) → Stages =
         λ both. stages_of (ok_or (look_up name both.0.1) NoEntry) (λ a. stages_of (ok_or (look_up other_name both.1.1) NoEntry) (over_stages files d a other other_name)) in
-        ap (λ v. stages_of (and_then (in_use v) (λ a. and_then (in_use (files other)) (λ b. and_then (directories a b) if_names))) K) home
-        ∙ (ap (λ v. stages_of (and_then (in_use v) (λ b. and_then (directories (Directory (inode_links x.home) (blocks_value u x.home)) b) if_names)) K) target
+        ap (λ v. stages_of (and_then (in_use v) (λ a. and_then (in_use (files other)) (λ b. and_then (directories a b) if_names))) K) (directory_value u fs d x.home x.is_home)
+        ∙ (ap (λ v. stages_of (and_then (in_use v) (λ b. and_then (directories (Directory (inode_links x.home) (blocks_value u x.home)) b) if_names)) K) (directory_value u fs other x.target x.is_target)
         ∙ (ap (λ t. stages_of (if t && is_name other_name then Ok (both_parts u (x.home, x.target)) else Err BadName) K) x.good
         ∙ (ap (λ t. stages_of (if t then Ok (both_parts u (x.home, x.target)) else Err BadName) K) x.other_good
         ∙ (ap (λ o. stages_of (ok_or o NoEntry) (λ a. stages_of (ok_or (look_up other_name (blocks_value u x.target)) NoEntry) (over_stages files d a other other_name))) k.looked

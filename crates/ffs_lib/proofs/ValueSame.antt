@@ -110,8 +110,7 @@ module _ (content : ℕ → List ℕ) (fs : ℕ) where
       all a z s =
           let some : x ≢ 0 = eqb-false x 0 z in
           let same = eqb-true ((x - 1) / 8) ((n - 1) / 8) s in
-          let r = number_from n right in
-          let low = r.1 in
+          let low = (number_from n right).1 in
           apart (together x n (good_number x some (omega (arith, same, low))) right same ∙ a) same a some
 
       go : (a z s : Bool) → is_absent (files_of content fs n) ≡ a → (x == 0) ≡ z → ((x - 1) / 8 == (n - 1) / 8) ≡ s → (if a && (not z && s) then Free else files_of content fs x) ≡ files_of content fs x

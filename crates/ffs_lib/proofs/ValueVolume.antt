@@ -36,8 +36,7 @@ no_files v fs begun e n = go ((n == 0) || nat_lt 128 n) refl
     go : (t : Bool) → ((n == 0) || nat_lt 128 n) ≡ t → files_of v fs n ≡ Absent
     go true out = value_outside v fs n out
     go false right =
-        let r = number_from n right in
-        let low = r.1 in
+        let low = (number_from n right).1 in
         value_by_place v fs n right ∙ ap (λ (b : Result ℕ FfsFault). value_in v (and_then b (λ block. Ok (inode_at (v block) ((n - 1) % 8))))) (sym (no_blocks v fs begun e ((n - 1) / 8) (omega (arith, low))))
 
 none_made : (v : ℕ → List ℕ) (fs : ℕ) (begun : Bool) → Ok begun ≡ make_in v fs → unless_inodes (files_of v fs) (made (files_of v fs)) ≡ Ok (tt, empty_volume)
@@ -194,8 +193,7 @@ module _ (state : StoreState) (fs : ℕ) where
       let none = slot_none v fs (eqb-true s.0 0 e) in
       none_made v fs false none ∙ ap (mapped (λ begun. (tt, empty_volume))) none
   by_slot false true e f =
-      let three = eqb-true s.1 3 f in
-      let is : IsRoot v fs s.0 = record { at = λ i. (s.0, three i); there = eqb-false s.0 0 e } in
+      let is : IsRoot v fs s.0 = record { at = λ i. (s.0, (eqb-true s.1 3 f) i); there = eqb-false s.0 0 e } in
       bare s.0 is (pointer_word (v s.0) 0 == 0) (has_pointer (v s.0)) refl refl
   by_slot false false e f = ap (mapped (λ begun. (tt, empty_volume))) (slot_other v fs (eqb-false s.0 0 e) (eqb-false s.1 3 f))
 

@@ -96,9 +96,8 @@ module _ (f : ℕ → ℕ) (e m : ℕ) (offset : ℕ) (bytes : List ℕ) (size :
         ∙ (get_or-take offset old_bytes k d (omega (arith, first)) ∙ get_or-map-range_with_len f 0 e k k d (omega (arith, first)) (omega arith)))))
     | inr from ↦ elim (cases_lt k (offset + length bytes)) [
       | inr past ↦
-          let three = long_three in
           behind k past
-          ∙ sym (get_or-append_right (take offset old_bytes ++ pads ++ bytes) (drop (offset + length bytes) old_bytes) (offset + length bytes) k d three past
+          ∙ sym (get_or-append_right (take offset old_bytes ++ pads ++ bytes) (drop (offset + length bytes) old_bytes) (offset + length bytes) k d long_three past
           ∙ (get_or-drop (offset + length bytes) old_bytes (k - (offset + length bytes)) d ∙ get_or-map-range_with_len f 0 e (offset + length bytes + (k - (offset + length bytes))) k d (omega (arith, past, low, size)) (omega (arith, past))))
       | inl to ↦
           let two = long_two in
@@ -165,9 +164,8 @@ module _ (f : ℕ → ℕ) (e m : ℕ) (offset : ℕ) (bytes : List ℕ) (size :
             get_or_append_left (take at all_bytes) (drop at old_bytes) d k (omega (arith, a, lt))
             ∙ (get_or-take at all_bytes k d lt ∙ (ap (λ (x : List ℕ). get_or x k d) same_bytes ∙ (sym (part k d (omega (arith, small, size))) ∙ sym (front k lt))))
         | inr ge ↦
-            let a = long_front in
             let b = long_done in
-            get_or-append_right (take at all_bytes) (drop at old_bytes) at k d a ge
+            get_or-append_right (take at all_bytes) (drop at old_bytes) at k d long_front ge
             ∙ (get_or-drop at old_bytes (k - at) d ∙ (get_or-map-range_with_len f 0 e (at + (k - at)) k d (omega (arith, ge, small)) (omega (arith, ge)) ∙ sym (test_above f (min e offset) (take done (pads ++ bytes)) k (omega (arith, b, ge)))))
       ]
         where

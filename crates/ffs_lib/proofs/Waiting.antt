@@ -3,12 +3,13 @@ use Rattle.std.proofs.Common.{◌≡◌, ◌≢◌, ℕ, zero, suc, ◌-◌, ◌
 use Rattle.std.specs.Prelude.{Contains, slice_set}
 use Rattle.std.specs.List.{last_or}
 use Rattle.std.proofs.lemmas.Bool.{cases_eq, eq-eqb, ne_eqb}
+use Rattle.std.proofs.lemmas.List.Elements.{Contains-push_cases}
 use Rattle.std.proofs.lemmas.Option.{none-some, same_Some}
 use Rattle.xn_model.specs.Types.{Types}
 use Rattle.xn_model.specs.Lives.{BlockState, Life, Lives, StoreState, life_at}
 use Rattle.xn_model.specs.Calls.{Edit, edited, first_state, init_of, new_life, propose_of}
 use Rattle.xn_model.specs.Rules.{IsConsistent}
-use Rattle.xn_model.proofs.ForCallers.{Contains-cons, Contains-head, Contains-none, Contains-tail, accept, accepted, below_next, each_back, set_other, set_same}
+use Rattle.xn_model.proofs.ForCallers.{Contains-cons, Contains-head, Contains-none, accept, accepted, below_next, each_back, set_other, set_same}
 use Rattle.ffs_model.specs.Cuts.{Choice, IsChosen, IsCut, IsFullAt, Takes, TakesAny, latest}
 use Rattle.ffs_lookup.specs.Newest.{inode_block_in}
 use Rattle.ffs_model.proofs.ForCallers.{Proposed, Started, cut_before, full_before, full_seen, full_took, proposed, start_cut, started, takes_before, takes_then, takes_took, took_adds, took_after, took_full, took_now}
@@ -16,15 +17,6 @@ use Rattle.ffs_lib.specs.Steps.{Stage}
 use Rattle.ffs_lib.specs.WriteOrder.{ShowsWhole, no_last}
 use Rattle.ffs_lib.specs.Writes.{IsFrom, Waits, WaitsOn}
 use Rattle.ffs_lib.specs.declared.data.Last.{Last}
-
--- One state more
-
-snoc_out : (xs : List BlockState) (s y : BlockState) → Contains (xs ++ s ∷ []) y → Contains xs y ⊎ (s ≡ y)
-snoc_out [] s y h = elim (Contains-cons s [] y h) [ inl e ↦ inr e | inr i ↦ absurd (Contains-none y i) ]
-snoc_out (x ∷ xs) s y h = elim (Contains-cons x (xs ++ s ∷ []) y h) [
-  | inl e ↦ inl (subst (λ z. Contains (z ∷ xs) y) (sym e) (Contains-head y xs))
-  | inr i ↦ elim (snoc_out xs s y i) [ inl j ↦ inl (Contains-tail x xs y j) | inr e ↦ inr e ]
-]
 
 -- An edit
 module _ (T : Types) (state new : StoreState) (h : IsConsistent T state) (fs b : ℕ) (edit : Edit) (entry : ℕ) (done : propose_of T state fs b edit ≡ Ok (entry, new)) where
@@ -46,7 +38,7 @@ module _ (T : Types) (state new : StoreState) (h : IsConsistent T state) (fs b :
       elim (cases_eq c b) [
         | inl same ↦
             let long : m.pending ≡ x.0.pending ++ s ∷ [] = ap (λ (y : Life). y.pending) x.2 ∙ ap (λ (u : Bool). cond u (x.0.pending ++ s ∷ []) x.0.pending) (eq-eqb c b same) in
-            elim (snoc_out x.0.pending s t (subst (λ (xs : List BlockState). Contains xs t) long i)) [
+            elim (Contains-push_cases x.0.pending s t (subst (λ (xs : List BlockState). Contains xs t) long i)) [
               | inl j ↦ inr (x.0, x.1, j)
               | inr is ↦ inl (same, is)
             ]
@@ -193,11 +185,10 @@ module _ (T : Types) (zeroth first : StoreState) (h0 : IsConsistent T zeroth) (f
 
     reach : (k : Choice) → IsCut news k → length g.life.pending < k b → TakesAny first.lives k last.edit → IsFullAt news k at → (c : ℕ) (l : Life) (t : BlockState) → life_at news c ≡ Some l → Contains l.pending t → from ≤ t.entry → IsFullAt news k c
     reach k cut lt any full =
-        let cut1 = cut_then T first new h fs b edit entry done k cut in
         let full1 = full_then T first new h fs b edit entry done k at full in
         full_by T first new h fs b edit entry done k from lt (λ c l t ne e i lo. elim (begun_was c l e) [
           | inl p ↦ subst (IsFullAt first.lives k) (sym p.0) (begun_taken k (took_adds T first h b g.life state_new g.own.alive refl k cut lt block ty adds))
-          | inr old ↦ begun_full_forth k c (not_here c l old) (w.all k (begun_cut k cut1) (begun_full k at full1) (begun_any k last.edit any) c l t old i lo)
+          | inr old ↦ begun_full_forth k c (not_here c l old) (w.all k (begun_cut k (cut_then T first new h fs b edit entry done k cut)) (begun_full k at full1) (begun_any k last.edit any) c l t old i lo)
         ])
 
     turn : (next : Last) → Waits at from news next → Waits at from new.lives next
@@ -238,8 +229,17 @@ waits_then fs n a b c x y z one two =
       later = omega (arith, first, second);
     }
 
+-- nothing is pending that was not
+pub lives_wait : (fs n : ℕ) (old new : StoreState) (last : Last) → new.lives ≡ old.lives → old.next ≤ new.next → WaitsOn fs n old new last last
+lives_wait fs n old new last same later = record {
+  home = ap (λ (xs : Lives). inode_block_in (latest xs) fs ((n - 1) / 8)) same;
+  waits = λ block from low at w. subst (λ (xs : Lives). Waits block from xs last) (sym same) w;
+  newer = λ from c low older. subst (λ (xs : Lives). IsFrom from xs c) (sym same) older;
+  later = later;
+}
+
 pub waits_same : (fs n : ℕ) (state : StoreState) (last : Last) → WaitsOn fs n state state last last
-waits_same fs n state last = record { home = refl; waits = λ block from low at w. w; newer = λ from c low older. older; later = omega arith }
+waits_same fs n state last = lives_wait fs n state state last refl (omega arith)
 
 -- the size is asked for last
 pub size_shows : (T : Types) (fs : ℕ) (array : ℕ → Option ℕ) (zeroth old new : StoreState) → IsConsistent T zeroth → Stage T fs array old → (n home : ℕ) → Ok home ≡ inode_block_in (latest old.lives) fs ((n - 1) / 8) → (edit : Edit) (entry : ℕ) → propose_of T old fs home edit ≡ Ok (entry, new) → (last : Last) → last.size ≡ edit.after →

@@ -1,5 +1,5 @@
 -- The parts of a write, one after another.
-use Rattle.std.proofs.Common.{◌≡◌, ◌≢◌, ℕ, zero, suc, ◌+◌, ◌-◌, ◌/◌, ◌%◌, ◌<◌, ◌≤◌, ◌⊎◌, Bool, true, false, List, [], ◌∷◌, ◌++◌, length, take, Option, None, Result, Ok, Err, refl, sym, ◌∙◌, ap, inl, inr, arith, subst, append_assoc, eq-eqb}
+use Rattle.std.proofs.Common.{◌≡◌, ◌≢◌, ℕ, zero, suc, ◌+◌, ◌-◌, ◌/◌, ◌%◌, ◌<◌, ◌≤◌, ◌⊎◌, Bool, true, false, List, [], ◌∷◌, ◌++◌, length, take, Option, None, Result, Ok, Err, refl, sym, ◌∙◌, ap, inl, inr, arith, append_assoc, eq-eqb}
 use Rattle.std.specs.Prelude.{MatchResult, ◌==◌, ◌||◌, filter, min, nat_lt, if◌then◌else◌}
 use Rattle.std.specs.List.{range_with_len}
 use Rattle.std.proofs.lemmas.Bool.{cases_eq, cases_lt, le-ltb, lt-ltb, ne_eqb, or_left, or_right}
@@ -13,15 +13,16 @@ use Rattle.ffs_model.specs.Cuts.{latest}
 use Rattle.ffs_lookup.specs.declared.fault.FfsFault.{FfsFault}
 use Rattle.ffs_lib.specs.Orders.{Action, Attaches, Makes, StopsAct, StopsIn, act_of, made_by}
 use Rattle.ffs_lib.specs.Orders as orders
-use Rattle.ffs_lib.specs.WriteOrder.{StopsAtPart, StopsWriting, TellsAct, TellsIn, adds_direct, after_at, borders, data_at, data_parts, goes_past, last_after, last_at, parts_at, places, parts_made, zeros_parts}
+use Rattle.ffs_lib.specs.WriteOrder.{TellsAct, TellsIn, adds_direct, after_at, borders, data_at, data_parts, goes_past, last_after, last_at, parts_at, places, parts_made, zeros_parts}
 use Rattle.ffs_lib.specs.Writes.{IsBorder}
 use Rattle.ffs_lib.specs.declared.data.Last.{Last}
+use Rattle.ffs_lib.proofs.Counted.{first_none}
 
 -- What is told of a refusal stops there
 
 pub tells_act : (T : Types) (fs : ℕ) (action : Action) (old new : StoreState) (fault : FfsFault) → TellsAct T fs action old new fault → StopsAct T fs action old new
 tells_act T fs (Makes []) old new fault x = absurd x
-tells_act T fs (Makes (edit ∷ rest)) old new fault x = (0, ap (λ (s : StoreState). Ok s) (sym x.0))
+tells_act T fs (Makes (edit ∷ rest)) old new fault x = first_none T fs (edit ∷ rest) old new x.0
 tells_act T fs (Attaches ty bytes home edit) old new fault x = elim x [ inl y ↦ inl y.0 | inr y ↦ inr (first_of (init_of T old fs ty bytes) _ _ y) ]
   where
     first_of : {A : Type 0} (r : Result A Refusal) (P Q : A → Type 0) → MatchResult r (λ a. P a × Q a) (λ refusal. ⊥) → MatchResult r P (λ refusal. ⊥)
@@ -139,15 +140,6 @@ module _ (T : Types) (fs n end offset : ℕ) (bytes : List ℕ) where
   run_next xs at x first second last next made done is =
       run_on xs (at ∷ []) x ∙ (ap (result_and_then (run (at ∷ []))) made
       ∙ (ap (result_and_then (λ state. run [] (then_last at (first, last) state))) done ∙ ap (λ (l : Last). Ok (second, l)) (sym is)))
-
-  pub stops_next : (xs : List ℕ) (at : ℕ) (rest : List ℕ) (x there : StoreState × Last) (new : StoreState) → run xs x ≡ Ok there → StopsAtPart T fs n end offset bytes at there new → StopsWriting T fs n end offset bytes (xs ++ (at ∷ rest)) x new
-  stops_next [] at rest x there new made stops = let same : x ≡ there = cc in inl (subst (λ (y : StoreState × Last). StopsAtPart T fs n end offset bytes at y new) (sym same) stops)
-  stops_next (first ∷ xs) at rest x there new made stops = inr (go (λ state e. stops_next xs at rest (then_last first x state) there new e stops) (step first x) made)
-    where
-      go : ((state : StoreState) → run xs (then_last first x state) ≡ Ok there → StopsWriting T fs n end offset bytes (xs ++ (at ∷ rest)) (then_last first x state) new) → (r : Result StoreState Refusal) →
-          result_and_then (λ state. run xs (then_last first x state)) r ≡ Ok there → MatchResult r (λ state. StopsWriting T fs n end offset bytes (xs ++ (at ∷ rest)) (then_last first x state) new) (λ refusal. ⊥)
-      go more (Ok state) e = more state e
-      go more (Err refusal) e = absurd (cc e)
 
 -- What is written from a place on
 

@@ -38,8 +38,7 @@ pub file_from : (content : ℕ → List ℕ) (fs n : ℕ) (inode : List ℕ) →
 unfolding file_in
 file_from content fs n inode e =
     let r = passed (inode_in content fs n) if_file inode e in
-    let x = not_first (inode_mode r.0 == 2) IsDir (Ok r.0) inode r.2 in
-    x.1 ∙ r.1
+    (not_first (inode_mode r.0 == 2) IsDir (Ok r.0) inode r.2).1 ∙ r.1
 
 pub file_same : (v w : ℕ → List ℕ) (fs n : ℕ) → inode_in w fs n ≡ inode_in v fs n → file_in w fs n ≡ file_in v fs n
 unfolding file_in
@@ -155,8 +154,7 @@ module _ (T : Types) (lib : IsLibrary T) (state new : StoreState) (h : IsConsist
   pub data_written : (index block at : ℕ) (bytes : List ℕ) → index < 140 → file_block v inode index ≡ block → block ≢ 0 → length (v block) ≡ 512 → at + length bytes ≤ 512 → (after : Option ℕ) (entry : ℕ) → propose_of T state fs block (edit_at at bytes [] [] after) ≡ Ok (entry, new) →
       WroteBytes v w fs n inode (512 * index + at) bytes × ((d : ℕ) → d ≢ n → SameInode v w fs d)
   data_written index block at bytes low points there long fit after entry done =
-      let reach = block_at T lib state h fs few n inode own index block low points there in
-      let t = edited T state new h fs few block 2 (edit_at at bytes [] [] after) entry done reach in
+      let t = edited T state new h fs few block 2 (edit_at at bytes [] [] after) entry done (block_at T lib state h fs few n inode own index block low points there) in
       let here : w block ≡ put (v block) at bytes = proposed_here T state new h fs block (edit_at at bytes [] [] after) entry done in
       let same : (i : ℕ) → file_block w inode i ≡ file_block v inode i = file_block_by v w inode (λ ne. t.others (word_at inode 56) 5 (pointers_at T lib state h fs few n inode own (word_at inode 56) refl ne)
       (λ e. pointers_apart T lib state h fs few n n inode inode own own index block low points e there)) in
@@ -195,8 +193,7 @@ module _ (T : Types) (lib : IsLibrary T) (zeroth first second : StoreState) (h :
   unreached : (c u : ℕ) → Under T v0 fs c u → c ≢ b
   unreached c u r e =
       let y = latest_reached T zeroth h fs few c u r in
-      let s = started T zeroth first fs 2 (put zero_block at bytes) (b, number) done in
-      none-some y.life (sym s.free ∙ (ap (life_at zeroth.lives) (sym e) ∙ y.alive))
+      none-some y.life (sym (started T zeroth first fs 2 (put zero_block at bytes) (b, number) done).free ∙ (ap (life_at zeroth.lives) (sym e) ∙ y.alive))
 
   pub fresh_same : (d : ℕ) → SameInode v0 v1 fs d
   fresh_same = none_touched T lib zeroth h fs few v1 b 9 fresh (λ z. omega (arith, z)) (λ z. omega (arith, z)) (λ z. omega (arith, z)) (λ z. omega (arith, z))
@@ -207,7 +204,6 @@ module _ (T : Types) (lib : IsLibrary T) (zeroth first second : StoreState) (h :
       let same = fresh_same n in
       let there : b ≢ 0 = begun_some T zeroth first h fs 2 (put zero_block at bytes) (b, number) done in
       let one : inode ≡ inode0 = same_ok inode inode0 (again ∙ (file_same v0 v1 fs n same.0 ∙ sym is)) in
-      let kept = same.1 inode0 (file_from v0 fs n inode0 is) in
       let own0 = stands_from v0 fs n inode0 (file_from v0 fs n inode0 is) in
       let own = stands_from v1 fs n inode (file_from v1 fs n inode again) in
       let no : file_block v1 inode index ≡ 0 = ap (λ m. file_block v1 m index) one
@@ -227,7 +223,7 @@ module _ (T : Types) (lib : IsLibrary T) (zeroth first second : StoreState) (h :
         size = g.size ∙ ap (λ m. word_at m 4) one;
         marks = (g.marks.0 ∙ ap inode_mode one, g.marks.1 ∙ ap inode_links one);
         each = λ x less. written_by (λ i k. byte_in v1 (file_block v1 inode i) k) (λ i k. byte_in v2 (file_block v2 g.after i) k) index at bytes fit others put_here x less
-            ∙ written_same (byte_of v1 inode) (byte_of v0 inode0) (512 * index + at) bytes x (ap (λ m. byte_of v1 m x) one ∙ kept.1 x less);
+            ∙ written_same (byte_of v1 inode) (byte_of v0 inode0) (512 * index + at) bytes x (ap (λ m. byte_of v1 m x) one ∙ (same.1 inode0 (file_from v0 fs n inode0 is)).1 x less);
       }
 
 -- A file's inode is written

@@ -1,5 +1,5 @@
 -- The edits that a call makes, one after another. The store gives each its next number, so it is known of each which one it comes after.
---     Edits, made_of     what is proposed of blocks; the state in which the store has accepted all of it
+--     Edits, made_of, FirstMade    what is proposed of blocks; the state in which the store has accepted all of it; the first of it is accepted
 --     Orders             a call made all of these edits; where it was refused, the first of them
 --     clear_edit         an entry is cleared
 --     links_edit, pointers_edit, free_edit    an inode has so many links; the blocks that a block of pointers points to are dropped; an inode is freed
@@ -23,7 +23,7 @@ use Rattle.xn_model.specs.Lists.{put}
 use Rattle.xn_model.specs.Root.{word_at}
 use Rattle.xn_model.specs.Lives.{StoreState}
 use Rattle.xn_model.specs.Results.{result_and_then}
-use Rattle.xn_model.specs.Calls.{Edit, forget_of, init_of, propose_of}
+use Rattle.xn_model.specs.Calls.{Edit, init_of, propose_of}
 use Rattle.ffs_model.specs.Library.{inode_blocks, inode_links, zero_block}
 use Rattle.ffs_format.specs.Entries.{entry_of}
 use Rattle.ffs_lookup.specs.declared.fault.FfsFault.{FfsFault}
@@ -32,7 +32,7 @@ use Rattle.ffs_lookup.specs.declared.places.Room.{Room}
 use Rattle.ffs_lookup.specs.declared.places.Room.TheVariants.{Entry, Pointer}
 use Rattle.ffs_lookup.specs.Newest.{directory_in, inode_block_in, inode_in, room_in}
 use Rattle.ffs_lib.specs.Edits.{data_of_inode, data_of_pointers, edit_at}
-use Rattle.ffs_lib.specs.Steps.{left_by, newest_block}
+use Rattle.ffs_lib.specs.Steps.{newest_block, skipped}
 
 abbrev pub Edits : Type 0
 Edits = List (ℕ × Edit)
@@ -41,9 +41,13 @@ abbrev pub made_of : Types → ℕ → Edits → StoreState → Result StoreStat
 made_of T fs [] state = Ok state
 made_of T fs (first ∷ rest) state = result_and_then (λ done. made_of T fs rest done.1) (propose_of T state fs first.0 first.1)
 
+-- as many as numbers were given
+abbrev pub FirstMade : Types → ℕ → Edits → StoreState → StoreState → Type 0
+FirstMade T fs edits old new = made_of T fs (take (new.next - old.next) edits) old ≡ Ok new
+
 abbrev pub Orders : {A : Type 0} → Types → ℕ → Edits → StoreState → StoreState → Result A FfsFault → Type 0
 Orders T fs edits old new result =
-    MatchResult result (λ x. made_of T fs edits old ≡ Ok new) (λ fault. (count : ℕ) × (made_of T fs (take count edits) old ≡ Ok new))
+    MatchResult result (λ x. made_of T fs edits old ≡ Ok new) (λ fault. FirstMade T fs edits old new)
 
 -- Edits of a volume
 
@@ -94,11 +98,11 @@ act_of T fs (Makes edits) state = made_of T fs edits state
 act_of T fs (Attaches ty bytes home edit) state =
     result_and_then (λ begun. made_of T fs ((home, edit begun.0.0) ∷ []) begun.1) (init_of T state fs ty bytes)
 
--- the first edits were made; or no block was begun, or the one that was is forgotten, if the store takes that
+-- the first edits were made; or no block was begun, or the one that was is forgotten
 abbrev pub StopsAct : Types → ℕ → Action → StoreState → StoreState → Type 0
-StopsAct T fs (Makes edits) old new = (count : ℕ) × (made_of T fs (take count edits) old ≡ Ok new)
+StopsAct T fs (Makes edits) old new = FirstMade T fs edits old new
 StopsAct T fs (Attaches ty bytes home edit) old new =
-    (new ≡ old) ⊎ MatchResult (init_of T old fs ty bytes) (λ begun. new ≡ left_by (forget_of T begun.1 fs begun.0.0) begun.1) (λ refusal. ⊥)
+    (new ≡ old) ⊎ MatchResult (init_of T old fs ty bytes) (λ begun. new ≡ skipped old) (λ refusal. ⊥)
 
 abbrev pub Acts : {A : Type 0} → Types → ℕ → Action → StoreState → StoreState → Result A FfsFault → Type 0
 Acts T fs action old new result = MatchResult result (λ x. act_of T fs action old ≡ Ok new) (λ fault. StopsAct T fs action old new)

@@ -2,7 +2,7 @@
 --     more_a_link, with_link     an inode with a link more; the files with one so
 --     cut_short                  a file whose block of pointers was emptied: its bytes are 0 there
 --     emptied, with_emptied      so it was for its last link; the files with one so
---     Ask, Asks                  what a call asks of the store next; the store refuses that, and nothing changes but what forgetting leaves
+--     Ask, Asks                  what a call asks of the store next; the store refuses that, and nothing changes but the next number
 --     Stages, IsStage            files, and what is asked there, in the order of a call; one of them
 --     stages_of                  the stages of a call whose look-ups pass
 --     Does                       what a call answers and leaves
@@ -54,15 +54,15 @@ abbrev pub with_emptied : Files → ℕ → Files
 with_emptied files n = with_value files n (emptied (files n))
 
 -- What is asked: an edit of a directory's block at an index; of the block that has an inode; of that, or of the inode's block of pointers; what an entry
--- more in a directory needs, by its 32 bytes; what a block of inodes more does; what the part does that begins at a place, where bytes are written into a file
--- at an offset; what the first block of inodes needs.
+-- more in a directory needs, by its 32 bytes; what a block of inodes more does; what the part does that begins at a place and comes after an edit, where bytes
+-- are written into a file at an offset; what the first block of inodes needs.
 pub data Ask : Type 0 where
   OfEntry : (d index : ℕ) → Ask
   OfInode : (n : ℕ) → Ask
   OfLink : (n : ℕ) → Ask
   ForEntry : (d : ℕ) (entry : List ℕ) → Ask
   ForInodes : Ask
-  OfPart : (n offset : ℕ) (bytes : List ℕ) (at : ℕ) → Ask
+  OfPart : (n offset : ℕ) (bytes : List ℕ) (at : ℕ) (after : Option ℕ) → Ask
   ForTop : Ask
 
 abbrev pub Asks : Types → ℕ → Ask → StoreState → StoreState → FfsFault → Type 0
@@ -72,8 +72,7 @@ Asks T fs (OfInode n) before new fault = StopsAtHome T fs before new n fault
 Asks T fs (OfLink n) before new fault = (new ≡ before) × (WantsHome T before fs n fault ⊎ WantsPointers T before fs n fault)
 Asks T fs (ForEntry d entry) before new fault = StopsEntering T fs before new d entry fault
 Asks T fs ForInodes before new fault = StopsGrowing T fs before new fault
-Asks T fs (OfPart n offset bytes at) before new fault =
-    (after : Option ℕ) × StopsPart T fs (parts_at fs n offset bytes at after) before new n fault
+Asks T fs (OfPart n offset bytes at after) before new fault = StopsPart T fs (parts_at fs n offset bytes at after) before new n fault
 Asks T fs ForTop before new fault = StopsTop T fs before new fault
 
 abbrev pub Stages : Type 0

@@ -2,7 +2,7 @@
 --     newest_block state        the newest_block bytes of each block
 --     Tells, Wants        a fault that tells why the store refuses something; an edit of a block
 --     WantsHome, WantsPointers    an edit of the block that has an inode; of the inode's block of pointers
---     left_by             what a call of the store leaves, or what was there where that is refused
+--     left_by, skipped    what a call of the store leaves, or what was there where that is refused; a number was given, and nothing else changed
 --     ShortEdit           the store refuses an edit for want of something alone
 --     Follows             what a call of the store leaves that answers an entry
 --     Proposed, Dropped, Attached   what one proposal leaves; where a block of pointers is cleared, if it points to anything; where a new
@@ -63,6 +63,10 @@ WantsPointers T state fs n fault = MatchResult (inode_in (newest_block state) fs
 abbrev pub left_by : {A : Type 0} → Result (A × StoreState) Refusal → StoreState → StoreState
 left_by (Ok (x, after)) old = after
 left_by (Err refusal) old = old
+
+-- as where a new block was forgotten
+abbrev pub skipped : StoreState → StoreState
+skipped state = record state { next = state.next + 1 }
 
 -- Proposals
 
@@ -220,11 +224,11 @@ IsHome content fs n block = Ok block ≡ inode_block_in content fs ((n - 1) / 8)
 abbrev pub StopsAtHome : Types → ℕ → StoreState → StoreState → ℕ → FfsFault → Type 0
 StopsAtHome T fs old new n fault = (new ≡ old) × WantsHome T old fs n fault
 
--- A new block was not begun; or it was, an edit of the block that was to own it is refused, and it is forgotten, if the store takes that.
+-- A new block was not begun; or it was, an edit of the block that was to own it is refused, and it is forgotten.
 abbrev pub StopsAttaching : Types → ℕ → StoreState → StoreState → ℕ → List ℕ → ℕ → FfsFault → Type 0
 StopsAttaching T fs old new ty bytes home fault =
     ((new ≡ old) × Tells (init_of T old fs ty bytes) fault)
-    ⊎ MatchResult (init_of T old fs ty bytes) (λ made. (new ≡ left_by (forget_of T made.1 fs made.0.0) made.1) × Wants T made.1 fs home fault) (λ refusal. ⊥)
+    ⊎ MatchResult (init_of T old fs ty bytes) (λ made. (new ≡ skipped old) × Wants T made.1 fs home fault) (λ refusal. ⊥)
 
 -- a block of inodes was to be added
 pub record StopsGrowing (T : Types) (fs : ℕ) (old new : StoreState) (fault : FfsFault) : Type 0 where

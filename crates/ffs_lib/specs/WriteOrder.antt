@@ -9,12 +9,15 @@
 --     no_last, goes_past, after_at    no edit; whether a part ends past the file's end; what it comes after
 --     adds_direct, last_after, last_at     whether the inode comes to point to the block; the last edits then
 --     borders, places, first_past     where the parts begin, of some; and of none; where the first one does that ends past the file's end
---     parts_made, StopsWriting        parts are made, with the last edits; the first ones are, and the next one stops
---     EndsWriting, WritesInOrder      what `write` makes then; what it makes
+--     parts_made, StopsAtPart         parts are made, with the last edits; one stops
+--     reached, stops_at               all parts up to a place are made; where the first one begins whose edits are not all below a number
+--     written_by, after_in            how many of the zeros and the bytes are written then; what the part at a place comes after
+--     Where, StopsThere               one of two claims; a part stops, or the size
+--     WritesInOrder                   what `write` makes
 --     TakesUpTo, StopsBefore, WritesSomeInOrder    so many bytes are taken, and then this is so; none is told; what `write_some` makes
 --     NonePendingAt, HasEdit, ShowsWhole     nothing is pending for a block; an edit is; in the cuts the last edit comes with all bytes of the call
 --     TellsAct, TellsIn               an action is refused, and this is told of that; one of many is
-use Rattle.std.specs.Prelude.{◌≡◌, ◌≢◌, ◌⊎◌, ℕ, ◌+◌, ◌-◌, ◌*◌, ◌/◌, ◌%◌, ◌≤◌, ◌==◌, ◌||◌, ◌&&◌, not, nat_lt, Bool, false, List, [], ◌∷◌, length, take}
+use Rattle.std.specs.Prelude.{◌≡◌, ◌≢◌, ◌⊎◌, ℕ, ◌+◌, ◌-◌, ◌*◌, ◌/◌, ◌%◌, ◌≤◌, ◌==◌, ◌||◌, ◌&&◌, not, nat_lt, Bool, true, false, List, [], ◌∷◌, length, take}
 use Rattle.std.specs.Prelude.{Contains, drop, filter, max, min, replicate, Option, None, Some, Result, Ok, Err, MatchResult, if◌then◌else◌}
 use Rattle.std.specs.List.{list_all, range_with_len}
 use Rattle.std.specs.Int.{w32, to_le_bytes}
@@ -24,14 +27,14 @@ use Rattle.xn_model.specs.Lists.{put}
 use Rattle.xn_model.specs.Root.{word_at}
 use Rattle.xn_model.specs.Lives.{BlockState, Life, Lives, StoreState, life_at}
 use Rattle.xn_model.specs.Results.{result_and_then}
-use Rattle.xn_model.specs.Calls.{Edit, forget_of, init_of, propose_of}
+use Rattle.xn_model.specs.Calls.{Edit, init_of, propose_of}
 use Rattle.ffs_model.specs.Cuts.{Choice, IsCut, Takes, latest, seen}
 use Rattle.ffs_model.specs.Library.{zero_block}
 use Rattle.ffs_lookup.specs.declared.fault.FfsFault.{FfsFault}
 use Rattle.ffs_lookup.specs.Newest.{file_block, file_end, file_in, inode_block_in}
 use Rattle.ffs_lib.specs.Edits.{edit_at}
 use Rattle.ffs_lib.specs.Orders.{Action, Attaches, Makes, Parts, StopsAct, StopsIn, act_of, made_by}
-use Rattle.ffs_lib.specs.Steps.{Tells, left_by, newest_block}
+use Rattle.ffs_lib.specs.Steps.{Tells, newest_block, skipped}
 use Rattle.ffs_lib.specs.declared.data.Last.{Last}
 
 -- Edits of a file
@@ -156,12 +159,16 @@ parts_made T fs n end offset bytes (at ∷ rest) from =
 abbrev pub StopsAtPart : Types → ℕ → ℕ → ℕ → ℕ → List ℕ → ℕ → StoreState × Last → StoreState → Type 0
 StopsAtPart T fs n end offset bytes at from new = StopsIn T fs (parts_at fs n offset bytes at (after_at end offset bytes at from.1)) from.0 new
 
-abbrev pub StopsWriting : Types → ℕ → ℕ → ℕ → ℕ → List ℕ → List ℕ → StoreState × Last → StoreState → Type 0
-StopsWriting T fs n end offset bytes [] from new = ⊥
-StopsWriting T fs n end offset bytes (at ∷ rest) from new =
-    StopsAtPart T fs n end offset bytes at from new
-    ⊎ MatchResult (made_by T fs (parts_at fs n offset bytes at (after_at end offset bytes at from.1)) from.0)
-    (λ state. StopsWriting T fs n end offset bytes rest (state, last_at fs n end offset bytes at from.0 state from.1) new) (λ refusal. ⊥)
+-- A part is refused, or its edits have numbers from one on; or none is, and this is where all end.
+abbrev pub stop_or : ℕ → ℕ → Result StoreState Refusal → (StoreState → ℕ) → ℕ
+stop_or limit at (Ok state) go = if nat_lt limit state.next then at else go state
+stop_or limit at (Err refusal) go = at
+
+abbrev pub stop_among : Types → ℕ → ℕ → ℕ → ℕ → List ℕ → ℕ → List ℕ → StoreState × Last → ℕ
+stop_among T fs n end offset bytes limit [] from = offset + length bytes
+stop_among T fs n end offset bytes limit (at ∷ rest) from =
+    stop_or limit at (made_by T fs (parts_at fs n offset bytes at (after_at end offset bytes at from.1)) from.0)
+    (λ state. stop_among T fs n end offset bytes limit rest (state, last_at fs n end offset bytes at from.0 state from.1))
 
 -- where the first part begins that ends past the file's end
 abbrev pub first_past : ℕ → ℕ → ℕ
@@ -173,12 +180,46 @@ abbrev pub reached : Types → ℕ → ℕ → List ℕ → ℕ → List ℕ →
 reached T fs n inode offset bytes to old =
     parts_made T fs n (file_end inode) offset bytes (places (min (file_end inode) offset) offset to) (old, no_last)
 
+-- Where the first part begins that is not made by edits with numbers below the next one of a state, or where the bytes end; where there are none, where
+-- the first part would begin.
+abbrev pub stops_at : Types → ℕ → ℕ → List ℕ → ℕ → List ℕ → StoreState → StoreState → ℕ
+stops_at T fs n inode offset [] old new = min (file_end inode) offset
+stops_at T fs n inode offset (byte ∷ rest) old new =
+    let bytes = byte ∷ rest in
+    stop_among T fs n (file_end inode) offset bytes new.next (places (min (file_end inode) offset) offset (offset + length bytes)) (old, no_last)
+
+abbrev pub written_by : Types → ℕ → ℕ → List ℕ → ℕ → List ℕ → StoreState → StoreState → ℕ
+written_by T fs n inode offset bytes old new = stops_at T fs n inode offset bytes old new - min (file_end inode) offset
+
+-- after the last edits of the parts before it
+abbrev pub after_reached : ℕ → ℕ → List ℕ → ℕ → Result (StoreState × Last) Refusal → Option ℕ
+after_reached end offset bytes at (Ok there) = after_at end offset bytes at there.1
+after_reached end offset bytes at (Err refusal) = None
+
+abbrev pub after_of : Types → ℕ → ℕ → ℕ → List ℕ → StoreState → Result (List ℕ) FfsFault → ℕ → Option ℕ
+after_of T fs n offset bytes old (Ok inode) at = after_reached (file_end inode) offset bytes at (reached T fs n inode offset bytes at old)
+after_of T fs n offset bytes old (Err fault) at = None
+
+abbrev pub after_in : Types → ℕ → ℕ → ℕ → List ℕ → StoreState → ℕ → Option ℕ
+after_in T fs n offset bytes old = after_of T fs n offset bytes old (file_in (newest_block old) fs n)
+
 -- the size is asked for, or was refused
 abbrev pub SizeMade : Types → ℕ → ℕ → ℕ → Last → StoreState → StoreState → Type 0
 SizeMade T fs n size last old new = act_of T fs (size_action (newest_block old) fs n size last.size) old ≡ Ok new
 
 abbrev pub SizeStops : Types → ℕ → ℕ → ℕ → Last → StoreState → StoreState → Type 0
 SizeStops T fs n size last old new = StopsAct T fs (size_action (newest_block old) fs n size last.size) old new
+
+abbrev pub Where : Bool → Type 0 → Type 0 → Type 0
+Where true P Q = P
+Where false P Q = Q
+
+-- the part at a place stops, or the size, where that is the end
+abbrev pub StopsThere : Types → ℕ → ℕ → List ℕ → ℕ → List ℕ → ℕ → StoreState → StoreState → Type 0
+StopsThere T fs n inode offset bytes at old new =
+    let size = offset + length bytes in
+    MatchResult (reached T fs n inode offset bytes at old) (λ there. Where (nat_lt at size) (StopsAtPart T fs n (file_end inode) offset bytes at there new)
+    (SizeStops T fs n size there.1 there.0 new)) (λ refusal. ⊥)
 
 -- all parts, and then the size; no edit where there are no bytes
 abbrev pub WritesInOrder : {A : Type 0} → Types → ℕ → ℕ → List ℕ → ℕ → List ℕ → StoreState → StoreState → Result A FfsFault → Type 0
@@ -188,8 +229,7 @@ WritesInOrder T fs n inode offset (byte ∷ rest) old new result =
     let size = offset + length bytes in
     MatchResult result
     (λ x. MatchResult (reached T fs n inode offset bytes size old) (λ there. SizeMade T fs n size there.1 there.0 new) (λ refusal. ⊥))
-    (λ fault. StopsWriting T fs n (file_end inode) offset bytes (places (min (file_end inode) offset) offset size) (old, no_last) new
-    ⊎ MatchResult (reached T fs n inode offset bytes size old) (λ there. SizeStops T fs n size there.1 there.0 new) (λ refusal. ⊥))
+    (λ fault. StopsThere T fs n inode offset bytes (stops_at T fs n inode offset bytes old new) old new)
 
 -- The parts of the first so many bytes are made, and the next one stops, where there is one; then this is so.
 abbrev pub TakesUpTo : Types → ℕ → ℕ → List ℕ → ℕ → List ℕ → ℕ → StoreState → (Last → StoreState → Type 0) → Type 0
@@ -198,21 +238,21 @@ TakesUpTo T fs n inode offset bytes count old Q =
     (λ there. ((count ≡ length bytes) × Q there.1 there.0)
     ⊎ ((middle : StoreState) × StopsAtPart T fs n (file_end inode) offset bytes (offset + count) there middle × Q there.1 middle)) (λ refusal. ⊥)
 
--- a part stops up to the first one with bytes; or some bytes are taken, and the size is refused
-abbrev pub StopsBefore : Types → ℕ → ℕ → List ℕ → ℕ → List ℕ → StoreState → StoreState → Type 0
-StopsBefore T fs n inode offset bytes old new =
-    StopsWriting T fs n (file_end inode) offset bytes (places (min (file_end inode) offset) offset (offset + 1)) (old, no_last) new
-    ⊎ ((count : ℕ) × (count ≢ 0) × (count ≤ length bytes)
-    × TakesUpTo T fs n inode offset bytes count old (λ last middle. SizeStops T fs n (offset + count) last middle new))
+-- no byte is taken before the part at a place; or some are, and the size is refused
+abbrev pub StopsBefore : Types → ℕ → ℕ → List ℕ → ℕ → List ℕ → ℕ → StoreState → StoreState → Type 0
+StopsBefore T fs n inode offset bytes at old new =
+    Where (nat_lt offset at) (TakesUpTo T fs n inode offset bytes (at - offset) old (λ last middle. SizeStops T fs n at last middle new))
+    (StopsThere T fs n inode offset bytes at old new)
 
 abbrev pub WritesSomeInOrder : Types → ℕ → ℕ → List ℕ → ℕ → List ℕ → StoreState → StoreState → Result ℕ FfsFault → Type 0
 WritesSomeInOrder T fs n inode offset [] old new result = new ≡ old
 WritesSomeInOrder T fs n inode offset (byte ∷ rest) old new result =
     let bytes = byte ∷ rest in
+    let at = stops_at T fs n inode offset bytes old new in
     MatchResult result
     (λ count. (count ≢ 0 → TakesUpTo T fs n inode offset bytes count old (λ last middle. SizeMade T fs n (offset + count) last middle new))
-    × (count ≡ 0 → StopsBefore T fs n inode offset bytes old new))
-    (λ fault. StopsBefore T fs n inode offset bytes old new)
+    × (count ≡ 0 → StopsBefore T fs n inode offset bytes at old new))
+    (λ fault. StopsBefore T fs n inode offset bytes at old new)
 
 -- In the cuts
 
@@ -231,14 +271,14 @@ ShowsWhole old new =
 
 -- What is told of a refusal
 
--- the edit is refused; or the new block was not begun, or the edit that was to attach it is refused, and it is forgotten, if the store takes that
+-- the edit is refused; or the new block was not begun, or the edit that was to attach it is refused, and it is forgotten
 abbrev pub TellsAct : Types → ℕ → Action → StoreState → StoreState → FfsFault → Type 0
 TellsAct T fs (Makes []) old new fault = ⊥
 TellsAct T fs (Makes (edit ∷ rest)) old new fault = (new ≡ old) × Tells (propose_of T old fs edit.0 edit.1) fault
 TellsAct T fs (Attaches ty bytes home edit) old new fault =
     ((new ≡ old) × Tells (init_of T old fs ty bytes) fault)
     ⊎ MatchResult (init_of T old fs ty bytes)
-    (λ begun. (new ≡ left_by (forget_of T begun.1 fs begun.0.0) begun.1) × Tells (propose_of T begun.1 fs home (edit begun.0.0)) fault) (λ refusal. ⊥)
+    (λ begun. (new ≡ skipped old) × Tells (propose_of T begun.1 fs home (edit begun.0.0)) fault) (λ refusal. ⊥)
 
 -- the first are made, and the next one is refused so
 abbrev pub TellsIn : Types → ℕ → Parts → StoreState → StoreState → FfsFault → Type 0

@@ -5,6 +5,7 @@
 --     ActedBy, StopsAction         an action was made, with an edit of this number; it was refused, and no byte of the file changed
 --     Waits, IsFrom, WaitsOn, WaitsAfter     in the cuts: an edit is taken with others; what is pending is new; a step keeps that; an action does
 --     PutsParts, StopsPart         bytes are written by the actions of a part; one of these was refused
+--     RefusesPart                  and in the cuts that is as good as nothing
 --     padded                       what a write writes: its bytes, and zeros before them from the file's end on
 --     PartStops                    a part was refused behind the first of that, which are written
 --     Parts                        the first of that are written, part after part, maybe up to a refusal
@@ -98,6 +99,10 @@ pub record StopsPart (T : Types) (fs : ℕ) (parts : orders.Parts) (old new : St
   pub same : Puts old new fs n 0 []
   pub told : TellsIn T fs parts old new fault
 
+-- what was waited for before is waited for
+abbrev pub RefusesPart : Types → ℕ → orders.Parts → StoreState → StoreState → ℕ → Last → FfsFault → Type 0
+RefusesPart T fs parts old new n last fault = StopsPart T fs parts old new n fault × WaitsOn fs n old new last last
+
 -- What a write writes into a file that ends somewhere, part after part
 
 abbrev pub padded : ℕ → ℕ → List ℕ → List ℕ
@@ -130,7 +135,7 @@ pub record Parts (T : Types) (fs : ℕ) (array : ℕ → Option ℕ) (old new : 
   pub calm : min end offset + progress.done ≤ first_past end offset → progress.last ≡ no_last
   pub waits : (there : StoreState × Last) → parts_made T fs n end offset bytes (places (min end offset) offset (first_past end offset)) (old, no_last)
       ≡ Ok there →
-      first_past end offset ≤ min end offset + progress.done → end < offset + length bytes → progress.fault ≡ None →
+      first_past end offset ≤ min end offset + progress.done → end < offset + length bytes →
       IsConsistent T there.0 × WaitsOn fs n there.0 new no_last progress.last
   pub given : LastGiven new progress.last
   pub ended : IfSome progress.fault (Stops (PartStops T fs old new n end offset bytes progress.done progress.last))

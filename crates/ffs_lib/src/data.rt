@@ -20,7 +20,7 @@ ghost use Rattle.ffs_lib.specs.Steps.{Ends, Stage, StopsAtHome, newest_block};
 ghost use Rattle.ffs_lib.specs.Orders.{Acts, act_of};
 ghost use Rattle.ffs_lib.specs.WriteOrder.{ShowsWhole, data_action, data_parts, no_last, pointers_action, size_action, zeros_parts};
 ghost use Rattle.ffs_lib.specs.declared.data.Last.{Last};
-ghost use Rattle.ffs_lib.specs.Writes.{ActedBy, LastGiven, Parts, PointsTo, PutsBy, PutsParts, StopsAction, StopsPart, WaitsAfter, WaitsOn};
+ghost use Rattle.ffs_lib.specs.Writes.{ActedBy, LastGiven, Parts, PointsTo, PutsBy, PutsParts, RefusesPart, StopsAction, WaitsAfter, WaitsOn};
 ghost use Rattle.ffs_lookup.specs.Places.{IsFile};
 
 use crate::put::{attach, put, put_inode};
@@ -244,7 +244,7 @@ fn add_block<S: Store>(
         LastGiven (S.state_of store.old) last → Ends T fs.number array (S.state_of store.new) result
         (PutsParts T fs.number (data_parts fs.number number index at bytes.now last.edit) (S.state_of store.old) (S.state_of store.new)
         number index at bytes.now last)
-        (StopsPart T fs.number (data_parts fs.number number index at bytes.now last.edit) (S.state_of store.old) (S.state_of store.new) number) }
+        (RefusesPart T fs.number (data_parts fs.number number index at bytes.now last.edit) (S.state_of store.old) (S.state_of store.new) number last) }
 {
     if index < DIRECT_POINTERS {
         let added = add_direct(alloc, store, fs, number, index, at, bytes, last.edit)?;
@@ -278,7 +278,7 @@ fn write_block<S: Store>(
         Ends T fs.number array (S.state_of store.new) result
         (PutsParts T fs.number (data_parts fs.number number index at bytes.now last.edit) (S.state_of store.old) (S.state_of store.new)
         number index at bytes.now last)
-        (StopsPart T fs.number (data_parts fs.number number index at bytes.now last.edit) (S.state_of store.old) (S.state_of store.new) number) }
+        (RefusesPart T fs.number (data_parts fs.number number index at bytes.now last.edit) (S.state_of store.old) (S.state_of store.new) number last) }
 {
     let file = find_file(store, fs, number)?;
     let block = file_block(store, fs, number, &file, index)?;
@@ -318,7 +318,7 @@ fn clear_block<S: Store>(
         Ends T fs.number array (S.state_of store.new) result
         (PutsParts T fs.number (zeros_parts fs.number number index at count last.edit) (S.state_of store.old) (S.state_of store.new)
         number index at (replicate count 0) last)
-        (StopsPart T fs.number (zeros_parts fs.number number index at count last.edit) (S.state_of store.old) (S.state_of store.new) number) }
+        (RefusesPart T fs.number (zeros_parts fs.number number index at count last.edit) (S.state_of store.old) (S.state_of store.new) number last) }
 {
     let file = find_file(store, fs, number)?;
     let block = file_block(store, fs, number, &file, index)?;

@@ -25,9 +25,9 @@ ghost use Rattle.ffs_lib.specs.Outcomes.{HasFreePointer};
 ghost use Rattle.ffs_lib.specs.Replacing.{AreDirect, pair_of};
 ghost use Rattle.ffs_model.specs.Standing.{StayNamed};
 ghost use Rattle.xn_model.specs.Lives.{Lives, StoreState};
-ghost use Rattle.ffs_lib.specs.WriteOrder.{ShowsWhole, WritesInOrder, WritesSomeInOrder, first_past, reached};
+ghost use Rattle.ffs_lib.specs.WriteOrder.{ShowsWhole, WritesInOrder, WritesSomeInOrder, after_in, first_past, reached, written_by};
 ghost use Rattle.ffs_lib.specs.declared.data.Last.{Last};
-ghost use Rattle.ffs_lib.specs.Written.{DoesSome, Overwrites, WritesSomeTo, WritesTo, written_stages};
+ghost use Rattle.ffs_lib.specs.Written.{DoesSome, Overwrites, WritesSomeTo, WritesTo, some_by, written_stages};
 ghost use Rattle.ffs_lookup.specs.FileValues.{files_of};
 ghost use Rattle.ffs_lookup.specs.Files.{Files, created, listed, new_directory, new_file, read, read_over, removed, renamed, unlinked, written};
 ghost use Rattle.ffs_lib.specs.Stages.{Does, KeptOrEmptied, Makes, OnlyMade, Unnames, created_stages, make_stages, removed_stages, renamed_stages};
@@ -415,11 +415,15 @@ impl Volume {
         requires { IsVolume (S.types_of store.old) (S.state_of store.old) self.now }
         ensures types { S.types_of store.new ≡ S.types_of store.old }
         ensures answers { let files = files_of (newest_block (S.state_of store.old)) self.now.fs.number in
-            Does (S.types_of store.old) self.now.fs.number (written files inode offset bytes.now) (written_stages files inode offset bytes.now)
+            Does (S.types_of store.old) self.now.fs.number (written files inode offset bytes.now)
+            (written_stages files (after_in (S.types_of store.old) self.now.fs.number inode offset bytes.now (S.state_of store.old)) inode offset bytes.now)
             (S.state_of store.old) (S.state_of store.new) result }
         ensures inodes { let old = newest_block (S.state_of store.old) in let new = newest_block (S.state_of store.new) in let fs = self.now.fs.number in
-            (file : List ℕ) → Ok file ≡ write_in old fs inode (offset + length bytes.now) → (done : ℕ) × Overwrites old new fs inode file offset bytes.now done
-            × WritesTo (S.types_of store.old) fs (files_of old fs) inode file offset bytes.now done (S.state_of store.new) result }
+            (file : List ℕ) → Ok file ≡ write_in old fs inode (offset + length bytes.now) →
+            let done = written_by (S.types_of store.old) fs inode file offset bytes.now (S.state_of store.old) (S.state_of store.new) in
+            Overwrites old new fs inode file offset bytes.now done
+            × WritesTo (S.types_of store.old) fs (files_of old fs) (after_in (S.types_of store.old) fs inode offset bytes.now (S.state_of store.old))
+            inode file offset bytes.now done (S.state_of store.new) result }
         ensures order { let old = newest_block (S.state_of store.old) in let fs = self.now.fs.number in
             (file : List ℕ) → Ok file ≡ write_in old fs inode (offset + length bytes.now) →
             WritesInOrder (S.types_of store.old) fs inode file offset bytes.now (S.state_of store.old) (S.state_of store.new) result }
@@ -460,14 +464,22 @@ impl Volume {
         requires { IsVolume (S.types_of store.old) (S.state_of store.old) self.now }
         ensures types { S.types_of store.new ≡ S.types_of store.old }
         ensures answers { let files = files_of (newest_block (S.state_of store.old)) self.now.fs.number in
-            DoesSome (S.types_of store.old) self.now.fs.number files inode offset bytes.now (written files inode offset bytes.now)
-            (S.state_of store.old) (S.state_of store.new) result }
+            DoesSome (S.types_of store.old) self.now.fs.number files
+            (after_in (S.types_of store.old) self.now.fs.number inode offset bytes.now (S.state_of store.old))
+            inode offset bytes.now (written files inode offset bytes.now) (S.state_of store.old) (S.state_of store.new) result }
         ensures inodes { let old = newest_block (S.state_of store.old) in let new = newest_block (S.state_of store.new) in let fs = self.now.fs.number in
-            (file : List ℕ) → Ok file ≡ write_in old fs inode (offset + length bytes.now) → (done : ℕ) × Overwrites old new fs inode file offset bytes.now done
-            × WritesSomeTo (S.types_of store.old) fs (files_of old fs) inode file offset bytes.now done (S.state_of store.new) result }
+            (file : List ℕ) → Ok file ≡ write_in old fs inode (offset + length bytes.now) →
+            let done = some_by (S.types_of store.old) fs inode file offset bytes.now (S.state_of store.old) (S.state_of store.new) result in
+            Overwrites old new fs inode file offset bytes.now done
+            × WritesSomeTo (S.types_of store.old) fs (files_of old fs) (after_in (S.types_of store.old) fs inode offset bytes.now (S.state_of store.old))
+            inode offset bytes.now done (S.state_of store.new) result }
         ensures order { let old = newest_block (S.state_of store.old) in let fs = self.now.fs.number in
             (file : List ℕ) → Ok file ≡ write_in old fs inode (offset + length bytes.now) →
             WritesSomeInOrder (S.types_of store.old) fs inode file offset bytes.now (S.state_of store.old) (S.state_of store.new) result }
+        ensures cuts { let old = newest_block (S.state_of store.old) in let fs = self.now.fs.number in
+            (file : List ℕ) (there : StoreState × Last) → Ok file ≡ write_in old fs inode (offset + length bytes.now) →
+            reached (S.types_of store.old) fs inode file offset bytes.now (first_past (file_end file) offset) (S.state_of store.old) ≡ Ok there →
+            IfOk result (λ count. count ≢ 0 → file_end file < offset + count → ShowsWhole there.0 (S.state_of store.new)) }
         ensures none { length bytes.now ≡ 0 → S.state_of store.new ≡ S.state_of store.old }
         ensures keeps { IsVolume (S.types_of store.old) (S.state_of store.new) self.now }
     {

@@ -3,12 +3,14 @@
 ghost use Rattle.std.specs.Prelude.{◌≡◌, ◌≢◌, ◌<◌, ◌≤◌, ◌+◌, ◌⊎◌, ℕ, List, [], is_some, length, map, IfOk, IsOk, MatchResult, None, OnErr, OnOk, Ok, Err};
 ghost use Rattle.ffs_model.specs.Cuts.{latest};
 ghost use Rattle.ffs_model.specs.Library.{IsLibrary};
-ghost use Rattle.ffs_lookup.specs.Newest.{inode_in, mapped, named_in, rename_in, rmdir_in, unlink_in, write_in};
+ghost use Rattle.ffs_model.specs.Volumes.{no_edits};
+ghost use Rattle.ffs_lookup.specs.Newest.{create_in, file_end, inode_in, mapped, named_in, rename_in, rmdir_in, unlink_in, write_in};
 ghost use Rattle.ffs_lookup.specs.declared.places.Slot.{Slot};
 ghost use Rattle.ffs_lookup.specs.Files.{Files, created, listed, new_directory, new_file, read, read_over, removed, renamed, replaced, unlinked, written};
 ghost use Rattle.ffs_lookup.specs.FileValues.{files_of};
 ghost use Rattle.ffs_lookup.specs.Counts.{if_idle};
 ghost use Rattle.ffs_lookup.specs.Repairs.{idle_in, repair_at};
+ghost use Rattle.ffs_lib.specs.NewOrder.{CreatesInOrder, new_in};
 ghost use Rattle.ffs_lib.specs.Orders.{InOrder, Orders, moved_parts, removed_edits, replaced_parts};
 ghost use Rattle.ffs_lib.specs.Reclaiming.{LeftByRepair, needs, reclaimed, reclaimed_stages};
 ghost use Rattle.ffs_lib.specs.RepairOrder.{reclaimed_parts};
@@ -16,9 +18,11 @@ ghost use Rattle.ffs_lib.specs.Replacing.{NamesStand, Replaced, replace_in};
 ghost use Rattle.ffs_lib.specs.Results.{MovedInodes};
 ghost use Rattle.ffs_lib.specs.Stages.{Does, KeptOrEmptied, Makes, OnlyMade, Unnames, created_stages, removed_stages, renamed_stages, replaced_stages};
 ghost use Rattle.ffs_lib.specs.Steps.{newest_block};
-ghost use Rattle.ffs_lib.specs.Volumes.{NothingPending};
-ghost use Rattle.ffs_lib.specs.Written.{DoesSome, Overwrites, WritesSomeTo};
-ghost use Rattle.ffs_lib.specs.WriteOrder.{WritesSomeInOrder};
+ghost use Rattle.ffs_lib.specs.Volumes.{NothingPending, edits_of};
+ghost use Rattle.ffs_lib.specs.Written.{DoesSome, Overwrites, WritesSomeTo, some_by};
+ghost use Rattle.ffs_lib.specs.WriteOrder.{ShowsWhole, WritesSomeInOrder, after_in, first_past, reached};
+ghost use Rattle.ffs_lib.specs.declared.data.Last.{Last};
+ghost use Rattle.xn_model.specs.Lives.{StoreState};
 ghost use Rattle.xn_model.specs.Calls.{free_of, pending_of, tainted_of};
 ghost use Rattle.xn_model.specs.declared.refusal.Refusal.{Refusal};
 ghost use Rattle.xn_state.specs.Awaits.{awaited_of};
@@ -85,7 +89,7 @@ impl<S: FlushStore> Model for Session<S> {
 
     ghost Value = { SessionValue S };
 
-    ghost view = { λ a. record { store = a.store; fs = a.volume.fs.number } };
+    ghost view = { λ a. record { store = a.store; fs = a.volume.fs.number; numbers = a.volume.added } };
 
     ghost invariant = { λ a. IsVolume (S.types_of a.store) (S.state_of a.store) a.volume × (a.volume.fs ≡ a.fs) };
 }
@@ -134,6 +138,7 @@ impl<S: FlushStore + Drop> Session<S> {
     /// the store could not be flushed.
     pub fn open(alloc: Global, store: S, fs: Fs) -> Result<Session<S>, FfsFault>
         ensures fs { IfOk result (λ session. session.fs ≡ fs.number) }
+        ensures numbers { IfOk result (λ session. edits_of session.numbers ≡ no_edits) }
         ensures clean { IfOk result (λ session. NothingPending (S.state_of session.store).lives) }
     {
         let mut store = store;
@@ -147,7 +152,8 @@ impl<S: FlushStore + Drop> Session<S> {
 
     /// Makes the volume of a file system that has none, with what `open` asks of the store; `Exists` where there is one.
     pub fn make(alloc: Global, store: S, fs: Fs) -> Result<Session<S>, FfsFault>
-        ensures { IfOk result (λ session. session.fs ≡ fs.number) }
+        ensures fs { IfOk result (λ session. session.fs ≡ fs.number) }
+        ensures numbers { IfOk result (λ session. edits_of session.numbers ≡ no_edits) }
     {
         let mut store = store;
         let _waves = store.flush(alloc)?;
@@ -173,6 +179,7 @@ impl<S: FlushStore + Drop> Session<S> {
     /// Writes all that is pending, and answers how many waves that took. After a refusal the session is of no more use.
     pub fn flush(&mut self, alloc: Global) -> Result<u32, Refusal>
         ensures fs { self.new.fs ≡ self.old.fs }
+        ensures numbers { self.new.numbers ≡ self.old.numbers }
         ensures keeps { KeepsVolumes (S.types_of self.old.store) (S.state_of self.old.store) (S.types_of self.new.store) (S.state_of self.new.store) }
         ensures done { OnOk result (NothingPending (S.state_of self.new.store).lives) }
     {
@@ -184,6 +191,7 @@ impl<S: FlushStore + Drop> Session<S> {
     /// refusal the session is of no more use.
     pub fn flush_waves(&mut self, alloc: Global, most: u32) -> Result<u32, Refusal>
         ensures fs { self.new.fs ≡ self.old.fs }
+        ensures numbers { self.new.numbers ≡ self.old.numbers }
         ensures keeps { KeepsVolumes (S.types_of self.old.store) (S.state_of self.old.store) (S.types_of self.new.store) (S.state_of self.new.store) }
         ensures done { IfOk result (λ waves. waves < most → NothingPending (S.state_of self.new.store).lives) }
     {
@@ -244,6 +252,11 @@ impl<S: FlushStore + Drop> Session<S> {
         ensures inodes { let old = newest_block (S.state_of self.old.store) in let new = newest_block (S.state_of self.new.store) in
             (next : ℕ × Files) → created new_file (files_of old self.old.fs) directory name.now ≡ Ok next →
             Makes old new self.old.fs directory 1 next.0 × OnErr result (OnlyMade old new self.old.fs next.0) }
+        ensures order { (n : ℕ) → Ok n ≡ new_in (newest_block (S.state_of self.old.store)) self.old.fs directory name.now →
+            CreatesInOrder (S.types_of self.old.store) self.old.fs directory name.now 1 n (edits_of self.old.numbers) (S.state_of self.old.store)
+            (edits_of self.new.numbers) (S.state_of self.new.store) result }
+        ensures numbers { (fault : FfsFault) → Err fault ≡ create_in (newest_block (S.state_of self.old.store)) self.old.fs directory name.now →
+            edits_of self.new.numbers ≡ edits_of self.old.numbers }
     {
         self.volume.create(alloc, &mut self.store, directory, name)
     }
@@ -258,6 +271,11 @@ impl<S: FlushStore + Drop> Session<S> {
         ensures inodes { let old = newest_block (S.state_of self.old.store) in let new = newest_block (S.state_of self.new.store) in
             (next : ℕ × Files) → created new_directory (files_of old self.old.fs) directory name.now ≡ Ok next →
             Makes old new self.old.fs directory 2 next.0 × OnErr result (OnlyMade old new self.old.fs next.0) }
+        ensures order { (n : ℕ) → Ok n ≡ new_in (newest_block (S.state_of self.old.store)) self.old.fs directory name.now →
+            CreatesInOrder (S.types_of self.old.store) self.old.fs directory name.now 2 n (edits_of self.old.numbers) (S.state_of self.old.store)
+            (edits_of self.new.numbers) (S.state_of self.new.store) result }
+        ensures numbers { (fault : FfsFault) → Err fault ≡ create_in (newest_block (S.state_of self.old.store)) self.old.fs directory name.now →
+            edits_of self.new.numbers ≡ edits_of self.old.numbers }
     {
         self.volume.mkdir(alloc, &mut self.store, directory, name)
     }
@@ -273,15 +291,25 @@ impl<S: FlushStore + Drop> Session<S> {
     ) -> Result<usize, FfsFault>
         ensures types { S.types_of self.new.store ≡ S.types_of self.old.store }
         ensures fs { self.new.fs ≡ self.old.fs }
+        ensures numbers { self.new.numbers ≡ self.old.numbers }
         ensures answers { let files = files_of (newest_block (S.state_of self.old.store)) self.old.fs in
-            DoesSome (S.types_of self.old.store) self.old.fs files inode offset bytes.now (written files inode offset bytes.now)
-            (S.state_of self.old.store) (S.state_of self.new.store) result }
+            DoesSome (S.types_of self.old.store) self.old.fs files
+            (after_in (S.types_of self.old.store) self.old.fs inode offset bytes.now (S.state_of self.old.store))
+            inode offset bytes.now (written files inode offset bytes.now) (S.state_of self.old.store) (S.state_of self.new.store) result }
         ensures inodes { let old = newest_block (S.state_of self.old.store) in let new = newest_block (S.state_of self.new.store) in let fs = self.old.fs in
-            (file : List ℕ) → Ok file ≡ write_in old fs inode (offset + length bytes.now) → (done : ℕ) × Overwrites old new fs inode file offset bytes.now done
-            × WritesSomeTo (S.types_of self.old.store) fs (files_of old fs) inode file offset bytes.now done (S.state_of self.new.store) result }
+            (file : List ℕ) → Ok file ≡ write_in old fs inode (offset + length bytes.now) →
+            let done = some_by (S.types_of self.old.store) fs inode file offset bytes.now (S.state_of self.old.store) (S.state_of self.new.store) result in
+            Overwrites old new fs inode file offset bytes.now done
+            × WritesSomeTo (S.types_of self.old.store) fs (files_of old fs)
+            (after_in (S.types_of self.old.store) fs inode offset bytes.now (S.state_of self.old.store))
+            inode offset bytes.now done (S.state_of self.new.store) result }
         ensures order { let old = newest_block (S.state_of self.old.store) in let fs = self.old.fs in
             (file : List ℕ) → Ok file ≡ write_in old fs inode (offset + length bytes.now) → WritesSomeInOrder (S.types_of self.old.store) fs inode file
             offset bytes.now (S.state_of self.old.store) (S.state_of self.new.store) result }
+        ensures cuts { let old = newest_block (S.state_of self.old.store) in let fs = self.old.fs in
+            (file : List ℕ) (there : StoreState × Last) → Ok file ≡ write_in old fs inode (offset + length bytes.now) →
+            reached (S.types_of self.old.store) fs inode file offset bytes.now (first_past (file_end file) offset) (S.state_of self.old.store) ≡ Ok there →
+            IfOk result (λ count. count ≢ 0 → file_end file < offset + count → ShowsWhole there.0 (S.state_of self.new.store)) }
         ensures none { length bytes.now ≡ 0 → S.state_of self.new.store ≡ S.state_of self.old.store }
         ensures few { IfOk result (λ count. count ≤ length bytes.now) }
     {
@@ -293,6 +321,7 @@ impl<S: FlushStore + Drop> Session<S> {
     pub fn unlink(&mut self, alloc: Global, directory: u16, name: &[u8]) -> Result<(), FfsFault>
         ensures types { S.types_of self.new.store ≡ S.types_of self.old.store }
         ensures fs { self.new.fs ≡ self.old.fs }
+        ensures numbers { self.new.numbers ≡ self.old.numbers }
         ensures answers { let files = files_of (newest_block (S.state_of self.old.store)) self.old.fs in
             Does (S.types_of self.old.store) self.old.fs (unlinked files directory name.now) (removed_stages files directory name.now)
             (S.state_of self.old.store) (S.state_of self.new.store) result }
@@ -310,6 +339,7 @@ impl<S: FlushStore + Drop> Session<S> {
     pub fn rmdir(&mut self, alloc: Global, directory: u16, name: &[u8]) -> Result<(), FfsFault>
         ensures types { S.types_of self.new.store ≡ S.types_of self.old.store }
         ensures fs { self.new.fs ≡ self.old.fs }
+        ensures numbers { self.new.numbers ≡ self.old.numbers }
         ensures answers { let files = files_of (newest_block (S.state_of self.old.store)) self.old.fs in
             Does (S.types_of self.old.store) self.old.fs (removed files directory name.now) (removed_stages files directory name.now)
             (S.state_of self.old.store) (S.state_of self.new.store) result }
@@ -334,6 +364,7 @@ impl<S: FlushStore + Drop> Session<S> {
     ) -> Result<(), FfsFault>
         ensures types { S.types_of self.new.store ≡ S.types_of self.old.store }
         ensures fs { self.new.fs ≡ self.old.fs }
+        ensures numbers { self.new.numbers ≡ self.old.numbers }
         ensures answers { let files = files_of (newest_block (S.state_of self.old.store)) self.old.fs in
             Does (S.types_of self.old.store) self.old.fs (renamed files directory name.now other new_name.now)
             (renamed_stages files directory name.now other new_name.now) (S.state_of self.old.store) (S.state_of self.new.store) result }
@@ -359,6 +390,7 @@ impl<S: FlushStore + Drop> Session<S> {
     ) -> Result<(), FfsFault>
         ensures types { S.types_of self.new.store ≡ S.types_of self.old.store }
         ensures fs { self.new.fs ≡ self.old.fs }
+        ensures numbers { self.new.numbers ≡ self.old.numbers }
         ensures answers { let files = files_of (newest_block (S.state_of self.old.store)) self.old.fs in
             Does (S.types_of self.old.store) self.old.fs (replaced files directory name.now other other_name.now)
             (replaced_stages files directory name.now other other_name.now) (S.state_of self.old.store) (S.state_of self.new.store) result }
@@ -391,6 +423,7 @@ impl<S: FlushStore + Drop> Session<S> {
     pub fn reclaim(&mut self, alloc: Global) -> Result<Repairs, FfsFault>
         ensures types { S.types_of self.new.store ≡ S.types_of self.old.store }
         ensures fs { self.new.fs ≡ self.old.fs }
+        ensures numbers { self.new.numbers ≡ self.old.numbers }
         ensures answers { let files = files_of (newest_block (S.state_of self.old.store)) self.old.fs in
             Does (S.types_of self.old.store) self.old.fs (if_idle (S.state_of self.old.store) self.old.fs (reclaimed files)) (reclaimed_stages files)
             (S.state_of self.old.store) (S.state_of self.new.store) (mapped (λ repairs. repair_at repairs.each) result) }

@@ -7,7 +7,7 @@ use Rattle.ffs_lib.specs.Writes.{LastGiven, WaitsOn}
 use Rattle.ffs_lib.proofs.Actions.{adds_far, adds_hole, data_made, last_made, pointers_none}
 use Rattle.ffs_lib.proofs.DataLaws.{later_on, puts_after, puts_none, stops_after, stops_now}
 use Rattle.ffs_lib.proofs.Laws.{fails}
-use Rattle.ffs_lib.proofs.Waiting.{waits_then}
+use Rattle.ffs_lib.proofs.Waiting.{waits_same, waits_then}
 use Rattle.ffs_lib.proofs.Owners.{direct_block}
 use Rattle.ffs_lib.proofs.data.add_block.Goals as goal
 
@@ -20,7 +20,7 @@ returns-in_err-added-clause-ends g c = λ T array inode e s is hole long given.
     let low = c.if-index-lt-DIRECT_POINTERS.true in
     let x = c.in_err-added.ensures.ends T array inode e s is (sym (direct_block (latest old.lives) inode c.args.index low) ∙ hole) given.0 in
     let none = ap (λ (a : Action). act_of T fs a old) (sym (pointers_none (latest old.lives) fs n inode c.args.index c.args.last.edit is (inl low))) in
-    fails _ _ x.0 c.from_residual.result _ c.from_residual.ensures.1 (x.1.0, stops_after T fs _ _ old old new n _ (puts_none old fs n 0) none (stops_now T fs _ _ old new n _ x.1.1))
+    fails _ _ x.0 c.from_residual.result _ c.from_residual.ensures.1 (x.1.0, stops_after T fs _ _ old old new n c.args.last _ (puts_none old fs n 0) (waits_same fs n old c.args.last) none (stops_now T fs _ _ old new n c.args.last _ x.1.1))
 
 pub returns-then-index-lt-DIRECT_POINTERS-clause-ends : goal.returns-then-index-lt-DIRECT_POINTERS-clause-ends
 returns-then-index-lt-DIRECT_POINTERS-clause-ends g c = λ T array inode e s is hole long given.
@@ -52,7 +52,7 @@ returns-in_err-pointers-clause-ends g c = λ T array inode e s is hole long give
     let far = c.if-index-lt-DIRECT_POINTERS.false in
     let x = c.in_err-pointers.ensures.ends T array inode c.args.index far e s is (long far) given.0 in
     fails _ _ x.0 c.from_residual-in_err-pointers.result _ c.from_residual-in_err-pointers.ensures.1
-    (x.1.0, stops_now T c.args.fs.number _ _ (g.S.Store.state_of c.args.store.now) (g.S.Store.state_of c.pointers_of.new.store) c.args.number _ x.1.1)
+    (x.1.0, stops_now T c.args.fs.number _ _ (g.S.Store.state_of c.args.store.now) (g.S.Store.state_of c.pointers_of.new.store) c.args.number c.args.last _ x.1.1)
 
 pub returns-in_err-added-2-clause-ends : goal.returns-in_err-added-2-clause-ends
 returns-in_err-added-2-clause-ends g c = λ T array inode e s is hole long given.
@@ -66,7 +66,7 @@ returns-in_err-added-2-clause-ends g c = λ T array inode e s is hole long given
     let p = k.1.0.0 in
     let x = c.in_err-added-2.ensures.ends T array n p.after (c.pointers_of.ensures.types ∙ e) k.0 p.file p.points p.there p.long (p.holes c.args.index far c.requires.few hole)
     (given_later old first p.puts.later c.args.last.edit given.0) in
-    fails _ _ x.0 c.from_residual-in_err-added-2.result _ c.from_residual-in_err-added-2.ensures.1 (x.1.0, stops_after T fs _ _ old first new n _ p.puts k.1.1 (stops_now T fs _ _ first new n _ x.1.1))
+    fails _ _ x.0 c.from_residual-in_err-added-2.result _ c.from_residual-in_err-added-2.ensures.1 (x.1.0, stops_after T fs _ _ old first new n c.args.last _ p.puts (k.1.0.1 c.args.last refl) k.1.1 (stops_now T fs _ _ first new n c.args.last _ x.1.1))
 
 pub returns-clause-ends : goal.returns-clause-ends
 returns-clause-ends g c = λ T array inode e s is hole long given.

@@ -50,7 +50,6 @@ returns-clause-ends g c = λ T array n inode e s is points there long none given
     let last = c.args.pointers in
     let block = c.in_ok-block.block in
     let number = c.in_ok-block.field-0-1 in
-    let small = c.is_word.ensures in
     let low : place < 128 = omega (arith, far, few) in
     let same : 12 + place ≡ index = omega (arith, far) in
     let done = begins_by (g.S.Store.types_of c.args.store.now) T fs 2 _ (put zero_block at bytes) zeroth first (block, number) e c.block_with.ensures c.in_ok-block.ensures.state in
@@ -58,4 +57,4 @@ returns-clause-ends g c = λ T array n inode e s is points there long none given
     let put_done = subst (λ (b : List ℕ). Attached T fs block last (edit_at (4 * place) b ((block, 2) ∷ []) [] c.args.after) first new c.attach.result) c.pointer_bytes.ensures.bytes (c.attach.ensures.put T types) in
     subst (λ (i : ℕ). Ends T fs array new c.attach.result (λ entry. (PutsBy zeroth new fs n (512 * i + at) bytes entry × WaitsAfter fs n zeroth new c.args.after (λ last. record { edit = Some entry; size = Some entry })) × ActedBy T fs (data_action (latest zeroth.lives) fs n i at bytes c.args.after) zeroth new entry)
     (StopsAction T fs (data_action (latest zeroth.lives) fs n i at bytes c.args.after) zeroth new n)) same
-    (pointed_ends T fs array zeroth first s n inode is last place at bytes points there low long none c.requires.within block number small done c.args.after given new c.attach.result put_done)
+    (pointed_ends T fs array zeroth first s n inode is last place at bytes points there low long none c.requires.within block number c.is_word.ensures done c.args.after given new c.attach.result put_done)

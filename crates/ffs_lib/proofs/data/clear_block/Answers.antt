@@ -1,15 +1,11 @@
-use Rattle.std.proofs.Common.{◌≡◌, ◌∙◌, ◌+◌, ◌-◌, ℕ, List, [], true, false, Err, Ok, ap, refl, arith, drop, length, replicate, subst, sym, take}
-use Rattle.std.proofs.lemmas.List.{length-replicate, take-replicate}
-use Rattle.xn_model.specs.Results.{result_and_then}
+use Rattle.std.proofs.Common.{◌≡◌, ◌∙◌, ◌+◌, ◌-◌, ℕ, List, true, Err, Ok, ap, arith, drop, length, replicate, subst, sym, take}
 use Rattle.ffs_model.specs.Cuts.{latest}
 use Rattle.ffs_model.specs.Library.{IsLibrary}
 use Rattle.ffs_lookup.specs.Newest.{byte_in, file_block}
-use Rattle.ffs_lib.specs.Edits.{edit_at}
-use Rattle.ffs_lib.specs.Orders.{Action, made_by}
-use Rattle.ffs_lib.specs.Steps.{Proposed}
-use Rattle.ffs_lib.specs.Writes.{LastGiven, StopsAction, WaitsOn}
-use Rattle.ffs_lib.proofs.Actions.{act_is, last_there, zeros_all, zeros_by, zeros_hole, zeros_none, zeros_not}
-use Rattle.ffs_lib.proofs.DataLaws.{stops_now, there_ends}
+use Rattle.ffs_lib.specs.WriteOrder.{zeros_parts}
+use Rattle.ffs_lib.specs.Writes.{PutsParts}
+use Rattle.ffs_lib.proofs.Actions.{zeros_all, zeros_by, zeros_hole, zeros_none, zeros_not}
+use Rattle.ffs_lib.proofs.DataLaws.{there_zeros}
 use Rattle.ffs_lib.proofs.Laws.{fails}
 use Rattle.ffs_lib.proofs.Parting.{zero_part, zeros_held, zeros_puts}
 use Rattle.ffs_lib.proofs.data.clear_block.Goals as goal
@@ -55,35 +51,20 @@ returns-then-are_zeros-clause-ends g c = λ T array inode e s is given.
 pub returns-in_err-edit-clause-ends : goal.returns-in_err-edit-clause-ends
 returns-in_err-edit-clause-ends g c = λ T array inode e s is given.
     let old = g.S.Store.state_of c.args.store.now in
-    let v = latest old.lives in
-    let new = g.S.Store.state_of c.put.new.store in
-    let fs = c.args.fs.number in
-    let n = c.args.number in
-    let index = c.args.index in
     let at = c.args.at in
     let count = c.args.count in
-    let last = c.args.last in
-    let found = c.in_ok-file.file in
-    let exact = c.in_ok-file.ensures.exact (subst IsLibrary (sym e) s.library) in
     let block = c.in_ok-block.block in
-    let points = sym c.in_ok-block.ensures.block in
-    let there = c.if-block-eq0.false in
-    let bytes = replicate count 0 in
-    let size : length bytes ≡ count = length-replicate {A = ℕ} count 0 in
-    let within = c.requires.within in
-    let some = c.requires.some in
+    let exact = c.in_ok-file.ensures.exact (subst IsLibrary (sym e) s.library) in
     let long = ap length c.in_ok-held.ensures.bytes ∙ c.in_ok-held.ensures.whole in
-    let zeros : take count (replicate 512 0) ≡ bytes = take-replicate count 512 0 (omega (arith, within)) in
     let k : at + count - at ≡ count = omega arith in
-    let other = zeros_by v fs n found.inode index at count block last.edit exact points there false (zeros_not (v block) _ at count _ c.in_ok-held.ensures.bytes k c.are_zeros.ensures.1 c.if-are_zeros.false) in
-    let x = there_ends T fs array old s n found c.in_ok-file.ensures.found exact index block at bytes c.requires.few points there long (omega (arith, size, within)) last.edit (omega (arith, size, some)) given.0 new (Err c.in_err-edit.field-0.0)
-    (subst (λ (m : List ℕ). Proposed T fs block (edit_at at m [] [] last.edit) old new (Err c.in_err-edit.field-0.0)) zeros (c.in_err-edit.ensures.put T e)) in
-    fails _ _ x.0 c.from_residual-in_err-edit.result _ c.from_residual-in_err-edit.ensures.1 (x.1.0, stops_now T fs _ _ old new n _ (subst (λ (a : Action). StopsAction T fs a old new n c.in_err-edit.field-0.0) other x.1.1))
+    let other = zeros_not (latest old.lives block) _ at count _ c.in_ok-held.ensures.bytes k c.are_zeros.ensures.1 c.if-are_zeros.false in
+    let x = there_zeros T c.args.fs.number array old s c.args.number c.in_ok-file.file c.in_ok-file.ensures.found exact c.args.index block at count c.requires.few (sym c.in_ok-block.ensures.block) c.if-block-eq0.false long c.requires.within c.requires.some other c.args.last given.0
+    (g.S.Store.state_of c.put.new.store) (Err c.in_err-edit.field-0.0) (c.in_err-edit.ensures.put T e) in
+    fails _ _ x.0 c.from_residual-in_err-edit.result _ c.from_residual-in_err-edit.ensures.1 x.1
 
 pub returns-clause-ends : goal.returns-clause-ends
 returns-clause-ends g c = λ T array inode e s is given.
     let old = g.S.Store.state_of c.args.store.now in
-    let v = latest old.lives in
     let new = g.S.Store.state_of c.put.new.store in
     let fs = c.args.fs.number in
     let n = c.args.number in
@@ -91,29 +72,11 @@ returns-clause-ends g c = λ T array inode e s is given.
     let at = c.args.at in
     let count = c.args.count in
     let last = c.args.last in
-    let found = c.in_ok-file.file in
-    let exact = c.in_ok-file.ensures.exact (subst IsLibrary (sym e) s.library) in
     let block = c.in_ok-block.block in
-    let points = sym c.in_ok-block.ensures.block in
-    let there = c.if-block-eq0.false in
-    let bytes = replicate count 0 in
-    let size : length bytes ≡ count = length-replicate {A = ℕ} count 0 in
-    let within = c.requires.within in
-    let some = c.requires.some in
+    let exact = c.in_ok-file.ensures.exact (subst IsLibrary (sym e) s.library) in
     let long = ap length c.in_ok-held.ensures.bytes ∙ c.in_ok-held.ensures.whole in
-    let zeros : take count (replicate 512 0) ≡ bytes = take-replicate count 512 0 (omega (arith, within)) in
     let k : at + count - at ≡ count = omega arith in
-    let other = zeros_by v fs n found.inode index at count block last.edit exact points there false (zeros_not (v block) _ at count _ c.in_ok-held.ensures.bytes k c.are_zeros.ensures.1 c.if-are_zeros.false) in
-    let x = there_ends T fs array old s n found c.in_ok-file.ensures.found exact index block at bytes c.requires.few points there long (omega (arith, size, within)) last.edit (omega (arith, size, some)) given.0 new (Ok c.in_ok-edit.edit)
-    (subst (λ (m : List ℕ). Proposed T fs block (edit_at at m [] [] last.edit) old new (Ok c.in_ok-edit.edit)) zeros (c.in_ok-edit.ensures.put T e)) in
-    let p = x.1.0.0 in
-    let a = x.1.1 in (
-      x.0,
-      record {
-        puts = p.0;
-        given = subst (LastGiven new) (sym c.next_after.ensures) (p.1, p.1);
-        made = ap (result_and_then (made_by T fs [])) (act_is T fs _ _ old new other a.0);
-        last_is = c.next_after.ensures ∙ last_there v fs n found.inode index block exact points there old.next new.next _ last a.1 a.2;
-        waits = subst (WaitsOn fs n old new last) (sym c.next_after.ensures) (x.1.0.1 last refl);
-      },
-    )
+    let other = zeros_not (latest old.lives block) _ at count _ c.in_ok-held.ensures.bytes k c.are_zeros.ensures.1 c.if-are_zeros.false in
+    let x = there_zeros T fs array old s n c.in_ok-file.file c.in_ok-file.ensures.found exact index block at count c.requires.few (sym c.in_ok-block.ensures.block) c.if-block-eq0.false long c.requires.within c.requires.some other last given.0 new (Ok c.in_ok-edit.edit)
+    (c.in_ok-edit.ensures.put T e) in
+    (x.0, subst (PutsParts T fs (zeros_parts fs n index at count last.edit) old new n index at (replicate count 0) last) (sym c.next_after.ensures) x.1)

@@ -9,9 +9,8 @@ pub returns-then-block-eq0-clause-bytes : goal.returns-then-block-eq0-clause-byt
 returns-then-block-eq0-clause-bytes g c =
     let h = c.fill.ensures in
     let content = latest (g.S.Store.state_of c.args.store.now).lives in
-    let long = h.len in
     zero_part content c.args.block c.fill.new.self c.args.at c.if-block-eq0.true (λ k low. h.clones k 0 (omega arith) (λ i. 0))
-    ∙ ap (λ n. map (byte_in content c.args.block) (range_with_len c.args.at n)) long
+    ∙ ap (λ n. map (byte_in content c.args.block) (range_with_len c.args.at n)) h.len
 
 pub returns-clause-bytes : goal.returns-clause-bytes
 returns-clause-bytes g c =

@@ -16,11 +16,10 @@ returns-in_err-file-clause-exact g c = λ lib.
 
 pub returns-then-offset-gt-MOST_BYTES-clause-exact : goal.returns-then-offset-gt-MOST_BYTES-clause-exact
 returns-then-offset-gt-MOST_BYTES-clause-exact g c = λ lib.
-    let content = latest (g.S.Store.state_of c.args.store.now).lives in
     let size : ℕ = c.args.offset + c.args.count in
     let large : 71680 < size =
     elim c.then-offset-gt-MOST_BYTES.branch [ then-offset-gt-MOST_BYTES-via-then-offset-gt-MOST_BYTES w ↦ omega arith | then-offset-gt-MOST_BYTES-via-else-offset-gt-MOST_BYTES+then-count-offset w ↦ omega arith ] in
-    ap (mapped file_end) (too_large content c.args.fs.number c.args.number size c.in_ok-file.file.inode (c.in_ok-file.ensures.exact lib) large)
+    ap (mapped file_end) (too_large (latest (g.S.Store.state_of c.args.store.now).lives) c.args.fs.number c.args.number size c.in_ok-file.file.inode (c.in_ok-file.ensures.exact lib) large)
 
 pub returns-clause-exact : goal.returns-clause-exact
 returns-clause-exact g c = λ lib.

@@ -32,6 +32,5 @@ returns-then-indirect-ne0-clause-ends g c = λ T array inode index far e s is lo
 
 pub returns-clause-ends : goal.returns-clause-ends
 returns-clause-ends g c = λ T array inode index far e s is long given.
-    let exact = c.in_ok-find_file.ensures.exact (subst IsLibrary (sym e) s.library) in
-    let same = ap (λ (m : List ℕ). word_at m 56) (same_ok inode c.in_ok-find_file.field-0.inode (is ∙ sym exact)) in
+    let same = ap (λ (m : List ℕ). word_at m 56) (same_ok inode c.in_ok-find_file.field-0.inode (is ∙ sym (c.in_ok-find_file.ensures.exact (subst IsLibrary (sym e) s.library)))) in
     c.add_pointers.ensures.ends T array inode index far e s is (same ∙ (sym c.indirect-indirect.ensures ∙ c.if-indirect-ne0.false)) given

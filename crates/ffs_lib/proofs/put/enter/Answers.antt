@@ -60,9 +60,7 @@ returns-in-Pointer g c =
     let new = g.S.Store.state_of c.grow.new.store in
     let fs = c.args.fs.number in
     let d = c.args.number in
-    let at = c.in_ok-directory.ensures.found.is.stands in
-    let entry = entry_of c.args.inode c.args.name.now in
-    let home = home_of old fs d found.block found.place at in
+    let home = home_of old fs d found.block found.place c.in_ok-directory.ensures.found.is.stands in
     record {
       types = search rules;
       ends = λ T array directory e s m dir free.
@@ -72,11 +70,10 @@ returns-in-Pointer g c =
           (ap (λ (r : Room). Some r) (sym c.in-Pointer.is) ∙ (c.in_ok-block.ensures.place ∙ ap (room_in (latest old.lives)) (same_ok found.inode directory (exact ∙ sym dir))))
           (ap (λ (i : List ℕ). direct_in i c.in-Pointer.index) (same_ok directory found.inode (dir ∙ sym exact)) ∙ gap.1) b);
       order = λ T array directory e s m dir free.
-          let exact = c.in_ok-directory.ensures.exact (subst IsLibrary (sym e) s.library) in
-          let mine : found.inode ≡ directory = same_ok found.inode directory (exact ∙ sym dir) in
+          let mine : found.inode ≡ directory = same_ok found.inode directory ((c.in_ok-directory.ensures.exact (subst IsLibrary (sym e) s.library)) ∙ sym dir) in
           let first = ap (λ (r : Room). Some r) (sym c.in-Pointer.is) ∙ (c.in_ok-block.ensures.place ∙ ap (room_in (latest old.lives)) mine) in
           let grows = c.grow.ensures.order T array directory c.args.name.now c.args.inode found.block e s m dir first (ap (λ (i : List ℕ). direct_in i c.in-Pointer.index) (sym mine) ∙ gap.1) b home in
           subst (λ (a : Action). Acts T fs a old new c.grow.result × IfOk c.grow.result (λ (k : ℕ). new.next ≡ k + 1))
-          (entered_is (latest old.lives) fs d found.block directory entry c.args.after home dir (Some (Pointer c.in-Pointer.index)) first)
+          (entered_is (latest old.lives) fs d found.block directory (entry_of c.args.inode c.args.name.now) c.args.after home dir (Some (Pointer c.in-Pointer.index)) first)
           (subst (λ (x : List ℕ). Acts T fs (Attaches 2 (put zero_block 0 x) found.block (grown_edit d directory c.in-Pointer.index c.args.after)) old new c.grow.result × IfOk c.grow.result (λ (k : ℕ). new.next ≡ k + 1)) spelled grows);
     }

@@ -14,7 +14,7 @@ use Rattle.ffs_format.specs.Fields.{Fields, fields_of}
 use Rattle.ffs_lib.specs.Edits.{edit_at}
 use Rattle.ffs_lib.specs.Orders.{Attaches, grown, grown_edit}
 use Rattle.ffs_lib.specs.Steps.{Attached}
-use Rattle.ffs_lib.proofs.Orders.{act_err, grow_act, home_begun, ok_same}
+use Rattle.ffs_lib.proofs.Orders.{act_err, grow_act, home_begun}
 use Rattle.ffs_lib.proofs.Laws.{attaches, begins_by, begins_err, fails, home_of, same_stage, short_told, told_by}
 use Rattle.ffs_lib.proofs.NameLaws.{grow_again, grow_short, grow_stage, grow_undone, grows, not_begun}
 use Rattle.ffs_lib.proofs.Tops.{never}
@@ -94,10 +94,9 @@ returns g c =
       order = λ T array directory name n home e s m dir empty gap b is_home.
           let done = begins_by (g.S.Store.types_of c.args.store.now) T fs 2 _ (put zero_block 0 bytes) zeroth first (block, number) e c.block_with.ensures c.in_ok-block.ensures.state in
           let types = c.init.ensures.types ∙ e in
-          let exact = c.in_ok-home.ensures.exact (subst IsLibrary (sym types) s.library) in
           let again = grow_again T fs array zeroth first s d directory dir n c.args.after m bytes name b c.args.index c.requires empty gap block number done in
-          let mine : found.inode ≡ directory = same_ok found.inode directory (exact ∙ sym again) in
-          let same : found.block ≡ home = ok_same found.block home (home_begun T fs array zeroth first s block number (put zero_block 0 bytes) done d found.block (home_of first fs d found.block found.place at) ∙ sym is_home) in
+          let mine : found.inode ≡ directory = same_ok found.inode directory ((c.in_ok-home.ensures.exact (subst IsLibrary (sym types) s.library)) ∙ sym again) in
+          let same : found.block ≡ home = same_ok found.block home (home_begun T fs array zeroth first s block number (put zero_block 0 bytes) done d found.block (home_of first fs d found.block found.place at) ∙ sym is_home) in
           let pointing = c.set_direct.ensures.bytes ∙ ap (λ (i : List ℕ). put i (8 + 4 * c.args.index) (to_le_bytes w32 block)) mine in
           let size = ap (λ (k : ℕ). 512 * k) c.count_blocks-size.ensures.exact in
           let after = c.bytes.ensures.bytes ∙ (c.set_size.ensures.bytes

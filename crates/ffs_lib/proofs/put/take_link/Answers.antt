@@ -98,15 +98,12 @@ returns-in_err-dropped g c =
           fails _ _ (same_stage s p.0) c.from_residual-in_err-dropped.result _ c.from_residual-in_err-dropped.ensures.1
           (short_told (propose_of T old fs block edit) (drops_short T fs array old s n c.args.after m.some found is exact block points m.can m.given p.1 p.2) _ p.3, nothing_taken T fs old new n found.inode exact p.0 block (inr (sym points)) _ (edit, p.3));
       order = λ T array e s m.
-          let exact = c.in_ok-block.ensures.exact (subst IsLibrary (sym e) s.library) in
-          let p = c.in_err-dropped.ensures.put T e (at_pointers T fs array old s n c.args.after m.some found is exact c.indirect.result points m.can m.given) in
+          let p = c.in_err-dropped.ensures.put T e (at_pointers T fs array old s n c.args.after m.some found is (c.in_ok-block.ensures.exact (subst IsLibrary (sym e) s.library)) c.indirect.result points m.can m.given) in
           none_order T fs (taken_edits (latest old.lives) fs n c.args.after old.next) old (g.S.Store.state_of c.drop_data.new.store) p.0 _ c.from_residual-in_err-dropped.result c.from_residual-in_err-dropped.ensures.1;
       waits = search rules;
       pairs = λ T array e s m.
-          let exact = c.in_ok-block.ensures.exact (subst IsLibrary (sym e) s.library) in
-          let under = at_pointers T fs array old s n c.args.after m.some found is exact block points m.can m.given in
-          let p = c.in_err-dropped.ensures.put T e under in
-          pairs_same fs old (g.S.Store.state_of c.drop_data.new.store) p.0;
+          let under = at_pointers T fs array old s n c.args.after m.some found is (c.in_ok-block.ensures.exact (subst IsLibrary (sym e) s.library)) block points m.can m.given in
+          pairs_same fs old (g.S.Store.state_of c.drop_data.new.store) (c.in_err-dropped.ensures.put T e under).0;
     }
 
 pub returns-in_err-found : goal.returns-in_err-found

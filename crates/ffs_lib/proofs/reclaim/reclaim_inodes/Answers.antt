@@ -8,6 +8,7 @@ use Rattle.ffs_lookup.specs.Repairs.{repair_in}
 use Rattle.ffs_lib.specs.Orders.{Makes, StopsAct, made_by, made_of}
 use Rattle.ffs_lib.specs.Reclaiming.{needs}
 use Rattle.ffs_lib.specs.RepairOrder.{reclaimed_parts, repair_parts, repaired_edits}
+use Rattle.ffs_lib.proofs.Counted.{first_none}
 use Rattle.ffs_lib.proofs.Orders.{order_in}
 use Rattle.ffs_lib.proofs.RepairOrder.{parts_more, parts_stop}
 use Rattle.ffs_lib.proofs.ValueRepairs.{need_is}
@@ -44,9 +45,8 @@ loop-at-preserved g c = record {
       let old = g.S.Store.state_of c.args.store.now in
       let now = g.S.Store.state_of c.loop-at.store in
       let at = c.loop-at.at in
-      let lib = subst IsLibrary (sym e) s.library in
       let middle = c.loop-at.invariant.middle T array e s idle in
-      let repair : c.of.result ≡ repair_in (latest old.lives) fs (at + 1) = c.of.ensures ∙ c.in_ok-repairs.ensures.each lib (at + 1) in
+      let repair : c.of.result ≡ repair_in (latest old.lives) fs (at + 1) = c.of.ensures ∙ c.in_ok-repairs.ensures.each (subst IsLibrary (sym e) s.library) (at + 1) in
       let p = c.in_ok-repair_inode.ensures.ends T array (c.loop-at.invariant.types ∙ e) middle.stage (may_repair T fs array old s idle now at middle (at + 1) refl c.of.result repair) in
       let low : at + 1 ≤ 128 = omega arith in
       middle_more T fs array old now (g.S.Store.state_of c.repair_inode.new.store) at (at + 1) refl low c.of.result repair middle p.0 p.1;
@@ -57,10 +57,8 @@ loop-at-preserved g c = record {
       let new = g.S.Store.state_of c.repair_inode.new.store in
       let u = latest old.lives in
       let at = c.loop-at.at in
-      let lib = subst IsLibrary (sym e) s.library in
-      let middle = c.loop-at.invariant.middle T array e s idle in
-      let o = c.in_ok-repair_inode.ensures.order T array (c.loop-at.invariant.types ∙ e) middle.stage in
-      let needed : c.of.result ≡ needs (files_of u fs) (at + 1) = c.of.ensures ∙ (c.in_ok-repairs.ensures.each lib (at + 1) ∙ need_is u fs (at + 1)) in
+      let o = c.in_ok-repair_inode.ensures.order T array (c.loop-at.invariant.types ∙ e) (c.loop-at.invariant.middle T array e s idle).stage in
+      let needed : c.of.result ≡ needs (files_of u fs) (at + 1) = c.of.ensures ∙ (c.in_ok-repairs.ensures.each (subst IsLibrary (sym e) s.library) (at + 1) ∙ need_is u fs (at + 1)) in
       parts_more T fs (files_of u fs) old now at (at + 1) refl (c.loop-at.invariant.order T array e s idle) new
       (subst (λ (r : Repair). made_of T fs (repaired_edits (latest now.lives) fs (at + 1) r) now ≡ Ok new) needed o);
 }
@@ -86,7 +84,7 @@ pub returns-in_err-repairs-clause-order : goal.returns-in_err-repairs-clause-ord
 returns-in_err-repairs-clause-order g c = λ T array e s.
     let old = g.S.Store.state_of c.args.store.now in
     let fs = c.args.fs.number in
-    order_in T fs (reclaimed_parts (files_of (latest old.lives) fs) fs) old old (inl (0, refl)) _ c.from_residual.result c.from_residual.ensures.1
+    order_in T fs (reclaimed_parts (files_of (latest old.lives) fs) fs) old old (inl (first_none T fs _ old old refl)) _ c.from_residual.result c.from_residual.ensures.1
 
 pub returns-in_err-repair_inode-clause-order : goal.returns-in_err-repair_inode-clause-order
 returns-in_err-repair_inode-clause-order g c = λ T array e s.
@@ -98,8 +96,7 @@ returns-in_err-repair_inode-clause-order g c = λ T array e s.
     let at = c.loop-at.at in
     let lib = subst IsLibrary (sym e) s.library in
     let idle = idle_ok old fs (c.in_ok-repairs.ensures.exact lib) in
-    let middle = c.loop-at.invariant.middle T array e s idle in
-    let o = c.in_err-repair_inode.ensures.order T array (c.loop-at.invariant.types ∙ e) middle.stage in
+    let o = c.in_err-repair_inode.ensures.order T array (c.loop-at.invariant.types ∙ e) (c.loop-at.invariant.middle T array e s idle).stage in
     let needed : c.of.result ≡ needs (files_of u fs) (at + 1) = c.of.ensures ∙ (c.in_ok-repairs.ensures.each lib (at + 1) ∙ need_is u fs (at + 1)) in
     order_in T fs (reclaimed_parts (files_of u fs) fs) old new (parts_stop T fs (files_of u fs) old now at (at + 1) refl (c.loop-at.invariant.order T array e s idle) (omega arith) new
     (subst (λ (r : Repair). StopsAct T fs (Makes (repaired_edits (latest now.lives) fs (at + 1) r)) now new) needed o)) _ c.from_residual-in_err-repair_inode.result c.from_residual-in_err-repair_inode.ensures.1

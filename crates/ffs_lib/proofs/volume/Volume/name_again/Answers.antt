@@ -17,12 +17,11 @@ returns-in_err-added-clause-ends g c = λ T array own to e s is fewer dir room.
 
 pub returns-clause-ends : goal.returns-clause-ends
 returns-clause-ends g c = λ T array own to e s is fewer dir room.
-    let u = latest (g.S.Store.state_of c.args.store.now).lives in
     let v = latest (g.S.Store.state_of c.add_link.new.store).lives in
     let fs = c.args.self.now.fs.number in
     let d = c.args.directory in
     let x = c.in_ok-added.ensures.ends T array own e s is fewer in
-    let at = directory_from u fs d to dir in
+    let at = directory_from (latest (g.S.Store.state_of c.args.store.now).lives) fs d to dir in
     let to1 = x.1.1.before d to at.0 in
     let y = c.enter.ensures.ends T array to1.after (c.add_link.ensures.types ∙ e) x.0 x.1.0 (directory_to v fs d to1.after to1.found (to1.mode ∙ at.1)) (to1.room ∙ room) in
     let old = g.S.Store.state_of c.args.store.now in
@@ -44,7 +43,6 @@ returns-clause-order g c = λ T array own to e s is fewer dir room.
     let old = g.S.Store.state_of c.args.store.now in
     let first = g.S.Store.state_of c.add_link.new.store in
     let new = g.S.Store.state_of c.enter.new.store in
-    let u = latest old.lives in
     let v = latest first.lives in
     let fs = c.args.self.now.fs.number in
     let d = c.args.directory in
@@ -52,7 +50,7 @@ returns-clause-order g c = λ T array own to e s is fewer dir room.
     let name = c.args.name.now in
     let x = c.in_ok-added.ensures.ends T array own e s is fewer in
     let l = c.in_ok-added.ensures.order T array own e s is fewer in
-    let at = directory_from u fs d to dir in
+    let at = directory_from (latest old.lives) fs d to dir in
     let to1 = x.1.1.before d to at.0 in
     let y = c.enter.ensures.order T array to1.after (c.add_link.ensures.types ∙ e) x.0 x.1.0 (directory_to v fs d to1.after to1.found (to1.mode ∙ at.1)) (to1.room ∙ room) in
     names_then T fs d n name old first new l.0 c.enter.result

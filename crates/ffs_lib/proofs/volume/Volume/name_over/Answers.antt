@@ -60,15 +60,13 @@ returns-in_err-linked-clause-leaves g c =
     let old = g.S.Store.state_of c.args.store.now in
     let from = c.args.from in
     let to = c.args.to in
-    let lib = c.requires.volume.library in
     let p = begins _ _ _ _ (staged c.requires.volume c.args.self.now.fs.few) _ _ _ _ _ _ c.requires.found c.requires.first c.requires.second c.requires.apart in
     let a = c.in_err-linked.ensures.ends T _ p.found.own refl p.stage p.own p.fewer in
     let y = c.in_err-linked.ensures.pairs T _ refl p.stage old.lives (pair_of from to) None p.direct p.named in
     let new = g.S.Store.state_of c.add_link.new.store in
     let r = refusal _ _ _ _ _ _ _ _ _ _ p new _ a.1.0 (link_refused _ _ _ _ _ _ _ _ _ _ p new _ a.1.1) c.from_residual.result c.from_residual.ensures.1 in
-    let l = c.in_err-linked.ensures.order T _ p.found.own refl p.stage p.own p.fewer in
-    let o = order_in T fs (replaced_parts fs from to old.next) old new (inl l.0) _ c.from_residual.result c.from_residual.ensures.1 in
-    (record { library = lib; keeps = a.0.keeps }, y.cuts, r.0, r.1, o)
+    let o = order_in T fs (replaced_parts fs from to old.next) old new (inl (c.in_err-linked.ensures.order T _ p.found.own refl p.stage p.own p.fewer).0) _ c.from_residual.result c.from_residual.ensures.1 in
+    (record { library = c.requires.volume.library; keeps = a.0.keeps }, y.cuts, r.0, r.1, o)
 
 pub returns-in_err-turned-clause-leaves : goal.returns-in_err-turned-clause-leaves
 returns-in_err-turned-clause-leaves g c =
@@ -77,7 +75,6 @@ returns-in_err-turned-clause-leaves g c =
     let old = g.S.Store.state_of c.args.store.now in
     let from = c.args.from in
     let to = c.args.to in
-    let lib = c.requires.volume.library in
     let p = begins _ _ _ _ (staged c.requires.volume c.args.self.now.fs.few) _ _ _ _ _ _ c.requires.found c.requires.first c.requires.second c.requires.apart in
     let a = c.in_ok-linked.ensures.ends T _ p.found.own refl p.stage p.own p.fewer in
     let l = c.in_ok-linked.ensures.order T _ p.found.own refl p.stage p.own p.fewer in
@@ -88,10 +85,9 @@ returns-in_err-turned-clause-leaves g c =
     let y2 = c.in_err-turned.ensures.pairs T _ old.lives from to c.add_link.ensures.types a.0 named refl y1 in
     let new = g.S.Store.state_of c.turn.new.store in
     let r = refusal _ _ _ _ _ _ _ _ _ _ p new _ b.1.0 (turn_refused _ _ _ _ _ _ _ _ _ _ p first a.1.1 new _ b.1.1) c.from_residual-in_err-turned.result c.from_residual-in_err-turned.ensures.1 in
-    let t = c.in_err-turned.ensures.order T _ to c.add_link.ensures.types a.0 named in
-    let t1 = subst (λ (n : ℕ). Orders {A = ℕ} T fs (turned_edits to from.inode n) first new (Err c.in_err-turned.field-0.0)) l.1.0 t.0 in
+    let t1 = subst (λ (n : ℕ). Orders {A = ℕ} T fs (turned_edits to from.inode n) first new (Err c.in_err-turned.field-0.0)) l.1.0 (c.in_err-turned.ensures.order T _ to c.add_link.ensures.types a.0 named).0 in
     let o = order_in T fs (replaced_parts fs from to old.next) old new (inr (first, l.0, inl t1)) _ c.from_residual-in_err-turned.result c.from_residual-in_err-turned.ensures.1 in
-    (record { library = lib; keeps = b.0.keeps }, y2.cuts, r.0, r.1, o)
+    (record { library = c.requires.volume.library; keeps = b.0.keeps }, y2.cuts, r.0, r.1, o)
 
 pub returns-in_err-entry-clause-leaves : goal.returns-in_err-entry-clause-leaves
 returns-in_err-entry-clause-leaves g c =
@@ -117,8 +113,7 @@ returns-in_err-remove-clause-leaves g c =
     let turned = c.in_ok-turned.turned in
     let one : entry ≡ from = same_ok entry from (c.in_ok-entry.ensures.exact (subst IsLibrary (sym types) lib) ∙ sym q.again) in
     let e = c.in_err-remove.ensures.ends T _ types q.stage q.may.given in
-    let there = half _ _ _ _ _ _ _ _ _ _ p first q.adds second q.turns in
-    let direct = subst (λ (y : Slot). AreDirect v2 fs (pair_of y to)) (sym one) (direct_in_both _ _ _ _ _ _ _ _ p.found p.apart v2 there.inodes) in
+    let direct = subst (λ (y : Slot). AreDirect v2 fs (pair_of y to)) (sym one) (direct_in_both _ _ _ _ _ _ _ _ p.found p.apart v2 (half _ _ _ _ _ _ _ _ _ _ p first q.adds second q.turns).inodes) in
     let before = subst (λ (y : Slot). StayNamed library_layout old.lives second.lives (pair_of y to) (Some turned)) (sym one) q.named in
     let y3 = subst (λ (y : Slot). StayNamed library_layout old.lives third.lives (pair_of y to) (Some turned)) one
     (c.in_err-remove.ensures.pairs T _ old.lives to turned types q.stage refl direct (ap (is_at to) one ∙ p.places) before) in
@@ -148,8 +143,7 @@ returns-in_err-take_link-clause-leaves g c =
     let turned = c.in_ok-turned.turned in
     let one : entry ≡ from = same_ok entry from (c.in_ok-entry.ensures.exact (subst IsLibrary (sym types) lib) ∙ sym q.again) in
     let e = c.in_ok-remove.ensures.ends T _ types q.stage q.may.given in
-    let there = half _ _ _ _ _ _ _ _ _ _ p first q.adds second q.turns in
-    let direct = subst (λ (y : Slot). AreDirect v2 fs (pair_of y to)) (sym one) (direct_in_both _ _ _ _ _ _ _ _ p.found p.apart v2 there.inodes) in
+    let direct = subst (λ (y : Slot). AreDirect v2 fs (pair_of y to)) (sym one) (direct_in_both _ _ _ _ _ _ _ _ p.found p.apart v2 (half _ _ _ _ _ _ _ _ _ _ p first q.adds second q.turns).inodes) in
     let before = subst (λ (y : Slot). StayNamed library_layout old.lives second.lives (pair_of y to) (Some turned)) (sym one) q.named in
     let y3 = subst (λ (y : Slot). StayNamed library_layout old.lives third.lives (pair_of y to) (Some turned)) one
     (c.in_ok-remove.ensures.pairs T _ old.lives to turned types q.stage refl direct (ap (is_at to) one ∙ p.places) before) in
@@ -187,8 +181,7 @@ returns-clause-leaves g c =
     let turned = c.in_ok-turned.turned in
     let one : entry ≡ from = same_ok entry from (c.in_ok-entry.ensures.exact (subst IsLibrary (sym types) lib) ∙ sym q.again) in
     let e = c.in_ok-remove.ensures.ends T _ types q.stage q.may.given in
-    let there = half _ _ _ _ _ _ _ _ _ _ p first q.adds second q.turns in
-    let direct = subst (λ (y : Slot). AreDirect v2 fs (pair_of y to)) (sym one) (direct_in_both _ _ _ _ _ _ _ _ p.found p.apart v2 there.inodes) in
+    let direct = subst (λ (y : Slot). AreDirect v2 fs (pair_of y to)) (sym one) (direct_in_both _ _ _ _ _ _ _ _ p.found p.apart v2 (half _ _ _ _ _ _ _ _ _ _ p first q.adds second q.turns).inodes) in
     let before = subst (λ (y : Slot). StayNamed library_layout old.lives second.lives (pair_of y to) (Some turned)) (sym one) q.named in
     let y3 = subst (λ (y : Slot). StayNamed library_layout old.lives third.lives (pair_of y to) (Some turned)) one
     (c.in_ok-remove.ensures.pairs T _ old.lives to turned types q.stage refl direct (ap (is_at to) one ∙ p.places) before) in

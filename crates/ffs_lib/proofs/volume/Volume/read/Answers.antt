@@ -19,12 +19,10 @@ loop-done-preserved g c =
 
 pub returns-clause-value : goal.returns-clause-value
 returns-clause-value g c = λ lib.
-    let content = latest (g.S.Store.state_of c.args.store.now).lives in
-    let fs = c.args.self.now.fs.number in
     let old = c.args.bytes.now in
     let file = c.in_ok-file.ensures.exact lib in
     let e : c.min-count.result ≡ min (length old) (file_end c.in_ok-file.file.inode - c.args.offset) = omega arith in
-    ap (λ (k : ℕ). Ok k) e ∙ (ap (read_count (length old) c.args.offset) file ∙ count_told content fs c.args.inode c.args.offset (length old))
+    ap (λ (k : ℕ). Ok k) e ∙ (ap (read_count (length old) c.args.offset) file ∙ count_told (latest (g.S.Store.state_of c.args.store.now).lives) c.args.self.now.fs.number c.args.inode c.args.offset (length old))
 
 pub returns-in_err-file-clause-value : goal.returns-in_err-file-clause-value
 returns-in_err-file-clause-value g c = λ lib.

@@ -56,8 +56,7 @@ returns-in_err-entered g c =
           (rename_stages T lib fs.number fs.few d name other new_name slot old x exact names) (λ y none. absurd none) (naming_stage T lib fs.number fs.few d name other new_name slot old x exact new)
           (stops_err _ (StopsNaming T fs.number old new other new_name slot.inode) c.from_residual-in_err-entered.result _ c.from_residual-in_err-entered.ensures.1 a.1);
       inodes = λ found is.
-          let same = same_ok slot found (exact ∙ sym is) in
-          subst (λ (y : Slot). MovedInodes u (latest new.lives) fs.number d other y.inode) same (naming_inodes T fs.number d other slot.inode new_name old new _ a.1.1);
+          subst (λ (y : Slot). MovedInodes u (latest new.lives) fs.number d other y.inode) (same_ok slot found (exact ∙ sym is)) (naming_inodes T fs.number d other slot.inode new_name old new _ a.1.1);
       order = λ found is.
           let o = c.in_err-entered.ensures.order T array x.own x.to refl s x.is_own x.few x.is_to x.room in
           subst (λ (y : Slot). InOrder T fs.number (moved_parts fs.number y other new_name old.next) old new c.from_residual-in_err-entered.result) (same_ok slot found (exact ∙ sym is))
@@ -91,23 +90,20 @@ returns g c =
     let a = c.in_ok-entered.ensures.ends T array x.own x.to refl s x.is_own x.few x.is_to x.room in
     let middle = g.S.Store.state_of c.name_again.new.store in
     let w = latest middle.lives in
-    let lib2 = subst IsLibrary (sym c.name_again.ensures.types) lib in
     let new = g.S.Store.state_of c.remove.new.store in
-    let entry = c.in_ok-entry.entry in
     let b = c.remove.ensures.ends T array c.name_again.ensures.types a.0 a.1.1 in
-    let one = still_one u w fs.number d name other new_name slot x a.1.0 entry (c.in_ok-entry.ensures.exact lib2) in
+    let one = still_one u w fs.number d name other new_name slot x a.1.0 c.in_ok-entry.entry (c.in_ok-entry.ensures.exact (subst IsLibrary (sym c.name_again.ensures.types) lib)) in
     let linked = linked_own T fs.number array old c.requires.keeps slot c.in_ok-slot.ensures.slot x.own x.is_own in
     let once = blocks_once T lib middle a.0.keeps.consistent fs.number fs.few in
     let found = first_value u x.from name slot x.first in
     let k = answer T lib fs.number fs.few d name other new_name slot old x exact in
-    let names = both_true (is_name name) (is_name new_name) x.good c.in_ok-slot.ensures.name in
     let ends = subst (λ (y : Slot). MatchResult c.remove.result (λ _. Unnamed w (latest new.lives) fs.number y) (Stops (StopsUnnaming T fs.number middle new y))) one b.1 in
     record {
       types = c.remove.ensures.types ∙ c.name_again.ensures.types;
       answers =
           does_found T fs.number (renamed (files_of u fs.number) d name other new_name) (moved (files_of u fs.number) d (found.at, slot.inode) other new_name k.0) (renamed_stages (files_of u fs.number) d name other new_name)
           (stages T lib fs.number fs.few d name other new_name slot old x exact) (λ y. Unnamed w (latest new.lives) fs.number slot) (StopsUnnaming T fs.number middle new slot) old new c.remove.result k.2
-          (rename_stages T lib fs.number fs.few d name other new_name slot old x exact names)
+          (rename_stages T lib fs.number fs.few d name other new_name slot old x exact (both_true (is_name name) (is_name new_name) x.good c.in_ok-slot.ensures.name))
           (λ y r. moved_leads u w fs.number d name other new_name slot x a.1.0 once found k.0 k.1 linked (latest new.lives) r y)
           (unnaming_stage T lib fs.number fs.few d name other new_name slot old x exact middle new a.0.keeps.consistent b.0.keeps.consistent a.1.0)
           ends;
@@ -118,8 +114,7 @@ returns g c =
       order = λ found is.
           let o = c.in_ok-entered.ensures.order T array x.own x.to refl s x.is_own x.few x.is_to x.room in
           let entered = c.in_ok-entered.entered in
-          let m = c.remove.ensures.order T array c.name_again.ensures.types a.0 a.1.1 in
-          let m1 = subst (λ (y : Slot). Orders T fs.number (removed_edits w fs.number y (Some entered) middle.next) middle new c.remove.result) one m in
+          let m1 = subst (λ (y : Slot). Orders T fs.number (removed_edits w fs.number y (Some entered) middle.next) middle new c.remove.result) one (c.remove.ensures.order T array c.name_again.ensures.types a.0 a.1.1) in
           let last = o.3 in
           let number : entered ≡ middle.next - 1 = omega (arith, last) in
           let m2 = subst (λ (k : ℕ). Orders T fs.number (removed_edits w fs.number slot (Some k) middle.next) middle new c.remove.result) number m1 in

@@ -41,10 +41,8 @@ returns-in_err-from g c =
 
 pub returns-then-is_same_place : goal.returns-then-is_same_place
 returns-then-is_same_place g c =
-    let T = g.S.Store.types_of c.args.store.now in
     let fs = c.args.self.now.fs in
     let old = g.S.Store.state_of c.args.store.now in
-    let u = latest old.lives in
     let d = c.args.directory in
     let name = c.args.name.now in
     let other = c.args.other in
@@ -57,8 +55,8 @@ returns-then-is_same_place g c =
       answers =
           let from = c.in_ok-from.from in
           let to = c.in_ok-from.to in
-          let x = can_replace u fs.number d name other other_name from to exact in
-          does_by T lib old h fs.number fs.few d name other other_name from to x true (from.inode == to.inode) (sym c.if-is_same_place.ensures) refl old (Ok tt) (refl, λ n. refl);
+          let x = can_replace (latest old.lives) fs.number d name other other_name from to exact in
+          does_by (g.S.Store.types_of c.args.store.now) lib old h fs.number fs.few d name other other_name from to x true (from.inode == to.inode) (sym c.if-is_same_place.ensures) refl old (Ok tt) (refl, λ n. refl);
       inodes = λ first second is.
           let from = c.in_ok-from.from in
           let to = c.in_ok-from.to in
@@ -99,9 +97,8 @@ returns-then-from-to g c =
       inodes = λ first second is.
           let from = c.in_ok-from.from in
           let to = c.in_ok-from.to in
-          let x = can_replace u fs.number d name other other_name from to exact in
           let pair : (from, to) ≡ (first, second) = same_ok (from, to) (first, second) (exact ∙ sym is) in
-          let f = finds_first T lib old h fs.number fs.few d name other other_name from to x in
+          let f = finds_first T lib old h fs.number fs.few d name other other_name from to (can_replace u fs.number d name other other_name from to exact) in
           subst (λ (p : Slot × Slot). Replaced old new fs.number d p.0 other p.1 c.remove.result) pair
           (same_done old new fs.number d other from to c.remove.result (other_place from to (sym c.if-is_same_place.ensures)) one (unnames T lib fs.number fs.few d name from old new f b.0.keeps.consistent c.remove.result b.1));
       keeps =
@@ -120,8 +117,6 @@ returns g c =
     let old = g.S.Store.state_of c.args.store.now in
     let d = c.args.directory in
     let other = c.args.other in
-    let lib = c.requires.library in
-    let exact = c.in_ok-from.ensures.exact lib in
     let new = g.S.Store.state_of c.name_over.new.store in
     record {
       types = search rules;
@@ -130,7 +125,7 @@ returns g c =
           let fs = c.args.self.now.fs in
           let from = c.in_ok-from.from in
           let to = c.in_ok-from.to in
-          let pair : (from, to) ≡ (first, second) = same_ok (from, to) (first, second) (exact ∙ sym is) in
+          let pair : (from, to) ≡ (first, second) = same_ok (from, to) (first, second) ((c.in_ok-from.ensures.exact c.requires.library) ∙ sym is) in
           subst (λ (p : Slot × Slot). Replaced old new fs.number d p.0 other p.1 c.name_over.result) pair (another_done old new fs.number d other from to c.name_over.result c.if-from-to.false c.name_over.ensures.leaves.3);
       keeps = search rules;
       stands = λ from to is apart.

@@ -8,7 +8,7 @@ use Rattle.ffs_lookup.specs.FileValues.{files_of}
 use Rattle.ffs_lookup.specs.Newest.{file_end, mapped, write_in}
 use Rattle.ffs_lookup.proofs.ForCallers.{written_told}
 use Rattle.ffs_lib.specs.Volumes.{edits_of}
-use Rattle.ffs_lib.specs.WriteOrder.{ShowsWhole}
+use Rattle.ffs_lib.specs.WriteOrder.{ShowsWhole, after_in}
 use Rattle.ffs_lib.specs.Written.{written_stages}
 use Rattle.ffs_lib.proofs.Staged.{does_fault}
 use Rattle.ffs_lib.proofs.StagedWritten.{Begun, begun, found_file, none_does, overwrites_none, volume_of, write_done, write_inodes, write_part_inodes, write_refused}
@@ -33,89 +33,68 @@ returns-in_err-end-clause-answers g c =
     let n = c.args.inode in
     let u = latest old.lives in
     let bytes = c.args.bytes.now in
-    does_fault (g.S.Store.types_of c.args.store.now) fs (write_in u fs n (c.args.offset + length bytes)) (written (files_of u fs) n c.args.offset bytes) (written_stages (files_of u fs) n c.args.offset bytes) old old c.from_residual.result
+    does_fault (g.S.Store.types_of c.args.store.now) fs (write_in u fs n (c.args.offset + length bytes)) (written (files_of u fs) n c.args.offset bytes)
+    (written_stages (files_of u fs) (after_in (g.S.Store.types_of c.args.store.now) fs n c.args.offset bytes old) n c.args.offset bytes) old old c.from_residual.result
     (written_told u fs n c.args.offset bytes) (search rules)
 
 pub returns-in_err-end-clause-inodes : goal.returns-in_err-end-clause-inodes
 returns-in_err-end-clause-inodes g c = λ file e. absurd (never (file_end file) _ (ap (mapped file_end) e ∙ sym (c.in_err-end.ensures.exact c.requires.library)))
 
-pub returns-then-is_empty-clause-answers : goal.returns-then-is_empty-clause-answers
-returns-then-is_empty-clause-answers g c =
-    let old = g.S.Store.state_of c.args.store.now in
-    let fs = c.args.self.now.fs.number in
-    let bytes = c.args.bytes.now in
-    let f = found_file (latest old.lives) fs c.args.inode (c.args.offset + length bytes) c.in_ok-end.end (c.in_ok-end.ensures.exact c.requires.library) in
-    none_does (g.S.Store.types_of c.args.store.now) fs old c.args.inode f.0 c.args.offset bytes f.1 f.3 (nil_from_length c.args.bytes.now (eqb-true (length c.args.bytes.now) 0 (sym c.is_empty.ensures ∙ c.if-is_empty.true)))
-
-pub returns-then-is_empty-clause-inodes : goal.returns-then-is_empty-clause-inodes
-returns-then-is_empty-clause-inodes g c = λ file e.
-    (0, overwrites_none (g.S.Store.state_of c.args.store.now) c.args.self.now.fs.number c.args.inode file c.args.offset c.args.bytes.now (looked (latest (g.S.Store.state_of c.args.store.now).lives) c.args.self.now.fs.number c.args.inode (c.args.offset + length c.args.bytes.now) file e).0, λ some. absurd (some (nil_from_length c.args.bytes.now (eqb-true (length c.args.bytes.now) 0 (sym c.is_empty.ensures ∙ c.if-is_empty.true)))))
-
-pub returns-in-Some-clause-answers : goal.returns-in-Some-clause-answers
-returns-in-Some-clause-answers g c =
-    let b = first g (goal.at.returns-in-Some-clause-answers g c).After-write_parts-progress in
-    write_refused _ _ _ _ _ _ _ _ _ _ b c.in-Some.fault c.in-Some.is
-
-pub returns-in-Some-clause-inodes : goal.returns-in-Some-clause-inodes
-returns-in-Some-clause-inodes g c =
-    let b = first g (goal.at.returns-in-Some-clause-inodes g c).After-write_parts-progress in
-    write_part_inodes _ _ _ _ _ _ _ _ _ _ b c.in-Some.fault c.in-Some.is
-
-pub returns-in-Some-clause-keeps : goal.returns-in-Some-clause-keeps
-returns-in-Some-clause-keeps g c =
-    let b = first g (goal.at.returns-in-Some-clause-keeps g c).After-write_parts-progress in
-    volume_of (g.S.Store.types_of c.args.store.now) c.args.self.now _ b.first.stage
-
-pub returns-in-None-clause-answers : goal.returns-in-None-clause-answers
-returns-in-None-clause-answers g c =
-    let b = first g (goal.at.returns-in-None-clause-answers g c).After-write_parts-progress in
-    let w = b.first.puts.wrote b.inode b.is in
-    let x = c.raise_size.ensures.ends (g.S.Store.types_of c.args.store.now) (edits_of c.args.self.now.added) w.after c.write_parts-progress.ensures.types b.first.stage w.file b.first.given.1 in
-    write_done _ _ _ _ _ _ _ _ _ _ b c.in-None.is (g.S.Store.state_of c.raise_size.new.store) c.raise_size.result x.1
-
-pub returns-in-None-clause-inodes : goal.returns-in-None-clause-inodes
-returns-in-None-clause-inodes g c =
-    let b = first g (goal.at.returns-in-None-clause-inodes g c).After-write_parts-progress in
-    let w = b.first.puts.wrote b.inode b.is in
-    let x = c.raise_size.ensures.ends (g.S.Store.types_of c.args.store.now) (edits_of c.args.self.now.added) w.after c.write_parts-progress.ensures.types b.first.stage w.file b.first.given.1 in
-    write_inodes _ _ _ _ _ _ _ _ _ _ b c.in-None.is (g.S.Store.state_of c.raise_size.new.store) c.raise_size.result x.1
-
-pub returns-in-None-clause-keeps : goal.returns-in-None-clause-keeps
-returns-in-None-clause-keeps g c =
-    let b = first g (goal.at.returns-in-None-clause-keeps g c).After-write_parts-progress in
-    let w = b.first.puts.wrote b.inode b.is in
-    let x = c.raise_size.ensures.ends (g.S.Store.types_of c.args.store.now) (edits_of c.args.self.now.added) w.after c.write_parts-progress.ensures.types b.first.stage w.file b.first.given.1 in
-    volume_of (g.S.Store.types_of c.args.store.now) c.args.self.now _ x.0
-
 pub returns-in_err-end-clause-order : goal.returns-in_err-end-clause-order
 returns-in_err-end-clause-order g c = λ file e. absurd (never (file_end file) _ (ap (mapped file_end) e ∙ sym (c.in_err-end.ensures.exact c.requires.library)))
 
-pub returns-then-is_empty-clause-order : goal.returns-then-is_empty-clause-order
-returns-then-is_empty-clause-order g c = λ file e.
-    order_none (g.S.Store.types_of c.args.store.now) c.args.self.now.fs.number c.args.inode file c.args.offset c.args.bytes.now (g.S.Store.state_of c.args.store.now) _ (nil_from_length c.args.bytes.now (eqb-true (length c.args.bytes.now) 0 (sym c.is_empty.ensures ∙ c.if-is_empty.true)))
-
-pub returns-in-Some-clause-order : goal.returns-in-Some-clause-order
-returns-in-Some-clause-order g c =
-    let b = first g (goal.at.returns-in-Some-clause-order g c).After-write_parts-progress in
-    stops_order _ _ _ _ _ _ _ _ _ _ b c.in-Some.fault c.in-Some.is
-
-pub returns-in-None-clause-order : goal.returns-in-None-clause-order
-returns-in-None-clause-order g c =
-    let b = first g (goal.at.returns-in-None-clause-order g c).After-write_parts-progress in
-    let w = b.first.puts.wrote b.inode b.is in
-    let acts = c.raise_size.ensures.order (g.S.Store.types_of c.args.store.now) (edits_of c.args.self.now.added) w.after c.write_parts-progress.ensures.types b.first.stage w.file in
-    size_order _ _ _ _ _ _ _ _ _ _ b c.in-None.is (g.S.Store.state_of c.raise_size.new.store) c.raise_size.result acts
-
-pub returns-then-is_empty-clause-cuts : goal.returns-then-is_empty-clause-cuts
-returns-then-is_empty-clause-cuts g c = λ file there e grow made.
+pub returns-then-is_empty : goal.returns-then-is_empty
+returns-then-is_empty g c =
     let T = g.S.Store.types_of c.args.store.now in
     let old = g.S.Store.state_of c.args.store.now in
-    let none = nil_from_length c.args.bytes.now (eqb-true (length c.args.bytes.now) 0 (sym c.is_empty.ensures ∙ c.if-is_empty.true)) in
-    subst (λ (s : StoreState). ShowsWhole s old) (none_reached T c.args.self.now.fs.number c.args.inode file c.args.offset c.args.bytes.now old there none grow made) (shows_same T old c.requires.keeps.consistent)
+    let fs = c.args.self.now.fs.number in
+    let n = c.args.inode in
+    let offset = c.args.offset in
+    let bytes = c.args.bytes.now in
+    let none = nil_from_length bytes (eqb-true (length bytes) 0 (sym c.is_empty.ensures ∙ c.if-is_empty.true)) in
+    let f = found_file (latest old.lives) fs n (offset + length bytes) c.in_ok-end.end (c.in_ok-end.ensures.exact c.requires.library) in
+    record {
+      types = search rules;
+      answers = none_does T fs old n f.0 offset bytes f.1 none (after_in T fs n offset bytes old) f.3;
+      inodes = λ file e. (overwrites_none T fs old n file offset bytes (looked (latest old.lives) fs n (offset + length bytes) file e).0 none, λ some. absurd (some none));
+      order = λ file e. order_none T fs n file offset bytes old _ none;
+      cuts = λ file there e grow made. subst (λ (s : StoreState). ShowsWhole s old) (none_reached T fs n file offset bytes old there none grow made) (shows_same T old c.requires.keeps.consistent);
+      none = search rules;
+      keeps = search rules;
+    }
 
-pub returns-in-None-clause-cuts : goal.returns-in-None-clause-cuts
-returns-in-None-clause-cuts g c =
-    let b = first g (goal.at.returns-in-None-clause-cuts g c).After-write_parts-progress in
-    let w = b.first.puts.wrote b.inode b.is in λ file there e grow made.
-    let x = shown _ _ _ _ _ _ _ _ _ _ b c.in-None.is file e grow there made in
-    c.raise_size.ensures.cuts (g.S.Store.types_of c.args.store.now) (edits_of c.args.self.now.added) w.after c.write_parts-progress.result.last there.0 c.write_parts-progress.ensures.types b.first.stage w.file x.0 refl x.1 x.2
+pub returns-in-Some : goal.returns-in-Some
+returns-in-Some g c =
+    let b = first g (goal.at.returns-in-Some g c).After-write_parts-progress in
+    let fault = c.in-Some.fault in
+    record {
+      types = search rules;
+      answers = write_refused _ _ _ _ _ _ _ _ _ _ b fault c.in-Some.is;
+      inodes = write_part_inodes _ _ _ _ _ _ _ _ _ _ b fault c.in-Some.is;
+      order = stops_order _ _ _ _ _ _ _ _ _ _ b fault c.in-Some.is;
+      cuts = λ file there e grow made. tt;
+      none = λ z. absurd (b.there z);
+      keeps = volume_of (g.S.Store.types_of c.args.store.now) c.args.self.now _ b.first.stage;
+    }
+
+pub returns-in-None : goal.returns-in-None
+returns-in-None g c =
+    let b = first g (goal.at.returns-in-None g c).After-write_parts-progress in
+    let T = g.S.Store.types_of c.args.store.now in
+    let array = edits_of c.args.self.now.added in
+    let w = b.first.puts.wrote b.inode b.is in
+    let types = c.write_parts-progress.ensures.types in
+    let x = c.raise_size.ensures.ends T array w.after types b.first.stage w.file b.first.given.1 in
+    let acts = c.raise_size.ensures.order T array w.after types b.first.stage w.file in
+    let new = g.S.Store.state_of c.raise_size.new.store in
+    record {
+      types = search rules;
+      answers = write_done _ _ _ _ _ _ _ _ _ _ b c.in-None.is new c.raise_size.result x.1;
+      inodes = write_inodes _ _ _ _ _ _ _ _ _ _ b c.in-None.is new c.raise_size.result acts x.1;
+      order = size_order _ _ _ _ _ _ _ _ _ _ b c.in-None.is new c.raise_size.result acts;
+      cuts = λ file there e grow made.
+          let k = shown _ _ _ _ _ _ _ _ _ _ b _ (b.whole c.in-None.is) file e grow there made in
+          c.raise_size.ensures.cuts T array w.after c.write_parts-progress.result.last there.0 types b.first.stage w.file k.0 refl k.1 k.2;
+      none = λ z. absurd (b.there z);
+      keeps = volume_of T c.args.self.now _ x.0;
+    }

@@ -1,20 +1,17 @@
-use Rattle.std.proofs.Common.{◌≡◌, ◌∙◌, ◌+◌, ◌<◌, true, ap, arith, length, refl, sym, rules}
+use Rattle.std.proofs.Common.{◌∙◌, ◌+◌, ◌<◌, ap, arith, length, refl, sym, rules}
 use Rattle.std.proofs.lemmas.Bool.{eqb-false, eqb-true}
 use Rattle.std.proofs.lemmas.List.{nil_from_length}
-use Rattle.xn_model.specs.Root.{word_at}
 use Rattle.ffs_model.specs.Cuts.{latest}
 use Rattle.ffs_lookup.specs.Files.{written}
 use Rattle.ffs_lookup.specs.FileValues.{files_of}
-use Rattle.ffs_lookup.specs.Newest.{file_end, is_short, mapped, write_in}
+use Rattle.ffs_lookup.specs.Newest.{file_end, mapped, write_in}
 use Rattle.ffs_lookup.proofs.ForCallers.{written_told}
-use Rattle.ffs_lib.specs.Outcomes.{IsRaised}
-use Rattle.ffs_lib.specs.Results.{OnlyChanges}
-use Rattle.ffs_lib.specs.Steps.{StopsAtHome}
 use Rattle.ffs_lib.specs.Volumes.{edits_of}
+use Rattle.ffs_lib.specs.WriteOrder.{ShowsWhole, after_in}
 use Rattle.ffs_lib.proofs.StagedWritten.{Begun, begun, count_none, count_refused, count_taken, fault_takes, found_file, none_takes, overwrites_none, same_taken, volume_of}
 use Rattle.ffs_lib.proofs.Tops.{never}
 use Rattle.ffs_lib.proofs.ValueWritten.{looked}
-use Rattle.ffs_lib.proofs.WrittenOrder.{none_order, refused_order, some_order_none, taken_order}
+use Rattle.ffs_lib.proofs.WrittenOrder.{none_order, none_shows, refused_order, shown, some_order_none, taken_order, taken_place}
 use Rattle.ffs_lib.proofs.volume.Volume.write_some.Goals as goal
 use Rattle.ffs_lib.proofs.volume.Volume.write_some.Goals.{After-write_parts-progress}
 
@@ -38,124 +35,97 @@ returns-in_err-end-clause-answers g c =
     let n = c.args.inode in
     let u = latest old.lives in
     let bytes = c.args.bytes.now in
-    fault_takes (g.S.Store.types_of c.args.store.now) fs (files_of u fs) n c.args.offset bytes (write_in u fs n (c.args.offset + length bytes)) (written (files_of u fs) n c.args.offset bytes) old old c.from_residual.result
+    fault_takes (g.S.Store.types_of c.args.store.now) fs (files_of u fs) (after_in (g.S.Store.types_of c.args.store.now) fs n c.args.offset bytes old) n c.args.offset bytes (write_in u fs n (c.args.offset + length bytes)) (written (files_of u fs) n c.args.offset bytes) old old c.from_residual.result
     (written_told u fs n c.args.offset bytes) (search rules)
 
 pub returns-in_err-end-clause-inodes : goal.returns-in_err-end-clause-inodes
 returns-in_err-end-clause-inodes g c = λ file e. absurd (never (file_end file) _ (ap (mapped file_end) e ∙ sym (c.in_err-end.ensures.exact c.requires.library)))
 
-pub returns-then-is_empty-clause-answers : goal.returns-then-is_empty-clause-answers
-returns-then-is_empty-clause-answers g c =
-    let old = g.S.Store.state_of c.args.store.now in
-    let fs = c.args.self.now.fs.number in
-    let bytes = c.args.bytes.now in
-    let f = found_file (latest old.lives) fs c.args.inode (c.args.offset + length bytes) c.in_ok-end.end (c.in_ok-end.ensures.exact c.requires.library) in
-    none_takes (g.S.Store.types_of c.args.store.now) fs old c.args.inode f.0 c.args.offset bytes f.1 f.3 (nil_from_length c.args.bytes.now (eqb-true (length c.args.bytes.now) 0 (sym c.is_empty.ensures ∙ c.if-is_empty.true)))
-
-pub returns-then-is_empty-clause-inodes : goal.returns-then-is_empty-clause-inodes
-returns-then-is_empty-clause-inodes g c = λ file e.
-    (0, overwrites_none (g.S.Store.state_of c.args.store.now) c.args.self.now.fs.number c.args.inode file c.args.offset c.args.bytes.now (looked (latest (g.S.Store.state_of c.args.store.now).lives) c.args.self.now.fs.number c.args.inode (c.args.offset + length c.args.bytes.now) file e).0, (λ some. absurd (some refl), λ z some. absurd (some (nil_from_length c.args.bytes.now (eqb-true (length c.args.bytes.now) 0 (sym c.is_empty.ensures ∙ c.if-is_empty.true))))))
-
-pub returns-then-taken-eq0-clause-answers : goal.returns-then-taken-eq0-clause-answers
-returns-then-taken-eq0-clause-answers g c =
-    let b = first g (goal.at.returns-then-taken-eq0-clause-answers g c).After-write_parts-progress in
-    let same = same_taken _ _ _ _ _ _ _ _ _ _ b _ _ c.min.ensures c.saturating_sub-taken.ensures in
-    (count_none _ _ _ _ _ _ _ _ _ _ b c.saturating_sub-taken.result same c.if-taken-eq0.true c.none_taken.result (c.none_taken.ensures.none, c.none_taken.ensures.count, c.none_taken.ensures.err)).0
-
-pub returns-then-taken-eq0-clause-inodes : goal.returns-then-taken-eq0-clause-inodes
-returns-then-taken-eq0-clause-inodes g c =
-    let b = first g (goal.at.returns-then-taken-eq0-clause-inodes g c).After-write_parts-progress in
-    let same = same_taken _ _ _ _ _ _ _ _ _ _ b _ _ c.min.ensures c.saturating_sub-taken.ensures in
-    (count_none _ _ _ _ _ _ _ _ _ _ b c.saturating_sub-taken.result same c.if-taken-eq0.true c.none_taken.result (c.none_taken.ensures.none, c.none_taken.ensures.count, c.none_taken.ensures.err)).1
-
-pub returns-then-taken-eq0-clause-keeps : goal.returns-then-taken-eq0-clause-keeps
-returns-then-taken-eq0-clause-keeps g c =
-    let b = first g (goal.at.returns-then-taken-eq0-clause-keeps g c).After-write_parts-progress in
-    volume_of (g.S.Store.types_of c.args.store.now) c.args.self.now _ b.first.stage
-
-pub returns-in-Ok-clause-answers : goal.returns-in-Ok-clause-answers
-returns-in-Ok-clause-answers g c =
-    let b = first g (goal.at.returns-in-Ok-clause-answers g c).After-write_parts-progress in
-    let same = same_taken _ _ _ _ _ _ _ _ _ _ b _ _ c.min.ensures c.saturating_sub-taken.ensures in
-    let w = b.first.puts.wrote b.inode b.is in
-    let middle = latest (g.S.Store.state_of c.write_parts-progress.new.store).lives in
-    let new = latest (g.S.Store.state_of c.raise_size.new.store).lives in
-    let r : IsRaised middle new c.args.self.now.fs.number c.args.inode w.after (c.args.offset + c.saturating_sub-taken.result) × OnlyChanges middle new c.args.self.now.fs.number c.args.inode =
-    (c.in-Ok.ensures.ends (g.S.Store.types_of c.args.store.now) (edits_of c.args.self.now.added) w.after c.write_parts-progress.ensures.types b.first.stage w.file b.first.given.1).1 in
-    (count_taken _ _ _ _ _ _ _ _ _ _ b c.saturating_sub-taken.result same c.if-taken-eq0.false (g.S.Store.state_of c.raise_size.new.store) r).0
-
-pub returns-in-Ok-clause-inodes : goal.returns-in-Ok-clause-inodes
-returns-in-Ok-clause-inodes g c =
-    let b = first g (goal.at.returns-in-Ok-clause-inodes g c).After-write_parts-progress in
-    let same = same_taken _ _ _ _ _ _ _ _ _ _ b _ _ c.min.ensures c.saturating_sub-taken.ensures in
-    let w = b.first.puts.wrote b.inode b.is in
-    let middle = latest (g.S.Store.state_of c.write_parts-progress.new.store).lives in
-    let new = latest (g.S.Store.state_of c.raise_size.new.store).lives in
-    let r : IsRaised middle new c.args.self.now.fs.number c.args.inode w.after (c.args.offset + c.saturating_sub-taken.result) × OnlyChanges middle new c.args.self.now.fs.number c.args.inode =
-    (c.in-Ok.ensures.ends (g.S.Store.types_of c.args.store.now) (edits_of c.args.self.now.added) w.after c.write_parts-progress.ensures.types b.first.stage w.file b.first.given.1).1 in
-    (count_taken _ _ _ _ _ _ _ _ _ _ b c.saturating_sub-taken.result same c.if-taken-eq0.false (g.S.Store.state_of c.raise_size.new.store) r).1
-
-pub returns-in-Ok-clause-keeps : goal.returns-in-Ok-clause-keeps
-returns-in-Ok-clause-keeps g c =
-    let b = first g (goal.at.returns-in-Ok-clause-keeps g c).After-write_parts-progress in
-    let w = b.first.puts.wrote b.inode b.is in
-    let x = c.raise_size.ensures.ends (g.S.Store.types_of c.args.store.now) (edits_of c.args.self.now.added) w.after c.write_parts-progress.ensures.types b.first.stage w.file b.first.given.1 in
-    volume_of (g.S.Store.types_of c.args.store.now) c.args.self.now _ x.0
-
-pub returns-in-Err-clause-answers : goal.returns-in-Err-clause-answers
-returns-in-Err-clause-answers g c =
-    let b = first g (goal.at.returns-in-Err-clause-answers g c).After-write_parts-progress in
-    let same = same_taken _ _ _ _ _ _ _ _ _ _ b _ _ c.min.ensures c.saturating_sub-taken.ensures in
-    let w = b.first.puts.wrote b.inode b.is in
-    let middle = g.S.Store.state_of c.write_parts-progress.new.store in
-    let new = g.S.Store.state_of c.raise_size.new.store in
-    let stop : (is_short c.in-Err.fault ≡ true) × ((word_at w.after 4 < c.args.offset + c.saturating_sub-taken.result) × StopsAtHome (g.S.Store.types_of c.args.store.now) c.args.self.now.fs.number middle new c.args.inode c.in-Err.fault) =
-    (c.in-Err.ensures.ends (g.S.Store.types_of c.args.store.now) (edits_of c.args.self.now.added) w.after c.write_parts-progress.ensures.types b.first.stage w.file b.first.given.1).1 in
-    (count_refused _ _ _ _ _ _ _ _ _ _ b c.saturating_sub-taken.result same c.if-taken-eq0.false new c.in-Err.fault stop c.none_taken-in-Err.result (c.none_taken-in-Err.ensures.none, c.none_taken-in-Err.ensures.count, c.none_taken-in-Err.ensures.err)).0
-
-pub returns-in-Err-clause-inodes : goal.returns-in-Err-clause-inodes
-returns-in-Err-clause-inodes g c =
-    let b = first g (goal.at.returns-in-Err-clause-inodes g c).After-write_parts-progress in
-    let same = same_taken _ _ _ _ _ _ _ _ _ _ b _ _ c.min.ensures c.saturating_sub-taken.ensures in
-    let w = b.first.puts.wrote b.inode b.is in
-    let middle = g.S.Store.state_of c.write_parts-progress.new.store in
-    let new = g.S.Store.state_of c.raise_size.new.store in
-    let stop : (is_short c.in-Err.fault ≡ true) × ((word_at w.after 4 < c.args.offset + c.saturating_sub-taken.result) × StopsAtHome (g.S.Store.types_of c.args.store.now) c.args.self.now.fs.number middle new c.args.inode c.in-Err.fault) =
-    (c.in-Err.ensures.ends (g.S.Store.types_of c.args.store.now) (edits_of c.args.self.now.added) w.after c.write_parts-progress.ensures.types b.first.stage w.file b.first.given.1).1 in
-    (count_refused _ _ _ _ _ _ _ _ _ _ b c.saturating_sub-taken.result same c.if-taken-eq0.false new c.in-Err.fault stop c.none_taken-in-Err.result (c.none_taken-in-Err.ensures.none, c.none_taken-in-Err.ensures.count, c.none_taken-in-Err.ensures.err)).1
-
-pub returns-in-Err-clause-keeps : goal.returns-in-Err-clause-keeps
-returns-in-Err-clause-keeps g c =
-    let b = first g (goal.at.returns-in-Err-clause-keeps g c).After-write_parts-progress in
-    let w = b.first.puts.wrote b.inode b.is in
-    let x = c.raise_size.ensures.ends (g.S.Store.types_of c.args.store.now) (edits_of c.args.self.now.added) w.after c.write_parts-progress.ensures.types b.first.stage w.file b.first.given.1 in
-    volume_of (g.S.Store.types_of c.args.store.now) c.args.self.now _ x.0
-
 pub returns-in_err-end-clause-order : goal.returns-in_err-end-clause-order
 returns-in_err-end-clause-order g c = λ file e. absurd (never (file_end file) _ (ap (mapped file_end) e ∙ sym (c.in_err-end.ensures.exact c.requires.library)))
 
-pub returns-then-is_empty-clause-order : goal.returns-then-is_empty-clause-order
-returns-then-is_empty-clause-order g c = λ file e.
-    some_order_none (g.S.Store.types_of c.args.store.now) c.args.self.now.fs.number c.args.inode file c.args.offset c.args.bytes.now (g.S.Store.state_of c.args.store.now) _ (nil_from_length c.args.bytes.now (eqb-true (length c.args.bytes.now) 0 (sym c.is_empty.ensures ∙ c.if-is_empty.true)))
+pub returns-then-is_empty : goal.returns-then-is_empty
+returns-then-is_empty g c =
+    let T = g.S.Store.types_of c.args.store.now in
+    let old = g.S.Store.state_of c.args.store.now in
+    let fs = c.args.self.now.fs.number in
+    let n = c.args.inode in
+    let offset = c.args.offset in
+    let bytes = c.args.bytes.now in
+    let none = nil_from_length bytes (eqb-true (length bytes) 0 (sym c.is_empty.ensures ∙ c.if-is_empty.true)) in
+    let f = found_file (latest old.lives) fs n (offset + length bytes) c.in_ok-end.end (c.in_ok-end.ensures.exact c.requires.library) in
+    record {
+      types = search rules;
+      answers = none_takes T fs old n f.0 offset bytes f.1 none (after_in T fs n offset bytes old) f.3;
+      inodes = λ file e. (overwrites_none T fs old n file offset bytes (looked (latest old.lives) fs n (offset + length bytes) file e).0 none, λ z some. absurd (some none));
+      order = λ file e. some_order_none T fs n file offset bytes old _ none;
+      cuts = λ file there e made some. absurd (some refl);
+      none = search rules;
+      keeps = search rules;
+    }
 
-pub returns-then-taken-eq0-clause-order : goal.returns-then-taken-eq0-clause-order
-returns-then-taken-eq0-clause-order g c =
-    let b = first g (goal.at.returns-then-taken-eq0-clause-order g c).After-write_parts-progress in
+pub returns-then-taken-eq0 : goal.returns-then-taken-eq0
+returns-then-taken-eq0 g c =
+    let b = first g (goal.at.returns-then-taken-eq0 g c).After-write_parts-progress in
     let same = same_taken _ _ _ _ _ _ _ _ _ _ b _ _ c.min.ensures c.saturating_sub-taken.ensures in
-    none_order _ _ _ _ _ _ _ _ _ _ b c.saturating_sub-taken.result same c.if-taken-eq0.true c.none_taken.result c.none_taken.ensures.count
+    let told = c.none_taken.ensures in
+    let k = count_none _ _ _ _ _ _ _ _ _ _ b c.saturating_sub-taken.result same c.if-taken-eq0.true c.none_taken.result (told.none, told.count, told.err) in
+    record {
+      types = search rules;
+      answers = k.0;
+      inodes = k.1;
+      order = none_order _ _ _ _ _ _ _ _ _ _ b c.saturating_sub-taken.result same c.if-taken-eq0.true c.none_taken.result told.count;
+      cuts = λ file there e made. none_shows c.none_taken.result told.count (λ count. file_end file < c.args.offset + count → ShowsWhole there.0 (g.S.Store.state_of c.write_parts-progress.new.store));
+      none = λ z. absurd (b.there z);
+      keeps = volume_of (g.S.Store.types_of c.args.store.now) c.args.self.now _ b.first.stage;
+    }
 
-pub returns-in-Ok-clause-order : goal.returns-in-Ok-clause-order
-returns-in-Ok-clause-order g c =
-    let b = first g (goal.at.returns-in-Ok-clause-order g c).After-write_parts-progress in
-    let same = same_taken _ _ _ _ _ _ _ _ _ _ b _ _ c.min.ensures c.saturating_sub-taken.ensures in
+pub returns-in-Ok : goal.returns-in-Ok
+returns-in-Ok g c =
+    let b = first g (goal.at.returns-in-Ok g c).After-write_parts-progress in
+    let T = g.S.Store.types_of c.args.store.now in
+    let array = edits_of c.args.self.now.added in
     let w = b.first.puts.wrote b.inode b.is in
-    let acts = c.in-Ok.ensures.order (g.S.Store.types_of c.args.store.now) (edits_of c.args.self.now.added) w.after c.write_parts-progress.ensures.types b.first.stage w.file in
-    taken_order _ _ _ _ _ _ _ _ _ _ b c.saturating_sub-taken.result same c.if-taken-eq0.false (g.S.Store.state_of c.raise_size.new.store) acts
-
-pub returns-in-Err-clause-order : goal.returns-in-Err-clause-order
-returns-in-Err-clause-order g c =
-    let b = first g (goal.at.returns-in-Err-clause-order g c).After-write_parts-progress in
+    let types = c.write_parts-progress.ensures.types in
+    let count = c.saturating_sub-taken.result in
+    let some = c.if-taken-eq0.false in
     let same = same_taken _ _ _ _ _ _ _ _ _ _ b _ _ c.min.ensures c.saturating_sub-taken.ensures in
+    let x = c.in-Ok.ensures.ends T array w.after types b.first.stage w.file b.first.given.1 in
+    let new = g.S.Store.state_of c.raise_size.new.store in
+    let k = count_taken _ _ _ _ _ _ _ _ _ _ b count same some new x.1 in
+    record {
+      types = search rules;
+      answers = k.0;
+      inodes = k.1;
+      order = taken_order _ _ _ _ _ _ _ _ _ _ b count same some new (c.in-Ok.ensures.order T array w.after types b.first.stage w.file);
+      cuts = λ file there e made ne grow.
+          let h = shown _ _ _ _ _ _ _ _ _ _ b _ (taken_place _ _ _ _ _ _ _ _ _ _ b count same ne) file e grow there made in
+          c.in-Ok.ensures.cuts T array w.after c.write_parts-progress.result.last there.0 types b.first.stage w.file h.0 refl h.1 h.2;
+      none = λ z. absurd (b.there z);
+      keeps = volume_of T c.args.self.now _ x.0;
+    }
+
+pub returns-in-Err : goal.returns-in-Err
+returns-in-Err g c =
+    let b = first g (goal.at.returns-in-Err g c).After-write_parts-progress in
+    let T = g.S.Store.types_of c.args.store.now in
+    let array = edits_of c.args.self.now.added in
     let w = b.first.puts.wrote b.inode b.is in
-    let acts = c.in-Err.ensures.order (g.S.Store.types_of c.args.store.now) (edits_of c.args.self.now.added) w.after c.write_parts-progress.ensures.types b.first.stage w.file in
-    refused_order _ _ _ _ _ _ _ _ _ _ b c.saturating_sub-taken.result same c.if-taken-eq0.false (g.S.Store.state_of c.raise_size.new.store) c.in-Err.fault acts c.none_taken-in-Err.result c.none_taken-in-Err.ensures.count
+    let types = c.write_parts-progress.ensures.types in
+    let count = c.saturating_sub-taken.result in
+    let some = c.if-taken-eq0.false in
+    let same = same_taken _ _ _ _ _ _ _ _ _ _ b _ _ c.min.ensures c.saturating_sub-taken.ensures in
+    let x = c.in-Err.ensures.ends T array w.after types b.first.stage w.file b.first.given.1 in
+    let new = g.S.Store.state_of c.raise_size.new.store in
+    let told = c.none_taken-in-Err.ensures in
+    let result = c.none_taken-in-Err.result in
+    let k = count_refused _ _ _ _ _ _ _ _ _ _ b count same some new c.in-Err.fault x.1 result (told.none, told.count, told.err) in
+    record {
+      types = search rules;
+      answers = k.0;
+      inodes = k.1;
+      order = refused_order _ _ _ _ _ _ _ _ _ _ b count same some new c.in-Err.fault x.1.1.1.0 (c.in-Err.ensures.order T array w.after types b.first.stage w.file) result told.count;
+      cuts = λ file there e made. none_shows result told.count (λ k. file_end file < c.args.offset + k → ShowsWhole there.0 new);
+      none = λ z. absurd (b.there z);
+      keeps = volume_of T c.args.self.now _ x.0;
+    }
