@@ -21,7 +21,7 @@ use Rattle.ffs_lookup.specs.declared.fault.FfsFault.TheVariants.{BadName, NoEntr
 use Rattle.ffs_lookup.specs.declared.places.Found.{Found}
 use Rattle.ffs_lookup.specs.declared.places.Slot.{Slot}
 use Rattle.ffs_lib.specs.Edits.{edit_at}
-use Rattle.ffs_lookup.specs.Newest.{byte_in, byte_of, directory_in, file_block, slots_in_block, entry_at, entry_named, named_in, used_entry, first_named, has_name, inode_in, listing, name_at, without_entry}
+use Rattle.ffs_lookup.specs.Newest.{byte_in, byte_of, directory_in, file_block, slots_in_block, entry_at, entry_named, named_in, used_entry, first_named, has_name, inode_in, listing, name_at, without_entry, most_bytes}
 use Rattle.ffs_lookup.specs.Places.{IsFound, IsSlot}
 use Rattle.ffs_lib.specs.Results.{AsBefore, IsAs, SameInode}
 use Rattle.ffs_lib.proofs.Entering.{directory_from, inode_put}
@@ -79,7 +79,7 @@ relinked T lib state new h fs few n found is exact bytes whole mode direct last 
     pointers : word_at found.inode 56 ≢ 0 → w (word_at found.inode 56) ≡ v (word_at found.inode 56)
     pointers ne = away (word_at found.inode 56) 5 (pointers_at T lib state h fs few n found.inode stands (word_at found.inode 56) refl ne) (λ z. omega (arith, z))
 
-    each : (at : ℕ) → at < 71680 → byte_of w bytes at ≡ byte_of v found.inode at
+    each : (at : ℕ) → at < most_bytes → byte_of w bytes at ≡ byte_of v found.inode at
     each at low =
         let i : ℕ = at / 512 in
         let same = blocks_agree w bytes found.inode i (λ lt. direct_get bytes i lt ∙ (ap (λ ws. get_or ws i 0) direct ∙ sym (direct_get found.inode i lt))) last ∙ file_block_by v w found.inode pointers i in

@@ -12,7 +12,7 @@ use Rattle.ffs_model.proofs.ForCallers.{given_later}
 use Rattle.xn_model.proofs.ForCallers.{same_ok as same_run}
 use Rattle.ffs_lookup.specs.declared.fault.FfsFault.{FfsFault}
 use Rattle.ffs_lookup.proofs.ForCallers.{same_ok}
-use Rattle.ffs_lookup.specs.Newest.{byte_in, byte_of, file_block, file_end, file_in, mapped}
+use Rattle.ffs_lookup.specs.Newest.{byte_in, byte_of, file_block, file_end, file_in, mapped, most_bytes}
 use Rattle.ffs_lib.specs.Results.{WroteBytes, byte_written}
 use Rattle.ffs_lib.specs.Steps.{Ends, Stage, Stops}
 use Rattle.ffs_lib.specs.Orders.{made_by}
@@ -40,7 +40,7 @@ puts_on u v w fs n start bs cs a b = record {
 
 -- zeros that stand there are as good as written
 pub zeros_stand : (v : ℕ → List ℕ) (inode : List ℕ) (index at count : ℕ) → at + count ≤ 512 → ((k : ℕ) → at ≤ k → k < at + count → byte_in v (file_block v inode index) k ≡ 0) →
-    (x : ℕ) → x < 71680 → byte_of v inode x ≡ byte_written (byte_of v inode) (512 * index + at) (replicate count 0) x
+    (x : ℕ) → x < most_bytes → byte_of v inode x ≡ byte_written (byte_of v inode) (512 * index + at) (replicate count 0) x
 zeros_stand v inode index at count fit none =
     let f : ℕ → ℕ → ℕ = λ i k. byte_in v (file_block v inode i) k in
     let bs : List ℕ = replicate count 0 in

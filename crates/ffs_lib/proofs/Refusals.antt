@@ -7,7 +7,7 @@ use Rattle.ffs_format.specs.Entries.{is_name}
 use Rattle.ffs_lookup.specs.declared.fault.FfsFault.{FfsFault}
 use Rattle.ffs_lookup.specs.declared.fault.FfsFault.TheVariants.{BadName, DirNotEmpty, NoEntry, TooLarge}
 use Rattle.ffs_lookup.specs.declared.places.Slot.{Slot}
-use Rattle.ffs_lookup.specs.Newest.{and_then, directory_in, slots_of, entry_named, file_in, has_name, if_empty, mapped, named_in, rmdir_in, unlink_in, write_in}
+use Rattle.ffs_lookup.specs.Newest.{and_then, directory_in, slots_of, entry_named, file_in, has_name, if_empty, mapped, named_in, rmdir_in, unlink_in, write_in, most_bytes}
 
 module _ (content : ℕ → List ℕ) (fs d : ℕ) (name : List ℕ) where
   pub unlink_nothing : (fault : FfsFault) → Err fault ≡ named_in content fs d name → Err fault ≡ unlink_in content fs d name
@@ -38,17 +38,17 @@ module _ (content : ℕ → List ℕ) (entry : Slot) (inode : List ℕ) (empty :
 module _ (content : ℕ → List ℕ) (fs n size : ℕ) where
   pub write_nothing : (fault : FfsFault) → Err fault ≡ file_in content fs n → Err fault ≡ write_in content fs n size
   unfolding write_in
-  write_nothing fault e = ap (λ (r : Result (List ℕ) FfsFault). and_then r (λ inode. if nat_lt 71680 size then Err TooLarge else Ok inode)) e
+  write_nothing fault e = ap (λ (r : Result (List ℕ) FfsFault). and_then r (λ inode. if nat_lt most_bytes size then Err TooLarge else Ok inode)) e
 
-  pub too_large : (inode : List ℕ) → Ok inode ≡ file_in content fs n → 71680 < size → Err TooLarge ≡ write_in content fs n size
+  pub too_large : (inode : List ℕ) → Ok inode ≡ file_in content fs n → most_bytes < size → Err TooLarge ≡ write_in content fs n size
   unfolding write_in
   too_large inode e large =
-      sym (ap (λ (x : Bool). if x then Err TooLarge else Ok inode) (lt-ltb 71680 size large)) ∙ ap (λ (r : Result (List ℕ) FfsFault). and_then r (λ inode. if nat_lt 71680 size then Err TooLarge else Ok inode)) e
+      sym (ap (λ (x : Bool). if x then Err TooLarge else Ok inode) (lt-ltb most_bytes size large)) ∙ ap (λ (r : Result (List ℕ) FfsFault). and_then r (λ inode. if nat_lt most_bytes size then Err TooLarge else Ok inode)) e
 
-  pub fits_file : (inode : List ℕ) → Ok inode ≡ file_in content fs n → size ≤ 71680 → Ok inode ≡ write_in content fs n size
+  pub fits_file : (inode : List ℕ) → Ok inode ≡ file_in content fs n → size ≤ most_bytes → Ok inode ≡ write_in content fs n size
   unfolding write_in
   fits_file inode e small =
-      sym (ap (λ (x : Bool). if x then Err TooLarge else Ok inode) (le-ltb 71680 size small)) ∙ ap (λ (r : Result (List ℕ) FfsFault). and_then r (λ inode. if nat_lt 71680 size then Err TooLarge else Ok inode)) e
+      sym (ap (λ (x : Bool). if x then Err TooLarge else Ok inode) (le-ltb most_bytes size small)) ∙ ap (λ (r : Result (List ℕ) FfsFault). and_then r (λ inode. if nat_lt most_bytes size then Err TooLarge else Ok inode)) e
 
 -- a directory that has a name is not empty
 nothing_listed : (p : Slot → Bool) (entry : Slot) (t : Bool) → Ok entry ≡ (if t then ok_or (find p []) NoEntry else Err BadName) → ⊥

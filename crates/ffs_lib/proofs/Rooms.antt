@@ -8,7 +8,7 @@ use Rattle.xn_model.proofs.ForCallers.{Contains-head, Contains-tail}
 use Rattle.ffs_model.specs.Library.{half_at, inode_blocks}
 use Rattle.ffs_model.proofs.ForCallers.{direct_where}
 use Rattle.ffs_format.specs.Fields.{direct_in, fields_of}
-use Rattle.ffs_lookup.specs.Newest.{byte_in, byte_of, file_block, has_gap, has_room, room_from, room_in}
+use Rattle.ffs_lookup.specs.Newest.{byte_in, byte_of, file_block, has_gap, has_room, most_bytes, room_from, room_in}
 use Rattle.ffs_lookup.specs.declared.places.Room.TheVariants.{Entry, Pointer}
 use Rattle.ffs_lookup.specs.declared.places.Slot.{Slot}
 use Rattle.xn_model.specs.Root.{word_at}
@@ -71,7 +71,7 @@ room_among v w inode after pointer (b ∷ bs) same =
     go false rest = rest
 
 -- a directory whose pointers and bytes are as before has room as before
-module _ (v w : ℕ → List ℕ) (inode after : List ℕ) (direct : (fields_of after).direct ≡ (fields_of inode).direct) (each : (at : ℕ) → at < 71680 → byte_of w after at ≡ byte_of v inode at) where
+module _ (v w : ℕ → List ℕ) (inode after : List ℕ) (direct : (fields_of after).direct ≡ (fields_of inode).direct) (each : (at : ℕ) → at < most_bytes → byte_of w after at ≡ byte_of v inode at) where
   pointer : (i : ℕ) → i < 12 → direct_in after i ≡ direct_in inode i
   pointer i low = direct_get after i low ∙ (ap (λ ws. get_or ws i 0) direct ∙ sym (direct_get inode i low))
 

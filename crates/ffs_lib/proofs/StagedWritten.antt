@@ -18,7 +18,7 @@ use Rattle.ffs_lookup.specs.declared.fault.FfsFault.{FfsFault}
 use Rattle.ffs_lookup.specs.declared.fault.FfsFault.TheVariants.{Kernel}
 use Rattle.ffs_lookup.specs.Files.{Answer, File, Files, fault_told, file_of, with_value, written, written_bytes}
 use Rattle.ffs_lookup.specs.FileValues.{files_of}
-use Rattle.ffs_lookup.specs.Newest.{byte_of, file_end, file_in, is_short, mapped, write_in}
+use Rattle.ffs_lookup.specs.Newest.{byte_of, file_end, file_in, is_short, mapped, most_bytes, write_in}
 use Rattle.ffs_lookup.proofs.ForCallers.{same_ok}
 use Rattle.ffs_lib.specs.Outcomes.{IsRaised}
 use Rattle.ffs_lib.specs.Orders.{Acts}
@@ -72,7 +72,7 @@ any_is [] stages ne = absurd (ne refl)
 any_is (byte ∷ rest) stages ne = refl
 
 -- The file that is looked up
-pub found_file : (content : ℕ → List ℕ) (fs n size end : ℕ) → Ok end ≡ mapped file_end (write_in content fs n size) → (inode : List ℕ) × (Ok inode ≡ file_in content fs n) × (file_end inode ≡ end) × (size ≤ 71680)
+pub found_file : (content : ℕ → List ℕ) (fs n size end : ℕ) → Ok end ≡ mapped file_end (write_in content fs n size) → (inode : List ℕ) × (Ok inode ≡ file_in content fs n) × (file_end inode ≡ end) × (size ≤ most_bytes)
 found_file content fs n size end e =
     let f = end_found (write_in content fs n size) end e in
     let l = looked content fs n size f.0 f.1 in
@@ -89,7 +89,7 @@ same_fault x y e = cc
 pub record Begun (T : Types) (fs : ℕ) (array : ℕ → Option ℕ) (old middle : StoreState) (n end offset : ℕ) (bytes : List ℕ) (progress : Progress) : Type 0 where
   pub inode : List ℕ
   pub is : Ok inode ≡ file_in (latest old.lives) fs n
-  pub low : offset + length bytes ≤ 71680
+  pub low : offset + length bytes ≤ most_bytes
   pub ends : file_end inode ≡ end
   pub there : length bytes ≢ 0
   pub whole : progress.fault ≡ None → min (file_end inode) offset + progress.done ≡ offset + length bytes
@@ -116,7 +116,7 @@ module _ (T : Types) (fs : ℕ) (array : ℕ → Option ℕ) (old middle : Store
   abbrev p : Parts T fs array old middle n (file_end inode) offset bytes progress
   p = b.first
 
-  abbrev low : offset + length bytes ≤ 71680
+  abbrev low : offset + length bytes ≤ most_bytes
   low = b.low
 
   abbrev all : Files
@@ -300,7 +300,7 @@ module _ (T : Types) (fs : ℕ) (array : ℕ → Option ℕ) (old middle : Store
   size_among test a k picked lo hi new fault s =
       at_place T fs new fault to (λ at. OfInode n) test (start + progress.done) middle (first_files old fs n offset inode is middle bytes progress.done p.few p.puts) s picked a k lo hi
 
-  size_below : (size : ℕ) → size ≤ 71680 → word_at after 4 < size → nat_lt (length own.1) size ≡ true
+  size_below : (size : ℕ) → size ≤ most_bytes → word_at after 4 < size → nat_lt (length own.1) size ≡ true
   size_below size few less = let w = (p.puts.wrote inode is).size in let l = long_own in lt-ltb (length own.1) size (omega (arith, l, less, w, few))
 
   size_refused : start + progress.done ≡ offset + length bytes → (new : StoreState) (fault : FfsFault) → (word_at after 4 < offset + length bytes) × StopsAtHome T fs middle new n fault → IsRefused T fs old new fault (written_stages all asked n offset bytes)
@@ -403,7 +403,7 @@ module _ (T : Types) (fs : ℕ) (array : ℕ → Option ℕ) (old middle : Store
       record { others = p.puts.others; after = k.after; file = k.file; mode = k.marks.0; size = λ high. k.size; few = p.few; border = p.border; each = k.each }
 
   -- the size was raised then, or not
-  overwritten_then : (size : ℕ) → size ≤ 71680 → (new : StoreState) (result : Result (Unit {0}) FfsFault) → MatchResult result (Raises new size) (Stops (RaiseStops new size)) → Overwrites (latest old.lives) (latest new.lives) fs n inode offset bytes progress.done
+  overwritten_then : (size : ℕ) → size ≤ most_bytes → (new : StoreState) (result : Result (Unit {0}) FfsFault) → MatchResult result (Raises new size) (Stops (RaiseStops new size)) → Overwrites (latest old.lives) (latest new.lives) fs n inode offset bytes progress.done
   overwritten_then size few new (Ok x) r =
       let k = p.puts.wrote inode is in
       record {
@@ -501,7 +501,7 @@ module _ (T : Types) (fs : ℕ) (array : ℕ → Option ℕ) (old middle : Store
         let stop = stopped_by x e in
         (stop.0, (subst (IsRefused T fs old middle x) (sym some_are) (part_among x stop.1 (offset + 1) (omega (arith, same, z)) some_sizes), part_place x stop.1))) result fault_told
 
-    count_low : offset + count ≤ 71680
+    count_low : offset + count ≤ most_bytes
     count_low = let few = few_taken in omega (arith, few, low, same)
 
     pub count_taken : count ≢ 0 → (new : StoreState) → Raises new (offset + count) tt → Takes new (Ok count)
@@ -524,13 +524,13 @@ module _ (T : Types) (fs : ℕ) (old : StoreState) (n : ℕ) (inode : List ℕ) 
   abbrev now : Files
   now = files_of (latest old.lives) fs
 
-  led : offset + length bytes ≤ 71680 → written now n offset bytes ≡ Ok (tt, now)
+  led : offset + length bytes ≤ most_bytes → written now n offset bytes ≡ Ok (tt, now)
   led low = ap (written now n offset) none ∙ none_leads old fs n offset inode is (omega (arith, low))
 
-  pub none_does : (after : ℕ → Option ℕ) → offset + length bytes ≤ 71680 → Does T fs (written now n offset bytes) (written_stages now after n offset bytes) old old (Ok tt)
+  pub none_does : (after : ℕ → Option ℕ) → offset + length bytes ≤ most_bytes → Does T fs (written now n offset bytes) (written_stages now after n offset bytes) old old (Ok tt)
   none_does after low = subst (λ (a : Answer (Unit {0})). Does T fs a (written_stages now after n offset bytes) old old (Ok tt)) (sym (led low)) (refl, λ i. refl)
 
-  pub none_takes : (after : ℕ → Option ℕ) → offset + length bytes ≤ 71680 → DoesSome T fs now after n offset bytes (written now n offset bytes) old old (Ok 0)
+  pub none_takes : (after : ℕ → Option ℕ) → offset + length bytes ≤ most_bytes → DoesSome T fs now after n offset bytes (written now n offset bytes) old old (Ok 0)
   none_takes after low = subst (λ (a : Answer (Unit {0})). DoesSome T fs now after n offset bytes a old old (Ok 0)) (sym (led low))
       (record { few = omega arith; leads = λ ne. absurd (ne refl); stopped = λ ne less. absurd (ne refl); none = λ z any. absurd (any none) })
 

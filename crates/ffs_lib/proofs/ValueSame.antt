@@ -8,7 +8,7 @@ use Rattle.ffs_model.specs.Library.{inode_at, inode_blocks, inode_links, inode_m
 use Rattle.ffs_format.specs.Fields.{direct_in}
 use Rattle.ffs_lookup.specs.declared.fault.FfsFault.{FfsFault}
 use Rattle.ffs_lookup.specs.declared.fault.FfsFault.TheVariants.{NoEntry}
-use Rattle.ffs_lookup.specs.Newest.{and_then, byte_of, file_end, inode_block_in, inode_in, is_free_inode, listing, name_of_place, unless_unused}
+use Rattle.ffs_lookup.specs.Newest.{and_then, byte_of, file_end, inode_block_in, inode_in, is_free_inode, listing, most_bytes, name_of_place, unless_unused}
 use Rattle.ffs_lookup.specs.Files.{Free, Unusable, File, Directory, is_absent, with_block}
 use Rattle.ffs_lookup.specs.FileValues.{block_value, blocks_value, bytes_value, files_of, inode_value, place_in, value_in}
 use Rattle.ffs_lookup.proofs.ForCallers.{direct_has, good_number, map_on, used_is, value_by_place, value_outside, value_there}
@@ -18,7 +18,7 @@ use Rattle.ffs_lib.proofs.ValueLists.{place_listed, there_in}
 
 -- one in use, whose pointers, size, entries and bytes are as before
 module _ (v w : ℕ → List ℕ) (inode after : List ℕ) (direct : (i : ℕ) → i < 12 → direct_in after i ≡ direct_in inode i) (entries : listing w after ≡ listing v inode) (size : word_at after 4 ≡ word_at inode 4)
-    (each : (at : ℕ) → at < 71680 → byte_of w after at ≡ byte_of v inode at) where
+    (each : (at : ℕ) → at < most_bytes → byte_of w after at ≡ byte_of v inode at) where
   pub blocks_same : blocks_value w after ≡ blocks_value v inode
   blocks_same = map_on (λ i. block_value w (direct_in after i)) (λ i. block_value v (direct_in inode i)) 0 12 (λ i low high. ap (block_value w) (direct i (omega (arith, high))) ∙ one i (omega (arith, high)) (direct_in inode i == 0) refl)
     where
@@ -35,7 +35,7 @@ module _ (v w : ℕ → List ℕ) (inode after : List ℕ) (direct : (i : ℕ) �
           place_listed b p w few after has' ∙ (ap (there_in b p) entries ∙ sym (place_listed b p v few inode has))))
 
   pub bytes_same : bytes_value w after ≡ bytes_value v inode
-  bytes_same = ap (λ e. map (byte_of w after) (range_with_len 0 (min e 71680))) size ∙ map_on (byte_of w after) (byte_of v inode) 0 (file_end inode) (λ at low high. each at (omega (arith, high)))
+  bytes_same = ap (λ e. map (byte_of w after) (range_with_len 0 (min e most_bytes))) size ∙ map_on (byte_of w after) (byte_of v inode) 0 (file_end inode) (λ at low high. each at (omega (arith, high)))
 
 -- one whose entries and bytes are as before
 value_same : (v w : ℕ → List ℕ) (inode : List ℕ) → SameContents v w inode → inode_value w inode ≡ inode_value v inode

@@ -9,7 +9,7 @@ use Rattle.xn_model.specs.Lives.{StoreState}
 use Rattle.ffs_model.specs.Cuts.{latest}
 use Rattle.ffs_model.specs.Library.{inode_links}
 use Rattle.ffs_lookup.specs.declared.fault.FfsFault.TheVariants.{TooLarge}
-use Rattle.ffs_lookup.specs.Newest.{and_then, byte_of, file_end, file_in, mapped, write_in}
+use Rattle.ffs_lookup.specs.Newest.{and_then, byte_of, file_end, file_in, mapped, most_bytes, write_in}
 use Rattle.ffs_lookup.specs.Files.{Absent, Answer, Directory, File, Files, Free, InodeValue, Unusable, file_of, with_value, written, written_bytes, written_in}
 use Rattle.ffs_lookup.specs.FileValues.{bytes_value, files_of}
 use Rattle.ffs_lookup.proofs.ForCallers.{file_found, file_parts, same_ok}
@@ -192,12 +192,12 @@ file_value content fs n inode e = from (files_of content fs n) (inode_links inod
         let same : (links, bytes) ≡ (l, bs) = same_ok (links, bytes) (l, bs) e in
         λ i. File ((sym same i).0) ((sym same i).1)
 
-pub looked : (content : ℕ → List ℕ) (fs n size : ℕ) (inode : List ℕ) → Ok inode ≡ write_in content fs n size → (Ok inode ≡ file_in content fs n) × (size ≤ 71680)
+pub looked : (content : ℕ → List ℕ) (fs n size : ℕ) (inode : List ℕ) → Ok inode ≡ write_in content fs n size → (Ok inode ≡ file_in content fs n) × (size ≤ most_bytes)
 unfolding write_in
 looked content fs n size inode e =
-    let p = passed (file_in content fs n) (λ i. if nat_lt 71680 size then Err TooLarge else Ok i) inode e in
-    let t = not_first (nat_lt 71680 size) TooLarge (Ok p.0) inode p.2 in
-    (t.1 ∙ p.1, elim (cases_lt 71680 size) [ inl lt ↦ absurd (cc (sym (lt-ltb 71680 size lt) ∙ t.0)) | inr ge ↦ ge ])
+    let p = passed (file_in content fs n) (λ i. if nat_lt most_bytes size then Err TooLarge else Ok i) inode e in
+    let t = not_first (nat_lt most_bytes size) TooLarge (Ok p.0) inode p.2 in
+    (t.1 ∙ p.1, elim (cases_lt most_bytes size) [ inl lt ↦ absurd (cc (sym (lt-ltb most_bytes size lt) ∙ t.0)) | inr ge ↦ ge ])
 
 module _ (old : StoreState) (fs n offset : ℕ) (inode : List ℕ) (is : Ok inode ≡ file_in (latest old.lives) fs n) where
   abbrev v : ℕ → List ℕ
@@ -215,24 +215,24 @@ module _ (old : StoreState) (fs n offset : ℕ) (inode : List ℕ) (is : Ok inod
   abbrev next : List ℕ → Bool → Answer (Unit {0})
   next bytes t = if t then Ok (tt, files) else Ok (tt, with_value files n (File file.0 (written_bytes file.1 offset bytes)))
 
-  pub answer_is : (bytes : List ℕ) → offset + length bytes ≤ 71680 → written files n offset bytes ≡ next bytes (length bytes == 0)
-  answer_is bytes low = ap (λ x. and_then x (written_in files n offset bytes)) file_is ∙ ap (λ (t : Bool). if t then Err TooLarge else next bytes (length bytes == 0)) (le-ltb 71680 (offset + length bytes) low)
+  pub answer_is : (bytes : List ℕ) → offset + length bytes ≤ most_bytes → written files n offset bytes ≡ next bytes (length bytes == 0)
+  answer_is bytes low = ap (λ x. and_then x (written_in files n offset bytes)) file_is ∙ ap (λ (t : Bool). if t then Err TooLarge else next bytes (length bytes == 0)) (le-ltb most_bytes (offset + length bytes) low)
 
   -- no bytes
-  pub none_leads : offset ≤ 71680 → written files n offset [] ≡ Ok (tt, files)
+  pub none_leads : offset ≤ most_bytes → written files n offset [] ≡ Ok (tt, files)
   none_leads low = answer_is [] (omega (arith, low))
 
-  pub some_leads : (bytes : List ℕ) → offset + length bytes ≤ 71680 → length bytes ≢ 0 → written files n offset bytes ≡ Ok (tt, with_value files n (File file.0 (written_bytes file.1 offset bytes)))
+  pub some_leads : (bytes : List ℕ) → offset + length bytes ≤ most_bytes → length bytes ≢ 0 → written files n offset bytes ≡ Ok (tt, with_value files n (File file.0 (written_bytes file.1 offset bytes)))
   some_leads bytes low ne = answer_is bytes low ∙ ap (next bytes) (ne_eqb (length bytes) 0 ne)
 
   -- the bytes are written, and the size is raised
-  pub written_leads : (middle new : StoreState) (bytes bs : List ℕ) → bs ≡ padded (file_end inode) offset bytes → offset + length bytes ≤ 71680 → (a : Puts old middle fs n (min (file_end inode) offset) bs) →
+  pub written_leads : (middle new : StoreState) (bytes bs : List ℕ) → bs ≡ padded (file_end inode) offset bytes → offset + length bytes ≤ most_bytes → (a : Puts old middle fs n (min (file_end inode) offset) bs) →
       IsRaised (latest middle.lives) (latest new.lives) fs n (a.wrote inode is).after (offset + length bytes) → OnlyChanges (latest middle.lives) (latest new.lives) fs n → (x : Unit {0}) →
       Leads (Ok (tt, with_value files n (File file.0 (written_bytes file.1 offset bytes)))) (latest new.lives) fs x
   written_leads middle new bytes bs same low a r others x =
       let w = latest new.lives in
       let k = a.wrote inode is in
-      let end : file_end r.after ≡ max (file_end inode) (offset + length bytes) = ap (λ s. min s 71680) (r.sized ∙ ap (λ s. max s (offset + length bytes)) k.size) ∙ end_raised (word_at inode 4) (offset + length bytes) low in
+      let end : file_end r.after ≡ max (file_end inode) (offset + length bytes) = ap (λ s. min s most_bytes) (r.sized ∙ ap (λ s. max s (offset + length bytes)) k.size) ∙ end_raised (word_at inode 4) (offset + length bytes) low in
       let each : (at : ℕ) → at < file_end r.after → byte_of w r.after at ≡ byte_written (byte_of v inode) (min (file_end inode) offset) (padded (file_end inode) offset bytes) at = λ at less.
       r.each at (omega (arith, less)) ∙ (k.each at (omega (arith, less)) ∙ ap (λ (m : List ℕ). byte_written (byte_of v inode) (min (file_end inode) offset) m at) same) in
       let value : files_of w fs n ≡ File file.0 (written_bytes file.1 offset bytes) = file_value w fs n r.after r.file
@@ -245,7 +245,7 @@ module _ (old : StoreState) (fs n offset : ℕ) (inode : List ℕ) (is : Ok inod
   first_files before bytes done few a =
       let w = latest before.lives in
       let k = a.wrote inode is in
-      let end : file_end k.after ≡ file_end inode = ap (λ s. min s 71680) k.size in
+      let end : file_end k.after ≡ file_end inode = ap (λ s. min s most_bytes) k.size in
       let value : files_of w fs n ≡ File file.0 (first_written file.1 (written_bytes file.1 offset bytes) (min (file_end inode) offset + done)) = file_value w fs n k.after k.file
       ∙ (ap (λ l. File l (bytes_value w k.after)) k.marks.1
       ∙ (ap (λ l. File (inode_links inode) (map (byte_of w k.after) (range_with_len 0 l))) end

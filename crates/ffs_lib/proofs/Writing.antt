@@ -21,7 +21,7 @@ use Rattle.ffs_lookup.specs.Places.{IsFile}
 use Rattle.ffs_lookup.specs.declared.fault.FfsFault.{FfsFault}
 use Rattle.ffs_lookup.specs.declared.fault.FfsFault.TheVariants.{IsDir}
 use Rattle.ffs_lib.specs.Edits.{edit_at}
-use Rattle.ffs_lookup.specs.Newest.{and_then, byte_in, byte_of, file_block, file_in, if_file, inode_in}
+use Rattle.ffs_lookup.specs.Newest.{and_then, byte_in, byte_of, file_block, file_in, if_file, inode_in, most_bytes}
 use Rattle.ffs_lib.specs.Outcomes.{HasBlock, IsRaised}
 use Rattle.ffs_lib.specs.Results.{WroteBytes}
 use Rattle.ffs_lib.specs.Results.{SameInode, byte_written}
@@ -80,7 +80,7 @@ put_byte m at bs fit k = elim (cases_written at (length bs) k) [
 
 -- of a file, block by block
 pub written_by : (f h : ℕ → ℕ → ℕ) (index at : ℕ) (bs : List ℕ) → at + length bs ≤ 512 → ((i k : ℕ) → i < 140 → i ≢ index → h i k ≡ f i k) → ((k : ℕ) → k < 512 → h index k ≡ byte_written (f index) at bs k) →
-    (x : ℕ) → x < 71680 → h (x / 512) (x % 512) ≡ byte_written (λ y. f (y / 512) (y % 512)) (512 * index + at) bs x
+    (x : ℕ) → x < most_bytes → h (x / 512) (x % 512) ≡ byte_written (λ y. f (y / 512) (y % 512)) (512 * index + at) bs x
 written_by f h index at bs fit others here x low =
     let g : ℕ → ℕ = λ y. f (y / 512) (y % 512) in
     elim (cases_eq (x / 512) index) [
@@ -431,19 +431,19 @@ indirect_block content inode last place e ne =
     pointed_block content inode (12 + place) (omega arith) (λ z. ne (sym e ∙ z)) ∙ (ap (λ c. pointer_word (content c) (12 + place - 12)) e ∙ ap (λ j. pointer_word (content last) j) less)
 
 -- the ends of files
-pub end_raised : (a s : ℕ) → s ≤ 71680 → min (max a s) 71680 ≡ max (min a 71680) s
+pub end_raised : (a s : ℕ) → s ≤ most_bytes → min (max a s) most_bytes ≡ max (min a most_bytes) s
 end_raised a s low = elim (cases_lt a s) [
   | inl lt ↦
       let up : max a s ≡ s = max-eq_right (omega (arith, lt)) in
-      let end : min s 71680 ≡ s = min-eq_left low in
-      let own : min a 71680 ≡ a = min-eq_left (omega (arith, lt, low)) in
-      ap (λ x. min x 71680) up ∙ (end ∙ (sym up ∙ ap (λ x. max x s) (sym own)))
+      let end : min s most_bytes ≡ s = min-eq_left low in
+      let own : min a most_bytes ≡ a = min-eq_left (omega (arith, lt, low)) in
+      ap (λ x. min x most_bytes) up ∙ (end ∙ (sym up ∙ ap (λ x. max x s) (sym own)))
   | inr ge ↦
       let same : max a s ≡ a = max-eq_left ge in
-      let least : s ≤ min a 71680 = elim (cases_lt a 71680) [
-        | inl lt ↦ (let own : min a 71680 ≡ a = min-eq_left (omega (arith, lt)) in subst (λ x. s ≤ x) (sym own) ge)
-        | inr more ↦ (let own : min a 71680 ≡ 71680 = min-eq_right more in subst (λ x. s ≤ x) (sym own) low)
+      let least : s ≤ min a most_bytes = elim (cases_lt a most_bytes) [
+        | inl lt ↦ (let own : min a most_bytes ≡ a = min-eq_left (omega (arith, lt)) in subst (λ x. s ≤ x) (sym own) ge)
+        | inr more ↦ (let own : min a most_bytes ≡ most_bytes = min-eq_right more in subst (λ x. s ≤ x) (sym own) low)
       ] in
-      let rest : max (min a 71680) s ≡ min a 71680 = max-eq_left least in
-      ap (λ x. min x 71680) same ∙ sym rest
+      let rest : max (min a most_bytes) s ≡ min a most_bytes = max-eq_left least in
+      ap (λ x. min x most_bytes) same ∙ sym rest
 ]

@@ -14,7 +14,7 @@ use Rattle.ffs_model.specs.Library.{inode_at, inode_blocks, inode_links, library
 use Rattle.xn_model.specs.Rules.{IsConsistent}
 use Rattle.ffs_format.specs.Fields.{fields_of}
 use Rattle.ffs_lookup.specs.FileValues.{place_in}
-use Rattle.ffs_lookup.specs.Newest.{byte_of, directory_in, file_block, file_in, has_empty_pointer, inode_block_in, root_in}
+use Rattle.ffs_lookup.specs.Newest.{byte_of, directory_in, file_block, file_in, has_empty_pointer, inode_block_in, most_bytes, root_in}
 use Rattle.ffs_lib.specs.Results.{SameInode, SameMarks}
 
 abbrev pub Keeps : Types → ℕ → StoreState → StoreState → Type 0
@@ -68,7 +68,7 @@ pub record IsRaised (old new : ℕ → List ℕ) (fs n : ℕ) (inode : List ℕ)
   pub file : Ok after ≡ file_in new fs n
   pub sized : word_at after 4 ≡ max (word_at inode 4) size
   pub marks : SameMarks inode after
-  pub each : (at : ℕ) → at < 71680 → byte_of new after at ≡ byte_of old inode at
+  pub each : (at : ℕ) → at < most_bytes → byte_of new after at ≡ byte_of old inode at
 
 -- What stands after the edits that make a volume
 --     FirstInodes       these bytes are the first block of inodes, and the inodes of others are as before

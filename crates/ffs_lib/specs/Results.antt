@@ -23,12 +23,12 @@ use Rattle.ffs_lookup.specs.declared.places.Slot.{Slot}
 use Rattle.ffs_lookup.specs.declared.places.Room.TheVariants.{Entry, Pointer}
 use Rattle.ffs_format.specs.Fields.{direct_in, fields_of}
 use Rattle.ffs_lookup.specs.FileValues.{place_in}
-use Rattle.ffs_lookup.specs.Newest.{byte_of, directory_in, file_in, has_room, inode_in, is_at, listing, number_in, room_in, root_in}
+use Rattle.ffs_lookup.specs.Newest.{byte_of, directory_in, file_in, has_room, inode_in, is_at, listing, most_bytes, number_in, room_in, root_in}
 
 -- Inodes that stay
 
 abbrev pub SameContents : (ℕ → List ℕ) → (ℕ → List ℕ) → List ℕ → Type 0
-SameContents old new inode = (listing new inode ≡ listing old inode) × ((at : ℕ) → at < 71680 → byte_of new inode at ≡ byte_of old inode at)
+SameContents old new inode = (listing new inode ≡ listing old inode) × ((at : ℕ) → at < most_bytes → byte_of new inode at ≡ byte_of old inode at)
 
 abbrev pub SameUse : (ℕ → List ℕ) → (ℕ → List ℕ) → ℕ → ℕ → Type 0
 SameUse old new fs n = (inode_in new fs n ≡ inode_in old fs n) × ((inode : List ℕ) → Ok inode ≡ inode_in old fs n → SameContents old new inode)
@@ -113,7 +113,7 @@ pub record WroteBytes (old new : ℕ → List ℕ) (fs n : ℕ) (inode : List �
   pub file : Ok after ≡ file_in new fs n
   pub size : word_at after 4 ≡ word_at inode 4
   pub marks : SameMarks inode after
-  pub each : (at : ℕ) → at < 71680 → byte_of new after at ≡ byte_written (byte_of old inode) start bytes at
+  pub each : (at : ℕ) → at < most_bytes → byte_of new after at ≡ byte_written (byte_of old inode) start bytes at
 
 -- Inodes that are as before but for their links
 
@@ -123,7 +123,7 @@ pub record IsAs (old new : ℕ → List ℕ) (fs d : ℕ) (inode : List ℕ) : T
   pub mode : inode_mode after ≡ inode_mode inode
   pub size : word_at after 4 ≡ word_at inode 4
   pub entries : listing new after ≡ listing old inode
-  pub each : (at : ℕ) → at < 71680 → byte_of new after at ≡ byte_of old inode at
+  pub each : (at : ℕ) → at < most_bytes → byte_of new after at ≡ byte_of old inode at
   pub direct : (fields_of after).direct ≡ (fields_of inode).direct
   pub room : has_room new after ≡ has_room old inode
 

@@ -26,7 +26,7 @@ use Rattle.ffs_lookup.specs.Files.{Answer, Blocks, Directory, File, Files, Inode
 use Rattle.ffs_lookup.specs.Files.{entry_named, is_same, links_of, look_up, room}
 use Rattle.ffs_lookup.specs.Files.{with_block, with_entry, with_value, without_link}
 use Rattle.ffs_lookup.specs.FileValues.{files_of, place_in}
-use Rattle.ffs_lookup.specs.Newest.{and_then, byte_of, directory_in, inode_in, is_short, listing}
+use Rattle.ffs_lookup.specs.Newest.{and_then, byte_of, directory_in, inode_in, is_short, listing, most_bytes}
 use Rattle.ffs_lib.specs.Making.{StopsTop}
 use Rattle.ffs_lib.specs.Results.{IsAs, IsExtended, OthersSame, SameContents, SameOrNew, new_inode}
 use Rattle.ffs_lib.specs.Steps.{StopsAtHome, StopsEntering, StopsGrowing, Wants, WantsHome, WantsPointers, newest_block}
@@ -170,7 +170,7 @@ pub record Unnames (old new : ℕ → List ℕ) (fs d n : ℕ) : Type 0 where
 -- The bytes of an inode are 0 behind the 12 blocks to which it points itself, and else it has its bytes and its entries.
 abbrev pub AreEmptied : (ℕ → List ℕ) → (ℕ → List ℕ) → List ℕ → Type 0
 AreEmptied old new inode =
-    (listing new inode ≡ listing old inode) × ((at : ℕ) → at < 71680 → byte_of new inode at ≡ (if nat_lt at 6144 then byte_of old inode at else 0))
+    (listing new inode ≡ listing old inode) × ((at : ℕ) → at < most_bytes → byte_of new inode at ≡ (if nat_lt at 6144 then byte_of old inode at else 0))
 
 -- An inode has its 64 bytes, and its entries and all its bytes; or it is emptied so.
 abbrev pub KeptOrEmptied : (ℕ → List ℕ) → (ℕ → List ℕ) → ℕ → ℕ → Type 0

@@ -25,7 +25,7 @@ use Rattle.ffs_model.specs.Library.{inode_mode}
 use Rattle.ffs_lookup.specs.declared.fault.FfsFault.{FfsFault}
 use Rattle.ffs_lookup.specs.declared.fault.FfsFault.TheVariants.{Kernel}
 use Rattle.ffs_lookup.specs.Files.{Answer, File, Files, file_of, with_value, written, written_bytes}
-use Rattle.ffs_lookup.specs.Newest.{byte_of, file_end, file_in, is_short}
+use Rattle.ffs_lookup.specs.Newest.{byte_of, file_end, file_in, is_short, most_bytes}
 use Rattle.ffs_lib.specs.Results.{OnlyChanges, byte_written}
 use Rattle.ffs_lib.specs.Stages.{IsRefused, IsStage, OfInode, OfPart, Stages, stages_of}
 use Rattle.ffs_lib.specs.Steps.{newest_block}
@@ -113,10 +113,10 @@ pub record Overwrites (old new : ℕ → List ℕ) (fs n : ℕ) (inode : List �
   pub after : List ℕ
   pub file : Ok after ≡ file_in new fs n
   pub mode : inode_mode after ≡ inode_mode inode
-  pub size : 71680 ≤ word_at inode 4 → word_at after 4 ≡ word_at inode 4
+  pub size : most_bytes ≤ word_at inode 4 → word_at after 4 ≡ word_at inode 4
   pub few : done ≤ length (padded (file_end inode) offset bytes)
   pub border : done < length (padded (file_end inode) offset bytes) → IsBorder (file_end inode) offset done
-  pub each : (at : ℕ) → at < 71680 → byte_of new after at ≡ byte_written (byte_of old inode) (min (file_end inode) offset)
+  pub each : (at : ℕ) → at < most_bytes → byte_of new after at ≡ byte_written (byte_of old inode) (min (file_end inode) offset)
       (take done (padded (file_end inode) offset bytes)) at
 
 -- All are written; or the next part is asked for there, or the size.

@@ -11,7 +11,7 @@ ghost use Rattle.xn_model.specs.Lives.{StoreState};
 ghost use Rattle.ffs_model.specs.Cuts.{Under, latest};
 ghost use Rattle.ffs_model.specs.Library.{IsLibrary, pointer_word};
 ghost use Rattle.ffs_format.specs.Fields.{direct_in};
-ghost use Rattle.ffs_lookup.specs.Newest.{byte_in, byte_of, file_block, file_end, file_in, mapped, write_in};
+ghost use Rattle.ffs_lookup.specs.Newest.{byte_in, byte_of, file_block, file_end, file_in, mapped, most_bytes, write_in};
 ghost use Rattle.ffs_lookup.specs.declared.fault.FfsFault.TheVariants.{Kernel};
 ghost use Rattle.xn_model.specs.declared.refusal.Refusal.TheVariants.{TooManyPending};
 ghost use Rattle.ffs_lib.specs.Outcomes.{IsRaised};
@@ -390,7 +390,7 @@ fn write_part<S: Store>(
     bytes: &[u8],
     progress: Progress,
 ) -> Progress
-    requires within { offset + length bytes.now ≤ 71680 }
+    requires within { offset + length bytes.now ≤ most_bytes }
     requires some { min end offset + progress.done < offset + length bytes.now }
     requires none { progress.fault ≡ None }
     ensures types { S.types_of store.new ≡ S.types_of store.old }
@@ -471,8 +471,8 @@ pub fn look_up_end<S: Store>(
     offset: usize,
     count: usize,
 ) -> Result<usize, FfsFault>
-    ensures within { OnOk result (offset + count ≤ 71680) }
-    ensures few { IfOk result (λ end. end ≤ 71680) }
+    ensures within { OnOk result (offset + count ≤ most_bytes) }
+    ensures few { IfOk result (λ end. end ≤ most_bytes) }
     ensures exact { IsLibrary (S.types_of store.now) → result
         ≡ mapped file_end (write_in (newest_block (S.state_of store.now)) fs.number number (offset + count)) }
 {
@@ -493,7 +493,7 @@ pub fn write_parts<S: Store>(
     offset: usize,
     bytes: &[u8],
 ) -> Progress
-    requires within { offset + length bytes.now ≤ 71680 }
+    requires within { offset + length bytes.now ≤ most_bytes }
     ensures types { S.types_of store.new ≡ S.types_of store.old }
     ensures few { min end offset + result.done ≤ offset + length bytes.now }
     ensures whole { result.fault ≡ None → min end offset + result.done ≡ offset + length bytes.now }
@@ -587,7 +587,7 @@ pub fn read_part<S: Store>(
     bytes: &mut [u8],
 ) -> Result<(), FfsFault>
     requires file { IsFile (S.state_of store.now) fs.number number file.now }
-    requires few { at < 71680 }
+    requires few { at < most_bytes }
     requires within { at % 512 + length bytes.old ≤ 512 }
     ensures bytes { OnOk result (bytes.new ≡ map (byte_of (latest (S.state_of store.now).lives) file.now.inode) (range_with_len at (length bytes.old))) }
     ensures reached { IsLibrary (S.types_of store.now) → IsOk result }

@@ -10,7 +10,7 @@ use Rattle.std.proofs.lemmas.Slice.Eq.{bytes_eq-Decides}
 use Rattle.ffs_format.specs.Entries.{is_name}
 use Rattle.ffs_lookup.specs.declared.fault.FfsFault.{FfsFault}
 use Rattle.ffs_lookup.specs.declared.fault.FfsFault.TheVariants.{NoEntry, Exists, NotDir, IsDir, DirNotEmpty, BadName, TooLarge, NoInode}
-use Rattle.ffs_lookup.specs.Newest.{and_then, mapped}
+use Rattle.ffs_lookup.specs.Newest.{and_then, mapped, most_bytes}
 use Rattle.ffs_lookup.specs.Files.{Absent, Answer, AreSingle, Blocks, Directory, Entry, File, Files, Free, InodeValue, IsPlace, IsSingle, Unusable, directory_block, both_directories, cleared, created, directories, directory_of, empty_volume, entry_at, entry_named, file_of, free_number, in_use, is_absent, is_bare, is_directory, is_named, is_same, less_a_link, links_of, look_up, made_at, made_in, moved, moved_in, new_directory, new_file, positions, positions_in, put_entry, removed, renamed, replaced, replaced_in, room, turned, unlinked, with_block, with_entry, with_entry_in, with_value, without_link, written, written_bytes, written_in}
 use Rattle.ffs_lookup.proofs.Finds.{find_flat, find_map, first_of, first_within, found_holds, found_within}
 
@@ -305,7 +305,7 @@ module _ (files : Files) (single : AreSingle files) where
   pub written_single : (n offset : ℕ) (bytes : List ℕ) (next : Unit {0} × Files) → written files n offset bytes ≡ Ok next → AreSingle next.1
   written_single n offset bytes next e =
       let p = came (file_of (files n)) (written_in files n offset bytes) next e in
-      go p.0 (nat_lt 71680 (offset + length bytes)) (length bytes == 0) p.2
+      go p.0 (nat_lt most_bytes (offset + length bytes)) (length bytes == 0) p.2
     where
       go : (file : ℕ × List ℕ) (t u : Bool) → (if t then Err TooLarge else if u then Ok (tt {0}, files) else Ok (tt {0}, with_value files n (File file.0 (written_bytes file.1 offset bytes)))) ≡ Ok next → AreSingle next.1
       go file true u f = absurd (cc f)

@@ -8,7 +8,7 @@ use Rattle.ffs_model.specs.Library.{inode_at, inode_links, pointer_word}
 use Rattle.ffs_format.specs.Entries.{is_name}
 use Rattle.ffs_lookup.specs.declared.fault.FfsFault.{FfsFault}
 use Rattle.ffs_lookup.specs.declared.fault.FfsFault.TheVariants.{NoEntry, Exists, BadName, TooLarge, NoInode}
-use Rattle.ffs_lookup.specs.Newest.{and_then, mapped, byte_of, bytes_from, create_in, directory_in, file_end, file_in, first_named, has_room, if_directory, if_new, if_room, inode_in, inode_block_in, names_in, names_of, number_in, read_count, read_into, root_in, unless_unused, unless_zero, write_in}
+use Rattle.ffs_lookup.specs.Newest.{and_then, mapped, byte_of, bytes_from, create_in, directory_in, file_end, file_in, first_named, has_room, if_directory, if_new, if_room, inode_in, inode_block_in, names_in, names_of, number_in, read_count, read_into, root_in, unless_unused, unless_zero, write_in, most_bytes}
 use Rattle.ffs_lookup.specs.Files.{Answer, Blocks, File, Files, InodeValue, created, directory_of, entry_at, file_of, free_number, listed, look_up, made_at, made_in, positions, read, read_over, room, fault_told, with_value, written, written_bytes, written_in}
 use Rattle.ffs_lookup.specs.FileValues.{blocks_value, bytes_value, files_of}
 use Rattle.ffs_lookup.proofs.Values.{directory_found, directory_parts, file_found, file_parts}
@@ -149,6 +149,6 @@ module _ (content : ℕ → List ℕ) (fs n offset : ℕ) (bytes : List ℕ) whe
       tests inode false false = refl
 
       go : (r : Result (List ℕ) FfsFault) → mapped (file_parts content) r ≡ file_of (files_of content fs n) →
-          fault_told (and_then r (λ inode. if nat_lt 71680 (offset + length bytes) then Err TooLarge else Ok inode)) ≡ fault_told (written (files_of content fs) n offset bytes)
+          fault_told (and_then r (λ inode. if nat_lt most_bytes (offset + length bytes) then Err TooLarge else Ok inode)) ≡ fault_told (written (files_of content fs) n offset bytes)
       go (Err fault) h = ap (λ x. fault_told (and_then x (written_in (files_of content fs) n offset bytes))) h
-      go (Ok inode) h = tests inode (nat_lt 71680 (offset + length bytes)) (length bytes == 0) ∙ ap (λ x. fault_told (and_then x (written_in (files_of content fs) n offset bytes))) h
+      go (Ok inode) h = tests inode (nat_lt most_bytes (offset + length bytes)) (length bytes == 0) ∙ ap (λ x. fault_told (and_then x (written_in (files_of content fs) n offset bytes))) h

@@ -21,7 +21,7 @@ use Rattle.std.specs.Option.{ok_or, option_or}
 use Rattle.ffs_format.specs.Entries.{is_name}
 use Rattle.ffs_lookup.specs.declared.fault.FfsFault.{FfsFault}
 use Rattle.ffs_lookup.specs.declared.fault.FfsFault.TheVariants.{NoEntry, Exists, NotDir, IsDir, DirNotEmpty, BadName, TooLarge, NoInode}
-use Rattle.ffs_lookup.specs.Newest.{and_then, mapped}
+use Rattle.ffs_lookup.specs.Newest.{and_then, mapped, most_bytes}
 
 -- Values
 
@@ -203,7 +203,7 @@ written_bytes old offset new = take offset old ++ replicate (offset - length old
 -- no bytes change nothing
 abbrev pub written_in : Files → ℕ → ℕ → List ℕ → ℕ × List ℕ → Answer (Unit {0})
 written_in files n offset bytes file =
-    if nat_lt 71680 (offset + length bytes) then Err TooLarge
+    if nat_lt most_bytes (offset + length bytes) then Err TooLarge
     else if length bytes == 0 then Ok (tt, files)
     else Ok (tt, with_value files n (File file.0 (written_bytes file.1 offset bytes)))
 

@@ -6,6 +6,7 @@
 --     name_at, first_named, named_in              an entry's name; the first entry with a name, as `None` or as a fault where there is none
 --     listing, without_entry                      the entries of a directory with their names; without one of them
 --     names_of, names_in                          the names of a directory and the inodes that they name
+--     most_bytes                                  how many bytes a file has at most
 --     file_end, byte_of, bytes_from               where a file ends; its byte at an offset, 0 in a hole; its bytes from an offset on, up to its end
 --     read_count, read_into                       how many bytes a read answers, and what it leaves of those that it was given
 --     room_in, number_in, IsLowest                where a directory has room for an entry; the number of the lowest free inode; a look-up for it
@@ -148,8 +149,12 @@ byte_in content block at = if block == 0 then 0 else get_or (content block) at 0
 abbrev pub byte_of : (ℕ → List ℕ) → List ℕ → ℕ → ℕ
 byte_of content inode at = byte_in content (file_block content inode (at / 512)) (at % 512)
 
+-- 140 blocks: 12 that the inode points to, and 128 more
+abbrev pub most_bytes : ℕ
+most_bytes = 71680
+
 abbrev pub file_end : List ℕ → ℕ
-file_end inode = min (word_at inode 4) 71680
+file_end inode = min (word_at inode 4) most_bytes
 
 -- at most so many bytes from an offset on
 abbrev pub bytes_from : (ℕ → List ℕ) → List ℕ → ℕ → ℕ → List ℕ
@@ -180,7 +185,7 @@ unfoldable pub make_in : (ℕ → List ℕ) → ℕ → Result Bool FfsFault
 make_in content fs = if_makeable content (slot (content 0) fs)
 
 unfoldable pub write_in : (ℕ → List ℕ) → ℕ → ℕ → ℕ → Result (List ℕ) FfsFault
-write_in content fs n size = and_then (file_in content fs n) (λ inode. if nat_lt 71680 size then Err TooLarge else Ok inode)
+write_in content fs n size = and_then (file_in content fs n) (λ inode. if nat_lt most_bytes size then Err TooLarge else Ok inode)
 
 unfoldable pub unlink_in : (ℕ → List ℕ) → ℕ → ℕ → List ℕ → Result Slot FfsFault
 unlink_in content fs n name = and_then (named_in content fs n name) (λ entry. mapped (λ inode. entry) (file_in content fs entry.inode))

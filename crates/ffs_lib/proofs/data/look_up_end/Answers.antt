@@ -3,7 +3,7 @@ use Rattle.std.specs.Prelude.{min}
 use Rattle.std.proofs.lemmas.Result.{err_from_is_err_and}
 use Rattle.ffs_model.specs.Cuts.{latest}
 use Rattle.ffs_lookup.specs.declared.fault.FfsFault.{FfsFault}
-use Rattle.ffs_lookup.specs.Newest.{file_end, mapped}
+use Rattle.ffs_lookup.specs.Newest.{file_end, mapped, most_bytes}
 use Rattle.ffs_lib.proofs.Refusals.{fits_file, too_large, write_nothing}
 use Rattle.ffs_lib.proofs.data.look_up_end.Goals as goal
 use Rattle.ffs_lib.proofs.data.look_up_end.Goals.{then-offset-gt-MOST_BYTES-via-then-offset-gt-MOST_BYTES, then-offset-gt-MOST_BYTES-via-else-offset-gt-MOST_BYTES+then-count-offset}
@@ -17,7 +17,7 @@ returns-in_err-file-clause-exact g c = λ lib.
 pub returns-then-offset-gt-MOST_BYTES-clause-exact : goal.returns-then-offset-gt-MOST_BYTES-clause-exact
 returns-then-offset-gt-MOST_BYTES-clause-exact g c = λ lib.
     let size : ℕ = c.args.offset + c.args.count in
-    let large : 71680 < size =
+    let large : most_bytes < size =
     elim c.then-offset-gt-MOST_BYTES.branch [ then-offset-gt-MOST_BYTES-via-then-offset-gt-MOST_BYTES w ↦ omega arith | then-offset-gt-MOST_BYTES-via-else-offset-gt-MOST_BYTES+then-count-offset w ↦ omega arith ] in
     ap (mapped file_end) (too_large (latest (g.S.Store.state_of c.args.store.now).lives) c.args.fs.number c.args.number size c.in_ok-file.file.inode (c.in_ok-file.ensures.exact lib) large)
 
@@ -25,6 +25,6 @@ pub returns-clause-exact : goal.returns-clause-exact
 returns-clause-exact g c = λ lib.
     let content = latest (g.S.Store.state_of c.args.store.now).lives in
     let inode = c.in_ok-file.file.inode in
-    let end : c.min.result ≡ file_end inode = c.min.ensures ∙ ap (λ (k : ℕ). min k 71680) c.size.ensures in
+    let end : c.min.result ≡ file_end inode = c.min.ensures ∙ ap (λ (k : ℕ). min k most_bytes) c.size.ensures in
     let one : ◌≡◌ {A = Result ℕ FfsFault} (Ok c.min.result) (Ok (file_end inode)) = ap (λ (k : ℕ). Ok k) end in
     one ∙ ap (mapped file_end) (fits_file content c.args.fs.number c.args.number (c.args.offset + c.args.count) inode (c.in_ok-file.ensures.exact lib) (omega arith))
