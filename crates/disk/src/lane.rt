@@ -1,8 +1,19 @@
-ghost use Rattle.std.specs.Prelude.{◌≡◌, ℕ, List, ◌⊎◌, OnOk, OnErr, Result};
-ghost use Rattle.disk.specs.Lanes.{CountsOne, LeavesNoMore, LeavesOnly, LeavesAlso};
+ghost use Rattle.std.specs.Prelude.{◌≡◌, ℕ, List, ◌⊎◌, OnOk, OnErr, IfOk, Result};
+ghost use Rattle.disk.specs.Lanes.{CountsOne, LeavesNoMore, LeavesOnly, LeavesAlso, done_or, other_than};
 
 /// How many bytes a block has.
 pub const BLOCK_LEN: usize = 512;
+
+/// The second bytes, where they differ from the first.
+#[inline(always)]
+pub(crate) fn other_than(
+    first: &[u8; BLOCK_LEN],
+    second: &[u8; BLOCK_LEN],
+) -> Option<[u8; BLOCK_LEN]>
+    ensures { result ≡ other_than first.now second.now }
+{
+    if second == first { None } else { Some(*second) }
+}
 
 /// The device failed to do what it was asked.
 #[derive(Clone, Copy, Debug, PartialEq, Eq)]
@@ -62,6 +73,22 @@ pub trait Lane {
         ensures faults_ok { OnOk result (faults_of self.new ≡ faults_of self.old) }
         ensures faults_err { OnErr result (CountsOne (faults_of self.old) (faults_of self.new)) }
         ensures gives { read_gives self.old result self.new };
+
+    /// Reads the block, and compares it with these bytes. Answers what it holds where that differs, so that nothing is copied
+    /// where it doesn't.
+    fn compare(&mut self, with: &[u8; BLOCK_LEN]) -> Result<Option<[u8; BLOCK_LEN]>, DeviceFault>
+        ensures compared { IfOk result (λ other. other ≡ other_than with.now (bytes_of self.old)) }
+        ensures bytes { bytes_of self.new ≡ bytes_of self.old }
+        ensures crash { LeavesNoMore (crash_leaves self.old) (crash_leaves self.new) }
+        ensures number { number_of self.new ≡ number_of self.old }
+        ensures faults_ok { OnOk result (faults_of self.new ≡ faults_of self.old) }
+        ensures faults_err { OnErr result (CountsOne (faults_of self.old) (faults_of self.new)) }
+        ensures gives { read_gives self.old (done_or result) self.new }
+    {
+        let mut bytes = [0; BLOCK_LEN];
+        self.read(&mut bytes)?;
+        Ok(other_than(with, &bytes))
+    }
 
     /// Writes the block in one step.
     fn write(&mut self, from: &[u8; BLOCK_LEN]) -> Result<(), DeviceFault>

@@ -7,7 +7,7 @@ ghost use Rattle.disk.specs.Mem.{synced, crashed_lane, memory_read, memory_write
 ghost use Rattle.disk.specs.Mem.{memory_sync, memory_leaves, IsGivenAfterFault};
 
 use crate::blocks::Blocks;
-use crate::lane::{BLOCK_LEN, DeviceFault, Lane};
+use crate::lane::{BLOCK_LEN, DeviceFault, Lane, other_than};
 use crate::lanes::Lanes;
 use std::alloc::{AllocError, Global};
 use std::marker::Model;
@@ -123,6 +123,20 @@ impl MemLane {
         self.held.open_write = OpenWrite::Absent;
     }
 
+    /// Fails where a read was told to, and then counts one fault and forgets what it was told.
+    #[inline(always)]
+    fn fail_if_told(&mut self) -> Result<(), DeviceFault>
+        ensures gives { memory_read self.old result self.new }
+        ensures counts { OnErr result (CountsOne self.old.faults self.new.faults) }
+    {
+        if !self.held.read_fault {
+            return Ok(());
+        }
+        self.held.read_fault = false;
+        self.held.faults = self.held.faults.wrapping_add(1);
+        Err(DeviceFault)
+    }
+
     /// A write was given these bytes, and a read finds them.
     fn put(&mut self, from: &[u8; BLOCK_LEN])
         ensures { self.new ≡ record self.old { bytes = from.now; given = Some from.now } }
@@ -185,13 +199,16 @@ impl Lane for MemLane {
         ensures kept { OnErr result (into.new ≡ into.old) }
         ensures counts { OnErr result (CountsOne self.old.faults self.new.faults) }
     {
-        if self.held.read_fault {
-            self.held.read_fault = false;
-            self.held.faults = self.held.faults.wrapping_add(1);
-            return Err(DeviceFault);
-        }
+        self.fail_if_told()?;
         *into = *self.held.blocks.bytes();
         Ok(())
+    }
+
+    /// Fails where a read would, and else compares in place.
+    #[inline(always)]
+    fn compare(&mut self, with: &[u8; BLOCK_LEN]) -> Result<Option<[u8; BLOCK_LEN]>, DeviceFault> {
+        self.fail_if_told()?;
+        Ok(other_than(with, self.held.blocks.bytes()))
     }
 
     /// Fails exactly where it was told to, with the bytes that it was told to leave, and then counts one fault and forgets

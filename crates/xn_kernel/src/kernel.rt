@@ -217,11 +217,13 @@ impl<L: Lane> Kernel<L> {
         if ticket.unsynced {
             return Err((ticket, Refusal::NotSynced));
         }
-        let mut bytes = [0u8; 512];
-        if ticket.lane.read(&mut bytes).is_err() {
+        let Some(newest) = self.state.newest(ticket.block) else {
+            unreachable!()
+        };
+        let Ok(other) = ticket.lane.compare(newest) else {
             return Err((ticket, Refusal::Device));
-        }
-        match self.state.settled(ticket.block, &bytes) {
+        };
+        match self.state.settled_unless(ticket.block, other.as_ref()) {
             Err(refusal) => Err((ticket, refusal)),
             Ok((durable, freed)) => match self.lanes.give(ticket.into_lane()) {
                 Ok(()) => Ok(Landed { durable, freed }),
