@@ -1,4 +1,4 @@
-use Rattle.std.specs.Prelude.{◌≡◌, ◌⊎◌, ◌≢◌, ℕ, ◌+◌, ◌%◌, ◌^◌, ◌<◌, List, length, Option, Some, None, Result, Ok, Err, slice_get, bytes_eq, if◌then◌else◌}
+use Rattle.std.specs.Prelude.{◌≡◌, ◌⊎◌, ◌≢◌, ℕ, ◌+◌, ◌%◌, ◌^◌, ◌<◌, List, length, Option, Some, Result, Ok, Err, slice_get}
 
 -- A device fault adds one to the count of faults, which starts again at 0 after the greatest number.
 pub record CountsOne (old new : ℕ) : Type 0 where
@@ -32,12 +32,6 @@ LeavesAlso leaves bytes left = leaves left ⊎ (left ≡ bytes)
 abbrev pub AreSynced : {L : Type 0} → (L → List ℕ) → (L → List ℕ → Type 0) → List (Option L) → Type 0
 AreSynced {L} bytes_of crash_leaves places =
     (k : ℕ) (lane : L) → slice_get places k ≡ Some (Some lane) → LeavesOnly (bytes_of lane) (crash_leaves lane)
-
--- What a comparison of a block answers
-
--- the second bytes, where they differ from the first
-abbrev pub other_than : List ℕ → List ℕ → Option (List ℕ)
-other_than first second = if bytes_eq second first then None else Some second
 
 -- that it was done, or what it failed by
 abbrev pub done_or : {T E : Type 0} → Result T E → Result (Unit {0}) E

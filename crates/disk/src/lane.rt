@@ -1,19 +1,8 @@
-ghost use Rattle.std.specs.Prelude.{◌≡◌, ℕ, List, ◌⊎◌, OnOk, OnErr, IfOk, Result};
-ghost use Rattle.disk.specs.Lanes.{CountsOne, LeavesNoMore, LeavesOnly, LeavesAlso, done_or, other_than};
+ghost use Rattle.std.specs.Prelude.{◌≡◌, ℕ, List, ◌⊎◌, OnOk, OnErr, IfOk, Result, false, bytes_eq};
+ghost use Rattle.disk.specs.Lanes.{CountsOne, LeavesNoMore, LeavesOnly, LeavesAlso, done_or};
 
 /// How many bytes a block has.
 pub const BLOCK_LEN: usize = 512;
-
-/// The second bytes, where they differ from the first.
-#[inline(always)]
-pub(crate) fn other_than(
-    first: &[u8; BLOCK_LEN],
-    second: &[u8; BLOCK_LEN],
-) -> Option<[u8; BLOCK_LEN]>
-    ensures { result ≡ other_than first.now second.now }
-{
-    if second == first { None } else { Some(*second) }
-}
 
 /// The device failed to do what it was asked.
 #[derive(Clone, Copy, Debug, PartialEq, Eq)]
@@ -74,10 +63,15 @@ pub trait Lane {
         ensures faults_err { OnErr result (CountsOne (faults_of self.old) (faults_of self.new)) }
         ensures gives { read_gives self.old result self.new };
 
-    /// Reads the block, and compares it with these bytes. Answers what it holds where that differs, so that nothing is copied
-    /// where it doesn't.
-    fn compare(&mut self, with: &[u8; BLOCK_LEN]) -> Result<Option<[u8; BLOCK_LEN]>, DeviceFault>
-        ensures compared { IfOk result (λ other. other ≡ other_than with.now (bytes_of self.old)) }
+    /// Reads the block, and compares it with these bytes. Answers whether they stand there; where they don't, `other` has what does,
+    /// and else what it holds is left open.
+    fn compare(
+        &mut self,
+        with: &[u8; BLOCK_LEN],
+        other: &mut [u8; BLOCK_LEN],
+    ) -> Result<bool, DeviceFault>
+        ensures same { IfOk result (λ same. same ≡ bytes_eq (bytes_of self.old) with.now) }
+        ensures other { IfOk result (λ same. same ≡ false → other.new ≡ bytes_of self.old) }
         ensures bytes { bytes_of self.new ≡ bytes_of self.old }
         ensures crash { LeavesNoMore (crash_leaves self.old) (crash_leaves self.new) }
         ensures number { number_of self.new ≡ number_of self.old }
@@ -85,9 +79,8 @@ pub trait Lane {
         ensures faults_err { OnErr result (CountsOne (faults_of self.old) (faults_of self.new)) }
         ensures gives { read_gives self.old (done_or result) self.new }
     {
-        let mut bytes = [0; BLOCK_LEN];
-        self.read(&mut bytes)?;
-        Ok(other_than(with, &bytes))
+        self.read(other)?;
+        Ok(*other == *with)
     }
 
     /// Writes the block in one step.

@@ -7,7 +7,7 @@ ghost use Rattle.disk.specs.Mem.{synced, crashed_lane, memory_read, memory_write
 ghost use Rattle.disk.specs.Mem.{memory_sync, memory_leaves, IsGivenAfterFault};
 
 use crate::blocks::Blocks;
-use crate::lane::{BLOCK_LEN, DeviceFault, Lane, other_than};
+use crate::lane::{BLOCK_LEN, DeviceFault, Lane};
 use crate::lanes::Lanes;
 use std::alloc::{AllocError, Global};
 use std::marker::Model;
@@ -204,11 +204,20 @@ impl Lane for MemLane {
         Ok(())
     }
 
-    /// Fails where a read would, and else compares in place.
+    /// Fails where a read would, and else compares in place, so that nothing is copied where the bytes are the same.
     #[inline(always)]
-    fn compare(&mut self, with: &[u8; BLOCK_LEN]) -> Result<Option<[u8; BLOCK_LEN]>, DeviceFault> {
+    fn compare(
+        &mut self,
+        with: &[u8; BLOCK_LEN],
+        other: &mut [u8; BLOCK_LEN],
+    ) -> Result<bool, DeviceFault> {
         self.fail_if_told()?;
-        Ok(other_than(with, self.held.blocks.bytes()))
+        let bytes = self.held.blocks.bytes();
+        if bytes == with {
+            return Ok(true);
+        }
+        *other = *bytes;
+        Ok(false)
     }
 
     /// Fails exactly where it was told to, with the bytes that it was told to leave, and then counts one fault and forgets

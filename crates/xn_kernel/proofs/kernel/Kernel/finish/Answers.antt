@@ -17,10 +17,11 @@ unreachable-requires-in-Err-give g c =
 pub invariant_of-self-in-Ok-settled_unless : goal.invariant_of-self-in-Ok-settled_unless
 invariant_of-self-in-Ok-settled_unless g c =
     let number : g.L.Lane.number_of c.into_lane.result ≡ c.ticket.inside.block = c.into_lane.ensures.number in
-    let given = unwrap_or (option_copied c.as_ref.result) (life_bytes (life_at c.self.inside.state.lives c.ticket.inside.block)) in
+    let given = unwrap_or (option_copied c.other_unless.result) (life_bytes (life_at c.self.inside.state.lives c.ticket.inside.block)) in
     let newest = newest_is (life_at c.self.inside.state.lives c.ticket.inside.block) c.in-Some.newest.now c.in-Some.ensures in
     let read : given ≡ g.L.Lane.bytes_of c.ticket.inside.lane =
-    (λ i. unwrap_or ((c.as_ref.ensures.value ∙ c.in-Ok.ensures.compared) i) (sym newest i)) ∙ compared_bytes c.in-Some.newest.now (g.L.Lane.bytes_of c.ticket.inside.lane) in
+    (λ i. unwrap_or (c.other_unless.ensures i) (sym newest i))
+    ∙ compared_bytes c.in-Some.newest.now (g.L.Lane.bytes_of c.ticket.inside.lane) c.compare.new.other c.in-Ok.same c.in-Ok.ensures.same c.in-Ok.ensures.other in
     let same : g.L.Lane.bytes_of c.into_lane.result ≡ g.L.Lane.bytes_of c.ticket.inside.lane = ap g.L.Lane.bytes_of c.into_lane.ensures.lane ∙ c.compare.ensures.bytes in
     let rests : LeavesOnly (g.L.Lane.bytes_of c.into_lane.result) (g.L.Lane.crash_leaves c.into_lane.result) =
     λ left leaves. c.ticket.invariant.1 c.if-ticket.false left (c.compare.ensures.crash left (subst (λ l. g.L.Lane.crash_leaves l left) c.into_lane.ensures.lane leaves)) ∙ sym same in
