@@ -244,6 +244,7 @@ impl Cache {
     }
 
     /// One more entry of a block in use, which leaves these bytes, and the bytes that it overwrites.
+    #[inline(always)]
     pub fn append(
         &mut self,
         block: u32,
@@ -284,6 +285,7 @@ impl Cache {
 
     /// Ends a write of a block that made its first entries durable: those are forgotten, and the newest bytes stay. With
     /// none the write is given up.
+    #[inline(always)]
     pub fn settle(&mut self, block: u32, count: u32)
         requires { count ≤ life_pending (life_at self.old block) }
         ensures { self.new ≡ settled_at self.old block count }
@@ -295,6 +297,7 @@ impl Cache {
         }
     }
 
+    #[inline(always)]
     fn make_durable(&mut self, block: u32, count: u32)
         requires some { 1 ≤ count }
         requires within { count ≤ life_pending (life_at self.old block) }
@@ -308,6 +311,7 @@ impl Cache {
     }
 
     /// Which places of the catalogue on the disk name a template once the first entries of a block are there.
+    #[inline(always)]
     fn named_after(&self, block: u32, count: u32) -> NamedPlaces
         requires some { 1 ≤ count }
         requires within { count ≤ life_pending (life_at self.now block) }
@@ -316,6 +320,16 @@ impl Cache {
         if block != 0 {
             return self.named;
         }
+        self.named_by_root(count)
+    }
+
+    /// The same, where they are entries of block 0.
+    #[inline(never)]
+    fn named_by_root(&self, count: u32) -> NamedPlaces
+        requires some { 1 ≤ count }
+        requires within { count ≤ life_pending (life_at self.now 0) }
+        ensures { result.places ≡ places_named (root_on_disk (settled_at self.now 0 count)) }
+    {
         match self.image_of(0, count) {
             Some(root) => NamedPlaces::of(&root),
             None => NamedPlaces::none(),
@@ -343,6 +357,7 @@ fn entry_at<'a>(entries: &'a Slab<Entry>, keys: &[usize], place: usize) -> Optio
 }
 
 /// Forgets the first entries of a life.
+#[inline(always)]
 fn forget_first(entries: &mut Slab<Entry>, life: Option<&Life>, count: usize)
     requires { IfSome (option_copied life) (λ life. count ≤ length life.keys) }
     ensures rest { (k : ℕ) → IsApart k (first_keys count (option_copied life.entry)) → get entries.new k ≡ get entries.old k }
@@ -364,11 +379,12 @@ fn forget_all(entries: &mut Slab<Entry>, life: Option<&Life>)
 }
 
 /// Forgets the entries under these keys.
+#[inline(always)]
 fn forget(entries: &mut Slab<Entry>, keys: &[usize])
     ensures rest { (k : ℕ) → IsApart k keys.now → get entries.new k ≡ get entries.old k }
     ensures gone { (k : ℕ) → IsAmong k keys.now → get entries.new k ≡ None }
 {
     for key in keys {
-        drop(entries.try_remove(*key));
+        let _entry = entries.try_remove(*key);
     }
 }

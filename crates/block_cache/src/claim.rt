@@ -91,6 +91,7 @@ impl Claim {
     }
 
     /// That of an edit, with copies of its lists.
+    #[inline(always)]
     pub fn copied(
         alloc: Global,
         entry: EditId,
@@ -179,6 +180,7 @@ impl Claim {
 }
 
 /// What an entry with these lists says, which are copied where there is any block.
+#[inline(always)]
 fn rest_of(
     alloc: Global,
     adds: &[(u32, u32)],
@@ -195,6 +197,21 @@ fn rest_of(
             Some(entry) => Rest::After(entry),
         });
     }
+    listed(alloc, adds, drops, after)
+}
+
+/// The same, with copies of the lists.
+#[inline(never)]
+fn listed(
+    alloc: Global,
+    adds: &[(u32, u32)],
+    drops: &[u32],
+    after: Option<EditId>,
+) -> Result<Rest, AllocError>
+    ensures adds { IfOk result (λ rest. rest_adds rest ≡ adds.now) }
+    ensures drops { IfOk result (λ rest. rest_drops rest ≡ drops.now) }
+    ensures after { IfOk result (λ rest. rest_after rest ≡ after) }
+{
     let lists = Lists {
         adds: SmallVec::from_slice(alloc, adds)?,
         drops: SmallVec::from_slice(alloc, drops)?,

@@ -233,8 +233,17 @@ impl Life {
         if count == self.keys.len() {
             self.keys.clear();
         } else {
-            drop(self.keys.drain(..count));
+            self.drain_keys(count);
         }
+    }
+
+    /// The same, where some stay.
+    #[inline(never)]
+    fn drain_keys(&mut self, count: usize)
+        requires { count ≤ length self.old.keys }
+        ensures { self.new ≡ record self.old { keys = drop count self.old.keys } }
+    {
+        drop(self.keys.drain(..count));
     }
 
     /// Makes the first entries durable.

@@ -115,6 +115,7 @@ impl Places {
     }
 
     /// Puts one more entry of a block behind the others, which left these bytes.
+    #[inline(always)]
     pub fn append(&mut self, block: u32, key: usize, bytes: NewBytes<'_>) -> Result<(), AllocError>
         requires alive { IsTrue (is_some (place_at self.old block)) }
         requires leaves { AreWithinLimits bytes }

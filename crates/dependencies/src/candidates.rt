@@ -68,6 +68,7 @@ impl Candidates {
     }
 
     /// Makes a block a candidate where its first entry has come.
+    #[inline(always)]
     pub fn note_entry(&mut self, block: u32, is_first: bool)
         ensures { self.new ≡ cond is_first (with_candidate self.old block true) self.old }
     {

@@ -87,15 +87,12 @@ pub fn note_number(oldest: &mut [u64; 32], fs: Fs, number: u64, pending: u32)
 }
 
 /// Moves the number of a file system on, some entries of which are pending no longer.
-pub fn move_on(oldest: &mut [u64; 32], cache: &Cache, homes: &Homes, fs: Option<Fs>)
+pub fn move_on(oldest: &mut [u64; 32], cache: &Cache, homes: &Homes, fs: Fs)
     requires homes { AreHomes cache.now homes.now }
     requires oldest { AreOldest cache.now oldest.old }
     ensures oldest { AreOldest cache.now oldest.new }
-    ensures some { IfSome fs (λ f. MovesOn cache.now homes.now f.number oldest.old oldest.new) }
-    ensures none { IfNone fs (oldest.new ≡ oldest.old) }
+    ensures moves { MovesOn cache.now homes.now fs.number oldest.old oldest.new }
 {
-    if let Some(fs) = fs {
-        let place = fs.index();
-        oldest[place] = next_pending(cache, homes, fs, oldest[place]);
-    }
+    let place = fs.index();
+    oldest[place] = next_pending(cache, homes, fs, oldest[place]);
 }

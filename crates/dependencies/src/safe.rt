@@ -69,6 +69,7 @@ fn are_all_durable(cache: &Cache, drops: &[u32]) -> bool
 /// state on the disk (never point to a structure before it has been initialised) and a type that is installed there, each
 /// block that it drops its newest one (never reuse a resource before all pointers to it are gone), and the entry that it comes
 /// after has to be there or to go with it. These are the rules of soft updates, kept for each entry.
+#[inline(never)]
 fn is_claim_met(
     cache: &Cache,
     dirty: &BlockSet,
@@ -88,6 +89,7 @@ fn is_claim_met(
 
 /// Whether an entry of a block may be written, behind the first ones of that block: mostly it claims nothing.
 #[tactic(auto, using(crate::proofs::Types::nothing_met))]
+#[inline(always)]
 fn is_claim_safe(
     cache: &Cache,
     dirty: &BlockSet,

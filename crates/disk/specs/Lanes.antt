@@ -1,4 +1,4 @@
-use Rattle.std.specs.Prelude.{◌≡◌, ◌⊎◌, ◌≢◌, ℕ, ◌+◌, ◌%◌, ◌^◌, ◌<◌, List, length, Option, Some, slice_get}
+use Rattle.std.specs.Prelude.{◌≡◌, ◌⊎◌, ◌≢◌, ℕ, ◌+◌, ◌%◌, ◌^◌, ◌<◌, List, length, Option, Some, Result, Ok, Err, slice_get}
 
 -- A device fault adds one to the count of faults, which starts again at 0 after the greatest number.
 pub record CountsOne (old new : ℕ) : Type 0 where
@@ -32,3 +32,8 @@ LeavesAlso leaves bytes left = leaves left ⊎ (left ≡ bytes)
 abbrev pub AreSynced : {L : Type 0} → (L → List ℕ) → (L → List ℕ → Type 0) → List (Option L) → Type 0
 AreSynced {L} bytes_of crash_leaves places =
     (k : ℕ) (lane : L) → slice_get places k ≡ Some (Some lane) → LeavesOnly (bytes_of lane) (crash_leaves lane)
+
+-- that it was done, or what it failed by
+abbrev pub done_or : {T E : Type 0} → Result T E → Result (Unit {0}) E
+done_or (Ok answer) = Ok tt
+done_or (Err fault) = Err fault

@@ -1,5 +1,5 @@
-ghost use Rattle.std.specs.Prelude.{◌≡◌, ℕ, List, ◌⊎◌, OnOk, OnErr, Result};
-ghost use Rattle.disk.specs.Lanes.{CountsOne, LeavesNoMore, LeavesOnly, LeavesAlso};
+ghost use Rattle.std.specs.Prelude.{◌≡◌, ℕ, List, ◌⊎◌, OnOk, OnErr, IfOk, Result, false, bytes_eq};
+ghost use Rattle.disk.specs.Lanes.{CountsOne, LeavesNoMore, LeavesOnly, LeavesAlso, done_or};
 
 /// How many bytes a block has.
 pub const BLOCK_LEN: usize = 512;
@@ -62,6 +62,26 @@ pub trait Lane {
         ensures faults_ok { OnOk result (faults_of self.new ≡ faults_of self.old) }
         ensures faults_err { OnErr result (CountsOne (faults_of self.old) (faults_of self.new)) }
         ensures gives { read_gives self.old result self.new };
+
+    /// Reads the block, and compares it with these bytes. Answers whether they stand there; where they don't, `other` has what does,
+    /// and else what it holds is left open.
+    fn compare(
+        &mut self,
+        with: &[u8; BLOCK_LEN],
+        other: &mut [u8; BLOCK_LEN],
+    ) -> Result<bool, DeviceFault>
+        ensures same { IfOk result (λ same. same ≡ bytes_eq (bytes_of self.old) with.now) }
+        ensures other { IfOk result (λ same. same ≡ false → other.new ≡ bytes_of self.old) }
+        ensures bytes { bytes_of self.new ≡ bytes_of self.old }
+        ensures crash { LeavesNoMore (crash_leaves self.old) (crash_leaves self.new) }
+        ensures number { number_of self.new ≡ number_of self.old }
+        ensures faults_ok { OnOk result (faults_of self.new ≡ faults_of self.old) }
+        ensures faults_err { OnErr result (CountsOne (faults_of self.old) (faults_of self.new)) }
+        ensures gives { read_gives self.old (done_or result) self.new }
+    {
+        self.read(other)?;
+        Ok(*other == *with)
+    }
 
     /// Writes the block in one step.
     fn write(&mut self, from: &[u8; BLOCK_LEN]) -> Result<(), DeviceFault>

@@ -123,6 +123,20 @@ impl MemLane {
         self.held.open_write = OpenWrite::Absent;
     }
 
+    /// Fails where a read was told to, and then counts one fault and forgets what it was told.
+    #[inline(always)]
+    fn fail_if_told(&mut self) -> Result<(), DeviceFault>
+        ensures gives { memory_read self.old result self.new }
+        ensures counts { OnErr result (CountsOne self.old.faults self.new.faults) }
+    {
+        if !self.held.read_fault {
+            return Ok(());
+        }
+        self.held.read_fault = false;
+        self.held.faults = self.held.faults.wrapping_add(1);
+        Err(DeviceFault)
+    }
+
     /// A write was given these bytes, and a read finds them.
     fn put(&mut self, from: &[u8; BLOCK_LEN])
         ensures { self.new ≡ record self.old { bytes = from.now; given = Some from.now } }
@@ -185,13 +199,25 @@ impl Lane for MemLane {
         ensures kept { OnErr result (into.new ≡ into.old) }
         ensures counts { OnErr result (CountsOne self.old.faults self.new.faults) }
     {
-        if self.held.read_fault {
-            self.held.read_fault = false;
-            self.held.faults = self.held.faults.wrapping_add(1);
-            return Err(DeviceFault);
-        }
+        self.fail_if_told()?;
         *into = *self.held.blocks.bytes();
         Ok(())
+    }
+
+    /// Fails where a read would, and else compares in place, so that nothing is copied where the bytes are the same.
+    #[inline(always)]
+    fn compare(
+        &mut self,
+        with: &[u8; BLOCK_LEN],
+        other: &mut [u8; BLOCK_LEN],
+    ) -> Result<bool, DeviceFault> {
+        self.fail_if_told()?;
+        let bytes = self.held.blocks.bytes();
+        if bytes == with {
+            return Ok(true);
+        }
+        *other = *bytes;
+        Ok(false)
     }
 
     /// Fails exactly where it was told to, with the bytes that it was told to leave, and then counts one fault and forgets

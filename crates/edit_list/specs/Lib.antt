@@ -1,3 +1,4 @@
 pub mod Undo
 pub mod Pieces
 pub mod Kept
+pub mod Limits

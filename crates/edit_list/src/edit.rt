@@ -70,11 +70,7 @@ impl Edit {
     pub fn is_within_limits(&self) -> bool
         ensures { result ≡ within_limits self.now }
     {
-        let patches = self.patches.as_slice();
-        !patches.is_empty()
-            && patches.len() <= 8
-            && patches::are_patches(patches)
-            && patches::total_length(patches) <= 512
+        patches::are_within_limits(&self.patches)
             && self.adds.len() <= 16
             && self.drops.len() <= 128
     }

@@ -3,6 +3,7 @@
 ghost use Rattle.std.specs.Prelude.{◌≡◌, ◌≤◌, [], ◌∷◌, length, IfOk, IsTrue, sum_by};
 ghost use Rattle.std.specs.List.{list_all};
 ghost use Rattle.xn_model.specs.Calls.{is_patch, patched};
+ghost use Rattle.edit_list.specs.Limits.{are_within_limits};
 ghost use Rattle.edit_list.specs.Undo.{undo_at, undo_of};
 
 use crate::patch::Patch;
@@ -14,6 +15,27 @@ pub fn are_patches(patches: &[Patch]) -> bool
     ensures { result ≡ list_all is_patch patches.now }
 {
     patches.iter().all(|patch| patch.is_patch())
+}
+
+/// Whether these are 1 to 8 patches, none of them empty or past byte 511, together at most 512 bytes.
+#[inline(always)]
+pub fn are_within_limits(patches: &[Patch]) -> bool
+    ensures { result ≡ are_within_limits patches.now }
+{
+    match patches {
+        [patch] => patch.is_patch(),
+        _ => are_some_within_limits(patches),
+    }
+}
+
+/// The same, of any count of patches.
+fn are_some_within_limits(patches: &[Patch]) -> bool
+    ensures { result ≡ are_within_limits patches.now }
+{
+    !patches.is_empty()
+        && patches.len() <= 8
+        && are_patches(patches)
+        && total_length(patches) <= 512
 }
 
 /// How many bytes the patches have together.

@@ -94,7 +94,7 @@ impl BlockSet {
         ensures { self.new ≡ slice_set self.old block true }
     {
         let at = block as usize;
-        if !self.words.has(at) {
+        if !self.words.has_within(at) {
             self.words.put(at, true);
             self.filled.put(at / 64, true);
             self.count += 1;
@@ -107,7 +107,7 @@ impl BlockSet {
         ensures { self.new ≡ slice_set self.old block false }
     {
         let at = block as usize;
-        if self.words.has(at) {
+        if self.words.has_within(at) {
             self.words.put(at, false);
             let is_blank = self.words.is_blank(at / 64);
             self.filled.put(at / 64, !is_blank);

@@ -41,6 +41,14 @@ impl Words {
         }
     }
 
+    /// Whether a bit of the row is set.
+    pub fn has_within(&self, at: usize) -> bool
+        requires { at < 64 * length self.now }
+        ensures { result ≡ has_bit self.now at }
+    {
+        word::has_bit(self.words[at / 64], (at % 64) as u32)
+    }
+
     /// Sets a bit, or clears it.
     pub fn put(&mut self, at: usize, bit: bool)
         requires { at < 64 * length self.old }

@@ -1,14 +1,15 @@
 -- Which lanes are at home.
 use Rattle.std.proofs.Common.{◌≡◌, ℕ, zero, suc, List, [], ◌∷◌, Bool, true, false, Option, Some, None, Ok, refl, sym, ◌∙◌, ap, slice_get}
-use Rattle.std.specs.Prelude.{is_some, ◌==◌}
+use Rattle.std.specs.Prelude.{is_some, bytes_eq, option_map, unwrap_or, ◌==◌}
+use Rattle.std.proofs.lemmas.Slice.Eq.{bytes_eq-Decides}
 use Rattle.std.proofs.lemmas.Bool.{false≢true}
 use Rattle.std.proofs.lemmas.Option.{same_Some, none-some}
-use Rattle.xn_model.specs.Lives.{Life, Lives, StoreState, life_at, prefix_of}
+use Rattle.xn_model.specs.Lives.{Life, Lives, StoreState, current, life_at, prefix_of}
 use Rattle.xn_model.specs.Lanes.{FitsLife, FitLives}
-use Rattle.xn_model.specs.Calls.{begun_place, bytes_at}
+use Rattle.xn_model.specs.Calls.{begun_place, bytes_at, life_bytes}
 use Rattle.xn_model.specs.declared.refusal.Refusal.TheVariants.{NoSuchBlock, NotInUse, InFlight, NothingSafe}
 use Rattle.xn_model.proofs.ForCallers.{unless_ok, never_ok, none_from, life_from}
-use Rattle.xn_kernel.specs.Kernels.{is_in_flight}
+use Rattle.xn_kernel.specs.Kernels.{is_in_flight, other_unless}
 
 module _ {L : Type 0} (read : L → List ℕ) where
   -- the lane of a block of which no write is under way
@@ -57,3 +58,13 @@ begun_idle lives b (Some None) given at e = absurd (never_ok NotInUse given e)
 begun_idle lives b (Some (Some l)) given at e =
     let tests = unless_ok ((is_some l.begun, InFlight) ∷ (prefix_of lives (Some l) == 0, NothingSafe) ∷ []) (Ok (bytes_at (prefix_of lives (Some l)) l, prefix_of lives (Some l))) given e in
     (l, life_from lives b l at, none_from l.begun tests.0.0)
+
+-- the bytes of a lane, by a comparison with others
+pub compared_bytes : (with bytes other : List ℕ) (same : Bool) → same ≡ bytes_eq bytes with → (same ≡ false → other ≡ bytes) → unwrap_or (other_unless same other) with ≡ bytes
+compared_bytes with bytes other true is there = sym ((bytes_eq-Decides bytes with).0 (sym is))
+compared_bytes with bytes other false is there = there refl
+
+-- the newest bytes of a block, in use or not
+pub newest_is : (o : Option Life) (bytes : List ℕ) → Some bytes ≡ option_map current o → bytes ≡ life_bytes o
+newest_is None bytes e = absurd (none-some bytes (sym e))
+newest_is (Some l) bytes e = same_Some bytes (current l) e

@@ -1,5 +1,5 @@
 -- A kernel and its tickets, as contracts see them.
-use Rattle.std.specs.Prelude.{ℕ, List, Option, Bool, is_some, ◌==◌, ◌&&◌, Result, Ok, Err}
+use Rattle.std.specs.Prelude.{ℕ, List, Option, Some, None, Bool, true, false, is_some, ◌==◌, ◌&&◌, Result, Ok, Err}
 use Rattle.disk.specs.Lanes.{AreSynced}
 use Rattle.xn_model.specs.Lives.{StoreState, life_at, alive_and}
 use Rattle.xn_model.specs.Lanes.{FitLives}
@@ -39,3 +39,8 @@ is_mine kernel ticket = (ticket.kernel == kernel.id) && is_in_flight kernel.stat
 abbrev pub result_map_err : {T E F : Type 0} → (E → F) → Result T E → Result T F
 result_map_err f (Ok x) = Ok x
 result_map_err f (Err e) = Err (f e)
+
+-- these bytes, unless they are the same as others
+abbrev pub other_unless : Bool → List ℕ → Option (List ℕ)
+other_unless true bytes = None
+other_unless false bytes = Some bytes

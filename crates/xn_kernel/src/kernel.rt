@@ -13,7 +13,7 @@ ghost use Rattle.templates.specs.Tables.{table_types};
 ghost use Rattle.xn_state.specs.Mounts.{image_types, lives_in, AreFound};
 ghost use Rattle.xn_model.specs.Lives.{StoreState};
 ghost use Rattle.xn_state.specs.States.{own_types};
-ghost use Rattle.xn_kernel.specs.Kernels.{KernelValue, TicketValue, IsKernel, is_in_flight, is_mine, result_map_err};
+ghost use Rattle.xn_kernel.specs.Kernels.{KernelValue, TicketValue, IsKernel, is_in_flight, is_mine, other_unless, result_map_err};
 
 use crate::ticket::Ticket;
 use disk::{Lane, Lanes};
@@ -217,11 +217,17 @@ impl<L: Lane> Kernel<L> {
         if ticket.unsynced {
             return Err((ticket, Refusal::NotSynced));
         }
+        let Some(newest) = self.state.newest(ticket.block) else {
+            unreachable!()
+        };
         let mut bytes = [0u8; 512];
-        if ticket.lane.read(&mut bytes).is_err() {
+        let Ok(same) = ticket.lane.compare(newest, &mut bytes) else {
             return Err((ticket, Refusal::Device));
-        }
-        match self.state.settled(ticket.block, &bytes) {
+        };
+        match self
+            .state
+            .settled_unless(ticket.block, other_unless(same, &bytes))
+        {
             Err(refusal) => Err((ticket, refusal)),
             Ok((durable, freed)) => match self.lanes.give(ticket.into_lane()) {
                 Ok(()) => Ok(Landed { durable, freed }),
@@ -229,4 +235,12 @@ impl<L: Lane> Kernel<L> {
             },
         }
     }
+}
+
+/// These bytes, unless they are the same as others.
+#[inline(always)]
+fn other_unless(same: bool, bytes: &[u8; 512]) -> Option<&[u8; 512]>
+    ensures { option_copied result ≡ other_unless same bytes.now }
+{
+    if same { None } else { Some(bytes) }
 }

@@ -1,13 +1,16 @@
 -- What the facts and the bytes of a block say of its writes.
-use Rattle.std.proofs.Common.{◌≡◌, ℕ, ◌≤◌, Bool, false, List, [], ◌∷◌, length, Option, Some, None, Result, Ok, Err, refl, slice_get, sym, ◌∙◌, ap, arith, subst}
+use Rattle.std.proofs.Common.{◌≡◌, ℕ, ◌≤◌, Bool, true, false, List, [], ◌∷◌, length, Option, Some, None, Result, Ok, Err, refl, slice_get, sym, ◌∙◌, ap, arith, subst}
 use Rattle.std.specs.Prelude.{bytes_eq, if◌then◌else◌, is_some, option_map, unwrap_or, IfSome, ◌==◌}
+use Rattle.std.specs.List.{last_or}
+use Rattle.std.proofs.lemmas.List.{take_all}
+use Rattle.std.proofs.lemmas.Slice.Eq.{bytes_eq-Decides}
 use Rattle.std.proofs.lemmas.Bool.{ne_eqb}
 use Rattle.std.proofs.lemmas.Option.{none-some, same_Some}
-use Rattle.xn_model.specs.Lives.{Life, Lives, StoreState, alive_and, begun_at, prefix_of}
+use Rattle.xn_model.specs.Lives.{Life, Lives, StoreState, alive_and, begun_at, bytes_of, current, prefix_of}
 use Rattle.xn_model.specs.declared.refusal.Refusal.{Refusal}
 use Rattle.xn_model.specs.Results.{first_refusal, result_map, unless}
 use Rattle.xn_model.specs.declared.refusal.Refusal.TheVariants.{NothingSafe, NoSuchBlock, NotInUse, InFlight, NotMine}
-use Rattle.xn_model.specs.Calls.{begun_of, begun_place, bytes_at, is_durable, life_pending, settled_count, settled_place}
+use Rattle.xn_model.specs.Calls.{begun_of, begun_place, bytes_at, is_durable, life_bytes, life_pending, settled_count, settled_place}
 use Rattle.xn_model.specs.Rules.{IsCount}
 use Rattle.xn_model.proofs.ForCallers.{never_ok, same_ok, unless_passed}
 use Rattle.block_cache.specs.declared.life.Facts.{Facts}
@@ -65,3 +68,15 @@ settled_is bytes (Some (Some l)) facts count here durable e some begun h d =
     let counted = let P : Option ℕ → Type 0 = λ o. IsCount o facts.pending in subst P begun some in
     let landed = h ∙ ap (bytes_eq bytes) (image_of_some l count counted.0 (omega (arith, counted.1, pending))) in
     ap (settled_count l bytes) carries ∙ (λ i. if sym landed i then Ok count else if sym d i then Ok 0 else Err NotMine)
+
+-- where the newest bytes are read back, and the write carries each pending entry
+pub settled_whole : (p : Option (Option Life)) (facts : Facts) (count : ℕ) → Some facts ≡ option_map facts_of (unwrap_or p None) → IsCount facts.begun facts.pending →
+    facts.begun ≡ Some count → count ≡ facts.pending → settled_place (life_bytes (unwrap_or p None)) p ≡ Ok count
+settled_whole None facts count e some begun all = absurd (none-some facts (sym e))
+settled_whole (Some None) facts count e some begun all = absurd (none-some facts (sym e))
+settled_whole (Some (Some l)) facts count e some begun all =
+    let same = same_Some facts (facts_of l) e in
+    let pending : facts.pending ≡ length l.pending = ap (λ (f : Facts). f.pending) same in
+    let whole : image_at count l ≡ current l = ap (λ xs. bytes_of (last_or l.durable xs)) (take_all count l.pending (omega (arith, all, pending))) in
+    let here = sym ((bytes_eq-Decides (current l) (image_at count l)).1 (sym whole)) in
+    settled_is (current l) (Some (Some l)) facts count true (is_durable (current l) l.durable) e some begun here refl

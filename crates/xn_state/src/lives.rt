@@ -255,6 +255,7 @@ impl Lives {
     }
 
     /// Makes one more entry of a block in use, which leaves these bytes: the block owns what it adds and no longer what it drops.
+    #[inline(always)]
     pub fn accept(
         &mut self,
         fs: Option<Fs>,

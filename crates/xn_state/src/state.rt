@@ -1,12 +1,13 @@
 // The state of a store, and the calls that need no disk.
 
-ghost use Rattle.std.specs.Prelude.{◌≡◌, ◌<◌, ◌≤◌, [], ◌∷◌, length, Option, Some, None, is_some, Ok, IfOk, IfSome, IsTrue};
+ghost use Rattle.std.specs.Prelude.{◌≡◌, ◌<◌, ◌≤◌, [], ◌∷◌, length, Option, Some, None, is_some, Ok, IfOk, IfSome, IsTrue, option_map, unwrap_or};
+ghost use Rattle.std.specs.Option.{option_copied};
 ghost use Rattle.block_cache.specs.Views.{image_at};
 ghost use Rattle.xn_model.specs.Types.{within_size};
 ghost use Rattle.xn_model.specs.Lists.{blank};
-ghost use Rattle.xn_model.specs.Lives.{StoreState, life_at, alive_and};
+ghost use Rattle.xn_model.specs.Lives.{StoreState, current, life_at, alive_and};
 ghost use Rattle.xn_model.specs.Results.{Gives, GivesExactly, result_map};
-ghost use Rattle.xn_model.specs.Calls.{init_of, init_refusal, life_pending, owns_nothing, too_many, begun_of, settled_of, floor_of};
+ghost use Rattle.xn_model.specs.Calls.{init_of, init_refusal, life_bytes, life_pending, owns_nothing, too_many, begun_of, settled_of, floor_of};
 ghost use Rattle.xn_model.specs.Rules.{IsConsistent};
 ghost use Rattle.xn_model.specs.Worlds.{mounted_state};
 ghost use Rattle.templates.specs.Tables.{table_types};
@@ -186,6 +187,7 @@ impl State {
     }
 
     /// How many entries a write of a block carries that begins now.
+    #[inline(always)]
     pub fn begun_count(&self, block: u32) -> Result<u32, Refusal>
         ensures count { result ≡ result_map (λ begun. begun.0.1) (begun_of self.now block) }
         ensures within { IfOk result (λ count. (1 ≤ count) × (count ≤ life_pending (life_at self.now.lives block))) }
@@ -222,9 +224,29 @@ impl State {
     pub fn settled(&mut self, block: u32, bytes: &[u8; 512]) -> Result<(u32, u32), Refusal>
         ensures state { GivesExactly (settled_of self.old block bytes.now) self.old self.new result }
     {
-        let count = self.lives.settled(block, bytes)?;
+        self.settled_unless(block, Some(bytes))
+    }
+
+    /// The same by these bytes, or where there are none by the newest ones of the block, which are not compared then.
+    #[inline(always)]
+    pub fn settled_unless(
+        &mut self,
+        block: u32,
+        other: Option<&[u8; 512]>,
+    ) -> Result<(u32, u32), Refusal>
+        ensures state { GivesExactly (settled_of self.old block (unwrap_or (option_copied other.entry) (life_bytes (life_at self.old.lives block))))
+            self.old self.new result }
+    {
+        let count = self.lives.settled_unless(block, other)?;
         let freed = self.lives.settle(block, count);
         Ok((count, freed))
+    }
+
+    /// The newest bytes of a block in use.
+    pub fn newest(&self, block: u32) -> Option<&[u8; 512]>
+        ensures { option_copied result ≡ option_map current (life_at self.now.lives block) }
+    {
+        self.lives.current(block)
     }
 
     /// Whether a write of a block is under way.

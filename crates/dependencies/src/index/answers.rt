@@ -60,6 +60,7 @@ impl Index {
     }
 
     /// How many pending entries of a block, from the first on, are safe: they may go to the disk together.
+    #[inline(always)]
     pub fn safe_prefix(&self, cache: &Cache, block: u32) -> u32
         requires index { IsIndex cache.now self.now }
         requires typed { FindsTypes cache.now }

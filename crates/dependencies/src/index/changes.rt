@@ -28,6 +28,7 @@ impl Index {
     }
 
     /// Notes one more entry of a block, of this number.
+    #[inline(always)]
     pub fn note_entry(&mut self, block: u32, number: u64, fs: Option<Fs>, is_first: bool)
         requires { IfSome fs (λ f. slice_index self.old.pending f.number < 4096) }
         ensures { (lives : Lives) (s : BlockState) → IsIndex lives self.old → IsTrue (is_some (life_at lives block)) →
@@ -91,12 +92,23 @@ impl Index {
         fs
     }
 
-    /// Looks for what is the oldest entry of a file system now.
+    /// Looks for what is the oldest entry of a file system now, where entries of it are pending.
+    #[inline(always)]
     pub fn move_on(&mut self, cache: &Cache, fs: Option<Fs>)
         requires { IsIndex cache.now self.old }
         ensures { IsIndex cache.now self.new }
     {
-        let fs = with_pending(&self.pending, fs);
+        if let Some(fs) = with_pending(&self.pending, fs) {
+            self.move_on_for(cache, fs);
+        }
+    }
+
+    /// The same for a file system.
+    #[inline(never)]
+    fn move_on_for(&mut self, cache: &Cache, fs: Fs)
+        requires { IsIndex cache.now self.old }
+        ensures { IsIndex cache.now self.new }
+    {
         move_on(&mut self.oldest, cache, &self.homes, fs);
     }
 }

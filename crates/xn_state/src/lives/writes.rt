@@ -1,9 +1,10 @@
 // The writes of blocks.
 
-ghost use Rattle.std.specs.Prelude.{◌≡◌, ◌≢◌, ◌<◌, ◌≤◌, [], false, All, IfOk, IfSome, bytes_eq, length, slice_get};
+ghost use Rattle.std.specs.Prelude.{◌≡◌, ◌≢◌, ◌<◌, ◌≤◌, [], false, All, IfOk, IfSome, bytes_eq, length, slice_get, unwrap_or};
+ghost use Rattle.std.specs.Option.{option_copied};
 ghost use Rattle.xn_model.specs.Lives.{alive_and, begun_at, drops_of, freed, life_at, settled_at};
 ghost use Rattle.xn_model.specs.Results.{result_map};
-ghost use Rattle.xn_model.specs.Calls.{begun_place, first_pending, is_durable, life_pending, settled_place};
+ghost use Rattle.xn_model.specs.Calls.{begun_place, first_pending, is_durable, life_bytes, life_pending, settled_place};
 ghost use Rattle.block_cache.specs.Views.{HasImage, image_at};
 ghost use Rattle.dependencies.specs.Typed.{FindsTypes};
 ghost use Rattle.dependencies.specs.Index.{MayFree};
@@ -14,6 +15,7 @@ use xn_model::Refusal;
 
 impl Lives {
     /// How many entries a write of a block carries that begins now.
+    #[inline(always)]
     pub fn begun(&self, block: u32) -> Result<u32, Refusal>
         requires { FindsTypes self.now }
         ensures plan { result ≡ result_map (λ begun. begun.1) (begun_place self.now (slice_get self.now block)) }
@@ -86,6 +88,52 @@ impl Lives {
             return Ok(0);
         }
         Err(Refusal::NotMine)
+    }
+
+    /// The same by these bytes, or where there are none by the newest ones. Those are compared only where a pending entry stands behind
+    /// the ones of the write.
+    #[inline(always)]
+    pub fn settled_unless(&self, block: u32, other: Option<&[u8; 512]>) -> Result<u32, Refusal>
+        ensures count { result ≡ settled_place (unwrap_or (option_copied other.entry) (life_bytes (life_at self.now block))) (slice_get self.now block) }
+        ensures within { IfOk result (λ count. count ≤ life_pending (life_at self.now block)) }
+        ensures few { IfOk result (λ count. count ≤ 64) }
+    {
+        match other {
+            Some(bytes) => self.settled(block, bytes),
+            None => self.settled_as_newest(block),
+        }
+    }
+
+    /// How many entries are durable where a block's newest bytes are read back.
+    #[inline(always)]
+    fn settled_as_newest(&self, block: u32) -> Result<u32, Refusal>
+        ensures count { result ≡ settled_place (life_bytes (life_at self.now block)) (slice_get self.now block) }
+        ensures within { IfOk result (λ count. count ≤ life_pending (life_at self.now block)) }
+        ensures few { IfOk result (λ count. count ≤ 64) }
+    {
+        let Some(facts) = self.cache.facts(block) else {
+            return Err(Refusal::NotMine);
+        };
+        let Some(count) = facts.begun else {
+            return Err(Refusal::NotMine);
+        };
+        if count as usize == facts.pending {
+            return Ok(count);
+        }
+        self.settled_by_newest(block)
+    }
+
+    /// The same, by a comparison.
+    #[inline(never)]
+    fn settled_by_newest(&self, block: u32) -> Result<u32, Refusal>
+        ensures count { result ≡ settled_place (life_bytes (life_at self.now block)) (slice_get self.now block) }
+        ensures within { IfOk result (λ count. count ≤ life_pending (life_at self.now block)) }
+        ensures few { IfOk result (λ count. count ≤ 64) }
+    {
+        match self.cache.current(block) {
+            Some(newest) => self.settled(block, newest),
+            None => Err(Refusal::NotMine),
+        }
     }
 
     /// Begins a write of a block that carries its first entries.

@@ -26,6 +26,7 @@ pub(crate) struct Claims<'a> {
 impl State {
     /// A block in use accepts an entry with these bytes and claims, after which the rules hold. What undoes it gives the newest
     /// bytes again. The chunks that decide what the bytes own are kept, where they are known. `NoMemory` changes nothing.
+    #[inline(always)]
     pub(crate) fn accept(
         &mut self,
         fs: Fs,

@@ -119,6 +119,13 @@ impl State {
     fn are_empty(&self, blocks: &[u32]) -> bool
         ensures { result ≡ list_all (is_empty (own_types self.now) self.now) blocks.now }
     {
+        blocks.is_empty() || self.are_each_empty(blocks)
+    }
+
+    /// The same, where there are some.
+    fn are_each_empty(&self, blocks: &[u32]) -> bool
+        ensures { result ≡ list_all (is_empty (own_types self.now) self.now) blocks.now }
+    {
         blocks.iter().all(|block| self.is_empty(*block))
     }
 
@@ -194,6 +201,7 @@ impl State {
 
     /// The same, by runs of the programs. Mostly the edit leaves what decides which blocks this one owns, and its type may use all bytes: then
     /// no look at the new ones is needed.
+    #[inline(never)]
     fn left_by_run(
         &self,
         block: u32,

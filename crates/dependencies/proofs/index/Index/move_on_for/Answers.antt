@@ -1,6 +1,6 @@
 use Rattle.std.proofs.Common.{subst, sym}
 use Rattle.dependencies.specs.Index.{IsIndex}
-use Rattle.dependencies.proofs.index.Index.move_on.Goals as goal
+use Rattle.dependencies.proofs.index.Index.move_on_for.Goals as goal
 
 pub move_on-requires-clause-homes : goal.move_on-requires-clause-homes
 move_on-requires-clause-homes c =
