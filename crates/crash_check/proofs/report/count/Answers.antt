@@ -26,8 +26,8 @@ returns-clause-report g c =
       c.free_count.ensures,
     )
 
-pub returns-clause-verdict : goal.returns-clause-verdict
-returns-clause-verdict g c =
+pub returns-clause-counts : goal.returns-clause-counts
+returns-clause-counts g c =
     let image = c.args.image.now in
     let named = c.in_ok-findings.findings.named.entries in
     let reached : length (reached_list named) ≡ c.len.result + 1 = simp (length-map) (omega (arith, c.len.ensures.len)) in
