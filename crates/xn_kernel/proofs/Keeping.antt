@@ -1,5 +1,5 @@
 -- Each call leaves a kernel.
-use Rattle.std.proofs.Common.{ap, ◌≡◌, ℕ, zero, suc, ◌<◌, List, [], ◌∷◌, Option, Some, None, Result, Ok, Err, refl, sym, subst, slice_get, slice_set, length}
+use Rattle.std.proofs.Common.{◌≡◌, ℕ, zero, suc, ◌<◌, List, [], ◌∷◌, Option, Some, None, Result, Ok, refl, sym, subst, slice_get, slice_set, length}
 use Rattle.std.proofs.lemmas.Option.{slice_get_within, same_Some, none-some}
 use Rattle.disk.specs.Lanes.{AreSynced, LeavesOnly}
 use Rattle.xn_model.specs.declared.refusal.Refusal.{Refusal}
@@ -52,10 +52,12 @@ module _ {L : Type 0} (read : L → List ℕ) (crash : L → List ℕ → Type 0
   install_leaves bytes result whole h = gives_keeps (IsKernel read crash lanes) (install_of language old bytes) old new result h is
       (λ made e. record { rules = (install_keeps language old is.rules bytes whole made new e).consistent; fit = lemmas.lanes_install read lanes language old new bytes made e is.fit; synced = is.synced })
 
-  pub begun_leaves : (b : ℕ) (given : List ℕ × ℕ) → GivesExactly (begun_of old b) old new (Ok given) → IsKernel read crash (slice_set lanes b None) new
-  begun_leaves b given h =
-      let e = gives_exactly-ok (begun_of old b) old new given h in
-      record { rules = own_rules old new (begun_keeps (own_types old) old is.rules b given new e); fit = lemmas.lanes_begun read lanes old new b given e is.fit; synced = synced_set read crash lanes b None is.synced (λ lane none. absurd (none-some lane none)) }
+  pub begun_so : (b : ℕ) (given : List ℕ × ℕ) → begun_of old b ≡ Ok (given, new) → IsKernel read crash (slice_set lanes b None) new
+  begun_so b given e = record {
+    rules = own_rules old new (begun_keeps (own_types old) old is.rules b given new e);
+    fit = lemmas.lanes_begun read lanes old new b given e is.fit;
+    synced = synced_set read crash lanes b None is.synced (λ lane none. absurd (none-some lane none));
+  }
 
   pub settled_leaves : (b : ℕ) (here : L) (bytes : List ℕ) (done : ℕ × ℕ) → bytes ≡ read here → LeavesOnly (read here) (crash here) → GivesExactly (settled_of old b bytes) old new (Ok done) → IsKernel read crash (slice_set lanes b (Some here)) new
   settled_leaves b here bytes done read_is rests h =
@@ -68,19 +70,11 @@ module _ {L : Type 0} (read : L → List ℕ) (crash : L → List ℕ → Type 0
         synced = synced_set read crash lanes b (Some here) is.synced (λ lane at. subst (λ l. LeavesOnly (read l) (crash l)) (same_Some here lane at) rests);
       }
 
-  pub refused_leaves : {A : Type 0} (r : Result (A × StoreState) Refusal) (refusal : Refusal) → GivesExactly r old new (Err refusal) → IsKernel read crash lanes new
-  refused_leaves r refusal h = subst (IsKernel read crash lanes) (sym (gives_exactly-err r old new refusal h)) is
-
   -- the lane of a write that may begin is at home
-  begun_home : (b count : ℕ) → Ok count ≡ result_map (λ (begun : (List ℕ × ℕ) × StoreState). begun.0.1) (begun_of old b) → (here : L) × (slice_get lanes b ≡ Some (Some here)) × (b < length lanes)
+  pub begun_home : (b count : ℕ) → Ok count ≡ result_map (λ (begun : (List ℕ × ℕ) × StoreState). begun.0.1) (begun_of old b) → (here : L) × (slice_get lanes b ≡ Some (Some here)) × (b < length lanes)
   begun_home b count e =
       let begun = map_ok (λ (x : (List ℕ × ℕ) × StoreState). x.0.1) (begun_of old b) count (sym e) in
       let m = map_ok (λ (x : List ℕ × ℕ). (x, record old { lives = begun_at old.lives b x.1 })) (begun_place old.lives (slice_get old.lives b)) begun.0 begun.1 in
       let life = begun_idle old.lives b (slice_get old.lives b) m.0 refl m.1 in
       let here = home read lanes old.lives b life.0 is.fit life.1 life.2 in
       (here.0, here.1, slice_get_within lanes b (Some here.0) here.1)
-
-  pub begun_there : (b : ℕ) (given : List ℕ × ℕ) → GivesExactly (begun_of old b) old new (Ok given) → (here : L) × (slice_get lanes b ≡ Some (Some here)) × (b < length lanes)
-  begun_there b given h =
-      let e = gives_exactly-ok (begun_of old b) old new given h in
-      begun_home b given.1 (sym (ap (result_map (λ (begun : (List ℕ × ℕ) × StoreState). begun.0.1)) e))

@@ -167,18 +167,20 @@ impl<L: Lane> Kernel<L> {
         ensures lanes { OnOk result (self.new ≡ record self.old { lanes = slice_set self.old.lanes block None; state = self.new.state }) }
         ensures err { OnErr result (self.new ≡ self.old) }
     {
-        let (bytes, count) = self.state.begun(block)?;
+        let count = self.state.begun_count(block)?;
         let Some(lane) = self.lanes.take(block) else {
             unreachable!()
         };
-        Ok(Ticket {
+        let mut ticket = Ticket {
             kernel: self.id,
             block,
             count,
-            bytes,
+            bytes: [0; 512],
             lane,
             unsynced: false,
-        })
+        };
+        self.state.begin_into(block, count, &mut ticket.bytes);
+        Ok(ticket)
     }
 
     /// Ends a write by what is read back: where the begun bytes stand there, the entries that it

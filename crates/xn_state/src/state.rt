@@ -176,13 +176,12 @@ impl State {
     }
 
     /// Begins a write of a block: the bytes that its safe entries leave, and how many those are.
-    #[inline(always)]
     pub fn begun(&mut self, block: u32) -> Result<([u8; 512], u32), Refusal>
         ensures state { GivesExactly (begun_of self.old block) self.old self.new result }
     {
         let count = self.begun_count(block)?;
-        let bytes = self.lives.image(block, count);
-        self.note_begun(block, count, &bytes);
+        let mut bytes = [0u8; 512];
+        self.begin_into(block, count, &mut bytes);
         Ok((bytes, count))
     }
 
@@ -203,19 +202,7 @@ impl State {
         requires within { count ≤ life_pending (life_at self.old.lives block) }
         ensures { begun_of self.old block ≡ Ok ((bytes.new, count), self.new) }
     {
-        *bytes = self.lives.image(block, count);
-        self.note_begun(block, count, bytes);
-    }
-
-    /// Notes that a write of a block begins, where the first pending entries may be written, which leave these bytes.
-    #[inline(always)]
-    fn note_begun(&mut self, block: u32, count: u32, _bytes: &[u8; 512])
-        requires count { result_map (λ begun. begun.0.1) (begun_of self.old block) ≡ Ok count }
-        requires some { 1 ≤ count }
-        requires within { count ≤ life_pending (life_at self.old.lives block) }
-        requires bytes { IfSome (life_at self.old.lives block) (λ l. _bytes.now ≡ image_at count l) }
-        ensures { begun_of self.old block ≡ Ok ((_bytes.now, count), self.new) }
-    {
+        self.lives.image_into(block, count, bytes);
         self.lives.begin(block, count);
     }
 
