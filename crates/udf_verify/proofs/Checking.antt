@@ -12,7 +12,7 @@ use Rattle.udf_verify.specs.Intervals.{Interval, merge}
 use Rattle.udf_verify.specs.Bounds.{◌>>=◌, placed, plain_row, unless_counter, Split, split_row, size, bounds}
 use Rattle.udf_verify.specs.Layout.{IsBlockAt}
 use Rattle.udf_verify.specs.Checks.{CheckAnswer, Checks, IsOpening, branches, BranchChecks}
-use Rattle.udf_verify.proofs.Laid.{some_is, within_list, read_is, size-If, size-IfElse}
+use Rattle.udf_verify.proofs.Laid.{some_is, within_list, word_at, read_is, size-If, size-IfElse}
 
 -- what a first step's Ok and Err make of the answer
 pub first_ok : {A : Type 0} (o : Result A VerifyFault) (f : A → CheckAnswer) (x : A) (answer : CheckAnswer) → (o >>= f) ≡ answer → o ≡ Ok x → f x ≡ answer
@@ -74,8 +74,8 @@ module _ (words : List Word) (targets : List ℕ) (at to : ℕ) (role : Role) (c
   not_if w l e Less a b = l a b
   not_if w l e Equal a b = e a b
 
-  pub at_plain : (w : Word) → slice_get words at ≡ Some w → ((a b : ℕ) → w ≡ IfLess a b → ⊥) → ((a b : ℕ) → w ≡ IfEqual a b → ⊥) → ((a n : ℕ) → w ≡ For a n → ⊥) → Checks words targets at to role counters ivs answer → PlainChecks w
-  at_plain w g l p q r = plain_by w g (not_if w l p) q r.0 r.1 r.2
+  pub at_plain : (w d : Word) → w ≡ get_or words at d → ((a b : ℕ) → w ≡ IfLess a b → ⊥) → ((a b : ℕ) → w ≡ IfEqual a b → ⊥) → ((a n : ℕ) → w ≡ For a n → ⊥) → Checks words targets at to role counters ivs answer → PlainChecks w
+  at_plain w d is l p q r = plain_by w (word_at words at w d (has_word r) is) (not_if w l p) q r.0 r.1 r.2
 
   -- an IF
   pub record SplitChecks (test : Test) (a b : ℕ) : Type 0 where
@@ -103,8 +103,8 @@ module _ (words : List Word) (targets : List ℕ) (at to : ℕ) (role : Role) (c
       }
   if_by test a b g (Loop c k claims body rest) h e = absurd (for_if test c k a b (some_is (sym h.stands.0 ∙ g)))
 
-  pub at_if : (test : Test) (a b : ℕ) → slice_get words at ≡ Some (if_word test a b) → Checks words targets at to role counters ivs answer → SplitChecks test a b
-  at_if test a b g r = if_by test a b g r.0 r.1 r.2
+  pub at_if : (test : Test) (a b : ℕ) (w d : Word) → w ≡ get_or words at d → w ≡ if_word test a b → Checks words targets at to role counters ivs answer → SplitChecks test a b
+  at_if test a b w d is same r = if_by test a b (word_at words at w d (has_word r) is ∙ ap Some same) r.0 r.1 r.2
 
 -- An IF behind its test, with no ELSE.
 pub record IfChecks (words : List Word) (targets : List ℕ) (at to : ℕ) (role : Role) (counters : List Bool) (one two : List Interval) (answer : CheckAnswer) (close : ℕ) : Type 0 where
