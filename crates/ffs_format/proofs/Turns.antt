@@ -1,18 +1,18 @@
 -- Runs of programs whose loops read words and emit those that are not 0.
-use Rattle.std.proofs.Common.{◌≡◌, ℕ, zero, suc, ◌+◌, ◌-◌, ◌*◌, ◌≤◌, ◌<◌, ◌∙◌, ap, sym, refl, Bool, true, false, cond, List, [], ◌∷◌, ◌++◌, map, length, get_or, drop, append_assoc, lit<, arith}
+use Rattle.std.proofs.Common.{◌≡◌, ℕ, zero, suc, ◌+◌, ◌-◌, ◌*◌, ◌≤◌, ◌<◌, ◌∙◌, ap, sym, refl, Bool, true, false, cond, List, [], ◌∷◌, ◌++◌, map, length, get_or, drop, append_assoc, length-append, lit<, arith}
 use Rattle.std.specs.Prelude.{Option, Some, None, if◌then◌else◌, nat_lt, filter_map, flat_map}
 use Rattle.std.specs.List.{range_with_len}
 use Rattle.std.specs.Option.{option_to_list}
 use Rattle.std.proofs.lemmas.Bool.{lt-ltb}
 use Rattle.std.proofs.lemmas.Grind.{flat_map-append}
-use Rattle.std.proofs.lemmas.List.{append-nil, get_or-take, get_or-drop}
+use Rattle.std.proofs.lemmas.List.{append-nil, map-append, get_or-take, get_or-drop}
 use Rattle.std.proofs.Math.Dec.{eqb-suc-zero}
 use Rattle.udf_code.specs.declared.word.Word.{Word}
 use Rattle.udf_code.specs.Tree.{Tree, Claim, Stop, Plain, Loop}
 use Rattle.udf_run.specs.declared.pair.Pair.{Pair}
 use Rattle.udf_run.specs.Meaning.{Machine, machine, write_register, write_if, emit_if, number_at, step, turns, meaning, ◌>>=◌}
 use Rattle.xn_model.specs.Root.{word_at, unless_empty}
-use Rattle.templates.specs.Meaning.{numbers_of_pair}
+use Rattle.templates.specs.Meaning.{numbers_of_pair, pairs_after}
 use Rattle.templates.proofs.ForCallers.{range-more}
 
 -- a load is the number at its place
@@ -74,6 +74,22 @@ pub record Turned {R : Type 0} (registers : R → List ℕ) (o : Option Machine)
   pub has : map numbers_of_pair es ≡ pairs
   pub few : length es ≤ most
 
+-- a turn that ends with the word at a place, named with its type unless it is 0
+pub word_ends : {R : Type 0} (registers : R → List ℕ) (m : List ℕ) (o : Option Machine) (last : R) (es : List Pair) (place at ty : ℕ) (pairs : List (ℕ × ℕ)) (most : ℕ) → place ≡ at → length es < most →
+    o ≡ Some (machine (registers last) (es ++ named (number_at 4 m place) ty)) → map numbers_of_pair es ++ option_to_list (unless_empty (word_at m at, ty)) ≡ pairs → Turned registers o pairs most
+word_ends registers m o last es place at ty pairs most same few ends has =
+    let word = number_at 4 m place in
+    let more = length-append es (named word ty) in
+    let one = length-named word ty in
+    let is : word ≡ word_at m at = number_is_word m place ∙ ap (word_at m) same in
+    record {
+      at = last;
+      es = es ++ named word ty;
+      ends = ends;
+      has = map-append numbers_of_pair es (named word ty) ∙ ap (λ l. map numbers_of_pair es ++ l) (named_pairs word ty ∙ ap (λ x. option_to_list (unless_empty (x, ty))) is) ∙ has;
+      few = omega arith;
+    }
+
 pub more_pairs : (f : ℕ → List (ℕ × ℕ)) (n : ℕ) → flat_map f (range_with_len 0 (suc n)) ≡ flat_map f (range_with_len 0 n) ++ f n
 more_pairs f n =
     let z : 0 + n ≡ n = omega arith in
@@ -110,3 +126,12 @@ one_by_one g (x ∷ xs) = by (g x) refl (one_by_one g xs)
         flat_map (λ i. option_to_list (g i)) (x ∷ xs) ≡ filter_map g (x ∷ xs)
     by None e rest = rw e rest
     by (Some y) e rest = rw e (ap (λ l. y ∷ l) rest)
+
+-- a program that is such a loop, from its first turn on
+pub loop_pairs : {R : Type 0} (registers : R → List ℕ) (m : List ℕ) (body : Tree) (a : ℕ) (f : ℕ → List (ℕ × ℕ)) (each limit : ℕ)
+    (turn : (k : ℕ) (r : R) (es : List Pair) → k < limit → length es ≤ 0 + each * k →
+    Turned registers (meaning body m (write_register (machine (registers r) es) a k)) (map numbers_of_pair es ++ f k) (0 + each * suc k))
+    (start : R) (n : ℕ) → n ≡ limit → pairs_after (meaning (Loop a n [] body Stop) m (machine (registers start) [])) ≡ flat_map f (range_with_len 0 limit)
+loop_pairs registers m body a f each limit turn start n all =
+    let end = all_turns registers (meaning body m) a f 0 each limit turn start [] (omega arith) n (omega arith) in
+    ap pairs_after (looped m a n [] body Stop (machine (registers start) []) (machine (registers end.at) end.es) end.ends) ∙ (end.has ∙ ap (λ k. flat_map f (range_with_len 0 k)) all)
