@@ -1,4 +1,4 @@
-use Rattle.std.proofs.Common.{◌≡◌, ◌∙◌, ap, sym, subst, rules, slice_get}
+use Rattle.std.proofs.Common.{◌≡◌, ◌∙◌, ap, sym, subst, slice_get}
 use Rattle.disk.specs.Lanes.{LeavesOnly}
 use Rattle.std.specs.Prelude.{option_copied, unwrap_or}
 use Rattle.xn_model.specs.Lives.{life_at}
