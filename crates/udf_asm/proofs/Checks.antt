@@ -1,12 +1,12 @@
 -- The words that were kept, and whether they are a program.
-use Rattle.std.proofs.Common.{◌≡◌, ℕ, ◌+◌, ◌<◌, ◌≤◌, max, Bool, true, false, cond, List, [], ◌∷◌, length, take, refl, sym, ap, ◌∙◌, subst, arith, ◌⊎◌, inl, inr}
+use Rattle.std.proofs.Common.{◌≡◌, ℕ, ◌+◌, ◌≤◌, max, Bool, true, false, cond, List, [], ◌∷◌, length, take, refl, sym, ap, ◌∙◌, subst, arith, ◌⊎◌, inl, inr}
 use Rattle.std.specs.Prelude.{Result, Ok, Err, nat_lt}
 use Rattle.std.specs.List.{slice_split}
 use Rattle.std.specs.Result.{result_map_both}
-use Rattle.std.proofs.lemmas.Bool.{lt-ltb, ltb-false}
+use Rattle.std.proofs.lemmas.Bool.{ltb-false}
 use Rattle.std.proofs.lemmas.List.{take_all}
 use Rattle.udf_code.specs.declared.word.Word.{Word}
-use Rattle.udf_code.specs.declared.word.Word.TheVariants.{Set, Mov, Add, Sub, Mul, Div, Rem, And, Shr, Load1, Load2, Load4, Emit, IfLess, IfEqual, Else, End, For, Keep}
+use Rattle.udf_code.specs.declared.word.Word.TheVariants.{IfLess, IfEqual, Else, End, For, Keep}
 use Rattle.udf_code.specs.declared.fault.CodeFault.{CodeFault}
 use Rattle.udf_code.specs.declared.fault.CodeFault.TheVariants.{NoMemory, OddLength, BadOp, BadOperand, Unmatched, MisplacedKeep, TooDeep, TooLong}
 use Rattle.udf_code.specs.declared.opening.Opening.{Opening}
@@ -53,25 +53,13 @@ closes at [] fault h = as_fault at (Unmatched at) fault (omega arith) h
 closes at (o ∷ blocks) fault h = absurd (cc)
 
 of_word : (at : ℕ) (word : Word) (p : Place) (fault : CodeFault) → after_word at word p ≡ Err fault → IsWithin at fault
-of_word at (Set a n) p fault h = absurd (cc)
-of_word at (Mov a b) p fault h = absurd (cc)
-of_word at (Add a b c) p fault h = absurd (cc)
-of_word at (Sub a b c) p fault h = absurd (cc)
-of_word at (Mul a b c) p fault h = absurd (cc)
-of_word at (Div a b c) p fault h = absurd (cc)
-of_word at (Rem a b c) p fault h = absurd (cc)
-of_word at (And a b c) p fault h = absurd (cc)
-of_word at (Shr a b k) p fault h = absurd (cc)
-of_word at (Load1 a b) p fault h = absurd (cc)
-of_word at (Load2 a b) p fault h = absurd (cc)
-of_word at (Load4 a b) p fault h = absurd (cc)
-of_word at (Emit a b) p fault h = absurd (cc)
 of_word at (IfLess a b) p fault h = tested at _ _ (TooDeep at) fault (omega arith) h
 of_word at (IfEqual a b) p fault h = tested at _ _ (TooDeep at) fault (omega arith) h
 of_word at Else p fault h = parts at p.blocks fault h
 of_word at End p fault h = closes at p.blocks fault h
 of_word at (For a n) p fault h = tested at _ _ (TooDeep at) fault (omega arith) h
 of_word at (Keep a n) p fault h = tested at _ _ (MisplacedKeep at) fault (omega arith) h
+of_word at word p fault h = absurd (cc)
 
 bind_err : {A B E : Type 0} (r : Result A E) (f : A → Result B E) (e : E) → (r >>= f) ≡ Err e → (r ≡ Err e) ⊎ ((x : A) × (f x ≡ Err e))
 bind_err (Ok x) f e h = inr (x, h)
