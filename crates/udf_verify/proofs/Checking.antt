@@ -22,13 +22,13 @@ pub first_err : {A : Type 0} (o : Result A VerifyFault) (f : A → CheckAnswer) 
 first_err o f x answer e h = sym e ∙ ap (λ r. r >>= f) h
 
 -- two IFs are one word only where they are alike
-one_if : (t u : Test) (c d a b : ℕ) → if_word t c d ≡ if_word u a b → (t ≡ u) × (c ≡ a) × (d ≡ b)
+pub one_if : (t u : Test) (c d a b : ℕ) → if_word t c d ≡ if_word u a b → (t ≡ u) × (c ≡ a) × (d ≡ b)
 one_if Less Less c d a b e = (refl, cc, cc)
 one_if Less Equal c d a b e = absurd (cc)
 one_if Equal Less c d a b e = absurd (cc)
 one_if Equal Equal c d a b e = (refl, cc, cc)
 
-plain_if : (test : Test) (a b : ℕ) → IsPlain (if_word test a b) → ⊥
+pub plain_if : (test : Test) (a b : ℕ) → IsPlain (if_word test a b) → ⊥
 plain_if Less a b p = p
 plain_if Equal a b p = p
 
