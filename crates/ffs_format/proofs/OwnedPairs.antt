@@ -12,7 +12,8 @@ use Rattle.xn_model.specs.Root.{word_at, unless_empty}
 use Rattle.templates.specs.Meaning.{answer_of, numbers_of_pair, pairs_after, owned_by}
 use Rattle.ffs_model.specs.Library.{pointed, pointer_word, direct_word, inode_pairs}
 use Rattle.ffs_format.specs.Library.{library_root, inode_template, pointer_template}
-use Rattle.ffs_format.proofs.Turns.{written, plain, looped, emitted, Turned, word_ends, all_turns, loop_pairs, one_by_one}
+use Rattle.templates.proofs.ForCallers.{Turned, all_turns, loop_pairs, looped, one_by_one, plain, written}
+use Rattle.ffs_format.proofs.Turns.{emitted, word_ends}
 
 -- registers that a loop changes
 record Three : Type 0 where
