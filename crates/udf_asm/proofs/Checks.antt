@@ -8,7 +8,7 @@ use Rattle.std.proofs.lemmas.List.{take_all}
 use Rattle.udf_code.specs.declared.word.Word.{Word}
 use Rattle.udf_code.specs.declared.word.Word.TheVariants.{IfLess, IfEqual, Else, End, For, Keep}
 use Rattle.udf_code.specs.declared.fault.CodeFault.{CodeFault}
-use Rattle.udf_code.specs.declared.fault.CodeFault.TheVariants.{NoMemory, OddLength, BadOp, BadOperand, Unmatched, MisplacedKeep, TooDeep, TooLong}
+use Rattle.udf_code.specs.declared.fault.CodeFault.TheVariants.{Unmatched, MisplacedKeep, TooDeep, TooLong}
 use Rattle.udf_code.specs.declared.opening.Opening.{Opening}
 use Rattle.udf_code.specs.declared.opening.Opening.TheVariants.{First, Other, Turn}
 use Rattle.udf_code.specs.Structure.{Place, place, parted, closed, after_word, all_closed, structure_from, structure_of, ◌>>=◌}
@@ -25,14 +25,10 @@ IsWithin n (TooDeep at) = at ≤ n
 IsWithin n fault = Unit {0}
 
 further : (m n : ℕ) (fault : CodeFault) → m ≤ n → IsWithin m fault → IsWithin n fault
-further m n NoMemory h w = tt
-further m n (OddLength at) h w = tt
-further m n (BadOp at) h w = tt
-further m n (BadOperand at) h w = tt
 further m n (Unmatched at) h w = omega arith
 further m n (MisplacedKeep at) h w = omega arith
 further m n (TooDeep at) h w = omega arith
-further m n TooLong h w = tt
+further m n fault h w = tt
 
 -- the fault of one word
 as_fault : {A : Type 0} (at : ℕ) (e fault : CodeFault) → IsWithin at e → ◌≡◌ {A = Result A CodeFault} (Err e) (Err fault) → IsWithin at fault
@@ -79,14 +75,8 @@ within (word ∷ words) at p fault h =
     by_step ih (inr k) = further _ _ fault (omega arith) (ih k.0 k.1)
 
 line_small : (n count : ℕ) (fault : CodeFault) → IsWithin n fault → line_of count fault ≤ max (count + 1) (n + 1)
-line_small n count NoMemory w = omega arith
-line_small n count (OddLength at) w = omega arith
-line_small n count (BadOp at) w = omega arith
-line_small n count (BadOperand at) w = omega arith
-line_small n count (Unmatched at) w = omega arith
-line_small n count (MisplacedKeep at) w = omega arith
 line_small n count (TooDeep at) w = omega arith
-line_small n count TooLong w = omega arith
+line_small n count fault w = omega arith
 
 -- the line of a fault of words is small
 pub line_of_small : (words : List Word) (count : ℕ) (fault : CodeFault) → structure_of words ≡ Err fault → line_of count fault ≤ max (count + 1) 128

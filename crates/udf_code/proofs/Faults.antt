@@ -60,12 +60,10 @@ read_word at code x y z = bound (ok_or (op_of_code code) (BadOp at)) _ (or_fault
 
 from_here : (at : ℕ) (bytes : List ℕ) (p : Place) → decoded_from at bytes p ≢ Err NoMemory
 from_here at [] p = mapped (λ _. []) (all_closed at p.blocks) (ends at p.blocks)
-from_here at (a ∷ []) p = λ k. absurd (cc)
-from_here at (a ∷ b ∷ []) p = λ k. absurd (cc)
-from_here at (a ∷ b ∷ c ∷ []) p = λ k. absurd (cc)
 from_here at (code ∷ x ∷ y ∷ z ∷ bytes) p =
     bound (decoded_word at code x y z) _ (read_word at code x y z)
     (λ word. bound (after_word at word p) _ (one_word at word p) (λ next. mapped (λ words. word ∷ words) (decoded_from (at + 1) bytes next) (from_here (at + 1) bytes next)))
+from_here at bytes p = λ k. absurd (cc)
 
 by_test : (t : Bool) (r s : Result (List Word) CodeFault) → r ≢ Err NoMemory → s ≢ Err NoMemory → cond t r s ≢ Err NoMemory
 by_test true r s h g = h

@@ -178,11 +178,9 @@ module _ (words : List Word) (targets : List ℕ) (at to : ℕ) (role : Role) (c
       }
 
   parts_by : (tree : Tree) → IsBlockAt words targets at to [] tree → branches role counters at tree one two ≡ answer → IsOpening tree → BranchParts
-  parts_by Stop h e i = absurd i
-  parts_by (Plain word rest) h e i = absurd i
   parts_by (If test a b first rest) h e i = inl (subst (λ p. IfChecks words targets at to role counters one two answer p) (sym h.stands.1) (without_by test a b first rest h e))
   parts_by (IfElse test a b first other rest) h e i = inr (subst (λ p. IfElseChecks words targets at to role counters one two answer p) (sym h.stands.1) (with_by test a b first other rest h e))
-  parts_by (Loop a n claims body rest) h e i = absurd i
+  parts_by tree h e i = absurd i
 
   pub branch_parts : BranchChecks words targets at to role counters one two answer → BranchParts
   branch_parts r = parts_by r.0 r.2 r.3 r.1
@@ -216,10 +214,7 @@ at_end words targets at to role counters ivs answer past r = ended r.0 r.1 r.2
   where
     ended : (tree : Tree) → IsBlockAt words targets at to [] tree → bounds role counters at tree ivs ≡ answer → answer ≡ Ok ivs
     ended Stop h e = sym e
-    ended (Plain word rest) h e = absurd (omega (arith, h.ends))
-    ended (If test a b first rest) h e = absurd (omega (arith, h.ends))
-    ended (IfElse test a b first other rest) h e = absurd (omega (arith, h.ends))
-    ended (Loop a n claims body rest) h e = absurd (omega (arith, h.ends))
+    ended tree h e = absurd (omega (arith, h.ends))
 
 pub at_same : (words : List Word) (targets : List ℕ) (at to : ℕ) (role : Role) (counters : List Bool) (ivs js : List Interval) (answer : CheckAnswer) → ivs ≡ js → Checks words targets at to role counters js answer → Checks words targets at to role counters ivs answer
 at_same words targets at to role counters ivs js answer e r = subst (λ x. Checks words targets at to role counters x answer) (sym e) r
