@@ -1,5 +1,5 @@
 -- The index of lives, where these change.
-use Rattle.std.proofs.Common.{◌≡◌, ℕ, ◌<◌, ◌+◌, ◌-◌, true, false, cond, List, length, Option, Some, None, subst}
+use Rattle.std.proofs.Common.{◌≡◌, ℕ, ◌<◌, ◌+◌, ◌-◌, true, false, cond, List, length, Option, Some, None, subst, sym}
 use Rattle.std.specs.Prelude.{Contains, IfSome, IsTrue, count_by, is_some, nat_lt, slice_get, slice_index, slice_set, ◌==◌}
 use Rattle.xn_model.specs.Lives.{BlockState, Lives, accepted_at, begun_at, drops_of, freed, is_for, life_at, settled_at}
 use Rattle.xn_model.specs.Calls.{first_pending, life_pending, new_life}
@@ -59,15 +59,19 @@ accepted_index lives index b s f is pending oldest few room alive for fresh = re
 }
 
 -- a write begins
-pub begun_index : (lives : Lives) (index : IndexValue) (b k : ℕ) → IsIndex lives index →
-    IsIndex (begun_at lives b k) (record index { candidates = with_candidate index.candidates b false })
-begun_index lives index b k is = record {
-  counted = begun_counted lives index.free index.pending b k is.counted;
-  oldest = begun_oldest lives index.oldest b k is.oldest;
-  dirty = begun_dirty index.dirty lives b k is.dirty;
-  candidates = begun_accounts lives index.candidates b k is.candidates;
-  homes = begun_homes lives index.homes b k is.homes;
-}
+pub begun_index : {now : Lives} {index value : IndexValue} (b : ℕ) → index ≡ value → (lives : Lives) × (k : ℕ) × (now ≡ begun_at lives b k) × IsIndex lives value →
+    IsIndex now (record index { candidates = with_candidate index.candidates b false })
+begun_index {now} {index} b same from =
+    let lives = from.0 in
+    let k = from.1 in
+    let is = subst (IsIndex lives) (sym same) from.3 in
+    rw from.2 (record {
+      counted = begun_counted lives index.free index.pending b k is.counted;
+      oldest = begun_oldest lives index.oldest b k is.oldest;
+      dirty = begun_dirty index.dirty lives b k is.dirty;
+      candidates = begun_accounts lives index.candidates b k is.candidates;
+      homes = begun_homes lives index.homes b k is.homes;
+    })
 
 -- a write is settled, and what its entries drop is free
 pub settled_index : (lives : Lives) (index : IndexValue) (b k : ℕ) (pending : List ℕ) (woken : CandidatesValue) → IsIndex lives index →

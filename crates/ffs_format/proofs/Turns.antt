@@ -1,44 +1,16 @@
--- Runs of programs whose loops read words and emit those that are not 0.
-use Rattle.std.proofs.Common.{◌≡◌, ℕ, zero, suc, ◌+◌, ◌-◌, ◌*◌, ◌≤◌, ◌<◌, ◌∙◌, ap, sym, refl, Bool, true, false, cond, List, [], ◌∷◌, ◌++◌, map, length, get_or, drop, append_assoc, lit<, arith}
-use Rattle.std.specs.Prelude.{Option, Some, None, if◌then◌else◌, nat_lt, filter_map, flat_map}
-use Rattle.std.specs.List.{range_with_len}
+-- Turns of the library's programs, which end with a word that is named unless it is 0.
+use Rattle.std.proofs.Common.{◌≡◌, ℕ, zero, suc, ◌≤◌, ◌<◌, ◌∙◌, ap, sym, refl, Bool, true, false, cond, List, [], ◌∷◌, ◌++◌, map, length, arith}
+use Rattle.std.specs.Prelude.{Option, Some, None, if◌then◌else◌, nat_lt}
 use Rattle.std.specs.Option.{option_to_list}
 use Rattle.std.proofs.lemmas.Bool.{lt-ltb}
-use Rattle.std.proofs.lemmas.Grind.{flat_map-append}
-use Rattle.std.proofs.lemmas.List.{append-nil, get_or-take, get_or-drop}
+use Rattle.std.proofs.lemmas.List.{append-nil}
 use Rattle.std.proofs.Math.Dec.{eqb-suc-zero}
-use Rattle.udf_code.specs.declared.word.Word.{Word}
-use Rattle.udf_code.specs.Tree.{Tree, Claim, Stop, Plain, Loop}
+use Rattle.udf_code.specs.Tree.{Stop}
 use Rattle.udf_run.specs.declared.pair.Pair.{Pair}
-use Rattle.udf_run.specs.Meaning.{Machine, machine, write_register, write_if, emit_if, number_at, step, turns, meaning, ◌>>=◌}
+use Rattle.udf_run.specs.Meaning.{Machine, machine, emit_if, number_at, meaning, ◌>>=◌}
 use Rattle.xn_model.specs.Root.{word_at, unless_empty}
 use Rattle.templates.specs.Meaning.{numbers_of_pair}
-use Rattle.templates.proofs.ForCallers.{range-more}
-
--- a load is the number at its place
-pub number_is_word : (m : List ℕ) (at : ℕ) → number_at 4 m at ≡ word_at m at
-unfolding word_at
-number_is_word m at =
-    let second : at + 1 + 1 ≡ at + 2 = omega arith in
-    let third : at + 1 + 1 + 1 ≡ at + 3 = omega arith in
-    let first : at + 0 ≡ at = omega arith in
-    let a = get_or-take 4 (drop at m) 0 0 (lit< tt) ∙ (get_or-drop at m 0 0 ∙ ap (λ i. get_or m i 0) first) in
-    let b = get_or-take 4 (drop at m) 1 0 (lit< tt) ∙ get_or-drop at m 1 0 in
-    let c = get_or-take 4 (drop at m) 2 0 (lit< tt) ∙ (get_or-drop at m 2 0 ∙ ap (λ i. get_or m i 0) (sym second)) in
-    let d = get_or-take 4 (drop at m) 3 0 (lit< tt) ∙ (get_or-drop at m 3 0 ∙ ap (λ i. get_or m i 0) (sym third)) in
-    omega arith
-
--- Steps
-
-pub written : (fine : Bool) (m : Machine) (r v : ℕ) → fine ≡ true → write_if fine m r v ≡ Some (write_register m r v)
-written fine m r v h = ap (λ b. write_if b m r v) h
-
-module _ (block : List ℕ) where
-  pub plain : (word : Word) (rest : Tree) (m after : Machine) → step word block m ≡ Some after → meaning (Plain word rest) block m ≡ meaning rest block after
-  plain word rest m after h = ap (λ o. o >>= meaning rest block) h
-
-  pub looped : (a n : ℕ) (claims : List Claim) (body rest : Tree) (m after : Machine) → turns (meaning body block) a n m ≡ Some after → meaning (Loop a n claims body rest) block m ≡ meaning rest block (write_register after a (n - 1))
-  looped a n claims body rest m after h = ap (λ o. o >>= (λ end. meaning rest block (write_register end a (n - 1)))) h
+use Rattle.templates.proofs.ForCallers.{Turned, number_is_word, turn_ends}
 
 -- A word that is not 0 is emitted, with its type
 
@@ -65,48 +37,10 @@ pub emitted : (m : List ℕ) (registers : List ℕ) (es : List Pair) (block ty :
 emitted m registers es block ty few true = ap (λ fine. (emit_if fine (machine registers es) block ty >>= meaning Stop m) >>= meaning Stop m) (lt-ltb (length es) 128 few)
 emitted m registers es block ty few false = ap (λ l. Some (machine registers l)) (sym (append-nil es))
 
--- Turns of a loop: each leaves the registers in one form, and adds the pairs of its number
-
-pub record Turned {R : Type 0} (registers : R → List ℕ) (o : Option Machine) (pairs : List (ℕ × ℕ)) (most : ℕ) : Type 0 where
-  pub at : R
-  pub es : List Pair
-  pub ends : o ≡ Some (machine (registers at) es)
-  pub has : map numbers_of_pair es ≡ pairs
-  pub few : length es ≤ most
-
-pub more_pairs : (f : ℕ → List (ℕ × ℕ)) (n : ℕ) → flat_map f (range_with_len 0 (suc n)) ≡ flat_map f (range_with_len 0 n) ++ f n
-more_pairs f n =
-    let z : 0 + n ≡ n = omega arith in
-    ap (flat_map f) (range-more 0 n) ∙ (flat_map-append f (range_with_len 0 n) ((0 + n) ∷ [])
-    ∙ ap (λ l. flat_map f (range_with_len 0 n) ++ l) (append-nil (f (0 + n)) ∙ ap f z))
-
-module _ {R : Type 0} (registers : R → List ℕ) (body : Machine → Option Machine) (a : ℕ) (f : ℕ → List (ℕ × ℕ)) (base each limit : ℕ)
-    (turn : (k : ℕ) (r : R) (es : List Pair) → k < limit → length es ≤ base + each * k →
-    Turned registers (body (write_register (machine (registers r) es) a k)) (map numbers_of_pair es ++ f k) (base + each * suc k))
-    (r0 : R) (before : List Pair) (room : length before ≤ base)
-  where
-    next : (n : ℕ) → n < limit → Turned registers (turns body a n (machine (registers r0) before)) (map numbers_of_pair before ++ flat_map f (range_with_len 0 n)) (base + each * n) →
-        Turned registers (turns body a (suc n) (machine (registers r0) before)) (map numbers_of_pair before ++ flat_map f (range_with_len 0 (suc n))) (base + each * suc n)
-    next n lt p =
-        let one = turn n p.at p.es lt p.few in
-        record {
-          at = one.at;
-          es = one.es;
-          ends = ap (λ o. o >>= (λ m. body (write_register m a n))) p.ends ∙ one.ends;
-          has = one.has ∙ (ap (λ l. l ++ f n) p.has ∙ (append_assoc (map numbers_of_pair before) (flat_map f (range_with_len 0 n)) (f n) ∙ ap (λ l. map numbers_of_pair before ++ l) (sym (more_pairs f n))));
-          few = one.few;
-        }
-
-    pub all_turns : (n : ℕ) → n ≤ limit → Turned registers (turns body a n (machine (registers r0) before)) (map numbers_of_pair before ++ flat_map f (range_with_len 0 n)) (base + each * n)
-    all_turns zero h = record { at = r0; es = before; ends = refl; has = sym (append-nil (map numbers_of_pair before)); few = omega arith }
-    all_turns (suc n) h = next n (omega arith) (all_turns n (omega arith))
-
--- the pairs of words, one by one
-pub one_by_one : (g : ℕ → Option (ℕ × ℕ)) (xs : List ℕ) → flat_map (λ i. option_to_list (g i)) xs ≡ filter_map g xs
-one_by_one g [] = refl
-one_by_one g (x ∷ xs) = by (g x) refl (one_by_one g xs)
-  where
-    by : (o : Option (ℕ × ℕ)) → g x ≡ o → flat_map (λ i. option_to_list (g i)) xs ≡ filter_map g xs →
-        flat_map (λ i. option_to_list (g i)) (x ∷ xs) ≡ filter_map g (x ∷ xs)
-    by None e rest = rw e rest
-    by (Some y) e rest = rw e (ap (λ l. y ∷ l) rest)
+-- a turn that ends with the word at a place, named with its type unless it is 0
+pub word_ends : {R : Type 0} (registers : R → List ℕ) (m : List ℕ) (o : Option Machine) (last : R) (es : List Pair) (place at ty : ℕ) (pairs : List (ℕ × ℕ)) (most : ℕ) → place ≡ at → length es < most →
+    o ≡ Some (machine (registers last) (es ++ named (number_at 4 m place) ty)) → map numbers_of_pair es ++ option_to_list (unless_empty (word_at m at, ty)) ≡ pairs → Turned registers o pairs most
+word_ends registers m o last es place at ty pairs most same few ends has =
+    let word = number_at 4 m place in
+    let is : word ≡ word_at m at = number_is_word m place ∙ ap (word_at m) same in
+    turn_ends registers o last es (named word ty) pairs most (length-named word ty) few ends (ap (λ l. map numbers_of_pair es ++ l) (named_pairs word ty ∙ ap (λ x. option_to_list (unless_empty (x, ty))) is) ∙ has)

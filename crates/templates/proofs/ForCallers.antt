@@ -5,6 +5,6 @@ pub use Rattle.templates.proofs.FreshRoots.{distinct_named, get_or-named, length
 pub use Rattle.templates.proofs.Installed.{language_none, language_ok, language_some, none_there, put_types}
 pub use Rattle.templates.proofs.Meanings.{tables_are_catalogues}
 pub use Rattle.templates.proofs.OneSpelling.{blocks_are_templates}
-pub use Rattle.templates.proofs.Ranges.{range-more}
 pub use Rattle.templates.proofs.TablePlaces.{at_place, tells}
+pub use Rattle.templates.proofs.Turns.{Turned, all_turns, loop_pairs, looped, number_is_word, one_by_one, plain, turn_ends, written}
 pub use Rattle.templates.proofs.WordsWritten.{drop-zeros}

@@ -4,6 +4,7 @@ pub mod WordsWritten
 pub mod KnownPrograms
 pub mod TablePlaces
 pub mod FreshImages
+pub mod Turns
 pub mod CataloguePairs
 pub mod BuiltInTypes
 pub mod Meanings

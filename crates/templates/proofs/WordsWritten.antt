@@ -3,31 +3,14 @@ use Rattle.std.proofs.Common.{◌≡◌, ℕ, ◌+◌, ◌-◌, ◌*◌, ◌≤�
 use borrow.Rule.Slice.PartMut.{put_mid, mid_of}
 use Rattle.std.proofs.lemmas.List.{take_at, drop_at, take_all, drop_all, drop-drop, length-drop, append-nil, flat_map_more, take_more, length-take-le, length-replicate, drop-replicate}
 use Rattle.udf_code.specs.declared.word.Word.{Word}
-use Rattle.udf_code.specs.declared.word.Word.TheVariants.{Set, Mov, Add, Sub, Mul, Div, Rem, And, Shr, Load1, Load2, Load4, Emit, IfLess, IfEqual, Else, End, For, Keep}
+use Rattle.udf_code.specs.declared.word.Word.TheVariants.{Set}
 use Rattle.udf_code.specs.Bytes.{word_bytes, encoded}
 use Rattle.xn_model.specs.BareDisks.{zeros}
 use Rattle.templates.specs.Templates.{TemplateValue, IsTemplate, template_bytes}
 
 pub length-word_bytes : (word : Word) → length (word_bytes word) ≡ 4
 length-word_bytes (Set a n) = refl
-length-word_bytes (Mov a b) = refl
-length-word_bytes (Add a b c) = refl
-length-word_bytes (Sub a b c) = refl
-length-word_bytes (Mul a b c) = refl
-length-word_bytes (Div a b c) = refl
-length-word_bytes (Rem a b c) = refl
-length-word_bytes (And a b c) = refl
-length-word_bytes (Shr a b k) = refl
-length-word_bytes (Load1 a b) = refl
-length-word_bytes (Load2 a b) = refl
-length-word_bytes (Load4 a b) = refl
-length-word_bytes (Emit a b) = refl
-length-word_bytes (IfLess a b) = refl
-length-word_bytes (IfEqual a b) = refl
-length-word_bytes Else = refl
-length-word_bytes End = refl
-length-word_bytes (For a n) = refl
-length-word_bytes (Keep a n) = refl
+length-word_bytes word = refl
 
 pub length-encoded_words : (words : List Word) → length (encoded words) ≡ 4 * length words
 length-encoded_words [] = refl

@@ -1,14 +1,14 @@
 -- The words that were kept, and whether they are a program.
-use Rattle.std.proofs.Common.{◌≡◌, ℕ, ◌+◌, ◌<◌, ◌≤◌, max, Bool, true, false, cond, List, [], ◌∷◌, length, take, refl, sym, ap, ◌∙◌, subst, arith, ◌⊎◌, inl, inr}
+use Rattle.std.proofs.Common.{◌≡◌, ℕ, ◌+◌, ◌≤◌, max, Bool, true, false, cond, List, [], ◌∷◌, length, take, refl, sym, ap, ◌∙◌, subst, arith, ◌⊎◌, inl, inr}
 use Rattle.std.specs.Prelude.{Result, Ok, Err, nat_lt}
 use Rattle.std.specs.List.{slice_split}
 use Rattle.std.specs.Result.{result_map_both}
-use Rattle.std.proofs.lemmas.Bool.{lt-ltb, ltb-false}
+use Rattle.std.proofs.lemmas.Bool.{ltb-false}
 use Rattle.std.proofs.lemmas.List.{take_all}
 use Rattle.udf_code.specs.declared.word.Word.{Word}
-use Rattle.udf_code.specs.declared.word.Word.TheVariants.{Set, Mov, Add, Sub, Mul, Div, Rem, And, Shr, Load1, Load2, Load4, Emit, IfLess, IfEqual, Else, End, For, Keep}
+use Rattle.udf_code.specs.declared.word.Word.TheVariants.{IfLess, IfEqual, Else, End, For, Keep}
 use Rattle.udf_code.specs.declared.fault.CodeFault.{CodeFault}
-use Rattle.udf_code.specs.declared.fault.CodeFault.TheVariants.{NoMemory, OddLength, BadOp, BadOperand, Unmatched, MisplacedKeep, TooDeep, TooLong}
+use Rattle.udf_code.specs.declared.fault.CodeFault.TheVariants.{Unmatched, MisplacedKeep, TooDeep, TooLong}
 use Rattle.udf_code.specs.declared.opening.Opening.{Opening}
 use Rattle.udf_code.specs.declared.opening.Opening.TheVariants.{First, Other, Turn}
 use Rattle.udf_code.specs.Structure.{Place, place, parted, closed, after_word, all_closed, structure_from, structure_of, ◌>>=◌}
@@ -25,14 +25,10 @@ IsWithin n (TooDeep at) = at ≤ n
 IsWithin n fault = Unit {0}
 
 further : (m n : ℕ) (fault : CodeFault) → m ≤ n → IsWithin m fault → IsWithin n fault
-further m n NoMemory h w = tt
-further m n (OddLength at) h w = tt
-further m n (BadOp at) h w = tt
-further m n (BadOperand at) h w = tt
 further m n (Unmatched at) h w = omega arith
 further m n (MisplacedKeep at) h w = omega arith
 further m n (TooDeep at) h w = omega arith
-further m n TooLong h w = tt
+further m n fault h w = tt
 
 -- the fault of one word
 as_fault : {A : Type 0} (at : ℕ) (e fault : CodeFault) → IsWithin at e → ◌≡◌ {A = Result A CodeFault} (Err e) (Err fault) → IsWithin at fault
@@ -53,25 +49,13 @@ closes at [] fault h = as_fault at (Unmatched at) fault (omega arith) h
 closes at (o ∷ blocks) fault h = absurd (cc)
 
 of_word : (at : ℕ) (word : Word) (p : Place) (fault : CodeFault) → after_word at word p ≡ Err fault → IsWithin at fault
-of_word at (Set a n) p fault h = absurd (cc)
-of_word at (Mov a b) p fault h = absurd (cc)
-of_word at (Add a b c) p fault h = absurd (cc)
-of_word at (Sub a b c) p fault h = absurd (cc)
-of_word at (Mul a b c) p fault h = absurd (cc)
-of_word at (Div a b c) p fault h = absurd (cc)
-of_word at (Rem a b c) p fault h = absurd (cc)
-of_word at (And a b c) p fault h = absurd (cc)
-of_word at (Shr a b k) p fault h = absurd (cc)
-of_word at (Load1 a b) p fault h = absurd (cc)
-of_word at (Load2 a b) p fault h = absurd (cc)
-of_word at (Load4 a b) p fault h = absurd (cc)
-of_word at (Emit a b) p fault h = absurd (cc)
 of_word at (IfLess a b) p fault h = tested at _ _ (TooDeep at) fault (omega arith) h
 of_word at (IfEqual a b) p fault h = tested at _ _ (TooDeep at) fault (omega arith) h
 of_word at Else p fault h = parts at p.blocks fault h
 of_word at End p fault h = closes at p.blocks fault h
 of_word at (For a n) p fault h = tested at _ _ (TooDeep at) fault (omega arith) h
 of_word at (Keep a n) p fault h = tested at _ _ (MisplacedKeep at) fault (omega arith) h
+of_word at word p fault h = absurd (cc)
 
 bind_err : {A B E : Type 0} (r : Result A E) (f : A → Result B E) (e : E) → (r >>= f) ≡ Err e → (r ≡ Err e) ⊎ ((x : A) × (f x ≡ Err e))
 bind_err (Ok x) f e h = inr (x, h)
@@ -91,14 +75,8 @@ within (word ∷ words) at p fault h =
     by_step ih (inr k) = further _ _ fault (omega arith) (ih k.0 k.1)
 
 line_small : (n count : ℕ) (fault : CodeFault) → IsWithin n fault → line_of count fault ≤ max (count + 1) (n + 1)
-line_small n count NoMemory w = omega arith
-line_small n count (OddLength at) w = omega arith
-line_small n count (BadOp at) w = omega arith
-line_small n count (BadOperand at) w = omega arith
-line_small n count (Unmatched at) w = omega arith
-line_small n count (MisplacedKeep at) w = omega arith
 line_small n count (TooDeep at) w = omega arith
-line_small n count TooLong w = omega arith
+line_small n count fault w = omega arith
 
 -- the line of a fault of words is small
 pub line_of_small : (words : List Word) (count : ℕ) (fault : CodeFault) → structure_of words ≡ Err fault → line_of count fault ≤ max (count + 1) 128

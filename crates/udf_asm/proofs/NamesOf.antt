@@ -11,68 +11,17 @@ use Rattle.udf_asm.specs.Assembly.{is_space, parts_read, line_read}
 
 pub op_named-name_of : (o : Op) → op_named (name_of o) ≡ Some o
 op_named-name_of Set = refl
-op_named-name_of Mov = refl
-op_named-name_of Add = refl
-op_named-name_of Sub = refl
-op_named-name_of Mul = refl
-op_named-name_of Div = refl
-op_named-name_of Rem = refl
-op_named-name_of And = refl
-op_named-name_of Shr = refl
-op_named-name_of Load1 = refl
-op_named-name_of Load2 = refl
-op_named-name_of Load4 = refl
-op_named-name_of Emit = refl
-op_named-name_of IfLess = refl
-op_named-name_of IfEqual = refl
-op_named-name_of Else = refl
-op_named-name_of End = refl
-op_named-name_of For = refl
-op_named-name_of Keep = refl
+op_named-name_of o = refl
 
 -- the bytes of a name are above a space
 pub name_high : (o : Op) → list_all (λ c. nat_lt 32 c) (name_of o) ≡ true
 name_high Set = refl
-name_high Mov = refl
-name_high Add = refl
-name_high Sub = refl
-name_high Mul = refl
-name_high Div = refl
-name_high Rem = refl
-name_high And = refl
-name_high Shr = refl
-name_high Load1 = refl
-name_high Load2 = refl
-name_high Load4 = refl
-name_high Emit = refl
-name_high IfLess = refl
-name_high IfEqual = refl
-name_high Else = refl
-name_high End = refl
-name_high For = refl
-name_high Keep = refl
+name_high o = refl
 
 -- a line that begins with a name isn't empty
 pub line_read-name : (o : Op) (rest : List ℕ) → line_read (name_of o ++ rest) ≡ parts_read (slice_split is_space (name_of o ++ rest))
 line_read-name Set rest = refl
-line_read-name Mov rest = refl
-line_read-name Add rest = refl
-line_read-name Sub rest = refl
-line_read-name Mul rest = refl
-line_read-name Div rest = refl
-line_read-name Rem rest = refl
-line_read-name And rest = refl
-line_read-name Shr rest = refl
-line_read-name Load1 rest = refl
-line_read-name Load2 rest = refl
-line_read-name Load4 rest = refl
-line_read-name Emit rest = refl
-line_read-name IfLess rest = refl
-line_read-name IfEqual rest = refl
-line_read-name Else rest = refl
-line_read-name End rest = refl
-line_read-name For rest = refl
-line_read-name Keep rest = refl
+line_read-name o rest = refl
 
 else_if : (name : List ℕ) (o' : Op) (rest : Option Op) (o : Op) → (rest ≡ Some o → name ≡ name_of o) → cond (bytes_eq name (name_of o')) (Some o') rest ≡ Some o → name ≡ name_of o
 else_if name o' rest o f h = by_test (bytes_eq name (name_of o')) refl h

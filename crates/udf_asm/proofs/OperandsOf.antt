@@ -76,50 +76,24 @@ turns_in : (a n : ℕ) → (is_register a && nat_le 1 n && nat_le n 512) ≡ tru
 turns_in a n h = let i = and_true _ _ h in let l = and_true _ _ i.0 in (ltb-true a 16 l.0, leb-true 1 n l.1, leb-true n 512 i.1)
 
 bare : (o : Op) (word : Word) → bare_word o ≡ Some word → IsRead o [] word
-bare op.Set word h = absurd (cc)
-bare op.Mov word h = absurd (cc)
-bare op.Add word h = absurd (cc)
-bare op.Sub word h = absurd (cc)
-bare op.Mul word h = absurd (cc)
-bare op.Div word h = absurd (cc)
-bare op.Rem word h = absurd (cc)
-bare op.And word h = absurd (cc)
-bare op.Shr word h = absurd (cc)
-bare op.Load1 word h = absurd (cc)
-bare op.Load2 word h = absurd (cc)
-bare op.Load4 word h = absurd (cc)
-bare op.Emit word h = absurd (cc)
-bare op.IfLess word h = absurd (cc)
-bare op.IfEqual word h = absurd (cc)
 bare op.Else word h = made op.Else [] word Else true refl refl (λ t. tt) h
 bare op.End word h = made op.End [] word End true refl refl (λ t. tt) h
-bare op.For word h = absurd (cc)
-bare op.Keep word h = absurd (cc)
+bare o word h = absurd (cc)
 
 of_two : (o : Op) (a b : ℕ) (word : Word) → b < 2 ^ 16 → word_of_two o a b ≡ Some word → IsRead o (a ∷ b ∷ []) word
 of_two op.Set a b word i h = made op.Set _ word (Set a b) _ refl refl (λ t. (ltb-true a 16 t, i)) h
 of_two op.Mov a b word i h = made op.Mov _ word (Mov a b) _ refl refl (two_in a b) h
-of_two op.Add a b word i h = absurd (cc)
-of_two op.Sub a b word i h = absurd (cc)
-of_two op.Mul a b word i h = absurd (cc)
-of_two op.Div a b word i h = absurd (cc)
-of_two op.Rem a b word i h = absurd (cc)
-of_two op.And a b word i h = absurd (cc)
-of_two op.Shr a b word i h = absurd (cc)
 of_two op.Load1 a b word i h = made op.Load1 _ word (Load1 a b) _ refl refl (two_in a b) h
 of_two op.Load2 a b word i h = made op.Load2 _ word (Load2 a b) _ refl refl (two_in a b) h
 of_two op.Load4 a b word i h = made op.Load4 _ word (Load4 a b) _ refl refl (two_in a b) h
 of_two op.Emit a b word i h = made op.Emit _ word (Emit a b) _ refl refl (two_in a b) h
 of_two op.IfLess a b word i h = made op.IfLess _ word (IfLess a b) _ refl refl (two_in a b) h
 of_two op.IfEqual a b word i h = made op.IfEqual _ word (IfEqual a b) _ refl refl (two_in a b) h
-of_two op.Else a b word i h = absurd (cc)
-of_two op.End a b word i h = absurd (cc)
 of_two op.For a b word i h = made op.For _ word (For a b) _ refl refl (turns_in a b) h
 of_two op.Keep a b word i h = made op.Keep _ word (Keep a b) _ refl refl (λ t. (ltb-true a 16 t, i)) h
+of_two o a b word i h = absurd (cc)
 
 of_three : (o : Op) (a b c : ℕ) (word : Word) → word_of_three o a b c ≡ Some word → IsRead o (a ∷ b ∷ c ∷ []) word
-of_three op.Set a b c word h = absurd (cc)
-of_three op.Mov a b c word h = absurd (cc)
 of_three op.Add a b c word h = made op.Add _ word (Add a b c) _ refl refl (three_in a b c) h
 of_three op.Sub a b c word h = made op.Sub _ word (Sub a b c) _ refl refl (three_in a b c) h
 of_three op.Mul a b c word h = made op.Mul _ word (Mul a b c) _ refl refl (three_in a b c) h
@@ -127,16 +101,7 @@ of_three op.Div a b c word h = made op.Div _ word (Div a b c) _ refl refl (three
 of_three op.Rem a b c word h = made op.Rem _ word (Rem a b c) _ refl refl (three_in a b c) h
 of_three op.And a b c word h = made op.And _ word (And a b c) _ refl refl (three_in a b c) h
 of_three op.Shr a b c word h = made op.Shr _ word (Shr a b c) _ refl refl (shift_in a b c) h
-of_three op.Load1 a b c word h = absurd (cc)
-of_three op.Load2 a b c word h = absurd (cc)
-of_three op.Load4 a b c word h = absurd (cc)
-of_three op.Emit a b c word h = absurd (cc)
-of_three op.IfLess a b c word h = absurd (cc)
-of_three op.IfEqual a b c word h = absurd (cc)
-of_three op.Else a b c word h = absurd (cc)
-of_three op.End a b c word h = absurd (cc)
-of_three op.For a b c word h = absurd (cc)
-of_three op.Keep a b c word h = absurd (cc)
+of_three o a b c word h = absurd (cc)
 
 -- each number is below 2 ^ 16
 abbrev pub AreSmall : List ℕ → Type 0
@@ -153,24 +118,7 @@ word_with-reads o (a ∷ b ∷ c ∷ d ∷ operands) word s h = absurd (cc)
 -- how many operands a word has
 pub length-operands_of : (word : Word) → length (operands_of word) ≡ operand_count (op_of word)
 length-operands_of (Set a n) = refl
-length-operands_of (Mov a b) = refl
-length-operands_of (Add a b c) = refl
-length-operands_of (Sub a b c) = refl
-length-operands_of (Mul a b c) = refl
-length-operands_of (Div a b c) = refl
-length-operands_of (Rem a b c) = refl
-length-operands_of (And a b c) = refl
-length-operands_of (Shr a b k) = refl
-length-operands_of (Load1 a b) = refl
-length-operands_of (Load2 a b) = refl
-length-operands_of (Load4 a b) = refl
-length-operands_of (Emit a b) = refl
-length-operands_of (IfLess a b) = refl
-length-operands_of (IfEqual a b) = refl
-length-operands_of Else = refl
-length-operands_of End = refl
-length-operands_of (For a n) = refl
-length-operands_of (Keep a n) = refl
+length-operands_of word = refl
 
 -- the operands of a word in range are small
 pub operands_of_small : (word : Word) → InRange word → AreSmall (operands_of word)

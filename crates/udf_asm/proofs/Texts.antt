@@ -9,7 +9,6 @@ use Rattle.std.specs.Result.{result_map_both}
 use Rattle.udf_code.specs.declared.word.Word.{Word}
 use Rattle.udf_code.specs.Structure.{◌>>=◌}
 use Rattle.udf_asm.specs.declared.fault.AsmKind.{AsmKind}
-use Rattle.udf_asm.specs.declared.fault.AsmKind.TheVariants.{BadLine}
 use Rattle.udf_asm.specs.declared.fault.AsmFault.{AsmFault}
 use Rattle.udf_asm.specs.Assembly.{is_newline, line_read, at_line, lines_read}
 

@@ -4,7 +4,7 @@ use Rattle.std.specs.Prelude.{Option, Some, None, Result, Ok, Err, ◌==◌, ◌
 use Rattle.std.specs.Option.{ok_or}
 use Rattle.std.specs.Result.{result_map_both}
 use Rattle.udf_code.specs.declared.word.Word.{Word}
-use Rattle.udf_code.specs.declared.word.Word.TheVariants.{Set, Mov, Add, Sub, Mul, Div, Rem, And, Shr, Load1, Load2, Load4, Emit, IfLess, IfEqual, Else, End, For, Keep}
+use Rattle.udf_code.specs.declared.word.Word.TheVariants.{IfLess, IfEqual, Else, End, For, Keep}
 use Rattle.udf_code.specs.declared.fault.CodeFault.{CodeFault}
 use Rattle.udf_code.specs.declared.fault.CodeFault.TheVariants.{NoMemory, BadOp, BadOperand, MisplacedKeep, TooDeep}
 use Rattle.udf_code.specs.declared.opening.Opening.{Opening}
@@ -47,37 +47,23 @@ good : (p : Place) → ◌≢◌ {A = Result Place CodeFault} (Ok p) (Err NoMemo
 good p = λ k. absurd (cc)
 
 one_word : (at : ℕ) (word : Word) (p : Place) → after_word at word p ≢ Err NoMemory
-one_word at (Set a n) p = good _
-one_word at (Mov a b) p = good _
-one_word at (Add a b c) p = good _
-one_word at (Sub a b c) p = good _
-one_word at (Mul a b c) p = good _
-one_word at (Div a b c) p = good _
-one_word at (Rem a b c) p = good _
-one_word at (And a b c) p = good _
-one_word at (Shr a b k) p = good _
-one_word at (Load1 a b) p = good _
-one_word at (Load2 a b) p = good _
-one_word at (Load4 a b) p = good _
-one_word at (Emit a b) p = good _
 one_word at (IfLess a b) p = tested _ _ (TooDeep at) (λ k. absurd (cc))
 one_word at (IfEqual a b) p = tested _ _ (TooDeep at) (λ k. absurd (cc))
 one_word at Else p = parts at p.blocks
 one_word at End p = closes at p.blocks
 one_word at (For a n) p = tested _ _ (TooDeep at) (λ k. absurd (cc))
 one_word at (Keep a n) p = tested _ _ (MisplacedKeep at) (λ k. absurd (cc))
+one_word at word p = good _
 
 read_word : (at code x y z : ℕ) → decoded_word at code x y z ≢ Err NoMemory
 read_word at code x y z = bound (ok_or (op_of_code code) (BadOp at)) _ (or_fault _ _ (λ k. absurd (cc))) (λ o. or_fault (word_of o x y z) (BadOperand at) (λ k. absurd (cc)))
 
 from_here : (at : ℕ) (bytes : List ℕ) (p : Place) → decoded_from at bytes p ≢ Err NoMemory
 from_here at [] p = mapped (λ _. []) (all_closed at p.blocks) (ends at p.blocks)
-from_here at (a ∷ []) p = λ k. absurd (cc)
-from_here at (a ∷ b ∷ []) p = λ k. absurd (cc)
-from_here at (a ∷ b ∷ c ∷ []) p = λ k. absurd (cc)
 from_here at (code ∷ x ∷ y ∷ z ∷ bytes) p =
     bound (decoded_word at code x y z) _ (read_word at code x y z)
     (λ word. bound (after_word at word p) _ (one_word at word p) (λ next. mapped (λ words. word ∷ words) (decoded_from (at + 1) bytes next) (from_here (at + 1) bytes next)))
+from_here at bytes p = λ k. absurd (cc)
 
 by_test : (t : Bool) (r s : Result (List Word) CodeFault) → r ≢ Err NoMemory → s ≢ Err NoMemory → cond t r s ≢ Err NoMemory
 by_test true r s h g = h

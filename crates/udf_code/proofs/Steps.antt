@@ -25,13 +25,10 @@ word_in at piece = decoded_word at (get_or piece 0 0) (get_or piece 1 0) (get_or
 
 -- the first of four bytes and more
 first_word : (r : List ℕ) (at : ℕ) (p q : Place) (word : Word) → 4 ≤ length r → word_in at (take 4 r) ≡ Ok word → after_word at word p ≡ Ok q → decoded_from at r p ≡ with_word word (decoded_from (at + 1) (drop 4 r) q)
-first_word [] at p q word h e g = absurd (omega arith)
-first_word (a ∷ []) at p q word h e g = absurd (omega arith)
-first_word (a ∷ b ∷ []) at p q word h e g = absurd (omega arith)
-first_word (a ∷ b ∷ c ∷ []) at p q word h e g = absurd (omega arith)
 first_word (a ∷ b ∷ c ∷ d ∷ r) at p q word h e g =
     ap (λ w. w >>= (λ x. after_word at x p >>= (λ n. with_word x (decoded_from (at + 1) r n)))) e
     ∙ ap (λ n. n >>= (λ m. with_word word (decoded_from (at + 1) r m))) g
+first_word r at p q word h e g = absurd (omega arith)
 
 -- the word at a place, and what is left after it
 pub next_word : (bytes : List ℕ) (at : ℕ) (p q : Place) (words : List Word) (word : Word) → at < length bytes / 4 → word_in at (take (at * 4 + 4 - at * 4) (drop (at * 4) bytes)) ≡ Ok word → after_word at word p ≡ Ok q → after_words (words ++ word ∷ []) (decoded_from (at + 1) (drop ((at + 1) * 4) bytes) q) ≡ after_words words (decoded_from at (drop (at * 4) bytes) p)

@@ -4,7 +4,7 @@ use Rattle.std.specs.Prelude.{Result, Ok, Err, IsOk, Some}
 use Rattle.std.proofs.Common.{append-nil}
 use Rattle.std.proofs.Math.Seq.{take-append_seam}
 use Rattle.udf_code.specs.declared.word.Word.{Word}
-use Rattle.udf_code.specs.declared.word.Word.TheVariants.{Set, Mov, Add, Sub, Mul, Div, Rem, And, Shr, Load1, Load2, Load4, Emit, IfLess, IfEqual, Else, End, For, Keep}
+use Rattle.udf_code.specs.declared.word.Word.TheVariants.{IfLess, IfEqual, Else, End, For, Keep}
 use Rattle.udf_code.specs.declared.fault.CodeFault.{CodeFault}
 use Rattle.udf_code.specs.declared.fault.CodeFault.TheVariants.{Unmatched, MisplacedKeep, TooDeep, TooLong}
 use Rattle.udf_code.specs.declared.opening.Opening.{Opening}
@@ -45,19 +45,7 @@ word_at at Else p fault h = parted_at at p.blocks fault h
 word_at at End p fault h = closed_at at p.blocks fault h
 word_at at (For a n) p fault h = opened_at at p.blocks Turn true fault h
 word_at at (Keep a n) p fault h = kept_at at p p.may_claim fault h
-word_at at (Set a n) p fault h = absurd (cc)
-word_at at (Mov a b) p fault h = absurd (cc)
-word_at at (Add a b c) p fault h = absurd (cc)
-word_at at (Sub a b c) p fault h = absurd (cc)
-word_at at (Mul a b c) p fault h = absurd (cc)
-word_at at (Div a b c) p fault h = absurd (cc)
-word_at at (Rem a b c) p fault h = absurd (cc)
-word_at at (And a b c) p fault h = absurd (cc)
-word_at at (Shr a b k) p fault h = absurd (cc)
-word_at at (Load1 a b) p fault h = absurd (cc)
-word_at at (Load2 a b) p fault h = absurd (cc)
-word_at at (Load4 a b) p fault h = absurd (cc)
-word_at at (Emit a b) p fault h = absurd (cc)
+word_at at word p fault h = absurd (cc)
 
 end_at : (at : ℕ) (blocks : List Opening) (fault : CodeFault) → all_closed at blocks ≡ Err fault → fault_place fault ≡ Some at
 end_at at [] fault h = absurd (cc)

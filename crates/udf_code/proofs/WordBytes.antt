@@ -14,24 +14,7 @@ use Rattle.udf_code.specs.Decoding.{when, is_register, word_of}
 -- an operation is found by its code
 pub op_of_code-code_of : (o : Op) → op_of_code (code_of o) ≡ Some o
 op_of_code-code_of op.Set = refl
-op_of_code-code_of op.Mov = refl
-op_of_code-code_of op.Add = refl
-op_of_code-code_of op.Sub = refl
-op_of_code-code_of op.Mul = refl
-op_of_code-code_of op.Div = refl
-op_of_code-code_of op.Rem = refl
-op_of_code-code_of op.And = refl
-op_of_code-code_of op.Shr = refl
-op_of_code-code_of op.Load1 = refl
-op_of_code-code_of op.Load2 = refl
-op_of_code-code_of op.Load4 = refl
-op_of_code-code_of op.Emit = refl
-op_of_code-code_of op.IfLess = refl
-op_of_code-code_of op.IfEqual = refl
-op_of_code-code_of op.Else = refl
-op_of_code-code_of op.End = refl
-op_of_code-code_of op.For = refl
-op_of_code-code_of op.Keep = refl
+op_of_code-code_of o = refl
 
 -- a number is what its two bytes are, and two bytes are those of their number
 number_of-bytes : (n : ℕ) → number_of_bytes (low_byte n) (high_byte n) ≡ n

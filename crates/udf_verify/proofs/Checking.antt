@@ -12,7 +12,7 @@ use Rattle.udf_verify.specs.Intervals.{Interval, merge}
 use Rattle.udf_verify.specs.Bounds.{◌>>=◌, placed, plain_row, unless_counter, Split, split_row, size, bounds}
 use Rattle.udf_verify.specs.Layout.{IsBlockAt}
 use Rattle.udf_verify.specs.Checks.{CheckAnswer, Checks, IsOpening, branches, BranchChecks}
-use Rattle.udf_verify.proofs.Laid.{some_is, within_list, read_is, size-If, size-IfElse}
+use Rattle.udf_verify.proofs.Laid.{some_is, within_list, word_at, read_is, size-If, size-IfElse}
 
 -- what a first step's Ok and Err make of the answer
 pub first_ok : {A : Type 0} (o : Result A VerifyFault) (f : A → CheckAnswer) (x : A) (answer : CheckAnswer) → (o >>= f) ≡ answer → o ≡ Ok x → f x ≡ answer
@@ -22,13 +22,13 @@ pub first_err : {A : Type 0} (o : Result A VerifyFault) (f : A → CheckAnswer) 
 first_err o f x answer e h = sym e ∙ ap (λ r. r >>= f) h
 
 -- two IFs are one word only where they are alike
-one_if : (t u : Test) (c d a b : ℕ) → if_word t c d ≡ if_word u a b → (t ≡ u) × (c ≡ a) × (d ≡ b)
+pub one_if : (t u : Test) (c d a b : ℕ) → if_word t c d ≡ if_word u a b → (t ≡ u) × (c ≡ a) × (d ≡ b)
 one_if Less Less c d a b e = (refl, cc, cc)
 one_if Less Equal c d a b e = absurd (cc)
 one_if Equal Less c d a b e = absurd (cc)
 one_if Equal Equal c d a b e = (refl, cc, cc)
 
-plain_if : (test : Test) (a b : ℕ) → IsPlain (if_word test a b) → ⊥
+pub plain_if : (test : Test) (a b : ℕ) → IsPlain (if_word test a b) → ⊥
 plain_if Less a b p = p
 plain_if Equal a b p = p
 
@@ -74,8 +74,8 @@ module _ (words : List Word) (targets : List ℕ) (at to : ℕ) (role : Role) (c
   not_if w l e Less a b = l a b
   not_if w l e Equal a b = e a b
 
-  pub at_plain : (w : Word) → slice_get words at ≡ Some w → ((a b : ℕ) → w ≡ IfLess a b → ⊥) → ((a b : ℕ) → w ≡ IfEqual a b → ⊥) → ((a n : ℕ) → w ≡ For a n → ⊥) → Checks words targets at to role counters ivs answer → PlainChecks w
-  at_plain w g l p q r = plain_by w g (not_if w l p) q r.0 r.1 r.2
+  pub at_plain : (w d : Word) → w ≡ get_or words at d → ((a b : ℕ) → w ≡ IfLess a b → ⊥) → ((a b : ℕ) → w ≡ IfEqual a b → ⊥) → ((a n : ℕ) → w ≡ For a n → ⊥) → Checks words targets at to role counters ivs answer → PlainChecks w
+  at_plain w d is l p q r = plain_by w (word_at words at w d (has_word r) is) (not_if w l p) q r.0 r.1 r.2
 
   -- an IF
   pub record SplitChecks (test : Test) (a b : ℕ) : Type 0 where
@@ -103,8 +103,8 @@ module _ (words : List Word) (targets : List ℕ) (at to : ℕ) (role : Role) (c
       }
   if_by test a b g (Loop c k claims body rest) h e = absurd (for_if test c k a b (some_is (sym h.stands.0 ∙ g)))
 
-  pub at_if : (test : Test) (a b : ℕ) → slice_get words at ≡ Some (if_word test a b) → Checks words targets at to role counters ivs answer → SplitChecks test a b
-  at_if test a b g r = if_by test a b g r.0 r.1 r.2
+  pub at_if : (test : Test) (a b : ℕ) (w d : Word) → w ≡ get_or words at d → w ≡ if_word test a b → Checks words targets at to role counters ivs answer → SplitChecks test a b
+  at_if test a b w d is same r = if_by test a b (word_at words at w d (has_word r) is ∙ ap Some same) r.0 r.1 r.2
 
 -- An IF behind its test, with no ELSE.
 pub record IfChecks (words : List Word) (targets : List ℕ) (at to : ℕ) (role : Role) (counters : List Bool) (one two : List Interval) (answer : CheckAnswer) (close : ℕ) : Type 0 where
@@ -178,11 +178,9 @@ module _ (words : List Word) (targets : List ℕ) (at to : ℕ) (role : Role) (c
       }
 
   parts_by : (tree : Tree) → IsBlockAt words targets at to [] tree → branches role counters at tree one two ≡ answer → IsOpening tree → BranchParts
-  parts_by Stop h e i = absurd i
-  parts_by (Plain word rest) h e i = absurd i
   parts_by (If test a b first rest) h e i = inl (subst (λ p. IfChecks words targets at to role counters one two answer p) (sym h.stands.1) (without_by test a b first rest h e))
   parts_by (IfElse test a b first other rest) h e i = inr (subst (λ p. IfElseChecks words targets at to role counters one two answer p) (sym h.stands.1) (with_by test a b first other rest h e))
-  parts_by (Loop a n claims body rest) h e i = absurd i
+  parts_by tree h e i = absurd i
 
   pub branch_parts : BranchChecks words targets at to role counters one two answer → BranchParts
   branch_parts r = parts_by r.0 r.2 r.3 r.1
@@ -216,10 +214,7 @@ at_end words targets at to role counters ivs answer past r = ended r.0 r.1 r.2
   where
     ended : (tree : Tree) → IsBlockAt words targets at to [] tree → bounds role counters at tree ivs ≡ answer → answer ≡ Ok ivs
     ended Stop h e = sym e
-    ended (Plain word rest) h e = absurd (omega (arith, h.ends))
-    ended (If test a b first rest) h e = absurd (omega (arith, h.ends))
-    ended (IfElse test a b first other rest) h e = absurd (omega (arith, h.ends))
-    ended (Loop a n claims body rest) h e = absurd (omega (arith, h.ends))
+    ended tree h e = absurd (omega (arith, h.ends))
 
 pub at_same : (words : List Word) (targets : List ℕ) (at to : ℕ) (role : Role) (counters : List Bool) (ivs js : List Interval) (answer : CheckAnswer) → ivs ≡ js → Checks words targets at to role counters js answer → Checks words targets at to role counters ivs answer
 at_same words targets at to role counters ivs js answer e r = subst (λ x. Checks words targets at to role counters x answer) (sym e) r

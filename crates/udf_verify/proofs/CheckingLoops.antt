@@ -1,5 +1,5 @@
 -- What is left of a check at a FOR.
-use Rattle.std.proofs.Common.{◌≡◌, ℕ, suc, ◌+◌, ◌-◌, ◌<◌, Bool, true, false, not, List, [], ◌∷◌, ◌++◌, map, length, length-append, get_or, set, take, drop, refl, sym, ap, ◌∙◌, subst, arith, append_assoc}
+use Rattle.std.proofs.Common.{◌≡◌, ℕ, suc, ◌+◌, ◌-◌, ◌<◌, ◌≤◌, Bool, true, false, not, List, [], ◌∷◌, ◌++◌, map, length, length-append, get_or, set, take, drop, refl, sym, ap, ◌∙◌, subst, arith, append_assoc}
 use Rattle.std.specs.Prelude.{slice_get, Some, Result, Ok, Err}
 use Rattle.std.specs.List.{list_any}
 use Rattle.std.proofs.Math.Seq.{drop-cons}
@@ -81,12 +81,14 @@ inside_is words targets claims body at h =
 -- a FOR
 pub record LoopChecks (words : List Word) (targets : List ℕ) (at to : ℕ) (role : Role) (counters : List Bool) (ivs : List Interval) (answer : CheckAnswer) (a n close : ℕ) : Type 0 where
   pub readable : at < length targets
-  pub ending : slice_get words close ≡ Some End
+  pub within : close < length words
+  pub short : length words ≤ 127
   pub busy : get_or counters a false ≡ true → answer ≡ Err (record { at = at; kind = kind.Counter })
   pub claims : List Claim
   pub body : Tree
   pub plain : IsTree body
   pub closes : at + 1 + length claims + size body ≡ close
+  pub after : at < close
   pub before : close < to
   pub inside : take (close - (at + 1)) (drop (at + 1) words) ≡ map keep_word claims ++ words_of body
   pub turned : CheckAnswer
@@ -140,12 +142,14 @@ module _ (words : List Word) (targets : List ℕ) (at to : ℕ) (role : Role) (c
         let k = claims_from words (λ k. Stands words targets k body) claims (at + 1) h.stands.2 in
         record {
           readable = let w = within_list words at _ h.stands.0 in omega (arith, h.even);
-          ending = h.stands.3;
+          within = within_list words close End h.stands.3;
+          short = h.short;
           busy = λ p. first_err (gate (get_or counters a false)) behind_gate (record { at = at; kind = kind.Counter }) answer e (ap gate p);
           claims = claims;
           body = body;
           plain = h.plain.0;
           closes = refl;
+          after = omega arith;
           before = omega (arith, h.ends);
           inside = let z : close - (at + 1) ≡ length claims + size body = omega arith in ap (λ m. take m (drop (at + 1) words)) z ∙ inside_is words targets claims body (at + 1) h.stands.2;
           turned = inside;
@@ -173,8 +177,8 @@ module _ (words : List Word) (targets : List ℕ) (at to : ℕ) (role : Role) (c
   at_for a n g r = loop_by a n g r.0 r.1 r.2
 
 -- the intervals in a loop, as the code makes them
-pub in_loop_is : (written : List Bool) (claims : List Claim) (body : Tree) (ivs forgotten held : List Interval) (a : ℕ) (v counter : Interval) → length ivs ≡ 16 → ((r : ℕ) → r < 16 → get_or written r false ≡ list_any (word_writes r) (words_of body)) → forgotten ≡ widen (λ r. get_or written r false) 0 ivs → held ≡ claimed claims forgotten → v ≡ counter → set held a v ≡ in_loop a counter claims body ivs
-in_loop_is written claims body ivs forgotten held a v counter len w f k e =
+pub in_loop_is : (written : List Bool) (claims : List Claim) (body : Tree) (ivs forgotten held : List Interval) (a : ℕ) → length ivs ≡ 16 → ((r : ℕ) → r < 16 → get_or written r false ≡ list_any (word_writes r) (words_of body)) → forgotten ≡ widen (λ r. get_or written r false) 0 ivs → held ≡ claimed claims forgotten → (v counter : Interval) → v ≡ counter → set held a v ≡ in_loop a counter claims body ivs
+in_loop_is written claims body ivs forgotten held a len w f k v counter e =
     ap (λ x. set held a x) e
     ∙ ap (λ x. set x a counter) (k ∙ ap (λ x. claimed claims x) (f ∙ widen_same (λ r. get_or written r false) (writes body) 0 ivs (λ r h. w r (omega arith))))
 
@@ -200,3 +204,14 @@ checks_same words targets from start to role counters busy ivs js answer p b e r
     subst (λ f. Checks words targets f to role counters ivs answer) (sym p)
     (subst (λ x. Checks words targets start to role x ivs answer) (sym b)
     (subst (λ x. Checks words targets start to role busy x answer) (sym e) r))
+
+-- A FOR before its first turn: the words of its claims, the counters in it, its intervals without the counter's, and those of the turn
+pub record FirstTurn (words : List Word) (targets : List ℕ) (at to : ℕ) (role : Role) (counters : List Bool) (ivs : List Interval) (answer : CheckAnswer) (a n close : ℕ)
+    (front : List Word) (busy : List Bool) (held_ivs turn : List Interval) : Type 0 where
+  pub loop : LoopChecks words targets at to role counters ivs answer a n close
+  pub claims : front ≡ map keep_word loop.claims
+  pub count : length front ≡ length loop.claims
+  pub free : get_or counters a false ≡ false
+  pub held : claims_row (at + 1) (set no_register a true) loop.claims ivs ≡ Ok tt
+  pub looped : (v counter : Interval) → v ≡ counter → set held_ivs a v ≡ in_loop a counter loop.claims loop.body ivs
+  pub inner : Checks words targets (at + 1 + length front) close role busy turn loop.turned

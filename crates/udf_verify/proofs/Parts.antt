@@ -3,7 +3,7 @@ use Rattle.std.proofs.Common.{◌≡◌, ℕ, ◌+◌, Bool, true, false, cond, 
 use Rattle.std.specs.Prelude.{Result, Ok, Err, ◌-◌, slice_index_or, slice_set}
 use Rattle.std.proofs.Math.ListN.{length-set}
 use Rattle.udf_code.specs.declared.word.Word.{Word}
-use Rattle.udf_code.specs.declared.word.Word.TheVariants.{Set, Mov, Add, Sub, Mul, Div, Rem, And, Shr, Load1, Load2, Load4, Emit, IfLess, IfEqual, Else, End, For, Keep}
+use Rattle.udf_code.specs.declared.word.Word.TheVariants.{Set, Mov, Add, Sub, Mul, Div, Rem, And, Shr, Load1, Load2, Load4, Emit}
 use Rattle.udf_code.specs.Tree.{Test, Claim, Tree, Stop, Plain, If, IfElse, Loop, writes}
 use Rattle.udf_verify.specs.declared.fault.Role.{Role}
 use Rattle.udf_verify.specs.declared.fault.FaultKind.{FaultKind}
@@ -72,12 +72,7 @@ length-plain_row role (Load1 a b) ivs after h = subst (λ l. length l ≡ length
 length-plain_row role (Load2 a b) ivs after h = subst (λ l. length l ≡ length ivs) (demand_ok _ _ _ _ h).1 (length-set ivs a _)
 length-plain_row role (Load4 a b) ivs after h = subst (λ l. length l ≡ length ivs) (demand_ok _ _ _ _ h).1 (length-set ivs a _)
 length-plain_row role (Emit a b) ivs after h = subst (λ l. length l ≡ length ivs) (demand_ok _ _ _ _ h).1 refl
-length-plain_row role (IfLess a b) ivs after h = subst (λ l. length l ≡ length ivs) (ok_is h) refl
-length-plain_row role (IfEqual a b) ivs after h = subst (λ l. length l ≡ length ivs) (ok_is h) refl
-length-plain_row role Else ivs after h = subst (λ l. length l ≡ length ivs) (ok_is h) refl
-length-plain_row role End ivs after h = subst (λ l. length l ≡ length ivs) (ok_is h) refl
-length-plain_row role (For a n) ivs after h = subst (λ l. length l ≡ length ivs) (ok_is h) refl
-length-plain_row role (Keep a n) ivs after h = subst (λ l. length l ≡ length ivs) (ok_is h) refl
+length-plain_row role word ivs after h = subst (λ l. length l ≡ length ivs) (ok_is h) refl
 
 -- what a split that is Ok is
 pub record IsSplit (test : Test) (a c : ℕ) (ivs : List Interval) (split : Split) : Type 0 where

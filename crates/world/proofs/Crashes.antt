@@ -3,18 +3,14 @@ use Rattle.std.proofs.Common.{◌≡◌, ◌∙◌, ◌<◌, zero, suc, [], ◌�
 use Rattle.std.proofs.lemmas.Option.{none-some}
 use Rattle.xn_model.specs.Images.{block_of}
 use Rattle.xn_model.specs.Mounts.{recovered}
-use Rattle.xn_model.specs.Worlds as model
 use Rattle.xn_model.specs.Worlds.{Down, given_at, none_given, left_at, left, mount_reply, AfterCrash}
 use Rattle.xn_model.specs.Rules.{Holds}
 use Rattle.xn_model.specs.Lists.{has_number}
 use Rattle.std.specs.Prelude.{unwrap_or}
-use Rattle.std.proofs.lemmas.Bool.{cond_both, false≢true}
+use Rattle.std.proofs.lemmas.Bool.{cond_both}
 use Rattle.std.proofs.lemmas.List.{ext_get_or}
 use Rattle.std.proofs.lemmas.List.FromFn.{get_or-map-range_with_len, length-map-range_with_len}
 use Rattle.templates.specs.Language.{types_of_image}
-use Rattle.events.specs.declared.event.Event.{Event}
-use Rattle.events.specs.declared.event.Event.TheVariants as event
-use Rattle.events.specs.Events.{event_of, IsNoCrash}
 use Rattle.world.specs.Worlds.{WorldValue, world_with, world_value, mounted_value, down_value, IsSoundDisk, IsWorldOf}
 use Rattle.world.proofs.Mounting.{mounted_holds, sound_recovers}
 

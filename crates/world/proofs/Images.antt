@@ -1,11 +1,9 @@
 -- What is known of the lanes of a disk, and one place of it changed.
-use Rattle.std.proofs.Common.{◌≡◌, ℕ, zero, suc, ◌<◌, List, [], ◌∷◌, ◌+◌, ◌++◌, length, take, append_assoc, Option, Some, None, refl, sym, ◌∙◌, ap, arith, slice_get, slice_set}
+use Rattle.std.proofs.Common.{◌≡◌, ℕ, zero, suc, List, [], ◌∷◌, length, Option, Some, None, refl, sym, ◌∙◌, ap, arith, slice_get, slice_set}
 use Rattle.std.proofs.lemmas.Option.{same_Some, none-some}
 use Rattle.disk.specs.Mem.{MemoryLane}
 use Rattle.xn_kernel.specs.Kernels.{TicketValue}
 use Rattle.xn_model.specs.Images.{block_of}
-use Rattle.std.proofs.lemmas.List.{take_more, append-nil}
-use Rattle.xn_model.specs.Images.{joined}
 use Rattle.std.specs.Prelude.{slice_index_or}
 use Rattle.world.specs.Disks.{known_at, known_of, image_of, ticket_at}
 

@@ -1,9 +1,9 @@
 -- The disk of an image's bytes.
-use Rattle.std.proofs.Common.{◌≡◌, ◌≢◌, ◌⊎◌, inl, inr, Bool, true, false, not, cond, ◌&&◌, Err, ℕ, zero, suc, ◌+◌, ◌-◌, ◌*◌, ◌/◌, ◌%◌, ◌<◌, List, [], ◌∷◌, ◌++◌, length, take, drop, replicate, Option, Some, None, refl, sym, ◌∙◌, ap, arith, subst, slice_get}
-use Rattle.std.specs.Prelude.{All, ◌==◌, nat_le, bytes_eq}
+use Rattle.std.proofs.Common.{◌≡◌, Bool, true, false, ◌&&◌, ℕ, zero, suc, ◌+◌, ◌-◌, ◌*◌, ◌/◌, ◌%◌, ◌<◌, List, [], ◌∷◌, ◌++◌, length, take, drop, replicate, Option, Some, None, refl, sym, ◌∙◌, ap, arith, subst, slice_get}
+use Rattle.std.specs.Prelude.{All, nat_le}
 use Rattle.std.specs.Simd.{first_chunks}
 use Rattle.std.specs.List.{AllByRecursion}
-use Rattle.std.proofs.lemmas.Bool.{leb-true, ne_eqb}
+use Rattle.std.proofs.lemmas.Bool.{leb-true}
 use Rattle.std.proofs.lemmas.Option.{same_Some, none-some}
 use Rattle.std.proofs.lemmas.List.{take-append-drop, length-drop}
 use Rattle.std.proofs.lemmas.List.Elements.{All-from_get_or}
@@ -11,13 +11,8 @@ use Rattle.std.proofs.Math.Seq.{drop-append-add}
 use Rattle.disk.specs.Images.{block_of_image}
 use Rattle.disk.proofs.ForCallers.{block_at-append_front, block_at-append_last}
 use Rattle.disk.specs.Mem.{MemoryLane, AreFreshLanes, fresh_lane}
-use Rattle.xn_model.specs.Types.{Types}
-use Rattle.xn_model.specs.Root.{word_at}
 use Rattle.xn_model.specs.Images.{block_of, blocks_in, joined, IsSound}
-use Rattle.image_model.specs.Walk.{catalogue_fault, count_of, has_length, head_fault, or_fault, verdict, walk_all}
-use Rattle.image_model.specs.Walk.{block_at as block_at_image}
 use Rattle.image_model.specs.Report.{IsSoundImage}
-use Rattle.image_model.specs.declared.fault.ImageFault.TheVariants.{BadCount, BadLength, BadMark}
 use Rattle.templates.specs.Language.{types_of_image}
 use Rattle.image_model.proofs.ForCallers.{length-blocks, block-long}
 use Rattle.world.specs.Disks.{image_of, IsResting, IsUnmounted}

@@ -36,6 +36,10 @@ place_of xs b d o within e = ap (λ y. unwrap_or y None) (slice_get-get_or xs b 
 pub place_is : {A : Type 0} (xs : List (Option A)) (b : ℕ) (o : Option A) → b < length xs → o ≡ get_or xs b o → place_at xs b ≡ o
 place_is xs b o within e = place_of xs b o o within e
 
+-- an empty place, left as it is
+pub left_empty : {A : Type 0} (xs : List (Option A)) (b : ℕ) (o : Option A) → b < length xs → o ≡ get_or xs b o → o ≡ None → (place_at xs b ≡ None) × (slice_set xs b o ≡ xs)
+left_empty xs b o within e none = let here = place_is xs b o within e in (here ∙ none, set_still xs b o here)
+
 pub full_place : {A : Type 0} (xs : List (Option A)) (b : ℕ) (x : A) → slice_get xs b ≡ Some (Some x) → place_at xs b ≡ Some x
 full_place xs b x e = ap (λ o. unwrap_or o None) e
 

@@ -1,10 +1,10 @@
 -- The lanes of tickets come back to their places.
-use Rattle.std.proofs.Common.{◌≡◌, ℕ, zero, suc, ◌+◌, ◌<◌, List, [], ◌∷◌, ◌++◌, length, take, drop, replicate, Option, Some, None, refl, sym, ◌∙◌, ap, inl, inr, arith, subst, slice_get, slice_set}
+use Rattle.std.proofs.Common.{◌≡◌, ℕ, zero, suc, ◌+◌, ◌<◌, List, [], ◌∷◌, length, replicate, Option, Some, None, refl, sym, ◌∙◌, ap, inl, inr, arith, subst, slice_get, slice_set}
 use Rattle.std.specs.Prelude.{option_map}
 use Rattle.std.specs.List.{AllByRecursion}
 use Rattle.std.proofs.lemmas.Bool.{cases_eq}
 use Rattle.std.proofs.lemmas.Option.{same_Some, none-some}
-use Rattle.std.proofs.lemmas.List.{length-set, length-replicate, append-nil, drop_all, take_all}
+use Rattle.std.proofs.lemmas.List.{length-set}
 use Rattle.disk.specs.Mem.{MemoryLane}
 use Rattle.xn_model.specs.Lives.{Life, Lives, life_at}
 use Rattle.xn_model.specs.Lanes.{FitsLife, FitLives}
@@ -13,7 +13,7 @@ use Rattle.xn_model.specs.Calls.{bytes_at}
 use Rattle.xn_kernel.specs.Kernels.{KernelValue, TicketValue}
 use Rattle.world.specs.Disks.{image_of, settled_image, given_to, ticket_at, lane_at, lanes_with, AreWhole, IsCalm, IsLaneHome, IsSomewhere}
 use Rattle.world.specs.Worlds.{Tickets, ticket_flight, IsWorld}
-use Rattle.world.proofs.Images.{known_of-finished, length-image_of}
+use Rattle.world.proofs.Images.{known_of-finished}
 use Rattle.world.proofs.Places.{place_at-same, place_at-other, set_still, full_get, empty_get}
 use Rattle.world.proofs.Sizes.{nowhere}
 

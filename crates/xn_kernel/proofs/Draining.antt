@@ -19,6 +19,7 @@ use Rattle.xn_model.proofs.ForCallers.{unless_ok, never_ok, none_from, same_ok, 
 use Rattle.xn_state.specs.States.{own_types}
 use Rattle.xn_kernel.specs.Kernels.{KernelValue, TicketValue, IsKernel, is_in_flight, is_mine}
 use Rattle.xn_kernel.specs.Drains.{Reads, WriteRelation, Writes, with_home, Round, Rounds, Unwritten, Unsynced, Unread}
+use Rattle.xn_kernel.specs.Flushes.{HoldsOneOf, kernel_with_begun}
 
 -- no write is under way
 pub idle_from : (lives : Lives) → list_any (alive_and (λ l. is_some l.begun)) lives ≡ false → IsIdle lives
@@ -143,6 +144,36 @@ pub landed_or_kept : {A B : Type 0} (answer : Result (Unit {0}) DeviceFault) →
 landed_or_kept (Ok done) new either = inl new
 landed_or_kept (Err fault) new either = ⊎_elim (λ b. inr (b, (fault, refl))) (λ a. inl a) either
 
+module _ {L : Type 0} (bytes : L → List ℕ) (crash : L → List ℕ → Type 0) (faults : L → ℕ) (writes : WriteRelation L) where
+  -- A kernel's picked block was begun and written: its ticket after that, and the kernel without its lane
+  pub record Wrote (old mid : KernelValue L) (answer : Result (Unit {0}) DeviceFault) (ticket : TicketValue L) : Type 0 where
+    pub is : IsKernel bytes crash old.lanes old.state
+    pub written : Writes faults writes old answer ticket mid.state
+    pub holds : HoldsOneOf bytes answer written.home ticket
+    pub away : mid ≡ kernel_with_begun old ticket.block mid.state
+
+  pub wrote : (old mid : KernelValue L) (b : ℕ) (first ticket : TicketValue L) (answer : Result (Unit {0}) DeviceFault) → IsKernel bytes crash old.lanes old.state → pick_of old.state ≡ Some b →
+      GivesExactly (begun_of old.state b) old.state mid.state (Ok (first.bytes, first.count)) →
+      (first.kernel ≡ old.id) × (first.block ≡ b) × (slice_get old.lanes b ≡ Some (Some first.lane)) × (first.unsynced ≡ false) → mid ≡ kernel_with_begun old b mid.state →
+      ticket ≡ record first { lane = ticket.lane; unsynced = true } → OnOk answer (bytes ticket.lane ≡ first.bytes) →
+      OnErr answer ((bytes ticket.lane ≡ bytes first.lane) ⊎ (bytes ticket.lane ≡ first.bytes)) → OnErr answer (CountsOne (faults first.lane) (faults ticket.lane)) →
+      writes first.lane first.bytes answer ticket.lane → Wrote old mid answer ticket
+  wrote old mid b first ticket answer is picked begins at away landed new either counts gives = subst (λ t. Wrote old mid answer t) (sym landed) (record {
+    is = is;
+    written = record {
+      picked = picked ∙ ap (λ b. Some b) (sym at.1);
+      begins = ap (begun_of old.state) at.1 ∙ gives_exactly-ok (begun_of old.state b) old.state mid.state (first.bytes, first.count) begins;
+      ours = at.0;
+      home = first.lane;
+      taken = ap (slice_get old.lanes) at.1 ∙ at.2;
+      gives = gives;
+      counts = counts;
+      unsynced = refl;
+    };
+    holds = landed_or_kept answer new either;
+    away = away ∙ ap (λ b. kernel_with_begun old b mid.state) (sym at.1);
+  })
+
 module _ {L : Type 0} (bytes : L → List ℕ) (crash : L → List ℕ → Type 0) (faults : L → ℕ) (writes : WriteRelation L) (syncs reads : Reads L) where
   pub rounds_more : (n : ℕ) (a b c : KernelValue L) → Rounds bytes faults writes syncs reads n a b → Round bytes faults writes syncs reads b c → Rounds bytes faults writes syncs reads (n + 1) a c
   rounds_more n a b c rounds round = let next : suc n ≡ n + 1 = omega arith in subst (λ m. Rounds bytes faults writes syncs reads m a c) next (go n a rounds)
@@ -158,68 +189,60 @@ module _ {L : Type 0} (bytes : L → List ℕ) (crash : L → List ℕ → Type 
       let left = round_leaves (own_types old.state) old.state r.begun r.store r.ticket.block r.ticket.bytes r.ticket.count (r.ticket.count, r.freed) is.rules idle r.written.picked r.written.begins r.settles in
       subst (λ (k : KernelValue L). IsIdle k.state.lives × (all_pending k.state.lives < all_pending old.state.lives)) (sym r.next) left
 
-  -- a block is begun and its lane written
-  module _ (old : KernelValue L) (is : IsKernel bytes crash old.lanes old.state) (first : TicketValue L) (begun : StoreState) (picked : pick_of old.state ≡ Some first.block)
-      (begins : begun_of old.state first.block ≡ Ok ((first.bytes, first.count), begun)) (ours : first.kernel ≡ old.id) (taken : slice_get old.lanes first.block ≡ Some (Some first.lane))
-      (answer : Result (Unit {0}) DeviceFault) (lane : L) (gives : writes first.lane first.bytes answer lane) (counts : OnErr answer (CountsOne (faults first.lane) (faults lane)))
-      (after : (bytes lane ≡ first.bytes) ⊎ ((bytes lane ≡ bytes first.lane) × ((fault : DeviceFault) × (answer ≡ Err fault)))) where
-    abbrev ticket : TicketValue L
-    ticket = record first { lane = lane; unsynced = true }
+  -- what the end of such a write says
+  module _ (old mid : KernelValue L) (answer : Result (Unit {0}) DeviceFault) (ticket : TicketValue L) (w : Wrote bytes crash faults writes old mid answer ticket) where
+    abbrev pub begun_life : Began old.state ticket.block ticket.bytes ticket.count mid.state
+    begun_life = began old.state mid.state ticket.block ticket.bytes ticket.count w.written.begins
 
-    abbrev away : KernelValue L
-    away = record old { lanes = slice_set old.lanes first.block None; state = begun }
-
-    written : Writes faults writes old answer ticket begun
-    written = record { picked = picked; begins = begins; ours = ours; home = first.lane; taken = taken; gives = gives; counts = counts; unsynced = refl }
+    -- the bytes before it are the durable ones
+    pub holds_durable : bytes ticket.lane ≡ bytes w.written.home → IfSome begun_life.life.durable (λ s. bytes ticket.lane ≡ s.bytes)
+    holds_durable same = go begun_life.life.durable (fits_at bytes old.lanes old.state.lives ticket.block w.written.home begun_life.life w.is.fit w.written.taken begun_life.alive)
+      where
+        go : (o : Option BlockState) → IfSome o (λ s. bytes w.written.home ≡ s.bytes) → IfSome o (λ s. bytes ticket.lane ≡ s.bytes)
+        go None h = h
+        go (Some s) h = same ∙ h
 
     -- what it holds settles
-    pub settles_some : (n : ℕ) × (settled_of begun first.block (bytes lane) ≡ Ok (settled_after begun first.block n))
-    settles_some =
-        let b = began old.state begun first.block first.bytes first.count begins in
-        ⊎_elim
-        (λ new. (first.count, settles_all old.state begun first.block first.bytes first.count begins (bytes lane) new))
-        (λ kept. settles_old old.state begun first.block first.bytes first.count begins (bytes lane)
-        (held b.life.durable (fits_at bytes old.lanes old.state.lives first.block first.lane b.life is.fit taken b.alive) kept.0))
-        after
-      where
-        held : (o : Option BlockState) → IfSome o (λ s. bytes first.lane ≡ s.bytes) → bytes lane ≡ bytes first.lane → IfSome o (λ s. bytes lane ≡ s.bytes)
-        held None h e = h
-        held (Some s) h e = e ∙ h
+    settles_some : (n : ℕ) × (settled_of mid.state ticket.block (bytes ticket.lane) ≡ Ok (settled_after mid.state ticket.block n))
+    settles_some = ⊎_elim
+        (λ new. (ticket.count, settles_all old.state mid.state ticket.block ticket.bytes ticket.count w.written.begins (bytes ticket.lane) new))
+        (λ kept. settles_old old.state mid.state ticket.block ticket.bytes ticket.count w.written.begins (bytes ticket.lane) (holds_durable kept.0))
+        w.holds
 
     -- it cannot be synced
-    pub ends_unsynced : (fault : DeviceFault) (back : TicketValue L) → syncs lane (Err fault) back.lane → CountsOne (faults lane) (faults back.lane) → bytes back.lane ≡ bytes lane →
-        back ≡ record ticket { lane = back.lane } → Unsynced bytes faults writes syncs reads old back away
+    pub ends_unsynced : (fault : DeviceFault) (back : TicketValue L) → syncs ticket.lane (Err fault) back.lane → CountsOne (faults ticket.lane) (faults back.lane) → bytes back.lane ≡ bytes ticket.lane →
+        back ≡ record ticket { lane = back.lane } → Unsynced bytes faults writes syncs reads old back mid
     ends_unsynced fault back gave counted kept rest = record {
       answer = answer;
       ticket = ticket;
-      begun = begun;
-      written = written;
+      begun = mid.state;
+      written = w.written;
       fault = fault;
       gives = gave;
       counts = counted;
       kept = kept;
       rest = rest;
-      next = refl;
+      next = w.away;
     }
 
-    module _ (settled : L) (synced : syncs lane (Ok tt) settled) (same : bytes settled ≡ bytes lane) where
+    module _ (settled : L) (synced : syncs ticket.lane (Ok tt) settled) (same : bytes settled ≡ bytes ticket.lane) where
       abbrev synced_ticket : TicketValue L
-      synced_ticket = record first { lane = settled; unsynced = false }
+      synced_ticket = record ticket { lane = settled; unsynced = false }
 
-      after_sync : (bytes settled ≡ first.bytes) ⊎ ((bytes settled ≡ bytes first.lane) × ((fault : DeviceFault) × (answer ≡ Err fault)))
-      after_sync = ⊎_elim (λ new. inl (same ∙ new)) (λ kept. inr (same ∙ kept.0, kept.1)) after
+      after_sync : HoldsOneOf bytes answer w.written.home synced_ticket
+      after_sync = ⊎_elim (λ new. inl (same ∙ new)) (λ kept. inr (same ∙ kept.0, kept.1)) w.holds
 
-      settles_synced : (n : ℕ) × (settled_of begun first.block (bytes settled) ≡ Ok (settled_after begun first.block n))
-      settles_synced = (settles_some.0, ap (settled_of begun first.block) same ∙ settles_some.1)
+      settles_synced : (n : ℕ) × (settled_of mid.state ticket.block (bytes settled) ≡ Ok (settled_after mid.state ticket.block n))
+      settles_synced = (settles_some.0, ap (settled_of mid.state ticket.block) same ∙ settles_some.1)
 
       -- it cannot be read back
-      pub ends_unread : (fault : DeviceFault) (back : TicketValue L) → reads settled (Err fault) back.lane → CountsOne (faults settled) (faults back.lane) → bytes back.lane ≡ bytes lane →
-          back ≡ record ticket { lane = back.lane; unsynced = false } → Unread bytes faults writes syncs reads old back away
+      ends_unread : (fault : DeviceFault) (back : TicketValue L) → reads settled (Err fault) back.lane → CountsOne (faults settled) (faults back.lane) → bytes back.lane ≡ bytes ticket.lane →
+          back ≡ record ticket { lane = back.lane; unsynced = false } → Unread bytes faults writes syncs reads old back mid
       ends_unread fault back read counted kept rest = record {
         answer = answer;
         ticket = ticket;
-        begun = begun;
-        written = written;
+        begun = mid.state;
+        written = w.written;
         settled = settled;
         synced = synced;
         fault = fault;
@@ -227,25 +250,25 @@ module _ {L : Type 0} (bytes : L → List ℕ) (crash : L → List ℕ → Type 
         counts = counted;
         kept = kept;
         rest = rest;
-        next = refl;
+        next = w.away;
       }
 
       module _ (home : L) (read : reads settled (Ok tt) home) (kept : bytes home ≡ bytes settled) (durable freed : ℕ) (store : StoreState)
-          (settles : settled_of begun first.block (bytes settled) ≡ Ok ((durable, freed), store)) where
+          (settles : settled_of mid.state ticket.block (bytes settled) ≡ Ok ((durable, freed), store)) where
         abbrev left : KernelValue L
-        left = with_home old first.block home store
+        left = with_home old ticket.block home store
 
-        says : ((bytes settled ≡ first.bytes) × (durable ≡ first.count)) ⊎ ((durable ≡ 0) × (freed ≡ 0))
-        says = settles_says old.state begun first.block first.bytes first.count begins (bytes settled) durable freed store settles
+        says : ((bytes settled ≡ ticket.bytes) × (durable ≡ ticket.count)) ⊎ ((durable ≡ 0) × (freed ≡ 0))
+        says = settles_says old.state mid.state ticket.block ticket.bytes ticket.count w.written.begins (bytes settled) durable freed store settles
 
         -- the begun bytes are there
-        pub ends_well : 0 < durable → Round bytes faults writes syncs reads old left
+        ends_well : 0 < durable → Round bytes faults writes syncs reads old left
         ends_well some = ⊎_elim
             (λ p. record {
               answer = answer;
               ticket = ticket;
-              begun = begun;
-              written = written;
+              begun = mid.state;
+              written = w.written;
               settled = settled;
               synced = synced;
               there = p.0;
@@ -254,29 +277,29 @@ module _ {L : Type 0} (bytes : L → List ℕ) (crash : L → List ℕ → Type 
               kept = kept ∙ p.0;
               freed = freed;
               store = store;
-              settles = ap (settled_of begun first.block) (sym p.0) ∙ (settles ∙ ap (λ n. Ok ((n, freed), store)) p.1);
+              settles = ap (settled_of mid.state ticket.block) (sym p.0) ∙ (settles ∙ ap (λ n. Ok ((n, freed), store)) p.1);
               next = refl;
             })
             (λ p. absurd (omega (arith, some, p.0)))
             says
 
         -- the old bytes are
-        pub ends_unwritten : durable ≡ 0 → Unwritten bytes faults writes syncs reads old left
+        ends_unwritten : durable ≡ 0 → Unwritten bytes faults writes syncs reads old left
         ends_unwritten none = ⊎_elim
             (λ new. absurd (never new))
             (λ old_bytes. let fault = old_bytes.1.0 in record {
               fault = fault;
               ticket = ticket;
-              begun = begun;
+              begun = mid.state;
               written = record {
-                picked = picked;
-                begins = begins;
-                ours = ours;
-                home = first.lane;
-                taken = taken;
-                gives = subst (λ a. writes first.lane first.bytes a lane) old_bytes.1.1 gives;
-                counts = subst (λ a. OnErr a (CountsOne (faults first.lane) (faults lane))) old_bytes.1.1 counts;
-                unsynced = refl;
+                picked = w.written.picked;
+                begins = w.written.begins;
+                ours = w.written.ours;
+                home = w.written.home;
+                taken = w.written.taken;
+                gives = subst (λ a. writes w.written.home ticket.bytes a ticket.lane) old_bytes.1.1 w.written.gives;
+                counts = subst (λ a. OnErr a (CountsOne (faults w.written.home) (faults ticket.lane))) old_bytes.1.1 w.written.counts;
+                unsynced = w.written.unsynced;
               };
               settled = settled;
               synced = synced;
@@ -290,58 +313,48 @@ module _ {L : Type 0} (bytes : L → List ℕ) (crash : L → List ℕ → Type 
             })
             after_sync
           where
-            some : 1 ≤ first.count
-            some = (began old.state begun first.block first.bytes first.count begins).some
-
-            never : bytes settled ≡ first.bytes → ⊥
+            never : bytes settled ≡ ticket.bytes → ⊥
             never new =
-                let all = settles_all old.state begun first.block first.bytes first.count begins (bytes settled) new in
-                let same = same_ok ((durable, freed), store) (settled_after begun first.block first.count) (sym settles ∙ all) in
-                let count : durable ≡ first.count = ap (λ (p : (ℕ × ℕ) × StoreState). p.0.0) same in
-                let few = some in
-                absurd (omega (arith, count, none, few))
+                let all = settles_all old.state mid.state ticket.block ticket.bytes ticket.count w.written.begins (bytes settled) new in
+                let same = same_ok ((durable, freed), store) (settled_after mid.state ticket.block ticket.count) (sym settles ∙ all) in
+                let count : durable ≡ ticket.count = ap (λ (p : (ℕ × ℕ) × StoreState). p.0.0) same in
+                absurd (omega (arith, count, none, begun_life.some))
 
             nothing : freed ≡ 0
-            nothing = ⊎_elim (λ p. let few = some in absurd (omega (arith, p.1, none, few))) (λ p. p.1) says
+            nothing = ⊎_elim (λ p. absurd (omega (arith, p.1, none, begun_life.some))) (λ p. p.1) says
 
       -- The ticket is finished
 
-      mine : is_mine away synced_ticket ≡ true
-      mine = (λ i. eq-eqb first.kernel old.id ours i && is_in_flight begun first.block) ∙ in_flight old.state begun first.block first.bytes first.count begins
+      mine : is_mine mid synced_ticket ≡ true
+      mine = (λ i. eq-eqb ticket.kernel mid.id (w.written.ours ∙ sym (ap (λ (k : KernelValue L). k.id) w.away)) i && is_in_flight mid.state ticket.block) ∙ in_flight old.state mid.state ticket.block ticket.bytes ticket.count w.written.begins
 
       -- what a finish says of a refusal, and of the rest
-      abbrev Refused : KernelValue L → TicketValue L → Type 0
-      Refused mid given = (new : KernelValue L) (back : TicketValue L) (refusal : Refusal) →
+      abbrev Refused : TicketValue L → Type 0
+      Refused given = (new : KernelValue L) (back : TicketValue L) (refusal : Refusal) →
           (is_mine mid given ≡ true → given.unsynced ≡ false → GivesExactly (settled_of mid.state given.block (bytes given.lane)) mid.state new.state (Err refusal) ⊎ ((refusal ≡ Device) × CountsOne (faults given.lane) (faults back.lane))) →
           (refusal ≡ Device → (fault : DeviceFault) × reads given.lane (Err fault) back.lane) → back ≡ record given { lane = back.lane } → bytes back.lane ≡ bytes given.lane → new ≡ mid →
           Unread bytes faults writes syncs reads old back new
 
-      pub finish_refused : (mid : KernelValue L) (given : TicketValue L) → mid ≡ away → given ≡ synced_ticket → Refused mid given
-      finish_refused mid given m t = subst (λ x. Refused x given) (sym m) (subst (λ y. Refused away y) (sym t) at_away)
-        where
-          at_away : Refused away synced_ticket
-          at_away new back refusal told unread rest kept is = ⊎_elim
-              (λ gives. absurd (never_err (settled_of begun first.block (bytes settled)) (settled_after begun first.block settles_synced.0) begun new.state refusal settles_synced.1 gives))
-              (λ device. let read = unread device.0 in
-              subst (λ k. Unread bytes faults writes syncs reads old back k) (sym is) (ends_unread read.0 back read.1 device.1 (kept ∙ same) rest))
-              (told mine refl)
+      pub finish_refused : (given : TicketValue L) → given ≡ synced_ticket → Refused given
+      finish_refused given t = subst Refused (sym t) λ new back refusal told unread rest kept is. ⊎_elim
+          (λ gives. absurd (never_err (settled_of mid.state ticket.block (bytes settled)) (settled_after mid.state ticket.block settles_synced.0) mid.state new.state refusal settles_synced.1 gives))
+          (λ device. let read = unread device.0 in
+          subst (λ k. Unread bytes faults writes syncs reads old back k) (sym is) (ends_unread read.0 back read.1 device.1 (kept ∙ same) rest))
+          (told mine refl)
 
-      abbrev Done : KernelValue L → TicketValue L → Type 0
-      Done mid given = (new : KernelValue L) (durable freed : ℕ) →
+      abbrev Done : TicketValue L → Type 0
+      Done given = (new : KernelValue L) (durable freed : ℕ) →
           (is_mine mid given ≡ true → given.unsynced ≡ false → GivesExactly (settled_of mid.state given.block (bytes given.lane)) mid.state new.state (Ok (durable, freed)) ⊎ ⊥) →
           (home : L) → bytes home ≡ bytes given.lane → reads given.lane (Ok tt) home →
           new ≡ record mid { lanes = slice_set mid.lanes given.block (Some home); state = new.state } →
           (0 < durable → Round bytes faults writes syncs reads old new) × (durable ≡ 0 → Unwritten bytes faults writes syncs reads old new)
 
-      pub finish_done : (mid : KernelValue L) (given : TicketValue L) → mid ≡ away → given ≡ synced_ticket → Done mid given
-      finish_done mid given m t = subst (λ x. Done x given) (sym m) (subst (λ y. Done away y) (sym t) at_away)
-        where
-          at_away : Done away synced_ticket
-          at_away new durable freed told home kept read next =
-              let gives = ⊎_elim (λ g. g) (λ none. absurd none) (told mine refl) in
-              let settles = gives_exactly-ok (settled_of begun first.block (bytes settled)) begun new.state (durable, freed) gives in
-              let is_left : new ≡ with_home old first.block home new.state =
-              next ∙ ap (λ lanes. record old { lanes = lanes; state = new.state }) (set_twice old.lanes first.block None (Some home)) in (
-                λ some. subst (λ k. Round bytes faults writes syncs reads old k) (sym is_left) (ends_well home read kept durable freed new.state settles some),
-                λ none. subst (λ k. Unwritten bytes faults writes syncs reads old k) (sym is_left) (ends_unwritten home read kept durable freed new.state settles none),
-              )
+      pub finish_done : (given : TicketValue L) → given ≡ synced_ticket → Done given
+      finish_done given t = subst Done (sym t) λ new durable freed told home kept read next.
+          let gives = ⊎_elim (λ g. g) (λ none. absurd none) (told mine refl) in
+          let settles = gives_exactly-ok (settled_of mid.state ticket.block (bytes settled)) mid.state new.state (durable, freed) gives in
+          let is_left : new ≡ with_home old ticket.block home new.state =
+          next ∙ ap (λ (k : KernelValue L). with_home k ticket.block home new.state) w.away ∙ ap (λ lanes. record old { lanes = lanes; state = new.state }) (set_twice old.lanes ticket.block None (Some home)) in (
+            λ some. subst (λ k. Round bytes faults writes syncs reads old k) (sym is_left) (ends_well home read kept durable freed new.state settles some),
+            λ none. subst (λ k. Unwritten bytes faults writes syncs reads old k) (sym is_left) (ends_unwritten home read kept durable freed new.state settles none),
+          )

@@ -1,6 +1,6 @@
 -- Waves of a flush.
 use Rattle.std.proofs.Common.{◌≡◌, ℕ, zero, suc, ◌+◌, ◌<◌, ◌≤◌, Bool, true, false, cond, List, [], length, Option, Some, None, Result, Ok, Err, refl, sym, ◌∙◌, ap, inl, inr, ⊎_elim, arith, subst, slice_get, slice_set}
-use Rattle.std.specs.Prelude.{◌⊎◌, ◌≢◌, ◌&&◌, is_some, option_map, OnErr, IfSome, bytes_eq, nat_lt}
+use Rattle.std.specs.Prelude.{◌⊎◌, ◌≢◌, ◌&&◌, is_some, option_map, IfSome, bytes_eq, nat_lt}
 use Rattle.std.proofs.lemmas.Bool.{false≢true, cases_eq, eq-eqb, ltb-true, ltb-false}
 use Rattle.std.proofs.lemmas.Slice.Eq.{bytes_eq-Decides}
 use Rattle.std.proofs.lemmas.Option.{same_Some, none-some}
@@ -10,18 +10,18 @@ use Rattle.xn_model.specs.declared.refusal.Refusal.{Refusal}
 use Rattle.xn_model.specs.declared.refusal.Refusal.TheVariants.{Device}
 use Rattle.xn_model.specs.Lives.{BlockState, Life, Lives, StoreState, life_at, alive_and, prefix_of, drops_of}
 use Rattle.xn_model.specs.Results.{GivesExactly, result_map}
-use Rattle.xn_model.specs.Calls.{begun_of, bytes_at, first_pending, is_durable, pick_of, settled_count, settled_place, settled_after, settled_of}
+use Rattle.xn_model.specs.Calls.{bytes_at, first_pending, is_durable, pick_of, settled_count, settled_place, settled_after, settled_of}
 use Rattle.xn_model.specs.Flights.{flight_of, HaveSameFlights, HaveSameFlightsBut}
 use Rattle.xn_model.specs.Rules.{IsConsistent, IsIdle}
 use Rattle.xn_model.specs.Worlds.{all_pending}
 use Rattle.templates.specs.Language.{language}
 use Rattle.xn_model.proofs.ForCallers.{map_ok, gives_exactly-ok, place_from, life_from, picked_life, begun_keeps, settled_keeps, begun_life_apart, begun_pending, settled_life_apart, settled_pending, flights_begun, flights_settled}
 use Rattle.xn_state.specs.States.{own_types}
-use Rattle.xn_kernel.specs.Kernels.{KernelValue, TicketValue, IsKernel, is_in_flight, is_mine}
+use Rattle.xn_kernel.specs.Kernels.{KernelValue, TicketValue, is_in_flight, is_mine}
 use Rattle.xn_kernel.specs.Drains.{Reads, WriteRelation, with_home}
 use Rattle.xn_kernel.specs.Flushes.{wave_room, kernel_with_begun, IsUnderWay, HoldsOneOf, EndsDurable, EndsOld, StaysUnread, WriteEnds, WaveFirst, Wave, WholeWave, Waves}
 use Rattle.xn_kernel.proofs.Keeping.{own_rules}
-use Rattle.xn_kernel.proofs.Draining.{Began, began, choice, chosen, fits_at, never_err}
+use Rattle.xn_kernel.proofs.Draining.{Began, Wrote, began, choice, chosen, holds_durable, never_err}
 
 -- What is read back of a write that is under way
 
@@ -318,69 +318,46 @@ module _ {L : Type 0} (bytes : L → List ℕ) (faults : L → ℕ) (writes : Wr
       wave_step n room durable old before new after w
       (wave_keeps n w.left w.others (kernel_with_begun old w.ticket.block w.begun) before w.mid w.between (own_rules old.state w.begun kept) w.rest)
 
-  -- The first block, once the others have ended
-
-  pub still_under_way : (crash : L → List ℕ → Type 0) (old : KernelValue L) → IsKernel bytes crash old.lanes old.state → (first : TicketValue L) (begun : StoreState) →
-      begun_of old.state first.block ≡ Ok ((first.bytes, first.count), begun) → first.kernel ≡ old.id → slice_get old.lanes first.block ≡ Some (Some first.lane) →
-      (answer : Result (Unit {0}) DeviceFault) (lane : L) → ((bytes lane ≡ first.bytes) ⊎ ((bytes lane ≡ bytes first.lane) × ((fault : DeviceFault) × (answer ≡ Err fault)))) →
-      (n room others : ℕ) (before : List (TicketValue L)) (mid : KernelValue L) (between : List (TicketValue L)) →
-      Wave bytes faults writes syncs reads n room others (kernel_with_begun old first.block begun) before mid between → IsUnderWay bytes mid (record first { lane = lane; unsynced = true })
-  still_under_way crash old is first begun begins ours taken answer lane after n room others before mid between w =
-      let b = began old.state begun first.block first.bytes first.count begins in
-      let kept = wave_keeps n room others (kernel_with_begun old first.block begun) before mid between (own_rules old.state begun (begun_keeps (own_types old.state) old.state is.rules first.block (first.bytes, first.count) begun begins)) w in
-      let life : Life = record b.life { begun = Some first.count } in
-      record {
-        ours = ours ∙ sym kept.id;
-        life = life;
-        alive = kept.apart first.block life first.count (life_from begun.lives first.block life b.now) refl;
-        begun = refl;
-        some = b.some;
-        carries = b.carries;
-        held = ⊎_elim (λ new. inl new) (λ old_bytes. inr (held b.life.durable (fits_at bytes old.lanes old.state.lives first.block first.lane b.life is.fit taken b.alive) old_bytes.0)) after;
-      }
-    where
-      held : (o : Option BlockState) → IfSome o (λ s. bytes first.lane ≡ s.bytes) → bytes lane ≡ bytes first.lane → IfSome o (λ s. bytes lane ≡ s.bytes)
-      held None h e = h
-      held (Some s) h e = e ∙ h
-
   -- The first block, with the others
 
-  module _ (crash : L → List ℕ → Type 0) (old : KernelValue L) (is : IsKernel bytes crash old.lanes old.state) (first : TicketValue L) (begun : StoreState) (picked : pick_of old.state ≡ Some first.block)
-      (begins : begun_of old.state first.block ≡ Ok ((first.bytes, first.count), begun)) (ours : first.kernel ≡ old.id) (taken : slice_get old.lanes first.block ≡ Some (Some first.lane))
-      (answer : Result (Unit {0}) DeviceFault) (lane : L) (gives : writes first.lane first.bytes answer lane) (counts : OnErr answer (CountsOne (faults first.lane) (faults lane)))
-      (after : (bytes lane ≡ first.bytes) ⊎ ((bytes lane ≡ bytes first.lane) × ((fault : DeviceFault) × (answer ≡ Err fault))))
-      (away : KernelValue L) (is_away : away ≡ kernel_with_begun old first.block begun) (n left others : ℕ) (before : List (TicketValue L)) (mid : KernelValue L) (between : List (TicketValue L))
+  module _ (crash : L → List ℕ → Type 0) (old away : KernelValue L) (answer : Result (Unit {0}) DeviceFault) (ticket : TicketValue L) (w : Wrote bytes crash faults writes old away answer ticket)
+      (n left others : ℕ) (before : List (TicketValue L)) (mid : KernelValue L) (between : List (TicketValue L))
       (rest : Wave bytes faults writes syncs reads n left others away before mid between) where
-    abbrev written_ticket : TicketValue L
-    written_ticket = record first { lane = lane; unsynced = true }
-
-    others_end : Wave bytes faults writes syncs reads n left others (kernel_with_begun old first.block begun) before mid between
-    others_end = subst (λ k. Wave bytes faults writes syncs reads n left others k before mid between) is_away rest
-
-    pub first_under_way : (ticket : TicketValue L) → ticket ≡ written_ticket → IsUnderWay bytes mid ticket
-    first_under_way ticket landed = subst (IsUnderWay bytes mid) (sym landed)
-        (still_under_way crash old is first begun begins ours taken answer lane after n left others before mid between others_end)
+    -- once the others have ended
+    pub first_under_way : IsUnderWay bytes mid ticket
+    first_under_way =
+        let b = began old.state away.state ticket.block ticket.bytes ticket.count w.written.begins in
+        let rules = own_rules old.state away.state (begun_keeps (own_types old.state) old.state w.is.rules ticket.block (ticket.bytes, ticket.count) away.state w.written.begins) in
+        let kept = wave_keeps n left others away before mid between rules rest in
+        let life : Life = record b.life { begun = Some ticket.count } in
+        record {
+          ours = w.written.ours ∙ sym (kept.id ∙ ap (λ (k : KernelValue L). k.id) w.away);
+          life = life;
+          alive = kept.apart ticket.block life ticket.count (life_from away.state.lives ticket.block life b.now) refl;
+          begun = refl;
+          some = b.some;
+          carries = b.carries;
+          held = ⊎_elim (λ new. inl new) (λ same. inr (holds_durable bytes crash faults writes syncs reads old away answer ticket w same.0)) w.holds;
+        }
 
     -- it ends
-    abbrev FirstEnds : TicketValue L → Bool → KernelValue L → List (TicketValue L) → Type 0
-    FirstEnds ticket is_durable new out = (answer : Result (Unit {0}) DeviceFault) (home : L) → HoldsOneOf bytes answer home ticket → WriteEnds bytes faults syncs reads answer home ticket mid between is_durable new out
-
-    pub first_ends_wave : (ticket : TicketValue L) → ticket ≡ written_ticket → (is_durable : Bool) (new : KernelValue L) (out : List (TicketValue L)) → FirstEnds ticket is_durable new out →
+    pub first_ends_wave : (is_durable : Bool) (new : KernelValue L) (out : List (TicketValue L)) →
+        ((answer : Result (Unit {0}) DeviceFault) (home : L) → HoldsOneOf bytes answer home ticket → WriteEnds bytes faults syncs reads answer home ticket mid between is_durable new out) →
         (blocks room durable : ℕ) → blocks ≡ suc n → room ≡ suc left → durable ≡ cond is_durable (suc others) others → Wave bytes faults writes syncs reads blocks room durable old before new out
-    first_ends_wave ticket landed is_durable new out ends blocks room durable block room_is count =
+    first_ends_wave is_durable new out ends blocks room durable block room_is count =
         subst (λ m. Wave bytes faults writes syncs reads m room durable old before new out) (sym block) (record {
           answer = answer;
-          ticket = written_ticket;
-          begun = begun;
-          written = record { picked = picked; begins = begins; ours = ours; home = first.lane; taken = taken; gives = gives; counts = counts; unsynced = refl };
+          ticket = ticket;
+          begun = away.state;
+          written = w.written;
           left = left;
           room_is = room_is;
           others = others;
           mid = mid;
           between = between;
-          rest = others_end;
+          rest = subst (λ k. Wave bytes faults writes syncs reads n left others k before mid between) w.away rest;
           is_durable = is_durable;
-          ends = subst (λ t. FirstEnds t is_durable new out) landed ends answer first.lane after;
+          ends = ends answer w.written.home w.holds;
           counts = count;
         })
 

@@ -2,15 +2,10 @@ use Rattle.std.proofs.Common.{subst, sym}
 use Rattle.dependencies.specs.Index.{IsIndex}
 use Rattle.dependencies.proofs.index.Index.move_on_for.Goals as goal
 
-pub move_on-requires-clause-homes : goal.move_on-requires-clause-homes
-move_on-requires-clause-homes c =
+pub move_on-requires : goal.move_on-requires
+move_on-requires c =
     let mine = subst (IsIndex c.args.cache.now) (sym c.self.view_is) c.requires in
-    mine.homes
-
-pub move_on-requires-clause-oldest : goal.move_on-requires-clause-oldest
-move_on-requires-clause-oldest c =
-    let mine = subst (IsIndex c.args.cache.now) (sym c.self.view_is) c.requires in
-    mine.oldest
+    record { homes = mine.homes; oldest = mine.oldest }
 
 pub returns : goal.returns
 returns c =

@@ -1,5 +1,5 @@
 use Rattle.std.proofs.Common.{arith, subst, sym}
-use Rattle.dependencies.specs.Index.{IndexValue, IsIndex}
+use Rattle.dependencies.specs.Index.{IsIndex}
 use Rattle.dependencies.proofs.Ended.{few_forgotten}
 use Rattle.dependencies.proofs.IndexChanges.{ended_index}
 use Rattle.dependencies.proofs.index.Index.note_end.Goals as goal
@@ -11,14 +11,6 @@ discount-fs-requires-clause-counted c =
 
 pub returns : goal.returns
 returns c =
-    let index : IndexValue = record {
-      free = c.self.inside.free;
-      pending = c.self.inside.pending;
-      oldest = c.self.inside.oldest;
-      dirty = c.self.inside.dirty;
-      candidates = c.self.inside.candidates;
-      homes = c.self.inside.homes;
-    } in
     let mine = subst (IsIndex c.args.cache.now) (sym c.self.view_is) c.requires in
     rw (c.give.ensures, c.mark.ensures, c.set.ensures)
-    (ended_index c.args.cache.now index c.args.block c.pending-count.result c.discount-fs.new.pending c.wake.new.self mine c.pending-count.ensures.count c.discount-fs.ensures c.wake.ensures)
+    (ended_index c.args.cache.now _ c.args.block c.pending-count.result c.discount-fs.new.pending c.wake.new.self mine c.pending-count.ensures.count c.discount-fs.ensures c.wake.ensures)

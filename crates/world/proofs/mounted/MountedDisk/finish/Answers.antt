@@ -1,4 +1,4 @@
-use Rattle.std.proofs.Common.{◌∙◌, ⊎_elim, sym, ap, subst, arith, length, Some, None}
+use Rattle.std.proofs.Common.{ℕ, ◌∙◌, ⊎_elim, sym, ap, subst, arith, length, Some, None}
 use Rattle.std.proofs.lemmas.Bool.{false≢true, false_from_ne_true, true_from_ne_false}
 use Rattle.std.proofs.lemmas.List.{length-set}
 use Rattle.xn_model.specs.Worlds as model
@@ -7,6 +7,7 @@ use Rattle.world.proofs.Places.{put_back, set_still}
 use Rattle.world.proofs.Stepping.{finish_without, open_step, finish_step, finish_world, is_ours, block_is, within_tickets, calm_read, settled_at_block, never_refused}
 use Rattle.world.proofs.Views.{seen}
 use Rattle.world.proofs.mounted.MountedDisk.finish.Goals as goal
+use Rattle.world.proofs.mounted.MountedDisk.finish.Goals.{After-put, In-Ok}
 
 pub returns-in_default : goal.returns-in_default
 returns-in_default c =
@@ -24,36 +25,33 @@ invariant_of-self c =
 
 -- the write that was under way
 
+finished : (c : In-Ok) →
+    model.AfterCall (world_of c.self.inside.kernel c.self.inside.tickets) (model.Finish c.args.block) (model.Finished c.in-Ok.landed.durable c.in-Ok.landed.freed) (world_of c.finish.new.self c.take.new.self)
+    × IsWorld c.finish.new.self c.take.new.self
+finished c =
+    let kernel = c.self.inside.kernel in
+    let tickets = c.self.inside.tickets in
+    let ticket = c.into_ticket.result in
+    let has = sym c.take.ensures.ticket ∙ (c.in-Some.is ∙ ap (λ t. Some t) (sym c.into_ticket.ensures)) in
+    let ours = is_ours kernel tickets c.self.invariant c.args.block ticket has in
+    let rests = false_from_ne_true ticket.unsynced (λ e. c.in-Ok.ensures.unsynced ours e) in
+    let given = c.in-Ok.ensures.given in
+    let done : ℕ × ℕ = (c.in-Ok.landed.durable, c.in-Ok.landed.freed) in
+    let settled = settled_at_block kernel tickets c.self.invariant c.args.block ticket has c.finish.new.self.state done
+    (⊎_elim (λ gives. gives) (λ none. absurd none) (c.in-Ok.ensures.mine ours rests)) in
+    let block = block_is kernel tickets c.self.invariant c.args.block ticket has in
+    rw (c.take.ensures.rest, given.4, block) (
+      finish_step kernel tickets c.self.invariant c.args.block ticket has rests given.0 given.3.1 done c.finish.new.self.state settled,
+      finish_world kernel tickets c.self.invariant c.args.block ticket has rests given.0 given.3.1 done c.finish.new.self.state settled,
+    )
+
 pub returns-in-Ok : goal.returns-in-Ok
 returns-in-Ok c =
-    let kernel = c.self.inside.kernel in
-    let tickets = c.self.inside.tickets in
-    let ticket = c.into_ticket.result in
-    let has = sym c.take.ensures.ticket ∙ (c.in-Some.is ∙ ap (λ t. Some t) (sym c.into_ticket.ensures)) in
-    let ours = is_ours kernel tickets c.self.invariant c.args.block ticket has in
-    let rests = false_from_ne_true ticket.unsynced (λ e. c.in-Ok.ensures.unsynced ours e) in
-    let given = c.in-Ok.ensures.given in
-    let settled = settled_at_block kernel tickets c.self.invariant c.args.block ticket has c.finish.new.self.state (c.in-Ok.landed.durable, c.in-Ok.landed.freed)
-    (⊎_elim (λ gives. gives) (λ none. absurd none) (c.in-Ok.ensures.mine ours rests)) in
-    let block = block_is kernel tickets c.self.invariant c.args.block ticket has in
-    let step = finish_step kernel tickets c.self.invariant c.args.block ticket has rests given.0 given.3.1 (c.in-Ok.landed.durable, c.in-Ok.landed.freed) c.finish.new.self.state settled in
-    seen (value_of kernel tickets) c.args.self.now c.self.view_is (model.Finish c.args.block) (model.Finished c.in-Ok.landed.durable c.in-Ok.landed.freed) _
-    (rw (c.take.ensures.rest, given.4, block) step)
+    seen (value_of c.self.inside.kernel c.self.inside.tickets) c.args.self.now c.self.view_is (model.Finish c.args.block) (model.Finished c.in-Ok.landed.durable c.in-Ok.landed.freed) _
+    (finished (goal.at.returns-in-Ok c).In-Ok).0
 
 pub invariant_of-self-in-Ok : goal.invariant_of-self-in-Ok
-invariant_of-self-in-Ok c =
-    let kernel = c.self.inside.kernel in
-    let tickets = c.self.inside.tickets in
-    let ticket = c.into_ticket.result in
-    let has = sym c.take.ensures.ticket ∙ (c.in-Some.is ∙ ap (λ t. Some t) (sym c.into_ticket.ensures)) in
-    let ours = is_ours kernel tickets c.self.invariant c.args.block ticket has in
-    let rests = false_from_ne_true ticket.unsynced (λ e. c.in-Ok.ensures.unsynced ours e) in
-    let given = c.in-Ok.ensures.given in
-    let settled = settled_at_block kernel tickets c.self.invariant c.args.block ticket has c.finish.new.self.state (c.in-Ok.landed.durable, c.in-Ok.landed.freed)
-    (⊎_elim (λ gives. gives) (λ none. absurd none) (c.in-Ok.ensures.mine ours rests)) in
-    let block = block_is kernel tickets c.self.invariant c.args.block ticket has in
-    let leaves = finish_world kernel tickets c.self.invariant c.args.block ticket has rests given.0 given.3.1 (c.in-Ok.landed.durable, c.in-Ok.landed.freed) c.finish.new.self.state settled in
-    rw (c.take.ensures.rest, given.4, block) leaves
+invariant_of-self-in-Ok c = (finished (goal.at.invariant_of-self-in-Ok c).In-Ok).1
 
 -- or that goes on, as it isn't synced
 
@@ -64,23 +62,10 @@ put-requires c =
     let long = ap length c.take.ensures.rest ∙ length-set c.self.inside.tickets c.args.block None in
     omega arith
 
-pub invariant_of-self-in-Err : goal.invariant_of-self-in-Err
-invariant_of-self-in-Err c =
-    let kernel = c.self.inside.kernel in
-    let tickets = c.self.inside.tickets in
-    let ticket = c.into_ticket.result in
-    let has = sym c.take.ensures.ticket ∙ (c.in-Some.is ∙ ap (λ t. Some t) (sym c.into_ticket.ensures)) in
-    let ours = is_ours kernel tickets c.self.invariant c.args.block ticket has in
-    let unsynced = true_from_ne_false ticket.unsynced (λ rests. ⊎_elim
-    (λ gives. never_refused kernel tickets c.self.invariant c.args.block ticket has c.finish.new.self.state c.in-Err.refusal gives)
-    (λ device. false≢true (sym (calm_read kernel tickets c.self.invariant c.args.block ticket has) ∙ (c.in-Err.ensures.unread device.0).1.0))
-    (c.in-Err.ensures.mine ours rests)) in
-    let back = c.new.ensures ∙ (c.in-Err.ensures.unsynced ours unsynced).0 in
-    let still = put_back tickets c.args.block ticket has c.take.new.self c.new.result c.put.new.self c.take.ensures.rest back c.put.ensures in
-    rw (still, c.in-Err.ensures.err) c.self.invariant
-
-pub returns-in-Err : goal.returns-in-Err
-returns-in-Err c =
+unread : (c : After-put) →
+    model.AfterCall (world_of c.self.inside.kernel c.self.inside.tickets) (model.Finish c.args.block) (model.Refused c.in-Err.refusal) (world_of c.finish.new.self c.put.new.self)
+    × IsWorld c.finish.new.self c.put.new.self
+unread c =
     let kernel = c.self.inside.kernel in
     let tickets = c.self.inside.tickets in
     let ticket = c.into_ticket.result in
@@ -92,6 +77,12 @@ returns-in-Err c =
     (c.in-Err.ensures.mine ours rests)) in
     let told = c.in-Err.ensures.unsynced ours unsynced in
     let still = put_back tickets c.args.block ticket has c.take.new.self c.new.result c.put.new.self c.take.ensures.rest (c.new.ensures ∙ told.0) c.put.ensures in
-    let step = open_step kernel tickets c.self.invariant c.args.block ticket has unsynced in
-    seen (value_of kernel tickets) c.args.self.now c.self.view_is (model.Finish c.args.block) (model.Refused c.in-Err.refusal) _
-    (rw (still, c.in-Err.ensures.err, told.1) step)
+    rw (still, c.in-Err.ensures.err, told.1) (open_step kernel tickets c.self.invariant c.args.block ticket has unsynced, c.self.invariant)
+
+pub invariant_of-self-in-Err : goal.invariant_of-self-in-Err
+invariant_of-self-in-Err c = (unread (goal.at.invariant_of-self-in-Err c).After-put).1
+
+pub returns-in-Err : goal.returns-in-Err
+returns-in-Err c =
+    seen (value_of c.self.inside.kernel c.self.inside.tickets) c.args.self.now c.self.view_is (model.Finish c.args.block) (model.Refused c.in-Err.refusal) _
+    (unread (goal.at.returns-in-Err c).After-put).0
