@@ -1,8 +1,6 @@
 -- What each edit of a volume leaves.
-use Rattle.std.proofs.Common.{◌≡◌, ℕ, suc, ◌+◌, ◌*◌, ◌^◌, ◌<◌, ◌≢◌, ◌⊎◌, List, [], ◌∷◌, length, Option, Some, None, Ok, refl, sym, ◌∙◌, ap, inr, arith, subst, replicate, eq-eqb}
-use Rattle.std.specs.Prelude.{Contains, if◌then◌else◌}
+use Rattle.std.proofs.Common.{◌≡◌, ℕ, suc, ◌+◌, ◌*◌, ◌^◌, ◌<◌, ◌≢◌, ◌⊎◌, List, [], ◌∷◌, length, Option, Some, None, Ok, refl, sym, ◌∙◌, ap, inr, arith, subst, replicate, eq-eqb, Contains, if◌then◌else◌, ne_eqb}
 use Rattle.std.specs.Int.{w32, to_le_bytes}
-use Rattle.std.proofs.lemmas.Bool.{ne_eqb}
 use Rattle.xn_model.specs.Types.{Types}
 use Rattle.xn_model.specs.Root.{word_at}
 use Rattle.xn_model.specs.Lives.{StoreState}
@@ -94,9 +92,8 @@ module _ (T : Types) (lib : IsLibrary T) (fs : ℕ) (few : fs < 32) (array : ℕ
   pub entered : (n place block : ℕ) (found : Found) → IsDirectory state fs n found → IsGap state found block place → (bytes : List ℕ) → length bytes ≡ 32 → (i e entry : ℕ) → half_at bytes 0 ≡ i → i ≢ 0 →
       CanName library_layout state.lives fs i e → propose_of T state fs block (edit_at (32 * place) bytes [] [] (Some e)) ≡ Ok (entry, new) → VolumeKeeps T library_layout fs array new
   entered n place block found dir gap bytes whole i e entry is some can done =
-      let stands = dir.is.stands in
       entry_made T library_layout reads fs few array state new v block (edit_at (32 * place) bytes [] [] (Some e)) entry done 2
-      (under_direct T library_layout reads (latest state.lives) fs (library_layout.home n).0 found.block found.place block stands.inodes gap.has) (λ z. omega arith) (λ z. omega arith) place i e some
+      (under_direct T library_layout reads (latest state.lives) fs (library_layout.home n).0 found.block found.place block dir.is.stands.inodes gap.has) (λ z. omega arith) (λ z. omega arith) place i e some
       (subst (λ x. EntryMade library_layout (latest state.lives block) (put (latest state.lives block) (32 * place) bytes) place x) is (entry_written (latest state.lives block) gap.long place gap.few bytes whole)) can refl
 
   pub cleared : (slot : Slot) → IsSlot state fs slot → (after : Option ℕ) (entry : ℕ) → propose_of T state fs slot.block (edit_at (32 * slot.place) (replicate 32 0) [] [] after) ≡ Ok (entry, new) →

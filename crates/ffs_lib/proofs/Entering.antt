@@ -1,9 +1,7 @@
 -- What an edit of an inode, or of a directory's entries, leaves in the newest bytes.
-use Rattle.std.proofs.Common.{◌≡◌, ◌≢◌, ℕ, ◌+◌, ◌-◌, ◌*◌, ◌/◌, ◌%◌, ◌<◌, ◌≤◌, Bool, true, List, [], ◌∷◌, length, take, drop, Option, Some, Ok, Err, refl, sym, ◌∙◌, ap, arith, inl, inr}
-use Rattle.std.specs.Prelude.{Contains, Result, ◌==◌, filter_map, if◌then◌else◌, IsTrue, slice_set}
+use Rattle.std.proofs.Common.{◌≡◌, ◌≢◌, ℕ, ◌+◌, ◌-◌, ◌*◌, ◌/◌, ◌%◌, ◌<◌, ◌≤◌, Bool, true, List, [], ◌∷◌, length, take, drop, Option, Some, Ok, Err, refl, sym, ◌∙◌, ap, arith, inl, inr, Contains, Result, ◌==◌, filter_map, if◌then◌else◌, IsTrue, slice_set, eqb-true, lt-ltb}
 use Rattle.std.specs.List.{list_any, range_with_len}
 use Rattle.std.proofs.Math.Seq.{take-length}
-use Rattle.std.proofs.lemmas.Bool.{eqb-true, lt-ltb}
 use Rattle.xn_model.specs.Types.{Types}
 use Rattle.xn_model.specs.Lists.{blocks_of, distinct, put}
 use Rattle.xn_model.specs.Lives.{StoreState}
@@ -26,6 +24,7 @@ use Rattle.ffs_lib.specs.Outcomes.{IsGrown}
 use Rattle.ffs_lookup.specs.Places.{IsFree, IsPlace}
 use Rattle.ffs_lookup.specs.FileValues.{place_in}
 use Rattle.ffs_lib.specs.Results.{HasMore, MadeEntry, SameContents, SameInode, SameOrNew, new_inode}
+use Rattle.ffs_lib.proofs.Tests.{never}
 use Rattle.ffs_lib.proofs.Fields.{blocks_are, get_mapped, set_words}
 use Rattle.ffs_lib.proofs.Alone.{none_listed}
 use Rattle.ffs_lib.proofs.Frames.{listed_at, listed_blocks, listed_in, listing_same}
@@ -62,9 +61,7 @@ module _ (T : Types) (lib : IsLibrary T) (state new : StoreState) (h : IsConsist
   written : inode_at (latest new.lives block) place ≡ bytes
   written =
       let m = latest state.lives block in
-      let long = stands.long in
-      let little = stands.few in
-      let fit : 64 * place + length bytes ≤ length m = omega (arith, long, little, whole) in
+      let fit : 64 * place + length bytes ≤ length m = omega (arith, stands.long, stands.few, whole) in
       let z : 64 * place ≡ 64 * place + 0 = omega arith in
       ap (λ x. inode_at x place) home_bytes ∙ (ap (λ k. take 64 (drop k (put m (64 * place) bytes))) z
       ∙ (bytes_within m (64 * place) bytes fit 64 0 (omega (arith, whole)) ∙ (ap (λ k. take k bytes) (sym whole) ∙ take-length bytes)))
@@ -186,7 +183,6 @@ module _ (T : Types) (lib : IsLibrary T) (zeroth first second : StoreState) (h :
       let same = begun_same d in
       let one : inode ≡ inode0 = same_ok inode inode0 (again ∙ (directory_same v0 v1 fs d same.0 ∙ sym dir)) in
       let own = stands_from v1 fs d inode (directory_from v1 fs d inode again).0 in
-      let number_low = own.low in
       let own_bytes : (c : ℕ) → Contains (inode_blocks inode) c → v2 c ≡ v1 c =
       λ c i.
       let y = direct_where inode c i in
@@ -195,7 +191,7 @@ module _ (T : Types) (lib : IsLibrary T) (zeroth first second : StoreState) (h :
       g.bytes c (λ z.
       let four : 2 ≡ 4 = one_type T first h1 fs c 2 4 few at (under_inodes T library_layout (library_reads T lib) v1 fs ((d - 1) / 8) c z) in
       omega (arith, four)) in
-      let new_bytes : v2 b ≡ put zero_block 0 bytes = g.bytes b (no_inodes ((d - 1) / 8) (omega (arith, number_low))) ∙ started_here T zeroth first fs 2 (put zero_block 0 bytes) (b, number) done in
+      let new_bytes : v2 b ≡ put zero_block 0 bytes = g.bytes b (no_inodes ((d - 1) / 8) (omega (arith, own.low))) ∙ started_here T zeroth first fs 2 (put zero_block 0 bytes) (b, number) done in
       let entry : Slot = record { block = b; place = 0; inode = n } in
       let ws = (fields_of inode).direct in
       let words = words_more ws index b low (get_mapped (direct_in inode) 12 0 index low ∙ (ap (λ k. direct_in inode k) (let z : 0 + index ≡ index = omega arith in z) ∙ (ap (λ m. direct_in m index) one ∙ gap))) there in
@@ -205,8 +201,7 @@ module _ (T : Types) (lib : IsLibrary T) (zeroth first second : StoreState) (h :
       let first_own = stands_from v0 fs d inode0 (directory_from v0 fs d inode0 dir).0 in
       let apart_before : (c : ℕ) → Contains (inode_blocks inode0) c → c ≢ b = λ c i.
       let y = direct_where inode0 c i in
-      let lt = y.1 in
-      new_block.apart c 2 (block_at T lib zeroth h fs few d inode0 first_own y.0 c (omega (arith, lt)) (direct_block v0 inode0 y.0 lt ∙ y.2) y.3) (λ z. omega (arith, z)) in
+      new_block.apart c 2 (block_at T lib zeroth h fs few d inode0 first_own y.0 c (omega (arith, y.1)) (direct_block v0 inode0 y.0 y.1 ∙ y.2) y.3) (λ z. omega (arith, z)) in
       let before : listing v2 inode ≡ listing v0 inode0 = listing_same v2 v1 inode own_bytes ∙ (ap (listing v1) one ∙ (same.1 inode0 (directory_from v0 fs d inode0 dir).0).0) in
       record {
         after = g.after;
@@ -243,7 +238,7 @@ module _ (u v w : ℕ → List ℕ) (fs d : ℕ) (name : List ℕ) (mode n : ℕ
   pub made_then : inode_in u fs n ≡ Err NoEntry → inode_in v fs n ≡ Ok (new_inode mode) → ((e : ℕ) → e ≢ n → SameInode u v fs e) →
       ((inode : List ℕ) → Ok inode ≡ directory_in v fs d → HasMore v w fs d inode name n) × ((e : ℕ) → e ≢ d → SameInode v w fs e) → (inode : List ℕ) → Ok inode ≡ directory_in u fs d → MadeEntry u w fs d name mode n
   made_then free made first enters inode dir =
-      let apart : d ≢ n = λ e. not_both_ways inode ((directory_from u fs d inode dir).0 ∙ (ap (inode_in u fs) e ∙ free)) in
+      let apart : d ≢ n = λ e. never inode NoEntry ((directory_from u fs d inode dir).0 ∙ (ap (inode_in u fs) e ∙ free)) in
       let same = first d apart in
       record {
         free = free;
@@ -251,9 +246,6 @@ module _ (u v w : ℕ → List ℕ) (fs d : ℕ) (name : List ℕ) (mode n : ℕ
         entry = λ other is. more_before other (same.1 other (directory_from u fs d other is).0) (enters.0 other (is ∙ sym (directory_same u v fs d same.0)));
         others = λ e ne ne'. as_same u w fs n e (same_on u v w fs e (first e ne') (enters.1 e ne));
       }
-    where
-      not_both_ways : (x : List ℕ) → ◌≡◌ {A = Result (List ℕ) FfsFault} (Ok x) (Err NoEntry) → ⊥
-      not_both_ways x e = cc
 
   pub stays_made : ((e : ℕ) → SameOrNew u v fs n e) → MadeEntry v w fs d name mode n → MadeEntry u w fs d name mode n
   stays_made stays m = record {

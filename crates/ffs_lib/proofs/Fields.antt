@@ -1,6 +1,5 @@
 -- The blocks of an inode whose fields were set.
-use Rattle.std.proofs.Common.{◌≡◌, ℕ, zero, suc, ◌+◌, ◌-◌, ◌*◌, ◌<◌, ◌^◌, ◌⊎◌, Bool, true, false, cond, List, [], ◌∷◌, Some, None, refl, sym, ◌∙◌, ap, inl, inr, subst, replicate, arith, get_or, take}
-use Rattle.std.specs.Prelude.{Contains, filter_map, map, slice_set, ◌==◌}
+use Rattle.std.proofs.Common.{◌≡◌, ℕ, zero, suc, ◌+◌, ◌-◌, ◌*◌, ◌<◌, ◌^◌, ◌⊎◌, Bool, true, false, cond, List, [], ◌∷◌, Some, None, refl, sym, ◌∙◌, ap, inl, inr, subst, replicate, arith, get_or, take, Contains, filter_map, map, slice_set, ◌==◌}
 use Rattle.std.specs.List.{range_with_len, cons_option}
 use Rattle.std.proofs.lemmas.List.{drop-replicate, take-replicate}
 use Rattle.xn_model.specs.Lists.{blocks_of}

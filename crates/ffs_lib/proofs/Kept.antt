@@ -1,6 +1,5 @@
 -- What stays where a call is refused, and how the parts of a step come together.
-use Rattle.std.proofs.Common.{◌≡◌, ◌≢◌, ℕ, ◌<◌, List, Option, Result, Ok, Err, sym, subst, ap, ◌∙◌}
-use Rattle.std.specs.Prelude.{OnOk, OnErr}
+use Rattle.std.proofs.Common.{◌≡◌, ◌≢◌, ℕ, ◌<◌, List, Option, Result, Ok, Err, sym, subst, ap, ◌∙◌, OnOk, OnErr}
 use Rattle.xn_model.specs.declared.refusal.Refusal.{Refusal}
 use Rattle.xn_model.specs.Types.{Types}
 use Rattle.std.proofs.lemmas.Option.{none-some}

@@ -1,3 +1,4 @@
+pub mod Tests
 pub mod Fields
 pub mod Edited
 pub mod Kept

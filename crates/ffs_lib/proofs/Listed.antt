@@ -1,6 +1,5 @@
 -- What each edit of a call leaves of directories.
-use Rattle.std.proofs.Common.{◌≡◌, ℕ, ◌<◌, sym, ◌∙◌, ap, subst}
-use Rattle.std.specs.Prelude.{IsTrue}
+use Rattle.std.proofs.Common.{◌≡◌, ℕ, ◌<◌, sym, ◌∙◌, ap, subst, IsTrue}
 use Rattle.xn_model.specs.Types.{Types, fits}
 use Rattle.xn_model.specs.Lives.{StoreState, bytes_of}
 use Rattle.xn_model.specs.Calls.{life_bytes}

@@ -1,7 +1,5 @@
 -- How a volume is made.
-use Rattle.std.proofs.Common.{◌≡◌, ◌≢◌, ℕ, zero, suc, ◌^◌, ◌<◌, Bool, true, false, List, [], ◌∷◌, length, get_or, Option, Some, None, Result, Ok, Err, refl, sym, ◌∙◌, ap, inl, inr, subst, replicate, arith, eq-eqb}
-use Rattle.std.specs.Prelude.{Contains, IsErrAnd, MatchResult, OnErr, OnOk, ◌==◌, ◌&&◌, if◌then◌else◌}
-use Rattle.std.proofs.lemmas.Bool.{ne_eqb}
+use Rattle.std.proofs.Common.{◌≡◌, ◌≢◌, ℕ, zero, suc, ◌^◌, ◌<◌, Bool, true, false, List, [], ◌∷◌, length, get_or, Option, Some, None, Result, Ok, Err, refl, sym, ◌∙◌, ap, inl, inr, subst, replicate, arith, eq-eqb, Contains, IsErrAnd, MatchResult, OnErr, OnOk, ◌==◌, ◌&&◌, if◌then◌else◌, ne_eqb}
 use Rattle.std.proofs.lemmas.Option.{none-some}
 use Rattle.std.proofs.lemmas.Result.{err_from_is_err_and}
 use Rattle.xn_model.specs.declared.refusal.Refusal.{Refusal}

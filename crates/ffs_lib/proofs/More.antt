@@ -1,6 +1,5 @@
 -- A list with one element more, and a directory with one entry more.
-use Rattle.std.proofs.Common.{◌≡◌, ◌≢◌, ℕ, zero, suc, ◌+◌, ◌-◌, ◌*◌, ◌<◌, ◌≤◌, Bool, true, false, cond, not, ◌&&◌, List, [], ◌∷◌, ◌++◌, length, take, drop, get_or, replicate, Option, Some, None, refl, sym, ◌∙◌, ap, inl, inr, arith, subst, append_assoc, eq-eqb}
-use Rattle.std.specs.Prelude.{Contains, ◌==◌, min, nat_le, filter_map, flat_map, slice_set, if◌then◌else◌, IsTrue}
+use Rattle.std.proofs.Common.{◌≡◌, ◌≢◌, ℕ, zero, suc, ◌+◌, ◌-◌, ◌*◌, ◌<◌, ◌≤◌, Bool, true, false, cond, not, ◌&&◌, List, [], ◌∷◌, ◌++◌, length, take, drop, get_or, replicate, Option, Some, None, refl, sym, ◌∙◌, ap, inl, inr, arith, subst, append_assoc, eq-eqb, Contains, ◌==◌, min, nat_le, filter_map, flat_map, slice_set, if◌then◌else◌, IsTrue}
 use Rattle.std.specs.List.{range_with_len, cons_option, list_all}
 use Rattle.std.proofs.Math.Nat.{min-eq_left}
 use Rattle.std.proofs.Math.Seq.{take-append_seam}

@@ -1,6 +1,5 @@
 -- What is left of names and files where a name is moved.
-use Rattle.std.proofs.Common.{◌≡◌, ◌≢◌, ℕ, ◌*◌, ◌/◌, ◌%◌, ◌<◌, Bool, true, false, cond, List, [], ◌∷◌, length, map, get_or, replicate, Option, Some, None, Ok, refl, sym, ◌∙◌, ap, inl, inr, arith, subst}
-use Rattle.std.specs.Prelude.{Contains, ◌==◌, filter_map, find, flat_map, if◌then◌else◌}
+use Rattle.std.proofs.Common.{◌≡◌, ◌≢◌, ℕ, ◌*◌, ◌/◌, ◌%◌, ◌<◌, Bool, true, false, cond, List, [], ◌∷◌, length, map, get_or, replicate, Option, Some, None, Ok, refl, sym, ◌∙◌, ap, inl, inr, arith, subst, Contains, ◌==◌, filter_map, find, flat_map, if◌then◌else◌}
 use Rattle.std.specs.List.{cons_option, range_with_len}
 use Rattle.std.specs.Option.{ok_or, option_or}
 use Rattle.std.proofs.lemmas.Bool.{cases_eq}
@@ -94,8 +93,7 @@ relinked T lib state new h fs few n found is exact bytes whole mode direct last 
       size = size;
       entries = ap (λ bs. listing_of w bs) (same_blocks found.inode bytes direct) ∙ listing_same w v found.inode (λ b i.
           let x = direct_where found.inode b i in
-          let lt = x.1 in
-          away b 2 (block_at T lib state h fs few n found.inode stands x.0 b (omega (arith, lt)) (direct_block v found.inode x.0 lt ∙ x.2) x.3) (λ z. omega (arith, z)));
+          away b 2 (block_at T lib state h fs few n found.inode stands x.0 b (omega (arith, x.1)) (direct_block v found.inode x.0 x.1 ∙ x.2) x.3) (λ z. omega (arith, z)));
       each = each;
       direct = direct;
       room = room_by v w found.inode bytes direct each;
@@ -124,8 +122,7 @@ name_lost T lib state new h fs few slot is after entry done =
       listing_without slot v w is.long is.few (proposed_here T state new h fs slot.block edit entry done) (proposed_others T state new h fs slot.block edit entry done),
       λ n own e has d ne.
           let x = direct_where own slot.block has in
-          let lt = x.1 in
-          data_touched T lib state h fs few w slot.block 2 t refl n own (stands_from v fs n own e) x.0 (omega (arith, lt)) (direct_block v own x.0 lt ∙ x.2) x.3 d ne,
+          data_touched T lib state h fs few w slot.block 2 t refl n own (stands_from v fs n own e) x.0 (omega (arith, x.1)) (direct_block v own x.0 x.1 ∙ x.2) x.3 d ne,
     )
 
 -- it stands in a block of its directory

@@ -1,6 +1,5 @@
 -- What the edits leave by which a name is made.
-use Rattle.std.proofs.Common.{◌≡◌, ◌≢◌, ℕ, ◌+◌, ◌-◌, ◌*◌, ◌/◌, ◌%◌, ◌^◌, ◌<◌, List, [], ◌∷◌, length, replicate, Option, None, Some, Ok, Err, refl, sym, ◌∙◌, ap, arith, subst, inl, inr}
-use Rattle.std.specs.Prelude.{Contains, IsTrue, find, option_map, slice_set, ◌==◌}
+use Rattle.std.proofs.Common.{◌≡◌, ◌≢◌, ℕ, ◌+◌, ◌-◌, ◌*◌, ◌/◌, ◌%◌, ◌^◌, ◌<◌, List, [], ◌∷◌, length, replicate, Option, None, Some, Ok, Err, refl, sym, ◌∙◌, ap, arith, subst, inl, inr, Contains, IsTrue, find, option_map, slice_set, ◌==◌}
 use Rattle.std.proofs.lemmas.Bool.{cases_eq}
 use Rattle.std.specs.Int.{w32, to_le_bytes}
 use Rattle.std.specs.List.{list_any, range_with_len}
@@ -30,12 +29,12 @@ use Rattle.ffs_lib.specs.Orders.{made_of}
 use Rattle.ffs_lib.specs.Outcomes.{HasFreePointer, IsAdded, IsGrown, IsMade}
 use Rattle.ffs_lib.specs.Results.{HasMore, IsLowestNumber, SameInode, SameOrNew, new_inode}
 use Rattle.ffs_lib.specs.Steps.{Entered, IsEntry, IsHome, MadeInode, MayName, ShortEdit, Stage, StopsAtRoom, StopsAttaching, StopsEntering, StopsGrowing, Tells, Wants, left_by}
+use Rattle.ffs_lib.proofs.Tests.{never}
 use Rattle.ffs_lib.proofs.Edited.{attached, entered, grown, made, same_root}
 use Rattle.ffs_lib.proofs.Entering.{begun_same, block_entered, directory_from, directory_same, free_none, gap_entered, inode_put}
 use Rattle.ffs_lib.proofs.Fields.{free_blocks, one_more, same_blocks, zeros_inode}
 use Rattle.ffs_lib.proofs.Laws.{can_edit, gives_of, home_of}
 use Rattle.ffs_lib.proofs.Linked.{same_room}
-use Rattle.ffs_lib.proofs.Tops.{never}
 use Rattle.ffs_lib.proofs.NewOrder.{missing_is, new_is}
 use Rattle.ffs_lib.proofs.Orders.{last_number, one_order}
 use Rattle.ffs_lib.proofs.Owners.{block_from, stands_from}
@@ -129,8 +128,7 @@ module _ (T : Types) (fs : ℕ) (array : ℕ → Option ℕ) (zeroth first : Sto
         Stage T fs array second × (Entered (latest zeroth.lives) (latest second.lives) fs d name n × IsTrue (was_given second (Some entry)))
     grows second entry sized put_done =
         let h = s.keeps.consistent in
-        let s1 = grow_stage in
-        let h1 = s1.keeps.consistent in
+        let h1 = grow_stage.keeps.consistent in
         let reads = library_reads T s.library in
         let v1 = latest first.lives in
         let stands = at.is.stands in
@@ -142,7 +140,7 @@ module _ (T : Types) (fs : ℕ) (array : ℕ → Option ℕ) (zeroth first : Sto
         let one : OneEntry library_layout (put zero_block 0 bytes) n = subst (OneEntry library_layout (put zero_block 0 bytes)) b.half (one_entry bytes b.whole) in
         let holds = started_holds T library_layout reads fs s.few array zeroth first s.keeps fs 2 (put zero_block 0 bytes) (block, number) done in
         let names = started_names T library_layout reads fs s.few array zeroth first s.keeps fs 2 (put zero_block 0 bytes) (block, number) done n e m.can in
-        let k = grown T s.library fs s.few array first second s1.keeps d found.block found.place stands after whole ((block, 2) ∷ []) [] (Some e) entry put_done block n e (put zero_block 0 bytes)
+        let k = grown T s.library fs s.few array first second grow_stage.keeps d found.block found.place stands after whole ((block, 2) ∷ []) [] (Some e) entry put_done block n e (put zero_block 0 bytes)
         (ap inode_mode (sym at.is.bytes) ∙ at.directory) mode (links ∙ ap inode_links at.is.bytes)
         (λ c i. elim (one_more found.inode after index block c direct i) [ inl j ↦ inl (subst (λ (x : List ℕ). Contains (inode_blocks x) c) at.is.bytes j) | inr z ↦ inr z ])
         m.some holds one (Contains-head (block, 2) []) names refl in

@@ -1,6 +1,5 @@
 -- Where the inode in use with a number stands, and that no block is in two of them.
-use Rattle.std.proofs.Common.{◌≡◌, ◌≢◌, ℕ, ◌+◌, ◌-◌, ◌*◌, ◌/◌, ◌%◌, ◌<◌, ◌≤◌, ◌⊎◌, Bool, true, false, List, Ok, Err, refl, sym, ◌∙◌, ap, inl, inr, arith, subst}
-use Rattle.std.specs.Prelude.{Contains, Result, ◌==◌, ◌||◌, nat_lt, if◌then◌else◌}
+use Rattle.std.proofs.Common.{◌≡◌, ◌≢◌, ℕ, ◌+◌, ◌-◌, ◌*◌, ◌/◌, ◌%◌, ◌<◌, ◌≤◌, ◌⊎◌, Bool, true, false, List, Ok, Err, refl, sym, ◌∙◌, ap, inl, inr, arith, subst, Contains, Result, ◌==◌, ◌||◌, nat_lt, if◌then◌else◌}
 use Rattle.std.proofs.lemmas.Bool.{cases_lt, eqb-false, eqb-true, lt-ltb, le-ltb}
 use Rattle.std.proofs.lemmas.Option.{same_Some}
 use Rattle.xn_model.specs.declared.status.Status.TheVariants.{Owned}
@@ -88,12 +87,10 @@ stands_from content fs n inode e =
     let m = inode_at (content r.0) ((n - 1) % 8) in
     let u = not_first (inode_mode m == 0) NoEntry (Ok m) inode r.2 in
     let same : inode ≡ m = same_ok inode m u.1 in
-    let some = right.0 in
-    let low = right.1 in
-    let few : (n - 1) / 8 < 16 = omega (arith, low) in
+    let few : (n - 1) / 8 < 16 = omega (arith, right.1) in
     record {
-      some = some;
-      low = low;
+      some = right.0;
+      low = right.1;
       block = r.0;
       inodes = block_from content fs ((n - 1) / 8) r.0 few r.1;
       bytes = same;

@@ -1,6 +1,5 @@
 -- What two entries name in the cuts after each edit of `replace`.
-use Rattle.std.proofs.Common.{◌≡◌, ◌≢◌, ℕ, ◌-◌, ◌*◌, ◌/◌, ◌%◌, ◌^◌, ◌<◌, List, [], replicate, false, Option, Some, None, Result, Ok, Err, refl, sym, ◌∙◌, ap, arith, subst, inl, inr, eq-eqb}
-use Rattle.std.specs.Prelude.{Contains, MatchResult, ◌==◌, ◌&&◌}
+use Rattle.std.proofs.Common.{◌≡◌, ◌≢◌, ℕ, ◌-◌, ◌*◌, ◌/◌, ◌%◌, ◌^◌, ◌<◌, List, [], replicate, false, Option, Some, None, Result, Ok, Err, refl, sym, ◌∙◌, ap, arith, subst, inl, inr, eq-eqb, Contains, MatchResult, ◌==◌, ◌&&◌}
 use Rattle.std.specs.Int.{w16, to_le_bytes}
 use Rattle.xn_model.specs.Types.{Types}
 use Rattle.xn_model.specs.Lives.{Lives, StoreState}
@@ -16,8 +15,8 @@ use Rattle.ffs_lookup.specs.Places.{IsPlace, IsSlot}
 use Rattle.ffs_lib.specs.Edits.{edit_at}
 use Rattle.ffs_lib.specs.Replacing.{AreDirect, IsDirect, KeepsPairs, pair_of}
 use Rattle.ffs_lib.specs.Steps.{Dropped, Proposed, Stage, clearing}
+use Rattle.ffs_lib.proofs.Tests.{true_false}
 use Rattle.ffs_lib.proofs.Entering.{directory_from}
-use Rattle.ffs_lib.proofs.Laws.{true_false}
 use Rattle.ffs_lib.proofs.Owners.{stands_from}
 use Rattle.ffs_lib.proofs.Turning.{number_half, number_long}
 

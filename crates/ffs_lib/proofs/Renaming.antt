@@ -1,7 +1,5 @@
 -- What is looked up before a name is moved, in the order of the tests.
-use Rattle.std.proofs.Common.{◌≡◌, ◌≢◌, ℕ, Bool, true, false, List, Option, Some, None, refl, sym, ◌∙◌, ap, eq-eqb}
-use Rattle.std.specs.Prelude.{IsErrAnd, IsTrue, Result, Ok, Err, ◌==◌, ◌&&◌, not, is_some, if◌then◌else◌}
-use Rattle.std.specs.Option.{ok_or}
+use Rattle.std.proofs.Common.{◌≡◌, ◌≢◌, ℕ, Bool, true, false, List, Option, Some, None, refl, sym, ◌∙◌, ap, eq-eqb, IsErrAnd, IsTrue, Result, Ok, Err, ◌==◌, ◌&&◌, not, is_some, if◌then◌else◌, ok_or}
 use Rattle.std.proofs.lemmas.Bool.{and_parts, eqb-false, eqb-true, ne_eqb}
 use Rattle.std.proofs.lemmas.Result.{err_from_is_err_and}
 use Rattle.ffs_model.specs.Library.{inode_links, inode_mode}

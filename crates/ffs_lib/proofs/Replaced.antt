@@ -1,6 +1,5 @@
 -- What is left of two files after each edit by which the name of one goes to the other.
-use Rattle.std.proofs.Common.{◌≡◌, ◌≢◌, ℕ, ◌<◌, ◌≤◌, Bool, true, false, List, map, Option, Some, None, Result, Ok, refl, sym, ◌∙◌, ap, inl, inr, arith, subst, eq-eqb}
-use Rattle.std.specs.Prelude.{Contains, OnErr, bytes_eq, find, option_map, ◌==◌, ◌&&◌, if◌then◌else◌}
+use Rattle.std.proofs.Common.{◌≡◌, ◌≢◌, ℕ, ◌<◌, ◌≤◌, Bool, true, false, List, map, Option, Some, None, Result, Ok, refl, sym, ◌∙◌, ap, inl, inr, arith, subst, eq-eqb, Contains, OnErr, bytes_eq, find, option_map, ◌==◌, ◌&&◌, if◌then◌else◌}
 use Rattle.std.proofs.lemmas.Bool.{and_parts, cases_eq, eqb-true}
 use Rattle.std.proofs.lemmas.Option.{none-some, same_Some}
 use Rattle.xn_model.specs.Types.{Types}
@@ -17,10 +16,11 @@ use Rattle.ffs_lib.specs.Replacing.{AreDirect, Replaced, ReplacedInodes, Turned,
 use Rattle.ffs_lib.specs.Results.{AsBefore, OnlyChanges, SameInode}
 use Rattle.ffs_lib.specs.Stages.{KeptOrEmptied, Unnames}
 use Rattle.ffs_lib.specs.Steps.{AddsLink, Clearing, StopsTaking, TakesLink}
+use Rattle.ffs_lib.proofs.Tests.{true_false}
 use Rattle.ffs_lib.proofs.Alone.{are_apart}
 use Rattle.ffs_lib.proofs.Entering.{directory_from, directory_same}
 use Rattle.ffs_lib.proofs.Firsts.{find_listed, named_among}
-use Rattle.ffs_lib.proofs.Laws.{less_of, took_on, true_false}
+use Rattle.ffs_lib.proofs.Laws.{less_of, took_on}
 use Rattle.ffs_lib.proofs.Moving.{as_on, named_block, same_as}
 use Rattle.ffs_lib.proofs.PairLaws.{direct_of}
 use Rattle.ffs_lib.proofs.Replacing.{CanReplace}
@@ -98,9 +98,8 @@ module _ (entry : Slot) (n : ℕ) where
 stood_there : (u : ℕ → List ℕ) (inode name : List ℕ) (slot : Slot) → EntryAt u inode name slot → there_in slot.block slot.place (listing u inode) ≡ Some (name, slot.inode)
 stood_there u inode name slot entry =
     let k = entry.is in
-    let few = k.few in
     let place = k.place in
-    sym (place_listed slot.block slot.place u (omega (arith, few, place)) inode (direct_has inode entry.at.0 slot.block k.low k.block k.there)) ∙ entry.stands
+    sym (place_listed slot.block slot.place u (omega (arith, k.few, place)) inode (direct_has inode entry.at.0 slot.block k.low k.block k.there)) ∙ entry.stands
 
 itself_true : (slot : Slot) → (slot.block == slot.block) && (slot.place == slot.place) ≡ true
 itself_true slot = both_true (slot.block == slot.block) (slot.place == slot.place) (eq-eqb slot.block slot.block refl) (eq-eqb slot.place slot.place refl)
@@ -270,9 +269,7 @@ module _ (u : ℕ → List ℕ) (fs d : ℕ) (name : List ℕ) (other : ℕ) (ot
   nothing_taken T middle new many fault s = elim s.stage [
     | inl same ↦ same
     | inr c ↦
-        let low = c.last in
-        let high = many s.inode s.was in
-        absurd (omega (arith, low, high))
+        absurd (omega (arith, c.last, many s.inode s.was))
   ]
 
   module _ (v1 : ℕ → List ℕ) (l : AddsLink u v1 fs n) where

@@ -1,7 +1,5 @@
 -- What is looked up before an entry is replaced, in the order of the tests.
-use Rattle.std.proofs.Common.{◌≡◌, ◌≢◌, ℕ, Bool, true, false, List, Option, Some, sym, ◌∙◌, ap, ne_eqb}
-use Rattle.std.specs.Prelude.{IsTrue, Result, Ok, Err, ◌==◌, ◌&&◌, not, if◌then◌else◌}
-use Rattle.std.specs.Option.{ok_or}
+use Rattle.std.proofs.Common.{◌≡◌, ◌≢◌, ℕ, Bool, true, false, List, Option, Some, sym, ◌∙◌, ap, ne_eqb, IsTrue, Result, Ok, Err, ◌==◌, ◌&&◌, not, if◌then◌else◌, ok_or}
 use Rattle.std.proofs.lemmas.Bool.{and_parts, eqb-false, eqb-true}
 use Rattle.ffs_model.specs.Library.{inode_links, inode_mode}
 use Rattle.ffs_format.specs.Entries.{is_name}

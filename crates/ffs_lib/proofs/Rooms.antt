@@ -1,9 +1,7 @@
 -- Whether a directory has room, by what is read of its blocks.
-use Rattle.std.proofs.Common.{◌≡◌, ◌≢◌, ℕ, zero, suc, ◌+◌, ◌*◌, ◌/◌, ◌%◌, ◌<◌, Bool, true, false, cond, List, [], ◌∷◌, Some, inl, inr, take, drop, get_or, refl, sym, ◌∙◌, ap, arith, get_or-take, get_or-drop}
-use Rattle.std.specs.Prelude.{Contains, ◌==◌, ◌||◌, find, if◌then◌else◌, option_map, slice_set}
+use Rattle.std.proofs.Common.{◌≡◌, ◌≢◌, ℕ, zero, suc, ◌+◌, ◌*◌, ◌/◌, ◌%◌, ◌<◌, Bool, true, false, cond, List, [], ◌∷◌, Some, inl, inr, take, drop, get_or, refl, sym, ◌∙◌, ap, arith, get_or-take, get_or-drop, Contains, ◌==◌, ◌||◌, find, if◌then◌else◌, option_map, slice_set, ne_eqb}
 use Rattle.std.specs.Int.{w16, from_le_bytes}
 use Rattle.std.specs.List.{list_any, range_with_len}
-use Rattle.std.proofs.lemmas.Bool.{ne_eqb}
 use Rattle.xn_model.proofs.ForCallers.{Contains-head, Contains-tail}
 use Rattle.ffs_model.specs.Library.{half_at, inode_blocks}
 use Rattle.ffs_model.proofs.ForCallers.{direct_where}

@@ -1,6 +1,5 @@
 -- What `reclaim` does is what its function of the files says, or one of its stages.
-use Rattle.std.proofs.Common.{◌≡◌, ℕ, suc, ◌+◌, ◌-◌, ◌<◌, ◌≤◌, Bool, true, false, List, [], ◌∷◌, ◌++◌, Option, Result, Ok, Err, refl, sym, ◌∙◌, ap, arith, subst, inl, inr, eq-eqb}
-use Rattle.std.specs.Prelude.{IsErrAnd, ◌==◌, flat_map, if◌then◌else◌}
+use Rattle.std.proofs.Common.{◌≡◌, ℕ, suc, ◌+◌, ◌-◌, ◌<◌, ◌≤◌, Bool, true, false, List, [], ◌∷◌, ◌++◌, Option, Result, Ok, Err, refl, sym, ◌∙◌, ap, arith, subst, inl, inr, eq-eqb, IsErrAnd, ◌==◌, flat_map, if◌then◌else◌}
 use Rattle.std.specs.List.{range_with_len}
 use Rattle.std.proofs.lemmas.Bool.{cases_eq, cases_lt, le-ltb, lt-ltb}
 use Rattle.std.proofs.lemmas.Grind.{flat_map-append}
@@ -28,8 +27,7 @@ use Rattle.ffs_lib.specs.Stages.{Asks, Does, IsRefused, IsStage, OfLink, Stages,
 use Rattle.ffs_lib.proofs.Moving.{same_as}
 use Rattle.ffs_lib.proofs.Reclaiming.{idle_ok, middle_ends, repaired_then}
 use Rattle.ffs_lib.proofs.Same.{same_on}
-use Rattle.ffs_lib.proofs.Staged.{kept_or_emptied, same_here, short_at}
-use Rattle.ffs_lib.proofs.StagedTurns.{first_stages}
+use Rattle.ffs_lib.proofs.Staged.{first_stages, kept_or_emptied, later_stages, same_here, short_at}
 use Rattle.ffs_lib.proofs.ValueRepairs.{need_is, range_split, repaired_value}
 use Rattle.ffs_lib.proofs.ValueSame.{same_value}
 use Rattle.ffs_lib.proofs.ValueSteps.{files_equal, value_at}
@@ -57,16 +55,9 @@ named_left old new fs n named x = go (needs (files_of old fs) n) refl x
 
 -- Stages in a list
 
-later_stages : (T : Types) (fs : ℕ) (new : StoreState) (fault : FfsFault) (xs ys : Stages) → IsStage T fs new fault ys → IsStage T fs new fault (xs ++ ys)
-later_stages T fs new fault [] ys s = s
-later_stages T fs new fault (x ∷ xs) ys s = inr (later_stages T fs new fault xs ys s)
-
 first_refused : (T : Types) (fs : ℕ) (old new : StoreState) (fault : FfsFault) (xs ys : Stages) → IsRefused T fs old new fault xs → IsRefused T fs old new fault (xs ++ ys)
 first_refused T fs old new fault [] ys none = absurd none
-first_refused T fs old new fault (x ∷ xs) ys s = elim s [
-  | inl here ↦ inl here
-  | inr later ↦ inr (first_stages T fs new fault xs ys later)
-]
+first_refused T fs old new fault (x ∷ xs) ys s = elim s [ inl here ↦ inl here | inr later ↦ inr (first_stages T fs new fault xs ys later) ]
 
 -- Some of the inodes are repaired
 
@@ -114,14 +105,8 @@ module _ (T : Types) (lib : IsLibrary T) (fs : ℕ) (few : fs < 32) (array : ℕ
 
       is_stage : (repair : Repair) → IsRefused T fs now new fault (repair_stages (repaired_below files next) next repair) → IsStage T fs new fault (repair_stages (repaired_below files next) next repair)
       is_stage Keep none = none
-      is_stage GiveUp s = elim s [
-        | inl asks ↦ inl (now, middle_value, asks)
-        | inr later ↦ inr later
-      ]
-      is_stage (SetLinks links) s = elim s [
-        | inl asks ↦ inl (now, middle_value, asks)
-        | inr later ↦ inr later
-      ]
+      is_stage GiveUp s = elim s [ inl asks ↦ inl (now, middle_value, asks) | inr later ↦ inr later ]
+      is_stage (SetLinks links) s = elim s [ inl asks ↦ inl (now, middle_value, asks) | inr later ↦ inr later ]
 
       abbrev rest : Stages
       rest = flat_map (stages_at files) (range_with_len (next + 1) (127 - done))

@@ -1,7 +1,5 @@
 -- A name that is moved is still there once the inode is named a second time.
-use Rattle.std.proofs.Common.{◌≡◌, ◌≢◌, ℕ, Bool, true, false, List, ◌∷◌, ◌++◌, Option, Some, None, Result, Ok, Err, refl, sym, ◌∙◌, ap, inl, inr}
-use Rattle.std.specs.Prelude.{IsTrue, bytes_eq, find, if◌then◌else◌, option_map}
-use Rattle.std.specs.Option.{ok_or}
+use Rattle.std.proofs.Common.{◌≡◌, ◌≢◌, ℕ, Bool, true, false, List, ◌∷◌, ◌++◌, Option, Some, None, Result, Ok, Err, refl, sym, ◌∙◌, ap, inl, inr, IsTrue, bytes_eq, find, if◌then◌else◌, option_map, ok_or}
 use Rattle.std.proofs.lemmas.Bool.{cases_eq}
 use Rattle.std.proofs.lemmas.Option.{none-some}
 use Rattle.ffs_format.specs.Entries.{is_name}

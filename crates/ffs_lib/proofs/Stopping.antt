@@ -1,7 +1,5 @@
 -- Where a write stops, by the numbers of its edits.
-use Rattle.std.proofs.Common.{◌≡◌, ◌≢◌, ℕ, ◌+◌, ◌-◌, ◌<◌, ◌≤◌, Bool, List, [], ◌∷◌, ◌++◌, length, Result, Ok, Err, refl, sym, ◌∙◌, ap, inl, inr, arith, subst}
-use Rattle.std.specs.Prelude.{MatchResult, min, take, if◌then◌else◌}
-use Rattle.std.proofs.lemmas.Bool.{le-ltb, lt-ltb}
+use Rattle.std.proofs.Common.{◌≡◌, ◌≢◌, ℕ, ◌+◌, ◌-◌, ◌<◌, ◌≤◌, Bool, List, [], ◌∷◌, ◌++◌, length, Result, Ok, Err, refl, sym, ◌∙◌, ap, inl, inr, arith, subst, MatchResult, min, take, if◌then◌else◌, le-ltb, lt-ltb}
 use Rattle.xn_model.specs.declared.refusal.Refusal.{Refusal}
 use Rattle.xn_model.specs.Types.{Types}
 use Rattle.xn_model.specs.Lives.{StoreState}
@@ -37,9 +35,7 @@ told_before T fs (first ∷ rest) old new other fault t e =
     let x = then_ok (made_by T fs rest) (act_of T fs (first old) old) other e in elim t [
       | inl y ↦
           let less = (told_lives T fs (first old) old new fault y).fewer in
-          let next = act_next T fs (first old) old x.0 x.1 in
-          let last = parts_later T fs rest x.0 other x.2 in
-          omega (arith, less, next, last)
+          omega (arith, less, act_next T fs (first old) old x.0 x.1, parts_later T fs rest x.0 other x.2)
       | inr y ↦ told_before T fs rest x.0 new other fault (subst (λ (s : StoreState). TellsIn T fs rest s new fault) (same_ok y.0 x.0 (sym y.1 ∙ x.1)) y.2) x.2
     ]
 

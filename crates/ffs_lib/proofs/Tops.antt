@@ -1,6 +1,5 @@
 -- What a file system has before its volume is made, and after.
-use Rattle.std.proofs.Common.{◌≡◌, ◌≢◌, ℕ, zero, suc, ◌+◌, ◌-◌, ◌*◌, ◌%◌, ◌^◌, ◌<◌, ◌≤◌, ◌⊎◌, Bool, true, false, List, [], ◌∷◌, length, Option, Some, None, Result, Ok, Err, refl, sym, ◌∙◌, ap, inl, inr, arith, subst, eq-eqb, replicate}
-use Rattle.std.specs.Prelude.{Contains, not, ◌==◌, ◌&&◌, nat_lt, if◌then◌else◌, option_map, option_to_list, ◌++◌}
+use Rattle.std.proofs.Common.{◌≡◌, ◌≢◌, ℕ, zero, suc, ◌+◌, ◌-◌, ◌*◌, ◌%◌, ◌^◌, ◌<◌, ◌≤◌, ◌⊎◌, Bool, true, false, List, [], ◌∷◌, length, Option, Some, None, Result, Ok, Err, refl, sym, ◌∙◌, ap, inl, inr, arith, subst, eq-eqb, replicate, Contains, not, ◌==◌, ◌&&◌, nat_lt, if◌then◌else◌, option_map, option_to_list, ◌++◌}
 use Rattle.std.specs.Int.{w32, to_le_bytes}
 use Rattle.std.specs.List.{range_with_len}
 use Rattle.std.proofs.lemmas.Bool.{cases_eq, cases_lt, eqb-false, eqb-true, false≢true, le-ltb, ne_eqb}
@@ -312,6 +311,3 @@ pub found_still : (T : Types) (fs : ℕ) → fs < 32 → (block number ty : ℕ)
 found_still T fs few block number ty zeroth first h bytes done =
     make_same T (latest zeroth.lives) (latest first.lives) fs block 6
     (begun T zeroth first h fs few ty 6 bytes (block, number) done) (λ z. omega (arith, z))
-
-pub never : {A : Type 0} (x : A) (fault : FfsFault) → ◌≡◌ {A = Result A FfsFault} (Ok x) (Err fault) → ⊥
-never x fault e = cc

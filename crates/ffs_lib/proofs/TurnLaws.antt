@@ -1,6 +1,5 @@
 -- What the edits of `replace` leave: of an entry that goes to another inode, and of a link that may be taken later.
-use Rattle.std.proofs.Common.{◌≡◌, ◌≢◌, ℕ, suc, ◌*◌, ◌^◌, ◌<◌, List, [], length, replicate, Option, Some, Result, Ok, Err, sym, ◌∙◌, ap, arith, subst, inl, inr}
-use Rattle.std.specs.Prelude.{OnOk}
+use Rattle.std.proofs.Common.{◌≡◌, ◌≢◌, ℕ, suc, ◌*◌, ◌^◌, ◌<◌, List, [], length, replicate, Option, Some, Result, Ok, Err, sym, ◌∙◌, ap, arith, subst, inl, inr, OnOk}
 use Rattle.std.specs.Int.{w16, to_le_bytes}
 use Rattle.xn_model.specs.Types.{Types}
 use Rattle.xn_model.specs.Lives.{StoreState}

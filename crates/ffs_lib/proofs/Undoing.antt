@@ -1,6 +1,5 @@
 -- A new block was begun, and forgotten: the store is as it was before, but for the number that the block got.
-use Rattle.std.proofs.Common.{◌≡◌, ℕ, zero, suc, ◌+◌, ◌<◌, ◌≤◌, List, [], ◌∷◌, length, Option, None, Some, Result, Ok, Err, refl, sym, ◌∙◌, ap, eq-eqb, inl, inr, arith, subst, false}
-use Rattle.std.specs.Prelude.{MatchResult, ◌||◌, is_some, nat_lt, not, slice_set}
+use Rattle.std.proofs.Common.{◌≡◌, ℕ, zero, suc, ◌+◌, ◌<◌, ◌≤◌, List, [], ◌∷◌, length, Option, None, Some, Result, Ok, Err, refl, sym, ◌∙◌, ap, eq-eqb, inl, inr, arith, subst, false, MatchResult, ◌||◌, is_some, nat_lt, not, slice_set}
 use Rattle.xn_model.specs.Types.{Types, within_size}
 use Rattle.xn_model.specs.Lives.{Life, Lives, StoreState, current, is_dropped, is_for, is_fresh, life_at, lowest_free}
 use Rattle.xn_model.specs.declared.refusal.Refusal.{Refusal}

@@ -102,8 +102,7 @@ module _ (u w : ℕ → List ℕ) (fs d : ℕ) (name : List ℕ) (other : ℕ) (
 
     moved_value : 1 ≤ inode_links x.own → (last : ℕ → List ℕ) → Unnamed w last fs slot → files_of last fs ≡ both
     moved_value linked last g =
-        let own = used in
-        let taken = takes_value g.middle last fs slot.inode own.0 (own.1 ∙ sym (g.cleared.inodes slot.inode)) g.took in
+        let taken = takes_value g.middle last fs slot.inode used.0 (used.1 ∙ sym (g.cleared.inodes slot.inode)) g.took in
         let gone : files_of g.middle fs ≡ with_link both slot.inode =
         cleared_value g.middle g.cleared
         ∙ (ap (λ (f : Files). with_entry f d entry.at None) (entry_after_link files slot.inode other at (Some (new_name, slot.inode)))

@@ -1,7 +1,5 @@
 -- What `replace` looks up is what its function of the files does, and so is what it leaves.
-use Rattle.std.proofs.Common.{◌≡◌, ◌≢◌, ℕ, ◌<◌, ◌≤◌, ◌⊎◌, Bool, true, false, List, Some, None, Ok, Err, refl, sym, ◌∙◌, ap, inl, inr, arith, eq-eqb}
-use Rattle.std.specs.Prelude.{Result, not, ◌==◌, ◌&&◌, if◌then◌else◌}
-use Rattle.std.specs.Option.{ok_or}
+use Rattle.std.proofs.Common.{◌≡◌, ◌≢◌, ℕ, ◌<◌, ◌≤◌, ◌⊎◌, Bool, true, false, List, Some, None, Ok, Err, refl, sym, ◌∙◌, ap, inl, inr, arith, eq-eqb, Result, not, ◌==◌, ◌&&◌, if◌then◌else◌, ok_or}
 use Rattle.std.proofs.lemmas.Bool.{cases_eq, ne_eqb}
 use Rattle.ffs_model.specs.Library.{inode_links}
 use Rattle.ffs_format.specs.Entries.{is_name}

@@ -1,6 +1,5 @@
 -- An inode that is as before has its value, and what a new block of inodes is in the files.
-use Rattle.std.proofs.Common.{◌≡◌, ◌≢◌, ℕ, ◌-◌, ◌/◌, ◌%◌, ◌<◌, ◌≤◌, Bool, true, false, List, map, Some, None, Ok, Err, refl, sym, ◌∙◌, ap, inl, inr, arith, eq-eqb}
-use Rattle.std.specs.Prelude.{Contains, Result, ◌==◌, ◌&&◌, ◌||◌, not, min, nat_lt, if◌then◌else◌}
+use Rattle.std.proofs.Common.{◌≡◌, ◌≢◌, ℕ, ◌-◌, ◌/◌, ◌%◌, ◌<◌, ◌≤◌, Bool, true, false, List, map, Some, None, Ok, Err, refl, sym, ◌∙◌, ap, inl, inr, arith, eq-eqb, Contains, Result, ◌==◌, ◌&&◌, ◌||◌, not, min, nat_lt, if◌then◌else◌}
 use Rattle.std.specs.List.{range_with_len}
 use Rattle.std.proofs.lemmas.Bool.{cases_eq, eqb-false, eqb-true, ne_eqb}
 use Rattle.xn_model.specs.Root.{word_at}

@@ -1,6 +1,5 @@
 -- What `make` leaves is what its function of the files says.
-use Rattle.std.proofs.Common.{◌≡◌, ◌≢◌, ℕ, ◌-◌, ◌/◌, ◌%◌, ◌<◌, ◌≤◌, ◌⊎◌, ◌+◌, ◌*◌, Bool, true, false, List, Ok, Err, refl, eq-eqb, sym, ◌∙◌, ap, inl, inr, arith, subst}
-use Rattle.std.specs.Prelude.{IsOk, MatchResult, Result, not, nat_le, nat_lt, ◌==◌, ◌&&◌, ◌||◌, if◌then◌else◌}
+use Rattle.std.proofs.Common.{◌≡◌, ◌≢◌, ℕ, ◌-◌, ◌/◌, ◌%◌, ◌<◌, ◌≤◌, ◌⊎◌, ◌+◌, ◌*◌, Bool, true, false, List, Ok, Err, refl, eq-eqb, sym, ◌∙◌, ap, inl, inr, arith, subst, IsOk, MatchResult, Result, not, nat_le, nat_lt, ◌==◌, ◌&&◌, ◌||◌, if◌then◌else◌}
 use Rattle.std.specs.List.{range_with_len}
 use Rattle.std.proofs.lemmas.Bool.{cases_eq, cases_lt, eqb-false, eqb-true, le-leb, lt-leb, ne_eqb}
 use Rattle.xn_model.specs.Types.{Types}
@@ -98,10 +97,9 @@ empty_there v w fs ready f n = go ((n == 0) || nat_lt 128 n) refl
     go true out = value_outside w fs n out ∙ sym (outside (cases_eq n 0) out)
     go false right =
         let r = number_from n right in
-        let some = r.0 in
         let low = r.1 in
         value_by_place w fs n right ∙ elim (cases_lt n 9) [
-          | inl lt ↦ ap (value_in w) (f.first n low (omega (arith, lt))) ∙ within (cases_eq n 1) some (omega (arith, lt))
+          | inl lt ↦ ap (value_in w) (f.first n low (omega (arith, lt))) ∙ within (cases_eq n 1) r.0 (omega (arith, lt))
           | inr ge ↦
               ap (value_in w) (f.rest n low (λ z. omega (arith, z, ge)))
               ∙ (ap (λ (b : Result ℕ FfsFault). value_in w (and_then b (λ block. Ok (inode_at (v block) ((n - 1) % 8))))) (sym (no_blocks v fs true ready ((n - 1) / 8) (omega (arith, low)))) ∙ sym (past (λ z. omega (arith, z, ge)) (omega (arith, ge))))

@@ -46,5 +46,4 @@ returns-clause-parts g c = c.loop-progress.invariant.parts
 pub loop-progress-smaller : goal.loop-progress-smaller
 loop-progress-smaller g c =
     let more = c.write_part-progress.ensures.falls (none_left c.write_part-progress.result.fault c.is_some.result c.if-is_some.false c.is_some.ensures) in
-    let few = c.write_part-progress.ensures.few in
-    omega (arith, more, few)
+    omega (arith, more, c.write_part-progress.ensures.few)

@@ -1,5 +1,4 @@
-use Rattle.std.proofs.Common.{◌≡◌, ◌+◌, ◌-◌, ◌≤◌, ℕ, Option, None, length}
-use Rattle.std.specs.Prelude.{IsOk, min}
+use Rattle.std.proofs.Common.{◌≡◌, ◌+◌, ◌-◌, ◌≤◌, ℕ, Option, None, length, IsOk, min}
 use Rattle.xn_model.specs.Types.{Types}
 use Rattle.ffs_lookup.specs.Newest.{file_in}
 use Rattle.ffs_lib.specs.Steps.{Stage, newest_block}

@@ -1,5 +1,4 @@
-use Rattle.std.proofs.Common.{◌≡◌, ◌∙◌, [], ◌∷◌, subst}
-use Rattle.std.specs.Prelude.{OnErr}
+use Rattle.std.proofs.Common.{◌≡◌, ◌∙◌, [], ◌∷◌, subst, OnErr}
 use Rattle.xn_model.specs.Calls.{forget_of}
 use Rattle.xn_model.specs.Types.{Types}
 use Rattle.ffs_lib.specs.Edits.{edit_at}

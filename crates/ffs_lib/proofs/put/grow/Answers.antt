@@ -5,6 +5,7 @@ use Rattle.ffs_model.specs.Cuts.{latest}
 use Rattle.ffs_model.specs.Library.{IsLibrary, inode_blocks, zero_block}
 use Rattle.ffs_model.proofs.ForCallers.{data_begun}
 use Rattle.ffs_lookup.proofs.ForCallers.{block_again, gives_err, same_ok}
+use Rattle.ffs_lib.proofs.Tests.{never}
 use Rattle.ffs_lib.proofs.Entering.{directory_from}
 use Rattle.ffs_lib.proofs.Fields.{same_blocks}
 use Rattle.ffs_lib.proofs.Owners.{stands_from}
@@ -17,27 +18,25 @@ use Rattle.ffs_lib.specs.Steps.{Attached}
 use Rattle.ffs_lib.proofs.Orders.{act_err, grow_act, home_begun}
 use Rattle.ffs_lib.proofs.Laws.{attaches, begins_by, begins_err, fails, home_of, same_stage, short_told, told_by}
 use Rattle.ffs_lib.proofs.NameLaws.{grow_again, grow_short, grow_stage, grow_undone, grows, not_begun}
-use Rattle.ffs_lib.proofs.Tops.{never}
 use Rattle.ffs_lib.proofs.put.grow.Goals as goal
 
 pub returns-in_err-block : goal.returns-in_err-block
 returns-in_err-block g c =
     let old = g.S.Store.state_of c.args.store.now in
     let new = g.S.Store.state_of c.init.new.self in
-    let fs = c.args.fs.number in
     let bytes = put zero_block 0 c.args.entry.now in
     record {
       types = search rules;
       ends = λ T array directory name n e s m dir empty gap b.
-          let given = begins_err (g.S.Store.types_of c.args.store.now) T fs 2 _ bytes old new c.in_err-block.field-0.0 e c.block_with.ensures c.in_err-block.ensures.state in
-          let same = gives_err (init_of T old fs 2 bytes) old new _ given in
-          let told = told_by (init_of T old fs 2 bytes) old new _ given in
-          let own = stands_from (latest old.lives) fs c.args.number directory (directory_from (latest old.lives) fs c.args.number directory dir).0 in
+          let given = begins_err (g.S.Store.types_of c.args.store.now) T _ 2 _ bytes old new c.in_err-block.field-0.0 e c.block_with.ensures c.in_err-block.ensures.state in
+          let same = gives_err (init_of T old _ 2 bytes) old new _ given in
+          let told = told_by (init_of T old _ 2 bytes) old new _ given in
+          let own = stands_from (latest old.lives) _ c.args.number directory (directory_from (latest old.lives) _ c.args.number directory dir).0 in
           fails _ _ (same_stage s same) c.from_residual.result _ c.from_residual.ensures.1
-          (short_told (init_of T old fs 2 bytes) (data_begun T old s.keeps.consistent fs bytes (block_long 0 c.args.entry.now (let whole = b.whole in omega (arith, whole)))) _ told, not_begun T fs old new c.args.number directory dir same c.args.index empty c.args.entry.now own.block (block_again (latest old.lives) fs _ own.block own.inodes) _ told);
+          (short_told (init_of T old _ 2 bytes) (data_begun T old s.keeps.consistent _ bytes (block_long 0 c.args.entry.now (let whole = b.whole in omega (arith, whole)))) _ told, not_begun T _ old new c.args.number directory dir same c.args.index empty c.args.entry.now own.block (block_again (latest old.lives) _ _ own.block own.inodes) _ told);
       order = λ T array directory name n home e s m dir empty gap b at.
-          let given = begins_err (g.S.Store.types_of c.args.store.now) T fs 2 _ bytes old new c.in_err-block.field-0.0 e c.block_with.ensures c.in_err-block.ensures.state in
-          act_err T fs (Attaches 2 bytes home (grown_edit c.args.number directory c.args.index c.args.after)) old new (inl (gives_err (init_of T old fs 2 bytes) old new _ given)) (λ (k : ℕ). new.next ≡ k + 1) _ c.from_residual.result c.from_residual.ensures.1;
+          let given = begins_err (g.S.Store.types_of c.args.store.now) T _ 2 _ bytes old new c.in_err-block.field-0.0 e c.block_with.ensures c.in_err-block.ensures.state in
+          act_err T _ (Attaches 2 bytes home (grown_edit c.args.number directory c.args.index c.args.after)) old new (inl (gives_err (init_of T old _ 2 bytes) old new _ given)) (λ (k : ℕ). new.next ≡ k + 1) _ c.from_residual.result c.from_residual.ensures.1;
     }
 
 pub returns-in_err-home : goal.returns-in_err-home

@@ -10,11 +10,9 @@ use Rattle.ffs_lib.proofs.setup.attach_first.Goals as goal
 
 pub returns-in_err-prepare_root-clause-ends : goal.returns-in_err-prepare_root-clause-ends
 returns-in_err-prepare_root-clause-ends g c = λ T e s found b.
-    let fs = c.args.fs.number in
-    let old = g.S.Store.state_of c.args.store.now in
     let new = g.S.Store.state_of c.prepare_root.new.store in
     let h = c.in_err-prepare_root.ensures.ends T c.args.block e s found b in
-    fails (λ x. (n : ℕ) → files_of (latest new.lives) fs n ≡ empty_volume n) (StopsFirst T fs (λ s. s) c.args.block old new) h.0 c.from_residual.result _ c.from_residual.ensures.1 (h.1.0, inl h.1.1)
+    fails (λ x. (n : ℕ) → files_of (latest new.lives) _ n ≡ empty_volume n) (StopsFirst T _ (λ s. s) c.args.block _ new) h.0 c.from_residual.result _ c.from_residual.ensures.1 (h.1.0, inl h.1.1)
 
 pub returns-clause-ends : goal.returns-clause-ends
 returns-clause-ends g c = λ T e s found b.

@@ -1,5 +1,4 @@
-use Rattle.std.proofs.Common.{List, ℕ, length, ap, ◌∙◌, subst}
-use Rattle.std.specs.Prelude.{Contains}
+use Rattle.std.proofs.Common.{List, ℕ, length, ap, ◌∙◌, subst, Contains}
 use Rattle.std.specs.Int.{w16, to_le_bytes}
 use Rattle.xn_model.specs.Lists.{put}
 use Rattle.ffs_model.specs.Library.{inode_blocks, library_layout, zero_block}

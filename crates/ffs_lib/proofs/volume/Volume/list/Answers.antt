@@ -24,15 +24,13 @@ returns-in_err-found g c = record {
 pub returns-in_err-read_block : goal.returns-in_err-read_block
 returns-in_err-read_block g c = record {
   value = λ lib.
-      let T = g.S.Store.types_of c.args.store.now in
       let state = g.S.Store.state_of c.args.store.now in
-      let fs = c.args.self.now.fs.number in
       let found = c.in_ok-found.found in
       let is = c.in_ok-found.ensures.found.is in
       let block = c.direct-block in
       absurd (not_ok (c.in_err-read_block.ensures.reached 2
-      (under_direct T library_layout (library_reads T lib) (latest state.lives) fs _ found.block found.place block.result is.stands.inodes
-      (found_has state fs c.args.directory found is c.loop-i.i block.result (omega arith) (sym block.ensures) c.if-block-eq0.false))));
+      (under_direct _ library_layout (library_reads _ lib) (latest state.lives) _ _ found.block found.place block.result is.stands.inodes
+      (found_has state _ c.args.directory found is c.loop-i.i block.result (omega arith) (sym block.ensures) c.if-block-eq0.false))));
 }
 
 pub returns-in_err-add_names : goal.returns-in_err-add_names
@@ -49,10 +47,9 @@ loop-i-preserved-then-block-eq0 g c =
 
 pub loop-i-preserved : goal.loop-i-preserved
 loop-i-preserved g c =
-    let bytes = c.in_ok-read_block.field-0.now in
     c.in_ok-add_names.ensures
-    ∙ (ap (λ xs. xs ++ names_at bytes (range_with_len 0 16)) c.loop-i.invariant
-    ∙ names_more (latest (g.S.Store.state_of c.args.store.now).lives) c.in_ok-found.found.inode c.loop-i.i (c.loop-i.i + 1) refl c.direct-block.result bytes (sym c.direct-block.ensures) c.if-block-eq0.false
+    ∙ (ap (λ xs. xs ++ names_at c.in_ok-read_block.field-0.now (range_with_len 0 16)) c.loop-i.invariant
+    ∙ names_more (latest (g.S.Store.state_of c.args.store.now).lives) c.in_ok-found.found.inode c.loop-i.i (c.loop-i.i + 1) refl c.direct-block.result _ (sym c.direct-block.ensures) c.if-block-eq0.false
     c.in_ok-read_block.ensures.bytes)
 
 pub returns : goal.returns
