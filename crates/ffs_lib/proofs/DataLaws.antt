@@ -172,9 +172,7 @@ module _ (T : Types) (fs : ℕ) (array : ℕ → Option ℕ) (old : StoreState) 
       Proposed T fs block (edit_at at bytes [] [] after) old new result → EndsPart T fs array parts old new n index at bytes last (mapped both result)
   there_parts parts last comes some given made stops new (Ok entry) p =
       let x = there_ends some given new (Ok entry) p in
-      let put = x.1.0.0 in
-      let a = x.1.1 in
-      (x.0, record { puts = put.0; given = (put.1, put.1); made = made new a.0; last_is = last_there (latest old.lives) fs n found.inode index block is points there old.next new.next entry last a.1 a.2; waits = x.1.0.1 last comes })
+      (x.0, record { puts = x.1.0.0.0; given = (x.1.0.0.1, x.1.0.0.1); made = made new x.1.1.0; last_is = last_there (latest old.lives) fs n found.inode index block is points there old.next new.next entry last x.1.1.1 x.1.1.2; waits = x.1.0.1 last comes })
   there_parts parts last comes some given made stops new (Err fault) p = let x = there_ends some given new (Err fault) p in (x.0, (x.1.0, stops new fault x.1.1))
 
   pub there_data : (last : Last) → last.edit ≡ after → 0 < length bytes → IsTrue (was_given old after) → (new : StoreState) (result : Result ℕ FfsFault) → Proposed T fs block (edit_at at bytes [] [] after) old new result →

@@ -189,6 +189,5 @@ last_word m p few = word_part m p few (64 * p + 56) 56 refl (omega arith)
 pub pointers_reached : (T : Types) (lib : IsLibrary T) (state : StoreState) (fs n : ℕ) (found : Found) → IsFound state fs n found → (block : ℕ) → word_at found.inode 56 ≡ block → block ≢ 0 → Under T (latest state.lives) fs block 5
 pointers_reached T lib state fs n found is block e ne =
     let m = latest state.lives found.block in
-    let at = is.stands in
-    indirect_reached T library_layout (library_reads T lib) (latest state.lives) fs (library_layout.home n).0 found.block block 5 at.inodes
-    (indirect_owned T lib m found.place block at.few (last_word m found.place at.few ∙ (ap (λ b. word_at b 56) (sym is.bytes) ∙ e)) ne)
+    indirect_reached T library_layout (library_reads T lib) (latest state.lives) fs (library_layout.home n).0 found.block block 5 is.stands.inodes
+    (indirect_owned T lib m found.place block is.stands.few (last_word m found.place is.stands.few ∙ (ap (λ b. word_at b 56) (sym is.bytes) ∙ e)) ne)

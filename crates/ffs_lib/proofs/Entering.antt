@@ -133,8 +133,7 @@ module _ (T : Types) (lib : IsLibrary T) (state new : StoreState) (h : IsConsist
       let filled : OneMore (listed_in v b) (listed_in w b) (one, name) = more_by _ _ _ _ (one, name) refl (ap (λ m. filter_map (listed_at b m) (range_with_len 0 16)) here) more in
       let all = blocks_more (listed_in v) (listed_in w) b (one, name) filled (inode_blocks inode) has own_distinct (λ c i ne.
       let y = direct_where inode c i in
-      let first = y.1 in
-      ap (λ m. filter_map (listed_at c m) (range_with_len 0 16)) (t.others c 2 (block_at T lib state h fs few d inode own y.0 c (omega (arith, first)) (direct_block v inode y.0 first ∙ y.2) y.3) ne)) in (
+      ap (λ m. filter_map (listed_at c m) (range_with_len 0 16)) (t.others c 2 (block_at T lib state h fs few d inode own y.0 c (omega (arith, y.1)) (direct_block v inode y.0 y.1 ∙ y.2) y.3) ne)) in (
         record {
           after = inode;
           links = refl;
@@ -227,9 +226,8 @@ pub free_none : (state : StoreState) (fs : ℕ) (free : Free) → IsFree state f
 free_none state fs free is =
     let content = latest state.lives in
     let n = free.number in
-    let stands = is.stands in
     sym (unused_is (inode_at (content free.block) free.place) (free_mode (inode_at (content free.block) free.place) is.bare)
-    ∙ in_inode_block content fs n (good_number n stands.some is.low) ((n - 1) / 8) free.place free.block (content free.block) refl stands.at (block_again content fs ((n - 1) / 8) free.block stands.inodes) refl)
+    ∙ in_inode_block content fs n (good_number n is.stands.some is.low) ((n - 1) / 8) free.place free.block (content free.block) refl is.stands.at (block_again content fs ((n - 1) / 8) free.block is.stands.inodes) refl)
 
 module _ (u v w : ℕ → List ℕ) (fs d : ℕ) (name : List ℕ) (mode n : ℕ) where
   more_before : (inode : List ℕ) → SameContents u v inode → HasMore v w fs d inode name n → HasMore u w fs d inode name n

@@ -345,16 +345,15 @@ took_on u v w fs n inode same i k = record {
 module _ (u v : ℕ → List ℕ) (fs d : ℕ) (slot : Slot) (r : Removable u fs d slot) (c : Clearing u v fs slot) where
   pub removed : (w : ℕ → List ℕ) → TakesLink v w fs slot.inode → Removed u w fs d slot
   removed w t =
-      let n = slot.inode in
       let mine = t.others d r.apart in
       let lost = unlisted u v fs d slot r.own r.is r.has c in
-      let same = lost.others n (λ e. r.apart (sym e)) in
+      let same = lost.others slot.inode (λ e. r.apart (sym e)) in
       record {
         gone = λ inode i.
             let at : Ok inode ≡ inode_in v fs d = (directory_from u fs d inode i).0 ∙ sym (c.inodes d) in
             (i ∙ (sym (directory_same u v fs d (c.inodes d)) ∙ sym (directory_same v w fs d mine.0)), (mine.1 inode at).0 ∙ c.entries inode);
         others = λ x ne ne'. same_on u v w fs x (lost.others x ne) (t.others x ne');
-        unlinked = λ inode i. took_on u v w fs n inode same i (t.took inode (i ∙ sym (c.inodes n)));
+        unlinked = λ inode i. took_on u v w fs slot.inode inode same i (t.took inode (i ∙ sym (c.inodes slot.inode)));
       }
 
 -- where an inode has more links than one, it loses but one of them

@@ -135,9 +135,8 @@ module _ (m : List ℕ) (long : length m ≡ 512) (p : ℕ) (few : p < 16) (n : 
 
   pub name_here : name_in (put m (32 * p) bs) (32 * p) ≡ name
   name_here =
-      let k = min (get_or bs 2 0) 28 in
       ap (λ x. take (min x 28) (drop (32 * p + 4) (put m (32 * p) bs))) (byte_within m (32 * p) bs fits 2 (omega (arith, whole)))
-      ∙ (bytes_within m (32 * p) bs fits k 4 (omega (arith, whole)) ∙ (ap (λ x. name_in x 0) is ∙ entry_name n name named))
+      ∙ (bytes_within m (32 * p) bs fits (min (get_or bs 2 0) 28) 4 (omega (arith, whole)) ∙ (ap (λ x. name_in x 0) is ∙ entry_name n name named))
 
   module _ (some : n ≢ 0) (b : ℕ) where
     pub listed_here : listed_at b (put m (32 * p) bs) p ≡ Some (record { block = b; place = p; inode = n }, name)

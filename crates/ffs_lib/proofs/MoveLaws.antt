@@ -56,8 +56,7 @@ module _ (u w : ℕ → List ℕ) (fs d : ℕ) (name : List ℕ) (other : ℕ) (
             let to1 = z.linked.before other x.to at.0 in
             let more = z.entered.more to1.after (directory_to z.middle fs other to1.after to1.found (to1.mode ∙ at.1)) in
             let same : inode_links inode ≡ inode_links more.after = ap inode_links (same_ok inode more.after (i ∙ (ap (inode_in w fs) e ∙ sym (directory_from w fs other more.after more.directory).0))) in
-            let one = z.linked.links x.own to1.after x.is_own (to1.found ∙ ap (inode_in z.middle fs) (sym e)) in
-            omega (arith, one, linked, same, more.links)
+            omega (arith, z.linked.links x.own to1.after x.is_own (to1.found ∙ ap (inode_in z.middle fs) (sym e)), linked, same, more.links)
       ]
 
   -- the directory that is entered has an entry more
@@ -184,9 +183,8 @@ module _ (u w : ℕ → List ℕ) (fs d : ℕ) (name : List ℕ) (other : ℕ) (
               | inl is ↦ λ inode i. elim s.stage [
                 | inl same ↦ same_as v last fs e (subst (λ (y : StoreState). SameInode v (latest y.lives) fs e) (sym same) (same_here v fs e)) inode i
                 | inr k ↦
-                    let more = many linked inode (i ∙ (ap (inode_in v fs) is ∙ c.inodes n)) in
                     let one : inode_links inode ≡ inode_links s.inode = ap inode_links (same_ok inode s.inode (i ∙ (ap (inode_in v fs) is ∙ sym s.was))) in
-                    absurd (omega (arith, one, more, k.last))
+                    absurd (omega (arith, one, many linked inode (i ∙ (ap (inode_in v fs) is ∙ c.inodes n)), k.last))
               ]
             ] in
             let mine : n ≢ d → AsBefore w last fs n = λ away inode i. elim s.stage [

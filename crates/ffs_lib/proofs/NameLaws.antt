@@ -131,7 +131,6 @@ module _ (T : Types) (fs : ℕ) (array : ℕ → Option ℕ) (zeroth first : Sto
         let h1 = grow_stage.keeps.consistent in
         let reads = library_reads T s.library in
         let v1 = latest first.lives in
-        let stands = at.is.stands in
         let edit = edit_at (64 * found.place) after ((block, 2) ∷ []) [] (Some e) in
         let mode : inode_mode after ≡ 2 = ap (λ (f : Fields). f.mode) set ∙ at.directory in
         let links = ap (λ (f : Fields). f.links) set in
@@ -140,18 +139,18 @@ module _ (T : Types) (fs : ℕ) (array : ℕ → Option ℕ) (zeroth first : Sto
         let one : OneEntry library_layout (put zero_block 0 bytes) n = subst (OneEntry library_layout (put zero_block 0 bytes)) b.half (one_entry bytes b.whole) in
         let holds = started_holds T library_layout reads fs s.few array zeroth first s.keeps fs 2 (put zero_block 0 bytes) (block, number) done in
         let names = started_names T library_layout reads fs s.few array zeroth first s.keeps fs 2 (put zero_block 0 bytes) (block, number) done n e m.can in
-        let k = grown T s.library fs s.few array first second grow_stage.keeps d found.block found.place stands after whole ((block, 2) ∷ []) [] (Some e) entry put_done block n e (put zero_block 0 bytes)
+        let k = grown T s.library fs s.few array first second grow_stage.keeps d found.block found.place at.is.stands after whole ((block, 2) ∷ []) [] (Some e) entry put_done block n e (put zero_block 0 bytes)
         (ap inode_mode (sym at.is.bytes) ∙ at.directory) mode (links ∙ ap inode_links at.is.bytes)
         (λ c i. elim (one_more found.inode after index block c direct i) [ inl j ↦ inl (subst (λ (x : List ℕ). Contains (inode_blocks x) c) at.is.bytes j) | inr z ↦ inr z ])
         m.some holds one (Contains-head (block, 2) []) names refl in
-        let p = inode_put T s.library first second h1 fs s.few d found.block found.place stands own.low after whole (λ z. at.is.used (at.directory ∙ (sym mode ∙ z))) ((block, 2) ∷ []) [] (Some e) entry put_done in
+        let p = inode_put T s.library first second h1 fs s.few d found.block found.place at.is.stands own.low after whole (λ z. at.is.used (at.directory ∙ (sym mode ∙ z))) ((block, 2) ∷ []) [] (Some e) entry put_done in
         let g : IsGrown v1 (latest second.lives) fs d found.inode index block = record {
           after = after;
           directory = directory_is after mode ∙ in_directory (latest second.lives) fs d (Ok after) (sym p.0);
           links = links;
           direct = direct;
           size = ap (λ (f : Fields). f.size) set ∙ sized;
-          bytes = λ c none. proposed_others T first second h1 fs found.block edit entry put_done c (λ z. none (subst (λ x. IsInodes library_layout v1 fs ((d - 1) / 8) x) (sym z) stands.inodes));
+          bytes = λ c none. proposed_others T first second h1 fs found.block edit entry put_done c (λ z. none (subst (λ x. IsInodes library_layout v1 fs ((d - 1) / 8) x) (sym z) at.is.stands.inodes));
           others = p.1;
         } in
         let more = block_entered T s.library zeroth first second h h1 fs s.few block number bytes done d index n name inode dir empty low gap there found.inode exact g b.spelled b.whole b.named b.half m.some in (

@@ -39,9 +39,7 @@ zeros_stand v inode index at count fit none =
     (λ k low. elim (cases_written at (length bs) k) [
       | inl lt ↦ sym (test_below (f index) at bs k lt)
       | inr (inl y) ↦
-          let lo = y.0 in
-          let hi = y.1 in
-          none k lo (omega (arith, hi, long)) ∙ (sym (get_or-replicate count (k - at) 0 0 (omega (arith, lo, hi, long))) ∙ sym (test_in (f index) at bs k lo hi))
+          none k y.0 (omega (arith, y.1, long)) ∙ (sym (get_or-replicate count (k - at) 0 0 (omega (arith, y.0, y.1, long))) ∙ sym (test_in (f index) at bs k y.0 y.1))
       | inr (inr ge) ↦ sym (test_above (f index) at bs k ge)
     ])
 

@@ -98,8 +98,7 @@ module _ (entry : Slot) (n : ℕ) where
 stood_there : (u : ℕ → List ℕ) (inode name : List ℕ) (slot : Slot) → EntryAt u inode name slot → there_in slot.block slot.place (listing u inode) ≡ Some (name, slot.inode)
 stood_there u inode name slot entry =
     let k = entry.is in
-    let place = k.place in
-    sym (place_listed slot.block slot.place u (omega (arith, k.few, place)) inode (direct_has inode entry.at.0 slot.block k.low k.block k.there)) ∙ entry.stands
+    sym (place_listed slot.block slot.place u (omega (arith, k.few, k.place)) inode (direct_has inode entry.at.0 slot.block k.low k.block k.there)) ∙ entry.stands
 
 itself_true : (slot : Slot) → (slot.block == slot.block) && (slot.place == slot.place) ≡ true
 itself_true slot = both_true (slot.block == slot.block) (slot.place == slot.place) (eq-eqb slot.block slot.block refl) (eq-eqb slot.place slot.place refl)
@@ -278,5 +277,4 @@ module _ (u : ℕ → List ℕ) (fs d : ℕ) (name : List ℕ) (other : ℕ) (ot
 
     pub two_links : (v : ℕ → List ℕ) → inode_in v fs n ≡ inode_in v1 fs n → 1 ≤ inode_links x.own → (inode : List ℕ) → Ok inode ≡ inode_in v fs n → 1 < inode_links inode
     two_links v same linked inode i =
-        let more = l.links x.own inode is_moved (i ∙ same) in
-        omega (arith, more, linked)
+        omega (arith, l.links x.own inode is_moved (i ∙ same), linked)

@@ -146,8 +146,7 @@ module _ (T : Types) (lib : IsLibrary T) (fs : ℕ) (few : fs < 32) (v : ℕ →
       whole : length (take 6144 bytes ++ replicate (length bytes - 6144) 0) ≡ end
       whole =
           let b = length-replicate {A = ℕ} (length bytes - 6144) 0 in
-          let x = length-append (take 6144 bytes) (replicate (length bytes - 6144) 0) in
-          omega (arith, long_first, b, long, x)
+          omega (arith, long_first, b, long, length-append (take 6144 bytes) (replicate (length bytes - 6144) 0))
 
       part : (k d : ℕ) → k < end → byte_of w inode k ≡ get_or (take 6144 bytes ++ replicate (length bytes - 6144) 0) k d
       part k d small = elim (cases_lt k 6144) [

@@ -296,20 +296,19 @@ module _ (T : Types) (fs : ℕ) (array : ℕ → Option ℕ) (old middle : Store
   -- where some bytes are written
   size_some : taken ≢ 0 → (new : StoreState) (fault : FfsFault) → (word_at after 4 < offset + taken) × StopsAtHome T fs middle new n fault → IsRefused T fs old new fault (some_stages all asked n offset bytes)
   size_some some new fault s =
-      let few = few_taken in
       let at : ℕ = start + progress.done in
       let here = place some in
-      let below : nat_lt (length own.1) at ≡ true = ap (nat_lt (length own.1)) here ∙ size_below (offset + taken) (omega (arith, few, low)) s.0 in
+      let below : nat_lt (length own.1) at ≡ true = ap (nat_lt (length own.1)) here ∙ size_below (offset + taken) (omega (arith, few_taken, low)) s.0 in
       let edge : (at % 512 == 0) || (at == offset + length bytes) ≡ true = elim (cases_eq at (offset + length bytes)) [
         | inl e ↦ or_right (at % 512 == 0) (at == offset + length bytes) (eq-eqb at (offset + length bytes) e)
-        | inr ne ↦ elim (p.border (omega (arith, ne, few, long_pads, here))) [
+        | inr ne ↦ elim (p.border (omega (arith, ne, few_taken, long_pads, here))) [
           | inl z ↦ absurd (omega (arith, z, here, some))
           | inr (inl e) ↦ absurd (omega (arith, e, here, some))
           | inr (inr e) ↦ or_left (at % 512 == 0) (at == offset + length bytes) (eq-eqb (at % 512) 0 e)
         ]
       ] in
       subst (IsRefused T fs old new fault) (sym some_are) (inr (later_stages T fs new fault _ some_sizes
-      (size_among (is_size (length own.1) (offset + length bytes)) (offset + 1) (length bytes) (ap (λ (t : Bool). t && ((at % 512 == 0) || (at == offset + length bytes))) below ∙ edge) (omega (arith, here, some)) (omega (arith, here, few)) new fault s.1)))
+      (size_among (is_size (length own.1) (offset + length bytes)) (offset + 1) (length bytes) (ap (λ (t : Bool). t && ((at % 512 == 0) || (at == offset + length bytes))) below ∙ edge) (omega (arith, here, some)) (omega (arith, here, few_taken)) new fault s.1)))
 
   -- where it stops, by the numbers of its edits
   abbrev stop : StoreState → ℕ

@@ -57,8 +57,7 @@ module _ (T : Types) (fs n end offset : ℕ) (bytes : List ℕ) (limit : ℕ) wh
   runs_later (at ∷ xs) x there e =
       let y = then_ok (λ state. run xs (then_last at x state)) (step at x) there e in
       let first = parts_later T fs (parts_at fs n offset bytes at (after_at end offset bytes at x.1)) x.0 y.0 y.1 in
-      let last = runs_later xs (then_last at x y.0) there y.2 in
-      omega (arith, first, last)
+      omega (arith, first, runs_later xs (then_last at x y.0) there y.2)
 
   -- behind parts that are made
   pub stops_behind : (xs ys : List ℕ) (x there : StoreState × Last) → run xs x ≡ Ok there → there.0.next ≤ limit → stop (xs ++ ys) x ≡ stop ys there

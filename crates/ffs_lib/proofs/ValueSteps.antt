@@ -181,13 +181,12 @@ entry_after_link files n d at entry = files_equal (λ x. elim (cases_eq d n) [
   | inl same ↦
       elim (cases_eq x d) [
         | inl e ↦
-            let e' = e ∙ same in
             ap (λ t. if t then with_entry_in at entry (with_link files n d) else with_link files n x) (eq-eqb x d e)
             ∙ (ap (λ t. with_entry_in at entry (if t then more_a_link (files n) else files d)) (eq-eqb d n same)
             ∙ (commute (files n)
             ∙ (ap (λ m. more_a_link (with_entry_in at entry (files m))) (sym same)
             ∙ (ap (λ t. more_a_link (if t then with_entry_in at entry (files d) else files n)) (sym (eq-eqb n d (sym same)))
-            ∙ ap (λ t. if t then more_a_link (with_entry files d at entry n) else with_entry files d at entry x) (sym (eq-eqb x n e'))))))
+            ∙ ap (λ t. if t then more_a_link (with_entry files d at entry n) else with_entry files d at entry x) (sym (eq-eqb x n (e ∙ same)))))))
         | inr ne ↦
             let ne' : x ≢ n = λ z. ne (z ∙ sym same) in
             ap (λ t. if t then with_entry_in at entry (with_link files n d) else with_link files n x) (ne_eqb x d ne)

@@ -97,12 +97,11 @@ empty_there v w fs ready f n = go ((n == 0) || nat_lt 128 n) refl
     go true out = value_outside w fs n out ∙ sym (outside (cases_eq n 0) out)
     go false right =
         let r = number_from n right in
-        let low = r.1 in
         value_by_place w fs n right ∙ elim (cases_lt n 9) [
-          | inl lt ↦ ap (value_in w) (f.first n low (omega (arith, lt))) ∙ within (cases_eq n 1) r.0 (omega (arith, lt))
+          | inl lt ↦ ap (value_in w) (f.first n r.1 (omega (arith, lt))) ∙ within (cases_eq n 1) r.0 (omega (arith, lt))
           | inr ge ↦
-              ap (value_in w) (f.rest n low (λ z. omega (arith, z, ge)))
-              ∙ (ap (λ (b : Result ℕ FfsFault). value_in w (and_then b (λ block. Ok (inode_at (v block) ((n - 1) % 8))))) (sym (no_blocks v fs true ready ((n - 1) / 8) (omega (arith, low)))) ∙ sym (past (λ z. omega (arith, z, ge)) (omega (arith, ge))))
+              ap (value_in w) (f.rest n r.1 (λ z. omega (arith, z, ge)))
+              ∙ (ap (λ (b : Result ℕ FfsFault). value_in w (and_then b (λ block. Ok (inode_at (v block) ((n - 1) % 8))))) (sym (no_blocks v fs true ready ((n - 1) / 8) (omega (arith, r.1)))) ∙ sym (past (λ z. omega (arith, z, ge)) (omega (arith, ge))))
         ]
 
 -- How `make` follows its function

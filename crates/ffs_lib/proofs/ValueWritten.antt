@@ -55,9 +55,8 @@ module _ (f : ℕ → ℕ) (e m : ℕ) (offset : ℕ) (bytes : List ℕ) (size :
 
   long_all : length (take offset old_bytes ++ pads ++ bytes ++ drop (offset + length bytes) old_bytes) ≡ m
   long_all =
-      let b = length-drop (offset + length bytes) old_bytes in
       let c = length-append (take offset old_bytes ++ pads ++ bytes) (drop (offset + length bytes) old_bytes) in
-      omega (arith, long_three, b, c, long, size)
+      omega (arith, long_three, length-drop (offset + length bytes) old_bytes, c, long, size)
 
   -- what is written at a place, and what was there elsewhere
   inside : (k : ℕ) → min e offset ≤ k → k < offset + length bytes → byte_written f (min e offset) (pads ++ bytes) k ≡ get_or (pads ++ bytes) (k - min e offset) 0
@@ -72,9 +71,8 @@ module _ (f : ℕ → ℕ) (e m : ℕ) (offset : ℕ) (bytes : List ℕ) (size :
   behind : (k : ℕ) → offset + length bytes ≤ k → byte_written f (min e offset) (pads ++ bytes) k ≡ f k
   behind k high =
       let c = length-append pads bytes in
-      let b = long_pads in
       ap (λ t. if t && nat_lt k (min e offset + length (pads ++ bytes)) then get_or (pads ++ bytes) (k - min e offset) 0 else f k) (le-leb (min e offset) k (omega (arith, high)))
-      ∙ ap (λ t. if t then get_or (pads ++ bytes) (k - min e offset) 0 else f k) (le-ltb k (min e offset + length (pads ++ bytes)) (omega (arith, high, b, c)))
+      ∙ ap (λ t. if t then get_or (pads ++ bytes) (k - min e offset) 0 else f k) (le-ltb k (min e offset + length (pads ++ bytes)) (omega (arith, high, long_pads, c)))
 
   abbrev parts : List ℕ
   parts = take offset old_bytes ++ pads ++ bytes ++ drop (offset + length bytes) old_bytes
@@ -139,10 +137,8 @@ module _ (f : ℕ → ℕ) (e m : ℕ) (offset : ℕ) (bytes : List ℕ) (size :
 
       whole : length (first_written old_bytes all_bytes at) ≡ e
       whole =
-          let b = length-drop at old_bytes in
-          let c = length-append (take at all_bytes) (drop at old_bytes) in
           let t = length-take (length old_bytes) (take at all_bytes ++ drop at old_bytes) in
-          omega (arith, long_front, b, c, long, t)
+          omega (arith, long_front, length-drop at old_bytes, length-append (take at all_bytes) (drop at old_bytes), long, t)
 
       one : (k d : ℕ) → k < e → get_or (take at all_bytes ++ drop at old_bytes) k d ≡ byte_written f (min e offset) (take done (pads ++ bytes)) k
       one k d small = elim (cases_lt k at) [

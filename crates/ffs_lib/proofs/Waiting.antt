@@ -218,12 +218,11 @@ module _ (T : Types) (zeroth first : StoreState) (h0 : IsConsistent T zeroth) (f
 
 pub waits_then : (fs n : ℕ) (a b c : StoreState) (x y z : Last) → WaitsOn fs n a b x y → WaitsOn fs n b c y z → WaitsOn fs n a c x z
 waits_then fs n a b c x y z one two =
-    let first = one.later in
     record {
       home = two.home ∙ one.home;
-      waits = λ block from low at w. two.waits block from (omega (arith, low, first)) (at ∙ sym one.home) (one.waits block from low at w);
-      newer = λ from c low older. two.newer from c (omega (arith, low, first)) (one.newer from c low older);
-      later = omega (arith, first, two.later);
+      waits = λ block from low at w. two.waits block from (omega (arith, low, one.later)) (at ∙ sym one.home) (one.waits block from low at w);
+      newer = λ from c low older. two.newer from c (omega (arith, low, one.later)) (one.newer from c low older);
+      later = omega (arith, one.later, two.later);
     }
 
 -- nothing is pending that was not

@@ -89,9 +89,8 @@ written_by f h index at bs fit others here x low =
           ap (λ i. h i k) e ∙ (here k (omega arith) ∙ elim (cases_written at (length bs) k) [
             | inl lt ↦ test_below (f index) at bs k lt ∙ (ap (λ i. f i k) (sym e) ∙ sym (test_below g (512 * index + at) bs x (omega (arith, sum, lt))))
             | inr (inl y) ↦
-                let lo = y.0 in
-                let less : k - at ≡ x - (512 * index + at) = omega (arith, sum, lo) in
-                test_in (f index) at bs k lo y.1 ∙ (ap (λ j. get_or bs j 0) less ∙ sym (test_in g (512 * index + at) bs x (omega (arith, sum, lo)) (omega (arith, sum, y.1))))
+                let less : k - at ≡ x - (512 * index + at) = omega (arith, sum, y.0) in
+                test_in (f index) at bs k y.0 y.1 ∙ (ap (λ j. get_or bs j 0) less ∙ sym (test_in g (512 * index + at) bs x (omega (arith, sum, y.0)) (omega (arith, sum, y.1))))
             | inr (inr ge) ↦ test_above (f index) at bs k ge ∙ (ap (λ i. f i k) (sym e) ∙ sym (test_above g (512 * index + at) bs x (omega (arith, sum, ge))))
           ])
       | inr ne ↦
@@ -109,16 +108,13 @@ written_on f g h start bs cs x e e' =
       | inl lt ↦ test_below g (start + length bs) cs x lt ∙ (e ∙ elim (cases_written start (length bs) x) [
         | inl less ↦ test_below f start bs x less ∙ sym (test_below f start (bs ++ cs) x less)
         | inr (inl y) ↦
-            let lo = y.0 in
-            let hi = y.1 in
-            test_in f start bs x lo hi ∙ (sym (get_or_append_left bs cs 0 (x - start) (omega (arith, lo, hi))) ∙ sym (test_in f start (bs ++ cs) x lo (omega (arith, hi, long))))
+            test_in f start bs x y.0 y.1 ∙ (sym (get_or_append_left bs cs 0 (x - start) (omega (arith, y.0, y.1))) ∙ sym (test_in f start (bs ++ cs) x y.0 (omega (arith, y.1, long))))
         | inr (inr ge) ↦ absurd (omega (arith, lt, ge))
       ])
       | inr (inl y) ↦
-          let lo = y.0 in
-          let less : x - start ≡ length bs + (x - (start + length bs)) = omega (arith, lo) in
-          test_in g (start + length bs) cs x lo y.1
-          ∙ (sym (get_or-append-add bs cs (x - (start + length bs)) 0) ∙ (ap (λ j. get_or (bs ++ cs) j 0) (sym less) ∙ sym (test_in f start (bs ++ cs) x (omega (arith, lo)) (omega (arith, y.1, long)))))
+          let less : x - start ≡ length bs + (x - (start + length bs)) = omega (arith, y.0) in
+          test_in g (start + length bs) cs x y.0 y.1
+          ∙ (sym (get_or-append-add bs cs (x - (start + length bs)) 0) ∙ (ap (λ j. get_or (bs ++ cs) j 0) (sym less) ∙ sym (test_in f start (bs ++ cs) x (omega (arith, y.0)) (omega (arith, y.1, long)))))
       | inr (inr ge) ↦ test_above g (start + length bs) cs x ge ∙ (e ∙ (test_above f start bs x (omega (arith, ge)) ∙ sym (test_above f start (bs ++ cs) x (omega (arith, ge, long)))))
     ]
 

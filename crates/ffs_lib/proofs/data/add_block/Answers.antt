@@ -26,14 +26,13 @@ returns-then-index-lt-DIRECT_POINTERS-clause-ends g c = λ T array inode e s is 
     let entry = c.in_ok-added.added in
     let low = c.if-index-lt-DIRECT_POINTERS.true in
     let x = c.in_ok-added.ensures.ends T array inode e s is (sym (direct_block (latest old.lives) inode _ low) ∙ hole) given.0 in
-    let p = x.1.0.0 in
     let a = x.1.1 in
     let none = ap (λ (a : Action). act_of T c.args.fs.number a old) (sym (pointers_none (latest old.lives) _ _ inode _ last.edit is (inl low))) in
     let adds = sym (adds_hole (latest old.lives) _ _ inode _ is low hole) in (
       x.0,
       record {
-        puts = p.0;
-        given = (given_later old new p.0.later last.edit given.0, p.1);
+        puts = x.1.0.0.0;
+        given = (given_later old new x.1.0.0.0.later last.edit given.0, x.1.0.0.1);
         made = data_made T _ _ _ c.args.at c.args.bytes.now last.edit old old new none a.0;
         last_is = ap (λ (t : Bool). record { edit = if t then last.edit else Some entry; size = Some entry }) adds ∙ last_made _ old.next new.next entry last a.1 a.2;
         waits = x.1.0.1 last refl;
@@ -70,15 +69,14 @@ returns-clause-ends g c = λ T array inode e s is hole long given.
     let p = k.1.0.0 in
     let x = c.in_ok-added-2.ensures.ends T array _ p.after (c.pointers_of.ensures.types ∙ e) k.0 p.file p.points p.there p.long (p.holes _ far c.requires.few hole)
     (given_later old first p.puts.later last.edit given.0) in
-    let a = x.1.1 in
     let adds = sym (adds_far (latest old.lives) _ _ inode _ is far) in (
       x.0,
       record {
         puts = puts_after old first new _ _ (512 * c.args.index + c.args.at) c.args.bytes.now p.puts x.1.0.0.0;
         given = subst (LastGiven new) (sym c.next_after.ensures) (x.1.0.0.1, x.1.0.0.1);
-        made = data_made T _ _ _ c.args.at c.args.bytes.now last.edit old first new k.1.1 a.0;
+        made = data_made T _ _ _ c.args.at c.args.bytes.now last.edit old first new k.1.1 x.1.1.0;
         last_is = c.next_after.ensures
-            ∙ (ap (λ (t : Bool). record { edit = if t then last.edit else Some entry; size = Some entry }) adds ∙ last_made _ old.next new.next entry last a.1 (later_then old.next first.next entry p.puts.later a.2));
+            ∙ (ap (λ (t : Bool). record { edit = if t then last.edit else Some entry; size = Some entry }) adds ∙ last_made _ old.next new.next entry last x.1.1.1 (later_then old.next first.next entry p.puts.later x.1.1.2));
         waits = subst (WaitsOn _ _ old new last) (sym c.next_after.ensures) (waits_then _ _ old first new last last _ (k.1.0.1 last refl) (x.1.0.1 last refl));
       },
     )

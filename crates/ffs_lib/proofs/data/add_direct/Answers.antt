@@ -18,14 +18,13 @@ use Rattle.ffs_lib.proofs.data.add_direct.Goals as goal
 pub returns-in_err-block-clause-ends : goal.returns-in_err-block-clause-ends
 returns-in_err-block-clause-ends g c = λ T array inode e s is hole given.
     let old = g.S.Store.state_of c.args.store.now in
-    let bytes = put zero_block c.args.at c.args.bytes.now in
-    let gave = begins_err (g.S.Store.types_of c.args.store.now) T _ 2 _ bytes old _ c.in_err-block.field-0.0 e c.block_with.ensures c.in_err-block.ensures.state in
-    let same = gives_err (init_of T old _ 2 bytes) old _ _ gave in
-    let told = told_by (init_of T old _ 2 bytes) old _ _ gave in
+    let gave = begins_err (g.S.Store.types_of c.args.store.now) T _ 2 _ _ old _ c.in_err-block.field-0.0 e c.block_with.ensures c.in_err-block.ensures.state in
+    let same = gives_err (init_of T old _ 2 _) old _ _ gave in
+    let told = told_by (init_of T old _ 2 _) old _ _ gave in
     let home = home_there (latest old.lives) _ _ inode is in
     fails _ _ (same_stage s same) c.from_residual.result _ c.from_residual.ensures.1 (
-      short_told (init_of T old _ 2 bytes) (data_begun T old s.keeps.consistent _ bytes (block_long c.args.at c.args.bytes.now c.requires.within)) _ told,
-      not_begun T _ old _ _ 2 bytes home.0 (direct_edit _ inode c.args.index c.args.after) _ (direct_is (latest old.lives) _ _ home.0 inode c.args.index c.args.at c.args.bytes.now c.args.after home.1 is
+      short_told (init_of T old _ 2 _) (data_begun T old s.keeps.consistent _ _ (block_long c.args.at c.args.bytes.now c.requires.within)) _ told,
+      not_begun T _ old _ _ 2 _ home.0 (direct_edit _ inode c.args.index c.args.after) _ (direct_is (latest old.lives) _ _ home.0 inode c.args.index c.args.at c.args.bytes.now c.args.after home.1 is
           (direct_block (latest old.lives) inode c.args.index c.requires.few ∙ hole) c.requires.few) same _ told,
     )
 
@@ -33,12 +32,10 @@ pub returns-in_err-home-clause-ends : goal.returns-in_err-home-clause-ends
 returns-in_err-home-clause-ends g c = λ T array inode e s is hole given.
     let zeroth = g.S.Store.state_of c.args.store.now in
     let first = g.S.Store.state_of c.init.new.self in
-    let fs = c.args.fs.number in
-    let block = c.in_ok-block.block in
     let number = c.in_ok-block.field-0-1 in
     let bytes = put zero_block c.args.at c.args.bytes.now in
-    let done = begins_by (g.S.Store.types_of c.args.store.now) T fs 2 _ bytes zeroth first (block, number) e c.block_with.ensures c.in_ok-block.ensures.state in
-    let again = begun_again T fs array zeroth first s c.args.number inode is 2 bytes block number done in
+    let done = begins_by (g.S.Store.types_of c.args.store.now) T c.args.fs.number 2 _ bytes zeroth first (c.in_ok-block.block, number) e c.block_with.ensures c.in_ok-block.ensures.state in
+    let again = begun_again T c.args.fs.number array zeroth first s c.args.number inode is 2 bytes _ number done in
     absurd (never inode _ (again ∙ sym (c.in_err-home.ensures.exact (subst IsLibrary (sym (c.init.ensures.types ∙ e)) s.library))))
 
 pub returns-clause-ends : goal.returns-clause-ends

@@ -21,15 +21,14 @@ pub returns-in_err-block-clause-ends : goal.returns-in_err-block-clause-ends
 returns-in_err-block-clause-ends g c = λ T array n inode e s is points there long none given.
     let old = g.S.Store.state_of c.args.store.now in
     let index = c.args.index in
-    let bytes = put zero_block c.args.at c.args.bytes.now in
-    let gave = begins_err (g.S.Store.types_of c.args.store.now) T _ 2 _ bytes old _ c.in_err-block.field-0.0 e c.block_with.ensures c.in_err-block.ensures.state in
-    let same = gives_err (init_of T old _ 2 bytes) old _ _ gave in
-    let told = told_by (init_of T old _ 2 bytes) old _ _ gave in
+    let gave = begins_err (g.S.Store.types_of c.args.store.now) T _ 2 _ _ old _ c.in_err-block.field-0.0 e c.block_with.ensures c.in_err-block.ensures.state in
+    let same = gives_err (init_of T old _ 2 _) old _ _ gave in
+    let told = told_by (init_of T old _ 2 _) old _ _ gave in
     let at : 12 + (index - 12) ≡ index = omega (arith, c.requires.far) in
     let hole : file_block (latest old.lives) inode index ≡ 0 = ap (file_block (latest old.lives) inode) (sym at) ∙ (indirect_block (latest old.lives) inode c.args.pointers (index - 12) points there ∙ none) in
     fails _ _ (same_stage s same) c.from_residual.result _ c.from_residual.ensures.1 (
-      short_told (init_of T old _ 2 bytes) (data_begun T old s.keeps.consistent _ bytes (block_long c.args.at c.args.bytes.now c.requires.within)) _ told,
-      not_begun T _ old _ n 2 bytes c.args.pointers (pointed_edit index c.args.after) _ (pointed_is (latest old.lives) _ n inode index c.args.pointers c.args.at c.args.bytes.now c.args.after is hole c.requires.far points) same _ told,
+      short_told (init_of T old _ 2 _) (data_begun T old s.keeps.consistent _ _ (block_long c.args.at c.args.bytes.now c.requires.within)) _ told,
+      not_begun T _ old _ n 2 _ c.args.pointers (pointed_edit index c.args.after) _ (pointed_is (latest old.lives) _ n inode index c.args.pointers c.args.at c.args.bytes.now c.args.after is hole c.requires.far points) same _ told,
     )
 
 pub returns-clause-ends : goal.returns-clause-ends

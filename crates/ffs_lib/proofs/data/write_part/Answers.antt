@@ -13,8 +13,7 @@ returns-then-at-offset-clause-parts g c = λ T array zeroth e ok p.
     let end = c.args.end in
     let offset = c.args.offset in
     let bytes = c.args.bytes.now in
-    let progress = c.args.progress in
-    let done = progress.done in
+    let done = c.args.progress.done in
     let at : ℕ = c.min.result + done in
     let count = c.min-count.result in
     let least = c.min-count.ensures in
@@ -22,8 +21,8 @@ returns-then-at-offset-clause-parts g c = λ T array zeroth e ok p.
     let long = padded_long end offset bytes done count in
     let in_all = is_ok_one _ ok in
     let wrote = p.puts.wrote in_all.0 in_all.1 in
-    let x = zeros_make T c.args.fs.number array first second c.args.number end offset bytes at count progress.last c.clear_block-cleared.result (omega (arith, low)) (omega arith) least (c.clear_block-cleared.ensures.ends T array wrote.after e p.stage wrote.file p.given) in
-    parts_by T c.args.fs.number array zeroth first second c.args.number end offset bytes _ progress c.step.result count p c.requires.none (omega (arith, least, long, low)) (omega (arith, c.requires.some, long, low))
+    let x = zeros_make T c.args.fs.number array first second c.args.number end offset bytes at count c.args.progress.last c.clear_block-cleared.result (omega (arith, low)) (omega arith) least (c.clear_block-cleared.ensures.ends T array wrote.after e p.stage wrote.file p.given) in
+    parts_by T c.args.fs.number array zeroth first second c.args.number end offset bytes _ c.args.progress c.step.result count p c.requires.none (omega (arith, least, long, low)) (omega (arith, c.requires.some, long, low))
     (zeros_next end offset bytes done count (omega (arith, least, low))) (λ lt. elim (cases_eq (min end offset + (done + count)) offset) [ inl z ↦ inr (inl z) | inr ne ↦ inr (inr (omega (arith, least, ne, low))) ]) (omega (arith, least, low)) at (ap (λ k. k + done) c.min.ensures)
     (λ k lo hi. (omega (arith, least, lo, hi), omega (arith, least, lo, hi))) c.clear_block-cleared.result x c.step.ensures.ok c.step.ensures.err
 

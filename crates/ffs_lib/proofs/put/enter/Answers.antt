@@ -29,7 +29,6 @@ returns-in-Entry g c =
     let b : IsEntry bytes c.args.inode c.args.name.now = record { spelled = spelled; whole = c.entry_bytes-entry.ensures.whole; named = c.requires; half = ap (λ (m : List ℕ). half_at m 0) spelled ∙ entry_names c.args.inode c.args.name.now c.ranges.inode.fits } in
     let gap = subst (IsRoom old found) room.is c.in_ok-block.ensures.room in
     let first = ap (λ (r : Room). Some r) (sym room.is) ∙ c.in_ok-block.ensures.place in
-    let d = c.args.number in
     let at = c.in_ok-directory.ensures.found.is.stands in
     let entry = entry_of c.args.inode c.args.name.now in
     record {
@@ -44,8 +43,8 @@ returns-in-Entry g c =
           let exact = c.in_ok-directory.ensures.exact (subst IsLibrary (sym e) s.library) in
           let done = subst (λ (b : List ℕ). Proposed T c.args.fs.number room.block (edit_at (32 * room.place) b [] [] (Some c.args.after)) old new c.put.result) c.entry_bytes-entry.ensures.bytes (c.put.ensures.put T e) in
           subst (λ (a : Action). Acts T c.args.fs.number a old new c.put.result × IfOk c.put.result (λ (k : ℕ). new.next ≡ k + 1))
-          (entered_is (latest old.lives) _ d found.block found.inode entry c.args.after (home_of old _ d found.block found.place at) exact (Some (Entry room.block room.place)) first)
-          (gap_act T _ d room.block room.place found.inode entry c.args.after found.block old new c.put.result done);
+          (entered_is (latest old.lives) _ _ found.block found.inode entry c.args.after (home_of old _ _ found.block found.place at) exact (Some (Entry room.block room.place)) first)
+          (gap_act T _ c.args.number room.block room.place found.inode entry c.args.after found.block old new c.put.result done);
     }
 
 pub returns-in-Pointer : goal.returns-in-Pointer

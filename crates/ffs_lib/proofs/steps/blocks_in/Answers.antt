@@ -7,15 +7,14 @@ use Rattle.ffs_lib.proofs.steps.blocks_in.Goals as goal
 
 pub loop-place-preserved : goal.loop-place-preserved
 loop-place-preserved c =
-    let word = pointer_word c.args.bytes.now in
     let k = c.loop-place.place in
-    let inv : c.loop-place.blocks.items ≡ blocks_of (pointed word k 2) = c.loop-place.invariant in
+    let inv : c.loop-place.blocks.items ≡ blocks_of (pointed (pointer_word c.args.bytes.now) k 2) = c.loop-place.invariant in
     let is = c.pointer-block.ensures in
     elim c.if-block-ne0.branch [
       | then-block-ne0+in_ok-push w ↦
           ap (λ (b : Vec ℕ Global). b.items) w.blocks-is
-          ∙ (w.in_ok-push.ensures.items ∙ ((λ i. inv i ++ is i ∷ []) ∙ sym (words_more word 2 k (k + 1) refl (λ z. w.if-block-ne0.true (is ∙ z)))))
-      | else-block-ne0 w ↦ ap (λ (b : Vec ℕ Global). b.items) w.blocks-is ∙ (inv ∙ sym (words_past word 2 k (k + 1) refl (sym is ∙ w.if-block-ne0.false)))
+          ∙ (w.in_ok-push.ensures.items ∙ ((λ i. inv i ++ is i ∷ []) ∙ sym (words_more _ 2 k (k + 1) refl (λ z. w.if-block-ne0.true (is ∙ z)))))
+      | else-block-ne0 w ↦ ap (λ (b : Vec ℕ Global). b.items) w.blocks-is ∙ (inv ∙ sym (words_past _ 2 k (k + 1) refl (sym is ∙ w.if-block-ne0.false)))
     ]
 
 pub returns : goal.returns

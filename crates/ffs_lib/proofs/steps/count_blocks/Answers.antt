@@ -9,12 +9,10 @@ loop-i-preserved c =
     let word = direct_in c.args.inode.now in
     let low = c.loop-i.invariant.0 in
     let inv = c.loop-i.invariant.1 in
-    let is = c.direct.ensures in
     elim c.if-direct-ne0.branch [
       | then-direct-ne0 w ↦
-          let more = counted_more word 2 _ (c.loop-i.i + 1) refl (λ z. w.if-direct-ne0.true (is ∙ z)) in
+          let more = counted_more word 2 _ (c.loop-i.i + 1) refl (λ z. w.if-direct-ne0.true (c.direct.ensures ∙ z)) in
           (omega (arith, w.count-is, low), omega (arith, w.count-is, inv, more))
       | else-direct-ne0 w ↦
-          let up = w.count-is in
-          (omega (arith, up, low), up ∙ (inv ∙ ap (λ (bs : List ℕ). length bs) (sym (words_past word 2 _ (c.loop-i.i + 1) refl (sym is ∙ w.if-direct-ne0.false)))))
+          (omega (arith, w.count-is, low), w.count-is ∙ (inv ∙ ap (λ (bs : List ℕ). length bs) (sym (words_past word 2 _ (c.loop-i.i + 1) refl (sym c.direct.ensures ∙ w.if-direct-ne0.false)))))
     ]

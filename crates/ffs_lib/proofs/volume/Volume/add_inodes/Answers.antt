@@ -21,20 +21,19 @@ returns-in_err-block g c =
     let T = g.S.Store.types_of c.args.store.now in
     let fs = c.args.self.now.fs in
     let zeroth = g.S.Store.state_of c.args.store.now in
-    let first = g.S.Store.state_of c.init.new.self in
     let v = c.requires.volume in
     let r = init_of T zeroth fs.number 4 zero_block in
-    let same = gives_err r zeroth first c.in_err-block.field-0.0 c.in_err-block.ensures.state in
-    let told = told_by r zeroth first c.in_err-block.field-0.0 c.in_err-block.ensures.state in
+    let same = gives_err r zeroth _ c.in_err-block.field-0.0 c.in_err-block.ensures.state in
+    let told = told_by r zeroth _ c.in_err-block.field-0.0 c.in_err-block.ensures.state in
     record {
       types = search rules;
       fs = search rules;
       leaves = (
         record { library = v.library; keeps = (same_stage (staged v fs.few) same).keeps },
-        stops_err _ (StopsGrowing T fs.number zeroth first) c.from_residual.result _ c.from_residual.ensures.1
-            (short_told r (free_begun T v.library zeroth fs.number) _ told, not_added T fs.number zeroth first c.requires.room same _ told),
+        stops_err _ (StopsGrowing T fs.number zeroth _) c.from_residual.result _ c.from_residual.ensures.1
+            (short_told r (free_begun T v.library zeroth fs.number) _ told, not_added T fs.number zeroth _ c.requires.room same _ told),
       );
-      order = adds_none T fs.number (edits_of c.args.self.now.added) zeroth first same _ c.from_residual.result c.from_residual.ensures.1;
+      order = adds_none T fs.number (edits_of c.args.self.now.added) zeroth _ same _ c.from_residual.result c.from_residual.ensures.1;
     }
 
 pub returns-in_err-index : goal.returns-in_err-index

@@ -25,14 +25,13 @@ pub returns-in_err-free : goal.returns-in_err-free
 returns-in_err-free g c =
     let old = g.S.Store.state_of c.args.store.now in
     let new = g.S.Store.state_of c.take_free.new.store in
-    let looked = create_in (latest old.lives) _ _ c.args.name.now in
-    let x = is_ok_one looked (c.in_ok-found.ensures.exact c.requires.volume.library) in
+    let x = is_ok_one _ (c.in_ok-found.ensures.exact c.requires.volume.library) in
     let stop = c.in_err-free.ensures.leaves.1 in
     record {
       types = search rules;
       fs = search rules;
       answers =
-          answers_ok looked (λ _ n. MadeEntry (latest old.lives) (latest new.lives) _ _ c.args.name.now _ n × IsLowestNumber (latest old.lives) _ n) (λ _ fault. StopsMaking _ _ old new _ c.args.name.now _ fault) c.from_residual-in_err-free.result x.0 old new x.1
+          answers_ok _ (λ _ n. MadeEntry (latest old.lives) (latest new.lives) _ _ c.args.name.now _ n × IsLowestNumber (latest old.lives) _ n) (λ _ fault. StopsMaking _ _ old new _ c.args.name.now _ fault) c.from_residual-in_err-free.result x.0 old new x.1
           (stops_err _ (StopsMaking _ _ old new _ c.args.name.now _) c.from_residual-in_err-free.result _ c.from_residual-in_err-free.ensures.1 (stop.0, inl stop.1));
       order = λ n e.
           creates_stop (g.S.Store.types_of c.args.store.now) _ c.args.directory c.args.name.now c.args.mode n (edits_of c.args.self.now.added) (edits_of c.take_free.new.self.added) (g.S.Store.state_of c.args.store.now) (g.S.Store.state_of c.take_free.new.store)

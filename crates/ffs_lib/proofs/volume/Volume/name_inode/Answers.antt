@@ -2,7 +2,7 @@ use Rattle.std.proofs.Common.{◌∙◌, ◌*◌, ◌-◌, ◌/◌, ℕ, [], Opt
 use Rattle.xn_model.specs.Calls.{propose_of}
 use Rattle.ffs_model.specs.Cuts.{latest}
 use Rattle.ffs_model.specs.Library.{library_layout}
-use Rattle.ffs_model.specs.Volumes.{VolumeKeeps, without_edit}
+use Rattle.ffs_model.specs.Volumes.{VolumeKeeps}
 use Rattle.ffs_lib.specs.Steps.{StopsNew}
 use Rattle.ffs_lib.specs.Edits.{edit_at}
 use Rattle.ffs_lib.proofs.Entering.{made_then}
@@ -44,12 +44,11 @@ returns-in_err-made g c =
 pub returns-in_err-enter : goal.returns-in_err-enter
 returns-in_err-enter g c =
     let T = g.S.Store.types_of c.args.store.now in
-    let volume = c.args.self.now in
-    let array = edits_of volume.added in
+    let array = edits_of c.args.self.now.added in
     let zeroth = g.S.Store.state_of c.args.store.now in
     let first = g.S.Store.state_of c.put_inode.new.store in
-    let s = staged c.requires.volume volume.fs.few in
-    let kept = is_kept volume.added _ c.from-index.result c.index-self-index.result c.from-index.ensures c.has_places.ensures c.requires.free.low in
+    let s = staged c.requires.volume c.args.self.now.fs.few in
+    let kept = is_kept c.args.self.now.added _ c.from-index.result c.index-self-index.result c.from-index.ensures c.has_places.ensures c.requires.free.low in
     let k = named_after T _ array zeroth s c.args.free c.requires.free c.args.mode c.empty_inode-inode.result c.put_inode.ensures.whole c.empty_inode-inode.ensures.fields _ first c.in_ok-made.made c.requires.used c.empty_inode-inode.ensures.bytes kept.is (c.in_ok-made.ensures.put T refl) in
     let new = g.S.Store.state_of c.enter.new.store in
     let from = c.from_residual-in_err-enter.ensures.1 in
@@ -78,18 +77,17 @@ returns g c =
     let kept = is_kept volume.added _ c.from-index.result c.index-self-index.result c.from-index.ensures c.has_places.ensures c.requires.free.low in
     let k = named_after T _ _ zeroth s c.args.free c.requires.free c.args.mode c.empty_inode-inode.result c.put_inode.ensures.whole c.empty_inode-inode.ensures.fields _ first c.in_ok-made.made c.requires.used c.empty_inode-inode.ensures.bytes kept.is (c.in_ok-made.ensures.put T refl) in
     let new = g.S.Store.state_of c.enter.new.store in
-    let left = without_edit _ ((c.args.free.number - 1) / 8) in
     record {
       types = search rules;
       fs = search rules;
       leaves = λ inode dir room.
           let named = named_once (latest zeroth.lives) (latest first.lives) _ c.args.directory _ inode dir k.made.free k.made.others in
-          let x = c.in_ok-enter.ensures.ends T left inode c.put_inode.ensures.types k.forgets k.may named.0 (named.1 ∙ room) in (
+          let x = c.in_ok-enter.ensures.ends T _ inode c.put_inode.ensures.types k.forgets k.may named.0 (named.1 ∙ room) in (
             record { library = s.library; keeps = subst (λ (a : ℕ → Option ℕ). VolumeKeeps T library_layout volume.fs.number a new) kept.forgets x.0.keeps },
             (made_then (latest zeroth.lives) (latest first.lives) (latest new.lives) _ c.args.directory c.args.name.now c.args.mode _ k.made.free k.made.made k.made.others (x.1.0.more, x.1.0.others) inode dir, refl),
           );
       order = λ inode dir room.
           let named = named_once (latest zeroth.lives) (latest first.lives) _ c.args.directory _ inode dir k.made.free k.made.others in
-          let x = c.in_ok-enter.ensures.order T left inode c.put_inode.ensures.types k.forgets k.may named.0 (named.1 ∙ room) in
+          let x = c.in_ok-enter.ensures.order T _ inode c.put_inode.ensures.types k.forgets k.may named.0 (named.1 ∙ room) in
           names_done T _ c.args.directory c.args.name.now c.args.mode _ _ _ zeroth first new k.one c.in_ok-made.made k.last (sym kept.forgets) x.0;
     }

@@ -5,10 +5,6 @@ use Rattle.ffs_lib.proofs.Laws.{staged}
 use Rattle.ffs_lib.proofs.Removal.{rmdir_value}
 use Rattle.ffs_lib.proofs.Staged.{takes_name, takes_none}
 use Rattle.ffs_lib.proofs.ValueMade.{directory_value}
-use Rattle.ffs_model.specs.Cuts.{latest}
-use Rattle.ffs_lookup.specs.Newest.{rmdir_in}
-use Rattle.ffs_lookup.specs.Files.{removed}
-use Rattle.ffs_lookup.specs.FileValues.{files_of}
 use Rattle.ffs_lib.proofs.volume.Volume.rmdir.Goals as goal
 
 pub returns : goal.returns
@@ -25,10 +21,5 @@ returns g c =
 
 pub returns-in_err-slot : goal.returns-in_err-slot
 returns-in_err-slot g c =
-    let old = g.S.Store.state_of c.args.store.now in
-    let u = latest old.lives in
-    let fs = c.args.self.now.fs.number in
-    let d = c.args.directory in
-    let name = c.args.name.now in
-    let r = takes_none (g.S.Store.types_of c.args.store.now) fs d name (rmdir_in u fs d name) (removed (files_of u fs) d name) old _ (c.in_err-slot.ensures.exact c.requires.library) (removed_told u fs d name) c.from_residual.result c.from_residual.ensures.1 in
+    let r = takes_none (g.S.Store.types_of c.args.store.now) _ _ c.args.name.now _ _ _ _ (c.in_err-slot.ensures.exact c.requires.library) (removed_told _ _ _ _) c.from_residual.result c.from_residual.ensures.1 in
     record { types = search rules; answers = r.answers; inodes = r.inodes; order = r.order; keeps = search rules }
