@@ -1,19 +1,8 @@
 -- Which actions write into a file, by the newest bytes where they begin, and what they make.
-use Rattle.std.proofs.Common.{◌≡◌, ◌≢◌, ℕ, zero, suc, ◌+◌, ◌*◌, ◌/◌, ◌-◌, ◌%◌, ◌<◌, ◌≤◌, ◌⊎◌, Bool, true, false, List, [], ◌∷◌, length, take, drop, replicate, Option, Some, Result, Ok, refl, sym, ◌∙◌, ap, inl, inr, arith, subst, eq-eqb, ◌==◌, ◌||◌, ◌&&◌, not, nat_lt, if◌then◌else◌}
-use Rattle.std.specs.List.{list_all}
-use Rattle.std.proofs.lemmas.Bool.{and_parts, eqb-true, le-ltb, lt-ltb, ne_eqb}
-use Rattle.std.specs.Int.{w32, to_le_bytes}
-use Rattle.xn_model.specs.Lists.{put}
-use Rattle.xn_model.specs.Types.{Types}
-use Rattle.xn_model.specs.Root.{word_at}
-use Rattle.xn_model.specs.Lives.{StoreState}
-use Rattle.xn_model.specs.Results.{result_and_then}
-use Rattle.xn_model.specs.Calls.{Edit, init_of, propose_of}
-use Rattle.ffs_model.specs.Library.{zero_block}
+use Rattle.std.proofs.Common.{◌≡◌, ◌≢◌, ℕ, zero, suc, ◌+◌, ◌*◌, ◌/◌, ◌-◌, ◌%◌, ◌<◌, ◌≤◌, ◌⊎◌, Bool, true, false, List, [], ◌∷◌, length, take, drop, replicate, Option, Some, Result, Ok, refl, sym, ◌∙◌, ap, inl, inr, arith, subst, eq-eqb, ◌==◌, ◌||◌, ◌&&◌, not, nat_lt, if◌then◌else◌, eqb-true, le-ltb, lt-ltb, ne_eqb, w32}
+use Rattle.ffs_lib.proofs.Words.{Edit, FfsFault, StoreState, Types, and_parts, file_block, file_in, init_of, inode_block_in, latest, list_all, propose_of, put}
+use Rattle.ffs_lib.proofs.Words.{result_and_then, to_le_bytes, word_at, zero_block}
 use Rattle.ffs_model.proofs.ForCallers.{begun_next, one_later, proposed_next}
-use Rattle.ffs_model.specs.Cuts.{latest}
-use Rattle.ffs_lookup.specs.declared.fault.FfsFault.{FfsFault}
-use Rattle.ffs_lookup.specs.Newest.{file_block, file_in, inode_block_in}
 use Rattle.ffs_lookup.proofs.ForCallers.{block_again}
 use Rattle.ffs_lib.specs.Edits.{edit_at}
 use Rattle.ffs_lib.specs.Orders.{Action, Acts, Attaches, Makes, act_of, made_by, made_of}

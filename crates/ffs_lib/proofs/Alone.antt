@@ -1,12 +1,7 @@
 -- An entry that stands where none stood.
-use Rattle.std.proofs.Common.{◌≡◌, ℕ, ◌*◌, Bool, true, false, ◌&&◌, List, [], ◌∷◌, ◌++◌, Some, None, refl, sym, ◌∙◌, ap, inl, inr, eq-eqb, Contains, ◌==◌, ◌||◌, filter_map, flat_map, if◌then◌else◌}
-use Rattle.std.specs.List.{cons_option, list_any, range_with_len}
-use Rattle.std.proofs.lemmas.Bool.{cases_eq, ne_eqb}
+use Rattle.std.proofs.Common.{◌≡◌, ℕ, ◌*◌, Bool, true, false, ◌&&◌, List, [], ◌∷◌, ◌++◌, Some, None, refl, sym, ◌∙◌, ap, inl, inr, eq-eqb, Contains, ◌==◌, ◌||◌, filter_map, flat_map, if◌then◌else◌, ne_eqb}
+use Rattle.ffs_lib.proofs.Words.{Slot, cases_eq, cons_option, half_at, inode_blocks, is_at, list_any, listing, name_in, range_with_len}
 use Rattle.xn_model.proofs.ForCallers.{Contains-head, Contains-tail}
-use Rattle.ffs_format.specs.Entries.{name_in}
-use Rattle.ffs_model.specs.Library.{half_at, inode_blocks}
-use Rattle.ffs_lookup.specs.declared.places.Slot.{Slot}
-use Rattle.ffs_lookup.specs.Newest.{is_at, listing}
 use Rattle.ffs_lib.proofs.Tests.{and_false}
 use Rattle.ffs_lib.proofs.Frames.{listed_at, listed_blocks, listed_in}
 

@@ -1,24 +1,10 @@
 -- What the edits leave by which bytes of a file are written: one law for each kind.
-use Rattle.std.proofs.Common.{◌≡◌, ◌≢◌, ℕ, ◌+◌, ◌-◌, ◌*◌, ◌/◌, ◌%◌, ◌^◌, ◌<◌, ◌≤◌, false, List, [], ◌∷◌, ◌++◌, length, drop, replicate, take, Option, Some, Ok, Err, Result, refl, sym, ◌∙◌, ap, arith, subst, inl, inr, Contains, IsTrue, slice_set, ◌==◌}
-use Rattle.std.specs.Int.{w32, to_le_bytes}
-use Rattle.std.specs.List.{list_all}
-use Rattle.std.proofs.lemmas.List.{length-replicate, take-replicate}
-use Rattle.std.proofs.lemmas.Option.{none-some}
-use Rattle.xn_model.specs.Types.{Types}
-use Rattle.xn_model.specs.Lists.{put}
-use Rattle.xn_model.specs.Root.{word_at}
-use Rattle.xn_model.specs.Lives.{StoreState, life_at}
-use Rattle.xn_model.specs.Results.{result_and_then}
-use Rattle.xn_model.specs.Calls.{Edit, forget_of, init_of, propose_of, was_given}
+use Rattle.std.proofs.Common.{◌≡◌, ◌≢◌, ℕ, ◌+◌, ◌-◌, ◌*◌, ◌/◌, ◌%◌, ◌^◌, ◌<◌, ◌≤◌, false, List, [], ◌∷◌, ◌++◌, length, drop, replicate, take, Option, Some, Ok, Err, Result, refl, sym, ◌∙◌, ap, arith, subst, inl, inr, Contains, IsTrue, slice_set, ◌==◌, w32}
+use Rattle.ffs_lib.proofs.Words.{Edit, FfsFault, Fields, Found, IsFile, StoreState, Types, Under, byte_of, direct_in, fields_of, file_block, file_in, forget_of}
+use Rattle.ffs_lib.proofs.Words.{init_of, inode_block_in, inode_blocks, inode_links, inode_mode, latest, length-replicate, library_layout, life_at, list_all}
+use Rattle.ffs_lib.proofs.Words.{mapped, none-some, pointer_word, propose_of, put, result_and_then, take-replicate, to_le_bytes, was_given, word_at, zero_block}
 use Rattle.xn_model.proofs.ForCallers.{Contains-head}
-use Rattle.ffs_model.specs.Cuts.{Under, latest}
-use Rattle.ffs_model.specs.Library.{inode_blocks, inode_links, inode_mode, library_layout, pointer_word, zero_block}
 use Rattle.ffs_model.proofs.ForCallers.{begun_next, data_short, given_later, later_then, latest_reached, library_reads, one_later, pointer_set_short, proposed_given, proposed_next, proposed_others, started, started_here, started_keeps, under_inodes, zero_word}
-use Rattle.ffs_format.specs.Fields.{Fields, direct_in, fields_of}
-use Rattle.ffs_lookup.specs.declared.fault.FfsFault.{FfsFault}
-use Rattle.ffs_lookup.specs.declared.places.Found.{Found}
-use Rattle.ffs_lookup.specs.Newest.{byte_of, file_block, file_in, inode_block_in, mapped}
-use Rattle.ffs_lookup.specs.Places.{IsFile}
 use Rattle.ffs_lookup.proofs.ForCallers.{found_has, same_ok}
 use Rattle.ffs_lib.specs.Edits.{edit_at}
 use Rattle.ffs_lib.specs.Outcomes.{HasBlock, IsRaised}

@@ -1,22 +1,12 @@
 -- What each edit of a volume leaves.
-use Rattle.std.proofs.Common.{◌≡◌, ℕ, suc, ◌+◌, ◌*◌, ◌^◌, ◌<◌, ◌≢◌, ◌⊎◌, List, [], ◌∷◌, length, Option, Some, None, Ok, refl, sym, ◌∙◌, ap, inr, arith, subst, replicate, eq-eqb, Contains, if◌then◌else◌, ne_eqb}
-use Rattle.std.specs.Int.{w32, to_le_bytes}
-use Rattle.xn_model.specs.Types.{Types}
-use Rattle.xn_model.specs.Root.{word_at}
-use Rattle.xn_model.specs.Lives.{StoreState}
-use Rattle.xn_model.specs.Calls.{Edit, propose_of}
-use Rattle.ffs_model.specs.Cuts.{Under, latest}
-use Rattle.ffs_model.specs.Names.{IsRoot, IsInodes, IsInFile}
-use Rattle.xn_model.specs.Lists.{put}
-use Rattle.ffs_model.specs.Edits.{EntryMade, HoldsOnly, OneEntry, InodeMade, LinkAdded, LinkTaken, InodeFreed, InodeKept}
-use Rattle.ffs_model.specs.Volumes.{Reads, VolumeKeeps, CanName, CanUnlink, with_edit}
-use Rattle.ffs_model.specs.Library.{library_layout, IsLibrary, half_at, inode_at, inode_blocks, inode_links, inode_mode, pointer_word, with_inode, zero_block}
+use Rattle.std.proofs.Common.{◌≡◌, ℕ, suc, ◌+◌, ◌*◌, ◌^◌, ◌<◌, ◌≢◌, ◌⊎◌, List, [], ◌∷◌, length, Option, Some, None, Ok, refl, sym, ◌∙◌, ap, inr, arith, subst, replicate, eq-eqb, Contains, if◌then◌else◌, ne_eqb, w32}
+use Rattle.ffs_lib.proofs.Words.{CanName, CanUnlink, Edit, EntryMade, Found, HoldsOnly, InodeFreed, InodeKept, InodeMade, IsDirectory, IsEmptyPointer, IsFile}
+use Rattle.ffs_lib.proofs.Words.{IsFound, IsGap, IsInFile, IsInodes, IsLibrary, IsPlace, IsRoot, IsSlot, LinkAdded, LinkTaken, OneEntry, Reads, Slot}
+use Rattle.ffs_lib.proofs.Words.{StoreState, Types, Under, VolumeKeeps, half_at, inode_at, inode_blocks, inode_links, inode_mode, latest, library_layout}
+use Rattle.ffs_lib.proofs.Words.{pointer_word, propose_of, put, to_le_bytes, with_edit, with_inode, word_at, zero_block}
 use Rattle.ffs_model.proofs.ForCallers.{below_written, data_owned, directory_grown, entry_cleared, entry_made, entry_turned, entry_written, file_written, freed_waits, indirect_owned, indirect_reached, inode_forgets, inode_freed, inode_kept, inode_made, inodes_set, library_reads, link_added, link_taken, links_read, mode_read, number_written, other_spare, other_waits, other_written, pointer_set, pointer_written, proposed_others, slot_waits, taken_waits, under_direct, word_part, zeros_direct, zeros_mode, zeros_pointer}
 use Rattle.ffs_model.proofs.Rewritten as rewritten
-use Rattle.ffs_lookup.specs.declared.places.Found.{Found}
-use Rattle.ffs_lookup.specs.declared.places.Slot.{Slot}
 use Rattle.ffs_lib.specs.Edits.{edit_at}
-use Rattle.ffs_lookup.specs.Places.{IsPlace, IsFound, IsDirectory, IsFile, IsEmptyPointer, IsGap, IsSlot}
 use Rattle.ffs_lib.specs.Outcomes.{IsMade, IsAdded}
 use Rattle.ffs_lookup.proofs.ForCallers.{found_mode, pointer_is}
 

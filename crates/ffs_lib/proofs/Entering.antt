@@ -1,28 +1,14 @@
 -- What an edit of an inode, or of a directory's entries, leaves in the newest bytes.
 use Rattle.std.proofs.Common.{◌≡◌, ◌≢◌, ℕ, ◌+◌, ◌-◌, ◌*◌, ◌/◌, ◌%◌, ◌<◌, ◌≤◌, Bool, true, List, [], ◌∷◌, length, take, drop, Option, Some, Ok, Err, refl, sym, ◌∙◌, ap, arith, inl, inr, Contains, Result, ◌==◌, filter_map, if◌then◌else◌, IsTrue, slice_set, eqb-true, lt-ltb}
-use Rattle.std.specs.List.{list_any, range_with_len}
-use Rattle.std.proofs.Math.Seq.{take-length}
-use Rattle.xn_model.specs.Types.{Types}
-use Rattle.xn_model.specs.Lists.{blocks_of, distinct, put}
-use Rattle.xn_model.specs.Lives.{StoreState}
-use Rattle.xn_model.specs.Calls.{init_of, propose_of}
-use Rattle.xn_model.specs.Rules.{IsConsistent}
-use Rattle.ffs_model.specs.Cuts.{latest}
-use Rattle.ffs_model.specs.Names.{IsInodes}
+use Rattle.ffs_lib.proofs.Words.{FfsFault, IsConsistent, IsFree, IsInodes, IsPlace, NoEntry, NotDir, Slot, StoreState, Types, and_then, blocks_of, direct_in}
+use Rattle.ffs_lib.proofs.Words.{directory_in, distinct, entry_of, fields_of, file_block, if_directory, init_of, inode_block_in, inode_in, is_at, is_name}
+use Rattle.ffs_lib.proofs.Words.{latest, list_any, listing, place_in, propose_of, put, range_with_len, room_in, take-length, unless_unused}
 use Rattle.ffs_model.specs.Library.{IsLibrary, direct_word, half_at, inode_at, inode_blocks, inode_links, inode_mode, library_layout, pointed, zero_block}
 use Rattle.ffs_model.proofs.ForCallers.{blocks_read, bytes_within, direct_distinct, direct_where, library_reads, one_type, proposed_here, started_here, under_inodes}
-use Rattle.ffs_format.specs.Entries.{entry_of, is_name}
-use Rattle.ffs_format.specs.Fields.{direct_in, fields_of}
-use Rattle.ffs_lookup.specs.declared.fault.FfsFault.{FfsFault}
-use Rattle.ffs_lookup.specs.declared.fault.FfsFault.TheVariants.{NoEntry, NotDir}
 use Rattle.ffs_lookup.specs.declared.places.Free.{Free}
-use Rattle.ffs_lookup.specs.declared.places.Slot.{Slot}
 use Rattle.ffs_lib.specs.Edits.{edit_at}
-use Rattle.ffs_lookup.specs.Newest.{and_then, directory_in, file_block, if_directory, inode_block_in, inode_in, is_at, listing, room_in, unless_unused}
 use Rattle.ffs_lookup.specs.declared.places.Room.TheVariants.{Entry, Pointer}
 use Rattle.ffs_lib.specs.Outcomes.{IsGrown}
-use Rattle.ffs_lookup.specs.Places.{IsFree, IsPlace}
-use Rattle.ffs_lookup.specs.FileValues.{place_in}
 use Rattle.ffs_lib.specs.Results.{HasMore, MadeEntry, SameContents, SameInode, SameOrNew, new_inode}
 use Rattle.ffs_lib.proofs.Tests.{never}
 use Rattle.ffs_lib.proofs.Fields.{blocks_are, get_mapped, set_words}

@@ -1,30 +1,13 @@
 -- What each edit of a call leaves: one law for each kind, of all that a call says of it.
 use Rattle.std.proofs.Common.{◌≡◌, ◌≢◌, ℕ, ◌+◌, ◌-◌, ◌*◌, ◌/◌, ◌<◌, ◌≤◌, ◌⊎◌, List, [], length, replicate, Option, None, Some, Result, Ok, Err, refl, sym, ◌∙◌, ap, arith, subst, Bool, true, false, suc, inl, inr, eq-eqb, Contains, IsErrAnd, IsOk, IsTrue, MatchResult, OnErr, OnOk, ◌==◌}
-use Rattle.std.proofs.lemmas.Bool.{cases_eq}
-use Rattle.std.proofs.lemmas.Result.{err_from_is_err_and}
-use Rattle.xn_model.specs.declared.refusal.Refusal.{Refusal}
-use Rattle.xn_model.specs.declared.refusal.Refusal.TheVariants.{NoMemory}
-use Rattle.xn_model.specs.Types.{Types}
-use Rattle.xn_model.specs.Root.{word_at}
-use Rattle.xn_model.specs.Lives.{StoreState}
-use Rattle.xn_model.specs.Results.{Gives, GivesExactly}
-use Rattle.xn_model.specs.Calls.{Edit, forget_of, init_of, propose_of, was_given}
-use Rattle.ffs_model.specs.Cuts.{Under, latest}
+use Rattle.ffs_lib.proofs.Words.{CanUnlink, Edit, FfsFault, Fields, Found, Gives, GivesExactly, IsFound, IsPlace, IsSlot, Kernel, NoMemory, Refusal, Slot}
+use Rattle.ffs_lib.proofs.Words.{StoreState, Types, Under, cases_eq, err_from_is_err_and, fields_of, forget_of, init_of, inode_block_in, inode_in, is_short}
+use Rattle.ffs_lib.proofs.Words.{is_shortage, latest, place_in, propose_of, was_given, word_at}
 use Rattle.ffs_model.specs.Library.{inode_blocks, inode_links, inode_mode, inode_pairs, library_layout, pointed, pointer_word, zero_block}
-use Rattle.ffs_model.specs.Shortages.{is_shortage}
-use Rattle.ffs_model.specs.Volumes.{CanUnlink}
 use Rattle.ffs_model.proofs.ForCallers.{pointers_cleared_short, proposed_given, proposed_here, proposed_others}
-use Rattle.ffs_format.specs.Fields.{Fields, fields_of}
-use Rattle.ffs_lookup.specs.declared.fault.FfsFault.{FfsFault}
-use Rattle.ffs_lookup.specs.declared.fault.FfsFault.TheVariants.{Kernel}
-use Rattle.ffs_lookup.specs.declared.places.Found.{Found}
-use Rattle.ffs_lookup.specs.declared.places.Slot.{Slot}
-use Rattle.ffs_lookup.specs.Newest.{inode_block_in, inode_in, is_short}
-use Rattle.ffs_lookup.specs.Places.{IsFound, IsPlace, IsSlot}
 use Rattle.ffs_lookup.proofs.ForCallers.{block_again, gives_err, gives_ok, same_ok}
 use Rattle.ffs_lib.specs.Edits.{data_of_inode, data_of_pointers, edit_at}
 use Rattle.ffs_lib.specs.Outcomes.{CanEdit, HasNoData}
-use Rattle.ffs_lookup.specs.FileValues.{place_in}
 use Rattle.ffs_lib.specs.Results.{AsBefore, IsAs, SameInode, TookLink}
 use Rattle.ffs_lib.specs.Steps.{AddsLink, Answers, Attached, ClearedPointers, Clearing, Dropped, Ends, Follows, IsHome, MayLose, MayName, Proposed, Removable, Removed, ShortEdit, Stage, Stops, StopsAtHome, StopsTaking, TakesLink, Tells, Unlisted, Wants, WantsHome, WantsPointers, clearing, left_by}
 use Rattle.ffs_lib.specs.Volumes.{IsVolume, edits_of}

@@ -1,3 +1,4 @@
+pub mod Words
 pub mod Tests
 pub mod Fields
 pub mod Edited

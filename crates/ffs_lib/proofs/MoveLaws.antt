@@ -1,18 +1,8 @@
 -- What is left of a name that is moved, after its inode was named again and the old name taken.
 use Rattle.std.proofs.Common.{◌≡◌, ◌≢◌, ◌∙◌, ℕ, ◌*◌, ◌<◌, ◌≤◌, ◌++◌, ◌∷◌, List, None, Ok, Some, ap, arith, eq-eqb, inl, inr, length, length-append, refl, subst, suc, sym, ◌==◌, if◌then◌else◌}
-use Rattle.std.proofs.lemmas.Bool.{cases_eq}
-use Rattle.std.proofs.lemmas.Option.{none-some}
-use Rattle.xn_model.specs.Types.{Types}
-use Rattle.xn_model.specs.Lives.{StoreState}
-use Rattle.ffs_model.specs.Cuts.{latest}
-use Rattle.ffs_model.specs.Library.{inode_links}
-use Rattle.ffs_format.specs.Fields.{direct_in}
-use Rattle.ffs_lookup.specs.declared.fault.FfsFault.{FfsFault}
-use Rattle.ffs_lookup.specs.declared.places.Slot.{Slot}
-use Rattle.ffs_lookup.specs.Newest.{directory_in, inode_in, listing, named_in, without_entry}
+use Rattle.ffs_lib.proofs.Words.{AreBlocksOnce, FfsFault, Slot, StoreState, Types, blocks_value, cases_eq, direct_in, directory_in, inode_in, inode_links}
+use Rattle.ffs_lib.proofs.Words.{latest, listing, named_in, none-some, room, without_entry}
 use Rattle.ffs_lookup.proofs.ForCallers.{direct_has, first_value, same_ok}
-use Rattle.ffs_lookup.specs.Files.{room}
-use Rattle.ffs_lookup.specs.FileValues.{AreBlocksOnce, blocks_value}
 use Rattle.ffs_lib.specs.Results.{AsBefore, IsAs, IsExtended, MovedInodes, SameInode}
 use Rattle.ffs_lib.specs.Steps.{Clearing, NamedAgain, StopsNaming, StopsTaking, StopsUnnaming, Unnamed}
 use Rattle.ffs_lib.proofs.Entering.{directory_from, directory_same}

@@ -1,27 +1,12 @@
 -- What is left of names and files where a name is moved.
-use Rattle.std.proofs.Common.{◌≡◌, ◌≢◌, ℕ, ◌*◌, ◌/◌, ◌%◌, ◌<◌, Bool, true, false, cond, List, [], ◌∷◌, length, map, get_or, replicate, Option, Some, None, Ok, refl, sym, ◌∙◌, ap, inl, inr, arith, subst, Contains, ◌==◌, filter_map, find, flat_map, if◌then◌else◌}
-use Rattle.std.specs.List.{cons_option, range_with_len}
-use Rattle.std.specs.Option.{ok_or, option_or}
-use Rattle.std.proofs.lemmas.Bool.{cases_eq}
-use Rattle.std.proofs.lemmas.List.Folds.{find-append}
-use Rattle.std.proofs.lemmas.Option.{none-some, same_Some}
-use Rattle.xn_model.specs.Types.{Types}
-use Rattle.xn_model.specs.Root.{word_at}
-use Rattle.xn_model.specs.Lives.{StoreState}
-use Rattle.xn_model.specs.Calls.{propose_of}
-use Rattle.xn_model.specs.Rules.{IsConsistent}
+use Rattle.std.proofs.Common.{◌≡◌, ◌≢◌, ℕ, ◌*◌, ◌/◌, ◌%◌, ◌<◌, Bool, true, false, cond, List, [], ◌∷◌, length, map, get_or, replicate, Option, Some, None, Ok, refl, sym, ◌∙◌, ap, inl, inr, arith, subst, Contains, ◌==◌, filter_map, find, flat_map, if◌then◌else◌, ok_or}
+use Rattle.ffs_lib.proofs.Words.{BadName, Found, IsConsistent, IsFound, IsLibrary, IsSlot, NoEntry, Slot, StoreState, Types, Under, cases_eq, cons_option}
+use Rattle.ffs_lib.proofs.Words.{fields_of, find-append, half_at, inode_blocks, inode_mode, is_name, latest, library_layout, none-some, option_or, propose_of}
+use Rattle.ffs_lib.proofs.Words.{range_with_len, same_Some, word_at}
 use Rattle.xn_model.proofs.ForCallers.{Contains-head, Contains-tail}
-use Rattle.ffs_model.specs.Cuts.{Under, latest}
-use Rattle.ffs_model.specs.Library.{IsLibrary, half_at, inode_blocks, inode_mode, library_layout}
 use Rattle.ffs_model.proofs.ForCallers.{direct_where, library_reads, proposed_here, proposed_others, under_direct, under_inodes}
-use Rattle.ffs_format.specs.Fields.{fields_of}
-use Rattle.ffs_format.specs.Entries.{is_name}
-use Rattle.ffs_lookup.specs.declared.fault.FfsFault.TheVariants.{BadName, NoEntry}
-use Rattle.ffs_lookup.specs.declared.places.Found.{Found}
-use Rattle.ffs_lookup.specs.declared.places.Slot.{Slot}
 use Rattle.ffs_lib.specs.Edits.{edit_at}
 use Rattle.ffs_lookup.specs.Newest.{byte_in, byte_of, directory_in, file_block, slots_in_block, entry_at, entry_named, named_in, used_entry, first_named, has_name, inode_in, listing, name_at, without_entry, most_bytes}
-use Rattle.ffs_lookup.specs.Places.{IsFound, IsSlot}
 use Rattle.ffs_lib.specs.Results.{AsBefore, IsAs, SameInode}
 use Rattle.ffs_lib.proofs.Entering.{directory_from, inode_put}
 use Rattle.ffs_lib.proofs.Fields.{direct_get, same_blocks}

@@ -1,16 +1,10 @@
 -- Names are good where no inode has more names than links.
-use Rattle.std.proofs.Common.{◌≡◌, ◌≢◌, ℕ, suc, ◌+◌, ◌-◌, ◌*◌, ◌/◌, ◌%◌, ◌<◌, ◌≤◌, inl, inr, Bool, true, false, cond, List, [], ◌∷◌, map, length, Option, Some, None, refl, sym, ◌∙◌, ap, arith, subst, Contains, Result, Ok, Err, ◌==◌, nat_lt, filter, filter_map, flat_map, if◌then◌else◌}
-use Rattle.std.specs.List.{range_with_len, cons_option}
-use Rattle.std.specs.Result.{result_ok}
-use Rattle.std.proofs.lemmas.Bool.{cases_lt, eq-eqb, le-ltb, lt-ltb, ne_eqb}
-use Rattle.std.proofs.lemmas.List.Elements.{Contains-append_left, Contains-append_right}
+use Rattle.std.proofs.Common.{◌≡◌, ◌≢◌, ℕ, suc, ◌+◌, ◌-◌, ◌*◌, ◌/◌, ◌%◌, ◌<◌, ◌≤◌, inl, inr, Bool, true, false, cond, List, [], ◌∷◌, map, length, Option, Some, None, refl, sym, ◌∙◌, ap, arith, subst, Contains, Result, Ok, Err, ◌==◌, nat_lt, filter, filter_map, flat_map, if◌then◌else◌, eq-eqb, le-ltb, lt-ltb, ne_eqb}
+use Rattle.ffs_lib.proofs.Words.{Contains-append_left, Contains-append_right, FfsFault, HasLinks, IsInodes, LeavesRoom, LinksGood, Names, Slot, cases_lt}
+use Rattle.ffs_lib.proofs.Words.{cons_option, half_at, inode_at, inode_blocks, inode_links, inode_mode, library_layout, range_with_len, result_ok}
 use Rattle.std.proofs.lemmas.List.Sums.{length-filter}
 use Rattle.xn_model.proofs.ForCallers.{Contains-cons, Contains-head, Contains-none, Contains-tail, filter_from}
-use Rattle.ffs_model.specs.Names.{HasLinks, IsInodes, LeavesRoom, LinksGood, Names}
-use Rattle.ffs_model.specs.Library.{half_at, inode_at, inode_blocks, inode_links, inode_mode, library_layout}
 use Rattle.ffs_model.proofs.ForCallers.{blocks_read, links_read, mode_read, one_more}
-use Rattle.ffs_lookup.specs.declared.fault.FfsFault.{FfsFault}
-use Rattle.ffs_lookup.specs.declared.places.Slot.{Slot}
 use Rattle.ffs_lookup.specs.Newest.{directory_in, slots_in_block, slots_of, entry_at, inode_in, used_entry}
 use Rattle.ffs_lookup.specs.Counts.{all_entries, directory_inodes_in, is_over, links_in, links_or_none, named_numbers, names_count, numbers_of, over_named}
 use Rattle.ffs_lookup.proofs.ForCallers.{directory_is, in_directory, least_none}

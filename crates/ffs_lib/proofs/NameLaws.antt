@@ -1,27 +1,14 @@
 -- What the edits leave by which a name is made.
-use Rattle.std.proofs.Common.{◌≡◌, ◌≢◌, ℕ, ◌+◌, ◌-◌, ◌*◌, ◌/◌, ◌%◌, ◌^◌, ◌<◌, List, [], ◌∷◌, length, replicate, Option, None, Some, Ok, Err, refl, sym, ◌∙◌, ap, arith, subst, inl, inr, Contains, IsTrue, find, option_map, slice_set, ◌==◌}
-use Rattle.std.proofs.lemmas.Bool.{cases_eq}
-use Rattle.std.specs.Int.{w32, to_le_bytes}
-use Rattle.std.specs.List.{list_any, range_with_len}
-use Rattle.xn_model.specs.Types.{Types}
-use Rattle.xn_model.specs.Lists.{put}
-use Rattle.xn_model.specs.Lives.{StoreState}
-use Rattle.xn_model.specs.Calls.{Edit, forget_of, init_of, propose_of, was_given}
+use Rattle.std.proofs.Common.{◌≡◌, ◌≢◌, ℕ, ◌+◌, ◌-◌, ◌*◌, ◌/◌, ◌%◌, ◌^◌, ◌<◌, List, [], ◌∷◌, length, replicate, Option, None, Some, Ok, Err, refl, sym, ◌∙◌, ap, arith, subst, inl, inr, Contains, IsTrue, find, option_map, slice_set, ◌==◌, w32}
+use Rattle.ffs_lib.proofs.Words.{Edit, FfsFault, Fields, Found, IsDirectory, IsEmptyPointer, IsFree, IsGap, IsInodes, IsRoot, NoEntry, OneEntry, StoreState}
+use Rattle.ffs_lib.proofs.Words.{Types, cases_eq, direct_in, fields_of, forget_of, init_of, inode_at, inode_blocks, inode_links, inode_mode, inode_pairs}
+use Rattle.ffs_lib.proofs.Words.{latest, library_layout, list_any, pointer_word, propose_of, put, range_with_len, to_le_bytes, was_given, without_edit}
+use Rattle.ffs_lib.proofs.Words.{zero_block}
 use Rattle.xn_model.proofs.ForCallers.{Contains-head}
-use Rattle.ffs_model.specs.Cuts.{latest}
-use Rattle.ffs_model.specs.Edits.{OneEntry}
-use Rattle.ffs_model.specs.Names.{IsInodes, IsRoot}
-use Rattle.ffs_model.specs.Library.{inode_at, inode_blocks, inode_links, inode_mode, inode_pairs, library_layout, pointer_word, zero_block}
-use Rattle.ffs_model.specs.Volumes.{without_edit}
 use Rattle.ffs_model.proofs.ForCallers.{Replaces, blocks_read, begun_next, given_later, library_reads, mode_read, one_entry, one_later, proposed_given, proposed_others, started_here, started_holds, started_keeps, started_names, under_direct, zeros_mode, zeros_pointer}
-use Rattle.ffs_format.specs.Fields.{Fields, direct_in, fields_of}
-use Rattle.ffs_lookup.specs.declared.places.Found.{Found}
-use Rattle.ffs_lookup.specs.declared.fault.FfsFault.{FfsFault}
-use Rattle.ffs_lookup.specs.declared.fault.FfsFault.TheVariants.{NoEntry}
 use Rattle.ffs_lookup.specs.declared.places.Free.{Free}
 use Rattle.ffs_lookup.specs.Newest.{IsLowest, directory_in, has_free_at, has_room, inode_block_in, inode_in, number_from, room_in, root_in}
 use Rattle.ffs_lookup.specs.declared.places.Room.TheVariants.{Entry, Pointer}
-use Rattle.ffs_lookup.specs.Places.{IsDirectory, IsEmptyPointer, IsFree, IsGap}
 use Rattle.ffs_lookup.proofs.ForCallers.{directory_is, find_none, free_mode, in_directory, root_again, same_ok}
 use Rattle.ffs_lib.specs.Edits.{edit_at}
 use Rattle.ffs_lib.specs.NewOrder.{missing_block, new_edits}

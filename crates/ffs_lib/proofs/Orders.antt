@@ -1,25 +1,10 @@
 -- Which edits a call makes, one after another.
-use Rattle.std.proofs.Common.{◌≡◌, ◌≢◌, ℕ, suc, ◌+◌, ◌-◌, ◌*◌, ◌/◌, ◌%◌, ◌<◌, ◌≤◌, ◌⊎◌, Bool, true, false, List, [], ◌∷◌, length, take, replicate, Option, None, Some, Result, Ok, Err, refl, sym, ◌∙◌, ap, inl, inr, arith, subst, eq-eqb, IfOk, IsErrAnd, ◌==◌, ◌||◌, not, nat_lt, if◌then◌else◌}
-use Rattle.std.proofs.lemmas.Bool.{cases_eq, le-ltb, lt-ltb, ne_eqb}
-use Rattle.std.proofs.lemmas.Result.{err_from_is_err_and}
-use Rattle.std.specs.Int.{w16, to_le_bytes}
-use Rattle.xn_model.specs.Lists.{put}
-use Rattle.xn_model.specs.Types.{Types}
-use Rattle.xn_model.specs.Root.{word_at}
-use Rattle.xn_model.specs.Lives.{StoreState}
-use Rattle.xn_model.specs.Results.{result_and_then}
-use Rattle.xn_model.specs.Calls.{Edit, init_of, propose_of}
-use Rattle.xn_model.specs.Rules.{IsConsistent}
-use Rattle.ffs_model.specs.Cuts.{Under, latest}
-use Rattle.ffs_model.specs.Library.{IsLibrary, inode_links, library_layout}
+use Rattle.std.proofs.Common.{◌≡◌, ◌≢◌, ℕ, suc, ◌+◌, ◌-◌, ◌*◌, ◌/◌, ◌%◌, ◌<◌, ◌≤◌, ◌⊎◌, Bool, true, false, List, [], ◌∷◌, length, take, replicate, Option, None, Some, Result, Ok, Err, refl, sym, ◌∙◌, ap, inl, inr, arith, subst, eq-eqb, IfOk, IsErrAnd, ◌==◌, ◌||◌, not, nat_lt, if◌then◌else◌, le-ltb, lt-ltb, ne_eqb, w16}
+use Rattle.ffs_lib.proofs.Words.{Edit, FfsFault, IsConsistent, IsLibrary, IsSlot, Room, Slot, StoreState, Types, Under, cases_eq, directory_in, entry_of}
+use Rattle.ffs_lib.proofs.Words.{err_from_is_err_and, init_of, inode_block_in, inode_in, inode_links, latest, library_layout, propose_of, put, result_and_then}
+use Rattle.ffs_lib.proofs.Words.{room_in, to_le_bytes, word_at}
 use Rattle.ffs_model.proofs.ForCallers.{library_reads, one_type, proposed, proposed_next, proposed_others, under_direct}
-use Rattle.ffs_lookup.specs.declared.fault.FfsFault.{FfsFault}
-use Rattle.ffs_lookup.specs.declared.places.Slot.{Slot}
-use Rattle.ffs_lookup.specs.declared.places.Room.{Room}
 use Rattle.ffs_lookup.specs.declared.places.Room.TheVariants.{Entry}
-use Rattle.ffs_format.specs.Entries.{entry_of}
-use Rattle.ffs_lookup.specs.Places.{IsSlot}
-use Rattle.ffs_lookup.specs.Newest.{directory_in, inode_block_in, inode_in, room_in}
 use Rattle.ffs_lib.specs.Edits.{data_of_pointers, edit_at}
 use Rattle.ffs_lib.specs.Orders.{Action, Acts, Attaches, Edits, FirstMade, InOrder, Makes, Numbered, Orders, Parts, StopsAct, StopsIn, act_of, edits_at, entered_action, free_edit, has_data, inode_edits, linked_edits, links_edit, NamesInOrder, made_by, made_of, moved_parts, pointers_edit, removed_edits, replaced_parts, room_action, taken_edits, turned_edits, inode_action}
 use Rattle.ffs_lib.specs.Steps.{Attached, Dropped, Proposed, Stage, clearing, skipped}

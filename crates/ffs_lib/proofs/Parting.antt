@@ -1,17 +1,10 @@
 -- Bytes of a file that are written block after block, and what a write comes to.
-use Rattle.std.proofs.Common.{◌≡◌, ◌≢◌, ℕ, ◌+◌, ◌-◌, ◌*◌, ◌/◌, ◌%◌, ◌<◌, ◌≤◌, Bool, true, false, List, ◌++◌, length, drop, take, get_or, replicate, Option, None, Some, Result, Ok, Err, refl, sym, ◌∙◌, ap, arith, subst, inl, inr, length-append, IfErr, IfOk, IfSome, is_some, min, nat_lt, if◌then◌else◌}
-use Rattle.std.proofs.lemmas.List.{drop-append-le, drop-replicate, get_or-drop, get_or-replicate, get_or-take, length-drop, length-replicate, length-take-le, take-append-le, take-replicate}
-use Rattle.std.proofs.lemmas.Bool.{cases_lt, le-ltb, lt-ltb}
-use Rattle.std.proofs.Math.Seq.{drop-append-add, take-add}
-use Rattle.xn_model.specs.Types.{Types}
-use Rattle.xn_model.specs.Rules.{IsConsistent}
-use Rattle.xn_model.specs.Lives.{StoreState}
-use Rattle.ffs_model.specs.Cuts.{latest}
+use Rattle.std.proofs.Common.{◌≡◌, ◌≢◌, ℕ, ◌+◌, ◌-◌, ◌*◌, ◌/◌, ◌%◌, ◌<◌, ◌≤◌, Bool, true, false, List, ◌++◌, length, drop, take, get_or, replicate, Option, None, Some, Result, Ok, Err, refl, sym, ◌∙◌, ap, arith, subst, inl, inr, length-append, IfErr, IfOk, IfSome, is_some, min, nat_lt, if◌then◌else◌, get_or-drop, get_or-take, length-drop, length-take-le, le-ltb, lt-ltb, take-add}
+use Rattle.ffs_lib.proofs.Words.{FfsFault, IsConsistent, StoreState, Types, byte_in, byte_of, cases_lt, drop-append-add, drop-append-le, drop-replicate}
+use Rattle.ffs_lib.proofs.Words.{file_block, file_end, file_in, get_or-replicate, latest, length-replicate, mapped, most_bytes, take-append-le, take-replicate}
 use Rattle.ffs_model.proofs.ForCallers.{given_later}
 use Rattle.xn_model.proofs.ForCallers.{same_ok as same_run}
-use Rattle.ffs_lookup.specs.declared.fault.FfsFault.{FfsFault}
 use Rattle.ffs_lookup.proofs.ForCallers.{same_ok}
-use Rattle.ffs_lookup.specs.Newest.{byte_in, byte_of, file_block, file_end, file_in, mapped, most_bytes}
 use Rattle.ffs_lib.specs.Results.{WroteBytes, byte_written}
 use Rattle.ffs_lib.specs.Steps.{Ends, Stage, Stops}
 use Rattle.ffs_lib.specs.Orders.{made_by}

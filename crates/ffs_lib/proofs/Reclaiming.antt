@@ -1,33 +1,14 @@
 -- What the edits of `reclaim` leave, and how they come together.
-use Rattle.std.proofs.Common.{◌≡◌, ◌≢◌, ℕ, ◌+◌, ◌-◌, ◌*◌, ◌%◌, ◌<◌, ◌≤◌, ◌⊎◌, List, [], length, replicate, Option, None, Result, Ok, Err, Bool, refl, sym, ◌∙◌, ap, arith, subst, inl, inr, IsErrAnd, flat_map, if◌then◌else◌}
-use Rattle.std.specs.List.{range_with_len}
-use Rattle.std.proofs.lemmas.Bool.{cases_eq, cases_lt, ne_eqb}
-use Rattle.std.proofs.lemmas.Result.{err_from_is_err_and}
-use Rattle.xn_model.specs.Types.{Types}
-use Rattle.xn_model.specs.Root.{word_at}
-use Rattle.xn_model.specs.Lives.{StoreState}
-use Rattle.xn_model.specs.Calls.{pending_of, propose_of}
-use Rattle.ffs_model.specs.Cuts.{Under, latest}
-use Rattle.ffs_model.specs.Names.{LeavesRoom, Names}
-use Rattle.ffs_model.specs.Edits.{InodeFreed, LinksTaken}
-use Rattle.ffs_model.specs.Volumes.{KeepsNumber}
+use Rattle.std.proofs.Common.{◌≡◌, ◌≢◌, ℕ, ◌+◌, ◌-◌, ◌*◌, ◌%◌, ◌<◌, ◌≤◌, ◌⊎◌, List, [], length, replicate, Option, None, Result, Ok, Err, Bool, refl, sym, ◌∙◌, ap, arith, subst, inl, inr, IsErrAnd, flat_map, if◌then◌else◌, ne_eqb}
+use Rattle.ffs_lib.proofs.Words.{FfsFault, Fields, Found, GiveUp, InodeFreed, IsFound, Keep, KeepsNumber, LeavesRoom, LinksTaken, Names, Pending, Repair}
+use Rattle.ffs_lib.proofs.Words.{SetLinks, StoreState, Types, Under, cases_eq, cases_lt, err_from_is_err_and, fields_of, files_of, idle_in, inode_in, latest}
+use Rattle.ffs_lib.proofs.Words.{names_count, pending_of, propose_of, range_with_len, repair_in, word_at}
 use Rattle.ffs_model.specs.Library.{inode_at, inode_blocks, inode_links, inode_mode, inode_pairs, library_layout, pointed, pointer_word, with_inode, zero_block}
 use Rattle.ffs_model.proofs.ForCallers.{inode_unlinked, library_reads, links_read, links_taken, other_number, other_written, pointers_cleared_short, proposed_here, proposed_others, spare_begins, spare_by_freed, spare_by_taken}
 use Rattle.ffs_model.proofs.Rewritten as rewritten
-use Rattle.ffs_format.specs.Fields.{Fields, fields_of}
-use Rattle.ffs_lookup.specs.declared.fault.FfsFault.{FfsFault}
-use Rattle.ffs_lookup.specs.declared.fault.FfsFault.TheVariants.{Pending}
-use Rattle.ffs_lookup.specs.declared.places.Found.{Found}
-use Rattle.ffs_lookup.specs.declared.repairs.Repair.{Repair}
-use Rattle.ffs_lookup.specs.declared.repairs.Repair.TheVariants.{Keep, GiveUp, SetLinks}
-use Rattle.ffs_lookup.specs.Newest.{inode_in}
-use Rattle.ffs_lookup.specs.Counts.{names_count}
-use Rattle.ffs_lookup.specs.Repairs.{idle_in, repair_in}
-use Rattle.ffs_lookup.specs.Places.{IsFound}
 use Rattle.ffs_lookup.proofs.ForCallers.{given_up, links_set, same_ok, unnumbered_repair}
 use Rattle.ffs_lib.specs.Edits.{data_of_inode, data_of_pointers, edit_at}
 use Rattle.ffs_lib.specs.Outcomes.{HasNoData}
-use Rattle.ffs_lookup.specs.FileValues.{files_of}
 use Rattle.ffs_lib.specs.Results.{IsLinked, OnlyChanges, SameInode}
 use Rattle.ffs_lib.specs.Steps.{Ends, IsHome, ShortEdit, Stage, Stops, Tells, Wants}
 use Rattle.ffs_lib.specs.Reclaiming.{Emptied, InMiddle, MayRepair, PointersEmptied, Repaired, RepairedOne, StopsRepairing, emptying, needs, repaired_below, stages_at}

@@ -1,26 +1,10 @@
 -- What a change of one block leaves of the inodes that it does not touch.
-use Rattle.std.proofs.Common.{◌≡◌, ◌≢◌, ℕ, ◌+◌, ◌-◌, ◌*◌, ◌/◌, ◌%◌, ◌^◌, ◌<◌, ◌≤◌, ◌⊎◌, Bool, true, false, List, [], ◌∷◌, length, get_or, replicate, None, Ok, Err, refl, sym, ◌∙◌, ap, inl, inr, arith, subst, eq-eqb, Contains, Result, ◌==◌, ◌||◌, nat_lt, if◌then◌else◌}
-use Rattle.std.specs.Int.{w32, to_le_bytes}
-use Rattle.std.proofs.lemmas.Nat.{from_le_bytes-to_le_bytes_4}
-use Rattle.std.proofs.lemmas.Bool.{cases_eq, cases_lt}
-use Rattle.std.proofs.lemmas.Option.{none-some, same_Some}
-use Rattle.xn_model.specs.Types.{Types}
-use Rattle.xn_model.specs.Lists.{put}
-use Rattle.xn_model.specs.Root.{slot, word_at}
-use Rattle.xn_model.specs.Lives.{Life, StoreState, life_at}
-use Rattle.xn_model.specs.Calls.{Edit, init_of, propose_of}
-use Rattle.xn_model.specs.Rules.{IsConsistent}
-use Rattle.ffs_model.specs.Cuts.{Under, latest, root, step}
-use Rattle.ffs_model.specs.Names.{IsInodes, IsRoot}
-use Rattle.ffs_model.specs.Volumes.{Reads}
-use Rattle.ffs_model.specs.Library.{IsLibrary, inode_at, inode_mode, library_layout, pointer_word}
+use Rattle.std.proofs.Common.{◌≡◌, ◌≢◌, ℕ, ◌+◌, ◌-◌, ◌*◌, ◌/◌, ◌%◌, ◌^◌, ◌<◌, ◌≤◌, ◌⊎◌, Bool, true, false, List, [], ◌∷◌, length, get_or, replicate, None, Ok, Err, refl, sym, ◌∙◌, ap, inl, inr, arith, subst, eq-eqb, Contains, Result, ◌==◌, ◌||◌, nat_lt, if◌then◌else◌, w32}
+use Rattle.ffs_lib.proofs.Words.{Edit, FfsFault, IsConsistent, IsInodes, IsLibrary, IsPlace, IsRoot, Life, NoEntry, Reads, StoreState, Types, Under, and_then}
+use Rattle.ffs_lib.proofs.Words.{byte_in, cases_eq, cases_lt, direct_in, file_block, from_le_bytes-to_le_bytes_4, init_of, inode_at, inode_block_in, inode_in}
+use Rattle.ffs_lib.proofs.Words.{inode_mode, latest, library_layout, life_at, none-some, place_in, pointer_word, propose_of, put, root, root_in, root_of_type}
+use Rattle.ffs_lib.proofs.Words.{same_Some, slot, step, to_le_bytes, unless_unused, unless_zero, word_at}
 use Rattle.ffs_model.proofs.ForCallers.{bytes_apart, direct_where, latest_reached, library_reads, one_type, proposed_here, proposed_others, started, started_others, under_inodes, word_apart, word_within}
-use Rattle.ffs_format.specs.Fields.{direct_in}
-use Rattle.ffs_lookup.specs.declared.fault.FfsFault.{FfsFault}
-use Rattle.ffs_lookup.specs.declared.fault.FfsFault.TheVariants.{NoEntry}
-use Rattle.ffs_lookup.specs.Newest.{and_then, byte_in, file_block, inode_block_in, inode_in, root_in, root_of_type, unless_unused, unless_zero}
-use Rattle.ffs_lookup.specs.Places.{IsPlace}
-use Rattle.ffs_lookup.specs.FileValues.{place_in}
 use Rattle.ffs_lib.specs.Results.{SameContents, SameInode, SameOrNew, SamePlace, SameUse}
 use Rattle.ffs_lib.specs.Edits.{edit_at}
 use Rattle.ffs_lib.proofs.Tests.{never}

@@ -1,25 +1,12 @@
 -- A call does what its function of the files says, or leaves one of its stages.
-use Rattle.std.proofs.Common.{◌≡◌, ◌≢◌, ℕ, ◌-◌, ◌*◌, ◌/◌, ◌%◌, ◌<◌, ◌≤◌, ◌⊎◌, Bool, true, false, List, [], ◌∷◌, ◌++◌, length, map, take, replicate, get_or, Some, None, Result, Ok, Err, refl, sym, ◌∙◌, ap, inl, inr, arith, subst, length-append, Contains, IsErrAnd, MatchResult, OnErr, ◌==◌, min, nat_le, nat_lt, if◌then◌else◌, ok_or}
-use Rattle.std.specs.List.{range_with_len}
-use Rattle.std.proofs.lemmas.Bool.{cases_lt, eqb-false, le-leb, le-ltb, lt-ltb}
-use Rattle.std.proofs.lemmas.List.{get_or-append_right, get_or-replicate, get_or-take, get_or_append_left, length-replicate, length-take, same_lists}
-use Rattle.std.proofs.lemmas.List.FromFn.{get_or-map-range_with_len, length-map-range_with_len}
-use Rattle.std.proofs.lemmas.Result.{err_from_is_err_and}
-use Rattle.xn_model.specs.Root.{word_at}
-use Rattle.xn_model.specs.Types.{Types}
-use Rattle.xn_model.specs.Lives.{StoreState}
-use Rattle.xn_model.specs.Rules.{IsConsistent}
-use Rattle.ffs_model.specs.Cuts.{latest}
-use Rattle.ffs_model.specs.Library.{IsLibrary, inode_blocks, inode_links, inode_mode, pointer_word}
+use Rattle.std.proofs.Common.{◌≡◌, ◌≢◌, ℕ, ◌-◌, ◌*◌, ◌/◌, ◌%◌, ◌<◌, ◌≤◌, ◌⊎◌, Bool, true, false, List, [], ◌∷◌, ◌++◌, length, map, take, replicate, get_or, Some, None, Result, Ok, Err, refl, sym, ◌∙◌, ap, inl, inr, arith, subst, length-append, Contains, IsErrAnd, MatchResult, OnErr, ◌==◌, min, nat_le, nat_lt, if◌then◌else◌, ok_or, le-leb, le-ltb, lt-ltb, get_or-take, length-take}
+use Rattle.ffs_lib.proofs.Words.{BadName, FfsFault, IsConsistent, IsLibrary, NoEntry, Slot, StoreState, Types, and_then, blocks_value, byte_in, byte_of}
+use Rattle.ffs_lib.proofs.Words.{bytes_value, cases_lt, direct_in, directory_in, eqb-false, err_from_is_err_and, file_block, file_end, files_of}
+use Rattle.ffs_lib.proofs.Words.{get_or-append_right, get_or-map-range_with_len, get_or-replicate, get_or_append_left, inode_blocks, inode_in, inode_links}
+use Rattle.ffs_lib.proofs.Words.{inode_mode, is_name, latest, length-map-range_with_len, length-replicate, name_of_place, pointer_word, range_with_len}
+use Rattle.ffs_lib.proofs.Words.{same_lists, word_at}
 use Rattle.ffs_model.proofs.ForCallers.{direct_where, zero_word}
-use Rattle.ffs_format.specs.Entries.{is_name}
-use Rattle.ffs_format.specs.Fields.{direct_in}
-use Rattle.ffs_lookup.specs.declared.fault.FfsFault.{FfsFault}
-use Rattle.ffs_lookup.specs.declared.fault.FfsFault.TheVariants.{BadName, NoEntry}
-use Rattle.ffs_lookup.specs.declared.places.Slot.{Slot}
-use Rattle.ffs_lookup.specs.Newest.{and_then, byte_in, byte_of, directory_in, file_block, file_end, inode_in, name_of_place}
 use Rattle.ffs_lookup.specs.Files.{Answer, Blocks, Directory, File, Files, cleared, directory_of, entry_named, look_up, fault_told, with_entry, without_link}
-use Rattle.ffs_lookup.specs.FileValues.{blocks_value, bytes_value, files_of}
 use Rattle.ffs_lookup.proofs.ForCallers.{IsPlaceOf, direct_has, map_on, same_ok}
 use Rattle.ffs_lib.specs.Orders.{Orders, removed_edits}
 use Rattle.ffs_lib.specs.Results.{IsAs, OnlyChanges, SameContents, SameInode}

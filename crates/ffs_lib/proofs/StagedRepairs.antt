@@ -1,25 +1,9 @@
 -- What `reclaim` does is what its function of the files says, or one of its stages.
-use Rattle.std.proofs.Common.{◌≡◌, ℕ, suc, ◌+◌, ◌-◌, ◌<◌, ◌≤◌, Bool, true, false, List, [], ◌∷◌, ◌++◌, Option, Result, Ok, Err, refl, sym, ◌∙◌, ap, arith, subst, inl, inr, eq-eqb, IsErrAnd, ◌==◌, flat_map, if◌then◌else◌}
-use Rattle.std.specs.List.{range_with_len}
-use Rattle.std.proofs.lemmas.Bool.{cases_eq, cases_lt, le-ltb, lt-ltb}
+use Rattle.std.proofs.Common.{◌≡◌, ℕ, suc, ◌+◌, ◌-◌, ◌<◌, ◌≤◌, Bool, true, false, List, [], ◌∷◌, ◌++◌, Option, Result, Ok, Err, refl, sym, ◌∙◌, ap, arith, subst, inl, inr, eq-eqb, IsErrAnd, ◌==◌, flat_map, if◌then◌else◌, le-ltb, lt-ltb}
+use Rattle.ffs_lib.proofs.Words.{Answer, FfsFault, Files, GiveUp, IsConsistent, IsLibrary, Keep, Pending, Repair, Repairs, SetLinks, StoreState, Types}
+use Rattle.ffs_lib.proofs.Words.{cases_eq, cases_lt, err_from_is_err_and, files_of, idle_in, if_idle, is_short, latest, pending_of, range_with_len, repair_at}
+use Rattle.ffs_lib.proofs.Words.{repair_in}
 use Rattle.std.proofs.lemmas.Grind.{flat_map-append}
-use Rattle.std.proofs.lemmas.Result.{err_from_is_err_and}
-use Rattle.xn_model.specs.Types.{Types}
-use Rattle.xn_model.specs.Lives.{StoreState}
-use Rattle.xn_model.specs.Calls.{pending_of}
-use Rattle.xn_model.specs.Rules.{IsConsistent}
-use Rattle.ffs_model.specs.Cuts.{latest}
-use Rattle.ffs_model.specs.Library.{IsLibrary}
-use Rattle.ffs_lookup.specs.declared.fault.FfsFault.{FfsFault}
-use Rattle.ffs_lookup.specs.declared.fault.FfsFault.TheVariants.{Pending}
-use Rattle.ffs_lookup.specs.declared.repairs.Repair.{Repair}
-use Rattle.ffs_lookup.specs.declared.repairs.Repair.TheVariants.{Keep, GiveUp, SetLinks}
-use Rattle.ffs_lookup.specs.declared.repairs.Repairs.{Repairs}
-use Rattle.ffs_lookup.specs.Counts.{if_idle}
-use Rattle.ffs_lookup.specs.Files.{Answer, Files}
-use Rattle.ffs_lookup.specs.FileValues.{files_of}
-use Rattle.ffs_lookup.specs.Newest.{is_short}
-use Rattle.ffs_lookup.specs.Repairs.{idle_in, repair_at, repair_in}
 use Rattle.ffs_lookup.proofs.ForCallers.{unnumbered_repair}
 use Rattle.ffs_lib.specs.Reclaiming.{InMiddle, LeftByRepair, Reclaims, Repaired, StopsRepairing, needs, reclaimed, reclaimed_stages, repair_stages, repaired, repaired_below, stages_at}
 use Rattle.ffs_lib.specs.Results.{AsBefore, SameInode}

@@ -1,17 +1,8 @@
 -- What a `replace` does is what its function of the files says, or one of its stages.
 use Rattle.std.proofs.Common.{◌≡◌, ◌≢◌, ℕ, ◌<◌, ◌≤◌, Bool, true, false, List, [], Result, Ok, Err, refl, sym, ◌∙◌, ap, inl, inr, arith, subst, eq-eqb, Option, IsErrAnd, MatchResult, OnErr, ◌==◌, ◌&&◌, if◌then◌else◌, ne_eqb}
-use Rattle.std.proofs.lemmas.Result.{err_from_is_err_and}
-use Rattle.xn_model.specs.Types.{Types}
-use Rattle.xn_model.specs.Lives.{StoreState}
-use Rattle.xn_model.specs.Rules.{IsConsistent}
-use Rattle.ffs_model.specs.Cuts.{latest}
-use Rattle.ffs_model.specs.Library.{IsLibrary, inode_links}
-use Rattle.ffs_format.specs.Fields.{direct_in}
-use Rattle.ffs_lookup.specs.declared.fault.FfsFault.{FfsFault}
-use Rattle.ffs_lookup.specs.declared.places.Slot.{Slot}
-use Rattle.ffs_lookup.specs.Newest.{directory_in, inode_in, is_at, is_short}
+use Rattle.ffs_lib.proofs.Words.{FfsFault, IsConsistent, IsLibrary, Slot, StoreState, Types, direct_in, directory_in, err_from_is_err_and, files_of, inode_in}
+use Rattle.ffs_lib.proofs.Words.{inode_links, is_at, is_short, latest}
 use Rattle.ffs_lookup.specs.Files.{Answer, Files, replaced, turned, without_link}
-use Rattle.ffs_lookup.specs.FileValues.{files_of}
 use Rattle.ffs_lookup.proofs.ForCallers.{EntryAt, first_value, not_both}
 use Rattle.ffs_lib.specs.Replacing.{ReplacedInodes, Turned}
 use Rattle.ffs_lib.specs.Stages.{Does, IsRefused, KeptOrEmptied, Stages, cleared_stages, link_stages, replaced_stages, turned_stages}

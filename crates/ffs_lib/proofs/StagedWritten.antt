@@ -1,23 +1,9 @@
 -- A write does what its function of the files says, or leaves one of its stages.
-use Rattle.std.proofs.Common.{◌≡◌, ◌≢◌, ℕ, ◌+◌, ◌-◌, ◌%◌, ◌<◌, ◌≤◌, ◌⊎◌, Bool, true, false, List, [], ◌∷◌, ◌++◌, length, map, take, replicate, Option, Some, None, Result, Ok, Err, refl, sym, ◌∙◌, ap, inl, inr, arith, eq-eqb, subst, length-append, Contains, IfErr, IfOk, IfSome, IsOk, MatchResult, OnOk, ◌==◌, ◌&&◌, ◌||◌, filter, min, nat_lt, if◌then◌else◌}
-use Rattle.std.specs.List.{range_with_len}
-use Rattle.std.proofs.lemmas.Bool.{cases_eq, le-ltb, lt-ltb, ne_eqb, or_left, or_right}
-use Rattle.std.proofs.lemmas.List.{append-nil, length-replicate, length-take-le, take_all}
-use Rattle.std.proofs.Math.Seq.{take-append-add}
-use Rattle.std.proofs.lemmas.List.FromFn.{length-map-range_with_len}
-use Rattle.xn_model.specs.declared.refusal.Refusal.{Refusal}
-use Rattle.xn_model.specs.declared.refusal.Refusal.TheVariants.{TooManyPending}
-use Rattle.xn_model.specs.Root.{word_at}
-use Rattle.xn_model.specs.Types.{Types}
-use Rattle.xn_model.specs.Lives.{StoreState}
+use Rattle.std.proofs.Common.{◌≡◌, ◌≢◌, ℕ, ◌+◌, ◌-◌, ◌%◌, ◌<◌, ◌≤◌, ◌⊎◌, Bool, true, false, List, [], ◌∷◌, ◌++◌, length, map, take, replicate, Option, Some, None, Result, Ok, Err, refl, sym, ◌∙◌, ap, inl, inr, arith, eq-eqb, subst, length-append, Contains, IfErr, IfOk, IfSome, IsOk, MatchResult, OnOk, ◌==◌, ◌&&◌, ◌||◌, filter, min, nat_lt, if◌then◌else◌, le-ltb, lt-ltb, ne_eqb, append-nil, length-take-le, take_all}
+use Rattle.ffs_lib.proofs.Words.{Answer, FfsFault, File, Files, IsLibrary, Kernel, Refusal, StoreState, TooManyPending, Types, byte_of, cases_eq, fault_told}
+use Rattle.ffs_lib.proofs.Words.{file_end, file_in, file_of, files_of, is_short, latest, length-map-range_with_len, length-replicate, mapped, most_bytes}
+use Rattle.ffs_lib.proofs.Words.{or_left, or_right, range_with_len, take-append-add, with_value, word_at, write_in, written, written_bytes}
 use Rattle.xn_model.proofs.ForCallers.{Contains-cons, Contains-none, filter_from}
-use Rattle.ffs_model.specs.Cuts.{latest}
-use Rattle.ffs_model.specs.Library.{IsLibrary}
-use Rattle.ffs_lookup.specs.declared.fault.FfsFault.{FfsFault}
-use Rattle.ffs_lookup.specs.declared.fault.FfsFault.TheVariants.{Kernel}
-use Rattle.ffs_lookup.specs.Files.{Answer, File, Files, fault_told, file_of, with_value, written, written_bytes}
-use Rattle.ffs_lookup.specs.FileValues.{files_of}
-use Rattle.ffs_lookup.specs.Newest.{byte_of, file_end, file_in, is_short, mapped, most_bytes, write_in}
 use Rattle.ffs_lookup.proofs.ForCallers.{same_ok}
 use Rattle.ffs_lib.specs.Outcomes.{IsRaised}
 use Rattle.ffs_lib.specs.Orders.{Acts}

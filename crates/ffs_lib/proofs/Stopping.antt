@@ -1,12 +1,7 @@
 -- Where a write stops, by the numbers of its edits.
 use Rattle.std.proofs.Common.{◌≡◌, ◌≢◌, ℕ, ◌+◌, ◌-◌, ◌<◌, ◌≤◌, Bool, List, [], ◌∷◌, ◌++◌, length, Result, Ok, Err, refl, sym, ◌∙◌, ap, inl, inr, arith, subst, MatchResult, min, take, if◌then◌else◌, le-ltb, lt-ltb}
-use Rattle.xn_model.specs.declared.refusal.Refusal.{Refusal}
-use Rattle.xn_model.specs.Types.{Types}
-use Rattle.xn_model.specs.Lives.{StoreState}
+use Rattle.ffs_lib.proofs.Words.{FfsFault, Refusal, StoreState, Types, file_end, init_of}
 use Rattle.xn_model.proofs.ForCallers.{same_ok, then_ok}
-use Rattle.xn_model.specs.Calls.{init_of}
-use Rattle.ffs_lookup.specs.declared.fault.FfsFault.{FfsFault}
-use Rattle.ffs_lookup.specs.Newest.{file_end}
 use Rattle.ffs_lib.specs.Orders.{Action, Acts, Attaches, Makes, act_of, made_by}
 use Rattle.ffs_lib.specs.Orders as orders
 use Rattle.ffs_lib.specs.Steps.{skipped}

@@ -1,6 +1,6 @@
 -- Tests, and results that are two things at once.
 use Rattle.std.proofs.Common.{◌≡◌, Bool, true, false, ◌&&◌, Result, Ok, Err, refl}
-use Rattle.ffs_lookup.specs.declared.fault.FfsFault.{FfsFault}
+use Rattle.ffs_lib.proofs.Words.{FfsFault}
 
 pub true_false : (t : Bool) → t ≡ true → t ≡ false → ⊥
 true_false t e f = cc

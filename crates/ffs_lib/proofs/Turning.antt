@@ -1,22 +1,8 @@
 -- An entry of a directory goes to another inode: what is listed then, and what else is as before.
-use Rattle.std.proofs.Common.{◌≡◌, ℕ, ◌+◌, ◌*◌, ◌^◌, ◌<◌, ◌≤◌, ◌≢◌, ◌⊎◌, Bool, true, false, List, [], ◌∷◌, ◌++◌, map, length, take, drop, get_or, Option, Some, None, Ok, refl, sym, ◌∙◌, ap, inl, inr, arith, eq-eqb, ◌==◌, ◌&&◌, min, filter_map, flat_map, option_map, if◌then◌else◌}
-use Rattle.std.specs.List.{range_with_len, cons_option}
-use Rattle.std.specs.Int.{w16, to_le_bytes}
-use Rattle.std.proofs.lemmas.Bool.{cases_eq, cases_lt, ne_eqb}
-use Rattle.std.proofs.lemmas.List.{map-append}
-use Rattle.std.proofs.lemmas.Nat.{from_le_bytes-to_le_bytes_2}
-use Rattle.xn_model.specs.Types.{Types}
-use Rattle.xn_model.specs.Lists.{put}
-use Rattle.xn_model.specs.Lives.{StoreState}
-use Rattle.xn_model.specs.Calls.{propose_of}
-use Rattle.xn_model.specs.Rules.{IsConsistent}
-use Rattle.ffs_model.specs.Cuts.{Under, latest}
-use Rattle.ffs_model.specs.Library.{IsLibrary, half_at, inode_blocks, library_layout}
+use Rattle.std.proofs.Common.{◌≡◌, ℕ, ◌+◌, ◌*◌, ◌^◌, ◌<◌, ◌≤◌, ◌≢◌, ◌⊎◌, Bool, true, false, List, [], ◌∷◌, ◌++◌, map, length, take, drop, get_or, Option, Some, None, Ok, refl, sym, ◌∙◌, ap, inl, inr, arith, eq-eqb, ◌==◌, ◌&&◌, min, filter_map, flat_map, option_map, if◌then◌else◌, w16, ne_eqb}
+use Rattle.ffs_lib.proofs.Words.{IsConsistent, IsLibrary, IsSlot, Slot, StoreState, Types, Under, cases_eq, cases_lt, cons_option, from_le_bytes-to_le_bytes_2}
+use Rattle.ffs_lib.proofs.Words.{half_at, inode_blocks, latest, library_layout, listing, map-append, name_in, propose_of, put, range_with_len, to_le_bytes}
 use Rattle.ffs_model.proofs.ForCallers.{bytes_apart, direct_where, half_apart, half_within, library_reads, proposed_here, proposed_others, under_direct}
-use Rattle.ffs_format.specs.Entries.{name_in}
-use Rattle.ffs_lookup.specs.declared.places.Slot.{Slot}
-use Rattle.ffs_lookup.specs.Newest.{listing}
-use Rattle.ffs_lookup.specs.Places.{IsSlot}
 use Rattle.ffs_lib.specs.Edits.{edit_at}
 use Rattle.ffs_lib.specs.Replacing.{Turned, turned_entry}
 use Rattle.ffs_lib.proofs.Tests.{and_false}

@@ -1,14 +1,8 @@
 -- The places of a directory's value, by its listing.
-use Rattle.std.proofs.Common.{◌≡◌, ◌≢◌, ℕ, zero, suc, ◌+◌, ◌*◌, ◌<◌, ◌≤◌, ◌⊎◌, Bool, true, false, cond, List, [], ◌∷◌, ◌++◌, map, Option, Some, None, refl, sym, ◌∙◌, ap, inl, inr, arith, eq-eqb, subst, Contains, ◌==◌, ◌&&◌, ◌||◌, not, filter, filter_map, find, flat_map, option_map, if◌then◌else◌}
-use Rattle.std.specs.List.{cons_option, list_any, range_with_len}
-use Rattle.std.specs.Option.{option_or}
-use Rattle.std.proofs.lemmas.Bool.{and_parts, cases_eq, eqb-true, ne_eqb}
-use Rattle.std.proofs.lemmas.List.Folds.{find-append}
+use Rattle.std.proofs.Common.{◌≡◌, ◌≢◌, ℕ, zero, suc, ◌+◌, ◌*◌, ◌<◌, ◌≤◌, ◌⊎◌, Bool, true, false, cond, List, [], ◌∷◌, ◌++◌, map, Option, Some, None, refl, sym, ◌∙◌, ap, inl, inr, arith, eq-eqb, subst, Contains, ◌==◌, ◌&&◌, ◌||◌, not, filter, filter_map, find, flat_map, option_map, if◌then◌else◌, eqb-true, ne_eqb}
+use Rattle.ffs_lib.proofs.Words.{Slot, and_parts, cases_eq, cons_option, find-append, half_at, inode_blocks, is_at, list_any, listing, name_in, name_of_place}
+use Rattle.ffs_lib.proofs.Words.{option_or, range_with_len, without_entry}
 use Rattle.xn_model.proofs.ForCallers.{Contains-cons, Contains-head, Contains-none, Contains-tail}
-use Rattle.ffs_model.specs.Library.{half_at, inode_blocks}
-use Rattle.ffs_format.specs.Entries.{name_in}
-use Rattle.ffs_lookup.specs.declared.places.Slot.{Slot}
-use Rattle.ffs_lookup.specs.Newest.{is_at, listing, name_of_place, without_entry}
 use Rattle.ffs_lookup.proofs.ForCallers.{find_first, found_holds}
 use Rattle.ffs_lib.specs.Replacing.{turned_entry}
 use Rattle.ffs_lib.proofs.Tests.{and_false}

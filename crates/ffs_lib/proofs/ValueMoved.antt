@@ -1,12 +1,7 @@
 -- What `rename` leaves is what its function of the files says.
 use Rattle.std.proofs.Common.{◌≡◌, ◌≢◌, ℕ, ◌<◌, ◌≤◌, List, Some, None, Ok, refl, sym, ◌∙◌, ap, inl, inr, subst}
-use Rattle.std.proofs.lemmas.Bool.{cases_eq}
-use Rattle.ffs_model.specs.Library.{inode_links}
-use Rattle.ffs_format.specs.Fields.{direct_in}
-use Rattle.ffs_lookup.specs.declared.places.Slot.{Slot}
-use Rattle.ffs_lookup.specs.Newest.{directory_in, inode_in}
-use Rattle.ffs_lookup.specs.Files.{Files, links_of, moved, room, with_entry, without_link}
-use Rattle.ffs_lookup.specs.FileValues.{AreBlocksOnce, HasBlocksOnce, blocks_value, files_of}
+use Rattle.ffs_lib.proofs.Words.{AreBlocksOnce, Files, HasBlocksOnce, Slot, blocks_value, cases_eq, direct_in, directory_in, files_of, inode_in, inode_links}
+use Rattle.ffs_lib.proofs.Words.{links_of, moved, room, with_entry, without_link}
 use Rattle.ffs_lookup.proofs.ForCallers.{EntryAt, IsPlaceOf, same_ok}
 use Rattle.ffs_lib.specs.Results.{HasMore, IsAs}
 use Rattle.ffs_lib.specs.Steps.{Clearing, NamedAgain, Unnamed}

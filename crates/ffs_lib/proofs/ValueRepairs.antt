@@ -1,20 +1,11 @@
 -- What inodes need is what the files say, and one that is repaired is as they say.
-use Rattle.std.proofs.Common.{◌≡◌, ℕ, zero, suc, ◌+◌, ◌-◌, ◌/◌, ◌%◌, Bool, true, false, cond, List, [], ◌∷◌, ◌++◌, length, map, Option, Some, None, Result, Ok, Err, refl, sym, ◌∙◌, ap, arith, ◌==◌, ◌||◌, not, nat_lt, count_by, filter_map, find, flat_map, is_some, if◌then◌else◌, eqb-true, ne_eqb}
-use Rattle.std.specs.List.{cons_option, range_with_len}
-use Rattle.std.specs.Result.{result_ok}
+use Rattle.std.proofs.Common.{◌≡◌, ℕ, zero, suc, ◌+◌, ◌-◌, ◌/◌, ◌%◌, Bool, true, false, cond, List, [], ◌∷◌, ◌++◌, length, map, Option, Some, None, Result, Ok, Err, refl, sym, ◌∙◌, ap, arith, ◌==◌, ◌||◌, not, nat_lt, count_by, filter_map, find, flat_map, is_some, if◌then◌else◌, eqb-true, ne_eqb, append-nil}
+use Rattle.ffs_lib.proofs.Words.{FfsFault, GiveUp, Keep, NoEntry, Repair, SetLinks, Slot, and_then, blocks_value, bytes_value, cons_option, directory_in}
+use Rattle.ffs_lib.proofs.Words.{files_of, inode_at, inode_block_in, inode_in, inode_links, inode_mode, is_free_inode, length-map, map-append, mapped, name_at}
+use Rattle.ffs_lib.proofs.Words.{names_in, names_of, range_with_len, repair_found, repair_in, repair_of, result_ok, slots_of, unless_unused, value_in}
 use Rattle.std.proofs.lemmas.Grind.{flat_map-append}
-use Rattle.std.proofs.lemmas.List.{append-nil, length-map, map-append}
-use Rattle.ffs_model.specs.Library.{inode_at, inode_links, inode_mode}
-use Rattle.ffs_lookup.specs.declared.fault.FfsFault.{FfsFault}
-use Rattle.ffs_lookup.specs.declared.fault.FfsFault.TheVariants.{NoEntry}
-use Rattle.ffs_lookup.specs.declared.places.Slot.{Slot}
-use Rattle.ffs_lookup.specs.declared.repairs.Repair.{Repair}
-use Rattle.ffs_lookup.specs.declared.repairs.Repair.TheVariants.{Keep, GiveUp, SetLinks}
 use Rattle.ffs_lookup.specs.Counts.{names_count, numbers_of}
 use Rattle.ffs_lookup.specs.Files.{Absent, Blocks, Directory, Entry, File, Files, Free, InodeValue, Unusable, directory_of, entry_at, is_bare, listed, positions}
-use Rattle.ffs_lookup.specs.FileValues.{blocks_value, bytes_value, files_of, value_in}
-use Rattle.ffs_lookup.specs.Newest.{and_then, directory_in, slots_of, inode_block_in, inode_in, is_free_inode, mapped, name_at, names_in, names_of, unless_unused}
-use Rattle.ffs_lookup.specs.Repairs.{repair_found, repair_in, repair_of}
 use Rattle.ffs_lookup.proofs.ForCallers.{given_up, good_number, links_set, listed_told, same_ok, value_by_place}
 use Rattle.ffs_lib.specs.Reclaiming.{Repaired, name_count, need_of, needs, numbers_listed, repair_stages, repaired, stages_at, with_links}
 use Rattle.ffs_lib.specs.Stages.{Stages}

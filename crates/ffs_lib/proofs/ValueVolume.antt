@@ -1,23 +1,10 @@
 -- What `make` leaves is what its function of the files says.
-use Rattle.std.proofs.Common.{◌≡◌, ◌≢◌, ℕ, ◌-◌, ◌/◌, ◌%◌, ◌<◌, ◌≤◌, ◌⊎◌, ◌+◌, ◌*◌, Bool, true, false, List, Ok, Err, refl, eq-eqb, sym, ◌∙◌, ap, inl, inr, arith, subst, IsOk, MatchResult, Result, not, nat_le, nat_lt, ◌==◌, ◌&&◌, ◌||◌, if◌then◌else◌}
-use Rattle.std.specs.List.{range_with_len}
-use Rattle.std.proofs.lemmas.Bool.{cases_eq, cases_lt, eqb-false, eqb-true, le-leb, lt-leb, ne_eqb}
-use Rattle.xn_model.specs.Types.{Types}
+use Rattle.std.proofs.Common.{◌≡◌, ◌≢◌, ℕ, ◌-◌, ◌/◌, ◌%◌, ◌<◌, ◌≤◌, ◌⊎◌, ◌+◌, ◌*◌, Bool, true, false, List, Ok, Err, refl, eq-eqb, sym, ◌∙◌, ap, inl, inr, arith, subst, IsOk, MatchResult, Result, not, nat_le, nat_lt, ◌==◌, ◌&&◌, ◌||◌, if◌then◌else◌, eqb-true, le-leb, ne_eqb}
+use Rattle.ffs_lib.proofs.Words.{Exists, FfsFault, IsRoot, Kernel, NoEntry, Pending, RootTaken, StoreState, Types, Unsound, and_then, cases_eq, cases_lt}
+use Rattle.ffs_lib.proofs.Words.{eqb-false, files_of, has_pointer, if_bare, inode_at, inode_block_in, inode_value, latest, lt-leb, make_from, make_in, mapped}
+use Rattle.ffs_lib.proofs.Words.{pending_of, pointer_word, put, range_with_len, root_in, slot, unless_zero, value_in, zero_block}
 use Rattle.xn_model.proofs.ForCallers.{any_at, any_from, range_at}
-use Rattle.ffs_model.specs.Names.{IsRoot}
-use Rattle.xn_model.specs.declared.refusal.Refusal.TheVariants.{RootTaken}
-use Rattle.xn_model.specs.Lists.{put}
-use Rattle.xn_model.specs.Root.{slot}
-use Rattle.xn_model.specs.Calls.{pending_of}
-use Rattle.xn_model.specs.Lives.{StoreState}
-use Rattle.ffs_model.specs.Cuts.{latest}
-use Rattle.ffs_model.specs.Library.{inode_at, pointer_word, zero_block}
-use Rattle.ffs_lookup.specs.declared.fault.FfsFault.{FfsFault}
-use Rattle.ffs_lookup.specs.declared.fault.FfsFault.TheVariants.{Exists, Kernel, NoEntry, Pending, Unsound}
-use Rattle.ffs_lookup.specs.Counts.{make_from}
-use Rattle.ffs_lookup.specs.Newest.{and_then, has_pointer, if_bare, inode_block_in, make_in, mapped, root_in, unless_zero}
 use Rattle.ffs_lookup.specs.Files.{Absent, Answer, Files, Free, empty_volume, is_absent, made, new_directory}
-use Rattle.ffs_lookup.specs.FileValues.{files_of, inode_value, value_in}
 use Rattle.ffs_lookup.proofs.ForCallers.{good_number, in_root_block, root_again, value_by_place, value_outside, value_there}
 use Rattle.ffs_lib.specs.Making.{StopsTop, any_inode, newly_made, unless_inodes, unless_taken}
 use Rattle.ffs_lib.specs.Outcomes.{FirstInodes}

@@ -1,18 +1,10 @@
 -- What is written into a file by its bytes as a value.
-use Rattle.std.proofs.Common.{◌≡◌, ◌≢◌, [], ℕ, ◌+◌, ◌-◌, ◌<◌, ◌≤◌, Bool, List, ◌++◌, length, map, take, drop, replicate, get_or, Ok, Err, refl, sym, ◌∙◌, ap, inl, inr, arith, subst, length-append, ◌==◌, ◌&&◌, nat_lt, max, min, if◌then◌else◌}
-use Rattle.std.specs.List.{range_with_len}
-use Rattle.std.proofs.lemmas.Bool.{cases_lt, le-leb, le-ltb, lt-leb, lt-ltb, ne_eqb}
-use Rattle.std.proofs.lemmas.List.{get_or-append_right, get_or-drop, get_or-replicate, get_or-take, get_or_append_left, get_or_default, length-drop, length-replicate, length-take, length-take-le, same_lists}
-use Rattle.std.proofs.lemmas.List.FromFn.{get_or-map-range_with_len, length-map-range_with_len}
-use Rattle.xn_model.specs.Lives.{StoreState}
-use Rattle.ffs_model.specs.Cuts.{latest}
-use Rattle.ffs_model.specs.Library.{inode_links}
-use Rattle.ffs_lookup.specs.declared.fault.FfsFault.TheVariants.{TooLarge}
-use Rattle.ffs_lookup.specs.Newest.{and_then, byte_of, file_end, file_in, mapped, most_bytes, write_in}
+use Rattle.std.proofs.Common.{◌≡◌, ◌≢◌, [], ℕ, ◌+◌, ◌-◌, ◌<◌, ◌≤◌, Bool, List, ◌++◌, length, map, take, drop, replicate, get_or, Ok, Err, refl, sym, ◌∙◌, ap, inl, inr, arith, subst, length-append, ◌==◌, ◌&&◌, nat_lt, max, min, if◌then◌else◌, le-leb, le-ltb, lt-ltb, ne_eqb, get_or-drop, get_or-take, length-drop, length-take, length-take-le}
+use Rattle.ffs_lib.proofs.Words.{StoreState, TooLarge, and_then, byte_of, bytes_value, cases_lt, file_end, file_in, files_of, get_or-append_right}
+use Rattle.ffs_lib.proofs.Words.{get_or-map-range_with_len, get_or-replicate, get_or_append_left, get_or_default, inode_links, latest}
+use Rattle.ffs_lib.proofs.Words.{length-map-range_with_len, length-replicate, lt-leb, mapped, most_bytes, range_with_len, same_lists, word_at, write_in}
 use Rattle.ffs_lookup.specs.Files.{Absent, Answer, Directory, File, Files, Free, InodeValue, Unusable, file_of, with_value, written, written_bytes, written_in}
-use Rattle.ffs_lookup.specs.FileValues.{bytes_value, files_of}
 use Rattle.ffs_lookup.proofs.ForCallers.{file_found, file_parts, same_ok}
-use Rattle.xn_model.specs.Root.{word_at}
 use Rattle.ffs_lib.specs.Outcomes.{IsRaised}
 use Rattle.ffs_lib.specs.Results.{OnlyChanges, byte_written}
 use Rattle.ffs_lib.specs.Values.{Leads}

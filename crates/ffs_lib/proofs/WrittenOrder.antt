@@ -1,13 +1,7 @@
 -- The edits of a write, in their order, by what its parts made and where they stopped.
 use Rattle.std.proofs.Common.{◌≡◌, ◌≢◌, ℕ, ◌+◌, ◌-◌, ◌<◌, ◌≤◌, ◌⊎◌, Bool, true, false, List, [], ◌∷◌, length, Option, Some, None, Result, Ok, Err, refl, sym, ◌∙◌, ap, inl, inr, arith, subst, IfOk, IfSome, MatchResult, min, nat_lt, le-ltb, lt-ltb}
-use Rattle.xn_model.specs.Root.{word_at}
-use Rattle.xn_model.specs.Types.{Types}
-use Rattle.xn_model.specs.Rules.{IsConsistent}
-use Rattle.xn_model.specs.Lives.{StoreState}
+use Rattle.ffs_lib.proofs.Words.{FfsFault, IsConsistent, StoreState, Types, file_end, latest, word_at, write_in}
 use Rattle.xn_model.proofs.ForCallers.{same_ok as same_run}
-use Rattle.ffs_model.specs.Cuts.{latest}
-use Rattle.ffs_lookup.specs.declared.fault.FfsFault.{FfsFault}
-use Rattle.ffs_lookup.specs.Newest.{file_end, write_in}
 use Rattle.ffs_lookup.proofs.ForCallers.{same_ok}
 use Rattle.ffs_lib.specs.Orders.{Acts}
 use Rattle.ffs_lib.specs.Steps.{Stops}

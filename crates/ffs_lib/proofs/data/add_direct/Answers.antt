@@ -1,10 +1,6 @@
 use Rattle.std.proofs.Common.{◌∙◌, ap, length, subst, sym}
-use Rattle.xn_model.specs.Lists.{put}
-use Rattle.xn_model.specs.Calls.{init_of}
-use Rattle.ffs_model.specs.Cuts.{latest}
-use Rattle.ffs_model.specs.Library.{IsLibrary, zero_block}
+use Rattle.ffs_lib.proofs.Words.{IsLibrary, fields_of, init_of, latest, put, zero_block}
 use Rattle.ffs_model.proofs.ForCallers.{data_begun}
-use Rattle.ffs_format.specs.Fields.{fields_of}
 use Rattle.ffs_lookup.proofs.ForCallers.{gives_err}
 use Rattle.ffs_lib.specs.WriteOrder.{direct_edit}
 use Rattle.ffs_lib.proofs.Tests.{never}

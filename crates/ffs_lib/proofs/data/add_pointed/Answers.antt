@@ -1,11 +1,7 @@
 use Rattle.std.proofs.Common.{◌≡◌, ◌∙◌, ◌*◌, ◌+◌, ◌-◌, ◌<◌, ℕ, List, [], ◌∷◌, Some, ap, arith, subst, sym}
-use Rattle.xn_model.specs.Lists.{put}
-use Rattle.xn_model.specs.Calls.{init_of}
-use Rattle.ffs_model.specs.Cuts.{latest}
-use Rattle.ffs_model.specs.Library.{zero_block}
+use Rattle.ffs_lib.proofs.Words.{file_block, init_of, latest, put, zero_block}
 use Rattle.ffs_model.proofs.ForCallers.{data_begun}
 use Rattle.ffs_lookup.proofs.ForCallers.{gives_err}
-use Rattle.ffs_lookup.specs.Newest.{file_block}
 use Rattle.ffs_lib.specs.Edits.{edit_at}
 use Rattle.ffs_lib.specs.Steps.{Attached, Ends}
 use Rattle.ffs_lib.specs.WriteOrder.{data_action, pointed_edit}

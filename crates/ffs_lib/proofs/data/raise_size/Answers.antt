@@ -1,11 +1,6 @@
-use Rattle.std.proofs.Common.{◌∙◌, ◌*◌, ◌<◌, ◌≤◌, ℕ, List, [], Err, Ok, ap, arith, subst, sym}
+use Rattle.std.proofs.Common.{◌∙◌, ◌*◌, ◌<◌, ◌≤◌, ℕ, List, [], Err, Ok, ap, arith, subst, sym, w32}
 use Rattle.std.specs.Prelude.{⊤}
-use Rattle.std.specs.Int.{w32, to_le_bytes}
-use Rattle.xn_model.specs.Lists.{put}
-use Rattle.xn_model.specs.Root.{word_at}
-use Rattle.xn_model.specs.Calls.{propose_of}
-use Rattle.ffs_model.specs.Cuts.{latest}
-use Rattle.ffs_model.specs.Library.{IsLibrary}
+use Rattle.ffs_lib.proofs.Words.{IsLibrary, latest, propose_of, put, to_le_bytes, word_at}
 use Rattle.ffs_lookup.proofs.ForCallers.{same_ok}
 use Rattle.ffs_lib.specs.Edits.{edit_at}
 use Rattle.ffs_lib.specs.Outcomes.{IsRaised}

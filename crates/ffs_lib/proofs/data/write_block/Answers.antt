@@ -1,8 +1,5 @@
 use Rattle.std.proofs.Common.{◌≡◌, ◌∙◌, ℕ, List, Err, Ok, ap, refl, length, subst, sym}
-use Rattle.xn_model.specs.Root.{word_at}
-use Rattle.ffs_model.specs.Cuts.{latest}
-use Rattle.ffs_model.specs.Library.{IsLibrary}
-use Rattle.ffs_lookup.specs.Newest.{file_block}
+use Rattle.ffs_lib.proofs.Words.{IsLibrary, file_block, latest, word_at}
 use Rattle.ffs_lookup.proofs.ForCallers.{not_ok, same_ok}
 use Rattle.ffs_lib.specs.WriteOrder.{data_parts}
 use Rattle.ffs_lib.specs.Writes.{PutsParts}

@@ -1,7 +1,5 @@
-use Rattle.std.proofs.Common.{◌∙◌, ℕ, List, ap}
-use Rattle.std.specs.Int.{w16, to_le_bytes}
-use Rattle.xn_model.specs.Lists.{put}
-use Rattle.ffs_format.specs.Fields.{Fields, fields_of}
+use Rattle.std.proofs.Common.{◌∙◌, ℕ, List, ap, w16}
+use Rattle.ffs_lib.proofs.Words.{Fields, fields_of, put, to_le_bytes}
 use Rattle.ffs_lib.proofs.put.empty_inode.Goals as goal
 
 pub returns-clause-bytes : goal.returns-clause-bytes

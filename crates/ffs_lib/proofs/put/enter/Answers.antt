@@ -1,17 +1,10 @@
-use Rattle.xn_model.specs.Lists.{put}
+use Rattle.ffs_lib.proofs.Words.{IsLibrary, IsRoom, Room, direct_in, entry_of, half_at, latest, put, room_in, zero_block}
 use Rattle.ffs_lookup.specs.declared.places.Room.TheVariants.{Entry, Pointer}
 use Rattle.ffs_lib.specs.Orders.{Action, Acts, Attaches, grown_edit}
 use Rattle.ffs_lib.proofs.Orders.{entered_is, gap_act}
 use Rattle.std.proofs.Common.{rules, ◌≡◌, ◌+◌, ◌∙◌, ◌*◌, List, ℕ, [], Some, ap, subst, sym, IfOk}
-use Rattle.ffs_format.specs.Fields.{direct_in}
-use Rattle.ffs_model.specs.Library.{IsLibrary, half_at, zero_block}
-use Rattle.ffs_model.specs.Cuts.{latest}
-use Rattle.ffs_lookup.specs.declared.places.Room.{Room}
-use Rattle.ffs_lookup.specs.Newest.{room_in}
-use Rattle.ffs_lookup.specs.Places.{IsRoom}
 use Rattle.ffs_lookup.proofs.ForCallers.{same_ok}
 use Rattle.ffs_lib.specs.Edits.{edit_at}
-use Rattle.ffs_format.specs.Entries.{entry_of}
 use Rattle.ffs_lib.specs.Steps.{Ends, Enters, IsEntry, Proposed, StopsEntering}
 use Rattle.ffs_lib.proofs.Fields.{entry_names}
 use Rattle.ffs_lib.proofs.Laws.{finishes, home_of}

@@ -1,8 +1,5 @@
-use Rattle.std.specs.Int.{w32, to_le_bytes}
-use Rattle.std.proofs.Common.{rules, ◌≡◌, ◌∙◌, ◌+◌, ◌*◌, inl, ℕ, List, [], ◌∷◌, Some, ap, arith, length, subst, sym}
-use Rattle.xn_model.specs.Calls.{init_of}
-use Rattle.ffs_model.specs.Cuts.{latest}
-use Rattle.ffs_model.specs.Library.{IsLibrary, inode_blocks, zero_block}
+use Rattle.ffs_lib.proofs.Words.{Fields, IsLibrary, fields_of, init_of, inode_blocks, latest, put, to_le_bytes, zero_block}
+use Rattle.std.proofs.Common.{rules, ◌≡◌, ◌∙◌, ◌+◌, ◌*◌, inl, ℕ, List, [], ◌∷◌, Some, ap, arith, length, subst, sym, w32}
 use Rattle.ffs_model.proofs.ForCallers.{data_begun}
 use Rattle.ffs_lookup.proofs.ForCallers.{block_again, gives_err, same_ok}
 use Rattle.ffs_lib.proofs.Tests.{never}
@@ -10,8 +7,6 @@ use Rattle.ffs_lib.proofs.Entering.{directory_from}
 use Rattle.ffs_lib.proofs.Fields.{same_blocks}
 use Rattle.ffs_lib.proofs.Owners.{stands_from}
 use Rattle.ffs_lib.proofs.DataShort.{block_long}
-use Rattle.xn_model.specs.Lists.{put}
-use Rattle.ffs_format.specs.Fields.{Fields, fields_of}
 use Rattle.ffs_lib.specs.Edits.{edit_at}
 use Rattle.ffs_lib.specs.Orders.{Attaches, grown, grown_edit}
 use Rattle.ffs_lib.specs.Steps.{Attached}

@@ -1,14 +1,6 @@
-use Rattle.std.proofs.Common.{rules, ◌≡◌, ◌∙◌, ◌*◌, ◌-◌, ℕ, List, [], Err, Option, Some, ap, arith, refl, replicate, subst, sym, inl, inr}
-use Rattle.std.specs.Int.{w16, to_le_bytes}
-use Rattle.xn_model.specs.declared.refusal.Refusal.TheVariants.{NoMemory}
-use Rattle.xn_model.specs.Lists.{put}
-use Rattle.xn_model.specs.Types.{Types}
-use Rattle.xn_model.specs.Root.{word_at}
-use Rattle.xn_model.specs.Calls.{propose_of}
-use Rattle.ffs_model.specs.Cuts.{latest}
-use Rattle.ffs_model.specs.Library.{IsLibrary, inode_links}
+use Rattle.std.proofs.Common.{rules, ◌≡◌, ◌∙◌, ◌*◌, ◌-◌, ℕ, List, [], Err, Option, Some, ap, arith, refl, replicate, subst, sym, inl, inr, w16}
+use Rattle.ffs_lib.proofs.Words.{IsLibrary, Kernel, NoMemory, Types, inode_links, latest, propose_of, put, to_le_bytes, word_at}
 use Rattle.ffs_lookup.proofs.ForCallers.{same_ok}
-use Rattle.ffs_lookup.specs.declared.fault.FfsFault.TheVariants.{Kernel}
 use Rattle.ffs_lib.specs.Edits.{data_of_inode, edit_at}
 use Rattle.ffs_lib.specs.Orders.{Edits, Orders, free_edit, links_edit, taken_edits}
 use Rattle.ffs_lib.specs.Outcomes.{HasNoData}

@@ -1,10 +1,5 @@
 use Rattle.std.proofs.Common.{◌≡◌, ◌+◌, ◌≤◌, ◌∙◌, ℕ, Ok, ap, arith, inl, refl, subst, sym}
-use Rattle.std.specs.List.{range_with_len}
-use Rattle.ffs_model.specs.Cuts.{latest}
-use Rattle.ffs_model.specs.Library.{IsLibrary}
-use Rattle.ffs_lookup.specs.declared.repairs.Repair.{Repair}
-use Rattle.ffs_lookup.specs.FileValues.{files_of}
-use Rattle.ffs_lookup.specs.Repairs.{repair_in}
+use Rattle.ffs_lib.proofs.Words.{IsLibrary, Repair, files_of, latest, range_with_len, repair_in}
 use Rattle.ffs_lib.specs.Orders.{Makes, StopsAct, made_by, made_of}
 use Rattle.ffs_lib.specs.Reclaiming.{needs}
 use Rattle.ffs_lib.specs.RepairOrder.{reclaimed_parts, repair_parts, repaired_edits}

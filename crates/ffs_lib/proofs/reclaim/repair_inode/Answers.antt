@@ -1,7 +1,5 @@
 use Rattle.std.proofs.Common.{Ok, refl, subst, sym}
-use Rattle.ffs_model.specs.Cuts.{latest}
-use Rattle.ffs_lookup.specs.declared.repairs.Repair.{Repair}
-use Rattle.ffs_lookup.specs.declared.repairs.Repair.TheVariants.{GiveUp, SetLinks}
+use Rattle.ffs_lib.proofs.Words.{GiveUp, Repair, SetLinks, latest}
 use Rattle.ffs_lib.specs.Orders.{Orders}
 use Rattle.ffs_lib.specs.RepairOrder.{repaired_edits}
 use Rattle.ffs_lib.proofs.Orders.{order_err}

@@ -1,10 +1,5 @@
-use Rattle.std.proofs.Common.{◌≡◌, ◌-◌, ◌≤◌, ◌*◌, ◌∙◌, ℕ, List, [], ◌∷◌, None, ap, arith, inl, refl, subst, sym}
-use Rattle.std.specs.Int.{w16, to_le_bytes}
-use Rattle.xn_model.specs.Lists.{put}
-use Rattle.ffs_model.specs.Cuts.{latest}
-use Rattle.ffs_model.specs.Volumes.{KeepsNumber}
-use Rattle.ffs_model.specs.Library.{IsLibrary, inode_links, library_layout}
-use Rattle.ffs_lookup.specs.declared.repairs.Repair.TheVariants.{SetLinks}
+use Rattle.std.proofs.Common.{◌≡◌, ◌-◌, ◌≤◌, ◌*◌, ◌∙◌, ℕ, List, [], ◌∷◌, None, ap, arith, inl, refl, subst, sym, w16}
+use Rattle.ffs_lib.proofs.Words.{IsLibrary, KeepsNumber, SetLinks, inode_links, latest, library_layout, put, to_le_bytes}
 use Rattle.ffs_lookup.proofs.ForCallers.{same_ok}
 use Rattle.ffs_lib.specs.Edits.{edit_at}
 use Rattle.ffs_lib.specs.Orders.{Edits, Orders}

@@ -1,7 +1,5 @@
 use Rattle.std.proofs.Common.{◌≡◌, ◌∙◌, ℕ, inl}
-use Rattle.ffs_model.specs.Cuts.{latest}
-use Rattle.ffs_lookup.specs.Files.{empty_volume}
-use Rattle.ffs_lookup.specs.FileValues.{files_of}
+use Rattle.ffs_lib.proofs.Words.{empty_volume, files_of, latest}
 use Rattle.ffs_lib.specs.Making.{StopsFirst}
 use Rattle.ffs_lib.proofs.Laws.{fails}
 use Rattle.ffs_lib.proofs.Making.{attached}

@@ -1,9 +1,6 @@
-use Rattle.std.proofs.Common.{List, ℕ, length, ap, ◌∙◌, subst, Contains}
-use Rattle.std.specs.Int.{w16, to_le_bytes}
-use Rattle.xn_model.specs.Lists.{put}
-use Rattle.ffs_model.specs.Library.{inode_blocks, library_layout, zero_block}
+use Rattle.std.proofs.Common.{List, ℕ, length, ap, ◌∙◌, subst, Contains, w16}
+use Rattle.ffs_lib.proofs.Words.{Fields, inode_blocks, library_layout, put, to_le_bytes, zero_block}
 use Rattle.ffs_model.proofs.ForCallers.{one_inode}
-use Rattle.ffs_format.specs.Fields.{Fields}
 use Rattle.ffs_lib.proofs.Fields.{free_blocks, same_blocks}
 use Rattle.ffs_lib.proofs.setup.first_inodes.Goals as goal
 

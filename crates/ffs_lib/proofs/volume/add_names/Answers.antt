@@ -1,8 +1,5 @@
 use Rattle.std.proofs.Common.{◌≡◌, ℕ, ◌+◌, ◌++◌, ◌∙◌, List, [], ◌∷◌, ap, arith, map, refl, sym, append_assoc}
-use Rattle.std.specs.List.{range_with_len}
-use Rattle.std.proofs.lemmas.List.{map-append}
-use Rattle.std.proofs.lemmas.Result.{IfOk-from_err}
-use Rattle.ffs_lookup.specs.Newest.{names_at}
+use Rattle.ffs_lib.proofs.Words.{IfOk-from_err, map-append, names_at, range_with_len}
 use Rattle.ffs_lookup.proofs.ForCallers.{place_more, place_past}
 use Rattle.ffs_lib.proofs.volume.add_names.Goals as goal
 

@@ -1,6 +1,5 @@
 use Rattle.std.proofs.Common.{sym}
-use Rattle.std.proofs.lemmas.Result.{err_from_is_err_and}
-use Rattle.ffs_model.specs.Cuts.{latest}
+use Rattle.ffs_lib.proofs.Words.{err_from_is_err_and, latest}
 use Rattle.ffs_lib.proofs.Creating.{none_left, one_left, pointer_left}
 use Rattle.ffs_lib.proofs.volume.look_up_free.Goals as goal
 

@@ -1,12 +1,6 @@
 use Rattle.std.proofs.Common.{◌≡◌, ℕ, ◌+◌, ◌++◌, ◌∙◌, List, Ok, IsOk, ap, arith, inl, inr, is_ok, refl, sym}
-use Rattle.std.specs.List.{range_with_len}
-use Rattle.std.proofs.lemmas.Result.{err_from_is_err_and}
-use Rattle.ffs_model.specs.Cuts.{latest}
-use Rattle.ffs_model.specs.Library.{library_layout}
+use Rattle.ffs_lib.proofs.Words.{directory_in, err_from_is_err_and, files_of, latest, library_layout, listed, names_at, range_with_len}
 use Rattle.ffs_model.proofs.ForCallers.{library_reads, under_direct}
-use Rattle.ffs_lookup.specs.Newest.{directory_in, names_at}
-use Rattle.ffs_lookup.specs.Files.{listed}
-use Rattle.ffs_lookup.specs.FileValues.{files_of}
 use Rattle.ffs_lookup.proofs.ForCallers.{first_names, found_has, listed_told, names_are, names_more, names_past, no_names, not_ok}
 use Rattle.ffs_lib.proofs.volume.Volume.list.Goals as goal
 

@@ -1,9 +1,5 @@
 use Rattle.std.proofs.Common.{rules, ◌∙◌, ℕ, Option, Ok, Err, ap, refl, subst, sym}
-use Rattle.std.proofs.lemmas.Result.{err_from_is_err_and}
-use Rattle.ffs_model.specs.Library.{library_layout}
-use Rattle.ffs_model.specs.Volumes.{VolumeKeeps}
-use Rattle.ffs_lookup.specs.declared.fault.FfsFault.{FfsFault}
-use Rattle.ffs_lookup.specs.Newest.{mapped}
+use Rattle.ffs_lib.proofs.Words.{FfsFault, VolumeKeeps, err_from_is_err_and, library_layout, mapped}
 use Rattle.ffs_lib.proofs.Kept.{on_err}
 use Rattle.ffs_lib.proofs.Making.{no_numbers}
 use Rattle.ffs_lib.proofs.NewOrder.{make_stops}

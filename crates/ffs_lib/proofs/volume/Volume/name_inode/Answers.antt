@@ -1,8 +1,5 @@
 use Rattle.std.proofs.Common.{◌∙◌, ◌*◌, ◌-◌, ◌/◌, ℕ, [], Option, get_or, inl, inr, refl, rules, subst, sym}
-use Rattle.xn_model.specs.Calls.{propose_of}
-use Rattle.ffs_model.specs.Cuts.{latest}
-use Rattle.ffs_model.specs.Library.{library_layout}
-use Rattle.ffs_model.specs.Volumes.{VolumeKeeps}
+use Rattle.ffs_lib.proofs.Words.{VolumeKeeps, latest, library_layout, propose_of}
 use Rattle.ffs_lib.specs.Steps.{StopsNew}
 use Rattle.ffs_lib.specs.Edits.{edit_at}
 use Rattle.ffs_lib.proofs.Entering.{made_then}

@@ -1,10 +1,5 @@
 use Rattle.std.proofs.Common.{◌≡◌, ◌-◌, ◌∙◌, ℕ, Some, arith, refl, rules, subst, sym, MatchResult, Result, Ok, Err}
-use Rattle.ffs_model.specs.Cuts.{latest}
-use Rattle.ffs_model.specs.Library.{IsLibrary}
-use Rattle.ffs_lookup.specs.declared.fault.FfsFault.{FfsFault}
-use Rattle.ffs_lookup.specs.declared.places.Slot.{Slot}
-use Rattle.ffs_lookup.specs.Files.{moved, renamed}
-use Rattle.ffs_lookup.specs.FileValues.{files_of}
+use Rattle.ffs_lib.proofs.Words.{FfsFault, IsLibrary, Slot, files_of, is_name, latest, moved, rename_in, renamed}
 use Rattle.ffs_lookup.proofs.ForCallers.{first_value, renamed_told, same_ok}
 use Rattle.ffs_lib.specs.Orders.{InOrder, Orders, moved_parts, removed_edits}
 use Rattle.ffs_lib.specs.Results.{MovedInodes}
@@ -21,8 +16,6 @@ use Rattle.ffs_lib.proofs.Staged.{does_fault, does_found}
 use Rattle.ffs_lib.proofs.StagedMoves.{answer, naming_stage, rename_stages, stages, unnaming_stage}
 use Rattle.ffs_lib.proofs.ValueLists.{both_true}
 use Rattle.ffs_lib.proofs.ValueMoved.{moved_leads}
-use Rattle.ffs_format.specs.Entries.{is_name}
-use Rattle.ffs_lookup.specs.Newest.{rename_in}
 use Rattle.ffs_lib.proofs.volume.Volume.rename.Goals as goal
 
 pub returns-in_err-entered : goal.returns-in_err-entered

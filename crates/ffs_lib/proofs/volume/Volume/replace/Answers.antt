@@ -1,9 +1,6 @@
 use Rattle.std.proofs.Common.{◌≡◌, ◌∙◌, Ok, refl, rules, subst, sym, true, ◌==◌}
-use Rattle.ffs_model.specs.Cuts.{latest}
+use Rattle.ffs_lib.proofs.Words.{Slot, files_of, latest, replaced}
 use Rattle.ffs_lookup.proofs.ForCallers.{same_ok}
-use Rattle.ffs_lookup.specs.declared.places.Slot.{Slot}
-use Rattle.ffs_lookup.specs.Files.{replaced}
-use Rattle.ffs_lookup.specs.FileValues.{files_of}
 use Rattle.ffs_lib.specs.Orders.{InOrder, replaced_parts}
 use Rattle.ffs_lib.specs.Replacing.{NamesStand, Replaced, replace_in}
 use Rattle.ffs_lib.specs.Stages.{replaced_stages}

@@ -1,8 +1,6 @@
 use Rattle.std.proofs.Common.{None, Option, inl, refl, subst, IfSome}
-use Rattle.ffs_model.specs.Cuts.{latest}
+use Rattle.ffs_lib.proofs.Words.{IsFree, IsLowest, latest}
 use Rattle.ffs_lookup.specs.declared.places.Free.{Free}
-use Rattle.ffs_lookup.specs.Newest.{IsLowest}
-use Rattle.ffs_lookup.specs.Places.{IsFree}
 use Rattle.ffs_lib.specs.Volumes.{edits_of}
 use Rattle.ffs_lib.proofs.NewOrder.{adds_done, free_there}
 use Rattle.ffs_lib.proofs.volume.Volume.take_free.Goals as goal

@@ -1,10 +1,5 @@
-use Rattle.std.proofs.Common.{◌∙◌, ◌+◌, ap, length, refl, subst, sym, rules}
-use Rattle.std.proofs.lemmas.Bool.{eqb-false, eqb-true}
-use Rattle.std.proofs.lemmas.List.{nil_from_length}
-use Rattle.xn_model.specs.Lives.{StoreState}
-use Rattle.ffs_model.specs.Cuts.{latest}
-use Rattle.ffs_lookup.specs.Files.{written}
-use Rattle.ffs_lookup.specs.Newest.{file_end, mapped, write_in}
+use Rattle.std.proofs.Common.{◌∙◌, ◌+◌, ap, length, refl, subst, sym, rules, eqb-true}
+use Rattle.ffs_lib.proofs.Words.{StoreState, eqb-false, file_end, files_of, latest, mapped, nil_from_length, write_in, written}
 use Rattle.ffs_lookup.proofs.ForCallers.{written_told}
 use Rattle.ffs_lib.specs.Volumes.{edits_of}
 use Rattle.ffs_lib.specs.WriteOrder.{ShowsWhole, after_in}
@@ -16,7 +11,6 @@ use Rattle.ffs_lib.proofs.ValueWritten.{looked}
 use Rattle.ffs_lib.proofs.Waiting.{shows_same}
 use Rattle.ffs_lib.proofs.WrittenOrder.{none_reached, order_none, shown, size_order, stops_order}
 use Rattle.ffs_lib.proofs.volume.Volume.write.Goals as goal
-use Rattle.ffs_lookup.specs.FileValues.{files_of}
 use Rattle.ffs_lib.proofs.volume.Volume.write.Goals.{After-write_parts-progress}
 
 first : (g : _) (c : After-write_parts-progress g) →

@@ -1,9 +1,5 @@
-use Rattle.std.proofs.Common.{◌∙◌, ◌+◌, ◌<◌, ap, arith, length, refl, sym, rules}
-use Rattle.std.proofs.lemmas.Bool.{eqb-false, eqb-true}
-use Rattle.std.proofs.lemmas.List.{nil_from_length}
-use Rattle.ffs_model.specs.Cuts.{latest}
-use Rattle.ffs_lookup.specs.Files.{written}
-use Rattle.ffs_lookup.specs.Newest.{file_end, mapped, write_in}
+use Rattle.std.proofs.Common.{◌∙◌, ◌+◌, ◌<◌, ap, arith, length, refl, sym, rules, eqb-true}
+use Rattle.ffs_lib.proofs.Words.{eqb-false, file_end, files_of, latest, mapped, nil_from_length, write_in, written}
 use Rattle.ffs_lookup.proofs.ForCallers.{written_told}
 use Rattle.ffs_lib.specs.Volumes.{edits_of}
 use Rattle.ffs_lib.specs.WriteOrder.{ShowsWhole, after_in}
@@ -12,7 +8,6 @@ use Rattle.ffs_lib.proofs.StagedWritten.{Begun, begun, count_none, count_refused
 use Rattle.ffs_lib.proofs.ValueWritten.{looked}
 use Rattle.ffs_lib.proofs.WrittenOrder.{none_order, none_shows, refused_order, shown, some_order_none, taken_order, taken_place}
 use Rattle.ffs_lib.proofs.volume.Volume.write_some.Goals as goal
-use Rattle.ffs_lookup.specs.FileValues.{files_of}
 use Rattle.ffs_lib.proofs.volume.Volume.write_some.Goals.{After-write_parts-progress}
 
 pub overflow_add-size : goal.overflow_add-size

@@ -1,7 +1,5 @@
-use Rattle.std.proofs.Common.{sym, ◌==◌}
-use Rattle.std.proofs.lemmas.Bool.{and_parts, eqb-true}
-use Rattle.std.proofs.lemmas.Result.{err_from_is_err_and}
-use Rattle.ffs_model.specs.Library.{inode_mode}
+use Rattle.std.proofs.Common.{sym, ◌==◌, eqb-true}
+use Rattle.ffs_lib.proofs.Words.{and_parts, err_from_is_err_and, inode_mode}
 use Rattle.ffs_lib.proofs.Replacing.{both_are_found, no_home, no_target, one_is_file, one_is_no_name}
 use Rattle.ffs_lib.proofs.volume.replace.look_up_directories.Goals as goal
 
