@@ -5,7 +5,7 @@ pub use Rattle.std.proofs.Math.Seq.{drop-append-add, take-append-add, take-appen
 pub use Rattle.std.proofs.lemmas.Bool.{and_from, and_parts, cases_eq, cases_lt, eqb-false, false≢true, lt-leb, not-true, or_left, or_right}
 pub use Rattle.std.proofs.lemmas.Grind.{get_or-set_at}
 pub use Rattle.std.proofs.lemmas.List.{drop-append-le, drop-replicate, drop_all, get_or-append_right, get_or-replicate, get_or_append_left, get_or_default}
-pub use Rattle.std.proofs.lemmas.List.{length-map, length-replicate, map-append, nil_from_length, same_lists, take-append-le, take-replicate}
+pub use Rattle.std.proofs.lemmas.List.{length-replicate, map-append, nil_from_length, same_lists, take-append-le, take-replicate}
 pub use Rattle.std.proofs.lemmas.List.Elements.{Contains-append_left, Contains-append_right, Contains-push_cases, filter-append}
 pub use Rattle.std.proofs.lemmas.List.Folds.{find-append}
 pub use Rattle.std.proofs.lemmas.List.FromFn.{get_or-map-range_with_len, length-map-range_with_len}
