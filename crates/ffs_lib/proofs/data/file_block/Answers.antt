@@ -21,7 +21,6 @@ returns-in_err-read_block-clause-exact g c = λ lib.
 
 pub returns-clause-reached : goal.returns-clause-reached
 returns-clause-reached g c = λ lib there.
-    let few = c.requires.few in
     step {b = c.indirect-indirect.result} {t = 5} (pointers_reached _ lib _ c.args.fs.number c.args.number c.args.file.now c.requires.file.is _ (sym c.indirect-indirect.ensures) c.if-indirect-eq0.false)
     (data_owned _ lib (latest (g.S.Store.state_of c.args.store.now).lives _) (c.args.index - 12) c.pointer.result (omega arith)
     (ap (λ m. pointer_word m (c.args.index - 12)) c.in_ok-read_block.ensures.bytes ∙ sym c.pointer.ensures) there)

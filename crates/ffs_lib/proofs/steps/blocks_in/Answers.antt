@@ -19,6 +19,5 @@ loop-place-preserved c =
 
 pub returns : goal.returns
 returns c =
-    let h = c.loop-place-test.false in
     let end : c.loop-place.place ≡ 128 = let k = c.loop-place.auto.place-end in omega arith in
     c.loop-place.invariant ∙ ap (λ n. blocks_of (pointed (pointer_word c.args.bytes.now) n 2)) end

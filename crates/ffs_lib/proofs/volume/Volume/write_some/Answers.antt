@@ -1,4 +1,4 @@
-use Rattle.std.proofs.Common.{◌∙◌, ◌+◌, ◌<◌, ap, arith, length, refl, sym, rules, eqb-true}
+use Rattle.std.proofs.Common.{◌∙◌, ◌+◌, ◌<◌, ap, length, refl, sym, rules, eqb-true}
 use Rattle.ffs_lib.proofs.Words.{eqb-false, file_end, files_of, latest, mapped, nil_from_length, write_in, written}
 use Rattle.ffs_lookup.proofs.ForCallers.{written_told}
 use Rattle.ffs_lib.specs.Volumes.{edits_of}
@@ -9,12 +9,6 @@ use Rattle.ffs_lib.proofs.ValueWritten.{looked}
 use Rattle.ffs_lib.proofs.WrittenOrder.{none_order, none_shows, refused_order, shown, some_order_none, taken_order, taken_place}
 use Rattle.ffs_lib.proofs.volume.Volume.write_some.Goals as goal
 use Rattle.ffs_lib.proofs.volume.Volume.write_some.Goals.{After-write_parts-progress}
-
-pub overflow_add-size : goal.overflow_add-size
-overflow_add-size g c = let few = c.write_parts-progress.ensures.few in let low = c.in_ok-end.ensures.within in omega (arith, few, low)
-
-pub overflow_cast-size : goal.overflow_cast-size
-overflow_cast-size g c = let few = c.write_parts-progress.ensures.few in let low = c.in_ok-end.ensures.within in omega (arith, few, low)
 
 first : (g : _) (c : After-write_parts-progress g) →
     Begun (g.S.Store.types_of c.args.store.now) c.args.self.now.fs.number (edits_of c.args.self.now.added) (g.S.Store.state_of c.args.store.now) (g.S.Store.state_of c.write_parts-progress.new.store) c.args.inode c.in_ok-end.end c.args.offset c.args.bytes.now

@@ -1,5 +1,5 @@
-use Rattle.std.proofs.Common.{sym, ◌==◌, eqb-true}
-use Rattle.ffs_lib.proofs.Words.{and_parts, err_from_is_err_and, inode_mode}
+use Rattle.std.proofs.Common.{sym}
+use Rattle.ffs_lib.proofs.Words.{err_from_is_err_and}
 use Rattle.ffs_lib.proofs.Replacing.{both_are_found, no_home, no_target, one_is_file, one_is_no_name}
 use Rattle.ffs_lib.proofs.volume.replace.look_up_directories.Goals as goal
 
@@ -24,13 +24,3 @@ returns-then-not-are_names-clause-exact g c = λ lib.
 pub returns-clause-exact : goal.returns-clause-exact
 returns-clause-exact g c = λ lib.
     both_are_found _ c.args.fs.number c.args.directory c.args.name.now c.args.other c.args.other_name.now c.in_ok-from.from.inode (c.in_ok-from.ensures.exact lib) c.in_ok-to.to.inode (c.in_ok-to.ensures.exact lib) (sym c.if-not-are_directories.ensures) (sym c.if-not-are_names.ensures)
-
-pub returns-clause-first : goal.returns-clause-first
-returns-clause-first g c =
-    let modes = and_parts (inode_mode c.in_ok-from.from.inode == 2) (inode_mode c.in_ok-to.to.inode == 2) (sym c.if-not-are_directories.ensures) in
-    record { is = c.in_ok-from.ensures.found; directory = eqb-true (inode_mode c.in_ok-from.from.inode) 2 modes.0 }
-
-pub returns-clause-second : goal.returns-clause-second
-returns-clause-second g c =
-    let modes = and_parts (inode_mode c.in_ok-from.from.inode == 2) (inode_mode c.in_ok-to.to.inode == 2) (sym c.if-not-are_directories.ensures) in
-    record { is = c.in_ok-to.ensures.found; directory = eqb-true (inode_mode c.in_ok-to.to.inode) 2 modes.1 }
