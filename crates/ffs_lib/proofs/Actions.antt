@@ -1,20 +1,8 @@
 -- Which actions write into a file, by the newest bytes where they begin, and what they make.
-use Rattle.std.proofs.Common.{◌≡◌, ◌≢◌, ℕ, zero, suc, ◌+◌, ◌*◌, ◌/◌, ◌-◌, ◌%◌, ◌<◌, ◌≤◌, ◌⊎◌, Bool, true, false, List, [], ◌∷◌, length, take, drop, replicate, Option, Some, Result, Ok, refl, sym, ◌∙◌, ap, inl, inr, arith, subst, eq-eqb}
-use Rattle.std.specs.Prelude.{◌==◌, ◌||◌, ◌&&◌, not, nat_lt, if◌then◌else◌}
-use Rattle.std.specs.List.{list_all}
-use Rattle.std.proofs.lemmas.Bool.{and_parts, eqb-true, le-ltb, lt-ltb, ne_eqb}
-use Rattle.std.specs.Int.{w32, to_le_bytes}
-use Rattle.xn_model.specs.Lists.{put}
-use Rattle.xn_model.specs.Types.{Types}
-use Rattle.xn_model.specs.Root.{word_at}
-use Rattle.xn_model.specs.Lives.{StoreState}
-use Rattle.xn_model.specs.Results.{result_and_then}
-use Rattle.xn_model.specs.Calls.{Edit, init_of, propose_of}
-use Rattle.ffs_model.specs.Library.{zero_block}
+use Rattle.std.proofs.Common.{◌≡◌, ◌≢◌, ℕ, zero, suc, ◌+◌, ◌*◌, ◌/◌, ◌-◌, ◌%◌, ◌<◌, ◌≤◌, ◌⊎◌, Bool, true, false, List, [], ◌∷◌, length, take, drop, replicate, Option, Some, Result, Ok, refl, sym, ◌∙◌, ap, inl, inr, arith, subst, eq-eqb, ◌==◌, ◌||◌, ◌&&◌, not, nat_lt, if◌then◌else◌, eqb-true, le-ltb, lt-ltb, ne_eqb, w32}
+use Rattle.ffs_lib.proofs.Words.{Edit, FfsFault, StoreState, Types, and_parts, file_block, file_in, init_of, inode_block_in, latest, list_all, propose_of, put}
+use Rattle.ffs_lib.proofs.Words.{result_and_then, to_le_bytes, word_at, zero_block}
 use Rattle.ffs_model.proofs.ForCallers.{begun_next, one_later, proposed_next}
-use Rattle.ffs_model.specs.Cuts.{latest}
-use Rattle.ffs_lookup.specs.declared.fault.FfsFault.{FfsFault}
-use Rattle.ffs_lookup.specs.Newest.{file_block, file_in, inode_block_in}
 use Rattle.ffs_lookup.proofs.ForCallers.{block_again}
 use Rattle.ffs_lib.specs.Edits.{edit_at}
 use Rattle.ffs_lib.specs.Orders.{Action, Acts, Attaches, Makes, act_of, made_by, made_of}
@@ -22,6 +10,7 @@ use Rattle.ffs_lib.specs.Steps.{Proposed}
 use Rattle.ffs_lib.specs.WriteOrder.{adds_direct, at_file, home_action, data_action, data_in, data_parts, direct_edit, has_direct_hole, indirect_edit, last_after, new_pointers, pointed_edit, pointers_action, raised, size_action, size_edit, zeros_action, zeros_in, zeros_parts}
 use Rattle.ffs_lib.specs.Writes.{ActedBy, LastGiven, Puts, PutsParts}
 use Rattle.ffs_lib.specs.declared.data.Last.{Last}
+use Rattle.ffs_lib.proofs.Tests.{true_false}
 use Rattle.ffs_lib.proofs.Orders.{number_is, one_order}
 use Rattle.ffs_lib.proofs.Owners.{stands_from, where_block}
 use Rattle.ffs_lib.proofs.Waiting.{waits_same}
@@ -42,8 +31,7 @@ pub attach_acted : (T : Types) (fs ty : ℕ) (bytes : List ℕ) (home : ℕ) (ed
 attach_acted T fs ty bytes home edit block number old first new begun entry done =
     let x = edit_acted T fs home (edit block) first new entry done in
     let later = one_later first.next old.next (begun_next T old first fs ty bytes (block, number) begun) in
-    let from = x.2 in
-    (ap (result_and_then (λ b. made_of T fs ((home, edit b.0.0) ∷ []) b.1)) begun ∙ x.0, x.1, omega (arith, later, from))
+    (ap (result_and_then (λ b. made_of T fs ((home, edit b.0.0) ∷ []) b.1)) begun ∙ x.0, x.1, omega (arith, later, x.2))
 
 -- Of a file
 
@@ -206,11 +194,8 @@ zeros_all m count e = ap (list_all (λ byte. byte == 0)) e ∙ all count
 pub zeros_not : (u m : List ℕ) (at count k : ℕ) → u ≡ m → k ≡ count → {t : Bool} → (take k (drop at m) ≡ replicate (length (take k (drop at m))) 0 → t ≡ true) → t ≡ false → list_all (λ byte. byte == 0) (take count (drop at u)) ≡ false
 zeros_not u m at count k e same {t} zeros bad = go (list_all (λ byte. byte == 0) (take count (drop at u))) refl
   where
-    never : t ≡ true → t ≡ false → ⊥
-    never a b = cc
-
     go : (all : Bool) → list_all (λ byte. byte == 0) (take count (drop at u)) ≡ all → all ≡ false
     go false z = refl
     go true z =
         let here : take count (drop at u) ≡ take k (drop at m) = ap (λ (x : List ℕ). take count (drop at x)) e ∙ ap (λ j. take j (drop at m)) (sym same) in
-        absurd (never (zeros (subst (λ (x : List ℕ). x ≡ replicate (length x) 0) here (all_zero (take count (drop at u)) z))) bad)
+        absurd (true_false t (zeros (subst (λ (x : List ℕ). x ≡ replicate (length x) 0) here (all_zero (take count (drop at u)) z))) bad)

@@ -1,13 +1,8 @@
 -- An entry that stands where none stood.
-use Rattle.std.proofs.Common.{◌≡◌, ℕ, ◌*◌, Bool, true, false, ◌&&◌, List, [], ◌∷◌, ◌++◌, Some, None, refl, sym, ◌∙◌, ap, inl, inr, eq-eqb}
-use Rattle.std.specs.Prelude.{Contains, ◌==◌, ◌||◌, filter_map, flat_map, if◌then◌else◌}
-use Rattle.std.specs.List.{cons_option, list_any, range_with_len}
-use Rattle.std.proofs.lemmas.Bool.{cases_eq, ne_eqb}
+use Rattle.std.proofs.Common.{◌≡◌, ℕ, ◌*◌, Bool, true, false, ◌&&◌, List, [], ◌∷◌, ◌++◌, Some, None, refl, sym, ◌∙◌, ap, inl, inr, eq-eqb, Contains, ◌==◌, ◌||◌, filter_map, flat_map, if◌then◌else◌, ne_eqb}
+use Rattle.ffs_lib.proofs.Words.{Slot, cases_eq, cons_option, half_at, inode_blocks, is_at, list_any, listing, name_in, range_with_len}
 use Rattle.xn_model.proofs.ForCallers.{Contains-head, Contains-tail}
-use Rattle.ffs_format.specs.Entries.{name_in}
-use Rattle.ffs_model.specs.Library.{half_at, inode_blocks}
-use Rattle.ffs_lookup.specs.declared.places.Slot.{Slot}
-use Rattle.ffs_lookup.specs.Newest.{is_at, listing}
+use Rattle.ffs_lib.proofs.Tests.{and_false}
 use Rattle.ffs_lib.proofs.Frames.{listed_at, listed_blocks, listed_in}
 
 any_both : {A : Type 0} (p : A → Bool) (xs ys : List A) → list_any p xs ≡ false → list_any p ys ≡ false → list_any p (xs ++ ys) ≡ false
@@ -18,17 +13,13 @@ any_both p (x ∷ xs) ys e f = go (p x) e (any_both p xs ys)
     go true g rest = absurd (cc g)
     go false g rest = rest g f
 
-false_second : (t : Bool) → t && false ≡ false
-false_second true = refl
-false_second false = refl
-
 -- two places
 pub are_apart : (entry other : Slot) → (other.block ≡ entry.block → other.place ≡ entry.place → ⊥) → is_at entry other ≡ false
 are_apart entry other ne = elim (cases_eq other.block entry.block) [
   | inr apart ↦ ap (λ t. t && (other.place == entry.place)) (ne_eqb other.block entry.block apart)
   | inl e ↦ elim (cases_eq other.place entry.place) [
     | inl f ↦ absurd (ne e f)
-    | inr apart ↦ ap (λ t. (other.block == entry.block) && t) (ne_eqb other.place entry.place apart) ∙ false_second (other.block == entry.block)
+    | inr apart ↦ ap (λ t. (other.block == entry.block) && t) (ne_eqb other.place entry.place apart) ∙ and_false (other.block == entry.block)
   ]
 ]
 

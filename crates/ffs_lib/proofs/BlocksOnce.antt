@@ -1,11 +1,6 @@
 -- Directories and their blocks.
 use Rattle.std.proofs.Common.{ℕ, ◌<◌, sym, ◌∙◌, arith}
-use Rattle.xn_model.specs.Types.{Types}
-use Rattle.xn_model.specs.Lives.{StoreState}
-use Rattle.xn_model.specs.Rules.{IsConsistent}
-use Rattle.ffs_model.specs.Cuts.{latest}
-use Rattle.ffs_model.specs.Library.{IsLibrary}
-use Rattle.ffs_lookup.specs.FileValues.{AreBlocksOnce}
+use Rattle.ffs_lib.proofs.Words.{AreBlocksOnce, IsConsistent, IsLibrary, StoreState, Types, latest}
 use Rattle.ffs_lib.proofs.Entering.{directory_from}
 use Rattle.ffs_lib.proofs.Owners.{direct_block, stands_from, two_blocks}
 

@@ -1,34 +1,19 @@
 -- What the edits leave by which bytes of a file are written: one law for each kind.
-use Rattle.std.proofs.Common.{◌≡◌, ◌≢◌, ℕ, ◌+◌, ◌-◌, ◌*◌, ◌/◌, ◌%◌, ◌^◌, ◌<◌, ◌≤◌, false, List, [], ◌∷◌, length, drop, replicate, take, Option, Some, Ok, Err, Result, refl, sym, ◌∙◌, ap, arith, subst, inl, inr}
-use Rattle.std.specs.Prelude.{Contains, IsTrue, slice_set, ◌==◌}
-use Rattle.std.specs.Int.{w32, to_le_bytes}
-use Rattle.std.specs.List.{list_all}
-use Rattle.std.proofs.lemmas.List.{length-replicate, take-replicate}
-use Rattle.std.proofs.lemmas.Option.{none-some}
-use Rattle.xn_model.specs.Types.{Types}
-use Rattle.xn_model.specs.Lists.{put}
-use Rattle.xn_model.specs.Root.{word_at}
-use Rattle.xn_model.specs.Lives.{StoreState, life_at}
-use Rattle.xn_model.specs.Results.{result_and_then}
-use Rattle.xn_model.specs.Calls.{Edit, forget_of, init_of, propose_of, was_given}
+use Rattle.std.proofs.Common.{◌≡◌, ◌≢◌, ℕ, ◌+◌, ◌-◌, ◌*◌, ◌/◌, ◌%◌, ◌^◌, ◌<◌, ◌≤◌, false, List, [], ◌∷◌, ◌++◌, length, drop, replicate, take, Option, Some, Ok, Err, Result, refl, sym, ◌∙◌, ap, arith, subst, inl, inr, Contains, IsTrue, slice_set, ◌==◌, w32}
+use Rattle.ffs_lib.proofs.Words.{Edit, FfsFault, Fields, Found, IsFile, StoreState, Types, Under, byte_of, direct_in, fields_of, file_block, file_in, forget_of}
+use Rattle.ffs_lib.proofs.Words.{init_of, inode_block_in, inode_blocks, inode_links, inode_mode, latest, length-replicate, library_layout, life_at, list_all}
+use Rattle.ffs_lib.proofs.Words.{mapped, none-some, pointer_word, propose_of, put, result_and_then, take-replicate, to_le_bytes, was_given, word_at, zero_block}
 use Rattle.xn_model.proofs.ForCallers.{Contains-head}
-use Rattle.ffs_model.specs.Cuts.{Under, latest}
-use Rattle.ffs_model.specs.Library.{inode_blocks, inode_links, inode_mode, library_layout, pointer_word, zero_block}
-use Rattle.ffs_model.proofs.ForCallers.{begun_next, data_short, given_later, latest_reached, library_reads, one_later, pointer_set_short, proposed_given, proposed_next, proposed_others, started, started_here, started_keeps, under_inodes, zero_word}
-use Rattle.ffs_format.specs.Fields.{Fields, direct_in, fields_of}
-use Rattle.ffs_lookup.specs.declared.fault.FfsFault.{FfsFault}
-use Rattle.ffs_lookup.specs.declared.places.Found.{Found}
-use Rattle.ffs_lookup.specs.Newest.{byte_of, file_block, file_in, inode_block_in, mapped}
-use Rattle.ffs_lookup.specs.Places.{IsFile}
+use Rattle.ffs_model.proofs.ForCallers.{begun_next, data_short, given_later, later_then, latest_reached, library_reads, one_later, pointer_set_short, proposed_given, proposed_next, proposed_others, started, started_here, started_keeps, under_inodes, zero_word}
 use Rattle.ffs_lookup.proofs.ForCallers.{found_has, same_ok}
 use Rattle.ffs_lib.specs.Edits.{edit_at}
 use Rattle.ffs_lib.specs.Outcomes.{HasBlock, IsRaised}
-use Rattle.ffs_lib.specs.Results.{OnlyChanges, SameInode, WroteBytes}
+use Rattle.ffs_lib.specs.Results.{OnlyChanges, SameInode, WroteBytes, byte_written}
 use Rattle.ffs_lib.specs.Orders.{Action, Attaches, Makes, act_of, made_by}
 use Rattle.ffs_lib.specs.Orders as orders
 use Rattle.ffs_lib.specs.Steps.{Attached, Ends, IsHome, Proposed, ShortEdit, Stage, Tells, left_by, skipped}
 use Rattle.ffs_lib.specs.WriteOrder.{TellsAct, data_action, data_parts, zeros_parts, direct_edit, indirect_edit, pointed_edit, pointers_action}
-use Rattle.ffs_lib.specs.Writes.{ActedBy, PointsTo, Puts, PutsBy, PutsParts, IsFrom, RefusesPart, StopsAction, WaitsAfter, WaitsOn}
+use Rattle.ffs_lib.specs.Writes.{ActedBy, EndsPart, PointsTo, Puts, PutsBy, IsFrom, RefusesPart, StopsAction, WaitsAfter, WaitsOn}
 use Rattle.ffs_lib.specs.declared.data.Last.{Last}
 use Rattle.ffs_lib.proofs.Actions.{act_is, attach_acted, data_made, direct_is, edit_acted, has_pointers, last_there, pointed_is, pointers_is, pointers_none, there_is, zeros_by}
 use Rattle.ffs_lib.proofs.DataShort.{direct_refused, pointers_refused, size_refused}
@@ -40,7 +25,7 @@ use Rattle.ffs_lib.proofs.Same.{Touches, begun, begun_some, block_same, edited, 
 use Rattle.ffs_lib.proofs.Short.{begun_addable}
 use Rattle.ffs_lib.proofs.Undoing.{at_ok, forgotten_is, told_lives, undone_same}
 use Rattle.ffs_lib.proofs.Waiting.{attach_waits, begun_newer, home_waits, lives_wait, put_newer, put_waits, waits_same, waits_then}
-use Rattle.ffs_lib.proofs.Writing.{block_written, data_attached, data_written, direct_attached, file_from, file_now, file_others, file_same, indirect_block, pointers_attached, size_raised, wrote_none, written_none, written_same}
+use Rattle.ffs_lib.proofs.Writing.{block_written, data_attached, data_written, direct_attached, file_from, file_now, file_others, file_same, indirect_block, pointers_attached, size_raised, wrote_none, written_none, written_on, written_same}
 
 -- Bytes that stay, and one write after another
 
@@ -67,41 +52,34 @@ puts_none state fs n start = record {
   later = omega arith;
 }
 
-pub later_on : (a b c : ℕ) → a ≤ b → b ≤ c → a ≤ c
-later_on a b c e f = omega (arith, e, f)
-
--- after some bytes, nothing; after nothing, some
-pub puts_still : (old first second : StoreState) (fs n start : ℕ) (bytes : List ℕ) → Puts old first fs n start bytes → Puts first second fs n 0 [] → Puts old second fs n start bytes
-puts_still old first second fs n start bytes a b = record {
+-- some bytes, and then others
+pub puts_then : (old first second : StoreState) (fs n a b start : ℕ) (xs ys bytes : List ℕ) → ((f g : ℕ → ℕ) (at : ℕ) → g at ≡ byte_written f a xs at → byte_written g b ys at ≡ byte_written f start bytes at) →
+    Puts old first fs n a xs → Puts first second fs n b ys → Puts old second fs n start bytes
+puts_then old first second fs n a b start xs ys bytes both p q = record {
   wrote = λ inode is.
-      let x = a.wrote inode is in
-      let y = b.wrote x.after x.file in
+      let x = p.wrote inode is in
+      let y = q.wrote x.after x.file in
       record {
         after = y.after;
         file = y.file;
         size = y.size ∙ x.size;
         marks = (y.marks.0 ∙ x.marks.0, y.marks.1 ∙ x.marks.1);
-        each = λ at low. y.each at low ∙ (sym (written_none (byte_of (latest first.lives) x.after) 0 at) ∙ x.each at low);
+        each = λ at low. y.each at low ∙ both (byte_of (latest old.lives) inode) (byte_of (latest first.lives) x.after) at (x.each at low);
       };
-  others = λ d ne. same_on (latest old.lives) (latest first.lives) (latest second.lives) fs d (a.others d ne) (b.others d ne);
-  later = later_on old.next first.next second.next a.later b.later;
+  others = λ d ne. same_on (latest old.lives) (latest first.lives) (latest second.lives) fs d (p.others d ne) (q.others d ne);
+  later = later_then old.next first.next second.next p.later q.later;
 }
+
+-- after some bytes, nothing; after nothing, some; one part after another
+pub puts_still : (old first second : StoreState) (fs n start : ℕ) (bytes : List ℕ) → Puts old first fs n start bytes → Puts first second fs n 0 [] → Puts old second fs n start bytes
+puts_still old first second fs n start bytes = puts_then old first second fs n start 0 start bytes [] bytes (λ f g at e. sym (written_none g 0 at) ∙ e)
 
 pub puts_after : (old first second : StoreState) (fs n start : ℕ) (bytes : List ℕ) → Puts old first fs n 0 [] → Puts first second fs n start bytes → Puts old second fs n start bytes
-puts_after old first second fs n start bytes a b = record {
-  wrote = λ inode is.
-      let x = a.wrote inode is in
-      let y = b.wrote x.after x.file in
-      record {
-        after = y.after;
-        file = y.file;
-        size = y.size ∙ x.size;
-        marks = (y.marks.0 ∙ x.marks.0, y.marks.1 ∙ x.marks.1);
-        each = λ at low. y.each at low ∙ written_same (byte_of (latest first.lives) x.after) (byte_of (latest old.lives) inode) start bytes at (x.each at low ∙ sym (written_none (byte_of (latest old.lives) inode) 0 at));
-      };
-  others = λ d ne. same_on (latest old.lives) (latest first.lives) (latest second.lives) fs d (a.others d ne) (b.others d ne);
-  later = later_on old.next first.next second.next a.later b.later;
-}
+puts_after old first second fs n start bytes = puts_then old first second fs n 0 start start [] bytes bytes (λ f g at e. written_same g f start bytes at (e ∙ sym (written_none f 0 at)))
+
+pub puts_on : (u v w : StoreState) (fs n start : ℕ) (bs cs : List ℕ) → Puts u v fs n start bs → Puts v w fs n (start + length bs) cs → Puts u w fs n start (bs ++ cs)
+puts_on u v w fs n start bs cs =
+    puts_then u v w fs n start (start + length bs) start bs cs (bs ++ cs) (λ f g at e. written_on f g (byte_written g (start + length bs) cs) start bs cs at e refl)
 
 -- an action that was refused after that
 pub stops_after : (T : Types) (fs : ℕ) (first : StoreState → Action) (rest : orders.Parts) (old middle new : StoreState) (n : ℕ) (last : Last) (fault : FfsFault) → Puts old middle fs n 0 [] → WaitsOn fs n old middle last last → act_of T fs (first old) old ≡ Ok middle →
@@ -133,17 +111,15 @@ module _ (T : Types) (fs : ℕ) (array : ℕ → Option ℕ) (old : StoreState) 
 
   pub puts : (new : StoreState) (entry : ℕ) → propose_of T old fs block (edit_at at bytes [] [] after) ≡ Ok (entry, new) → Stage T fs array new × PutsBy old new fs n (512 * index + at) bytes entry
   puts new entry done =
-      let h = s.keeps.consistent in
       let edit = edit_at at bytes [] [] after in
-      let r = data_written T s.library old new h fs s.few n found.inode is index block at bytes low points there long fit after entry done in (
+      let r = data_written T s.library old new s.keeps.consistent fs s.few n found.inode is index block at bytes low points there long fit after entry done in (
         record {
           library = s.library;
           few = s.few;
           keeps = elim (where_block (latest old.lives) found.inode index block points there) [
             | inl k ↦ file_data T s.library fs s.few array old new s.keeps n block entry found edit file (found_has old fs n found file.is index block k.0 k.1 there) done
             | inr k ↦
-                let ge = k.0 in
-                pointed_data T s.library fs s.few array old new s.keeps (word_at found.inode 56) (index - 12) block entry edit (pointers_reached T s.library old fs n found file.is (word_at found.inode 56) refl k.1) (omega (arith, ge, low)) k.2 there done
+                pointed_data T s.library fs s.few array old new s.keeps (word_at found.inode 56) (index - 12) block entry edit (pointers_reached T s.library old fs n found file.is (word_at found.inode 56) refl k.1) (omega (arith, k.0, low)) k.2 there done
           ];
         },
         (
@@ -152,7 +128,7 @@ module _ (T : Types) (fs : ℕ) (array : ℕ → Option ℕ) (old : StoreState) 
             others = r.1;
             later = one_later new.next old.next (proposed_next T old new fs block edit entry done);
           },
-          proposed_given T old new h fs block edit entry done,
+          proposed_given T old new s.keeps.consistent fs block edit entry done,
         ),
       )
 
@@ -179,16 +155,14 @@ module _ (T : Types) (fs : ℕ) (array : ℕ → Option ℕ) (old : StoreState) 
   -- the parts of a write that come to this edit
   there_parts : (parts : orders.Parts) (last : Last) → last.edit ≡ after → 0 < length bytes → IsTrue (was_given old after) → ((new : StoreState) → act_of T fs (Makes ((block, edit_at at bytes [] [] after) ∷ [])) old ≡ Ok new → made_by T fs parts old ≡ Ok new) →
       ((new : StoreState) (fault : FfsFault) → StopsAction T fs (Makes ((block, edit_at at bytes [] [] after) ∷ [])) old new n fault → RefusesPart T fs parts old new n last fault) → (new : StoreState) (result : Result ℕ FfsFault) →
-      Proposed T fs block (edit_at at bytes [] [] after) old new result → Ends T fs array new (mapped both result) (PutsParts T fs parts old new n index at bytes last) (RefusesPart T fs parts old new n last)
+      Proposed T fs block (edit_at at bytes [] [] after) old new result → EndsPart T fs array parts old new n index at bytes last (mapped both result)
   there_parts parts last comes some given made stops new (Ok entry) p =
       let x = there_ends some given new (Ok entry) p in
-      let put = x.1.0.0 in
-      let a = x.1.1 in
-      (x.0, record { puts = put.0; given = (put.1, put.1); made = made new a.0; last_is = last_there (latest old.lives) fs n found.inode index block is points there old.next new.next entry last a.1 a.2; waits = x.1.0.1 last comes })
+      (x.0, record { puts = x.1.0.0.0; given = (x.1.0.0.1, x.1.0.0.1); made = made new x.1.1.0; last_is = last_there (latest old.lives) fs n found.inode index block is points there old.next new.next entry last x.1.1.1 x.1.1.2; waits = x.1.0.1 last comes })
   there_parts parts last comes some given made stops new (Err fault) p = let x = there_ends some given new (Err fault) p in (x.0, (x.1.0, stops new fault x.1.1))
 
   pub there_data : (last : Last) → last.edit ≡ after → 0 < length bytes → IsTrue (was_given old after) → (new : StoreState) (result : Result ℕ FfsFault) → Proposed T fs block (edit_at at bytes [] [] after) old new result →
-      Ends T fs array new (mapped both result) (PutsParts T fs (data_parts fs n index at bytes after) old new n index at bytes last) (RefusesPart T fs (data_parts fs n index at bytes after) old new n last)
+      EndsPart T fs array (data_parts fs n index at bytes after) old new n index at bytes last (mapped both result)
   there_data last comes some given =
       let none = ap (λ (a : Action). act_of T fs a old) (sym (pointers_none (latest old.lives) fs n found.inode index after is (has_pointers (latest old.lives) found.inode index block points there))) in
       let real = there_is (latest old.lives) fs n found.inode index block at bytes after is points there in
@@ -199,7 +173,7 @@ module _ (T : Types) (fs : ℕ) (array : ℕ → Option ℕ) (old : StoreState) 
 pub there_zeros : (T : Types) (fs : ℕ) (array : ℕ → Option ℕ) (old : StoreState) → Stage T fs array old → (n : ℕ) (found : Found) → IsFile old fs n found → Ok found.inode ≡ file_in (latest old.lives) fs n → (index block at count : ℕ) → index < 140 →
     file_block (latest old.lives) found.inode index ≡ block → block ≢ 0 → length (latest old.lives block) ≡ 512 → at + count ≤ 512 → 0 < count → list_all (λ byte. byte == 0) (take count (drop at (latest old.lives block))) ≡ false → (last : Last) → IsTrue (was_given old last.edit) →
     (new : StoreState) (result : Result ℕ FfsFault) → Proposed T fs block (edit_at at (take count (replicate 512 0)) [] [] last.edit) old new result →
-    Ends T fs array new (mapped both result) (PutsParts T fs (zeros_parts fs n index at count last.edit) old new n index at (replicate count 0) last) (RefusesPart T fs (zeros_parts fs n index at count last.edit) old new n last)
+    EndsPart T fs array (zeros_parts fs n index at count last.edit) old new n index at (replicate count 0) last (mapped both result)
 there_zeros T fs array old s n found file is index block at count low points there long within some other last given new result put =
     let size : length {A = ℕ} (replicate count 0) ≡ count = length-replicate {A = ℕ} count 0 in
     let real = zeros_by (latest old.lives) fs n found.inode index at count block last.edit is points there false other in
@@ -281,10 +255,10 @@ module _ (T : Types) (fs : ℕ) (array : ℕ → Option ℕ) (zeroth first : Sto
 
     newer_second : (from b : ℕ) → from ≤ zeroth.next → IsFrom from zeroth.lives b → IsFrom from second.lives b
     newer_second from b low older =
-        put_newer T first second begun_stage.keeps.consistent fs c edit entry put_done from b (later_on from zeroth.next first.next low begun_later) (begun_newer T zeroth first s.keeps.consistent fs ty bytes block number done from b low older)
+        put_newer T first second begun_stage.keeps.consistent fs c edit entry put_done from b (later_then from zeroth.next first.next low begun_later) (begun_newer T zeroth first s.keeps.consistent fs ty bytes block number done from b low older)
 
     later_second : zeroth.next ≤ second.next
-    later_second = later_on zeroth.next first.next second.next begun_later (one_later second.next first.next (proposed_next T first second fs c edit entry put_done))
+    later_second = later_then zeroth.next first.next second.next begun_later (one_later second.next first.next (proposed_next T first second fs c edit entry put_done))
 
     pub attach_waits_on : WaitsAfter fs n zeroth second edit.after (λ last. record { edit = Some entry; size = Some entry })
     attach_waits_on last same = record {
@@ -341,7 +315,7 @@ module _ (T : Types) (fs : ℕ) (array : ℕ → Option ℕ) (zeroth first : Sto
             record {
               wrote = λ other i. subst (λ (x : List ℕ). WroteBytes (latest zeroth.lives) (latest second.lives) fs n x (512 * index + at) bytes) (same_ok inode other (is ∙ sym i)) wrote;
               others = λ d ne. same_on (latest zeroth.lives) (latest first.lives) (latest second.lives) fs d (begun_all T fs array zeroth first s n inode is 2 (put zero_block at bytes) block number done d) (g.others d ne);
-              later = later_on zeroth.next first.next second.next (begun_later T fs array zeroth first s n inode is 2 (put zero_block at bytes) block number done) (one_later second.next first.next (proposed_next T first second fs found.block edit entry put_done));
+              later = later_then zeroth.next first.next second.next (begun_later T fs array zeroth first s n inode is 2 (put zero_block at bytes) block number done) (one_later second.next first.next (proposed_next T first second fs found.block edit entry put_done));
             },
             proposed_given T first second h1 fs found.block edit entry put_done,
           ),
@@ -405,7 +379,7 @@ module _ (T : Types) (fs : ℕ) (array : ℕ → Option ℕ) (zeroth first : Sto
             record {
               wrote = λ other i. subst (λ (x : List ℕ). WroteBytes (latest zeroth.lives) (latest second.lives) fs n x (512 * (12 + place) + at) bytes) (same_ok inode other (is ∙ sym i)) wrote;
               others = λ d ne. same_on (latest zeroth.lives) (latest first.lives) (latest second.lives) fs d (begun_all T fs array zeroth first s n inode is 2 (put zero_block at bytes) block number done d) (g.others d ne);
-              later = later_on zeroth.next first.next second.next (begun_later T fs array zeroth first s n inode is 2 (put zero_block at bytes) block number done) (one_later second.next first.next (proposed_next T first second fs last edit entry put_done));
+              later = later_then zeroth.next first.next second.next (begun_later T fs array zeroth first s n inode is 2 (put zero_block at bytes) block number done) (one_later second.next first.next (proposed_next T first second fs last edit entry put_done));
             },
             proposed_given T first second h1 fs last edit entry put_done,
           ),

@@ -1,18 +1,8 @@
 -- The edits of a file's bytes are refused for want of something alone, and their numbers were given.
-use Rattle.std.proofs.Common.{◌≡◌, ℕ, ◌+◌, ◌*◌, ◌<◌, ◌≤◌, List, [], ◌∷◌, length, get_or, Option, sym, ◌∙◌, ap, arith, subst}
-use Rattle.std.specs.Prelude.{IsTrue, slice_set}
-use Rattle.std.proofs.lemmas.List.{length-replicate}
-use Rattle.xn_model.specs.Types.{Types}
-use Rattle.xn_model.specs.Lists.{put}
-use Rattle.xn_model.specs.Root.{word_at}
-use Rattle.xn_model.specs.Lives.{StoreState}
-use Rattle.xn_model.specs.Calls.{may_add}
+use Rattle.std.proofs.Common.{◌≡◌, ℕ, ◌+◌, ◌*◌, ◌<◌, ◌≤◌, List, [], ◌∷◌, length, get_or, Option, sym, ◌∙◌, ap, arith, subst, IsTrue, slice_set}
+use Rattle.ffs_lib.proofs.Words.{Found, IsFile, StoreState, Types, direct_in, fields_of, inode_pairs, length-replicate, may_add, put, word_at, zero_block}
 use Rattle.xn_model.proofs.ForCallers.{addable, length_put}
-use Rattle.ffs_model.specs.Library.{inode_pairs, zero_block}
 use Rattle.ffs_model.proofs.ForCallers.{Replaces, indirect_set}
-use Rattle.ffs_format.specs.Fields.{direct_in, fields_of}
-use Rattle.ffs_lookup.specs.declared.places.Found.{Found}
-use Rattle.ffs_lookup.specs.Places.{IsFile}
 use Rattle.ffs_lib.specs.Edits.{edit_at}
 use Rattle.ffs_lib.specs.Outcomes.{CanEdit}
 use Rattle.ffs_lib.proofs.Fields.{direct_get}

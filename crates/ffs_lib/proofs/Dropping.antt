@@ -1,11 +1,6 @@
 -- The blocks that are dropped, listed word by word.
-use Rattle.std.proofs.Common.{◌≡◌, ◌≢◌, ℕ, zero, suc, ◌+◌, ◌*◌, length, List, [], ◌∷◌, ◌++◌, Option, Some, None, refl, ◌∙◌, ap, arith}
-use Rattle.std.specs.Prelude.{filter_map, option_to_list}
-use Rattle.std.specs.List.{range_with_len, cons_option}
-use Rattle.std.proofs.lemmas.List.{append-nil, drop_all, length-append, map-append}
-use Rattle.xn_model.specs.Types.{Types}
-use Rattle.xn_model.specs.Lists.{blocks_of, put}
-use Rattle.xn_model.specs.Root.{unless_empty}
+use Rattle.std.proofs.Common.{◌≡◌, ◌≢◌, ℕ, zero, suc, ◌+◌, ◌*◌, length, List, [], ◌∷◌, ◌++◌, Option, Some, None, refl, ◌∙◌, ap, arith, filter_map, option_to_list, append-nil, length-append}
+use Rattle.ffs_lib.proofs.Words.{Types, blocks_of, cons_option, drop_all, map-append, put, range_with_len, unless_empty}
 use Rattle.ffs_model.specs.Library.{IsLibrary, pointed, pointer_word, zero_block}
 use Rattle.ffs_model.proofs.ForCallers.{is_not_empty, pointed_none, word_within, zero_word}
 

@@ -1,24 +1,12 @@
 -- What each edit of a volume leaves.
-use Rattle.std.proofs.Common.{◌≡◌, ℕ, suc, ◌+◌, ◌*◌, ◌^◌, ◌<◌, ◌≢◌, ◌⊎◌, List, [], ◌∷◌, length, Option, Some, None, Ok, refl, sym, ◌∙◌, ap, inr, arith, subst, replicate, eq-eqb}
-use Rattle.std.specs.Prelude.{Contains, if◌then◌else◌}
-use Rattle.std.specs.Int.{w32, to_le_bytes}
-use Rattle.std.proofs.lemmas.Bool.{ne_eqb}
-use Rattle.xn_model.specs.Types.{Types}
-use Rattle.xn_model.specs.Root.{word_at}
-use Rattle.xn_model.specs.Lives.{StoreState}
-use Rattle.xn_model.specs.Calls.{Edit, propose_of}
-use Rattle.ffs_model.specs.Cuts.{Under, latest}
-use Rattle.ffs_model.specs.Names.{IsRoot, IsInodes, IsInFile}
-use Rattle.xn_model.specs.Lists.{put}
-use Rattle.ffs_model.specs.Edits.{EntryMade, HoldsOnly, OneEntry, InodeMade, LinkAdded, LinkTaken, InodeFreed, InodeKept}
-use Rattle.ffs_model.specs.Volumes.{Reads, VolumeKeeps, CanName, CanUnlink, with_edit}
-use Rattle.ffs_model.specs.Library.{library_layout, IsLibrary, half_at, inode_at, inode_blocks, inode_links, inode_mode, pointer_word, with_inode, zero_block}
+use Rattle.std.proofs.Common.{◌≡◌, ℕ, suc, ◌+◌, ◌*◌, ◌^◌, ◌<◌, ◌≢◌, ◌⊎◌, List, [], ◌∷◌, length, Option, Some, None, Ok, refl, sym, ◌∙◌, ap, inr, arith, subst, replicate, eq-eqb, Contains, if◌then◌else◌, ne_eqb, w32}
+use Rattle.ffs_lib.proofs.Words.{CanName, CanUnlink, Edit, EntryMade, Found, HoldsOnly, InodeFreed, InodeKept, InodeMade, IsDirectory, IsEmptyPointer, IsFile}
+use Rattle.ffs_lib.proofs.Words.{IsFound, IsGap, IsInFile, IsInodes, IsLibrary, IsPlace, IsRoot, IsSlot, LinkAdded, LinkTaken, OneEntry, Reads, Slot}
+use Rattle.ffs_lib.proofs.Words.{StoreState, Types, Under, VolumeKeeps, half_at, inode_at, inode_blocks, inode_links, inode_mode, latest, library_layout}
+use Rattle.ffs_lib.proofs.Words.{pointer_word, propose_of, put, to_le_bytes, with_edit, with_inode, word_at, zero_block}
 use Rattle.ffs_model.proofs.ForCallers.{below_written, data_owned, directory_grown, entry_cleared, entry_made, entry_turned, entry_written, file_written, freed_waits, indirect_owned, indirect_reached, inode_forgets, inode_freed, inode_kept, inode_made, inodes_set, library_reads, link_added, link_taken, links_read, mode_read, number_written, other_spare, other_waits, other_written, pointer_set, pointer_written, proposed_others, slot_waits, taken_waits, under_direct, word_part, zeros_direct, zeros_mode, zeros_pointer}
 use Rattle.ffs_model.proofs.Rewritten as rewritten
-use Rattle.ffs_lookup.specs.declared.places.Found.{Found}
-use Rattle.ffs_lookup.specs.declared.places.Slot.{Slot}
 use Rattle.ffs_lib.specs.Edits.{edit_at}
-use Rattle.ffs_lookup.specs.Places.{IsPlace, IsFound, IsDirectory, IsFile, IsEmptyPointer, IsGap, IsSlot}
 use Rattle.ffs_lib.specs.Outcomes.{IsMade, IsAdded}
 use Rattle.ffs_lookup.proofs.ForCallers.{found_mode, pointer_is}
 
@@ -94,9 +82,8 @@ module _ (T : Types) (lib : IsLibrary T) (fs : ℕ) (few : fs < 32) (array : ℕ
   pub entered : (n place block : ℕ) (found : Found) → IsDirectory state fs n found → IsGap state found block place → (bytes : List ℕ) → length bytes ≡ 32 → (i e entry : ℕ) → half_at bytes 0 ≡ i → i ≢ 0 →
       CanName library_layout state.lives fs i e → propose_of T state fs block (edit_at (32 * place) bytes [] [] (Some e)) ≡ Ok (entry, new) → VolumeKeeps T library_layout fs array new
   entered n place block found dir gap bytes whole i e entry is some can done =
-      let stands = dir.is.stands in
       entry_made T library_layout reads fs few array state new v block (edit_at (32 * place) bytes [] [] (Some e)) entry done 2
-      (under_direct T library_layout reads (latest state.lives) fs (library_layout.home n).0 found.block found.place block stands.inodes gap.has) (λ z. omega arith) (λ z. omega arith) place i e some
+      (under_direct T library_layout reads (latest state.lives) fs (library_layout.home n).0 found.block found.place block dir.is.stands.inodes gap.has) (λ z. omega arith) (λ z. omega arith) place i e some
       (subst (λ x. EntryMade library_layout (latest state.lives block) (put (latest state.lives block) (32 * place) bytes) place x) is (entry_written (latest state.lives block) gap.long place gap.few bytes whole)) can refl
 
   pub cleared : (slot : Slot) → IsSlot state fs slot → (after : Option ℕ) (entry : ℕ) → propose_of T state fs slot.block (edit_at (32 * slot.place) (replicate 32 0) [] [] after) ≡ Ok (entry, new) →
@@ -192,6 +179,5 @@ last_word m p few = word_part m p few (64 * p + 56) 56 refl (omega arith)
 pub pointers_reached : (T : Types) (lib : IsLibrary T) (state : StoreState) (fs n : ℕ) (found : Found) → IsFound state fs n found → (block : ℕ) → word_at found.inode 56 ≡ block → block ≢ 0 → Under T (latest state.lives) fs block 5
 pointers_reached T lib state fs n found is block e ne =
     let m = latest state.lives found.block in
-    let at = is.stands in
-    indirect_reached T library_layout (library_reads T lib) (latest state.lives) fs (library_layout.home n).0 found.block block 5 at.inodes
-    (indirect_owned T lib m found.place block at.few (last_word m found.place at.few ∙ (ap (λ b. word_at b 56) (sym is.bytes) ∙ e)) ne)
+    indirect_reached T library_layout (library_reads T lib) (latest state.lives) fs (library_layout.home n).0 found.block block 5 is.stands.inodes
+    (indirect_owned T lib m found.place block is.stands.few (last_word m found.place is.stands.few ∙ (ap (λ b. word_at b 56) (sym is.bytes) ∙ e)) ne)

@@ -1,31 +1,16 @@
 -- What an edit of an inode, or of a directory's entries, leaves in the newest bytes.
-use Rattle.std.proofs.Common.{◌≡◌, ◌≢◌, ℕ, ◌+◌, ◌-◌, ◌*◌, ◌/◌, ◌%◌, ◌<◌, ◌≤◌, Bool, true, List, [], ◌∷◌, length, take, drop, Option, Some, Ok, Err, refl, sym, ◌∙◌, ap, arith, inl, inr}
-use Rattle.std.specs.Prelude.{Contains, Result, ◌==◌, filter_map, if◌then◌else◌, IsTrue, slice_set}
-use Rattle.std.specs.List.{list_any, range_with_len}
-use Rattle.std.proofs.Math.Seq.{take-length}
-use Rattle.std.proofs.lemmas.Bool.{eqb-true, lt-ltb}
-use Rattle.xn_model.specs.Types.{Types}
-use Rattle.xn_model.specs.Lists.{blocks_of, distinct, put}
-use Rattle.xn_model.specs.Lives.{StoreState}
-use Rattle.xn_model.specs.Calls.{init_of, propose_of}
-use Rattle.xn_model.specs.Rules.{IsConsistent}
-use Rattle.ffs_model.specs.Cuts.{latest}
-use Rattle.ffs_model.specs.Names.{IsInodes}
+use Rattle.std.proofs.Common.{◌≡◌, ◌≢◌, ℕ, ◌+◌, ◌-◌, ◌*◌, ◌/◌, ◌%◌, ◌<◌, ◌≤◌, Bool, true, List, [], ◌∷◌, length, take, drop, Option, Some, Ok, Err, refl, sym, ◌∙◌, ap, arith, inl, inr, Contains, Result, ◌==◌, filter_map, if◌then◌else◌, IsTrue, slice_set, eqb-true, lt-ltb}
+use Rattle.ffs_lib.proofs.Words.{FfsFault, IsConsistent, IsFree, IsInodes, IsPlace, NoEntry, NotDir, Slot, StoreState, Types, and_then, blocks_of, direct_in}
+use Rattle.ffs_lib.proofs.Words.{directory_in, distinct, entry_of, fields_of, file_block, if_directory, init_of, inode_block_in, inode_in, is_at, is_name}
+use Rattle.ffs_lib.proofs.Words.{latest, list_any, listing, place_in, propose_of, put, range_with_len, room_in, take-length, unless_unused}
 use Rattle.ffs_model.specs.Library.{IsLibrary, direct_word, half_at, inode_at, inode_blocks, inode_links, inode_mode, library_layout, pointed, zero_block}
 use Rattle.ffs_model.proofs.ForCallers.{blocks_read, bytes_within, direct_distinct, direct_where, library_reads, one_type, proposed_here, started_here, under_inodes}
-use Rattle.ffs_format.specs.Entries.{entry_of, is_name}
-use Rattle.ffs_format.specs.Fields.{direct_in, fields_of}
-use Rattle.ffs_lookup.specs.declared.fault.FfsFault.{FfsFault}
-use Rattle.ffs_lookup.specs.declared.fault.FfsFault.TheVariants.{NoEntry, NotDir}
 use Rattle.ffs_lookup.specs.declared.places.Free.{Free}
-use Rattle.ffs_lookup.specs.declared.places.Slot.{Slot}
 use Rattle.ffs_lib.specs.Edits.{edit_at}
-use Rattle.ffs_lookup.specs.Newest.{and_then, directory_in, file_block, if_directory, inode_block_in, inode_in, is_at, listing, room_in, unless_unused}
 use Rattle.ffs_lookup.specs.declared.places.Room.TheVariants.{Entry, Pointer}
 use Rattle.ffs_lib.specs.Outcomes.{IsGrown}
-use Rattle.ffs_lookup.specs.Places.{IsFree, IsPlace}
-use Rattle.ffs_lookup.specs.FileValues.{place_in}
 use Rattle.ffs_lib.specs.Results.{HasMore, MadeEntry, SameContents, SameInode, SameOrNew, new_inode}
+use Rattle.ffs_lib.proofs.Tests.{never}
 use Rattle.ffs_lib.proofs.Fields.{blocks_are, get_mapped, set_words}
 use Rattle.ffs_lib.proofs.Alone.{none_listed}
 use Rattle.ffs_lib.proofs.Frames.{listed_at, listed_blocks, listed_in, listing_same}
@@ -62,9 +47,7 @@ module _ (T : Types) (lib : IsLibrary T) (state new : StoreState) (h : IsConsist
   written : inode_at (latest new.lives block) place ≡ bytes
   written =
       let m = latest state.lives block in
-      let long = stands.long in
-      let little = stands.few in
-      let fit : 64 * place + length bytes ≤ length m = omega (arith, long, little, whole) in
+      let fit : 64 * place + length bytes ≤ length m = omega (arith, stands.long, stands.few, whole) in
       let z : 64 * place ≡ 64 * place + 0 = omega arith in
       ap (λ x. inode_at x place) home_bytes ∙ (ap (λ k. take 64 (drop k (put m (64 * place) bytes))) z
       ∙ (bytes_within m (64 * place) bytes fit 64 0 (omega (arith, whole)) ∙ (ap (λ k. take k bytes) (sym whole) ∙ take-length bytes)))
@@ -136,8 +119,7 @@ module _ (T : Types) (lib : IsLibrary T) (state new : StoreState) (h : IsConsist
       let filled : OneMore (listed_in v b) (listed_in w b) (one, name) = more_by _ _ _ _ (one, name) refl (ap (λ m. filter_map (listed_at b m) (range_with_len 0 16)) here) more in
       let all = blocks_more (listed_in v) (listed_in w) b (one, name) filled (inode_blocks inode) has own_distinct (λ c i ne.
       let y = direct_where inode c i in
-      let first = y.1 in
-      ap (λ m. filter_map (listed_at c m) (range_with_len 0 16)) (t.others c 2 (block_at T lib state h fs few d inode own y.0 c (omega (arith, first)) (direct_block v inode y.0 first ∙ y.2) y.3) ne)) in (
+      ap (λ m. filter_map (listed_at c m) (range_with_len 0 16)) (t.others c 2 (block_at T lib state h fs few d inode own y.0 c (omega (arith, y.1)) (direct_block v inode y.0 y.1 ∙ y.2) y.3) ne)) in (
         record {
           after = inode;
           links = refl;
@@ -186,7 +168,6 @@ module _ (T : Types) (lib : IsLibrary T) (zeroth first second : StoreState) (h :
       let same = begun_same d in
       let one : inode ≡ inode0 = same_ok inode inode0 (again ∙ (directory_same v0 v1 fs d same.0 ∙ sym dir)) in
       let own = stands_from v1 fs d inode (directory_from v1 fs d inode again).0 in
-      let number_low = own.low in
       let own_bytes : (c : ℕ) → Contains (inode_blocks inode) c → v2 c ≡ v1 c =
       λ c i.
       let y = direct_where inode c i in
@@ -195,7 +176,7 @@ module _ (T : Types) (lib : IsLibrary T) (zeroth first second : StoreState) (h :
       g.bytes c (λ z.
       let four : 2 ≡ 4 = one_type T first h1 fs c 2 4 few at (under_inodes T library_layout (library_reads T lib) v1 fs ((d - 1) / 8) c z) in
       omega (arith, four)) in
-      let new_bytes : v2 b ≡ put zero_block 0 bytes = g.bytes b (no_inodes ((d - 1) / 8) (omega (arith, number_low))) ∙ started_here T zeroth first fs 2 (put zero_block 0 bytes) (b, number) done in
+      let new_bytes : v2 b ≡ put zero_block 0 bytes = g.bytes b (no_inodes ((d - 1) / 8) (omega (arith, own.low))) ∙ started_here T zeroth first fs 2 (put zero_block 0 bytes) (b, number) done in
       let entry : Slot = record { block = b; place = 0; inode = n } in
       let ws = (fields_of inode).direct in
       let words = words_more ws index b low (get_mapped (direct_in inode) 12 0 index low ∙ (ap (λ k. direct_in inode k) (let z : 0 + index ≡ index = omega arith in z) ∙ (ap (λ m. direct_in m index) one ∙ gap))) there in
@@ -205,8 +186,7 @@ module _ (T : Types) (lib : IsLibrary T) (zeroth first second : StoreState) (h :
       let first_own = stands_from v0 fs d inode0 (directory_from v0 fs d inode0 dir).0 in
       let apart_before : (c : ℕ) → Contains (inode_blocks inode0) c → c ≢ b = λ c i.
       let y = direct_where inode0 c i in
-      let lt = y.1 in
-      new_block.apart c 2 (block_at T lib zeroth h fs few d inode0 first_own y.0 c (omega (arith, lt)) (direct_block v0 inode0 y.0 lt ∙ y.2) y.3) (λ z. omega (arith, z)) in
+      new_block.apart c 2 (block_at T lib zeroth h fs few d inode0 first_own y.0 c (omega (arith, y.1)) (direct_block v0 inode0 y.0 y.1 ∙ y.2) y.3) (λ z. omega (arith, z)) in
       let before : listing v2 inode ≡ listing v0 inode0 = listing_same v2 v1 inode own_bytes ∙ (ap (listing v1) one ∙ (same.1 inode0 (directory_from v0 fs d inode0 dir).0).0) in
       record {
         after = g.after;
@@ -232,9 +212,8 @@ pub free_none : (state : StoreState) (fs : ℕ) (free : Free) → IsFree state f
 free_none state fs free is =
     let content = latest state.lives in
     let n = free.number in
-    let stands = is.stands in
     sym (unused_is (inode_at (content free.block) free.place) (free_mode (inode_at (content free.block) free.place) is.bare)
-    ∙ in_inode_block content fs n (good_number n stands.some is.low) ((n - 1) / 8) free.place free.block (content free.block) refl stands.at (block_again content fs ((n - 1) / 8) free.block stands.inodes) refl)
+    ∙ in_inode_block content fs n (good_number n is.stands.some is.low) ((n - 1) / 8) free.place free.block (content free.block) refl is.stands.at (block_again content fs ((n - 1) / 8) free.block is.stands.inodes) refl)
 
 module _ (u v w : ℕ → List ℕ) (fs d : ℕ) (name : List ℕ) (mode n : ℕ) where
   more_before : (inode : List ℕ) → SameContents u v inode → HasMore v w fs d inode name n → HasMore u w fs d inode name n
@@ -243,7 +222,7 @@ module _ (u v w : ℕ → List ℕ) (fs d : ℕ) (name : List ℕ) (mode n : ℕ
   pub made_then : inode_in u fs n ≡ Err NoEntry → inode_in v fs n ≡ Ok (new_inode mode) → ((e : ℕ) → e ≢ n → SameInode u v fs e) →
       ((inode : List ℕ) → Ok inode ≡ directory_in v fs d → HasMore v w fs d inode name n) × ((e : ℕ) → e ≢ d → SameInode v w fs e) → (inode : List ℕ) → Ok inode ≡ directory_in u fs d → MadeEntry u w fs d name mode n
   made_then free made first enters inode dir =
-      let apart : d ≢ n = λ e. not_both_ways inode ((directory_from u fs d inode dir).0 ∙ (ap (inode_in u fs) e ∙ free)) in
+      let apart : d ≢ n = λ e. never inode NoEntry ((directory_from u fs d inode dir).0 ∙ (ap (inode_in u fs) e ∙ free)) in
       let same = first d apart in
       record {
         free = free;
@@ -251,9 +230,6 @@ module _ (u v w : ℕ → List ℕ) (fs d : ℕ) (name : List ℕ) (mode n : ℕ
         entry = λ other is. more_before other (same.1 other (directory_from u fs d other is).0) (enters.0 other (is ∙ sym (directory_same u v fs d same.0)));
         others = λ e ne ne'. as_same u w fs n e (same_on u v w fs e (first e ne') (enters.1 e ne));
       }
-    where
-      not_both_ways : (x : List ℕ) → ◌≡◌ {A = Result (List ℕ) FfsFault} (Ok x) (Err NoEntry) → ⊥
-      not_both_ways x e = cc
 
   pub stays_made : ((e : ℕ) → SameOrNew u v fs n e) → MadeEntry v w fs d name mode n → MadeEntry u w fs d name mode n
   stays_made stays m = record {

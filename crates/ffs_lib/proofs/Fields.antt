@@ -1,15 +1,8 @@
 -- The blocks of an inode whose fields were set.
-use Rattle.std.proofs.Common.{◌≡◌, ℕ, zero, suc, ◌+◌, ◌-◌, ◌*◌, ◌<◌, ◌^◌, ◌⊎◌, Bool, true, false, cond, List, [], ◌∷◌, Some, None, refl, sym, ◌∙◌, ap, inl, inr, subst, replicate, arith, get_or, take}
-use Rattle.std.specs.Prelude.{Contains, filter_map, map, slice_set, ◌==◌}
-use Rattle.std.specs.List.{range_with_len, cons_option}
-use Rattle.std.proofs.lemmas.List.{drop-replicate, take-replicate}
-use Rattle.xn_model.specs.Lists.{blocks_of}
-use Rattle.xn_model.specs.Root.{word_at, unless_empty}
+use Rattle.std.proofs.Common.{◌≡◌, ℕ, zero, suc, ◌+◌, ◌-◌, ◌*◌, ◌<◌, ◌^◌, ◌⊎◌, Bool, true, false, cond, List, [], ◌∷◌, Some, None, refl, sym, ◌∙◌, ap, inl, inr, subst, replicate, arith, get_or, take, Contains, filter_map, map, slice_set, ◌==◌}
+use Rattle.ffs_lib.proofs.Words.{blocks_of, cons_option, direct_in, drop-replicate, entry_of, fields_of, from_le_bytes-to_le_bytes_2, half_at, inode_at}
+use Rattle.ffs_lib.proofs.Words.{inode_blocks, inode_mode, range_with_len, take-replicate, unless_empty, word_at, zero_block}
 use Rattle.xn_model.proofs.ForCallers.{Contains-cons, Contains-head, Contains-tail}
-use Rattle.ffs_model.specs.Library.{half_at, inode_at, inode_blocks, inode_mode, zero_block}
-use Rattle.std.proofs.lemmas.Nat.{from_le_bytes-to_le_bytes_2}
-use Rattle.ffs_format.specs.Entries.{entry_of}
-use Rattle.ffs_format.specs.Fields.{fields_of, direct_in}
 
 -- the words that are not 0
 abbrev pub set_words : List ℕ → List ℕ

@@ -1,9 +1,6 @@
 -- The first entry with a name.
-use Rattle.std.proofs.Common.{◌≡◌, ℕ, Bool, true, false, cond, List, [], ◌∷◌, ◌++◌, map, Option, Some, refl, ap}
-use Rattle.std.specs.Prelude.{find, bytes_eq, option_map}
-use Rattle.std.proofs.lemmas.Slice.Eq.{bytes_eq-Decides}
-use Rattle.ffs_lookup.specs.declared.places.Slot.{Slot}
-use Rattle.ffs_lookup.specs.Newest.{has_name, name_at}
+use Rattle.std.proofs.Common.{◌≡◌, ℕ, Bool, true, false, cond, List, [], ◌∷◌, ◌++◌, map, Option, Some, refl, ap, find, bytes_eq, option_map}
+use Rattle.ffs_lib.proofs.Words.{Slot, bytes_eq-Decides, has_name, name_at}
 
 -- by the listing
 

@@ -1,15 +1,7 @@
 -- What stays where a call is refused, and how the parts of a step come together.
-use Rattle.std.proofs.Common.{◌≡◌, ◌≢◌, ℕ, ◌<◌, List, Option, Result, Ok, Err, sym, subst, ap, ◌∙◌}
-use Rattle.std.specs.Prelude.{OnOk, OnErr}
-use Rattle.xn_model.specs.declared.refusal.Refusal.{Refusal}
-use Rattle.xn_model.specs.Types.{Types}
-use Rattle.std.proofs.lemmas.Option.{none-some}
-use Rattle.xn_model.specs.Lives.{StoreState, life_at}
-use Rattle.xn_model.specs.Results.{Gives, GivesExactly}
-use Rattle.xn_model.specs.Calls.{forget_of, init_of}
+use Rattle.std.proofs.Common.{◌≡◌, ◌≢◌, ℕ, ◌<◌, List, Option, Result, Ok, Err, sym, subst, ap, ◌∙◌, OnOk, OnErr}
+use Rattle.ffs_lib.proofs.Words.{Gives, GivesExactly, Refusal, StoreState, Types, VolumeKeeps, forget_of, init_of, library_layout, life_at, none-some}
 use Rattle.xn_model.proofs.ForCallers.{gives_exactly_keeps}
-use Rattle.ffs_model.specs.Volumes.{VolumeKeeps}
-use Rattle.ffs_model.specs.Library.{library_layout}
 use Rattle.ffs_model.proofs.ForCallers.{ended_keeps, library_reads, started}
 use Rattle.ffs_lib.specs.Outcomes.{Keeps}
 use Rattle.ffs_lookup.proofs.ForCallers.{gives_err}

@@ -1,35 +1,18 @@
 -- What each edit of a call leaves: one law for each kind, of all that a call says of it.
-use Rattle.std.proofs.Common.{◌≡◌, ◌≢◌, ℕ, ◌+◌, ◌-◌, ◌*◌, ◌/◌, ◌<◌, ◌≤◌, ◌⊎◌, List, [], length, replicate, Option, None, Some, Result, Ok, Err, refl, sym, ◌∙◌, ap, arith, subst, Bool, true, false, suc, inl, inr, eq-eqb}
-use Rattle.std.specs.Prelude.{Contains, IsErrAnd, IsOk, IsTrue, MatchResult, OnErr, OnOk, ◌==◌}
-use Rattle.std.proofs.lemmas.Bool.{cases_eq}
-use Rattle.std.proofs.lemmas.Result.{err_from_is_err_and}
-use Rattle.xn_model.specs.declared.refusal.Refusal.{Refusal}
-use Rattle.xn_model.specs.declared.refusal.Refusal.TheVariants.{NoMemory}
-use Rattle.xn_model.specs.Types.{Types}
-use Rattle.xn_model.specs.Root.{word_at}
-use Rattle.xn_model.specs.Lives.{StoreState}
-use Rattle.xn_model.specs.Results.{Gives, GivesExactly}
-use Rattle.xn_model.specs.Calls.{Edit, forget_of, init_of, propose_of, was_given}
-use Rattle.ffs_model.specs.Cuts.{Under, latest}
+use Rattle.std.proofs.Common.{◌≡◌, ◌≢◌, ℕ, ◌+◌, ◌-◌, ◌*◌, ◌/◌, ◌<◌, ◌≤◌, ◌⊎◌, List, [], length, replicate, Option, None, Some, Result, Ok, Err, refl, sym, ◌∙◌, ap, arith, subst, Bool, true, false, suc, inl, inr, eq-eqb, Contains, IsErrAnd, IsOk, IsTrue, MatchResult, OnErr, OnOk, ◌==◌}
+use Rattle.ffs_lib.proofs.Words.{CanUnlink, Edit, FfsFault, Fields, Found, Gives, GivesExactly, IsFound, IsPlace, IsSlot, Kernel, NoMemory, Refusal, Slot}
+use Rattle.ffs_lib.proofs.Words.{StoreState, Types, Under, cases_eq, err_from_is_err_and, fields_of, forget_of, init_of, inode_block_in, inode_in, is_short}
+use Rattle.ffs_lib.proofs.Words.{is_shortage, latest, place_in, propose_of, was_given, word_at}
 use Rattle.ffs_model.specs.Library.{inode_blocks, inode_links, inode_mode, inode_pairs, library_layout, pointed, pointer_word, zero_block}
-use Rattle.ffs_model.specs.Shortages.{is_shortage}
-use Rattle.ffs_model.specs.Volumes.{CanUnlink}
 use Rattle.ffs_model.proofs.ForCallers.{pointers_cleared_short, proposed_given, proposed_here, proposed_others}
-use Rattle.ffs_format.specs.Fields.{Fields, fields_of}
-use Rattle.ffs_lookup.specs.declared.fault.FfsFault.{FfsFault}
-use Rattle.ffs_lookup.specs.declared.fault.FfsFault.TheVariants.{Kernel}
-use Rattle.ffs_lookup.specs.declared.places.Found.{Found}
-use Rattle.ffs_lookup.specs.declared.places.Slot.{Slot}
-use Rattle.ffs_lookup.specs.Newest.{inode_block_in, inode_in, is_short}
-use Rattle.ffs_lookup.specs.Places.{IsFound, IsPlace, IsSlot}
 use Rattle.ffs_lookup.proofs.ForCallers.{block_again, gives_err, gives_ok, same_ok}
 use Rattle.ffs_lib.specs.Edits.{data_of_inode, data_of_pointers, edit_at}
 use Rattle.ffs_lib.specs.Outcomes.{CanEdit, HasNoData}
-use Rattle.ffs_lookup.specs.FileValues.{place_in}
 use Rattle.ffs_lib.specs.Results.{AsBefore, IsAs, SameInode, TookLink}
 use Rattle.ffs_lib.specs.Steps.{AddsLink, Answers, Attached, ClearedPointers, Clearing, Dropped, Ends, Follows, IsHome, MayLose, MayName, Proposed, Removable, Removed, ShortEdit, Stage, Stops, StopsAtHome, StopsTaking, TakesLink, Tells, Unlisted, Wants, WantsHome, WantsPointers, clearing, left_by}
 use Rattle.ffs_lib.specs.Volumes.{IsVolume, edits_of}
 use Rattle.ffs_lib.specs.declared.volume.Volume.{Volume}
+use Rattle.ffs_lib.proofs.Tests.{true_false}
 use Rattle.ffs_lib.proofs.Dropping.{cleared_owns, no_pairs, put_whole}
 use Rattle.ffs_lib.proofs.Edited.{cleared, dropped, freed, less, more, pointers_reached}
 use Rattle.ffs_lib.proofs.Entering.{directory_from, directory_same, inode_put, others_put, place_put}
@@ -73,9 +56,6 @@ stops_err P R result fault from stop = let p = err_from_is_err_and result from i
 
 pub fails : {A : Type 0} {T : Types} {fs : ℕ} {array : ℕ → Option ℕ} {new : StoreState} (P : A → Type 0) (R : FfsFault → Type 0) → Stage T fs array new → (result : Result A FfsFault) (fault : FfsFault) → IsErrAnd result (λ other. other ≡ fault) → Stops R fault → Ends T fs array new result P R
 fails P R s result fault from stop = (s, stops_err P R result fault from stop)
-
-pub true_false : (t : Bool) → t ≡ true → t ≡ false → ⊥
-true_false t e f = cc
 
 -- a new block
 pub begins_by : (made T : Types) (fs ty : ℕ) (given bytes : List ℕ) (old new : StoreState) (x : ℕ × ℕ) → made ≡ T → given ≡ bytes → Gives (init_of made old fs ty given) old new (Ok x) → init_of T old fs ty bytes ≡ Ok (x, new)
@@ -280,9 +260,8 @@ module _ (T : Types) (fs : ℕ) (array : ℕ → Option ℕ) (old : StoreState) 
       subst (λ m. DroppedData T fs array old new n found.inode m) (sym x.1) (subst (λ (m : StoreState). DroppedData T fs array old m n found.inode after) (sym x.0) first)
   drops new e (inr x) =
       let h = s.keeps.consistent in
-      let there = x.0 in
       let edit = clearing old block after in
-      let at = at_pointers there in
+      let at = at_pointers x.0 in
       let k = dropped T s.library fs s.few array old new s.keeps block n after e edit at some can refl x.2 in
       let t = edited T old new h fs s.few block 5 edit e x.2 at in
       record {
@@ -290,7 +269,7 @@ module _ (T : Types) (fs : ℕ) (array : ℕ → Option ℕ) (old : StoreState) 
         can = k.1;
         given = proposed_given T old new h fs block edit e x.2;
         same = exact ∙ sym (inodes_same T s.library (latest old.lives) (latest new.lives) fs block 5 t (λ z. omega (arith, z)) (λ z. omega (arith, z)) n);
-        others = pointers_touched T s.library old h fs s.few (latest new.lives) block 5 t refl n found.inode (stands_from (latest old.lives) fs n found.inode exact) points there;
+        others = pointers_touched T s.library old h fs s.few (latest new.lives) block 5 t refl n found.inode (stands_from (latest old.lives) fs n found.inode exact) points x.0;
         none = λ ne. ap (λ b. T.owned 5 (latest new.lives b)) points ∙ ap (T.owned 5) (proposed_here T old new h fs block edit e x.2) ∙ cleared_owns T s.library (latest old.lives block) x.1;
         left = λ few. inr (record {
           last = few;
@@ -349,17 +328,15 @@ took_on u v w fs n inode same i k = record {
 module _ (u v : ℕ → List ℕ) (fs d : ℕ) (slot : Slot) (r : Removable u fs d slot) (c : Clearing u v fs slot) where
   pub removed : (w : ℕ → List ℕ) → TakesLink v w fs slot.inode → Removed u w fs d slot
   removed w t =
-      let n = slot.inode in
-      let apart = r.apart in
-      let mine = t.others d apart in
+      let mine = t.others d r.apart in
       let lost = unlisted u v fs d slot r.own r.is r.has c in
-      let same = lost.others n (λ e. apart (sym e)) in
+      let same = lost.others slot.inode (λ e. r.apart (sym e)) in
       record {
         gone = λ inode i.
             let at : Ok inode ≡ inode_in v fs d = (directory_from u fs d inode i).0 ∙ sym (c.inodes d) in
             (i ∙ (sym (directory_same u v fs d (c.inodes d)) ∙ sym (directory_same v w fs d mine.0)), (mine.1 inode at).0 ∙ c.entries inode);
         others = λ x ne ne'. same_on u v w fs x (lost.others x ne) (t.others x ne');
-        unlinked = λ inode i. took_on u v w fs n inode same i (t.took inode (i ∙ sym (c.inodes n)));
+        unlinked = λ inode i. took_on u v w fs slot.inode inode same i (t.took inode (i ∙ sym (c.inodes slot.inode)));
       }
 
 -- where an inode has more links than one, it loses but one of them
@@ -374,8 +351,7 @@ less_of u w fs n t many = (
       let lt = many x i in
       let k = (t.took x i).kept lt in
       let same : inode_links after ≡ inode_links k.0.after = ap inode_links (same_ok after k.0.after (a ∙ sym k.0.found)) in
-      let one = k.1 in
-      omega (arith, same, one, lt),
+      omega (arith, same, k.1, lt),
 )
 
 -- What is left where a link could not be taken

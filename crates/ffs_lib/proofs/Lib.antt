@@ -1,3 +1,5 @@
+pub mod Words
+pub mod Tests
 pub mod Fields
 pub mod Edited
 pub mod Kept

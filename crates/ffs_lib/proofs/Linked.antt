@@ -1,18 +1,8 @@
 -- An inode that an entry names is in use, with a link at least.
-use Rattle.std.proofs.Common.{◌≡◌, ◌≢◌, ℕ, ◌-◌, ◌/◌, ◌%◌, ◌<◌, ◌≤◌, Bool, List, Option, Some, None, Ok, true, refl, sym, ◌∙◌, ap, inl, inr, arith, subst}
-use Rattle.std.specs.Prelude.{IsTrue, if◌then◌else◌}
-use Rattle.xn_model.specs.Calls.{was_given}
-use Rattle.ffs_model.specs.Names.{IsInodes}
-use Rattle.std.proofs.lemmas.Bool.{cases_lt, le-ltb}
-use Rattle.xn_model.specs.Types.{Types}
-use Rattle.xn_model.specs.Lives.{StoreState}
-use Rattle.ffs_model.specs.Cuts.{latest}
-use Rattle.ffs_model.specs.Volumes.{VolumeKeeps}
-use Rattle.ffs_model.specs.Library.{inode_at, inode_links, library_layout, pointer_word}
+use Rattle.std.proofs.Common.{◌≡◌, ◌≢◌, ℕ, ◌-◌, ◌/◌, ◌%◌, ◌<◌, ◌≤◌, Bool, List, Option, Some, None, Ok, true, refl, sym, ◌∙◌, ap, inl, inr, arith, subst, IsTrue, if◌then◌else◌, le-ltb}
+use Rattle.ffs_lib.proofs.Words.{IsInodes, IsSlot, Slot, StoreState, Types, VolumeKeeps, cases_lt, has_empty_pointer, has_room, inode_at, inode_in, inode_links}
+use Rattle.ffs_lib.proofs.Words.{latest, library_layout, pointer_word, root_in, was_given}
 use Rattle.ffs_model.proofs.ForCallers.{everything, everything_cut, everything_seen, links_read, mode_read, named_linked, named_links}
-use Rattle.ffs_lookup.specs.declared.places.Slot.{Slot}
-use Rattle.ffs_lookup.specs.Newest.{has_empty_pointer, has_room, inode_in, root_in}
-use Rattle.ffs_lookup.specs.Places.{IsSlot}
 use Rattle.ffs_lookup.proofs.ForCallers.{block_again, root_again, same_ok}
 use Rattle.ffs_lib.specs.Outcomes.{HasFreePointer}
 use Rattle.ffs_lib.specs.Results.{SameUse}
@@ -50,16 +40,14 @@ linked_inode T fs array state v entry is =
       bytes = refl;
       used = λ z. l.used (mode_read m p low ∙ z);
     } in
-    let many = named_linked T fs array state v n y is.some is.names in
     let same : library_layout.links m p ≡ inode_links own = links_read m p low in
-    record { own = own; found = stands_to content fs n own stands; linked = omega (arith, many, same) }
+    record { own = own; found = stands_to content fs n own stands; linked = omega (arith, named_linked T fs array state v n y is.some is.names, same) }
 
 pub linked_own : (T : Types) (fs : ℕ) (array : ℕ → Option ℕ) (state : StoreState) → VolumeKeeps T library_layout fs array state → (entry : Slot) → IsSlot state fs entry → (own : List ℕ) → Ok own ≡ inode_in (latest state.lives) fs entry.inode → 1 ≤ inode_links own
 linked_own T fs array state v entry is own e =
     let named = linked_inode T fs array state v entry is in
     let same : inode_links own ≡ inode_links named.own = ap inode_links (same_ok own named.own (e ∙ sym named.found)) in
-    let low = named.linked in
-    omega (arith, same, low)
+    omega (arith, same, named.linked)
 
 -- where there is a block of inodes there is a first one
 pub first_there : (T : Types) (fs : ℕ) (array : ℕ → Option ℕ) (state : StoreState) → VolumeKeeps T library_layout fs array state → (i c : ℕ) → IsInodes library_layout (latest state.lives) fs i c → (b : ℕ) × IsInodes library_layout (latest state.lives) fs 0 b

@@ -1,13 +1,7 @@
 -- What each edit of a call leaves of directories.
-use Rattle.std.proofs.Common.{◌≡◌, ℕ, ◌<◌, sym, ◌∙◌, ap, subst}
-use Rattle.std.specs.Prelude.{IsTrue}
-use Rattle.xn_model.specs.Types.{Types, fits}
-use Rattle.xn_model.specs.Lives.{StoreState, bytes_of}
-use Rattle.xn_model.specs.Calls.{life_bytes}
+use Rattle.std.proofs.Common.{◌≡◌, ℕ, ◌<◌, sym, ◌∙◌, ap, subst, IsTrue}
+use Rattle.ffs_lib.proofs.Words.{IsConsistent, IsLibrary, StoreState, Types, Under, bytes_of, fits, latest, life_bytes}
 use Rattle.xn_model.proofs.ForCallers.{last_of}
-use Rattle.xn_model.specs.Rules.{IsConsistent}
-use Rattle.ffs_model.specs.Cuts.{Under, latest}
-use Rattle.ffs_model.specs.Library.{IsLibrary}
 use Rattle.ffs_model.proofs.ForCallers.{latest_reached}
 
 module _ (T : Types) (lib : IsLibrary T) (state new : StoreState) (h : IsConsistent T state) (fs : ℕ) (few : fs < 32) where

@@ -1,27 +1,11 @@
 -- How a volume is made.
-use Rattle.std.proofs.Common.{◌≡◌, ◌≢◌, ℕ, zero, suc, ◌^◌, ◌<◌, Bool, true, false, List, [], ◌∷◌, length, get_or, Option, Some, None, Result, Ok, Err, refl, sym, ◌∙◌, ap, inl, inr, subst, replicate, arith, eq-eqb}
-use Rattle.std.specs.Prelude.{Contains, IsErrAnd, MatchResult, OnErr, OnOk, ◌==◌, ◌&&◌, if◌then◌else◌}
-use Rattle.std.proofs.lemmas.Bool.{ne_eqb}
-use Rattle.std.proofs.lemmas.Option.{none-some}
-use Rattle.std.proofs.lemmas.Result.{err_from_is_err_and}
-use Rattle.xn_model.specs.declared.refusal.Refusal.{Refusal}
-use Rattle.xn_model.specs.Types.{Types}
-use Rattle.xn_model.specs.Lives.{BlockState, Life, Lives, StoreState, alive_and, is_for, is_fresh, life_at, states}
-use Rattle.xn_model.specs.Results.{Gives, result_and_then}
-use Rattle.xn_model.specs.Calls.{init_of, make_root_of, may_add, new_life, propose_of, root_state, slot_now}
+use Rattle.std.proofs.Common.{◌≡◌, ◌≢◌, ℕ, zero, suc, ◌^◌, ◌<◌, Bool, true, false, List, [], ◌∷◌, length, get_or, Option, Some, None, Result, Ok, Err, refl, sym, ◌∙◌, ap, inl, inr, subst, replicate, arith, eq-eqb, Contains, IsErrAnd, MatchResult, OnErr, OnOk, ◌==◌, ◌&&◌, if◌then◌else◌, ne_eqb}
+use Rattle.ffs_lib.proofs.Words.{BlockState, FfsFault, Gives, HoldsOnly, IsRoot, Kernel, Life, Lives, Refusal, StoreState, Types, VolumeKeeps, alive_and}
+use Rattle.ffs_lib.proofs.Words.{empty_volume, err_from_is_err_and, files_of, init_of, is_for, is_fresh, is_short, is_shortage, latest, library_layout, life_at}
+use Rattle.ffs_lib.proofs.Words.{make_in, make_root_of, may_add, new_life, no_edits, none-some, pointer_word, propose_of, result_and_then, root, root_state}
+use Rattle.ffs_lib.proofs.Words.{slot_now, states, zero_block}
 use Rattle.xn_model.proofs.ForCallers.{accept, accepted, accepted_other, each_forth, set_other}
-use Rattle.ffs_model.specs.Cuts.{latest, root}
-use Rattle.ffs_model.specs.Names.{IsRoot}
-use Rattle.ffs_model.specs.Edits.{HoldsOnly}
-use Rattle.ffs_model.specs.Volumes.{VolumeKeeps, no_edits}
-use Rattle.ffs_model.specs.Shortages.{is_shortage}
-use Rattle.ffs_model.specs.Library.{library_layout, pointer_word, zero_block}
 use Rattle.ffs_model.proofs.ForCallers.{inodes_begun, library_reads, pointer_set, pointer_written, root_begun, root_made, root_set_short, root_short, rooted, rooted_here, rooted_others, started, started_here, started_holds, started_keeps, started_others, zeros_pointer}
-use Rattle.ffs_lookup.specs.declared.fault.FfsFault.{FfsFault}
-use Rattle.ffs_lookup.specs.Newest.{is_short, make_in}
-use Rattle.ffs_lookup.specs.Files.{empty_volume}
-use Rattle.ffs_lookup.specs.FileValues.{files_of}
-use Rattle.ffs_lookup.specs.declared.fault.FfsFault.TheVariants.{Kernel}
 use Rattle.ffs_lookup.proofs.ForCallers.{gives_err, pointer_is, root_again}
 use Rattle.ffs_lib.specs.Making.{IsBegun, Rooted, StopsFirst, StopsPointing, StopsRooting, StopsTop, first_pointer, rooted_of, top_inodes, with_root, without_block}
 use Rattle.ffs_lib.specs.Volumes.{edits_of}

@@ -1,17 +1,11 @@
 -- A list with one element more, and a directory with one entry more.
-use Rattle.std.proofs.Common.{◌≡◌, ◌≢◌, ℕ, zero, suc, ◌+◌, ◌-◌, ◌*◌, ◌<◌, ◌≤◌, Bool, true, false, cond, not, ◌&&◌, List, [], ◌∷◌, ◌++◌, length, take, drop, get_or, replicate, Option, Some, None, refl, sym, ◌∙◌, ap, inl, inr, arith, subst, append_assoc, eq-eqb}
-use Rattle.std.specs.Prelude.{Contains, ◌==◌, min, nat_le, filter_map, flat_map, slice_set, if◌then◌else◌, IsTrue}
-use Rattle.std.specs.List.{range_with_len, cons_option, list_all}
-use Rattle.std.proofs.Math.Nat.{min-eq_left}
-use Rattle.std.proofs.Math.Seq.{take-append_seam}
-use Rattle.std.proofs.lemmas.Bool.{and_parts, cases_eq, leb-true, ne_eqb, not-true, false≢true}
+use Rattle.std.proofs.Common.{◌≡◌, ◌≢◌, ℕ, zero, suc, ◌+◌, ◌-◌, ◌*◌, ◌<◌, ◌≤◌, Bool, true, false, cond, not, ◌&&◌, List, [], ◌∷◌, ◌++◌, length, take, drop, get_or, replicate, Option, Some, None, refl, sym, ◌∙◌, ap, inl, inr, arith, subst, append_assoc, eq-eqb, Contains, ◌==◌, min, nat_le, filter_map, flat_map, slice_set, if◌then◌else◌, IsTrue, leb-true, ne_eqb}
+use Rattle.ffs_lib.proofs.Words.{and_parts, blocks_of, cases_eq, cons_option, distinct, entry_of, false≢true, half_at, has_number, is_dots, is_name}
+use Rattle.ffs_lib.proofs.Words.{is_name_byte, is_name_length, list_all, min-eq_left, name_in, not-true, put, range_with_len, take-append_seam, unless_empty}
+use Rattle.ffs_lib.proofs.Words.{zero_block}
 use Rattle.std.proofs.lemmas.List.Concat.{flat_map-append}
-use Rattle.xn_model.specs.Lists.{blocks_of, distinct, has_number, put}
-use Rattle.xn_model.specs.Root.{unless_empty}
 use Rattle.xn_model.proofs.ForCallers.{Contains-cons, Contains-head, Contains-none, Contains-tail, has_number_from}
-use Rattle.ffs_model.specs.Library.{half_at, zero_block}
 use Rattle.ffs_model.proofs.ForCallers.{bytes_within, half_within, zero_half}
-use Rattle.ffs_format.specs.Entries.{entry_of, is_dots, is_name, is_name_byte, is_name_length, name_in}
 use Rattle.ffs_lib.proofs.Fields.{set_words}
 use Rattle.ffs_lib.proofs.Frames.{byte_within, half_stays, listed_at, name_stays}
 
@@ -136,9 +130,8 @@ module _ (m : List ℕ) (long : length m ≡ 512) (p : ℕ) (few : p < 16) (n : 
 
   pub name_here : name_in (put m (32 * p) bs) (32 * p) ≡ name
   name_here =
-      let k = min (get_or bs 2 0) 28 in
       ap (λ x. take (min x 28) (drop (32 * p + 4) (put m (32 * p) bs))) (byte_within m (32 * p) bs fits 2 (omega (arith, whole)))
-      ∙ (bytes_within m (32 * p) bs fits k 4 (omega (arith, whole)) ∙ (ap (λ x. name_in x 0) is ∙ entry_name n name named))
+      ∙ (bytes_within m (32 * p) bs fits (min (get_or bs 2 0) 28) 4 (omega (arith, whole)) ∙ (ap (λ x. name_in x 0) is ∙ entry_name n name named))
 
   module _ (some : n ≢ 0) (b : ℕ) where
     pub listed_here : listed_at b (put m (32 * p) bs) p ≡ Some (record { block = b; place = p; inode = n }, name)

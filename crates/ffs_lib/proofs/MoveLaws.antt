@@ -1,19 +1,8 @@
 -- What is left of a name that is moved, after its inode was named again and the old name taken.
-use Rattle.std.proofs.Common.{◌≡◌, ◌≢◌, ◌∙◌, ℕ, ◌*◌, ◌<◌, ◌≤◌, ◌++◌, ◌∷◌, List, None, Ok, Some, ap, arith, eq-eqb, inl, inr, length, length-append, refl, subst, suc, sym}
-use Rattle.std.specs.Prelude.{◌==◌, if◌then◌else◌}
-use Rattle.std.proofs.lemmas.Bool.{cases_eq}
-use Rattle.std.proofs.lemmas.Option.{none-some}
-use Rattle.xn_model.specs.Types.{Types}
-use Rattle.xn_model.specs.Lives.{StoreState}
-use Rattle.ffs_model.specs.Cuts.{latest}
-use Rattle.ffs_model.specs.Library.{inode_links}
-use Rattle.ffs_format.specs.Fields.{direct_in}
-use Rattle.ffs_lookup.specs.declared.fault.FfsFault.{FfsFault}
-use Rattle.ffs_lookup.specs.declared.places.Slot.{Slot}
-use Rattle.ffs_lookup.specs.Newest.{directory_in, inode_in, listing, named_in, without_entry}
+use Rattle.std.proofs.Common.{◌≡◌, ◌≢◌, ◌∙◌, ℕ, ◌*◌, ◌<◌, ◌≤◌, ◌++◌, ◌∷◌, List, None, Ok, Some, ap, arith, eq-eqb, inl, inr, length, length-append, refl, subst, suc, sym, ◌==◌, if◌then◌else◌}
+use Rattle.ffs_lib.proofs.Words.{AreBlocksOnce, FfsFault, Slot, StoreState, Types, blocks_value, cases_eq, direct_in, directory_in, inode_in, inode_links}
+use Rattle.ffs_lib.proofs.Words.{latest, listing, named_in, none-some, room, without_entry}
 use Rattle.ffs_lookup.proofs.ForCallers.{direct_has, first_value, same_ok}
-use Rattle.ffs_lookup.specs.Files.{room}
-use Rattle.ffs_lookup.specs.FileValues.{AreBlocksOnce, blocks_value}
 use Rattle.ffs_lib.specs.Results.{AsBefore, IsAs, IsExtended, MovedInodes, SameInode}
 use Rattle.ffs_lib.specs.Steps.{Clearing, NamedAgain, StopsNaming, StopsTaking, StopsUnnaming, Unnamed}
 use Rattle.ffs_lib.proofs.Entering.{directory_from, directory_same}
@@ -32,10 +21,8 @@ use Rattle.ffs_lib.proofs.ValueSteps.{as_direct}
 longer : (front back : List Listed) (e : Listed) → front ++ e ∷ back ≡ front ++ back → ⊥
 longer front back e same =
     let one : length (e ∷ back) ≡ suc (length back) = refl in
-    let more = length-append front (e ∷ back) in
-    let less = length-append front back in
     let both : length (front ++ e ∷ back) ≡ length (front ++ back) = ap length same in
-    omega (arith, one, more, less, both)
+    omega (arith, one, length-append front (e ∷ back), length-append front back, both)
 
 -- what the inode that is named has, besides its links
 abbrev SameListed : (ℕ → List ℕ) → (ℕ → List ℕ) → ℕ → ℕ → ℕ → Type 0
@@ -52,18 +39,14 @@ module _ (u w : ℕ → List ℕ) (fs d : ℕ) (name : List ℕ) (other : ℕ) (
   -- two links at least
   many : 1 ≤ inode_links x.own → (inode : List ℕ) → Ok inode ≡ inode_in w fs slot.inode → 1 < inode_links inode
   many linked inode i =
-      let n = slot.inode in
-      let v = z.middle in
-      elim (cases_eq n other) [
-        | inr ne ↦ let one = z.linked.links x.own inode x.is_own (i ∙ (z.entered.others n ne).0) in omega (arith, one, linked)
+      elim (cases_eq slot.inode other) [
+        | inr ne ↦ let one = z.linked.links x.own inode x.is_own (i ∙ (z.entered.others slot.inode ne).0) in omega (arith, one, linked)
         | inl e ↦
             let at = directory_from u fs other x.to x.is_to in
             let to1 = z.linked.before other x.to at.0 in
-            let more = z.entered.more to1.after (directory_to v fs other to1.after to1.found (to1.mode ∙ at.1)) in
+            let more = z.entered.more to1.after (directory_to z.middle fs other to1.after to1.found (to1.mode ∙ at.1)) in
             let same : inode_links inode ≡ inode_links more.after = ap inode_links (same_ok inode more.after (i ∙ (ap (inode_in w fs) e ∙ sym (directory_from w fs other more.after more.directory).0))) in
-            let kept = more.links in
-            let one = z.linked.links x.own to1.after x.is_own (to1.found ∙ ap (inode_in v fs) (sym e)) in
-            omega (arith, one, linked, same, kept)
+            omega (arith, z.linked.links x.own to1.after x.is_own (to1.found ∙ ap (inode_in z.middle fs) (sym e)), linked, same, more.links)
       ]
 
   -- the directory that is entered has an entry more
@@ -94,10 +77,8 @@ module _ (u w : ℕ → List ℕ) (fs d : ℕ) (name : List ℕ) (other : ℕ) (
       let entry = first_value u x.from name slot x.first in
       let k = entry.is in
       let lists : listing u x.from ≡ without_entry slot (listing w at.0) = ap (listing u) mine ∙ (sym same ∙ (ap (listing last) (sym one) ∙ (y.entries ∙ c.entries at.0))) in
-      let few = k.few in
-      let place = k.place in
       let stood : there_in slot.block slot.place (listing u x.from) ≡ Some (name, slot.inode) =
-      sym (place_listed slot.block slot.place u (omega (arith, few, place)) x.from (direct_has x.from entry.at.0 slot.block k.low k.block k.there)) ∙ entry.stands in
+      sym (place_listed slot.block slot.place u (omega (arith, k.few, k.place)) x.from (direct_has x.from entry.at.0 slot.block k.low k.block k.there)) ∙ entry.stands in
       none-some (name, slot.inode)
       (sym (there_without slot slot.block slot.place (listing w at.0)
       ∙ ap (λ t. if t then None else there_in slot.block slot.place (listing w at.0)) (both_true (slot.block == slot.block) (slot.place == slot.place) (eq-eqb slot.block slot.block refl) (eq-eqb slot.place slot.place refl)))
@@ -192,19 +173,15 @@ module _ (u w : ℕ → List ℕ) (fs d : ℕ) (name : List ℕ) (other : ℕ) (
               | inl is ↦ λ inode i. elim s.stage [
                 | inl same ↦ same_as v last fs e (subst (λ (y : StoreState). SameInode v (latest y.lives) fs e) (sym same) (same_here v fs e)) inode i
                 | inr k ↦
-                    let more = many linked inode (i ∙ (ap (inode_in v fs) is ∙ c.inodes n)) in
                     let one : inode_links inode ≡ inode_links s.inode = ap inode_links (same_ok inode s.inode (i ∙ (ap (inode_in v fs) is ∙ sym s.was))) in
-                    let low = k.last in
-                    absurd (omega (arith, one, more, low))
+                    absurd (omega (arith, one, many linked inode (i ∙ (ap (inode_in v fs) is ∙ c.inodes n)), k.last))
               ]
             ] in
             let mine : n ≢ d → AsBefore w last fs n = λ away inode i. elim s.stage [
               | inl same ↦ same_as w last fs n (subst (λ (y : StoreState). SameInode w (latest y.lives) fs n) (sym same) (own n away)) inode i
               | inr e ↦
-                  let more = many linked inode i in
                   let one : inode_links inode ≡ inode_links s.inode = ap inode_links (same_ok inode s.inode (i ∙ (sym (c.inodes n) ∙ sym s.was))) in
-                  let low = e.last in
-                  absurd (omega (arith, one, more, low))
+                  absurd (omega (arith, one, many linked inode i, e.last))
             ] in
             record {
               others = λ e ne ne'. elim (cases_eq e n) [

@@ -1,28 +1,12 @@
 -- What is left of names and files where a name is moved.
-use Rattle.std.proofs.Common.{◌≡◌, ◌≢◌, ℕ, ◌*◌, ◌/◌, ◌%◌, ◌<◌, Bool, true, false, cond, List, [], ◌∷◌, length, map, get_or, replicate, Option, Some, None, Ok, refl, sym, ◌∙◌, ap, inl, inr, arith, subst}
-use Rattle.std.specs.Prelude.{Contains, ◌==◌, filter_map, find, flat_map, if◌then◌else◌}
-use Rattle.std.specs.List.{cons_option, range_with_len}
-use Rattle.std.specs.Option.{ok_or, option_or}
-use Rattle.std.proofs.lemmas.Bool.{cases_eq}
-use Rattle.std.proofs.lemmas.List.Folds.{find-append}
-use Rattle.std.proofs.lemmas.Option.{none-some, same_Some}
-use Rattle.xn_model.specs.Types.{Types}
-use Rattle.xn_model.specs.Root.{word_at}
-use Rattle.xn_model.specs.Lives.{StoreState}
-use Rattle.xn_model.specs.Calls.{propose_of}
-use Rattle.xn_model.specs.Rules.{IsConsistent}
+use Rattle.std.proofs.Common.{◌≡◌, ◌≢◌, ℕ, ◌*◌, ◌/◌, ◌%◌, ◌<◌, Bool, true, false, cond, List, [], ◌∷◌, length, map, get_or, replicate, Option, Some, None, Ok, refl, sym, ◌∙◌, ap, inl, inr, arith, subst, Contains, ◌==◌, filter_map, find, flat_map, if◌then◌else◌, ok_or}
+use Rattle.ffs_lib.proofs.Words.{BadName, Found, IsConsistent, IsFound, IsLibrary, IsSlot, NoEntry, Slot, StoreState, Types, Under, cases_eq, cons_option}
+use Rattle.ffs_lib.proofs.Words.{fields_of, find-append, half_at, inode_blocks, inode_mode, is_name, latest, library_layout, none-some, option_or, propose_of}
+use Rattle.ffs_lib.proofs.Words.{range_with_len, same_Some, word_at}
 use Rattle.xn_model.proofs.ForCallers.{Contains-head, Contains-tail}
-use Rattle.ffs_model.specs.Cuts.{Under, latest}
-use Rattle.ffs_model.specs.Library.{IsLibrary, half_at, inode_blocks, inode_mode, library_layout}
 use Rattle.ffs_model.proofs.ForCallers.{direct_where, library_reads, proposed_here, proposed_others, under_direct, under_inodes}
-use Rattle.ffs_format.specs.Fields.{fields_of}
-use Rattle.ffs_format.specs.Entries.{is_name}
-use Rattle.ffs_lookup.specs.declared.fault.FfsFault.TheVariants.{BadName, NoEntry}
-use Rattle.ffs_lookup.specs.declared.places.Found.{Found}
-use Rattle.ffs_lookup.specs.declared.places.Slot.{Slot}
 use Rattle.ffs_lib.specs.Edits.{edit_at}
 use Rattle.ffs_lookup.specs.Newest.{byte_in, byte_of, directory_in, file_block, slots_in_block, entry_at, entry_named, named_in, used_entry, first_named, has_name, inode_in, listing, name_at, without_entry, most_bytes}
-use Rattle.ffs_lookup.specs.Places.{IsFound, IsSlot}
 use Rattle.ffs_lib.specs.Results.{AsBefore, IsAs, SameInode}
 use Rattle.ffs_lib.proofs.Entering.{directory_from, inode_put}
 use Rattle.ffs_lib.proofs.Fields.{direct_get, same_blocks}
@@ -94,8 +78,7 @@ relinked T lib state new h fs few n found is exact bytes whole mode direct last 
       size = size;
       entries = ap (λ bs. listing_of w bs) (same_blocks found.inode bytes direct) ∙ listing_same w v found.inode (λ b i.
           let x = direct_where found.inode b i in
-          let lt = x.1 in
-          away b 2 (block_at T lib state h fs few n found.inode stands x.0 b (omega (arith, lt)) (direct_block v found.inode x.0 lt ∙ x.2) x.3) (λ z. omega (arith, z)));
+          away b 2 (block_at T lib state h fs few n found.inode stands x.0 b (omega (arith, x.1)) (direct_block v found.inode x.0 x.1 ∙ x.2) x.3) (λ z. omega (arith, z)));
       each = each;
       direct = direct;
       room = room_by v w found.inode bytes direct each;
@@ -124,8 +107,7 @@ name_lost T lib state new h fs few slot is after entry done =
       listing_without slot v w is.long is.few (proposed_here T state new h fs slot.block edit entry done) (proposed_others T state new h fs slot.block edit entry done),
       λ n own e has d ne.
           let x = direct_where own slot.block has in
-          let lt = x.1 in
-          data_touched T lib state h fs few w slot.block 2 t refl n own (stands_from v fs n own e) x.0 (omega (arith, lt)) (direct_block v own x.0 lt ∙ x.2) x.3 d ne,
+          data_touched T lib state h fs few w slot.block 2 t refl n own (stands_from v fs n own e) x.0 (omega (arith, x.1)) (direct_block v own x.0 x.1 ∙ x.2) x.3 d ne,
     )
 
 -- it stands in a block of its directory

@@ -1,17 +1,10 @@
 -- Names are good where no inode has more names than links.
-use Rattle.std.proofs.Common.{◌≡◌, ◌≢◌, ℕ, suc, ◌+◌, ◌-◌, ◌*◌, ◌/◌, ◌%◌, ◌<◌, ◌≤◌, inl, inr, Bool, true, false, cond, List, [], ◌∷◌, map, length, Option, Some, None, refl, sym, ◌∙◌, ap, arith, subst}
-use Rattle.std.specs.Prelude.{Contains, Result, Ok, Err, ◌==◌, nat_lt, filter, filter_map, flat_map, if◌then◌else◌}
-use Rattle.std.specs.List.{range_with_len, cons_option}
-use Rattle.std.specs.Result.{result_ok}
-use Rattle.std.proofs.lemmas.Bool.{cases_lt, eq-eqb, le-ltb, lt-ltb, ne_eqb}
-use Rattle.std.proofs.lemmas.List.Elements.{Contains-append_left, Contains-append_right}
+use Rattle.std.proofs.Common.{◌≡◌, ◌≢◌, ℕ, suc, ◌+◌, ◌-◌, ◌*◌, ◌/◌, ◌%◌, ◌<◌, ◌≤◌, inl, inr, Bool, true, false, cond, List, [], ◌∷◌, map, length, Option, Some, None, refl, sym, ◌∙◌, ap, arith, subst, Contains, Result, Ok, Err, ◌==◌, nat_lt, filter, filter_map, flat_map, if◌then◌else◌, eq-eqb, le-ltb, lt-ltb, ne_eqb}
+use Rattle.ffs_lib.proofs.Words.{Contains-append_left, Contains-append_right, FfsFault, HasLinks, IsInodes, LeavesRoom, LinksGood, Names, Slot, cases_lt}
+use Rattle.ffs_lib.proofs.Words.{cons_option, half_at, inode_at, inode_blocks, inode_links, inode_mode, library_layout, range_with_len, result_ok}
 use Rattle.std.proofs.lemmas.List.Sums.{length-filter}
 use Rattle.xn_model.proofs.ForCallers.{Contains-cons, Contains-head, Contains-none, Contains-tail, filter_from}
-use Rattle.ffs_model.specs.Names.{HasLinks, IsInodes, LeavesRoom, LinksGood, Names}
-use Rattle.ffs_model.specs.Library.{half_at, inode_at, inode_blocks, inode_links, inode_mode, library_layout}
 use Rattle.ffs_model.proofs.ForCallers.{blocks_read, links_read, mode_read, one_more}
-use Rattle.ffs_lookup.specs.declared.fault.FfsFault.{FfsFault}
-use Rattle.ffs_lookup.specs.declared.places.Slot.{Slot}
 use Rattle.ffs_lookup.specs.Newest.{directory_in, slots_in_block, slots_of, entry_at, inode_in, used_entry}
 use Rattle.ffs_lookup.specs.Counts.{all_entries, directory_inodes_in, is_over, links_in, links_or_none, named_numbers, names_count, numbers_of, over_named}
 use Rattle.ffs_lookup.proofs.ForCallers.{directory_is, in_directory, least_none}
@@ -94,16 +87,13 @@ module _ (content : ℕ → List ℕ) (fs n : ℕ) (y : ℕ × ℕ) (some : n �
 
   found : Ok inode ≡ directory_in content fs number
   found =
-      let few = index_few in
-      let low = place_few in
-      let two = is_directory in
-      directory_is inode two ∙ in_directory content fs number (Ok inode) (stands_to content fs number inode (record {
+      directory_is inode is_directory ∙ in_directory content fs number (Ok inode) (stands_to content fs number inode (record {
         some = λ z. absurd (omega (arith, z));
-        low = omega (arith, few, low);
+        low = omega (arith, index_few, place_few);
         block = x.block;
         inodes = subst (λ j. IsInodes library_layout content fs j x.block) (sym at_index) x.inodes;
         bytes = ap (inode_at (content x.block)) (sym at_place);
-        used = λ z. absurd (omega (arith, two, z));
+        used = λ z. absurd (omega (arith, is_directory, z));
       }))
 
   abbrev slot : Slot
@@ -111,11 +101,9 @@ module _ (content : ℕ → List ℕ) (fs n : ℕ) (y : ℕ × ℕ) (some : n �
 
   pub slot_among : Contains (all_entries content fs) slot
   slot_among =
-      let few = index_few in
-      let low = place_few in
       let read = under_test (nat_lt y.1 16) (half_at (content y.0) (32 * y.1)) n x.names some in
       let there : Contains (directory_inodes_in content fs) inode =
-      filter_map_has (λ k. result_ok (directory_in content fs k)) (range_with_len 1 128) number inode (among 128 1 number (omega arith) (omega (arith, few, low))) (ap result_ok (sym found)) in
+      filter_map_has (λ k. result_ok (directory_in content fs k)) (range_with_len 1 128) number inode (among 128 1 number (omega arith) (omega (arith, index_few, place_few))) (ap result_ok (sym found)) in
       let has : Contains (inode_blocks inode) y.0 = subst (λ xs. Contains xs y.0) (blocks_read (content x.block) x.place place_few) x.has in
       let is : used_entry (entry_at content y.0 y.1) ≡ Some slot =
       ap (λ (t : Bool). if t then None else Some (entry_at content y.0 y.1)) (ne_eqb (half_at (content y.0) (32 * y.1)) 0 (λ z. some (sym read.1 ∙ z)))
@@ -147,12 +135,11 @@ module _ (content : ℕ → List ℕ) (fs : ℕ) where
   -- distinct slots that name an inode are no more than are counted
   pub names_within : (n : ℕ) → n ≢ 0 → LeavesRoom 0 (names_count content fs n) (Names library_layout content fs n)
   names_within n some ys d all =
-      let count = places_count content fs n in
       let le = within (places_naming (all_entries content fs) n) ys d (λ y i.
       let x = all y i in
       map_has place_of (filter (λ entry. entry.inode == n) (all_entries content fs)) (slot content fs n y some x)
       (filter_from (λ entry. entry.inode == n) (all_entries content fs) (slot content fs n y some x) (slot_among content fs n y some x) (eq-eqb n n refl))) in
-      omega (arith, count, le)
+      omega (arith, places_count content fs n, le)
 
   module _ (none : over_named content fs ≡ None) where
     no_filter : filter (is_over content fs) (named_numbers content fs) ≡ []
@@ -173,9 +160,7 @@ module _ (content : ℕ → List ℕ) (fs : ℕ) where
         enough : LeavesRoom 0 (links_in content fs n) (Names library_layout content fs n)
         enough ys d all =
             let named = map_has (λ (entry : Slot). entry.inode) (all_entries content fs) (slot content fs n y some x) (slot_among content fs n y some x) in
-            let le = no_over n named in
-            let few = names_within n some ys d all in
-            omega (arith, le, few)
+            omega (arith, no_over n named, names_within n some ys d all)
 
         one : 1 ≤ links_in content fs n
         one = let few = enough (y ∷ []) (λ i. Contains-none y i, tt) (λ z i. elim (Contains-cons y [] z i) [ inl e ↦ subst (Names library_layout content fs n) e x | inr j ↦ absurd (Contains-none z j) ]) in omega (arith, few)

@@ -1,28 +1,14 @@
 -- What the edits leave by which a name is made.
-use Rattle.std.proofs.Common.{◌≡◌, ◌≢◌, ℕ, ◌+◌, ◌-◌, ◌*◌, ◌/◌, ◌%◌, ◌^◌, ◌<◌, List, [], ◌∷◌, length, replicate, Option, None, Some, Ok, Err, refl, sym, ◌∙◌, ap, arith, subst, inl, inr}
-use Rattle.std.specs.Prelude.{Contains, IsTrue, find, option_map, slice_set, ◌==◌}
-use Rattle.std.proofs.lemmas.Bool.{cases_eq}
-use Rattle.std.specs.Int.{w32, to_le_bytes}
-use Rattle.std.specs.List.{list_any, range_with_len}
-use Rattle.xn_model.specs.Types.{Types}
-use Rattle.xn_model.specs.Lists.{put}
-use Rattle.xn_model.specs.Lives.{StoreState}
-use Rattle.xn_model.specs.Calls.{Edit, forget_of, init_of, propose_of, was_given}
+use Rattle.std.proofs.Common.{◌≡◌, ◌≢◌, ℕ, ◌+◌, ◌-◌, ◌*◌, ◌/◌, ◌%◌, ◌^◌, ◌<◌, List, [], ◌∷◌, length, replicate, Option, None, Some, Ok, Err, refl, sym, ◌∙◌, ap, arith, subst, inl, inr, Contains, IsTrue, find, option_map, slice_set, ◌==◌, w32}
+use Rattle.ffs_lib.proofs.Words.{Edit, FfsFault, Fields, Found, IsDirectory, IsEmptyPointer, IsFree, IsGap, IsInodes, IsRoot, NoEntry, OneEntry, StoreState}
+use Rattle.ffs_lib.proofs.Words.{Types, cases_eq, direct_in, fields_of, forget_of, init_of, inode_at, inode_blocks, inode_links, inode_mode, inode_pairs}
+use Rattle.ffs_lib.proofs.Words.{latest, library_layout, list_any, pointer_word, propose_of, put, range_with_len, to_le_bytes, was_given, without_edit}
+use Rattle.ffs_lib.proofs.Words.{zero_block}
 use Rattle.xn_model.proofs.ForCallers.{Contains-head}
-use Rattle.ffs_model.specs.Cuts.{latest}
-use Rattle.ffs_model.specs.Edits.{OneEntry}
-use Rattle.ffs_model.specs.Names.{IsInodes, IsRoot}
-use Rattle.ffs_model.specs.Library.{inode_at, inode_blocks, inode_links, inode_mode, inode_pairs, library_layout, pointer_word, zero_block}
-use Rattle.ffs_model.specs.Volumes.{without_edit}
 use Rattle.ffs_model.proofs.ForCallers.{Replaces, blocks_read, begun_next, given_later, library_reads, mode_read, one_entry, one_later, proposed_given, proposed_others, started_here, started_holds, started_keeps, started_names, under_direct, zeros_mode, zeros_pointer}
-use Rattle.ffs_format.specs.Fields.{Fields, direct_in, fields_of}
-use Rattle.ffs_lookup.specs.declared.places.Found.{Found}
-use Rattle.ffs_lookup.specs.declared.fault.FfsFault.{FfsFault}
-use Rattle.ffs_lookup.specs.declared.fault.FfsFault.TheVariants.{NoEntry}
 use Rattle.ffs_lookup.specs.declared.places.Free.{Free}
 use Rattle.ffs_lookup.specs.Newest.{IsLowest, directory_in, has_free_at, has_room, inode_block_in, inode_in, number_from, room_in, root_in}
 use Rattle.ffs_lookup.specs.declared.places.Room.TheVariants.{Entry, Pointer}
-use Rattle.ffs_lookup.specs.Places.{IsDirectory, IsEmptyPointer, IsFree, IsGap}
 use Rattle.ffs_lookup.proofs.ForCallers.{directory_is, find_none, free_mode, in_directory, root_again, same_ok}
 use Rattle.ffs_lib.specs.Edits.{edit_at}
 use Rattle.ffs_lib.specs.NewOrder.{missing_block, new_edits}
@@ -30,12 +16,12 @@ use Rattle.ffs_lib.specs.Orders.{made_of}
 use Rattle.ffs_lib.specs.Outcomes.{HasFreePointer, IsAdded, IsGrown, IsMade}
 use Rattle.ffs_lib.specs.Results.{HasMore, IsLowestNumber, SameInode, SameOrNew, new_inode}
 use Rattle.ffs_lib.specs.Steps.{Entered, IsEntry, IsHome, MadeInode, MayName, ShortEdit, Stage, StopsAtRoom, StopsAttaching, StopsEntering, StopsGrowing, Tells, Wants, left_by}
+use Rattle.ffs_lib.proofs.Tests.{never}
 use Rattle.ffs_lib.proofs.Edited.{attached, entered, grown, made, same_root}
 use Rattle.ffs_lib.proofs.Entering.{begun_same, block_entered, directory_from, directory_same, free_none, gap_entered, inode_put}
 use Rattle.ffs_lib.proofs.Fields.{free_blocks, one_more, same_blocks, zeros_inode}
 use Rattle.ffs_lib.proofs.Laws.{can_edit, gives_of, home_of}
 use Rattle.ffs_lib.proofs.Linked.{same_room}
-use Rattle.ffs_lib.proofs.Tops.{never}
 use Rattle.ffs_lib.proofs.NewOrder.{missing_is, new_is}
 use Rattle.ffs_lib.proofs.Orders.{last_number, one_order}
 use Rattle.ffs_lib.proofs.Owners.{block_from, stands_from}
@@ -129,11 +115,9 @@ module _ (T : Types) (fs : ℕ) (array : ℕ → Option ℕ) (zeroth first : Sto
         Stage T fs array second × (Entered (latest zeroth.lives) (latest second.lives) fs d name n × IsTrue (was_given second (Some entry)))
     grows second entry sized put_done =
         let h = s.keeps.consistent in
-        let s1 = grow_stage in
-        let h1 = s1.keeps.consistent in
+        let h1 = grow_stage.keeps.consistent in
         let reads = library_reads T s.library in
         let v1 = latest first.lives in
-        let stands = at.is.stands in
         let edit = edit_at (64 * found.place) after ((block, 2) ∷ []) [] (Some e) in
         let mode : inode_mode after ≡ 2 = ap (λ (f : Fields). f.mode) set ∙ at.directory in
         let links = ap (λ (f : Fields). f.links) set in
@@ -142,18 +126,18 @@ module _ (T : Types) (fs : ℕ) (array : ℕ → Option ℕ) (zeroth first : Sto
         let one : OneEntry library_layout (put zero_block 0 bytes) n = subst (OneEntry library_layout (put zero_block 0 bytes)) b.half (one_entry bytes b.whole) in
         let holds = started_holds T library_layout reads fs s.few array zeroth first s.keeps fs 2 (put zero_block 0 bytes) (block, number) done in
         let names = started_names T library_layout reads fs s.few array zeroth first s.keeps fs 2 (put zero_block 0 bytes) (block, number) done n e m.can in
-        let k = grown T s.library fs s.few array first second s1.keeps d found.block found.place stands after whole ((block, 2) ∷ []) [] (Some e) entry put_done block n e (put zero_block 0 bytes)
+        let k = grown T s.library fs s.few array first second grow_stage.keeps d found.block found.place at.is.stands after whole ((block, 2) ∷ []) [] (Some e) entry put_done block n e (put zero_block 0 bytes)
         (ap inode_mode (sym at.is.bytes) ∙ at.directory) mode (links ∙ ap inode_links at.is.bytes)
         (λ c i. elim (one_more found.inode after index block c direct i) [ inl j ↦ inl (subst (λ (x : List ℕ). Contains (inode_blocks x) c) at.is.bytes j) | inr z ↦ inr z ])
         m.some holds one (Contains-head (block, 2) []) names refl in
-        let p = inode_put T s.library first second h1 fs s.few d found.block found.place stands own.low after whole (λ z. at.is.used (at.directory ∙ (sym mode ∙ z))) ((block, 2) ∷ []) [] (Some e) entry put_done in
+        let p = inode_put T s.library first second h1 fs s.few d found.block found.place at.is.stands own.low after whole (λ z. at.is.used (at.directory ∙ (sym mode ∙ z))) ((block, 2) ∷ []) [] (Some e) entry put_done in
         let g : IsGrown v1 (latest second.lives) fs d found.inode index block = record {
           after = after;
           directory = directory_is after mode ∙ in_directory (latest second.lives) fs d (Ok after) (sym p.0);
           links = links;
           direct = direct;
           size = ap (λ (f : Fields). f.size) set ∙ sized;
-          bytes = λ c none. proposed_others T first second h1 fs found.block edit entry put_done c (λ z. none (subst (λ x. IsInodes library_layout v1 fs ((d - 1) / 8) x) (sym z) stands.inodes));
+          bytes = λ c none. proposed_others T first second h1 fs found.block edit entry put_done c (λ z. none (subst (λ x. IsInodes library_layout v1 fs ((d - 1) / 8) x) (sym z) at.is.stands.inodes));
           others = p.1;
         } in
         let more = block_entered T s.library zeroth first second h h1 fs s.few block number bytes done d index n name inode dir empty low gap there found.inode exact g b.spelled b.whole b.named b.half m.some in (

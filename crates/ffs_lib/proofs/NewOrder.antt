@@ -1,24 +1,9 @@
 -- Which edits make a file, a directory or a volume.
-use Rattle.std.proofs.Common.{◌≡◌, ℕ, zero, suc, ◌+◌, ◌-◌, ◌*◌, ◌/◌, ◌%◌, ◌<◌, ◌≤◌, Bool, true, false, List, [], ◌∷◌, length, Option, None, Some, Result, Ok, Err, refl, sym, ◌∙◌, ap, inl, inr, arith, subst, eq-eqb}
-use Rattle.std.specs.Prelude.{IsErrAnd, IsOk, OnOk, find, option_map, ◌==◌, ◌&&◌, ◌||◌, not, if◌then◌else◌}
-use Rattle.std.specs.List.{list_any, range_with_len}
-use Rattle.std.specs.Option.{ok_or}
-use Rattle.std.proofs.lemmas.Bool.{cases_eq, ne_eqb}
-use Rattle.std.proofs.lemmas.Result.{err_from_is_err_and}
-use Rattle.xn_model.specs.Types.{Types}
-use Rattle.xn_model.specs.Lives.{StoreState}
-use Rattle.xn_model.specs.Results.{result_and_then}
-use Rattle.xn_model.specs.Calls.{init_of, slot_now}
-use Rattle.ffs_model.specs.Cuts.{latest}
-use Rattle.ffs_model.specs.Library.{inode_at, pointer_word}
-use Rattle.ffs_model.specs.Names.{IsRoot}
-use Rattle.ffs_model.specs.Volumes.{without_edit}
-use Rattle.ffs_lookup.specs.declared.fault.FfsFault.{FfsFault}
+use Rattle.std.proofs.Common.{◌≡◌, ℕ, zero, suc, ◌+◌, ◌-◌, ◌*◌, ◌/◌, ◌%◌, ◌<◌, ◌≤◌, Bool, true, false, List, [], ◌∷◌, length, Option, None, Some, Result, Ok, Err, refl, sym, ◌∙◌, ap, inl, inr, arith, subst, eq-eqb, IsErrAnd, IsOk, OnOk, find, option_map, ◌==◌, ◌&&◌, ◌||◌, not, if◌then◌else◌, ok_or, ne_eqb}
+use Rattle.ffs_lib.proofs.Words.{FfsFault, IsFree, IsRoot, NoInode, StoreState, Types, and_then, cases_eq, create_in, entry_of, err_from_is_err_and}
+use Rattle.ffs_lib.proofs.Words.{has_free_at, has_free_inode, init_of, inode_at, inode_block_in, is_free_inode, latest, list_any, make_in, number_in}
+use Rattle.ffs_lib.proofs.Words.{pointer_word, range_with_len, result_and_then, root_in, slot_now, without_edit}
 use Rattle.ffs_lookup.specs.declared.places.Free.{Free}
-use Rattle.ffs_format.specs.Entries.{entry_of}
-use Rattle.ffs_lookup.specs.declared.fault.FfsFault.TheVariants.{NoInode}
-use Rattle.ffs_lookup.specs.Newest.{and_then, create_in, has_free_at, has_free_inode, inode_block_in, is_free_inode, make_in, number_in, root_in}
-use Rattle.ffs_lookup.specs.Places.{IsFree}
 use Rattle.ffs_lookup.proofs.ForCallers.{pointer_is, root_again}
 use Rattle.ffs_lib.specs.Edits.{edit_at}
 use Rattle.ffs_lib.specs.Making.{StopsTop, first_pointer, rooted_of, top_inodes}
@@ -63,12 +48,10 @@ free_there state fs free is =
     let stands = is.stands in
     let root = stands.inodes.root in
     let index : ℕ = (free.number - 1) / 8 in
-    let few = is.low in
-    let low : index < 16 = omega (arith, few) in
+    let low : index < 16 = omega (arith, is.low) in
     let points : pointer_word (v root) index ≡ free.block = sym (pointer_is (v root) index low) ∙ stands.inodes.points in
-    let placed = stands.few in
     let here : is_free_inode (inode_at (v free.block) free.place) ≡ true = ap is_free_inode is.bare in
-    let place = any_in (λ p. is_free_inode (inode_at (v free.block) p)) 0 8 free.place (omega arith) (omega (arith, placed)) here in
+    let place = any_in (λ p. is_free_inode (inode_at (v free.block) p)) 0 8 free.place (omega arith) (omega (arith, stands.few)) here in
     let block : has_free_at v free.block ≡ true = ap (λ (t : Bool). not t && list_any (λ p. is_free_inode (inode_at (v free.block) p)) (range_with_len 0 8)) (ne_eqb free.block 0 stands.inodes.there) ∙ place in
     missing_none v fs root (root_again v fs root stands.inodes.is_root) (any_in (λ i. has_free_at v (pointer_word (v root) i)) 0 16 index (omega arith) (omega (arith, low)) (ap (has_free_at v) points ∙ block))
 

@@ -1,18 +1,7 @@
 -- The numbers of edits that a volume keeps.
-use Rattle.std.proofs.Common.{◌≡◌, ℕ, zero, suc, refl, [], ◌∷◌, ◌+◌, ◌-◌, ◌*◌, ◌/◌, ◌<◌, ◌≤◌, List, length, get_or, Option, Some, None, sym, ◌∙◌, ap, inl, inr, arith, subst, eq-eqb}
-use Rattle.std.specs.Prelude.{if◌then◌else◌}
-use Rattle.std.proofs.Math.ListN.{set}
-use Rattle.std.proofs.lemmas.Bool.{cases_eq, ne_eqb}
-use Rattle.std.proofs.lemmas.Grind.{get_or-set_at}
-use Rattle.std.proofs.lemmas.List.{get_or-set_other}
-use Rattle.xn_model.specs.Types.{Types}
-use Rattle.xn_model.specs.Lives.{StoreState}
-use Rattle.ffs_model.specs.Cuts.{latest}
-use Rattle.ffs_model.specs.Names.{IsInodes}
-use Rattle.ffs_model.specs.Volumes.{with_edit, without_edit}
-use Rattle.ffs_model.specs.Library.{library_layout, inode_at}
+use Rattle.std.proofs.Common.{◌≡◌, ℕ, zero, suc, refl, [], ◌∷◌, ◌+◌, ◌-◌, ◌*◌, ◌/◌, ◌<◌, ◌≤◌, List, length, get_or, Option, Some, None, sym, ◌∙◌, ap, inl, inr, arith, subst, eq-eqb, if◌then◌else◌, set, get_or-set_other, ne_eqb}
+use Rattle.ffs_lib.proofs.Words.{IsFree, IsInodes, StoreState, Types, cases_eq, get_or-set_at, inode_at, latest, library_layout, with_edit, without_edit}
 use Rattle.ffs_lib.specs.Outcomes.{IsAdded}
-use Rattle.ffs_lookup.specs.Places.{IsFree}
 use Rattle.ffs_lib.specs.Volumes.{edits_of}
 
 module _ (added : List (Option ℕ)) (index : ℕ) (low : index < length added) where

@@ -1,19 +1,8 @@
 -- What a volume is opened or made with.
-use Rattle.std.proofs.Common.{◌≡◌, ℕ, ◌<◌, inl, inr, Bool, true, false, Option, Some, None, Ok, refl, arith}
-use Rattle.std.specs.Prelude.{◌==◌}
-use Rattle.std.proofs.lemmas.Bool.{eqb-true}
-use Rattle.xn_model.specs.Types.{Types}
-use Rattle.xn_model.specs.Lives.{StoreState}
-use Rattle.xn_model.specs.Calls.{pending_of}
-use Rattle.xn_model.specs.Rules.{IsConsistent}
-use Rattle.ffs_model.specs.Cuts.{latest}
-use Rattle.ffs_model.specs.Names.{IsInodes}
-use Rattle.ffs_model.specs.Library.{library_layout}
-use Rattle.ffs_model.specs.Volumes.{KeepsImage, VolumeKeeps, no_edits}
+use Rattle.std.proofs.Common.{◌≡◌, ℕ, ◌<◌, inl, inr, Bool, true, false, Option, Some, None, Ok, refl, arith, ◌==◌, eqb-true}
+use Rattle.ffs_lib.proofs.Words.{IsConsistent, IsInodes, KeepsImage, Pending, StoreState, Types, VolumeKeeps, inode_block_in, latest, library_layout, make_from}
+use Rattle.ffs_lib.proofs.Words.{make_in, no_edits, open_in, over_named, pending_of, sound_in, unless_over}
 use Rattle.ffs_model.proofs.ForCallers.{library_reads, newest_types, no_root_keeps, nothing_pending, opened_keeps, rest_keeps}
-use Rattle.ffs_lookup.specs.declared.fault.FfsFault.TheVariants.{Pending}
-use Rattle.ffs_lookup.specs.Newest.{inode_block_in, make_in}
-use Rattle.ffs_lookup.specs.Counts.{make_from, open_in, over_named, sound_in, unless_over}
 use Rattle.ffs_lib.specs.Steps.{Stage}
 use Rattle.ffs_lib.specs.Volumes.{MayOpen, NothingPending}
 use Rattle.ffs_lib.proofs.NameCounts.{counted_good}

@@ -1,26 +1,10 @@
 -- Which edits a call makes, one after another.
-use Rattle.std.proofs.Common.{◌≡◌, ◌≢◌, ℕ, suc, ◌+◌, ◌-◌, ◌*◌, ◌/◌, ◌%◌, ◌<◌, ◌≤◌, ◌⊎◌, Bool, true, false, List, [], ◌∷◌, length, take, replicate, Option, None, Some, Result, Ok, Err, refl, sym, ◌∙◌, ap, inl, inr, arith, subst, eq-eqb}
-use Rattle.std.specs.Prelude.{IfOk, IsErrAnd, ◌==◌, ◌||◌, not, nat_lt, if◌then◌else◌}
-use Rattle.std.proofs.lemmas.Bool.{cases_eq, le-ltb, lt-ltb, ne_eqb}
-use Rattle.std.proofs.lemmas.Result.{err_from_is_err_and}
-use Rattle.std.specs.Int.{w16, to_le_bytes}
-use Rattle.xn_model.specs.Lists.{put}
-use Rattle.xn_model.specs.Types.{Types}
-use Rattle.xn_model.specs.Root.{word_at}
-use Rattle.xn_model.specs.Lives.{StoreState}
-use Rattle.xn_model.specs.Results.{result_and_then}
-use Rattle.xn_model.specs.Calls.{Edit, init_of, propose_of}
-use Rattle.xn_model.specs.Rules.{IsConsistent}
-use Rattle.ffs_model.specs.Cuts.{Under, latest}
-use Rattle.ffs_model.specs.Library.{IsLibrary, inode_links, library_layout}
+use Rattle.std.proofs.Common.{◌≡◌, ◌≢◌, ℕ, suc, ◌+◌, ◌-◌, ◌*◌, ◌/◌, ◌%◌, ◌<◌, ◌≤◌, ◌⊎◌, Bool, true, false, List, [], ◌∷◌, length, take, replicate, Option, None, Some, Result, Ok, Err, refl, sym, ◌∙◌, ap, inl, inr, arith, subst, eq-eqb, IfOk, IsErrAnd, ◌==◌, ◌||◌, not, nat_lt, if◌then◌else◌, le-ltb, lt-ltb, ne_eqb, w16}
+use Rattle.ffs_lib.proofs.Words.{Edit, FfsFault, IsConsistent, IsLibrary, IsSlot, Room, Slot, StoreState, Types, Under, cases_eq, directory_in, entry_of}
+use Rattle.ffs_lib.proofs.Words.{err_from_is_err_and, init_of, inode_block_in, inode_in, inode_links, latest, library_layout, propose_of, put, result_and_then}
+use Rattle.ffs_lib.proofs.Words.{room_in, to_le_bytes, word_at}
 use Rattle.ffs_model.proofs.ForCallers.{library_reads, one_type, proposed, proposed_next, proposed_others, under_direct}
-use Rattle.ffs_lookup.specs.declared.fault.FfsFault.{FfsFault}
-use Rattle.ffs_lookup.specs.declared.places.Slot.{Slot}
-use Rattle.ffs_lookup.specs.declared.places.Room.{Room}
 use Rattle.ffs_lookup.specs.declared.places.Room.TheVariants.{Entry}
-use Rattle.ffs_format.specs.Entries.{entry_of}
-use Rattle.ffs_lookup.specs.Places.{IsSlot}
-use Rattle.ffs_lookup.specs.Newest.{directory_in, inode_block_in, inode_in, room_in}
 use Rattle.ffs_lib.specs.Edits.{data_of_pointers, edit_at}
 use Rattle.ffs_lib.specs.Orders.{Action, Acts, Attaches, Edits, FirstMade, InOrder, Makes, Numbered, Orders, Parts, StopsAct, StopsIn, act_of, edits_at, entered_action, free_edit, has_data, inode_edits, linked_edits, links_edit, NamesInOrder, made_by, made_of, moved_parts, pointers_edit, removed_edits, replaced_parts, room_action, taken_edits, turned_edits, inode_action}
 use Rattle.ffs_lib.specs.Steps.{Attached, Dropped, Proposed, Stage, clearing, skipped}
@@ -43,9 +27,8 @@ pub then_order : {A : Type 0} (T : Types) (fs block : ℕ) (edit : Edit) (rest :
     Orders T fs ((block, edit) ∷ rest) old new result
 then_order T fs block edit rest old first new entry done (Ok x) o = ap (result_and_then (λ y. made_of T fs rest y.1)) done ∙ o
 then_order T fs block edit rest old first new entry done (Err fault) o =
-    let one = proposed_next T old first fs block edit entry done in
     let more = edits_next T fs (take (new.next - first.next) rest) first new o in
-    let count : new.next - old.next ≡ suc (new.next - first.next) = omega (arith, one, more) in
+    let count : new.next - old.next ≡ suc (new.next - first.next) = omega (arith, proposed_next T old first fs block edit entry done, more) in
     ap (λ k. made_of T fs (take k ((block, edit) ∷ rest)) old) count ∙ (ap (result_and_then (λ y. made_of T fs (take (new.next - first.next) rest) y.1)) done ∙ o)
 
 pub none_order : {A : Type 0} (T : Types) (fs : ℕ) (edits : Edits) (old new : StoreState) → new ≡ old → (fault : FfsFault) (result : Result A FfsFault) → IsErrAnd result (λ other. other ≡ fault) → Orders T fs edits old new result
@@ -177,9 +160,7 @@ numbered T fs block edit old new (Err fault) p = tt
 
 pub last_number : (T : Types) (fs block : ℕ) (edit : Edit) (old new : StoreState) (entry : ℕ) → propose_of T old fs block edit ≡ Ok (entry, new) → entry ≡ new.next - 1
 last_number T fs block edit old new entry done =
-    let given = number_is T old fs block edit entry new done in
-    let next = proposed_next T old new fs block edit entry done in
-    omega (arith, given, next)
+    omega (arith, number_is T old fs block edit entry new done, proposed_next T old new fs block edit entry done)
 
 pub linked_is : (content : ℕ → List ℕ) (fs n home place : ℕ) (inode bytes : List ℕ) → Ok home ≡ inode_block_in content fs ((n - 1) / 8) → place ≡ (n - 1) % 8 → Ok inode ≡ inode_in content fs n → bytes ≡ put inode 2 (to_le_bytes w16 (inode_links inode + 1)) →
     (home, edit_at (64 * place) bytes [] [] None) ∷ [] ≡ linked_edits content fs n

@@ -1,21 +1,10 @@
 -- Where the inode in use with a number stands, and that no block is in two of them.
-use Rattle.std.proofs.Common.{◌≡◌, ◌≢◌, ℕ, ◌+◌, ◌-◌, ◌*◌, ◌/◌, ◌%◌, ◌<◌, ◌≤◌, ◌⊎◌, Bool, true, false, List, Ok, Err, refl, sym, ◌∙◌, ap, inl, inr, arith, subst}
-use Rattle.std.specs.Prelude.{Contains, Result, ◌==◌, ◌||◌, nat_lt, if◌then◌else◌}
-use Rattle.std.proofs.lemmas.Bool.{cases_lt, eqb-false, eqb-true, lt-ltb, le-ltb}
-use Rattle.std.proofs.lemmas.Option.{same_Some}
+use Rattle.std.proofs.Common.{◌≡◌, ◌≢◌, ℕ, ◌+◌, ◌-◌, ◌*◌, ◌/◌, ◌%◌, ◌<◌, ◌≤◌, ◌⊎◌, Bool, true, false, List, Ok, Err, refl, sym, ◌∙◌, ap, inl, inr, arith, subst, Contains, Result, ◌==◌, ◌||◌, nat_lt, if◌then◌else◌, eqb-true, lt-ltb, le-ltb}
+use Rattle.ffs_lib.proofs.Words.{FfsFault, IsConsistent, IsInodes, IsLibrary, IsRoot, Life, NoEntry, StoreState, Types, Under, and_then, cases_lt, direct_in}
+use Rattle.ffs_lib.proofs.Words.{direct_word, eqb-false, file_block, inode_at, inode_block_in, inode_in, inode_mode, latest, library_layout, pointer_word, root}
+use Rattle.ffs_lib.proofs.Words.{root_in, same_Some, slot, step, unless_unused, unless_zero, word_at}
 use Rattle.xn_model.specs.declared.status.Status.TheVariants.{Owned}
-use Rattle.xn_model.specs.Types.{Types}
-use Rattle.xn_model.specs.Root.{slot, word_at}
-use Rattle.xn_model.specs.Lives.{Life, StoreState}
-use Rattle.xn_model.specs.Rules.{IsConsistent}
-use Rattle.ffs_model.specs.Cuts.{Under, latest, root, step}
-use Rattle.ffs_model.specs.Names.{IsInodes, IsRoot}
-use Rattle.ffs_model.specs.Library.{IsLibrary, direct_word, inode_at, inode_mode, library_layout, pointer_word}
 use Rattle.ffs_model.proofs.ForCallers.{blocks_read, data_once, data_owned, direct_once, indirect_once, indirect_owned, latest_reached, library_reads, one_type, under_inodes, word_part}
-use Rattle.ffs_format.specs.Fields.{direct_in}
-use Rattle.ffs_lookup.specs.declared.fault.FfsFault.{FfsFault}
-use Rattle.ffs_lookup.specs.declared.fault.FfsFault.TheVariants.{NoEntry}
-use Rattle.ffs_lookup.specs.Newest.{and_then, file_block, inode_block_in, inode_in, root_in, unless_unused, unless_zero}
 use Rattle.ffs_lib.proofs.Edited.{same_root}
 use Rattle.ffs_lookup.proofs.ForCallers.{block_again, direct_has, good_number, in_inode_block, owner_of, pointer_is, same_ok, used_is}
 use Rattle.ffs_lib.proofs.Listed.{fits_newest}
@@ -88,12 +77,10 @@ stands_from content fs n inode e =
     let m = inode_at (content r.0) ((n - 1) % 8) in
     let u = not_first (inode_mode m == 0) NoEntry (Ok m) inode r.2 in
     let same : inode ≡ m = same_ok inode m u.1 in
-    let some = right.0 in
-    let low = right.1 in
-    let few : (n - 1) / 8 < 16 = omega (arith, low) in
+    let few : (n - 1) / 8 < 16 = omega (arith, right.1) in
     record {
-      some = some;
-      low = low;
+      some = right.0;
+      low = right.1;
       block = r.0;
       inodes = block_from content fs ((n - 1) / 8) r.0 few r.1;
       bytes = same;

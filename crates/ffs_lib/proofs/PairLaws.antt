@@ -1,23 +1,13 @@
 -- What two entries name in the cuts after each edit of `replace`.
-use Rattle.std.proofs.Common.{◌≡◌, ◌≢◌, ℕ, ◌-◌, ◌*◌, ◌/◌, ◌%◌, ◌^◌, ◌<◌, List, [], replicate, false, Option, Some, None, Result, Ok, Err, refl, sym, ◌∙◌, ap, arith, subst, inl, inr, eq-eqb}
-use Rattle.std.specs.Prelude.{Contains, MatchResult, ◌==◌, ◌&&◌}
-use Rattle.std.specs.Int.{w16, to_le_bytes}
-use Rattle.xn_model.specs.Types.{Types}
-use Rattle.xn_model.specs.Lives.{Lives, StoreState}
-use Rattle.xn_model.specs.Calls.{Edit, propose_of}
-use Rattle.ffs_model.specs.Cuts.{Under, latest}
-use Rattle.ffs_model.specs.Library.{inode_blocks, library_layout}
-use Rattle.ffs_model.specs.Standing.{SlotPair, StayNamed}
+use Rattle.std.proofs.Common.{◌≡◌, ◌≢◌, ℕ, ◌-◌, ◌*◌, ◌/◌, ◌%◌, ◌^◌, ◌<◌, List, [], replicate, false, Option, Some, None, Result, Ok, Err, refl, sym, ◌∙◌, ap, arith, subst, inl, inr, eq-eqb, Contains, MatchResult, ◌==◌, ◌&&◌, w16}
+use Rattle.ffs_lib.proofs.Words.{Edit, FfsFault, IsPlace, IsSlot, Lives, Slot, SlotPair, StayNamed, StoreState, Types, Under, directory_in, inode_blocks, is_at}
+use Rattle.ffs_lib.proofs.Words.{latest, library_layout, propose_of, to_le_bytes}
 use Rattle.ffs_model.proofs.ForCallers.{blocks_read, entry_written, inodes_stay, library_reads, number_written, one_type, proposed_others, stands_cleared, stands_other, stands_turned, under_direct, under_inodes}
-use Rattle.ffs_lookup.specs.declared.fault.FfsFault.{FfsFault}
-use Rattle.ffs_lookup.specs.declared.places.Slot.{Slot}
-use Rattle.ffs_lookup.specs.Newest.{directory_in, is_at}
-use Rattle.ffs_lookup.specs.Places.{IsPlace, IsSlot}
 use Rattle.ffs_lib.specs.Edits.{edit_at}
 use Rattle.ffs_lib.specs.Replacing.{AreDirect, IsDirect, KeepsPairs, pair_of}
 use Rattle.ffs_lib.specs.Steps.{Dropped, Proposed, Stage, clearing}
+use Rattle.ffs_lib.proofs.Tests.{true_false}
 use Rattle.ffs_lib.proofs.Entering.{directory_from}
-use Rattle.ffs_lib.proofs.Laws.{true_false}
 use Rattle.ffs_lib.proofs.Owners.{stands_from}
 use Rattle.ffs_lib.proofs.Turning.{number_half, number_long}
 

@@ -1,42 +1,25 @@
 -- Bytes of a file that are written block after block, and what a write comes to.
-use Rattle.std.proofs.Common.{◌≡◌, ◌≢◌, ℕ, ◌+◌, ◌-◌, ◌*◌, ◌/◌, ◌%◌, ◌<◌, ◌≤◌, Bool, true, false, List, ◌++◌, length, drop, take, get_or, replicate, Option, None, Some, Result, Ok, Err, refl, sym, ◌∙◌, ap, arith, subst, inl, inr, length-append}
-use Rattle.std.specs.Prelude.{IfErr, IfOk, IfSome, is_some, min, nat_lt, if◌then◌else◌}
-use Rattle.std.proofs.lemmas.List.{drop-append-le, drop-replicate, get_or-drop, get_or-replicate, get_or-take, length-drop, length-replicate, length-take-le, take-append-le, take-replicate}
-use Rattle.std.proofs.lemmas.Bool.{cases_lt, le-ltb, lt-ltb}
-use Rattle.std.proofs.Math.Seq.{drop-append-add, take-add}
-use Rattle.xn_model.specs.Types.{Types}
-use Rattle.xn_model.specs.Rules.{IsConsistent}
-use Rattle.xn_model.specs.Lives.{StoreState}
-use Rattle.ffs_model.specs.Cuts.{latest}
+use Rattle.std.proofs.Common.{◌≡◌, ◌≢◌, ℕ, ◌+◌, ◌-◌, ◌*◌, ◌/◌, ◌%◌, ◌<◌, ◌≤◌, Bool, true, false, List, ◌++◌, length, drop, take, get_or, replicate, Option, None, Some, Result, Ok, Err, refl, sym, ◌∙◌, ap, arith, subst, inl, inr, length-append, IfErr, IfOk, IfSome, is_some, min, nat_lt, if◌then◌else◌, get_or-drop, get_or-take, length-drop, length-take-le, le-ltb, lt-ltb, take-add}
+use Rattle.ffs_lib.proofs.Words.{FfsFault, IsConsistent, StoreState, Types, byte_in, byte_of, cases_lt, drop-append-add, drop-append-le, drop-replicate}
+use Rattle.ffs_lib.proofs.Words.{file_block, file_end, file_in, get_or-replicate, latest, length-replicate, mapped, most_bytes, take-append-le, take-replicate}
 use Rattle.ffs_model.proofs.ForCallers.{given_later}
 use Rattle.xn_model.proofs.ForCallers.{same_ok as same_run}
-use Rattle.ffs_lookup.specs.declared.fault.FfsFault.{FfsFault}
 use Rattle.ffs_lookup.proofs.ForCallers.{same_ok}
-use Rattle.ffs_lookup.specs.Newest.{byte_in, byte_of, file_block, file_end, file_in, mapped, most_bytes}
 use Rattle.ffs_lib.specs.Results.{WroteBytes, byte_written}
 use Rattle.ffs_lib.specs.Steps.{Ends, Stage, Stops}
 use Rattle.ffs_lib.specs.Orders.{made_by}
 use Rattle.ffs_lib.specs.Orders as orders
 use Rattle.ffs_lib.specs.WriteOrder.{adds_direct, after_at, data_at, data_parts, first_past, last_after, last_at, no_last, parts_at, places, parts_made, zeros_parts}
-use Rattle.ffs_lib.specs.Writes.{IsBorder, LastGiven, MadeTo, PartStops, Parts, Puts, PutsParts, RefusesPart, StopsPart, WaitsOn, padded}
+use Rattle.ffs_lib.specs.Writes.{EndsPart, IsBorder, LastGiven, MadeTo, PartStops, Parts, Puts, StopsPart, WaitsOn, padded}
 use Rattle.ffs_lib.specs.declared.data.Last.{Last}
 use Rattle.ffs_lib.specs.declared.data.Progress.{Progress}
-use Rattle.ffs_lib.proofs.DataLaws.{later_on, puts_none, puts_still}
-use Rattle.ffs_lib.proofs.Same.{same_on}
+use Rattle.ffs_lib.proofs.DataLaws.{puts_none, puts_on, puts_still}
 use Rattle.ffs_lib.proofs.Waiting.{waits_same, waits_then}
 use Rattle.ffs_lib.proofs.WriteParts.{border_place, data_are, data_last, not_place, places_next, places_none, run_next, zeros_are, zeros_last}
-use Rattle.ffs_lib.proofs.Writing.{byte_there, cases_written, test_above, test_below, test_in, written_by, wrote_on}
+use Rattle.ffs_lib.proofs.Writing.{byte_there, cases_written, test_above, test_below, test_in, written_by}
 
 pub never_some : (x : FfsFault) → ◌≡◌ {A = Option FfsFault} (Some x) None → ⊥
 never_some x e = cc
-
--- one part after others
-pub puts_on : (u v w : StoreState) (fs n start : ℕ) (bs cs : List ℕ) → Puts u v fs n start bs → Puts v w fs n (start + length bs) cs → Puts u w fs n start (bs ++ cs)
-puts_on u v w fs n start bs cs a b = record {
-  wrote = λ inode is. wrote_on (latest u.lives) (latest v.lives) (latest w.lives) fs n start inode bs cs (a.wrote inode is) b.wrote;
-  others = λ d ne. same_on (latest u.lives) (latest v.lives) (latest w.lives) fs d (a.others d ne) (b.others d ne);
-  later = later_on u.next v.next w.next a.later b.later;
-}
 
 -- zeros that stand there are as good as written
 pub zeros_stand : (v : ℕ → List ℕ) (inode : List ℕ) (index at count : ℕ) → at + count ≤ 512 → ((k : ℕ) → at ≤ k → k < at + count → byte_in v (file_block v inode index) k ≡ 0) →
@@ -49,9 +32,7 @@ zeros_stand v inode index at count fit none =
     (λ k low. elim (cases_written at (length bs) k) [
       | inl lt ↦ sym (test_below (f index) at bs k lt)
       | inr (inl y) ↦
-          let lo = y.0 in
-          let hi = y.1 in
-          none k lo (omega (arith, hi, long)) ∙ (sym (get_or-replicate count (k - at) 0 0 (omega (arith, lo, hi, long))) ∙ sym (test_in (f index) at bs k lo hi))
+          none k y.0 (omega (arith, y.1, long)) ∙ (sym (get_or-replicate count (k - at) 0 0 (omega (arith, y.0, y.1, long))) ∙ sym (test_in (f index) at bs k y.0 y.1))
       | inr (inr ge) ↦ sym (test_above (f index) at bs k ge)
     ])
 
@@ -83,7 +64,7 @@ MakesPart T fs array old new n end offset bytes at part last result =
 
 -- of zeros, and of bytes, where one before the file's end keeps the last edits
 pub zeros_make : (T : Types) (fs : ℕ) (array : ℕ → Option ℕ) (old new : StoreState) (n end offset : ℕ) (bytes : List ℕ) (at count : ℕ) (last : Last) (result : Result Last FfsFault) → min end offset ≤ at → at < offset → count ≡ min (offset - at) (512 - at % 512) →
-    Ends T fs array new result (PutsParts T fs (zeros_parts fs n (at / 512) (at % 512) count last.edit) old new n (at / 512) (at % 512) (replicate count 0) last) (RefusesPart T fs (zeros_parts fs n (at / 512) (at % 512) count last.edit) old new n last) →
+    EndsPart T fs array (zeros_parts fs n (at / 512) (at % 512) count last.edit) old new n (at / 512) (at % 512) (replicate count 0) last result →
     MakesPart T fs array old new n end offset bytes at (replicate count 0) last result
 zeros_make T fs array old new n end offset bytes at count last result low lt e x = go result x
   where
@@ -96,7 +77,7 @@ zeros_make T fs array old new n end offset bytes at count last result low lt e x
     same : zeros_parts fs n (at / 512) (at % 512) count last.edit ≡ parts_at fs n offset bytes at (after_at end offset bytes at last)
     same = ap (λ k. zeros_parts fs n (at / 512) (at % 512) k last.edit) e ∙ zeros_are T fs n end offset bytes at last lt
 
-    go : (r : Result Last FfsFault) → Ends T fs array new r (PutsParts T fs (zeros_parts fs n (at / 512) (at % 512) count last.edit) old new n (at / 512) (at % 512) (replicate count 0) last) (RefusesPart T fs (zeros_parts fs n (at / 512) (at % 512) count last.edit) old new n last) →
+    go : (r : Result Last FfsFault) → EndsPart T fs array (zeros_parts fs n (at / 512) (at % 512) count last.edit) old new n (at / 512) (at % 512) (replicate count 0) last r →
         MakesPart T fs array old new n end offset bytes at (replicate count 0) last r
     go (Ok next) y = (
       y.0,
@@ -113,7 +94,7 @@ last_given state last past mine own given = subst (LastGiven state) (sym own) (g
 
 pub data_make : (T : Types) (fs : ℕ) (array : ℕ → Option ℕ) (old new : StoreState) (n end offset : ℕ) (bytes : List ℕ) (at : ℕ) (part : List ℕ) (last mine : Last) (past : Bool) (result kept : Result Last FfsFault) → offset ≤ at → part ≡ data_at offset bytes at →
     (first_past end offset ≤ at → end < offset + length bytes → end < at + length part) → nat_lt end (at + length part) ≡ past → mine ≡ (if past then last else no_last) → kept ≡ mapped (λ next. if past then next else last) result → LastGiven old last →
-    Ends T fs array new result (PutsParts T fs (data_parts fs n (at / 512) (at % 512) part mine.edit) old new n (at / 512) (at % 512) part mine) (RefusesPart T fs (data_parts fs n (at / 512) (at % 512) part mine.edit) old new n mine) →
+    EndsPart T fs array (data_parts fs n (at / 512) (at % 512) part mine.edit) old new n (at / 512) (at % 512) part mine result →
     MakesPart T fs array old new n end offset bytes at part last kept
 data_make T fs array old new n end offset bytes at part last mine past result kept ge is reaches less own e given x = subst (MakesPart T fs array old new n end offset bytes at part last) (sym e) (go result x)
   where
@@ -153,7 +134,7 @@ data_make T fs array old new n end offset bytes at part last mine past result ke
     still true next later g = g
     still false next later g = (given_later old new later last.edit given.0, given_later old new later last.size given.1)
 
-    go : (r : Result Last FfsFault) → Ends T fs array new r (PutsParts T fs (data_parts fs n (at / 512) (at % 512) part mine.edit) old new n (at / 512) (at % 512) part mine) (RefusesPart T fs (data_parts fs n (at / 512) (at % 512) part mine.edit) old new n mine) →
+    go : (r : Result Last FfsFault) → EndsPart T fs array (data_parts fs n (at / 512) (at % 512) part mine.edit) old new n (at / 512) (at % 512) part mine r →
         MakesPart T fs array old new n end offset bytes at part last (mapped (λ next. if past then next else last) r)
     go (Ok next) y = (
       y.0,
@@ -286,10 +267,9 @@ module _ (end offset : ℕ) (bytes : List ℕ) (done count : ℕ) where
 
   pub zeros_next : done + count ≤ offset - end → replicate count 0 ≡ take count (drop done (padded end offset bytes))
   zeros_next fit =
-      let a = long in
       let rest = length-drop done zeros in
-      sym (ap (take count) (drop-append-le done zeros bytes (omega (arith, a, fit)))
-      ∙ (take-append-le count (drop done zeros) bytes (omega (arith, a, rest, fit)) ∙ (ap (take count) (drop-replicate done (offset - end) 0) ∙ take-replicate count (offset - end - done) 0 (omega (arith, fit)))))
+      sym (ap (take count) (drop-append-le done zeros bytes (omega (arith, long, fit)))
+      ∙ (take-append-le count (drop done zeros) bytes (omega (arith, long, rest, fit)) ∙ (ap (take count) (drop-replicate done (offset - end) 0) ∙ take-replicate count (offset - end - done) 0 (omega (arith, fit)))))
 
   pub bytes_next : (from : ℕ) → done ≡ (offset - end) + from → take count (drop from bytes) ≡ take count (drop done (padded end offset bytes))
   bytes_next from e = let a = long in ap (take count) (sym (ap (λ k. drop k (zeros ++ bytes)) (e ∙ ap (λ k. k + from) (sym a)) ∙ drop-append-add zeros bytes from))
@@ -305,8 +285,7 @@ zeros_held v block other at count k same there zeros lo hi =
 
 pub zero_part : (m : List ℕ) (at count k : ℕ) → k ≡ count → at + count ≤ length m → take k (drop at m) ≡ replicate (length (take k (drop at m))) 0 → take count (drop at m) ≡ replicate count 0
 zero_part m at count k e fit zeros =
-    let rest = length-drop at m in
-    let long : length (take k (drop at m)) ≡ count = length-take-le k (drop at m) (omega (arith, rest, fit, e)) ∙ e in
+    let long : length (take k (drop at m)) ≡ count = length-take-le k (drop at m) (omega (arith, length-drop at m, fit, e)) ∙ e in
     ap (λ j. take j (drop at m)) (sym e) ∙ (zeros ∙ ap (λ j. replicate j 0) long)
 
 -- no fault

@@ -1,34 +1,14 @@
 -- What the edits of `reclaim` leave, and how they come together.
-use Rattle.std.proofs.Common.{◌≡◌, ◌≢◌, ℕ, ◌+◌, ◌-◌, ◌*◌, ◌%◌, ◌<◌, ◌≤◌, ◌⊎◌, List, [], length, replicate, Option, None, Result, Ok, Err, Bool, refl, sym, ◌∙◌, ap, arith, subst, inl, inr}
-use Rattle.std.specs.Prelude.{IsErrAnd, flat_map, if◌then◌else◌}
-use Rattle.std.specs.List.{range_with_len}
-use Rattle.std.proofs.lemmas.Bool.{cases_eq, cases_lt, ne_eqb}
-use Rattle.std.proofs.lemmas.Result.{err_from_is_err_and}
-use Rattle.xn_model.specs.Types.{Types}
-use Rattle.xn_model.specs.Root.{word_at}
-use Rattle.xn_model.specs.Lives.{StoreState}
-use Rattle.xn_model.specs.Calls.{pending_of, propose_of}
-use Rattle.ffs_model.specs.Cuts.{Under, latest}
-use Rattle.ffs_model.specs.Names.{LeavesRoom, Names}
-use Rattle.ffs_model.specs.Edits.{InodeFreed, LinksTaken}
-use Rattle.ffs_model.specs.Volumes.{KeepsNumber}
+use Rattle.std.proofs.Common.{◌≡◌, ◌≢◌, ℕ, ◌+◌, ◌-◌, ◌*◌, ◌%◌, ◌<◌, ◌≤◌, ◌⊎◌, List, [], length, replicate, Option, None, Result, Ok, Err, Bool, refl, sym, ◌∙◌, ap, arith, subst, inl, inr, IsErrAnd, flat_map, if◌then◌else◌, ne_eqb}
+use Rattle.ffs_lib.proofs.Words.{FfsFault, Fields, Found, GiveUp, InodeFreed, IsFound, Keep, KeepsNumber, LeavesRoom, LinksTaken, Names, Pending, Repair}
+use Rattle.ffs_lib.proofs.Words.{SetLinks, StoreState, Types, Under, cases_eq, cases_lt, err_from_is_err_and, fields_of, files_of, idle_in, inode_in, latest}
+use Rattle.ffs_lib.proofs.Words.{names_count, pending_of, propose_of, range_with_len, repair_in, word_at}
 use Rattle.ffs_model.specs.Library.{inode_at, inode_blocks, inode_links, inode_mode, inode_pairs, library_layout, pointed, pointer_word, with_inode, zero_block}
 use Rattle.ffs_model.proofs.ForCallers.{inode_unlinked, library_reads, links_read, links_taken, other_number, other_written, pointers_cleared_short, proposed_here, proposed_others, spare_begins, spare_by_freed, spare_by_taken}
 use Rattle.ffs_model.proofs.Rewritten as rewritten
-use Rattle.ffs_format.specs.Fields.{Fields, fields_of}
-use Rattle.ffs_lookup.specs.declared.fault.FfsFault.{FfsFault}
-use Rattle.ffs_lookup.specs.declared.fault.FfsFault.TheVariants.{Pending}
-use Rattle.ffs_lookup.specs.declared.places.Found.{Found}
-use Rattle.ffs_lookup.specs.declared.repairs.Repair.{Repair}
-use Rattle.ffs_lookup.specs.declared.repairs.Repair.TheVariants.{Keep, GiveUp, SetLinks}
-use Rattle.ffs_lookup.specs.Newest.{inode_in}
-use Rattle.ffs_lookup.specs.Counts.{names_count}
-use Rattle.ffs_lookup.specs.Repairs.{idle_in, repair_in}
-use Rattle.ffs_lookup.specs.Places.{IsFound}
 use Rattle.ffs_lookup.proofs.ForCallers.{given_up, links_set, same_ok, unnumbered_repair}
 use Rattle.ffs_lib.specs.Edits.{data_of_inode, data_of_pointers, edit_at}
 use Rattle.ffs_lib.specs.Outcomes.{HasNoData}
-use Rattle.ffs_lookup.specs.FileValues.{files_of}
 use Rattle.ffs_lib.specs.Results.{IsLinked, OnlyChanges, SameInode}
 use Rattle.ffs_lib.specs.Steps.{Ends, IsHome, ShortEdit, Stage, Stops, Tells, Wants}
 use Rattle.ffs_lib.specs.Reclaiming.{Emptied, InMiddle, MayRepair, PointersEmptied, Repaired, RepairedOne, StopsRepairing, emptying, needs, repaired_below, stages_at}
@@ -43,6 +23,7 @@ use Rattle.ffs_lib.proofs.Owners.{stands_from}
 use Rattle.ffs_lib.proofs.Rooms.{room_by}
 use Rattle.ffs_lib.proofs.Same.{edited, inodes_same, pointers_touched, same_on}
 use Rattle.ffs_lib.proofs.Short.{free_pairs, freed_short}
+use Rattle.ffs_lib.proofs.Tests.{never}
 use Rattle.ffs_lib.proofs.ValueRepairs.{both_none, need_is, none_kept, stages_more}
 
 -- What needs something is not kept
@@ -153,11 +134,10 @@ module _ (T : Types) (fs : ℕ) (array : ℕ → Option ℕ) (old : StoreState) 
       let h = s.keeps.consistent in
       let lib = s.library in
       let reads = library_reads T lib in
-      let there = x.0 in
       let e = x.2 in
       let done = x.3 in
       let edit = emptying old block in
-      let at = reached_pointers there in
+      let at = reached_pointers x.0 in
       let t = edited T old new h fs s.few block 5 edit e done at in
       record {
         stage = record {
@@ -166,7 +146,7 @@ module _ (T : Types) (fs : ℕ) (array : ℕ → Option ℕ) (old : StoreState) 
           keeps = other_written T library_layout reads fs s.few array old s.keeps block new edit e done 5 (λ z. absurd (omega (arith, z))) (λ z. absurd (omega (arith, z))) (λ z. absurd (omega (arith, z))) at;
         };
         same = exact ∙ sym (inodes_same T lib (latest old.lives) (latest new.lives) fs block 5 t (λ z. omega (arith, z)) (λ z. omega (arith, z)) n);
-        others = pointers_touched T lib old h fs s.few (latest new.lives) block 5 t refl n found.inode (stands_from (latest old.lives) fs n found.inode exact) points there;
+        others = pointers_touched T lib old h fs s.few (latest new.lives) block 5 t refl n found.inode (stands_from (latest old.lives) fs n found.inode exact) points x.0;
         spares = λ i m some k. other_number T library_layout reads fs s.few array old s.keeps block new edit e done 5 i (λ z. absurd (omega (arith, z))) (λ z. absurd (omega (arith, z))) (λ z. absurd (omega (arith, z))) at some None m k;
         none = λ ne. ap (λ b. T.owned 5 (latest new.lives b)) points ∙ ap (T.owned 5) (proposed_here T old new h fs block edit e done) ∙ cleared_owns T lib (latest old.lives block) x.1;
         left = inr (record {
@@ -273,8 +253,7 @@ module _ (T : Types) (fs : ℕ) (array : ℕ → Option ℕ) (old : StoreState) 
   may_repair now done x n next Keep e = tt
   may_repair now done x n next GiveUp e =
       let r = given_up (latest old.lives) fs n (sym e) in
-      let none = r.none in
-      let all_links : inode_links r.inode - names_count (latest old.lives) fs n ≡ inode_links r.inode = omega (arith, none) in
+      let all_links : inode_links r.inode - names_count (latest old.lives) fs n ≡ inode_links r.inode = omega (arith, r.none) in
       record {
         some = (stands_from (latest old.lives) fs n r.inode r.found).some;
         inode = r.inode;
@@ -345,8 +324,5 @@ repair_fails T fs array old new n repair same e fault p result from =
 pub idle_ok : (state : StoreState) (fs : ℕ) → Ok tt ≡ idle_in state fs → pending_of state fs ≡ 0
 idle_ok state fs e = elim (cases_eq (pending_of state fs) 0) [
   | inl z ↦ z
-  | inr ne ↦ absurd (never (e ∙ ap (λ (t : Bool). if t then Ok tt else Err Pending) (ne_eqb (pending_of state fs) 0 ne)))
+  | inr ne ↦ absurd (never tt Pending (e ∙ ap (λ (t : Bool). if t then Ok tt else Err Pending) (ne_eqb (pending_of state fs) 0 ne)))
 ]
-  where
-    never : ◌≡◌ {A = Result (Unit {0}) FfsFault} (Ok tt) (Err Pending) → ⊥
-    never z = cc

@@ -1,20 +1,8 @@
 -- Which edits `reclaim` makes, one after another.
-use Rattle.std.proofs.Common.{◌≡◌, ◌≢◌, ℕ, suc, ◌+◌, ◌-◌, ◌*◌, ◌/◌, ◌%◌, ◌<◌, ◌≤◌, Bool, List, [], ◌∷◌, ◌++◌, replicate, None, Result, Ok, sym, ◌∙◌, ap, inl, inr, arith, subst}
-use Rattle.std.specs.Prelude.{if◌then◌else◌}
-use Rattle.std.specs.List.{range_with_len}
-use Rattle.std.proofs.lemmas.List.{map-append}
-use Rattle.xn_model.specs.Types.{Types}
-use Rattle.xn_model.specs.Root.{word_at}
-use Rattle.xn_model.specs.Lives.{StoreState}
-use Rattle.xn_model.specs.Results.{result_and_then}
-use Rattle.xn_model.specs.Rules.{IsConsistent}
+use Rattle.std.proofs.Common.{◌≡◌, ◌≢◌, ℕ, suc, ◌+◌, ◌-◌, ◌*◌, ◌/◌, ◌%◌, ◌<◌, ◌≤◌, Bool, List, [], ◌∷◌, ◌++◌, replicate, None, Result, Ok, sym, ◌∙◌, ap, inl, inr, arith, subst, if◌then◌else◌}
+use Rattle.ffs_lib.proofs.Words.{FfsFault, Files, GiveUp, IsConsistent, IsLibrary, StoreState, Types, Under, inode_block_in, inode_in, latest, map-append}
+use Rattle.ffs_lib.proofs.Words.{range_with_len, result_and_then, word_at, zero_block}
 use Rattle.xn_model.proofs.ForCallers.{same_ok, then_ok}
-use Rattle.ffs_model.specs.Cuts.{Under, latest}
-use Rattle.ffs_model.specs.Library.{IsLibrary, zero_block}
-use Rattle.ffs_lookup.specs.declared.fault.FfsFault.{FfsFault}
-use Rattle.ffs_lookup.specs.declared.repairs.Repair.TheVariants.{GiveUp}
-use Rattle.ffs_lookup.specs.Files.{Files}
-use Rattle.ffs_lookup.specs.Newest.{inode_block_in, inode_in}
 use Rattle.ffs_lib.specs.Edits.{data_of_inode, data_of_pointers, edit_at}
 use Rattle.ffs_lib.specs.Orders.{Action, Edits, Makes, Orders, Parts, StopsAct, StopsIn, act_of, edits_at, made_by, made_of}
 use Rattle.ffs_lib.specs.Reclaiming.{Emptied, emptying, needs}

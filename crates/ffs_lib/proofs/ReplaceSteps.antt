@@ -1,14 +1,7 @@
 -- What stands where a file is replaced by another one: at the beginning, and where the second entry is turned.
 use Rattle.std.proofs.Common.{◌≡◌, ◌≢◌, ℕ, ◌+◌, ◌≤◌, false, List, Option, None, Some, Ok}
-use Rattle.xn_model.specs.Types.{Types}
-use Rattle.xn_model.specs.Lives.{StoreState}
-use Rattle.ffs_model.specs.Cuts.{latest}
-use Rattle.ffs_model.specs.Library.{inode_links, library_layout}
-use Rattle.ffs_model.specs.Standing.{StayNamed}
+use Rattle.ffs_lib.proofs.Words.{IsSlot, Slot, StayNamed, StoreState, Types, inode_in, inode_links, is_at, latest, library_layout, named_in}
 use Rattle.ffs_model.proofs.ForCallers.{stands_first}
-use Rattle.ffs_lookup.specs.declared.places.Slot.{Slot}
-use Rattle.ffs_lookup.specs.Newest.{inode_in, is_at, named_in}
-use Rattle.ffs_lookup.specs.Places.{IsSlot}
 use Rattle.ffs_lib.specs.Orders.{linked_edits, made_of, turned_edits}
 use Rattle.ffs_lib.specs.Replacing.{AreDirect, Turned, pair_of, replace_in}
 use Rattle.ffs_lib.specs.Steps.{AddsLink, MayLose, Stage}

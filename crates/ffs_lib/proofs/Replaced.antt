@@ -1,26 +1,17 @@
 -- What is left of two files after each edit by which the name of one goes to the other.
-use Rattle.std.proofs.Common.{◌≡◌, ◌≢◌, ℕ, ◌<◌, ◌≤◌, Bool, true, false, List, map, Option, Some, None, Result, Ok, refl, sym, ◌∙◌, ap, inl, inr, arith, subst, eq-eqb}
-use Rattle.std.specs.Prelude.{Contains, OnErr, bytes_eq, find, option_map, ◌==◌, ◌&&◌, if◌then◌else◌}
-use Rattle.std.proofs.lemmas.Bool.{and_parts, cases_eq, eqb-true}
-use Rattle.std.proofs.lemmas.Option.{none-some, same_Some}
-use Rattle.xn_model.specs.Types.{Types}
-use Rattle.xn_model.specs.Lives.{StoreState}
-use Rattle.xn_model.specs.Rules.{IsConsistent}
-use Rattle.ffs_model.specs.Cuts.{latest}
-use Rattle.ffs_model.specs.Library.{IsLibrary, inode_blocks, inode_links, library_layout}
-use Rattle.ffs_lookup.specs.declared.fault.FfsFault.{FfsFault}
-use Rattle.ffs_lookup.specs.declared.places.Slot.{Slot}
-use Rattle.ffs_lookup.specs.Newest.{directory_in, slots_of, file_in, inode_in, is_at, listing, named_in}
-use Rattle.ffs_lookup.specs.Places.{IsSlot}
+use Rattle.std.proofs.Common.{◌≡◌, ◌≢◌, ℕ, ◌<◌, ◌≤◌, Bool, true, false, List, map, Option, Some, None, Result, Ok, refl, sym, ◌∙◌, ap, inl, inr, arith, subst, eq-eqb, Contains, OnErr, bytes_eq, find, option_map, ◌==◌, ◌&&◌, if◌then◌else◌, eqb-true}
+use Rattle.ffs_lib.proofs.Words.{FfsFault, IsConsistent, IsLibrary, IsSlot, Slot, StoreState, Types, and_parts, cases_eq, directory_in, file_in, inode_blocks}
+use Rattle.ffs_lib.proofs.Words.{inode_in, inode_links, is_at, latest, library_layout, listing, named_in, none-some, same_Some, slots_of}
 use Rattle.ffs_lookup.proofs.ForCallers.{EntryAt, direct_has, first_value, not_both, same_ok}
 use Rattle.ffs_lib.specs.Replacing.{AreDirect, Replaced, ReplacedInodes, Turned, pair_of, turned_entry}
 use Rattle.ffs_lib.specs.Results.{AsBefore, OnlyChanges, SameInode}
 use Rattle.ffs_lib.specs.Stages.{KeptOrEmptied, Unnames}
 use Rattle.ffs_lib.specs.Steps.{AddsLink, Clearing, StopsTaking, TakesLink}
+use Rattle.ffs_lib.proofs.Tests.{true_false}
 use Rattle.ffs_lib.proofs.Alone.{are_apart}
 use Rattle.ffs_lib.proofs.Entering.{directory_from, directory_same}
 use Rattle.ffs_lib.proofs.Firsts.{find_listed, named_among}
-use Rattle.ffs_lib.proofs.Laws.{less_of, took_on, true_false}
+use Rattle.ffs_lib.proofs.Laws.{less_of, took_on}
 use Rattle.ffs_lib.proofs.Moving.{as_on, named_block, same_as}
 use Rattle.ffs_lib.proofs.PairLaws.{direct_of}
 use Rattle.ffs_lib.proofs.Replacing.{CanReplace}
@@ -98,9 +89,7 @@ module _ (entry : Slot) (n : ℕ) where
 stood_there : (u : ℕ → List ℕ) (inode name : List ℕ) (slot : Slot) → EntryAt u inode name slot → there_in slot.block slot.place (listing u inode) ≡ Some (name, slot.inode)
 stood_there u inode name slot entry =
     let k = entry.is in
-    let few = k.few in
-    let place = k.place in
-    sym (place_listed slot.block slot.place u (omega (arith, few, place)) inode (direct_has inode entry.at.0 slot.block k.low k.block k.there)) ∙ entry.stands
+    sym (place_listed slot.block slot.place u (omega (arith, k.few, k.place)) inode (direct_has inode entry.at.0 slot.block k.low k.block k.there)) ∙ entry.stands
 
 itself_true : (slot : Slot) → (slot.block == slot.block) && (slot.place == slot.place) ≡ true
 itself_true slot = both_true (slot.block == slot.block) (slot.place == slot.place) (eq-eqb slot.block slot.block refl) (eq-eqb slot.place slot.place refl)
@@ -270,9 +259,7 @@ module _ (u : ℕ → List ℕ) (fs d : ℕ) (name : List ℕ) (other : ℕ) (ot
   nothing_taken T middle new many fault s = elim s.stage [
     | inl same ↦ same
     | inr c ↦
-        let low = c.last in
-        let high = many s.inode s.was in
-        absurd (omega (arith, low, high))
+        absurd (omega (arith, c.last, many s.inode s.was))
   ]
 
   module _ (v1 : ℕ → List ℕ) (l : AddsLink u v1 fs n) where
@@ -281,5 +268,4 @@ module _ (u : ℕ → List ℕ) (fs d : ℕ) (name : List ℕ) (other : ℕ) (ot
 
     pub two_links : (v : ℕ → List ℕ) → inode_in v fs n ≡ inode_in v1 fs n → 1 ≤ inode_links x.own → (inode : List ℕ) → Ok inode ≡ inode_in v fs n → 1 < inode_links inode
     two_links v same linked inode i =
-        let more = l.links x.own inode is_moved (i ∙ same) in
-        omega (arith, more, linked)
+        omega (arith, l.links x.own inode is_moved (i ∙ same), linked)

@@ -1,29 +1,13 @@
 -- What a change of one block leaves of the inodes that it does not touch.
-use Rattle.std.proofs.Common.{◌≡◌, ◌≢◌, ℕ, ◌+◌, ◌-◌, ◌*◌, ◌/◌, ◌%◌, ◌^◌, ◌<◌, ◌≤◌, ◌⊎◌, Bool, true, false, List, [], ◌∷◌, length, get_or, replicate, None, Ok, Err, refl, sym, ◌∙◌, ap, inl, inr, arith, subst, eq-eqb}
-use Rattle.std.specs.Prelude.{Contains, Result, ◌==◌, ◌||◌, nat_lt, if◌then◌else◌}
-use Rattle.std.specs.Int.{w32, to_le_bytes}
-use Rattle.std.proofs.lemmas.Nat.{from_le_bytes-to_le_bytes_4}
-use Rattle.std.proofs.lemmas.Bool.{cases_eq, cases_lt}
-use Rattle.std.proofs.lemmas.Option.{none-some, same_Some}
-use Rattle.xn_model.specs.Types.{Types}
-use Rattle.xn_model.specs.Lists.{put}
-use Rattle.xn_model.specs.Root.{slot, word_at}
-use Rattle.xn_model.specs.Lives.{Life, StoreState, life_at}
-use Rattle.xn_model.specs.Calls.{Edit, init_of, propose_of}
-use Rattle.xn_model.specs.Rules.{IsConsistent}
-use Rattle.ffs_model.specs.Cuts.{Under, latest, root, step}
-use Rattle.ffs_model.specs.Names.{IsInodes, IsRoot}
-use Rattle.ffs_model.specs.Volumes.{Reads}
-use Rattle.ffs_model.specs.Library.{IsLibrary, inode_at, inode_mode, library_layout, pointer_word}
+use Rattle.std.proofs.Common.{◌≡◌, ◌≢◌, ℕ, ◌+◌, ◌-◌, ◌*◌, ◌/◌, ◌%◌, ◌^◌, ◌<◌, ◌≤◌, ◌⊎◌, Bool, true, false, List, [], ◌∷◌, length, get_or, replicate, None, Ok, Err, refl, sym, ◌∙◌, ap, inl, inr, arith, subst, eq-eqb, Contains, Result, ◌==◌, ◌||◌, nat_lt, if◌then◌else◌, w32}
+use Rattle.ffs_lib.proofs.Words.{Edit, FfsFault, IsConsistent, IsInodes, IsLibrary, IsPlace, IsRoot, Life, NoEntry, Reads, StoreState, Types, Under, and_then}
+use Rattle.ffs_lib.proofs.Words.{byte_in, cases_eq, cases_lt, direct_in, file_block, from_le_bytes-to_le_bytes_4, init_of, inode_at, inode_block_in, inode_in}
+use Rattle.ffs_lib.proofs.Words.{inode_mode, latest, library_layout, life_at, none-some, place_in, pointer_word, propose_of, put, root, root_in, root_of_type}
+use Rattle.ffs_lib.proofs.Words.{same_Some, slot, step, to_le_bytes, unless_unused, unless_zero, word_at}
 use Rattle.ffs_model.proofs.ForCallers.{bytes_apart, direct_where, latest_reached, library_reads, one_type, proposed_here, proposed_others, started, started_others, under_inodes, word_apart, word_within}
-use Rattle.ffs_format.specs.Fields.{direct_in}
-use Rattle.ffs_lookup.specs.declared.fault.FfsFault.{FfsFault}
-use Rattle.ffs_lookup.specs.declared.fault.FfsFault.TheVariants.{NoEntry}
-use Rattle.ffs_lookup.specs.Newest.{and_then, byte_in, file_block, inode_block_in, inode_in, root_in, root_of_type, unless_unused, unless_zero}
-use Rattle.ffs_lookup.specs.Places.{IsPlace}
-use Rattle.ffs_lookup.specs.FileValues.{place_in}
 use Rattle.ffs_lib.specs.Results.{SameContents, SameInode, SameOrNew, SamePlace, SameUse}
 use Rattle.ffs_lib.specs.Edits.{edit_at}
+use Rattle.ffs_lib.proofs.Tests.{never}
 use Rattle.ffs_lib.proofs.Edited.{same_root}
 use Rattle.ffs_lookup.proofs.ForCallers.{in_root_block, not_zero, root_again, unused_is, zero_is}
 use Rattle.ffs_lib.proofs.Listed.{fits_newest}
@@ -54,9 +38,8 @@ module _ (T : Types) (state new : StoreState) (h : IsConsistent T state) (fs : �
   begun ty kind bytes made done =
       let r = started T state new fs ty bytes made done in
       let others = started_others T state new fs ty bytes made done in
-      let zeroth = h.lives_sound.root in
       record {
-        top = others 0 (λ e. none-some zeroth.life (sym r.free ∙ (ap (life_at state.lives) (sym e) ∙ zeroth.alive)));
+        top = others 0 (λ e. none-some h.lives_sound.root.life (sym r.free ∙ (ap (life_at state.lives) (sym e) ∙ h.lives_sound.root.alive)));
         others = λ c u at ne. others c ne;
         apart = λ c u at ne e.
             let x = latest_reached T state h fs few c u at in
@@ -348,8 +331,7 @@ module _ (T : Types) (lib : IsLibrary T) (state new : StoreState) (h : IsConsist
 -- A new block is not block 0
 pub begun_some : (T : Types) (state new : StoreState) → IsConsistent T state → (fs ty : ℕ) (bytes : List ℕ) (made : ℕ × ℕ) → init_of T state fs ty bytes ≡ Ok (made, new) → made.0 ≢ 0
 begun_some T state new h fs ty bytes made done e =
-    let zeroth = h.lives_sound.root in
-    none-some zeroth.life (sym (started T state new fs ty bytes made done).free ∙ (ap (life_at state.lives) e ∙ zeroth.alive))
+    none-some h.lives_sound.root.life (sym (started T state new fs ty bytes made done).free ∙ (ap (life_at state.lives) e ∙ h.lives_sound.root.alive))
 
 -- One after another
 pub contents_on : (u v w : ℕ → List ℕ) (inode : List ℕ) → SameContents u v inode → SameContents v w inode → SameContents u w inode
@@ -361,18 +343,12 @@ same_on u v w fs d a b = (b.0 ∙ a.0, λ inode e. contents_on u v w inode (a.1 
 pub as_same : (v w : ℕ → List ℕ) (fs n x : ℕ) → SameInode v w fs x → SameOrNew v w fs n x
 as_same v w fs n x a = (a.0, a.1, λ some low. inl (a.2 some low))
 
-never : {A : Type 0} (x : A) (fault : FfsFault) → ◌≡◌ {A = Result A FfsFault} (Ok x) (Err fault) → ⊥
-never x fault e = cc
-
 pub new_on : (u v w : ℕ → List ℕ) (fs n x : ℕ) → SameOrNew u v fs n x → SameOrNew v w fs n x → SameOrNew u w fs n x
 new_on u v w fs n x a b = (
   b.0 ∙ a.0,
   λ inode e. contents_on u v w inode (a.1 inode e) (b.1 inode (e ∙ sym a.0)),
   λ some low. elim (a.2 some low) [
-    | inl e ↦ elim (b.2 some low) [
-      | inl f ↦ inl (f ∙ e)
-      | inr k ↦ inr (record { together = k.together; absent = sym e ∙ k.absent; free = k.free })
-    ]
+    | inl e ↦ elim (b.2 some low) [ inl f ↦ inl (f ∙ e) | inr k ↦ inr (record { together = k.together; absent = sym e ∙ k.absent; free = k.free }) ]
     | inr k ↦ elim (b.2 some low) [
       | inl f ↦ inr (record { together = k.together; absent = k.absent; free = f ∙ k.free })
       | inr j ↦ absurd (never (replicate 64 0) NoEntry (sym k.free ∙ j.absent))

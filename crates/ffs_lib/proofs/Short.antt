@@ -1,21 +1,10 @@
 -- Edits of a step that are refused for want of something alone.
-use Rattle.std.proofs.Common.{◌≡◌, ◌≢◌, ℕ, ◌*◌, ◌^◌, ◌<◌, ◌≤◌, true, ◌&&◌, List, [], ◌∷◌, length, get_or, Option, Some, Ok, refl, sym, ◌∙◌, ap, arith, eq-eqb}
-use Rattle.std.specs.Prelude.{slice_set, replicate, ◌==◌}
-use Rattle.std.specs.Int.{w32, to_le_bytes}
-use Rattle.std.proofs.lemmas.Bool.{and_from}
-use Rattle.xn_model.specs.Types.{Types}
-use Rattle.xn_model.specs.Root.{word_at}
-use Rattle.xn_model.specs.Lives.{StoreState, alive_and, is_fresh, is_for, life_at}
-use Rattle.xn_model.specs.Results.{Gives}
-use Rattle.xn_model.specs.Calls.{init_of, may_add, new_life}
+use Rattle.std.proofs.Common.{◌≡◌, ◌≢◌, ℕ, ◌*◌, ◌^◌, ◌<◌, ◌≤◌, true, ◌&&◌, List, [], ◌∷◌, length, get_or, Option, Some, Ok, refl, sym, ◌∙◌, ap, arith, eq-eqb, slice_set, replicate, ◌==◌, w32}
+use Rattle.ffs_lib.proofs.Words.{Gives, IsEmptyPointer, IsPlace, IsRoot, IsSlot, Slot, StoreState, Types, Under, alive_and, and_from, direct_in, fields_of}
+use Rattle.ffs_lib.proofs.Words.{init_of, inode_at, inode_pairs, is_for, is_fresh, latest, library_layout, life_at, may_add, new_life, pointer_word, root}
+use Rattle.ffs_lib.proofs.Words.{to_le_bytes, word_at}
 use Rattle.xn_model.proofs.ForCallers.{set_same}
-use Rattle.ffs_model.specs.Cuts.{Under, latest, root}
-use Rattle.ffs_model.specs.Names.{IsRoot}
-use Rattle.ffs_model.specs.Library.{inode_at, inode_pairs, library_layout, pointer_word}
 use Rattle.ffs_model.proofs.ForCallers.{Replaces, data_short, direct_set, inode_add_short, inode_freed_short, inode_short, inode_words, library_reads, root_set_short, started, under_direct, under_inodes}
-use Rattle.ffs_format.specs.Fields.{direct_in, fields_of}
-use Rattle.ffs_lookup.specs.declared.places.Slot.{Slot}
-use Rattle.ffs_lookup.specs.Places.{IsEmptyPointer, IsPlace, IsSlot}
 use Rattle.ffs_lookup.proofs.ForCallers.{gives_ok}
 use Rattle.ffs_lib.specs.Edits.{edit_at, data_of_inode}
 use Rattle.ffs_lib.specs.Outcomes.{CanEdit, HasNoData}

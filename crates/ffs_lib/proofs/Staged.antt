@@ -1,27 +1,12 @@
 -- A call does what its function of the files says, or leaves one of its stages.
-use Rattle.std.proofs.Common.{◌≡◌, ◌≢◌, ℕ, ◌-◌, ◌*◌, ◌/◌, ◌%◌, ◌<◌, ◌≤◌, ◌⊎◌, Bool, true, false, List, ◌++◌, length, map, take, replicate, get_or, Some, None, Result, Ok, Err, refl, sym, ◌∙◌, ap, inl, inr, arith, subst, length-append}
-use Rattle.std.specs.Prelude.{Contains, IsErrAnd, MatchResult, OnErr, ◌==◌, min, nat_le, nat_lt, if◌then◌else◌}
-use Rattle.std.specs.List.{range_with_len}
-use Rattle.std.specs.Option.{ok_or}
-use Rattle.std.proofs.lemmas.Bool.{cases_lt, eqb-false, le-leb, le-ltb, lt-ltb}
-use Rattle.std.proofs.lemmas.List.{get_or-append_right, get_or-replicate, get_or-take, get_or_append_left, length-replicate, length-take, same_lists}
-use Rattle.std.proofs.lemmas.List.FromFn.{get_or-map-range_with_len, length-map-range_with_len}
-use Rattle.std.proofs.lemmas.Result.{err_from_is_err_and}
-use Rattle.xn_model.specs.Root.{word_at}
-use Rattle.xn_model.specs.Types.{Types}
-use Rattle.xn_model.specs.Lives.{StoreState}
-use Rattle.xn_model.specs.Rules.{IsConsistent}
-use Rattle.ffs_model.specs.Cuts.{latest}
-use Rattle.ffs_model.specs.Library.{IsLibrary, inode_blocks, inode_links, inode_mode, pointer_word}
+use Rattle.std.proofs.Common.{◌≡◌, ◌≢◌, ℕ, ◌-◌, ◌*◌, ◌/◌, ◌%◌, ◌<◌, ◌≤◌, ◌⊎◌, Bool, true, false, List, [], ◌∷◌, ◌++◌, length, map, take, replicate, get_or, Some, None, Result, Ok, Err, refl, sym, ◌∙◌, ap, inl, inr, arith, subst, length-append, Contains, IsErrAnd, MatchResult, OnErr, ◌==◌, min, nat_le, nat_lt, if◌then◌else◌, ok_or, le-leb, le-ltb, lt-ltb, get_or-take, length-take}
+use Rattle.ffs_lib.proofs.Words.{BadName, FfsFault, IsConsistent, IsLibrary, NoEntry, Slot, StoreState, Types, and_then, blocks_value, byte_in, byte_of}
+use Rattle.ffs_lib.proofs.Words.{bytes_value, cases_lt, direct_in, directory_in, eqb-false, err_from_is_err_and, file_block, file_end, files_of}
+use Rattle.ffs_lib.proofs.Words.{get_or-append_right, get_or-map-range_with_len, get_or-replicate, get_or_append_left, inode_blocks, inode_in, inode_links}
+use Rattle.ffs_lib.proofs.Words.{inode_mode, is_name, latest, length-map-range_with_len, length-replicate, name_of_place, pointer_word, range_with_len}
+use Rattle.ffs_lib.proofs.Words.{same_lists, word_at}
 use Rattle.ffs_model.proofs.ForCallers.{direct_where, zero_word}
-use Rattle.ffs_format.specs.Entries.{is_name}
-use Rattle.ffs_format.specs.Fields.{direct_in}
-use Rattle.ffs_lookup.specs.declared.fault.FfsFault.{FfsFault}
-use Rattle.ffs_lookup.specs.declared.fault.FfsFault.TheVariants.{BadName, NoEntry}
-use Rattle.ffs_lookup.specs.declared.places.Slot.{Slot}
-use Rattle.ffs_lookup.specs.Newest.{and_then, byte_in, byte_of, directory_in, file_block, file_end, inode_in, name_of_place}
 use Rattle.ffs_lookup.specs.Files.{Answer, Blocks, Directory, File, Files, cleared, directory_of, entry_named, look_up, fault_told, with_entry, without_link}
-use Rattle.ffs_lookup.specs.FileValues.{blocks_value, bytes_value, files_of}
 use Rattle.ffs_lookup.proofs.ForCallers.{IsPlaceOf, direct_has, map_on, same_ok}
 use Rattle.ffs_lib.specs.Orders.{Orders, removed_edits}
 use Rattle.ffs_lib.specs.Results.{IsAs, OnlyChanges, SameContents, SameInode}
@@ -29,6 +14,7 @@ use Rattle.ffs_lib.specs.Reclaiming.{PointersEmptied}
 use Rattle.ffs_lib.specs.Stages.{AreEmptied, Asks, Does, IsRefused, IsStage, KeptOrEmptied, OfEntry, Stages, Unnames, cleared_stages, cut_short, emptied, link_stages, removed_stages, stages_of, with_emptied}
 use Rattle.ffs_lib.specs.Steps.{Answers, ClearedPointers, Clearing, Stops, StopsTaking, StopsUnnaming, Unnamed, Wants}
 use Rattle.ffs_lib.specs.Values.{Leads}
+use Rattle.ffs_lib.proofs.Tests.{never}
 use Rattle.ffs_lib.proofs.Entering.{directory_from}
 use Rattle.ffs_lib.proofs.BlocksOnce.{blocks_once}
 use Rattle.ffs_lib.proofs.Frames.{listing_same}
@@ -37,13 +23,21 @@ use Rattle.ffs_lib.proofs.Moving.{same_as}
 use Rattle.ffs_lib.proofs.Owners.{direct_block, pointers_apart, stands_from}
 use Rattle.ffs_lib.proofs.Removal.{FindsEntry}
 use Rattle.ffs_lib.proofs.Same.{same_on}
-use Rattle.ffs_lib.proofs.Tops.{never}
 use Rattle.ffs_lib.proofs.Undoing.{at_ok}
 use Rattle.ffs_lib.proofs.ValueMade.{directory_value}
 use Rattle.ffs_lib.proofs.ValueSteps.{clearing_value, inode_linked, kind, kind_is, takes_value, value_at}
 
 pub same_here : (v : ℕ → List ℕ) (fs x : ℕ) → SameInode v v fs x
 same_here v fs x = (refl, λ inode i. (refl, λ at low. refl), λ some low. refl)
+
+-- a stage of the first or the last ones of a list
+pub first_stages : (T : Types) (fs : ℕ) (new : StoreState) (fault : FfsFault) (xs ys : Stages) → IsStage T fs new fault xs → IsStage T fs new fault (xs ++ ys)
+first_stages T fs new fault [] ys none = absurd none
+first_stages T fs new fault (x ∷ xs) ys s = elim s [ inl here ↦ inl here | inr later ↦ inr (first_stages T fs new fault xs ys later) ]
+
+pub later_stages : (T : Types) (fs : ℕ) (new : StoreState) (fault : FfsFault) (xs ys : Stages) → IsStage T fs new fault ys → IsStage T fs new fault (xs ++ ys)
+later_stages T fs new fault [] ys s = s
+later_stages T fs new fault (x ∷ xs) ys s = inr (later_stages T fs new fault xs ys s)
 
 -- a call whose look-ups fail has the fault that its function has
 pub does_fault : {A B : Type 0} (T : Types) (fs : ℕ) (looked : Result B FfsFault) (answer : Answer A) (stages : Stages) (old new : StoreState) (result : Result A FfsFault) → fault_told looked ≡ fault_told answer →
@@ -138,24 +132,18 @@ module _ (T : Types) (lib : IsLibrary T) (fs : ℕ) (few : fs < 32) (v : ℕ →
 
       whole : length (take 6144 bytes ++ replicate (length bytes - 6144) 0) ≡ end
       whole =
-          let a = long_first in
           let b = length-replicate {A = ℕ} (length bytes - 6144) 0 in
-          let l = long in
-          let x = length-append (take 6144 bytes) (replicate (length bytes - 6144) 0) in
-          omega (arith, a, b, l, x)
+          omega (arith, long_first, b, long, length-append (take 6144 bytes) (replicate (length bytes - 6144) 0))
 
       part : (k d : ℕ) → k < end → byte_of w inode k ≡ get_or (take 6144 bytes ++ replicate (length bytes - 6144) 0) k d
       part k d small = elim (cases_lt k 6144) [
         | inl lt ↦
-            let a = long_first in
             first_bytes k lt
-            ∙ sym (get_or_append_left (take 6144 bytes) (replicate (length bytes - 6144) 0) d k (omega (arith, lt, small, a))
+            ∙ sym (get_or_append_left (take 6144 bytes) (replicate (length bytes - 6144) 0) d k (omega (arith, lt, small, long_first))
             ∙ (get_or-take 6144 bytes k d lt ∙ get_or-map-range_with_len (byte_of v inode) 0 end k k d small (omega arith)))
         | inr ge ↦
-            let a = long_first in
-            let l = long in
             last_bytes k ge
-            ∙ sym (get_or-append_right (take 6144 bytes) (replicate (length bytes - 6144) 0) 6144 k d (omega (arith, a, ge, small)) ge ∙ get_or-replicate (length bytes - 6144) (k - 6144) 0 d (omega (arith, l, ge, small)))
+            ∙ sym (get_or-append_right (take 6144 bytes) (replicate (length bytes - 6144) 0) 6144 k d (omega (arith, long_first, ge, small)) ge ∙ get_or-replicate (length bytes - 6144) (k - 6144) 0 d (omega (arith, long, ge, small)))
       ]
 
   pub short_at : files_of w fs n ≡ cut_short (files_of v fs n)
@@ -214,8 +202,7 @@ module _ (T : Types) (fs : ℕ) (u : ℕ → List ℕ) (middle new : StoreState)
     | inl e ↦ same_as u (latest new.lives) fs n (subst (λ (y : StoreState). SameInode u (latest y.lives) fs n) (sym e) same) inode i
     | inr e ↦
         let one : inode_links inode ≡ inode_links s.inode = ap inode_links (same_ok inode s.inode (i ∙ (sym same.0 ∙ sym s.was))) in
-        let low = e.last in
-        absurd (omega (arith, one, low, lt))
+        absurd (omega (arith, one, e.last, lt))
   ]
 
   pub taking_kept : IsLibrary T → fs < 32 → IsConsistent T new → KeptOrEmptied u (latest new.lives) fs n

@@ -1,19 +1,7 @@
 -- What a `rename` leaves where it is refused is one of its stages.
-use Rattle.std.proofs.Common.{◌≡◌, ℕ, ◌<◌, Bool, true, List, Some, Result, Ok, Err, sym, ◌∙◌, ap, inl, inr}
-use Rattle.std.specs.Prelude.{◌&&◌, if◌then◌else◌}
-use Rattle.std.specs.Option.{ok_or}
-use Rattle.xn_model.specs.Types.{Types}
-use Rattle.xn_model.specs.Lives.{StoreState}
-use Rattle.xn_model.specs.Rules.{IsConsistent}
-use Rattle.ffs_model.specs.Cuts.{latest}
-use Rattle.ffs_model.specs.Library.{IsLibrary, inode_links}
-use Rattle.ffs_format.specs.Entries.{is_name}
-use Rattle.ffs_lookup.specs.declared.fault.FfsFault.{FfsFault}
-use Rattle.ffs_lookup.specs.declared.fault.FfsFault.TheVariants.{BadName, NoEntry, TooLarge}
-use Rattle.ffs_lookup.specs.declared.places.Slot.{Slot}
-use Rattle.ffs_lookup.specs.Newest.{and_then, rename_in}
-use Rattle.ffs_lookup.specs.Files.{Blocks, Directory, Files, directories, in_use, look_up, moved, renamed, room}
-use Rattle.ffs_lookup.specs.FileValues.{blocks_value, files_of}
+use Rattle.std.proofs.Common.{◌≡◌, ℕ, ◌<◌, Bool, true, List, Some, Result, Ok, Err, sym, ◌∙◌, ap, inl, inr, ◌&&◌, if◌then◌else◌, ok_or}
+use Rattle.ffs_lib.proofs.Words.{BadName, Blocks, Directory, FfsFault, Files, IsConsistent, IsLibrary, NoEntry, Slot, StoreState, TooLarge, Types, and_then}
+use Rattle.ffs_lib.proofs.Words.{blocks_value, directories, files_of, in_use, inode_links, is_name, latest, look_up, moved, rename_in, renamed, room}
 use Rattle.ffs_lookup.proofs.ForCallers.{EntryAt, first_value, renamed_ok}
 use Rattle.ffs_lib.specs.Stages.{IsRefused, Stages, found_stages, moved_stages, renamed_stages, stages_of}
 use Rattle.ffs_lib.specs.Steps.{NamedAgain, StopsNaming, StopsUnnaming}

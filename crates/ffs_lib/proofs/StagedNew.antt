@@ -1,23 +1,15 @@
 -- What `create` and `mkdir` leave where they are refused is one of their stages.
-use Rattle.std.proofs.Common.{◌≡◌, ◌≢◌, ℕ, ◌∷◌, [], ◌-◌, ◌/◌, ◌%◌, ◌<◌, Bool, true, false, List, Result, Ok, Err, refl, sym, ◌∙◌, ap, inl, inr, arith, subst}
-use Rattle.std.specs.Prelude.{◌==◌, ◌||◌, nat_lt, OnErr, Some}
-use Rattle.xn_model.specs.Types.{Types}
-use Rattle.xn_model.specs.Lives.{StoreState}
-use Rattle.xn_model.specs.Rules.{IsConsistent}
-use Rattle.ffs_model.specs.Cuts.{latest}
-use Rattle.ffs_model.specs.Library.{IsLibrary, inode_at}
-use Rattle.ffs_format.specs.Entries.{entry_of}
-use Rattle.ffs_lookup.specs.declared.fault.FfsFault.{FfsFault}
-use Rattle.ffs_lookup.specs.declared.fault.FfsFault.TheVariants.{NoEntry}
+use Rattle.std.proofs.Common.{◌≡◌, ◌≢◌, ℕ, ◌∷◌, [], ◌-◌, ◌/◌, ◌%◌, ◌<◌, Bool, true, false, List, Result, Ok, Err, refl, sym, ◌∙◌, ap, inl, inr, arith, subst, ◌==◌, ◌||◌, nat_lt, OnErr, Some}
+use Rattle.ffs_lib.proofs.Words.{Answer, AreBlocksOnce, FfsFault, Files, InodeValue, IsConsistent, IsLibrary, NoEntry, StoreState, Types, and_then}
+use Rattle.ffs_lib.proofs.Words.{blocks_value, create_in, created, directory_in, entry_of, fault_told, files_of, inode_at, inode_in, inode_value, is_absent}
+use Rattle.ffs_lib.proofs.Words.{latest, made_at, place_in, room, value_in, with_block, with_value}
 use Rattle.ffs_lookup.specs.declared.places.Free.{Free}
-use Rattle.ffs_lookup.specs.Newest.{and_then, create_in, directory_in, inode_in}
-use Rattle.ffs_lookup.specs.Files.{Answer, Files, InodeValue, created, is_absent, made_at, room, fault_told, with_block, with_value}
-use Rattle.ffs_lookup.specs.FileValues.{AreBlocksOnce, blocks_value, files_of, inode_value, place_in, value_in}
 use Rattle.ffs_lookup.proofs.ForCallers.{block_again, created_ok, created_told, good_number, has_root, same_ok, value_by_place, value_found, value_outside}
 use Rattle.ffs_lib.specs.Results.{IsExtended, IsLowestNumber, MadeEntry, SameOrNew, new_inode}
 use Rattle.ffs_lib.specs.Stages.{Does, ForEntry, IsRefused, IsStage, Makes, OfInode, OnlyMade, created_stages, made_stages, stages_of}
 use Rattle.ffs_lib.specs.Steps.{Answers, Creates, MadeInode, StopsMaking, StopsNew, TakesFree}
 use Rattle.ffs_lib.specs.Values.{Leads}
+use Rattle.ffs_lib.proofs.Tests.{never, true_false}
 use Rattle.ffs_lib.proofs.Entering.{directory_from, free_none}
 use Rattle.ffs_lib.proofs.BlocksOnce.{blocks_once}
 use Rattle.ffs_lib.proofs.Laws.{home_of}
@@ -26,9 +18,6 @@ use Rattle.ffs_lib.proofs.Same.{as_same, new_on, same_on}
 use Rattle.ffs_lib.proofs.ValueMade.{create_found, created_leads, pointer_kept, pointer_new}
 use Rattle.ffs_lib.proofs.ValueSame.{absent_is, block_apart, block_here_free, no_block, stays_value, together}
 use Rattle.ffs_lib.proofs.ValueSteps.{files_equal, value_at}
-
-true_false : (t : Bool) → t ≡ true → t ≡ false → ⊥
-true_false t e f = cc
 
 -- the number that would be answered
 number_is : (u : ℕ → List ℕ) (fs d : ℕ) (name : List ℕ) (value : InodeValue) (inode : List ℕ) → Ok inode ≡ create_in u fs d name → (next : ℕ × Files) → Ok next ≡ created value (files_of u fs) d name → (n : ℕ) → IsLowestNumber u fs n → n ≡ next.0
@@ -98,9 +87,8 @@ module _ (T : Types) (lib : IsLibrary T) (fs : ℕ) (few : fs < 32) (d : ℕ) (n
       elim s [
         | inl home ↦ inl (middle, block, home)
         | inr q ↦
-            let n = free.number in
-            let made = made_inode_value (latest middle.lives) (latest q.0.lives) fs mode n value (is (latest q.0.lives)) q.1 in
-            inr (inl (q.0, made ∙ ap (λ (f : Files). with_value f n value) block, q.2))
+            let made = made_inode_value (latest middle.lives) (latest q.0.lives) fs mode free.number value (is (latest q.0.lives)) q.1 in
+            inr (inl (q.0, made ∙ ap (λ (f : Files). with_value f free.number value) block, q.2))
       ]
 
   module _ (inode : List ℕ) (found : Ok inode ≡ create_in u fs d name) where
@@ -146,12 +134,9 @@ module _ (u w : ℕ → List ℕ) (fs d mode n : ℕ) where
   made_apart : inode_in u fs n ≡ Err NoEntry → place_in w fs n ≡ Ok (new_inode mode) → ((x : ℕ) → x ≢ n → SameOrNew u w fs n x) → Makes u w fs d mode n
   made_apart free made same = record {
     made = inl made;
-    directory = λ inode after was is. same_directory (same d (λ e. differs inode ((directory_from u fs d inode was).0 ∙ (ap (inode_in u fs) e ∙ free)))) inode after was is;
+    directory = λ inode after was is. same_directory (same d (λ e. never inode NoEntry ((directory_from u fs d inode was).0 ∙ (ap (inode_in u fs) e ∙ free)))) inode after was is;
     others = λ x ne ne'. same x ne';
   }
-    where
-      differs : (x : List ℕ) → ◌≡◌ {A = Result (List ℕ) FfsFault} (Ok x) (Err NoEntry) → ⊥
-      differs x e = cc
 
 module _ (T : Types) (fs d : ℕ) (name : List ℕ) (mode : ℕ) (old new : StoreState) (once : AreBlocksOnce (latest new.lives) fs) where
   abbrev u2 : ℕ → List ℕ

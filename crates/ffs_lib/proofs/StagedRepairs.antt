@@ -1,26 +1,9 @@
 -- What `reclaim` does is what its function of the files says, or one of its stages.
-use Rattle.std.proofs.Common.{◌≡◌, ℕ, suc, ◌+◌, ◌-◌, ◌<◌, ◌≤◌, Bool, true, false, List, [], ◌∷◌, ◌++◌, Option, Result, Ok, Err, refl, sym, ◌∙◌, ap, arith, subst, inl, inr, eq-eqb}
-use Rattle.std.specs.Prelude.{IsErrAnd, ◌==◌, flat_map, if◌then◌else◌}
-use Rattle.std.specs.List.{range_with_len}
-use Rattle.std.proofs.lemmas.Bool.{cases_eq, cases_lt, le-ltb, lt-ltb}
+use Rattle.std.proofs.Common.{◌≡◌, ℕ, suc, ◌+◌, ◌-◌, ◌<◌, ◌≤◌, Bool, true, false, List, [], ◌∷◌, ◌++◌, Option, Result, Ok, Err, refl, sym, ◌∙◌, ap, arith, subst, inl, inr, eq-eqb, IsErrAnd, ◌==◌, flat_map, if◌then◌else◌, le-ltb, lt-ltb}
+use Rattle.ffs_lib.proofs.Words.{Answer, FfsFault, Files, GiveUp, IsConsistent, IsLibrary, Keep, Pending, Repair, Repairs, SetLinks, StoreState, Types}
+use Rattle.ffs_lib.proofs.Words.{cases_eq, cases_lt, err_from_is_err_and, files_of, idle_in, if_idle, is_short, latest, pending_of, range_with_len, repair_at}
+use Rattle.ffs_lib.proofs.Words.{repair_in}
 use Rattle.std.proofs.lemmas.Grind.{flat_map-append}
-use Rattle.std.proofs.lemmas.Result.{err_from_is_err_and}
-use Rattle.xn_model.specs.Types.{Types}
-use Rattle.xn_model.specs.Lives.{StoreState}
-use Rattle.xn_model.specs.Calls.{pending_of}
-use Rattle.xn_model.specs.Rules.{IsConsistent}
-use Rattle.ffs_model.specs.Cuts.{latest}
-use Rattle.ffs_model.specs.Library.{IsLibrary}
-use Rattle.ffs_lookup.specs.declared.fault.FfsFault.{FfsFault}
-use Rattle.ffs_lookup.specs.declared.fault.FfsFault.TheVariants.{Pending}
-use Rattle.ffs_lookup.specs.declared.repairs.Repair.{Repair}
-use Rattle.ffs_lookup.specs.declared.repairs.Repair.TheVariants.{Keep, GiveUp, SetLinks}
-use Rattle.ffs_lookup.specs.declared.repairs.Repairs.{Repairs}
-use Rattle.ffs_lookup.specs.Counts.{if_idle}
-use Rattle.ffs_lookup.specs.Files.{Answer, Files}
-use Rattle.ffs_lookup.specs.FileValues.{files_of}
-use Rattle.ffs_lookup.specs.Newest.{is_short}
-use Rattle.ffs_lookup.specs.Repairs.{idle_in, repair_at, repair_in}
 use Rattle.ffs_lookup.proofs.ForCallers.{unnumbered_repair}
 use Rattle.ffs_lib.specs.Reclaiming.{InMiddle, LeftByRepair, Reclaims, Repaired, StopsRepairing, needs, reclaimed, reclaimed_stages, repair_stages, repaired, repaired_below, stages_at}
 use Rattle.ffs_lib.specs.Results.{AsBefore, SameInode}
@@ -28,8 +11,7 @@ use Rattle.ffs_lib.specs.Stages.{Asks, Does, IsRefused, IsStage, OfLink, Stages,
 use Rattle.ffs_lib.proofs.Moving.{same_as}
 use Rattle.ffs_lib.proofs.Reclaiming.{idle_ok, middle_ends, repaired_then}
 use Rattle.ffs_lib.proofs.Same.{same_on}
-use Rattle.ffs_lib.proofs.Staged.{kept_or_emptied, same_here, short_at}
-use Rattle.ffs_lib.proofs.StagedTurns.{first_stages}
+use Rattle.ffs_lib.proofs.Staged.{first_stages, kept_or_emptied, later_stages, same_here, short_at}
 use Rattle.ffs_lib.proofs.ValueRepairs.{need_is, range_split, repaired_value}
 use Rattle.ffs_lib.proofs.ValueSame.{same_value}
 use Rattle.ffs_lib.proofs.ValueSteps.{files_equal, value_at}
@@ -57,16 +39,9 @@ named_left old new fs n named x = go (needs (files_of old fs) n) refl x
 
 -- Stages in a list
 
-later_stages : (T : Types) (fs : ℕ) (new : StoreState) (fault : FfsFault) (xs ys : Stages) → IsStage T fs new fault ys → IsStage T fs new fault (xs ++ ys)
-later_stages T fs new fault [] ys s = s
-later_stages T fs new fault (x ∷ xs) ys s = inr (later_stages T fs new fault xs ys s)
-
 first_refused : (T : Types) (fs : ℕ) (old new : StoreState) (fault : FfsFault) (xs ys : Stages) → IsRefused T fs old new fault xs → IsRefused T fs old new fault (xs ++ ys)
 first_refused T fs old new fault [] ys none = absurd none
-first_refused T fs old new fault (x ∷ xs) ys s = elim s [
-  | inl here ↦ inl here
-  | inr later ↦ inr (first_stages T fs new fault xs ys later)
-]
+first_refused T fs old new fault (x ∷ xs) ys s = elim s [ inl here ↦ inl here | inr later ↦ inr (first_stages T fs new fault xs ys later) ]
 
 -- Some of the inodes are repaired
 
@@ -114,14 +89,8 @@ module _ (T : Types) (lib : IsLibrary T) (fs : ℕ) (few : fs < 32) (array : ℕ
 
       is_stage : (repair : Repair) → IsRefused T fs now new fault (repair_stages (repaired_below files next) next repair) → IsStage T fs new fault (repair_stages (repaired_below files next) next repair)
       is_stage Keep none = none
-      is_stage GiveUp s = elim s [
-        | inl asks ↦ inl (now, middle_value, asks)
-        | inr later ↦ inr later
-      ]
-      is_stage (SetLinks links) s = elim s [
-        | inl asks ↦ inl (now, middle_value, asks)
-        | inr later ↦ inr later
-      ]
+      is_stage GiveUp s = elim s [ inl asks ↦ inl (now, middle_value, asks) | inr later ↦ inr later ]
+      is_stage (SetLinks links) s = elim s [ inl asks ↦ inl (now, middle_value, asks) | inr later ↦ inr later ]
 
       abbrev rest : Stages
       rest = flat_map (stages_at files) (range_with_len (next + 1) (127 - done))

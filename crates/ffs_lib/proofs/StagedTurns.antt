@@ -1,22 +1,11 @@
 -- What a `replace` does is what its function of the files says, or one of its stages.
-use Rattle.std.proofs.Common.{◌≡◌, ◌≢◌, ℕ, ◌<◌, ◌≤◌, Bool, true, false, List, [], ◌∷◌, ◌++◌, Result, Ok, Err, refl, sym, ◌∙◌, ap, inl, inr, arith, subst, eq-eqb, Option}
-use Rattle.std.specs.Prelude.{IsErrAnd, MatchResult, OnErr, ◌==◌, ◌&&◌, if◌then◌else◌}
-use Rattle.std.proofs.lemmas.Bool.{ne_eqb}
-use Rattle.std.proofs.lemmas.Result.{err_from_is_err_and}
-use Rattle.xn_model.specs.Types.{Types}
-use Rattle.xn_model.specs.Lives.{StoreState}
-use Rattle.xn_model.specs.Rules.{IsConsistent}
-use Rattle.ffs_model.specs.Cuts.{latest}
-use Rattle.ffs_model.specs.Library.{IsLibrary, inode_links}
-use Rattle.ffs_format.specs.Fields.{direct_in}
-use Rattle.ffs_lookup.specs.declared.fault.FfsFault.{FfsFault}
-use Rattle.ffs_lookup.specs.declared.places.Slot.{Slot}
-use Rattle.ffs_lookup.specs.Newest.{directory_in, inode_in, is_at, is_short}
+use Rattle.std.proofs.Common.{◌≡◌, ◌≢◌, ℕ, ◌<◌, ◌≤◌, Bool, true, false, List, [], Result, Ok, Err, refl, sym, ◌∙◌, ap, inl, inr, arith, subst, eq-eqb, Option, IsErrAnd, MatchResult, OnErr, ◌==◌, ◌&&◌, if◌then◌else◌, ne_eqb}
+use Rattle.ffs_lib.proofs.Words.{FfsFault, IsConsistent, IsLibrary, Slot, StoreState, Types, direct_in, directory_in, err_from_is_err_and, files_of, inode_in}
+use Rattle.ffs_lib.proofs.Words.{inode_links, is_at, is_short, latest}
 use Rattle.ffs_lookup.specs.Files.{Answer, Files, replaced, turned, without_link}
-use Rattle.ffs_lookup.specs.FileValues.{files_of}
 use Rattle.ffs_lookup.proofs.ForCallers.{EntryAt, first_value, not_both}
 use Rattle.ffs_lib.specs.Replacing.{ReplacedInodes, Turned}
-use Rattle.ffs_lib.specs.Stages.{Does, IsRefused, IsStage, KeptOrEmptied, Stages, cleared_stages, link_stages, replaced_stages, turned_stages}
+use Rattle.ffs_lib.specs.Stages.{Does, IsRefused, KeptOrEmptied, Stages, cleared_stages, link_stages, replaced_stages, turned_stages}
 use Rattle.ffs_lib.specs.Steps.{AddsLink, Stops, StopsAtHome, StopsTaking, StopsUnnaming, TakesLink, Unnamed, Wants, Clearing}
 use Rattle.ffs_lib.proofs.Entering.{directory_from}
 use Rattle.ffs_lib.proofs.BlocksOnce.{blocks_once}
@@ -26,7 +15,7 @@ use Rattle.ffs_lib.proofs.Removal.{FindsEntry}
 use Rattle.ffs_lib.proofs.Replaced.{Halfway, after_clear, after_less, after_link, after_turn, cleared_listed, ended, former_same, halted, home_named, nothing_taken, refused, target_named, there1, there2, turned_listed, two_links}
 use Rattle.ffs_lib.proofs.ReplaceSteps.{Begins}
 use Rattle.ffs_lib.proofs.Replacing.{CanReplace}
-use Rattle.ffs_lib.proofs.Staged.{asks_entry, cleared_does, link_stage, same_here}
+use Rattle.ffs_lib.proofs.Staged.{asks_entry, cleared_does, first_stages, link_stage, same_here}
 use Rattle.ffs_lib.proofs.ValueReplaced.{by_tests, left, left_then, linked_then, moved_then, named_then, replaced_files, replaced_ok, replaced_stages_ok, same_is}
 use Rattle.ffs_lib.proofs.Writing.{file_from}
 
@@ -94,14 +83,6 @@ module _ (T : Types) (lib : IsLibrary T) (state : StoreState) (h : IsConsistent 
       Does T fs (replaced (files_of u fs) d name other other_name) (replaced_stages (files_of u fs) d name other other_name) state new result
   unfolding finds_first
   same_does places one new after result ends = does_by false true places (eq-eqb from.inode to.inode one) new result (cleared_does T lib fs few d name from state new finds_first h after result ends)
-
--- a stage of the first ones of a list
-pub first_stages : (T : Types) (fs : ℕ) (new : StoreState) (fault : FfsFault) (xs ys : Stages) → IsStage T fs new fault xs → IsStage T fs new fault (xs ++ ys)
-first_stages T fs new fault [] ys none = absurd none
-first_stages T fs new fault (x ∷ xs) ys s = elim s [
-  | inl here ↦ inl here
-  | inr later ↦ inr (first_stages T fs new fault xs ys later)
-]
 
 -- Where the entries name two files
 module _ (T : Types) (fs : ℕ) (array : ℕ → Option ℕ) (old : StoreState) (d : ℕ) (name : List ℕ) (other : ℕ) (other_name : List ℕ) (from to : Slot) (b : Begins T fs array old d name other other_name from to) where

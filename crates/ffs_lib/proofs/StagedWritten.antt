@@ -1,24 +1,9 @@
 -- A write does what its function of the files says, or leaves one of its stages.
-use Rattle.std.proofs.Common.{◌≡◌, ◌≢◌, ℕ, ◌+◌, ◌-◌, ◌%◌, ◌<◌, ◌≤◌, ◌⊎◌, Bool, true, false, List, [], ◌∷◌, ◌++◌, length, map, take, replicate, Option, Some, None, Result, Ok, Err, refl, sym, ◌∙◌, ap, inl, inr, arith, eq-eqb, subst, length-append}
-use Rattle.std.specs.Prelude.{Contains, IfErr, IfOk, IfSome, IsOk, MatchResult, OnOk, ◌==◌, ◌&&◌, ◌||◌, filter, min, nat_lt, if◌then◌else◌}
-use Rattle.std.specs.List.{range_with_len}
-use Rattle.std.proofs.lemmas.Bool.{cases_eq, le-ltb, lt-ltb, ne_eqb, or_left, or_right}
-use Rattle.std.proofs.lemmas.List.{append-nil, length-replicate, length-take-le, take_all}
-use Rattle.std.proofs.Math.Seq.{take-append-add}
-use Rattle.std.proofs.lemmas.List.FromFn.{length-map-range_with_len}
-use Rattle.xn_model.specs.declared.refusal.Refusal.{Refusal}
-use Rattle.xn_model.specs.declared.refusal.Refusal.TheVariants.{TooManyPending}
-use Rattle.xn_model.specs.Root.{word_at}
-use Rattle.xn_model.specs.Types.{Types}
-use Rattle.xn_model.specs.Lives.{StoreState}
+use Rattle.std.proofs.Common.{◌≡◌, ◌≢◌, ℕ, ◌+◌, ◌-◌, ◌%◌, ◌<◌, ◌≤◌, ◌⊎◌, Bool, true, false, List, [], ◌∷◌, ◌++◌, length, map, take, replicate, Option, Some, None, Result, Ok, Err, refl, sym, ◌∙◌, ap, inl, inr, arith, eq-eqb, subst, length-append, Contains, IfErr, IfOk, IfSome, IsOk, MatchResult, OnOk, ◌==◌, ◌&&◌, ◌||◌, filter, min, nat_lt, if◌then◌else◌, le-ltb, lt-ltb, ne_eqb, append-nil, length-take-le, take_all}
+use Rattle.ffs_lib.proofs.Words.{Answer, FfsFault, File, Files, IsLibrary, Kernel, Refusal, StoreState, TooManyPending, Types, byte_of, cases_eq, fault_told}
+use Rattle.ffs_lib.proofs.Words.{file_end, file_in, file_of, files_of, is_short, latest, length-map-range_with_len, length-replicate, mapped, most_bytes}
+use Rattle.ffs_lib.proofs.Words.{or_left, or_right, range_with_len, take-append-add, with_value, word_at, write_in, written, written_bytes}
 use Rattle.xn_model.proofs.ForCallers.{Contains-cons, Contains-none, filter_from}
-use Rattle.ffs_model.specs.Cuts.{latest}
-use Rattle.ffs_model.specs.Library.{IsLibrary}
-use Rattle.ffs_lookup.specs.declared.fault.FfsFault.{FfsFault}
-use Rattle.ffs_lookup.specs.declared.fault.FfsFault.TheVariants.{Kernel}
-use Rattle.ffs_lookup.specs.Files.{Answer, File, Files, fault_told, file_of, with_value, written, written_bytes}
-use Rattle.ffs_lookup.specs.FileValues.{files_of}
-use Rattle.ffs_lookup.specs.Newest.{byte_of, file_end, file_in, is_short, mapped, most_bytes, write_in}
 use Rattle.ffs_lookup.proofs.ForCallers.{same_ok}
 use Rattle.ffs_lib.specs.Outcomes.{IsRaised}
 use Rattle.ffs_lib.specs.Orders.{Acts}
@@ -37,7 +22,7 @@ use Rattle.ffs_lib.proofs.DataLaws.{puts_none}
 use Rattle.ffs_lib.proofs.Laws.{staged}
 use Rattle.ffs_lib.proofs.Parting.{end_found, never_some}
 use Rattle.ffs_lib.proofs.Same.{same_on}
-use Rattle.ffs_lib.proofs.Staged.{does_found}
+use Rattle.ffs_lib.proofs.Staged.{does_found, first_stages, later_stages}
 use Rattle.ffs_lib.proofs.Stopping.{acts_later, stops_any, stops_behind, stops_here}
 use Rattle.ffs_lib.proofs.Tops.{among}
 use Rattle.ffs_lib.proofs.WriteParts.{border_place, places_none, places_split}
@@ -46,14 +31,6 @@ use Rattle.ffs_lib.proofs.ValueWritten.{file, file_is, files, first_files, looke
 -- One of many stages
 
 module _ (T : Types) (fs : ℕ) (new : StoreState) (fault : FfsFault) where
-  behind : (xs ys : Stages) → IsStage T fs new fault ys → IsStage T fs new fault (xs ++ ys)
-  behind [] ys h = h
-  behind ((f, ask) ∷ xs) ys h = inr (behind xs ys h)
-
-  before_others : (xs ys : Stages) → IsStage T fs new fault xs → IsStage T fs new fault (xs ++ ys)
-  before_others [] ys h = absurd h
-  before_others ((f, ask) ∷ xs) ys h = elim h [ inl x ↦ inl x | inr x ↦ inr (before_others xs ys x) ]
-
   at_one : (f : ℕ → Files) (ask : ℕ → Ask) (at : ℕ) (before : StoreState) → files_of (latest before.lives) fs ≡ f at → Asks T fs (ask at) before new fault → (xs : List ℕ) → Contains xs at → IsStage T fs new fault (map (λ x. (f x, ask x)) xs)
   at_one f ask at before is asks [] i = absurd (Contains-none at i)
   at_one f ask at before is asks (x ∷ xs) i = elim (Contains-cons x xs at i) [
@@ -197,7 +174,6 @@ module _ (T : Types) (fs : ℕ) (array : ℕ → Option ℕ) (old middle : Store
   -- a part was refused, among those up to a place
   part_among : (fault : FfsFault) → Stopped fault → (last : ℕ) → start + progress.done < last → (rest : Stages) → IsRefused T fs old middle fault (parts_list start last ++ rest)
   part_among fault k last less rest =
-      let few = k.low in
       let done = progress.done in elim (cases_eq done 0) [
         | inl z ↦
             let here : start + done ≡ start = omega (arith, z) in
@@ -208,7 +184,7 @@ module _ (T : Types) (fs : ℕ) (array : ℕ → Option ℕ) (old middle : Store
               | inr (inl e) ↦ or_left (start + done == offset) ((start + done) % 512 == 0) (eq-eqb (start + done) offset e)
               | inr (inr e) ↦ or_right (start + done == offset) ((start + done) % 512 == 0) (eq-eqb ((start + done) % 512) 0 e)
             ] in
-            inr (before_others T fs middle fault _ rest (at_place T fs middle fault to (λ at. OfPart n offset bytes at (asked at)) is_place (start + done) k.before (first_files old fs n offset inode is k.before bytes done (omega (arith, few)) k.puts) (refused fault k) border
+            inr (first_stages T fs middle fault _ rest (at_place T fs middle fault to (λ at. OfPart n offset bytes at (asked at)) is_place (start + done) k.before (first_files old fs n offset inode is k.before bytes done (omega (arith, k.low)) k.puts) (refused fault k) border
             (start + 1) (last - (start + 1)) (omega (arith, ne)) (omega (arith, less, ne))))
       ]
 
@@ -222,8 +198,7 @@ module _ (T : Types) (fs : ℕ) (array : ℕ → Option ℕ) (old middle : Store
 
   part_place : (fault : FfsFault) → Stopped fault → IsStage T fs middle fault (place_stages all asked n offset bytes progress.done)
   part_place fault k =
-      let few = k.low in
-      subst (IsStage T fs middle fault) (sym (place_are progress.done)) (inl (k.before, first_files old fs n offset inode is k.before bytes progress.done (omega (arith, few)) k.puts, refused fault k))
+      subst (IsStage T fs middle fault) (sym (place_are progress.done)) (inl (k.before, first_files old fs n offset inode is k.before bytes progress.done (omega (arith, k.low)) k.puts, refused fault k))
 
   size_place : (new : StoreState) (fault : FfsFault) → StopsAtHome T fs middle new n fault → IsStage T fs new fault (place_stages all asked n offset bytes progress.done)
   size_place new fault s = subst (IsStage T fs new fault) (sym (place_are progress.done)) (inr (inl (middle, first_files old fs n offset inode is middle bytes progress.done p.few p.puts, s)))
@@ -239,15 +214,12 @@ module _ (T : Types) (fs : ℕ) (array : ℕ → Option ℕ) (old middle : Store
 
   part_last : (fault : FfsFault) → Stopped fault → IsStage T fs middle fault (last_stages all asked n offset bytes progress.done)
   part_last fault k =
-      let few = k.low in
-      let l = long_pads in
-      subst (IsStage T fs middle fault) (sym (last_are true (lt-ltb (start + progress.done) (offset + length bytes) (omega (arith, few, l)))))
-      (inl (k.before, first_files old fs n offset inode is k.before bytes progress.done (omega (arith, few)) k.puts, refused fault k))
+      subst (IsStage T fs middle fault) (sym (last_are true (lt-ltb (start + progress.done) (offset + length bytes) (omega (arith, k.low, long_pads)))))
+      (inl (k.before, first_files old fs n offset inode is k.before bytes progress.done (omega (arith, k.low)) k.puts, refused fault k))
 
   size_last : progress.done ≡ length pads → (new : StoreState) (fault : FfsFault) → StopsAtHome T fs middle new n fault → IsStage T fs new fault (last_stages all asked n offset bytes progress.done)
   size_last e new fault s =
-      let l = long_pads in
-      subst (IsStage T fs new fault) (sym (last_are false (le-ltb (start + progress.done) (offset + length bytes) (omega (arith, e, l)))))
+      subst (IsStage T fs new fault) (sym (last_are false (le-ltb (start + progress.done) (offset + length bytes) (omega (arith, e, long_pads)))))
       (inl (middle, first_files old fs n offset inode is middle bytes progress.done p.few p.puts, s))
 
   next_are : (count : ℕ) → next_stages all asked n offset bytes count ≡ (to (offset + count), OfPart n offset bytes (offset + count) (asked (offset + count))) ∷ []
@@ -287,9 +259,7 @@ module _ (T : Types) (fs : ℕ) (array : ℕ → Option ℕ) (old middle : Store
 
   raised : taken ≢ 0 → (new : StoreState) → IsRaised (latest middle.lives) (latest new.lives) fs n after (offset + taken) → OnlyChanges (latest middle.lives) (latest new.lives) fs n → (x : Unit {0}) → Leads (Ok (next part)) (latest new.lives) fs x
   raised some new r others x =
-      let few = few_taken in
-      let long = part_long in
-      written_leads old fs n offset inode is middle new part (take progress.done pads) (same_part some) (omega (arith, few, long, low)) p.puts (subst (λ (k : ℕ). IsRaised (latest middle.lives) (latest new.lives) fs n after (offset + k)) (sym long) r) others x
+      written_leads old fs n offset inode is middle new part (take progress.done pads) (same_part some) (omega (arith, few_taken, part_long, low)) p.puts (subst (λ (k : ℕ). IsRaised (latest middle.lives) (latest new.lives) fs n after (offset + k)) (sym part_long) r) others x
 
   stopped_by : (fault : FfsFault) → progress.fault ≡ Some fault → Stops Stopped fault
   stopped_by fault e = subst (λ (o : Option FfsFault). IfSome o (Stops Stopped)) e p.ended
@@ -306,27 +276,25 @@ module _ (T : Types) (fs : ℕ) (array : ℕ → Option ℕ) (old middle : Store
   size_refused : start + progress.done ≡ offset + length bytes → (new : StoreState) (fault : FfsFault) → (word_at after 4 < offset + length bytes) × StopsAtHome T fs middle new n fault → IsRefused T fs old new fault (written_stages all asked n offset bytes)
   size_refused ends new fault s =
       let picked = ap (nat_lt (length own.1)) ends ∙ size_below (offset + length bytes) low s.0 in
-      subst (IsRefused T fs old new fault) (sym written_are) (inr (behind T fs new fault _ size_list
+      subst (IsRefused T fs old new fault) (sym written_are) (inr (later_stages T fs new fault _ size_list
       (size_among (nat_lt (length own.1)) (offset + length bytes) 1 picked (omega (arith, ends)) (omega (arith, ends)) new fault s.1)))
 
   -- where some bytes are written
   size_some : taken ≢ 0 → (new : StoreState) (fault : FfsFault) → (word_at after 4 < offset + taken) × StopsAtHome T fs middle new n fault → IsRefused T fs old new fault (some_stages all asked n offset bytes)
   size_some some new fault s =
-      let few = few_taken in
-      let l = long_pads in
       let at : ℕ = start + progress.done in
       let here = place some in
-      let below : nat_lt (length own.1) at ≡ true = ap (nat_lt (length own.1)) here ∙ size_below (offset + taken) (omega (arith, few, low)) s.0 in
+      let below : nat_lt (length own.1) at ≡ true = ap (nat_lt (length own.1)) here ∙ size_below (offset + taken) (omega (arith, few_taken, low)) s.0 in
       let edge : (at % 512 == 0) || (at == offset + length bytes) ≡ true = elim (cases_eq at (offset + length bytes)) [
         | inl e ↦ or_right (at % 512 == 0) (at == offset + length bytes) (eq-eqb at (offset + length bytes) e)
-        | inr ne ↦ elim (p.border (omega (arith, ne, few, l, here))) [
+        | inr ne ↦ elim (p.border (omega (arith, ne, few_taken, long_pads, here))) [
           | inl z ↦ absurd (omega (arith, z, here, some))
           | inr (inl e) ↦ absurd (omega (arith, e, here, some))
           | inr (inr e) ↦ or_left (at % 512 == 0) (at == offset + length bytes) (eq-eqb (at % 512) 0 e)
         ]
       ] in
-      subst (IsRefused T fs old new fault) (sym some_are) (inr (behind T fs new fault _ some_sizes
-      (size_among (is_size (length own.1) (offset + length bytes)) (offset + 1) (length bytes) (ap (λ (t : Bool). t && ((at % 512 == 0) || (at == offset + length bytes))) below ∙ edge) (omega (arith, here, some)) (omega (arith, here, few)) new fault s.1)))
+      subst (IsRefused T fs old new fault) (sym some_are) (inr (later_stages T fs new fault _ some_sizes
+      (size_among (is_size (length own.1) (offset + length bytes)) (offset + 1) (length bytes) (ap (λ (t : Bool). t && ((at % 512 == 0) || (at == offset + length bytes))) below ∙ edge) (omega (arith, here, some)) (omega (arith, here, few_taken)) new fault s.1)))
 
   -- where it stops, by the numbers of its edits
   abbrev stop : StoreState → ℕ
@@ -344,14 +312,11 @@ module _ (T : Types) (fs : ℕ) (array : ℕ → Option ℕ) (old middle : Store
     | inl none ↦ stops_whole none new (omega (arith, same))
     | inr x ↦
         let k = (stopped_by x.0 x.1).1 in
-        let few = k.low in
-        let l = long_pads in
-        let before = k.told.same.later in
         let at : ℕ = start + progress.done in
         let rest : List ℕ = filter is_place (range_with_len (at + 1) (offset + length bytes - (at + 1))) in
         stops_any T fs n inode offset bytes old new b.there
-        ∙ (ap (λ (ys : List ℕ). stop_among T fs n (file_end inode) offset bytes new.next ys (old, no_last)) (places_split offset start at (offset + length bytes) (omega arith) (omega (arith, few, l)) (border_place (file_end inode) offset progress.done at refl k.border))
-        ∙ (stops_behind T fs n (file_end inode) offset bytes new.next (places start offset at) (at ∷ rest) (old, no_last) (k.before, progress.last) k.made (omega (arith, before, same))
+        ∙ (ap (λ (ys : List ℕ). stop_among T fs n (file_end inode) offset bytes new.next ys (old, no_last)) (places_split offset start at (offset + length bytes) (omega arith) (omega (arith, k.low, long_pads)) (border_place (file_end inode) offset progress.done at refl k.border))
+        ∙ (stops_behind T fs n (file_end inode) offset bytes new.next (places start offset at) (at ∷ rest) (old, no_last) (k.before, progress.last) k.made (omega (arith, k.told.same.later, same))
         ∙ stops_here T fs n (file_end inode) offset bytes new.next at rest (k.before, progress.last) middle x.0 k.told.told same))
   ]
 
@@ -472,9 +437,7 @@ module _ (T : Types) (fs : ℕ) (array : ℕ → Option ℕ) (old middle : Store
   takes_some some new r = record {
     few = few_taken;
     leads = λ z.
-        let few = few_taken in
-        let long = part_long in
-        subst (λ (a : Answer (Unit {0})). Leads a (latest new.lives) fs tt) (sym (some_leads old fs n offset inode is part (omega (arith, few, long, low)) (λ y. some (sym long ∙ y)))) (raised some new r.0 r.1 tt);
+        subst (λ (a : Answer (Unit {0})). Leads a (latest new.lives) fs tt) (sym (some_leads old fs n offset inode is part (omega (arith, few_taken, part_long, low)) (λ y. some (sym part_long ∙ y)))) (raised some new r.0 r.1 tt);
     stopped = λ z less. stopped less (some_or_none progress.fault);
     none = λ z any. absurd (some z);
   }
@@ -484,13 +447,12 @@ module _ (T : Types) (fs : ℕ) (array : ℕ → Option ℕ) (old middle : Store
       stopped less (inr x) =
           let stop = stopped_by x.0 x.1 in
           let k = stop.1 in
-          let few = k.low in
           let here = place some in (
             middle,
             x.0,
             stop.0,
             subst (IsStage T fs middle x.0) (sym (next_are taken))
-                (inl (k.before, first_files old fs n offset inode is k.before bytes progress.done (omega (arith, few)) k.puts ∙ ap to here, subst (λ (at : ℕ). Refused at k.before x.0) here (refused x.0 k))),
+                (inl (k.before, first_files old fs n offset inode is k.before bytes progress.done (omega (arith, k.low)) k.puts ∙ ap to here, subst (λ (at : ℕ). Refused at k.before x.0) here (refused x.0 k))),
           )
 
   -- by a count

@@ -1,14 +1,7 @@
 -- Where a write stops, by the numbers of its edits.
-use Rattle.std.proofs.Common.{◌≡◌, ◌≢◌, ℕ, ◌+◌, ◌-◌, ◌<◌, ◌≤◌, Bool, List, [], ◌∷◌, ◌++◌, length, Result, Ok, Err, refl, sym, ◌∙◌, ap, inl, inr, arith, subst}
-use Rattle.std.specs.Prelude.{MatchResult, min, take, if◌then◌else◌}
-use Rattle.std.proofs.lemmas.Bool.{le-ltb, lt-ltb}
-use Rattle.xn_model.specs.declared.refusal.Refusal.{Refusal}
-use Rattle.xn_model.specs.Types.{Types}
-use Rattle.xn_model.specs.Lives.{StoreState}
+use Rattle.std.proofs.Common.{◌≡◌, ◌≢◌, ℕ, ◌+◌, ◌-◌, ◌<◌, ◌≤◌, Bool, List, [], ◌∷◌, ◌++◌, length, Result, Ok, Err, refl, sym, ◌∙◌, ap, inl, inr, arith, subst, MatchResult, min, take, if◌then◌else◌, le-ltb, lt-ltb}
+use Rattle.ffs_lib.proofs.Words.{FfsFault, Refusal, StoreState, Types, file_end, init_of}
 use Rattle.xn_model.proofs.ForCallers.{same_ok, then_ok}
-use Rattle.xn_model.specs.Calls.{init_of}
-use Rattle.ffs_lookup.specs.declared.fault.FfsFault.{FfsFault}
-use Rattle.ffs_lookup.specs.Newest.{file_end}
 use Rattle.ffs_lib.specs.Orders.{Action, Acts, Attaches, Makes, act_of, made_by}
 use Rattle.ffs_lib.specs.Orders as orders
 use Rattle.ffs_lib.specs.Steps.{skipped}
@@ -37,9 +30,7 @@ told_before T fs (first ∷ rest) old new other fault t e =
     let x = then_ok (made_by T fs rest) (act_of T fs (first old) old) other e in elim t [
       | inl y ↦
           let less = (told_lives T fs (first old) old new fault y).fewer in
-          let next = act_next T fs (first old) old x.0 x.1 in
-          let last = parts_later T fs rest x.0 other x.2 in
-          omega (arith, less, next, last)
+          omega (arith, less, act_next T fs (first old) old x.0 x.1, parts_later T fs rest x.0 other x.2)
       | inr y ↦ told_before T fs rest x.0 new other fault (subst (λ (s : StoreState). TellsIn T fs rest s new fault) (same_ok y.0 x.0 (sym y.1 ∙ x.1)) y.2) x.2
     ]
 
@@ -61,8 +52,7 @@ module _ (T : Types) (fs n end offset : ℕ) (bytes : List ℕ) (limit : ℕ) wh
   runs_later (at ∷ xs) x there e =
       let y = then_ok (λ state. run xs (then_last at x state)) (step at x) there e in
       let first = parts_later T fs (parts_at fs n offset bytes at (after_at end offset bytes at x.1)) x.0 y.0 y.1 in
-      let last = runs_later xs (then_last at x y.0) there y.2 in
-      omega (arith, first, last)
+      omega (arith, first, runs_later xs (then_last at x y.0) there y.2)
 
   -- behind parts that are made
   pub stops_behind : (xs ys : List ℕ) (x there : StoreState × Last) → run xs x ≡ Ok there → there.0.next ≤ limit → stop (xs ++ ys) x ≡ stop ys there

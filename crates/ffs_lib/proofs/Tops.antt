@@ -1,26 +1,14 @@
 -- What a file system has before its volume is made, and after.
-use Rattle.std.proofs.Common.{◌≡◌, ◌≢◌, ℕ, zero, suc, ◌+◌, ◌-◌, ◌*◌, ◌%◌, ◌^◌, ◌<◌, ◌≤◌, ◌⊎◌, Bool, true, false, List, [], ◌∷◌, length, Option, Some, None, Result, Ok, Err, refl, sym, ◌∙◌, ap, inl, inr, arith, subst, eq-eqb, replicate}
-use Rattle.std.specs.Prelude.{Contains, not, ◌==◌, ◌&&◌, nat_lt, if◌then◌else◌, option_map, option_to_list, ◌++◌}
-use Rattle.std.specs.Int.{w32, to_le_bytes}
-use Rattle.std.specs.List.{range_with_len}
-use Rattle.std.proofs.lemmas.Bool.{cases_eq, cases_lt, eqb-false, eqb-true, false≢true, le-ltb, ne_eqb}
-use Rattle.xn_model.specs.declared.refusal.Refusal.TheVariants.{NotInUse, NotYours, RootTaken}
-use Rattle.xn_model.specs.Types.{Types}
-use Rattle.xn_model.specs.Lists.{blocks_of, put}
-use Rattle.xn_model.specs.Root.{slot, unless_empty, word_at}
+use Rattle.std.proofs.Common.{◌≡◌, ◌≢◌, ℕ, zero, suc, ◌+◌, ◌-◌, ◌*◌, ◌%◌, ◌^◌, ◌<◌, ◌≤◌, ◌⊎◌, Bool, true, false, List, [], ◌∷◌, length, Option, Some, None, Result, Ok, Err, refl, sym, ◌∙◌, ap, inl, inr, arith, subst, eq-eqb, replicate, Contains, not, ◌==◌, ◌&&◌, nat_lt, if◌then◌else◌, option_map, option_to_list, ◌++◌, w32, eqb-true, le-ltb, ne_eqb}
+use Rattle.ffs_lib.proofs.Words.{BlockState, Exists, FfsFault, IsConsistent, IsInodes, IsLibrary, IsRoot, Kernel, Life, NoEntry, NotInUse, NotYours, RootTaken}
+use Rattle.ffs_lib.proofs.Words.{StoreState, Types, Under, Unsound, alive_and, blocks_of, cases_eq, cases_lt, direct_word, eqb-false, false≢true, first_refusal}
+use Rattle.ffs_lib.proofs.Words.{has_pointer, if_bare, if_makeable, init_of, inode_at, inode_block_in, inode_blocks, inode_pairs, is_dropped, is_for, is_fresh}
+use Rattle.ffs_lib.proofs.Words.{kind_of, latest, library_layout, life_at, make_in, make_root_of, may_add, new_life, own_life, own_place, pointer_word}
+use Rattle.ffs_lib.proofs.Words.{propose_of, put, range_with_len, root, root_in, root_of, root_state, slot, slot_now, to_le_bytes, unless, unless_empty}
+use Rattle.ffs_lib.proofs.Words.{word_at, zero_block}
 use Rattle.xn_model.specs.declared.status.Status.{Status}
-use Rattle.xn_model.specs.Lives.{BlockState, Life, StoreState, alive_and, is_dropped, is_for, is_fresh, life_at}
-use Rattle.xn_model.specs.Results.{first_refusal, unless}
-use Rattle.xn_model.specs.Calls.{init_of, kind_of, make_root_of, may_add, new_life, own_life, own_place, propose_of, root_of, root_state, slot_now}
-use Rattle.xn_model.specs.Rules.{IsConsistent}
 use Rattle.xn_model.proofs.ForCallers.{Contains-cons, Contains-head, Contains-none, Contains-tail, accepted, any_at, any_from, each_at, place_from, range_at, set_same, status_cases}
-use Rattle.ffs_model.specs.Cuts.{Under, latest, root}
-use Rattle.ffs_model.specs.Names.{IsInodes, IsRoot}
-use Rattle.ffs_model.specs.Library.{IsLibrary, direct_word, inode_at, inode_blocks, inode_pairs, library_layout, pointer_word, zero_block}
 use Rattle.ffs_model.proofs.ForCallers.{bytes_apart, one_inode, pointed_none, rooted, started, word_apart, zero_word}
-use Rattle.ffs_lookup.specs.declared.fault.FfsFault.{FfsFault}
-use Rattle.ffs_lookup.specs.declared.fault.FfsFault.TheVariants.{Exists, Kernel, NoEntry, Unsound}
-use Rattle.ffs_lookup.specs.Newest.{has_pointer, if_bare, if_makeable, inode_block_in, make_in, root_in}
 use Rattle.ffs_lookup.proofs.ForCallers.{in_root_block, kind_known, no_root_block, root_again, zero_is}
 use Rattle.ffs_lib.specs.Edits.{edit_at}
 use Rattle.ffs_lib.specs.Outcomes.{FirstInodes}
@@ -312,6 +300,3 @@ pub found_still : (T : Types) (fs : ℕ) → fs < 32 → (block number ty : ℕ)
 found_still T fs few block number ty zeroth first h bytes done =
     make_same T (latest zeroth.lives) (latest first.lives) fs block 6
     (begun T zeroth first h fs few ty 6 bytes (block, number) done) (λ z. omega (arith, z))
-
-pub never : {A : Type 0} (x : A) (fault : FfsFault) → ◌≡◌ {A = Result A FfsFault} (Ok x) (Err fault) → ⊥
-never x fault e = cc

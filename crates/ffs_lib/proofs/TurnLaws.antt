@@ -1,20 +1,8 @@
 -- What the edits of `replace` leave: of an entry that goes to another inode, and of a link that may be taken later.
-use Rattle.std.proofs.Common.{◌≡◌, ◌≢◌, ℕ, suc, ◌*◌, ◌^◌, ◌<◌, List, [], length, replicate, Option, Some, Result, Ok, Err, sym, ◌∙◌, ap, arith, subst, inl, inr}
-use Rattle.std.specs.Prelude.{OnOk}
-use Rattle.std.specs.Int.{w16, to_le_bytes}
-use Rattle.xn_model.specs.Types.{Types}
-use Rattle.xn_model.specs.Lives.{StoreState}
-use Rattle.xn_model.specs.Calls.{Edit, propose_of}
-use Rattle.ffs_model.specs.Cuts.{Under, latest}
-use Rattle.ffs_model.specs.Library.{inode_blocks, inode_links, inode_mode, library_layout}
-use Rattle.ffs_model.specs.Volumes.{CanUnlink}
+use Rattle.std.proofs.Common.{◌≡◌, ◌≢◌, ℕ, suc, ◌*◌, ◌^◌, ◌<◌, List, [], length, replicate, Option, Some, Result, Ok, Err, sym, ◌∙◌, ap, arith, subst, inl, inr, OnOk, w16}
+use Rattle.ffs_lib.proofs.Words.{CanUnlink, Edit, FfsFault, Fields, Found, IsFound, IsSlot, Slot, StoreState, Types, Under, fields_of, inode_blocks, inode_in}
+use Rattle.ffs_lib.proofs.Words.{inode_links, inode_mode, latest, library_layout, propose_of, to_le_bytes}
 use Rattle.ffs_model.proofs.ForCallers.{given_later, library_reads, one_later, proposed_given, proposed_next, under_direct}
-use Rattle.ffs_format.specs.Fields.{Fields, fields_of}
-use Rattle.ffs_lookup.specs.declared.fault.FfsFault.{FfsFault}
-use Rattle.ffs_lookup.specs.declared.places.Found.{Found}
-use Rattle.ffs_lookup.specs.declared.places.Slot.{Slot}
-use Rattle.ffs_lookup.specs.Newest.{inode_in}
-use Rattle.ffs_lookup.specs.Places.{IsFound, IsSlot}
 use Rattle.ffs_lookup.proofs.ForCallers.{entry_is}
 use Rattle.ffs_lib.specs.Edits.{edit_at}
 use Rattle.ffs_lib.specs.Replacing.{Turned}

@@ -1,25 +1,11 @@
 -- An entry of a directory goes to another inode: what is listed then, and what else is as before.
-use Rattle.std.proofs.Common.{◌≡◌, ℕ, ◌+◌, ◌*◌, ◌^◌, ◌<◌, ◌≤◌, ◌≢◌, ◌⊎◌, Bool, true, false, List, [], ◌∷◌, ◌++◌, map, length, take, drop, get_or, Option, Some, None, Ok, refl, sym, ◌∙◌, ap, inl, inr, arith, eq-eqb}
-use Rattle.std.specs.Prelude.{◌==◌, ◌&&◌, min, filter_map, flat_map, option_map, if◌then◌else◌}
-use Rattle.std.specs.List.{range_with_len, cons_option}
-use Rattle.std.specs.Int.{w16, to_le_bytes}
-use Rattle.std.proofs.lemmas.Bool.{cases_eq, cases_lt, ne_eqb}
-use Rattle.std.proofs.lemmas.List.{map-append}
-use Rattle.std.proofs.lemmas.Nat.{from_le_bytes-to_le_bytes_2}
-use Rattle.xn_model.specs.Types.{Types}
-use Rattle.xn_model.specs.Lists.{put}
-use Rattle.xn_model.specs.Lives.{StoreState}
-use Rattle.xn_model.specs.Calls.{propose_of}
-use Rattle.xn_model.specs.Rules.{IsConsistent}
-use Rattle.ffs_model.specs.Cuts.{Under, latest}
-use Rattle.ffs_model.specs.Library.{IsLibrary, half_at, inode_blocks, library_layout}
+use Rattle.std.proofs.Common.{◌≡◌, ℕ, ◌+◌, ◌*◌, ◌^◌, ◌<◌, ◌≤◌, ◌≢◌, ◌⊎◌, Bool, true, false, List, [], ◌∷◌, ◌++◌, map, length, take, drop, get_or, Option, Some, None, Ok, refl, sym, ◌∙◌, ap, inl, inr, arith, eq-eqb, ◌==◌, ◌&&◌, min, filter_map, flat_map, option_map, if◌then◌else◌, w16, ne_eqb}
+use Rattle.ffs_lib.proofs.Words.{IsConsistent, IsLibrary, IsSlot, Slot, StoreState, Types, Under, cases_eq, cases_lt, cons_option, from_le_bytes-to_le_bytes_2}
+use Rattle.ffs_lib.proofs.Words.{half_at, inode_blocks, latest, library_layout, listing, map-append, name_in, propose_of, put, range_with_len, to_le_bytes}
 use Rattle.ffs_model.proofs.ForCallers.{bytes_apart, direct_where, half_apart, half_within, library_reads, proposed_here, proposed_others, under_direct}
-use Rattle.ffs_format.specs.Entries.{name_in}
-use Rattle.ffs_lookup.specs.declared.places.Slot.{Slot}
-use Rattle.ffs_lookup.specs.Newest.{listing}
-use Rattle.ffs_lookup.specs.Places.{IsSlot}
 use Rattle.ffs_lib.specs.Edits.{edit_at}
 use Rattle.ffs_lib.specs.Replacing.{Turned, turned_entry}
+use Rattle.ffs_lib.proofs.Tests.{and_false}
 use Rattle.ffs_lib.proofs.Frames.{byte_apart, listed_at, listed_blocks, listed_in}
 use Rattle.ffs_lib.proofs.Owners.{direct_block, stands_from}
 use Rattle.ffs_lib.proofs.Same.{data_touched, edited, inodes_same}
@@ -77,12 +63,8 @@ module _ (entry : Slot) (n : ℕ) where
       other : (b == entry.block) && (x == entry.place) ≡ false
       other = elim (cases_eq b entry.block) [
         | inr ne ↦ ap (λ t. t && (x == entry.place)) (ne_eqb b entry.block ne)
-        | inl e ↦ ap (λ t. (b == entry.block) && t) (ne_eqb x entry.place (apart e)) ∙ none (b == entry.block)
+        | inl e ↦ ap (λ t. (b == entry.block) && t) (ne_eqb x entry.place (apart e)) ∙ and_false (b == entry.block)
       ]
-        where
-          none : (t : Bool) → t && false ≡ false
-          none true = refl
-          none false = refl
 
       go : (t : Bool) → (if t then None else Some (record { block = b; place = x; inode = half_at m (32 * x) }, name_in m (32 * x)))
           ≡ option_map turn (if t then None else Some (record { block = b; place = x; inode = half_at m (32 * x) }, name_in m (32 * x)))
@@ -110,10 +92,7 @@ module _ (entry : Slot) (n : ℕ) where
         ∙ ap (λ name. if half_at m (32 * x) == 0 then None else Some (record { block = b; place = x; inode = half_at m (32 * x) }, name)) (name_stays m long entry.place few bs two x)
 
     in_block : (b : ℕ) → b ≡ entry.block → (x : ℕ) → listed_at b written x ≡ option_map turn (listed_at b m x)
-    in_block b e x = elim (cases_eq x entry.place) [
-      | inl f ↦ here b x e f
-      | inr ne ↦ beside_it b x ne ∙ unmoved b x m (λ s f. ne f)
-    ]
+    in_block b e x = elim (cases_eq x entry.place) [ inl f ↦ here b x e f | inr ne ↦ beside_it b x ne ∙ unmoved b x m (λ s f. ne f) ]
 
   -- of all blocks
   module _ (v w : ℕ → List ℕ) (long : length (v entry.block) ≡ 512) (few : entry.place < 16) (used : half_at (v entry.block) (32 * entry.place) ≢ 0) (bs : List ℕ) (two : length bs ≡ 2) (is : half_at bs 0 ≡ n) (some : n ≢ 0)
@@ -151,6 +130,5 @@ name_turned T lib state new h fs few slot is names n small some after entry done
           (proposed_here T state new h fs slot.block edit entry done) (proposed_others T state new h fs slot.block edit entry done);
       others = λ d own e has x ne.
           let y = direct_where own slot.block has in
-          let lt = y.1 in
-          data_touched T lib state h fs few w slot.block 2 t refl d own (stands_from v fs d own e) y.0 (omega (arith, lt)) (direct_block v own y.0 lt ∙ y.2) y.3 x ne;
+          data_touched T lib state h fs few w slot.block 2 t refl d own (stands_from v fs d own e) y.0 (omega (arith, y.1)) (direct_block v own y.0 y.1 ∙ y.2) y.3 x ne;
     }

@@ -1,17 +1,11 @@
 -- The places of a directory's value, by its listing.
-use Rattle.std.proofs.Common.{◌≡◌, ◌≢◌, ℕ, zero, suc, ◌+◌, ◌*◌, ◌<◌, ◌≤◌, ◌⊎◌, Bool, true, false, cond, List, [], ◌∷◌, ◌++◌, map, Option, Some, None, refl, sym, ◌∙◌, ap, inl, inr, arith, eq-eqb, subst}
-use Rattle.std.specs.Prelude.{Contains, ◌==◌, ◌&&◌, ◌||◌, not, filter, filter_map, find, flat_map, option_map, if◌then◌else◌}
-use Rattle.std.specs.List.{cons_option, list_any, range_with_len}
-use Rattle.std.specs.Option.{option_or}
-use Rattle.std.proofs.lemmas.Bool.{and_parts, cases_eq, eqb-true, ne_eqb}
-use Rattle.std.proofs.lemmas.List.Folds.{find-append}
+use Rattle.std.proofs.Common.{◌≡◌, ◌≢◌, ℕ, zero, suc, ◌+◌, ◌*◌, ◌<◌, ◌≤◌, ◌⊎◌, Bool, true, false, cond, List, [], ◌∷◌, ◌++◌, map, Option, Some, None, refl, sym, ◌∙◌, ap, inl, inr, arith, eq-eqb, subst, Contains, ◌==◌, ◌&&◌, ◌||◌, not, filter, filter_map, find, flat_map, option_map, if◌then◌else◌, eqb-true, ne_eqb}
+use Rattle.ffs_lib.proofs.Words.{Slot, and_parts, cases_eq, cons_option, find-append, half_at, inode_blocks, is_at, list_any, listing, name_in, name_of_place}
+use Rattle.ffs_lib.proofs.Words.{option_or, range_with_len, without_entry}
 use Rattle.xn_model.proofs.ForCallers.{Contains-cons, Contains-head, Contains-none, Contains-tail}
-use Rattle.ffs_model.specs.Library.{half_at, inode_blocks}
-use Rattle.ffs_format.specs.Entries.{name_in}
-use Rattle.ffs_lookup.specs.declared.places.Slot.{Slot}
-use Rattle.ffs_lookup.specs.Newest.{is_at, listing, name_of_place, without_entry}
 use Rattle.ffs_lookup.proofs.ForCallers.{find_first, found_holds}
 use Rattle.ffs_lib.specs.Replacing.{turned_entry}
+use Rattle.ffs_lib.proofs.Tests.{and_false}
 use Rattle.ffs_lib.proofs.Firsts.{find_skip}
 use Rattle.ffs_lib.proofs.Frames.{listed_at, listed_blocks, listed_in}
 
@@ -26,10 +20,6 @@ pub both_true : (s t : Bool) → s ≡ true → t ≡ true → s && t ≡ true
 both_true true true f g = refl
 both_true true false f g = absurd (cc g)
 both_true false t f g = absurd (cc f)
-
-and_false : (t : Bool) → t && false ≡ false
-and_false true = refl
-and_false false = refl
 
 -- the entry of a list that stands at a place of a block
 module _ (b p : ℕ) where

@@ -1,22 +1,15 @@
 -- What `create` and `mkdir` leave is what their function of the files says.
-use Rattle.std.proofs.Common.{◌≡◌, ◌≢◌, ℕ, ◌<◌, ◌⊎◌, Bool, true, false, List, get_or, Some, None, Ok, Err, refl, sym, ◌∙◌, ap, inl, inr, arith, eq-eqb, subst}
-use Rattle.std.specs.Prelude.{Contains, Result, ◌==◌, ◌&&◌, ◌||◌, nat_lt, option_map, slice_set, if◌then◌else◌}
-use Rattle.std.proofs.lemmas.Bool.{cases_eq, eqb-true, ne_eqb}
-use Rattle.std.proofs.lemmas.List.{get_or-set_other, get_or-set_same}
-use Rattle.std.proofs.lemmas.Option.{none-some, same_Some}
-use Rattle.xn_model.specs.Root.{word_at}
-use Rattle.ffs_model.specs.Library.{half_at, inode_blocks, inode_links, inode_mode}
+use Rattle.std.proofs.Common.{◌≡◌, ◌≢◌, ℕ, ◌<◌, ◌⊎◌, Bool, true, false, List, get_or, Some, None, Ok, refl, sym, ◌∙◌, ap, inl, inr, arith, eq-eqb, subst, Contains, ◌==◌, ◌&&◌, ◌||◌, nat_lt, option_map, slice_set, if◌then◌else◌, get_or-set_other, get_or-set_same, eqb-true, ne_eqb}
+use Rattle.ffs_lib.proofs.Words.{Answer, AreBlocksOnce, Directory, File, Files, HasBlocksOnce, InodeValue, NoEntry, blocks_value, bytes_value, cases_eq}
+use Rattle.ffs_lib.proofs.Words.{create_in, created, direct_in, directory_in, fault_told, fields_of, files_of, half_at, if_new, inode_blocks, inode_in}
+use Rattle.ffs_lib.proofs.Words.{inode_links, inode_mode, inode_value, is_absent, listing, made_at, name_of_place, new_directory, new_file, none-some}
+use Rattle.ffs_lib.proofs.Words.{put_entry, room, room_in, same_Some, value_in, with_block, with_entry_in, word_at}
 use Rattle.ffs_model.proofs.ForCallers.{direct_where}
-use Rattle.ffs_format.specs.Fields.{direct_in, fields_of}
-use Rattle.ffs_lookup.specs.declared.fault.FfsFault.{FfsFault}
-use Rattle.ffs_lookup.specs.declared.fault.FfsFault.TheVariants.{NoEntry}
 use Rattle.ffs_lookup.specs.declared.places.Room.TheVariants.{Entry as InBlock, Pointer}
-use Rattle.ffs_lookup.specs.Newest.{create_in, directory_in, if_new, inode_in, listing, name_of_place, room_in}
-use Rattle.ffs_lookup.specs.Files.{Answer, Files, InodeValue, File, Directory, created, is_absent, made_at, new_directory, new_file, put_entry, room, fault_told, with_block, with_entry_in}
-use Rattle.ffs_lookup.specs.FileValues.{AreBlocksOnce, HasBlocksOnce, blocks_value, bytes_value, files_of, inode_value, value_in}
 use Rattle.ffs_lookup.proofs.ForCallers.{created_ok, direct_has, good_number, has_root, put_is, room_is, room_known, room_of, value_by_place, value_found, value_outside, value_there, value_used}
 use Rattle.ffs_lib.specs.Results.{HasMore, IsLowestNumber, MadeEntry, new_inode}
 use Rattle.ffs_lib.specs.Values.{Leads}
+use Rattle.ffs_lib.proofs.Tests.{and_false, never, true_false}
 use Rattle.ffs_lib.proofs.Entering.{directory_from}
 use Rattle.ffs_lib.proofs.Fields.{direct_get}
 use Rattle.ffs_lib.proofs.Owners.{Stands, number_from, passed, stands_from}
@@ -44,10 +37,6 @@ module _ (v w : ℕ → List ℕ) (fs d n : ℕ) (name inode : List ℕ) (m : Ha
   apart : (b p : ℕ) → (block ≢ b) ⊎ (place ≢ p) → there_in b p (listing w m.after) ≡ there_in b p (listing v inode)
   apart b p h = lists b p ∙ ap (λ t. if t then Some (name, m.entry.inode) else there_in b p (listing v inode)) (away h)
     where
-      and_false : (t : Bool) → t && false ≡ false
-      and_false true = refl
-      and_false false = refl
-
       away : (block ≢ b) ⊎ (place ≢ p) → (block == b) && (place == p) ≡ false
       away (inl ne) = ap (λ t. t && (place == p)) (ne_eqb block b ne)
       away (inr ne) = ap (λ t. (block == b) && t) (ne_eqb place p ne) ∙ and_false (block == b)
@@ -198,14 +187,8 @@ module _ (v w : ℕ → List ℕ) (fs d n mode : ℕ) (name inode : List ℕ) (d
   right : (n == 0) || nat_lt 128 n ≡ false
   right = good_number n n_in_use.some n_in_use.low
 
-  differs : {A : Type 0} (x : A) (fault : FfsFault) → ◌≡◌ {A = Result A FfsFault} (Ok x) (Err fault) → ⊥
-  differs x fault e = cc
-
   d_apart : d ≢ n
-  d_apart e = differs inode NoEntry ((directory_from v fs d inode dir).0 ∙ (ap (inode_in v fs) e ∙ m.free))
-
-  true_false : (t : Bool) → t ≡ true → t ≡ false → ⊥
-  true_false t e f = cc
+  d_apart e = never inode NoEntry ((directory_from v fs d inode dir).0 ∙ (ap (inode_in v fs) e ∙ m.free))
 
   n_present : is_absent (files_of w fs n) ≡ false
   n_present = ap is_absent (value_found w fs n (new_inode mode) (sym m.made)) ∙ value_there w (new_inode mode)

@@ -1,12 +1,7 @@
 -- What `rename` leaves is what its function of the files says.
 use Rattle.std.proofs.Common.{◌≡◌, ◌≢◌, ℕ, ◌<◌, ◌≤◌, List, Some, None, Ok, refl, sym, ◌∙◌, ap, inl, inr, subst}
-use Rattle.std.proofs.lemmas.Bool.{cases_eq}
-use Rattle.ffs_model.specs.Library.{inode_links}
-use Rattle.ffs_format.specs.Fields.{direct_in}
-use Rattle.ffs_lookup.specs.declared.places.Slot.{Slot}
-use Rattle.ffs_lookup.specs.Newest.{directory_in, inode_in}
-use Rattle.ffs_lookup.specs.Files.{Files, links_of, moved, room, with_entry, without_link}
-use Rattle.ffs_lookup.specs.FileValues.{AreBlocksOnce, HasBlocksOnce, blocks_value, files_of}
+use Rattle.ffs_lib.proofs.Words.{AreBlocksOnce, Files, HasBlocksOnce, Slot, blocks_value, cases_eq, direct_in, directory_in, files_of, inode_in, inode_links}
+use Rattle.ffs_lib.proofs.Words.{links_of, moved, room, with_entry, without_link}
 use Rattle.ffs_lookup.proofs.ForCallers.{EntryAt, IsPlaceOf, same_ok}
 use Rattle.ffs_lib.specs.Results.{HasMore, IsAs}
 use Rattle.ffs_lib.specs.Steps.{Clearing, NamedAgain, Unnamed}
@@ -102,8 +97,7 @@ module _ (u w : ℕ → List ℕ) (fs d : ℕ) (name : List ℕ) (other : ℕ) (
 
     moved_value : 1 ≤ inode_links x.own → (last : ℕ → List ℕ) → Unnamed w last fs slot → files_of last fs ≡ both
     moved_value linked last g =
-        let own = used in
-        let taken = takes_value g.middle last fs slot.inode own.0 (own.1 ∙ sym (g.cleared.inodes slot.inode)) g.took in
+        let taken = takes_value g.middle last fs slot.inode used.0 (used.1 ∙ sym (g.cleared.inodes slot.inode)) g.took in
         let gone : files_of g.middle fs ≡ with_link both slot.inode =
         cleared_value g.middle g.cleared
         ∙ (ap (λ (f : Files). with_entry f d entry.at None) (entry_after_link files slot.inode other at (Some (new_name, slot.inode)))

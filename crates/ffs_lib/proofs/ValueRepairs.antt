@@ -1,40 +1,17 @@
 -- What inodes need is what the files say, and one that is repaired is as they say.
-use Rattle.std.proofs.Common.{◌≡◌, ℕ, zero, suc, ◌+◌, ◌-◌, ◌/◌, ◌%◌, Bool, true, false, cond, List, [], ◌∷◌, ◌++◌, length, map, Option, Some, None, Result, Ok, Err, refl, sym, ◌∙◌, ap, arith}
-use Rattle.std.specs.Prelude.{◌==◌, ◌||◌, not, nat_lt, count_by, filter_map, find, flat_map, is_some, if◌then◌else◌}
-use Rattle.std.specs.List.{cons_option, range_with_len}
-use Rattle.std.specs.Result.{result_ok}
-use Rattle.std.proofs.lemmas.Bool.{eqb-true, ne_eqb}
+use Rattle.std.proofs.Common.{◌≡◌, ℕ, zero, suc, ◌+◌, ◌-◌, ◌/◌, ◌%◌, Bool, true, false, List, [], ◌∷◌, ◌++◌, length, map, Result, Ok, Err, refl, sym, ◌∙◌, ap, arith, ◌==◌, ◌||◌, not, nat_lt, count_by, filter_map, flat_map, if◌then◌else◌, append-nil}
+use Rattle.ffs_lib.proofs.Words.{FfsFault, GiveUp, Keep, NoEntry, Repair, SetLinks, Slot, and_then, blocks_value, bytes_value, cons_option, directory_in}
+use Rattle.ffs_lib.proofs.Words.{files_of, inode_at, inode_block_in, inode_in, inode_links, inode_mode, is_free_inode, map-append, mapped, name_at}
+use Rattle.ffs_lib.proofs.Words.{names_in, names_of, range_with_len, repair_found, repair_in, repair_of, result_ok, slots_of, unless_unused, value_in}
 use Rattle.std.proofs.lemmas.Grind.{flat_map-append}
-use Rattle.std.proofs.lemmas.List.{append-nil, length-map, map-append}
-use Rattle.ffs_model.specs.Library.{inode_at, inode_links, inode_mode}
-use Rattle.ffs_lookup.specs.declared.fault.FfsFault.{FfsFault}
-use Rattle.ffs_lookup.specs.declared.fault.FfsFault.TheVariants.{NoEntry}
-use Rattle.ffs_lookup.specs.declared.places.Slot.{Slot}
-use Rattle.ffs_lookup.specs.declared.repairs.Repair.{Repair}
-use Rattle.ffs_lookup.specs.declared.repairs.Repair.TheVariants.{Keep, GiveUp, SetLinks}
 use Rattle.ffs_lookup.specs.Counts.{names_count, numbers_of}
-use Rattle.ffs_lookup.specs.Files.{Absent, Blocks, Directory, Entry, File, Files, Free, InodeValue, Unusable, directory_of, entry_at, is_bare, listed, positions}
-use Rattle.ffs_lookup.specs.FileValues.{blocks_value, bytes_value, files_of, value_in}
-use Rattle.ffs_lookup.specs.Newest.{and_then, directory_in, slots_of, inode_block_in, inode_in, is_free_inode, mapped, name_at, names_in, names_of, unless_unused}
-use Rattle.ffs_lookup.specs.Repairs.{repair_found, repair_in, repair_of}
-use Rattle.ffs_lookup.proofs.ForCallers.{given_up, good_number, links_set, listed_told, same_ok, value_by_place}
+use Rattle.ffs_lookup.specs.Files.{Absent, Directory, Entry, File, Files, Free, Unusable, listed}
+use Rattle.ffs_lookup.proofs.ForCallers.{bare_is, given_up, good_number, links_set, listed_told, value_by_place}
 use Rattle.ffs_lib.specs.Reclaiming.{Repaired, name_count, need_of, needs, numbers_listed, repair_stages, repaired, stages_at, with_links}
 use Rattle.ffs_lib.specs.Stages.{Stages}
-use Rattle.ffs_lib.proofs.Moving.{directory_to}
 use Rattle.ffs_lib.proofs.Owners.{stands_from}
-use Rattle.ffs_lib.proofs.ValueMade.{directory_value}
 use Rattle.ffs_lib.proofs.ValueSame.{same_value}
 use Rattle.ffs_lib.proofs.ValueSteps.{as_value, kind, kind_is}
-
--- a directory has no entries
-bare_list : {A B : Type 0} (f : A → Option B) (xs : List A) → (length (filter_map f xs) == 0) ≡ not (is_some (find (λ x. is_some (f x)) xs))
-bare_list f [] = refl
-bare_list {A} {B} f (x ∷ xs) = step (f x) (bare_list f xs)
-  where
-    step : (o : Option B) → (length (filter_map f xs) == 0) ≡ not (is_some (find (λ y. is_some (f y)) xs)) →
-        (length (cons_option o (filter_map f xs)) == 0) ≡ not (is_some (cond (is_some o) (Some x) (find (λ y. is_some (f y)) xs)))
-    step None r = r
-    step (Some y) r = ne_eqb (length (y ∷ filter_map f xs)) 0 (λ z. omega (arith, z))
 
 module _ (content : ℕ → List ℕ) (fs : ℕ) where
   abbrev files : Files
@@ -70,15 +47,6 @@ module _ (content : ℕ → List ℕ) (fs : ℕ) where
 
   -- What one needs
 
-  bare_is : (n : ℕ) (inode : List ℕ) → Ok inode ≡ inode_in content fs n → inode_mode inode ≡ 2 → (length (slots_of content inode) == 0) ≡ is_bare (inode_links inode, blocks_value content inode)
-  bare_is n inode e mode =
-      let is = directory_to content fs n inode e mode in
-      let bs = blocks_value content inode in
-      let list : names_of content inode ≡ filter_map (entry_at bs) (positions bs) = same_ok (names_of content inode) (filter_map (entry_at bs) (positions bs))
-      (ap (mapped (names_of content)) is
-      ∙ (told n ∙ ap (λ (v : InodeValue). mapped (λ (directory : ℕ × Blocks). filter_map (entry_at directory.1) (positions directory.1)) (directory_of v)) (directory_value content fs n inode is))) in
-      ap (λ k. k == 0) (sym (length-map (slots_of content inode) (λ (entry : Slot). (name_at content entry, entry.inode))) ∙ ap length list) ∙ bare_list (entry_at bs) (positions bs)
-
   unused : (count n : ℕ) (fault : FfsFault) → Err fault ≡ inode_in content fs n → Keep ≡ need_of count (files_of content fs n)
   unfolding inode_in files_of
   unused count n fault e = go ((n == 0) || nat_lt 128 n) (inode_block_in content fs ((n - 1) / 8)) e
@@ -102,7 +70,7 @@ module _ (content : ℕ → List ℕ) (fs : ℕ) where
   used count n inode e = two (inode_mode inode == 2) refl ∙ sym (ap (need_of count) (kind_is content content fs n inode e content inode e))
     where
       two : (t : Bool) → (inode_mode inode == 2) ≡ t → repair_of content count inode ≡ need_of count (kind content content fs n inode e content inode t)
-      two true f = ap (λ t. by_bare count (inode_links inode) (not t || (length (slots_of content inode) == 0))) f ∙ ap (by_bare count (inode_links inode)) (bare_is n inode e (eqb-true (inode_mode inode) 2 f))
+      two true f = ap (λ t. by_bare count (inode_links inode) (not t || (length (slots_of content inode) == 0))) f ∙ ap (by_bare count (inode_links inode)) (bare_is content inode)
       two false f = ap (λ t. by_bare count (inode_links inode) (not t || (length (slots_of content inode) == 0))) f
 
   found_is : (count n : ℕ) → repair_found content count (inode_in content fs n) ≡ need_of count (files n)

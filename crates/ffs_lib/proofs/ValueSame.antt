@@ -1,16 +1,9 @@
 -- An inode that is as before has its value, and what a new block of inodes is in the files.
-use Rattle.std.proofs.Common.{◌≡◌, ◌≢◌, ℕ, ◌-◌, ◌/◌, ◌%◌, ◌<◌, ◌≤◌, Bool, true, false, List, map, Some, None, Ok, Err, refl, sym, ◌∙◌, ap, inl, inr, arith, eq-eqb}
-use Rattle.std.specs.Prelude.{Contains, Result, ◌==◌, ◌&&◌, ◌||◌, not, min, nat_lt, if◌then◌else◌}
-use Rattle.std.specs.List.{range_with_len}
-use Rattle.std.proofs.lemmas.Bool.{cases_eq, eqb-false, eqb-true, ne_eqb}
-use Rattle.xn_model.specs.Root.{word_at}
-use Rattle.ffs_model.specs.Library.{inode_at, inode_blocks, inode_links, inode_mode}
-use Rattle.ffs_format.specs.Fields.{direct_in}
-use Rattle.ffs_lookup.specs.declared.fault.FfsFault.{FfsFault}
-use Rattle.ffs_lookup.specs.declared.fault.FfsFault.TheVariants.{NoEntry}
-use Rattle.ffs_lookup.specs.Newest.{and_then, byte_of, file_end, inode_block_in, inode_in, is_free_inode, listing, most_bytes, name_of_place, unless_unused}
+use Rattle.std.proofs.Common.{◌≡◌, ◌≢◌, ℕ, ◌-◌, ◌/◌, ◌%◌, ◌<◌, ◌≤◌, Bool, true, false, List, map, Some, None, Ok, Err, refl, sym, ◌∙◌, ap, inl, inr, arith, eq-eqb, Contains, Result, ◌==◌, ◌&&◌, ◌||◌, not, min, nat_lt, if◌then◌else◌, eqb-true, ne_eqb}
+use Rattle.ffs_lib.proofs.Words.{FfsFault, NoEntry, and_then, block_value, blocks_value, byte_of, bytes_value, cases_eq, direct_in, eqb-false, file_end}
+use Rattle.ffs_lib.proofs.Words.{files_of, inode_at, inode_block_in, inode_blocks, inode_in, inode_links, inode_mode, inode_value, is_free_inode, listing}
+use Rattle.ffs_lib.proofs.Words.{most_bytes, name_of_place, place_in, range_with_len, unless_unused, value_in, word_at}
 use Rattle.ffs_lookup.specs.Files.{Free, Unusable, File, Directory, is_absent, with_block}
-use Rattle.ffs_lookup.specs.FileValues.{block_value, blocks_value, bytes_value, files_of, inode_value, place_in, value_in}
 use Rattle.ffs_lookup.proofs.ForCallers.{direct_has, good_number, map_on, used_is, value_by_place, value_outside, value_there}
 use Rattle.ffs_lib.specs.Results.{SameContents, SameInode}
 use Rattle.ffs_lib.proofs.Owners.{number_from}

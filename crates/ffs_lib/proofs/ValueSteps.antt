@@ -1,13 +1,8 @@
 -- What each edit of a name does to the files.
-use Rattle.std.proofs.Common.{◌≡◌, ◌≢◌, ℕ, ◌+◌, ◌-◌, ◌<◌, ◌≤◌, Bool, true, false, List, get_or, Option, Some, None, Ok, refl, sym, ◌∙◌, ap, inl, inr, arith, eq-eqb}
-use Rattle.std.specs.Prelude.{Contains, option_map, ◌==◌, ◌&&◌, if◌then◌else◌}
-use Rattle.std.proofs.lemmas.Bool.{cases_eq, cases_lt, eqb-true, le-leb, lt-leb, ne_eqb}
-use Rattle.ffs_model.specs.Library.{inode_blocks, inode_links, inode_mode}
-use Rattle.ffs_format.specs.Fields.{direct_in}
-use Rattle.ffs_lookup.specs.declared.places.Slot.{Slot}
-use Rattle.ffs_lookup.specs.Newest.{directory_in, inode_in, listing, name_of_place}
+use Rattle.std.proofs.Common.{◌≡◌, ◌≢◌, ℕ, ◌+◌, ◌-◌, ◌<◌, ◌≤◌, Bool, true, false, List, get_or, Option, Some, None, Ok, refl, sym, ◌∙◌, ap, inl, inr, arith, eq-eqb, Contains, option_map, ◌==◌, ◌&&◌, if◌then◌else◌, eqb-true, le-leb, ne_eqb}
+use Rattle.ffs_lib.proofs.Words.{HasBlocksOnce, Slot, blocks_value, bytes_value, cases_eq, cases_lt, direct_in, directory_in, files_of, inode_blocks, inode_in}
+use Rattle.ffs_lib.proofs.Words.{inode_links, inode_mode, listing, lt-leb, name_of_place, value_in}
 use Rattle.ffs_lookup.specs.Files.{Absent, Directory, Entry, File, Files, Free, InodeValue, Unusable, less_a_link, links_of, put_entry, with_entry, with_entry_in, with_value, without_link}
-use Rattle.ffs_lookup.specs.FileValues.{HasBlocksOnce, blocks_value, bytes_value, files_of, value_in}
 use Rattle.ffs_lookup.proofs.ForCallers.{IsPlaceOf, direct_has, good_number, put_is, value_by_place, value_found, value_used}
 use Rattle.ffs_lib.specs.Reclaiming.{with_links}
 use Rattle.ffs_lib.specs.Replacing.{Turned}
@@ -182,13 +177,12 @@ entry_after_link files n d at entry = files_equal (λ x. elim (cases_eq d n) [
   | inl same ↦
       elim (cases_eq x d) [
         | inl e ↦
-            let e' = e ∙ same in
             ap (λ t. if t then with_entry_in at entry (with_link files n d) else with_link files n x) (eq-eqb x d e)
             ∙ (ap (λ t. with_entry_in at entry (if t then more_a_link (files n) else files d)) (eq-eqb d n same)
             ∙ (commute (files n)
             ∙ (ap (λ m. more_a_link (with_entry_in at entry (files m))) (sym same)
             ∙ (ap (λ t. more_a_link (if t then with_entry_in at entry (files d) else files n)) (sym (eq-eqb n d (sym same)))
-            ∙ ap (λ t. if t then more_a_link (with_entry files d at entry n) else with_entry files d at entry x) (sym (eq-eqb x n e'))))))
+            ∙ ap (λ t. if t then more_a_link (with_entry files d at entry n) else with_entry files d at entry x) (sym (eq-eqb x n (e ∙ same)))))))
         | inr ne ↦
             let ne' : x ≢ n = λ z. ne (z ∙ sym same) in
             ap (λ t. if t then with_entry_in at entry (with_link files n d) else with_link files n x) (ne_eqb x d ne)

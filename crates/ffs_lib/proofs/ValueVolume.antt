@@ -1,24 +1,10 @@
 -- What `make` leaves is what its function of the files says.
-use Rattle.std.proofs.Common.{◌≡◌, ◌≢◌, ℕ, ◌-◌, ◌/◌, ◌%◌, ◌<◌, ◌≤◌, ◌⊎◌, ◌+◌, ◌*◌, Bool, true, false, List, Ok, Err, refl, eq-eqb, sym, ◌∙◌, ap, inl, inr, arith, subst}
-use Rattle.std.specs.Prelude.{IsOk, MatchResult, Result, not, nat_le, nat_lt, ◌==◌, ◌&&◌, ◌||◌, if◌then◌else◌}
-use Rattle.std.specs.List.{range_with_len}
-use Rattle.std.proofs.lemmas.Bool.{cases_eq, cases_lt, eqb-false, eqb-true, le-leb, lt-leb, ne_eqb}
-use Rattle.xn_model.specs.Types.{Types}
+use Rattle.std.proofs.Common.{◌≡◌, ◌≢◌, ℕ, ◌-◌, ◌/◌, ◌%◌, ◌<◌, ◌≤◌, ◌⊎◌, ◌+◌, ◌*◌, Bool, true, false, List, Ok, Err, refl, eq-eqb, sym, ◌∙◌, ap, inl, inr, arith, subst, IsOk, MatchResult, Result, not, nat_le, nat_lt, ◌==◌, ◌&&◌, ◌||◌, if◌then◌else◌, eqb-true, le-leb, ne_eqb}
+use Rattle.ffs_lib.proofs.Words.{Exists, FfsFault, IsRoot, Kernel, NoEntry, Pending, RootTaken, StoreState, Types, Unsound, and_then, cases_eq, cases_lt}
+use Rattle.ffs_lib.proofs.Words.{eqb-false, files_of, has_pointer, if_bare, inode_at, inode_block_in, inode_value, latest, lt-leb, make_from, make_in, mapped}
+use Rattle.ffs_lib.proofs.Words.{pending_of, pointer_word, put, range_with_len, root_in, slot, unless_zero, value_in, zero_block}
 use Rattle.xn_model.proofs.ForCallers.{any_at, any_from, range_at}
-use Rattle.ffs_model.specs.Names.{IsRoot}
-use Rattle.xn_model.specs.declared.refusal.Refusal.TheVariants.{RootTaken}
-use Rattle.xn_model.specs.Lists.{put}
-use Rattle.xn_model.specs.Root.{slot}
-use Rattle.xn_model.specs.Calls.{pending_of}
-use Rattle.xn_model.specs.Lives.{StoreState}
-use Rattle.ffs_model.specs.Cuts.{latest}
-use Rattle.ffs_model.specs.Library.{inode_at, pointer_word, zero_block}
-use Rattle.ffs_lookup.specs.declared.fault.FfsFault.{FfsFault}
-use Rattle.ffs_lookup.specs.declared.fault.FfsFault.TheVariants.{Exists, Kernel, NoEntry, Pending, Unsound}
-use Rattle.ffs_lookup.specs.Counts.{make_from}
-use Rattle.ffs_lookup.specs.Newest.{and_then, has_pointer, if_bare, inode_block_in, make_in, mapped, root_in, unless_zero}
 use Rattle.ffs_lookup.specs.Files.{Absent, Answer, Files, Free, empty_volume, is_absent, made, new_directory}
-use Rattle.ffs_lookup.specs.FileValues.{files_of, inode_value, value_in}
 use Rattle.ffs_lookup.proofs.ForCallers.{good_number, in_root_block, root_again, value_by_place, value_outside, value_there}
 use Rattle.ffs_lib.specs.Making.{StopsTop, any_inode, newly_made, unless_inodes, unless_taken}
 use Rattle.ffs_lib.specs.Outcomes.{FirstInodes}
@@ -98,13 +84,11 @@ empty_there v w fs ready f n = go ((n == 0) || nat_lt 128 n) refl
     go true out = value_outside w fs n out ∙ sym (outside (cases_eq n 0) out)
     go false right =
         let r = number_from n right in
-        let some = r.0 in
-        let low = r.1 in
         value_by_place w fs n right ∙ elim (cases_lt n 9) [
-          | inl lt ↦ ap (value_in w) (f.first n low (omega (arith, lt))) ∙ within (cases_eq n 1) some (omega (arith, lt))
+          | inl lt ↦ ap (value_in w) (f.first n r.1 (omega (arith, lt))) ∙ within (cases_eq n 1) r.0 (omega (arith, lt))
           | inr ge ↦
-              ap (value_in w) (f.rest n low (λ z. omega (arith, z, ge)))
-              ∙ (ap (λ (b : Result ℕ FfsFault). value_in w (and_then b (λ block. Ok (inode_at (v block) ((n - 1) % 8))))) (sym (no_blocks v fs true ready ((n - 1) / 8) (omega (arith, low)))) ∙ sym (past (λ z. omega (arith, z, ge)) (omega (arith, ge))))
+              ap (value_in w) (f.rest n r.1 (λ z. omega (arith, z, ge)))
+              ∙ (ap (λ (b : Result ℕ FfsFault). value_in w (and_then b (λ block. Ok (inode_at (v block) ((n - 1) % 8))))) (sym (no_blocks v fs true ready ((n - 1) / 8) (omega (arith, r.1)))) ∙ sym (past (λ z. omega (arith, z, ge)) (omega (arith, ge))))
         ]
 
 -- How `make` follows its function

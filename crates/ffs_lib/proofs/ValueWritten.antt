@@ -1,19 +1,10 @@
 -- What is written into a file by its bytes as a value.
-use Rattle.std.proofs.Common.{◌≡◌, ◌≢◌, [], ℕ, ◌+◌, ◌-◌, ◌<◌, ◌≤◌, Bool, List, ◌++◌, length, map, take, drop, replicate, get_or, Ok, Err, refl, sym, ◌∙◌, ap, inl, inr, arith, subst, length-append}
-use Rattle.std.specs.Prelude.{◌==◌, ◌&&◌, nat_lt, max, min, if◌then◌else◌}
-use Rattle.std.specs.List.{range_with_len}
-use Rattle.std.proofs.lemmas.Bool.{cases_lt, le-leb, le-ltb, lt-leb, lt-ltb, ne_eqb}
-use Rattle.std.proofs.lemmas.List.{get_or-append_right, get_or-drop, get_or-replicate, get_or-take, get_or_append_left, get_or_default, length-drop, length-replicate, length-take, length-take-le, same_lists}
-use Rattle.std.proofs.lemmas.List.FromFn.{get_or-map-range_with_len, length-map-range_with_len}
-use Rattle.xn_model.specs.Lives.{StoreState}
-use Rattle.ffs_model.specs.Cuts.{latest}
-use Rattle.ffs_model.specs.Library.{inode_links}
-use Rattle.ffs_lookup.specs.declared.fault.FfsFault.TheVariants.{TooLarge}
-use Rattle.ffs_lookup.specs.Newest.{and_then, byte_of, file_end, file_in, mapped, most_bytes, write_in}
+use Rattle.std.proofs.Common.{◌≡◌, ◌≢◌, [], ℕ, ◌+◌, ◌-◌, ◌<◌, ◌≤◌, Bool, List, ◌++◌, length, map, take, drop, replicate, get_or, Ok, Err, refl, sym, ◌∙◌, ap, inl, inr, arith, subst, length-append, ◌==◌, ◌&&◌, nat_lt, max, min, if◌then◌else◌, le-leb, le-ltb, lt-ltb, ne_eqb, get_or-drop, get_or-take, length-drop, length-take, length-take-le}
+use Rattle.ffs_lib.proofs.Words.{StoreState, TooLarge, and_then, byte_of, bytes_value, cases_lt, file_end, file_in, files_of, get_or-append_right}
+use Rattle.ffs_lib.proofs.Words.{get_or-map-range_with_len, get_or-replicate, get_or_append_left, get_or_default, inode_links, latest}
+use Rattle.ffs_lib.proofs.Words.{length-map-range_with_len, length-replicate, lt-leb, mapped, most_bytes, range_with_len, same_lists, word_at, write_in}
 use Rattle.ffs_lookup.specs.Files.{Absent, Answer, Directory, File, Files, Free, InodeValue, Unusable, file_of, with_value, written, written_bytes, written_in}
-use Rattle.ffs_lookup.specs.FileValues.{bytes_value, files_of}
 use Rattle.ffs_lookup.proofs.ForCallers.{file_found, file_parts, same_ok}
-use Rattle.xn_model.specs.Root.{word_at}
 use Rattle.ffs_lib.specs.Outcomes.{IsRaised}
 use Rattle.ffs_lib.specs.Results.{OnlyChanges, byte_written}
 use Rattle.ffs_lib.specs.Values.{Leads}
@@ -56,19 +47,15 @@ module _ (f : ℕ → ℕ) (e m : ℕ) (offset : ℕ) (bytes : List ℕ) (size :
 
   long_all : length (take offset old_bytes ++ pads ++ bytes ++ drop (offset + length bytes) old_bytes) ≡ m
   long_all =
-      let a = long_three in
-      let b = length-drop (offset + length bytes) old_bytes in
       let c = length-append (take offset old_bytes ++ pads ++ bytes) (drop (offset + length bytes) old_bytes) in
-      let l = long in
-      omega (arith, a, b, c, l, size)
+      omega (arith, long_three, length-drop (offset + length bytes) old_bytes, c, long, size)
 
   -- what is written at a place, and what was there elsewhere
   inside : (k : ℕ) → min e offset ≤ k → k < offset + length bytes → byte_written f (min e offset) (pads ++ bytes) k ≡ get_or (pads ++ bytes) (k - min e offset) 0
   inside k low high =
       let c = length-append pads bytes in
-      let b = long_pads in
       ap (λ t. if t && nat_lt k (min e offset + length (pads ++ bytes)) then get_or (pads ++ bytes) (k - min e offset) 0 else f k) (le-leb (min e offset) k low)
-      ∙ ap (λ t. if t then get_or (pads ++ bytes) (k - min e offset) 0 else f k) (lt-ltb k (min e offset + length (pads ++ bytes)) (omega (arith, low, high, b, c)))
+      ∙ ap (λ t. if t then get_or (pads ++ bytes) (k - min e offset) 0 else f k) (lt-ltb k (min e offset + length (pads ++ bytes)) (omega (arith, low, high, long_pads, c)))
 
   before : (k : ℕ) → k < min e offset → byte_written f (min e offset) (pads ++ bytes) k ≡ f k
   before k low = ap (λ t. if t && nat_lt k (min e offset + length (pads ++ bytes)) then get_or (pads ++ bytes) (k - min e offset) 0 else f k) (lt-leb (min e offset) k low)
@@ -76,9 +63,8 @@ module _ (f : ℕ → ℕ) (e m : ℕ) (offset : ℕ) (bytes : List ℕ) (size :
   behind : (k : ℕ) → offset + length bytes ≤ k → byte_written f (min e offset) (pads ++ bytes) k ≡ f k
   behind k high =
       let c = length-append pads bytes in
-      let b = long_pads in
       ap (λ t. if t && nat_lt k (min e offset + length (pads ++ bytes)) then get_or (pads ++ bytes) (k - min e offset) 0 else f k) (le-leb (min e offset) k (omega (arith, high)))
-      ∙ ap (λ t. if t then get_or (pads ++ bytes) (k - min e offset) 0 else f k) (le-ltb k (min e offset + length (pads ++ bytes)) (omega (arith, high, b, c)))
+      ∙ ap (λ t. if t then get_or (pads ++ bytes) (k - min e offset) 0 else f k) (le-ltb k (min e offset + length (pads ++ bytes)) (omega (arith, high, long_pads, c)))
 
   abbrev parts : List ℕ
   parts = take offset old_bytes ++ pads ++ bytes ++ drop (offset + length bytes) old_bytes
@@ -86,13 +72,10 @@ module _ (f : ℕ → ℕ) (e m : ℕ) (offset : ℕ) (bytes : List ℕ) (size :
   part : (k d : ℕ) → k < m → byte_written f (min e offset) (pads ++ bytes) k ≡ get_or parts k d
   part k d low = elim (cases_lt k (min e offset)) [
     | inl first ↦
-        let a = long_first in
-        let two = long_two in
-        let three = long_three in
         before k first
-        ∙ sym (get_or_append_left (take offset old_bytes ++ pads ++ bytes) (drop (offset + length bytes) old_bytes) d k (omega (arith, first, three))
-        ∙ (get_or_append_left (take offset old_bytes ++ pads) bytes d k (omega (arith, first, two))
-        ∙ (get_or_append_left (take offset old_bytes) pads d k (omega (arith, first, a))
+        ∙ sym (get_or_append_left (take offset old_bytes ++ pads ++ bytes) (drop (offset + length bytes) old_bytes) d k (omega (arith, first, long_three))
+        ∙ (get_or_append_left (take offset old_bytes ++ pads) bytes d k (omega (arith, first, long_two))
+        ∙ (get_or_append_left (take offset old_bytes) pads d k (omega (arith, first, long_first))
         ∙ (get_or-take offset old_bytes k d (omega (arith, first)) ∙ get_or-map-range_with_len f 0 e k k d (omega (arith, first)) (omega arith)))))
     | inr from ↦ elim (cases_lt k (offset + length bytes)) [
       | inr past ↦
@@ -100,24 +83,20 @@ module _ (f : ℕ → ℕ) (e m : ℕ) (offset : ℕ) (bytes : List ℕ) (size :
           ∙ sym (get_or-append_right (take offset old_bytes ++ pads ++ bytes) (drop (offset + length bytes) old_bytes) (offset + length bytes) k d long_three past
           ∙ (get_or-drop (offset + length bytes) old_bytes (k - (offset + length bytes)) d ∙ get_or-map-range_with_len f 0 e (offset + length bytes + (k - (offset + length bytes))) k d (omega (arith, past, low, size)) (omega (arith, past))))
       | inl to ↦
-          let two = long_two in
-          let three = long_three in
-          let b = long_pads in
           inside k from to ∙ elim (cases_lt k offset) [
             | inl gap ↦
-                let a = long_first in
-                get_or_append_left pads bytes 0 (k - min e offset) (omega (arith, gap, from, b))
+                get_or_append_left pads bytes 0 (k - min e offset) (omega (arith, gap, from, long_pads))
                 ∙ (get_or-replicate (offset - e) (k - min e offset) 0 0 (omega (arith, gap, from))
-                ∙ sym (get_or_append_left (take offset old_bytes ++ pads ++ bytes) (drop (offset + length bytes) old_bytes) d k (omega (arith, to, three))
-                ∙ (get_or_append_left (take offset old_bytes ++ pads) bytes d k (omega (arith, gap, two))
-                ∙ (get_or-append_right (take offset old_bytes) pads (min offset e) k d a (omega (arith, from)) ∙ get_or-replicate (offset - e) (k - min offset e) 0 d (omega (arith, gap, from))))))
+                ∙ sym (get_or_append_left (take offset old_bytes ++ pads ++ bytes) (drop (offset + length bytes) old_bytes) d k (omega (arith, to, long_three))
+                ∙ (get_or_append_left (take offset old_bytes ++ pads) bytes d k (omega (arith, gap, long_two))
+                ∙ (get_or-append_right (take offset old_bytes) pads (min offset e) k d long_first (omega (arith, from)) ∙ get_or-replicate (offset - e) (k - min offset e) 0 d (omega (arith, gap, from))))))
             | inr own ↦
                 let same : k - min e offset - (offset - e) ≡ k - offset = omega (arith, own) in
-                get_or-append_right pads bytes (offset - e) (k - min e offset) 0 b (omega (arith, own))
+                get_or-append_right pads bytes (offset - e) (k - min e offset) 0 long_pads (omega (arith, own))
                 ∙ (ap (λ i. get_or bytes i 0) same
                 ∙ (get_or_default bytes (k - offset) 0 d (omega (arith, own, to))
-                ∙ sym (get_or_append_left (take offset old_bytes ++ pads ++ bytes) (drop (offset + length bytes) old_bytes) d k (omega (arith, to, three))
-                ∙ get_or-append_right (take offset old_bytes ++ pads) bytes offset k d two own)))
+                ∙ sym (get_or_append_left (take offset old_bytes ++ pads ++ bytes) (drop (offset + length bytes) old_bytes) d k (omega (arith, to, long_three))
+                ∙ get_or-append_right (take offset old_bytes ++ pads) bytes offset k d long_two own)))
           ]
     ]
   ]
@@ -150,31 +129,24 @@ module _ (f : ℕ → ℕ) (e m : ℕ) (offset : ℕ) (bytes : List ℕ) (size :
 
       whole : length (first_written old_bytes all_bytes at) ≡ e
       whole =
-          let a = long_front in
-          let b = length-drop at old_bytes in
-          let c = length-append (take at all_bytes) (drop at old_bytes) in
-          let l = long in
           let t = length-take (length old_bytes) (take at all_bytes ++ drop at old_bytes) in
-          omega (arith, a, b, c, l, t)
+          omega (arith, long_front, length-drop at old_bytes, length-append (take at all_bytes) (drop at old_bytes), long, t)
 
       one : (k d : ℕ) → k < e → get_or (take at all_bytes ++ drop at old_bytes) k d ≡ byte_written f (min e offset) (take done (pads ++ bytes)) k
       one k d small = elim (cases_lt k at) [
         | inl lt ↦
-            let a = long_front in
-            get_or_append_left (take at all_bytes) (drop at old_bytes) d k (omega (arith, a, lt))
+            get_or_append_left (take at all_bytes) (drop at old_bytes) d k (omega (arith, long_front, lt))
             ∙ (get_or-take at all_bytes k d lt ∙ (ap (λ (x : List ℕ). get_or x k d) same_bytes ∙ (sym (part k d (omega (arith, small, size))) ∙ sym (front k lt))))
         | inr ge ↦
-            let b = long_done in
             get_or-append_right (take at all_bytes) (drop at old_bytes) at k d long_front ge
-            ∙ (get_or-drop at old_bytes (k - at) d ∙ (get_or-map-range_with_len f 0 e (at + (k - at)) k d (omega (arith, ge, small)) (omega (arith, ge)) ∙ sym (test_above f (min e offset) (take done (pads ++ bytes)) k (omega (arith, b, ge)))))
+            ∙ (get_or-drop at old_bytes (k - at) d ∙ (get_or-map-range_with_len f 0 e (at + (k - at)) k d (omega (arith, ge, small)) (omega (arith, ge)) ∙ sym (test_above f (min e offset) (take done (pads ++ bytes)) k (omega (arith, long_done, ge)))))
       ]
         where
           front : (k : ℕ) → k < at → byte_written f (min e offset) (take done (pads ++ bytes)) k ≡ byte_written f (min e offset) (pads ++ bytes) k
           front k lt = elim (cases_lt k (min e offset)) [
             | inl first ↦ test_below f (min e offset) (take done (pads ++ bytes)) k first ∙ sym (test_below f (min e offset) (pads ++ bytes) k first)
             | inr from ↦
-                let b = long_done in
-                test_in f (min e offset) (take done (pads ++ bytes)) k from (omega (arith, b, lt))
+                test_in f (min e offset) (take done (pads ++ bytes)) k from (omega (arith, long_done, lt))
                 ∙ (get_or-take done (pads ++ bytes) (k - min e offset) 0 (omega (arith, from, lt)) ∙ sym (test_in f (min e offset) (pads ++ bytes) k from (omega (arith, lt, low))))
           ]
 

@@ -1,17 +1,9 @@
 -- In the cuts: which edits are taken with others, after each step of a write.
-use Rattle.std.proofs.Common.{◌≡◌, ◌≢◌, ℕ, zero, suc, ◌-◌, ◌/◌, ◌<◌, ◌≤◌, ◌⊎◌, Bool, cond, List, [], ◌∷◌, ◌++◌, length, take, Option, Some, None, Ok, refl, sym, ◌∙◌, ap, inl, inr, arith, subst}
-use Rattle.std.specs.Prelude.{Contains, slice_set}
-use Rattle.std.specs.List.{last_or}
-use Rattle.std.proofs.lemmas.Bool.{cases_eq, eq-eqb, ne_eqb}
-use Rattle.std.proofs.lemmas.List.Elements.{Contains-push_cases}
-use Rattle.std.proofs.lemmas.Option.{none-some, same_Some}
-use Rattle.xn_model.specs.Types.{Types}
-use Rattle.xn_model.specs.Lives.{BlockState, Life, Lives, StoreState, life_at}
+use Rattle.std.proofs.Common.{◌≡◌, ◌≢◌, ℕ, zero, suc, ◌-◌, ◌/◌, ◌<◌, ◌≤◌, ◌⊎◌, Bool, cond, List, [], ◌∷◌, ◌++◌, length, take, Option, Some, None, Ok, refl, sym, ◌∙◌, ap, inl, inr, arith, subst, Contains, slice_set, eq-eqb, ne_eqb}
+use Rattle.ffs_lib.proofs.Words.{BlockState, Choice, Contains-push_cases, IsChosen, IsConsistent, IsCut, IsFullAt, Life, Lives, StoreState, Takes, TakesAny}
+use Rattle.ffs_lib.proofs.Words.{Types, cases_eq, inode_block_in, last_or, latest, life_at, none-some, same_Some}
 use Rattle.xn_model.specs.Calls.{Edit, edited, first_state, init_of, new_life, propose_of}
-use Rattle.xn_model.specs.Rules.{IsConsistent}
 use Rattle.xn_model.proofs.ForCallers.{Contains-cons, Contains-head, Contains-none, accept, accepted, below_next, each_back, set_other, set_same}
-use Rattle.ffs_model.specs.Cuts.{Choice, IsChosen, IsCut, IsFullAt, Takes, TakesAny, latest}
-use Rattle.ffs_lookup.specs.Newest.{inode_block_in}
 use Rattle.ffs_model.proofs.ForCallers.{Proposed, Started, cut_before, full_before, full_seen, full_took, proposed, start_cut, started, takes_before, takes_then, takes_took, took_adds, took_after, took_full, took_now}
 use Rattle.ffs_lib.specs.Steps.{Stage}
 use Rattle.ffs_lib.specs.WriteOrder.{ShowsWhole, no_last}
@@ -72,9 +64,8 @@ module _ (T : Types) (state new : StoreState) (h : IsConsistent T state) (fs b :
   full_other k c ne full m e =
       let x = each_back (accepted b s) state.lives c m e in
       let long : m.pending ≡ x.0.pending = ap (λ (y : Life). y.pending) x.2 ∙ ap (λ (u : Bool). cond u (x.0.pending ++ s ∷ []) x.0.pending) (ne_eqb c b ne) in
-      let most = full x.0 x.1 in
       let size = ap (λ (xs : List BlockState). length xs) long in
-      omega (arith, most, size)
+      omega (arith, full x.0 x.1, size)
 
   -- the block of the edit, and each other one with an edit from a number on, where these have all their states
   full_by : (k : Choice) (from : ℕ) → length given.life.pending < k b → ((c : ℕ) (l : Life) (t : BlockState) → c ≢ b → life_at state.lives c ≡ Some l → Contains l.pending t → from ≤ t.entry → IsFullAt state.lives k c) →
@@ -220,13 +211,11 @@ module _ (T : Types) (zeroth first : StoreState) (h0 : IsConsistent T zeroth) (f
 
 pub waits_then : (fs n : ℕ) (a b c : StoreState) (x y z : Last) → WaitsOn fs n a b x y → WaitsOn fs n b c y z → WaitsOn fs n a c x z
 waits_then fs n a b c x y z one two =
-    let first = one.later in
-    let second = two.later in
     record {
       home = two.home ∙ one.home;
-      waits = λ block from low at w. two.waits block from (omega (arith, low, first)) (at ∙ sym one.home) (one.waits block from low at w);
-      newer = λ from c low older. two.newer from c (omega (arith, low, first)) (one.newer from c low older);
-      later = omega (arith, first, second);
+      waits = λ block from low at w. two.waits block from (omega (arith, low, one.later)) (at ∙ sym one.home) (one.waits block from low at w);
+      newer = λ from c low older. two.newer from c (omega (arith, low, one.later)) (one.newer from c low older);
+      later = omega (arith, one.later, two.later);
     }
 
 -- nothing is pending that was not
@@ -246,9 +235,7 @@ pub size_shows : (T : Types) (fs : ℕ) (array : ℕ → Option ℕ) (zeroth old
     WaitsOn fs n zeroth old no_last last → ShowsWhole zeroth new
 size_shows T fs array zeroth old new h0 stage n home at edit entry done last comes on k cut t c either =
     let g = proposed T old new fs home edit entry done in
-    let one = g.next in
-    let is = g.entry_is in
-    let number : new.next - 1 ≡ entry = omega (arith, one, is) in
+    let number : new.next - 1 ≡ entry = omega (arith, g.next, g.entry_is) in
     let from : ℕ = zeroth.next in
     let first : Waits home from zeroth.lives no_last = record {
       all = λ j cut0 full t0 b l u e i lo. let low = (below_next T zeroth h0).entries b l u e i in absurd (omega (arith, lo, low));
@@ -257,8 +244,7 @@ size_shows T fs array zeroth old new h0 stage n home at edit entry done last com
     let all = size_waits T old new stage.keeps.consistent fs home edit entry done from last (sym comes) (on.waits home from (omega arith) (at ∙ on.home) first) k cut (subst (Takes new.lives k) number t) in
     full_seen new.lives k c (elim either [
       | inl idle ↦
-          let low = on.later in
-          let newer = put_newer T old new stage.keeps.consistent fs home edit entry done from c low (on.newer from c (omega arith) (λ l u e i. absurd (Contains-none u (subst (λ (xs : List BlockState). Contains xs u) (idle l e) i)))) in
+          let newer = put_newer T old new stage.keeps.consistent fs home edit entry done from c on.later (on.newer from c (omega arith) (λ l u e i. absurd (Contains-none u (subst (λ (xs : List BlockState). Contains xs u) (idle l e) i)))) in
           full_of all newer
       | inr has ↦ all c has.0 has.1 has.2 has.3 has.4
     ])

@@ -1,17 +1,7 @@
 -- The parts of a write, one after another.
-use Rattle.std.proofs.Common.{◌≡◌, ◌≢◌, ℕ, zero, suc, ◌+◌, ◌-◌, ◌/◌, ◌%◌, ◌<◌, ◌≤◌, ◌⊎◌, Bool, true, false, List, [], ◌∷◌, ◌++◌, length, take, Option, None, Result, Ok, Err, refl, sym, ◌∙◌, ap, inl, inr, arith, append_assoc, eq-eqb}
-use Rattle.std.specs.Prelude.{MatchResult, ◌==◌, ◌||◌, filter, min, nat_lt, if◌then◌else◌}
-use Rattle.std.specs.List.{range_with_len}
-use Rattle.std.proofs.lemmas.Bool.{cases_eq, cases_lt, le-ltb, lt-ltb, ne_eqb, or_left, or_right}
-use Rattle.std.proofs.lemmas.List.{take_all}
-use Rattle.xn_model.specs.declared.refusal.Refusal.{Refusal}
-use Rattle.xn_model.specs.Types.{Types}
-use Rattle.xn_model.specs.Lives.{StoreState}
-use Rattle.xn_model.specs.Results.{result_and_then}
-use Rattle.xn_model.specs.Calls.{init_of}
-use Rattle.ffs_model.specs.Cuts.{latest}
-use Rattle.ffs_lookup.specs.declared.fault.FfsFault.{FfsFault}
-use Rattle.ffs_lib.specs.Orders.{Action, Attaches, Makes, StopsAct, StopsIn, act_of, made_by}
+use Rattle.std.proofs.Common.{◌≡◌, ◌≢◌, ℕ, zero, suc, ◌+◌, ◌-◌, ◌/◌, ◌%◌, ◌<◌, ◌≤◌, ◌⊎◌, Bool, true, false, List, [], ◌∷◌, ◌++◌, length, take, Option, None, Result, Ok, Err, refl, sym, ◌∙◌, ap, inl, inr, arith, append_assoc, eq-eqb, MatchResult, ◌==◌, ◌||◌, filter, min, nat_lt, if◌then◌else◌, append-nil, take_all, le-ltb, lt-ltb, ne_eqb}
+use Rattle.ffs_lib.proofs.Words.{FfsFault, Refusal, StoreState, Types, cases_eq, cases_lt, init_of, latest, or_left, or_right, range_with_len, result_and_then}
+use Rattle.ffs_lib.specs.Orders.{Action, Attaches, Makes, StopsAct, StopsIn, made_by}
 use Rattle.ffs_lib.specs.Orders as orders
 use Rattle.ffs_lib.specs.WriteOrder.{TellsAct, TellsIn, adds_direct, after_at, borders, data_at, data_parts, goes_past, last_after, last_at, parts_at, places, parts_made, zeros_parts}
 use Rattle.ffs_lib.specs.Writes.{IsBorder}
@@ -93,11 +83,7 @@ module _ (offset : ℕ) where
   places_next start at count low some border none =
       let rest = from_none (at + 1) (at + count - (at + 1)) (λ x lo hi. none x (omega (arith, lo)) (omega (arith, hi, some))) in
       places_more start (at + 1) (at + count) (omega (arith, low)) (omega (arith, some))
-      ∙ (ap (λ (ys : List ℕ). places start offset (at + 1) ++ ys) rest ∙ (append_none (places start offset (at + 1)) ∙ places_one start at low border))
-    where
-      append_none : (xs : List ℕ) → xs ++ [] ≡ xs
-      append_none [] = refl
-      append_none (x ∷ xs) = ap (λ ys. x ∷ ys) (append_none xs)
+      ∙ (ap (λ (ys : List ℕ). places start offset (at + 1) ++ ys) rest ∙ (append-nil (places start offset (at + 1)) ∙ places_one start at low border))
 
   -- all places are those before one, it, and others
   pub places_split : (start at to : ℕ) → start ≤ at → at < to → (at ≡ start) ⊎ (is_place at ≡ true) → places start offset to ≡ places start offset at ++ (at ∷ from (at + 1) (to - (at + 1)))

@@ -1,27 +1,11 @@
 -- What an edit of a file's blocks leaves of its bytes.
-use Rattle.std.proofs.Common.{◌≡◌, ◌≢◌, ℕ, zero, suc, ◌+◌, ◌-◌, ◌*◌, ◌/◌, ◌%◌, ◌^◌, ◌<◌, ◌≤◌, ◌⊎◌, Bool, List, [], ◌∷◌, ◌++◌, length, get_or, Option, Ok, refl, sym, ◌∙◌, ap, inl, inr, arith, subst, eq-eqb, length-append}
-use Rattle.std.specs.Prelude.{Result, ◌==◌, ◌&&◌, max, min, nat_le, nat_lt, if◌then◌else◌, slice_set}
-use Rattle.std.specs.Int.{w32, to_le_bytes}
-use Rattle.std.proofs.lemmas.Bool.{cases_eq, cases_lt, le-leb, le-ltb, lt-leb, lt-ltb, ne_eqb}
-use Rattle.std.proofs.lemmas.List.{get_or-append-add, get_or-replicate, get_or_append_left}
-use Rattle.std.proofs.Math.Nat.{max-eq_left, max-eq_right, min-eq_left, min-eq_right}
-use Rattle.std.proofs.lemmas.Option.{none-some}
-use Rattle.xn_model.specs.Types.{Types}
-use Rattle.xn_model.specs.Lists.{put}
-use Rattle.xn_model.specs.Root.{word_at}
-use Rattle.xn_model.specs.Lives.{StoreState, life_at}
-use Rattle.xn_model.specs.Calls.{Edit, init_of, propose_of}
-use Rattle.xn_model.specs.Rules.{IsConsistent}
-use Rattle.ffs_model.specs.Cuts.{Under, latest}
-use Rattle.ffs_model.specs.Library.{IsLibrary, inode_mode, library_layout, pointer_word, zero_block, inode_links}
+use Rattle.std.proofs.Common.{◌≡◌, ◌≢◌, ℕ, zero, suc, ◌+◌, ◌-◌, ◌*◌, ◌/◌, ◌%◌, ◌^◌, ◌<◌, ◌≤◌, ◌⊎◌, Bool, List, [], ◌∷◌, ◌++◌, length, get_or, Option, Ok, refl, sym, ◌∙◌, ap, inl, inr, arith, subst, eq-eqb, length-append, Result, ◌==◌, ◌&&◌, max, min, nat_le, nat_lt, if◌then◌else◌, slice_set, w32, le-leb, le-ltb, lt-ltb, ne_eqb, get_or-append-add}
+use Rattle.ffs_lib.proofs.Words.{Edit, FfsFault, Found, IsConsistent, IsDir, IsFile, IsLibrary, StoreState, Types, Under, and_then, byte_in, byte_of, cases_eq}
+use Rattle.ffs_lib.proofs.Words.{cases_lt, direct_in, fields_of, file_block, file_in, get_or-replicate, get_or_append_left, if_file, init_of, inode_in}
+use Rattle.ffs_lib.proofs.Words.{inode_links, inode_mode, latest, library_layout, life_at, lt-leb, max-eq_left, max-eq_right, min-eq_left, min-eq_right}
+use Rattle.ffs_lib.proofs.Words.{most_bytes, none-some, pointer_word, propose_of, put, to_le_bytes, word_at, zero_block}
 use Rattle.ffs_model.proofs.ForCallers.{latest_reached, library_reads, one_type, started, proposed_here, proposed_others, started_here, under_inodes, word_apart, word_within, zero_word}
-use Rattle.ffs_format.specs.Fields.{direct_in, fields_of}
-use Rattle.ffs_lookup.specs.declared.places.Found.{Found}
-use Rattle.ffs_lookup.specs.Places.{IsFile}
-use Rattle.ffs_lookup.specs.declared.fault.FfsFault.{FfsFault}
-use Rattle.ffs_lookup.specs.declared.fault.FfsFault.TheVariants.{IsDir}
 use Rattle.ffs_lib.specs.Edits.{edit_at}
-use Rattle.ffs_lookup.specs.Newest.{and_then, byte_in, byte_of, file_block, file_in, if_file, inode_in, most_bytes}
 use Rattle.ffs_lib.specs.Outcomes.{HasBlock, IsRaised}
 use Rattle.ffs_lib.specs.Results.{WroteBytes}
 use Rattle.ffs_lib.specs.Results.{SameInode, byte_written}
@@ -90,10 +74,8 @@ written_by f h index at bs fit others here x low =
           ap (λ i. h i k) e ∙ (here k (omega arith) ∙ elim (cases_written at (length bs) k) [
             | inl lt ↦ test_below (f index) at bs k lt ∙ (ap (λ i. f i k) (sym e) ∙ sym (test_below g (512 * index + at) bs x (omega (arith, sum, lt))))
             | inr (inl y) ↦
-                let lo = y.0 in
-                let hi = y.1 in
-                let less : k - at ≡ x - (512 * index + at) = omega (arith, sum, lo) in
-                test_in (f index) at bs k lo hi ∙ (ap (λ j. get_or bs j 0) less ∙ sym (test_in g (512 * index + at) bs x (omega (arith, sum, lo)) (omega (arith, sum, hi))))
+                let less : k - at ≡ x - (512 * index + at) = omega (arith, sum, y.0) in
+                test_in (f index) at bs k y.0 y.1 ∙ (ap (λ j. get_or bs j 0) less ∙ sym (test_in g (512 * index + at) bs x (omega (arith, sum, y.0)) (omega (arith, sum, y.1))))
             | inr (inr ge) ↦ test_above (f index) at bs k ge ∙ (ap (λ i. f i k) (sym e) ∙ sym (test_above g (512 * index + at) bs x (omega (arith, sum, ge))))
           ])
       | inr ne ↦
@@ -111,17 +93,13 @@ written_on f g h start bs cs x e e' =
       | inl lt ↦ test_below g (start + length bs) cs x lt ∙ (e ∙ elim (cases_written start (length bs) x) [
         | inl less ↦ test_below f start bs x less ∙ sym (test_below f start (bs ++ cs) x less)
         | inr (inl y) ↦
-            let lo = y.0 in
-            let hi = y.1 in
-            test_in f start bs x lo hi ∙ (sym (get_or_append_left bs cs 0 (x - start) (omega (arith, lo, hi))) ∙ sym (test_in f start (bs ++ cs) x lo (omega (arith, hi, long))))
+            test_in f start bs x y.0 y.1 ∙ (sym (get_or_append_left bs cs 0 (x - start) (omega (arith, y.0, y.1))) ∙ sym (test_in f start (bs ++ cs) x y.0 (omega (arith, y.1, long))))
         | inr (inr ge) ↦ absurd (omega (arith, lt, ge))
       ])
       | inr (inl y) ↦
-          let lo = y.0 in
-          let hi = y.1 in
-          let less : x - start ≡ length bs + (x - (start + length bs)) = omega (arith, lo) in
-          test_in g (start + length bs) cs x lo hi
-          ∙ (sym (get_or-append-add bs cs (x - (start + length bs)) 0) ∙ (ap (λ j. get_or (bs ++ cs) j 0) (sym less) ∙ sym (test_in f start (bs ++ cs) x (omega (arith, lo)) (omega (arith, hi, long)))))
+          let less : x - start ≡ length bs + (x - (start + length bs)) = omega (arith, y.0) in
+          test_in g (start + length bs) cs x y.0 y.1
+          ∙ (sym (get_or-append-add bs cs (x - (start + length bs)) 0) ∙ (ap (λ j. get_or (bs ++ cs) j 0) (sym less) ∙ sym (test_in f start (bs ++ cs) x (omega (arith, y.0)) (omega (arith, y.1, long)))))
       | inr (inr ge) ↦ test_above g (start + length bs) cs x ge ∙ (e ∙ (test_above f start bs x (omega (arith, ge)) ∙ sym (test_above f start (bs ++ cs) x (omega (arith, ge, long)))))
     ]
 
@@ -418,11 +396,6 @@ data_attached T lib state new h fs few n inode is last place block entry points 
 -- nothing is written
 pub wrote_none : (v : ℕ → List ℕ) (fs n start : ℕ) (inode : List ℕ) → Ok inode ≡ file_in v fs n → WroteBytes v v fs n inode start []
 wrote_none v fs n start inode is = record { after = inode; file = is; size = refl; marks = (refl, refl); each = λ x low. written_none (byte_of v inode) start x }
-
-pub wrote_on : (u v w : ℕ → List ℕ) (fs n start : ℕ) (inode bs cs : List ℕ) → WroteBytes u v fs n inode start bs → ((after : List ℕ) → Ok after ≡ file_in v fs n → WroteBytes v w fs n after (start + length bs) cs) → WroteBytes u w fs n inode start (bs ++ cs)
-wrote_on u v w fs n start inode bs cs a next =
-    let b = next a.after a.file in
-    record { after = b.after; file = b.file; size = b.size ∙ a.size; marks = (b.marks.0 ∙ a.marks.0, b.marks.1 ∙ a.marks.1); each = λ x low. written_on (byte_of u inode) (byte_of v a.after) (byte_of w b.after) start bs cs x (a.each x low) (b.each x low) }
 
 -- a place of a file's block of pointers, after a block was begun
 pub indirect_block : (content : ℕ → List ℕ) (inode : List ℕ) (last place : ℕ) → word_at inode 56 ≡ last → last ≢ 0 → file_block content inode (12 + place) ≡ pointer_word (content last) place

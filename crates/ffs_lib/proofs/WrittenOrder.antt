@@ -1,15 +1,7 @@
 -- The edits of a write, in their order, by what its parts made and where they stopped.
-use Rattle.std.proofs.Common.{◌≡◌, ◌≢◌, ℕ, ◌+◌, ◌-◌, ◌<◌, ◌≤◌, ◌⊎◌, Bool, true, false, List, [], ◌∷◌, length, Option, Some, None, Result, Ok, Err, refl, sym, ◌∙◌, ap, inl, inr, arith, subst}
-use Rattle.std.specs.Prelude.{IfOk, IfSome, MatchResult, min, nat_lt}
-use Rattle.std.proofs.lemmas.Bool.{le-ltb, lt-ltb}
-use Rattle.xn_model.specs.Root.{word_at}
-use Rattle.xn_model.specs.Types.{Types}
-use Rattle.xn_model.specs.Rules.{IsConsistent}
-use Rattle.xn_model.specs.Lives.{StoreState}
+use Rattle.std.proofs.Common.{◌≡◌, ◌≢◌, ℕ, ◌+◌, ◌-◌, ◌<◌, ◌≤◌, ◌⊎◌, Bool, true, false, List, [], ◌∷◌, length, Option, Some, None, Result, Ok, Err, refl, sym, ◌∙◌, ap, inl, inr, arith, subst, IfOk, IfSome, MatchResult, min, nat_lt, le-ltb, lt-ltb}
+use Rattle.ffs_lib.proofs.Words.{FfsFault, IsConsistent, StoreState, Types, file_end, latest, word_at, write_in}
 use Rattle.xn_model.proofs.ForCallers.{same_ok as same_run}
-use Rattle.ffs_model.specs.Cuts.{latest}
-use Rattle.ffs_lookup.specs.declared.fault.FfsFault.{FfsFault}
-use Rattle.ffs_lookup.specs.Newest.{file_end, write_in}
 use Rattle.ffs_lookup.proofs.ForCallers.{same_ok}
 use Rattle.ffs_lib.specs.Orders.{Acts}
 use Rattle.ffs_lib.specs.Steps.{Stops}
@@ -90,16 +82,13 @@ module _ (T : Types) (fs : ℕ) (array : ℕ → Option ℕ) (old middle : Store
   part_there : (fault : FfsFault) → progress.fault ≡ Some fault → StopsThere T fs n inode offset bytes at old middle
   part_there fault e =
       let k = stopped_by fault e in
-      let few = k.low in
-      let l = long in
       at_ok (reached T fs n inode offset bytes at old) (k.before, progress.last) (λ there. PartOrSize middle there (nat_lt at (offset + length bytes))) (reached_to at refl k.before k.made)
-      (subst (PartOrSize middle (k.before, progress.last)) (sym (lt-ltb at (offset + length bytes) (omega (arith, few, l)))) (tells_in T fs _ k.before middle fault k.told.told))
+      (subst (PartOrSize middle (k.before, progress.last)) (sym (lt-ltb at (offset + length bytes) (omega (arith, k.low, long)))) (tells_in T fs _ k.before middle fault k.told.told))
 
   size_there : progress.fault ≡ None → (new : StoreState) → SizeStops T fs n (offset + length bytes) progress.last middle new → StopsThere T fs n inode offset bytes at old new
   size_there none new stops =
-      let every = b.whole none in
       at_ok (reached T fs n inode offset bytes at old) (middle, progress.last) (λ there. PartOrSize new there (nat_lt at (offset + length bytes))) (reached_to at refl middle (b.first.made none))
-      (subst (PartOrSize new (middle, progress.last)) (sym (le-ltb at (offset + length bytes) (omega (arith, every)))) stops)
+      (subst (PartOrSize new (middle, progress.last)) (sym (le-ltb at (offset + length bytes) (omega (arith, b.whole none)))) stops)
 
   -- `write`
   in_order : {A : Type 0} (new : StoreState) (result : Result A FfsFault) →
@@ -132,11 +121,9 @@ module _ (T : Types) (fs : ℕ) (array : ℕ → Option ℕ) (old middle : Store
   shown size ends other found grow there made =
       let same = same_ok inode other (b.is ∙ sym (looked (latest old.lives) fs n (offset + length bytes) other found).0) in
       let held = (b.first.puts.wrote inode b.is).size in
-      let most = b.low in
-      let few = low in
       let more : file_end inode < size = subst (λ (m : List ℕ). file_end m < size) (sym same) grow in
-      let w = b.first.waits there (subst (λ (m : List ℕ). reached T fs n m offset bytes (first_past (file_end m) offset) old ≡ Ok there) (sym same) made) (omega (arith, ends, more)) (omega (arith, ends, few, more)) in
-      (omega (arith, held, most, more, ends, few), w.0, w.1)
+      let w = b.first.waits there (subst (λ (m : List ℕ). reached T fs n m offset bytes (first_past (file_end m) offset) old ≡ Ok there) (sym same) made) (omega (arith, ends, more)) (omega (arith, ends, low, more)) in
+      (omega (arith, held, b.low, more, ends, low), w.0, w.1)
 
   -- `write_some`
   abbrev InOrderSome : StoreState → Result ℕ FfsFault → Type 0

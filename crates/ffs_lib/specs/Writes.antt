@@ -5,11 +5,11 @@
 --     ActedBy, StopsAction         an action was made, with an edit of this number; it was refused, and no byte of the file changed
 --     Waits, IsFrom, WaitsOn, WaitsAfter     in the cuts: an edit is taken with others; what is pending is new; a step keeps that; an action does
 --     PutsParts, StopsPart         bytes are written by the actions of a part; one of these was refused
---     RefusesPart                  and in the cuts that is as good as nothing
+--     RefusesPart, EndsPart        and in the cuts that is as good as nothing; how the actions of a part end
 --     padded                       what a write writes: its bytes, and zeros before them from the file's end on
 --     PartStops                    a part was refused behind the first of that, which are written
 --     Parts                        the first of that are written, part after part, maybe up to a refusal
-use Rattle.std.specs.Prelude.{◌≡◌, ◌≢◌, ℕ, ◌+◌, ◌-◌, ◌*◌, ◌/◌, ◌%◌, ◌<◌, ◌≤◌, ◌⊎◌, List, [], ◌++◌, length, min, replicate, take, Option, None, Some, Ok}
+use Rattle.std.specs.Prelude.{◌≡◌, ◌≢◌, ℕ, ◌+◌, ◌-◌, ◌*◌, ◌/◌, ◌%◌, ◌<◌, ◌≤◌, ◌⊎◌, List, [], ◌++◌, length, min, replicate, take, Option, None, Some, Result, Ok}
 use Rattle.std.specs.Prelude.{Contains, IsTrue, IfSome}
 use Rattle.xn_model.specs.Root.{word_at}
 use Rattle.xn_model.specs.Types.{Types}
@@ -23,7 +23,7 @@ use Rattle.ffs_lookup.specs.Newest.{file_block, file_in, inode_block_in}
 use Rattle.ffs_lib.specs.Orders.{Action, act_of, made_by}
 use Rattle.ffs_lib.specs.Orders as orders
 use Rattle.ffs_lib.specs.Results.{OnlyChanges, WroteBytes}
-use Rattle.ffs_lib.specs.Steps.{Stage, Stops, newest_block}
+use Rattle.ffs_lib.specs.Steps.{Ends, Stage, Stops, newest_block}
 use Rattle.ffs_lib.specs.WriteOrder.{TellsAct, TellsIn, adds_direct, after_at, first_past, last_after, no_last, parts_at, places, parts_made}
 use Rattle.ffs_lib.specs.declared.data.Last.{Last}
 use Rattle.ffs_lib.specs.declared.data.Progress.{Progress}
@@ -102,6 +102,10 @@ pub record StopsPart (T : Types) (fs : ℕ) (parts : orders.Parts) (old new : St
 -- what was waited for before is waited for
 abbrev pub RefusesPart : Types → ℕ → orders.Parts → StoreState → StoreState → ℕ → Last → FfsFault → Type 0
 RefusesPart T fs parts old new n last fault = StopsPart T fs parts old new n fault × WaitsOn fs n old new last last
+
+abbrev pub EndsPart : Types → ℕ → (ℕ → Option ℕ) → orders.Parts → StoreState → StoreState → ℕ → ℕ → ℕ → List ℕ → Last → Result Last FfsFault → Type 0
+EndsPart T fs array parts old new n index at bytes last result =
+    Ends T fs array new result (PutsParts T fs parts old new n index at bytes last) (RefusesPart T fs parts old new n last)
 
 -- What a write writes into a file that ends somewhere, part after part
 

@@ -20,7 +20,7 @@ ghost use Rattle.ffs_lib.specs.Steps.{Ends, Stage, StopsAtHome, newest_block};
 ghost use Rattle.ffs_lib.specs.Orders.{Acts, act_of};
 ghost use Rattle.ffs_lib.specs.WriteOrder.{ShowsWhole, data_action, data_parts, no_last, pointers_action, size_action, zeros_parts};
 ghost use Rattle.ffs_lib.specs.declared.data.Last.{Last};
-ghost use Rattle.ffs_lib.specs.Writes.{ActedBy, LastGiven, Parts, PointsTo, PutsBy, PutsParts, RefusesPart, StopsAction, WaitsAfter, WaitsOn};
+ghost use Rattle.ffs_lib.specs.Writes.{ActedBy, EndsPart, LastGiven, Parts, PointsTo, PutsBy, StopsAction, WaitsAfter, WaitsOn};
 ghost use Rattle.ffs_lookup.specs.Places.{IsFile};
 
 use crate::put::{attach, put, put_inode};
@@ -241,10 +241,9 @@ fn add_block<S: Store>(
     ensures ends { (T : Types) (array : ℕ → Option ℕ) (inode : List ℕ) → S.types_of store.old ≡ T → Stage T fs.number array (S.state_of store.old) →
         Ok inode ≡ file_in (newest_block (S.state_of store.old)) fs.number number → file_block (newest_block (S.state_of store.old)) inode index ≡ 0 →
         (12 ≤ index → word_at inode 56 ≢ 0 → length (newest_block (S.state_of store.old) (word_at inode 56)) ≡ 512) →
-        LastGiven (S.state_of store.old) last → Ends T fs.number array (S.state_of store.new) result
-        (PutsParts T fs.number (data_parts fs.number number index at bytes.now last.edit) (S.state_of store.old) (S.state_of store.new)
-        number index at bytes.now last)
-        (RefusesPart T fs.number (data_parts fs.number number index at bytes.now last.edit) (S.state_of store.old) (S.state_of store.new) number last) }
+        LastGiven (S.state_of store.old) last →
+        EndsPart T fs.number array (data_parts fs.number number index at bytes.now last.edit) (S.state_of store.old) (S.state_of store.new)
+        number index at bytes.now last result }
 {
     if index < DIRECT_POINTERS {
         let added = add_direct(alloc, store, fs, number, index, at, bytes, last.edit)?;
@@ -275,10 +274,8 @@ fn write_block<S: Store>(
     ensures types { S.types_of store.new ≡ S.types_of store.old }
     ensures ends { (T : Types) (array : ℕ → Option ℕ) (inode : List ℕ) → S.types_of store.old ≡ T → Stage T fs.number array (S.state_of store.old) →
         Ok inode ≡ file_in (newest_block (S.state_of store.old)) fs.number number → LastGiven (S.state_of store.old) last →
-        Ends T fs.number array (S.state_of store.new) result
-        (PutsParts T fs.number (data_parts fs.number number index at bytes.now last.edit) (S.state_of store.old) (S.state_of store.new)
-        number index at bytes.now last)
-        (RefusesPart T fs.number (data_parts fs.number number index at bytes.now last.edit) (S.state_of store.old) (S.state_of store.new) number last) }
+        EndsPart T fs.number array (data_parts fs.number number index at bytes.now last.edit) (S.state_of store.old) (S.state_of store.new)
+        number index at bytes.now last result }
 {
     let file = find_file(store, fs, number)?;
     let block = file_block(store, fs, number, &file, index)?;
@@ -315,10 +312,8 @@ fn clear_block<S: Store>(
     ensures types { S.types_of store.new ≡ S.types_of store.old }
     ensures ends { (T : Types) (array : ℕ → Option ℕ) (inode : List ℕ) → S.types_of store.old ≡ T → Stage T fs.number array (S.state_of store.old) →
         Ok inode ≡ file_in (newest_block (S.state_of store.old)) fs.number number → LastGiven (S.state_of store.old) last →
-        Ends T fs.number array (S.state_of store.new) result
-        (PutsParts T fs.number (zeros_parts fs.number number index at count last.edit) (S.state_of store.old) (S.state_of store.new)
-        number index at (replicate count 0) last)
-        (RefusesPart T fs.number (zeros_parts fs.number number index at count last.edit) (S.state_of store.old) (S.state_of store.new) number last) }
+        EndsPart T fs.number array (zeros_parts fs.number number index at count last.edit) (S.state_of store.old) (S.state_of store.new)
+        number index at (replicate count 0) last result }
 {
     let file = find_file(store, fs, number)?;
     let block = file_block(store, fs, number, &file, index)?;

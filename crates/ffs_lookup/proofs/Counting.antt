@@ -1,6 +1,5 @@
 -- What is counted of the entries of directories, one after another.
-use Rattle.std.proofs.Common.{◌≡◌, ℕ, replicate, suc, ◌+◌, ◌-◌, ◌*◌, ◌<◌, ◌≤◌, ◌≢◌, inl, inr, Bool, true, false, cond, List, [], ◌∷◌, ◌++◌, length, set, get_or, Option, Some, None, refl, sym, ◌∙◌, ap, arith, subst, eq-eqb}
-use Rattle.std.specs.Prelude.{Result, Ok, Err, Contains, ◌==◌, nat_lt, min, count_by, filter, filter_map, flat_map, if◌then◌else◌}
+use Rattle.std.proofs.Common.{◌≡◌, ℕ, replicate, suc, ◌+◌, ◌-◌, ◌*◌, ◌<◌, ◌≤◌, ◌≢◌, inl, inr, Bool, true, false, cond, List, [], ◌∷◌, ◌++◌, length, set, get_or, Option, Some, None, refl, sym, ◌∙◌, ap, arith, subst, eq-eqb, Result, Ok, Err, Contains, ◌==◌, nat_lt, min, count_by, filter, filter_map, flat_map, if◌then◌else◌}
 use Rattle.std.specs.List.{range_with_len, cons_option}
 use Rattle.std.specs.Result.{result_ok}
 use Rattle.std.proofs.lemmas.Bool.{cases_eq, cases_lt, eqb-true, le-ltb, lt-ltb, ne_eqb}
@@ -55,9 +54,7 @@ least_is [] x i low = absurd (Contains-none x i)
 least_is (z ∷ xs) x i low = elim (Contains-cons z xs x i) [
   | inl e ↦ here (least xs) refl e
   | inr j ↦
-      let rest = least_is xs x j (λ y k. low y (Contains-tail z xs y k)) in
-      let le = low z (Contains-head z xs) in
-      ap (least_with z) rest ∙ ap (λ w. Some w) (omega (arith, le))
+      ap (least_with z) (least_is xs x j (λ y k. low y (Contains-tail z xs y k))) ∙ ap (λ w. Some w) (omega (arith, low z (Contains-head z xs)))
 ]
   where
     here : (o : Option ℕ) → least xs ≡ o → z ≡ x → least_with z o ≡ Some x
@@ -99,21 +96,18 @@ module _ (numbers : List ℕ) (counts : NameCounts) (a : AreCounts numbers count
         long = ap length set_is ∙ (length-set counts.each at (min (get_or counts.each at 0 + 1) 4294967295) ∙ a.long);
         each = λ i lt. ap (λ xs. get_or xs i 0) set_is ∙ elim (cases_eq i at) [
           | inl e ↦
-              let long = a.long in
               let was = a.each at low in
               let one : n ≡ at + 1 = omega (arith, is, ne) in
               let more : count_by (λ m. m == at + 1) (numbers ++ n ∷ []) ≡ count_by (λ m. m == at + 1) numbers + 1 =
               count_pushed numbers n (at + 1) ∙ ap (λ (t : Bool). count_by (λ m. m == at + 1) numbers + cond t 1 0) (eq-eqb n (at + 1) one) in
-              let there : get_or (set counts.each at (min (get_or counts.each at 0 + 1) 4294967295)) at 0 ≡ min (get_or counts.each at 0 + 1) 4294967295 = get_or-set_same counts.each at (min (get_or counts.each at 0 + 1) 4294967295) 0 (omega (arith, long, low)) in
+              let there : get_or (set counts.each at (min (get_or counts.each at 0 + 1) 4294967295)) at 0 ≡ min (get_or counts.each at 0 + 1) 4294967295 = get_or-set_same counts.each at (min (get_or counts.each at 0 + 1) 4294967295) 0 (omega (arith, a.long, low)) in
               let now : get_or (set counts.each at (min (get_or counts.each at 0 + 1) 4294967295)) at 0 ≡ min (count_by (λ m. m == at + 1) (numbers ++ n ∷ [])) 4294967295 = omega (arith, there, was, more) in
               subst (λ k. get_or (set counts.each at (min (get_or counts.each at 0 + 1) 4294967295)) k 0 ≡ min (count_by (λ m. m == k + 1) (numbers ++ n ∷ [])) 4294967295) (sym e) now
           | inr other ↦
-              let was = a.each i lt in
               let apart : n ≢ i + 1 = λ z. other (omega (arith, is, z)) in
               let same : count_by (λ m. m == i + 1) (numbers ++ n ∷ []) ≡ count_by (λ m. m == i + 1) numbers + 0 =
               count_pushed numbers n (i + 1) ∙ ap (λ (t : Bool). count_by (λ m. m == i + 1) numbers + cond t 1 0) (ne_eqb n (i + 1) apart) in
-              let there = get_or-set_other counts.each at i (min (get_or counts.each at 0 + 1) 4294967295) 0 other in
-              omega (arith, there, was, same)
+              omega (arith, get_or-set_other counts.each at i (min (get_or counts.each at 0 + 1) 4294967295) 0 other, a.each i lt, same)
         ];
         past =
             let le : n ≤ 128 = omega (arith, is, low) in
@@ -129,10 +123,9 @@ module _ (numbers : List ℕ) (counts : NameCounts) (a : AreCounts numbers count
         some = some_still n ne;
         long = a.long;
         each = λ i lt.
-            let was = a.each i lt in
             let same : count_by (λ m. m == i + 1) (numbers ++ n ∷ []) ≡ count_by (λ m. m == i + 1) numbers + 0 =
             count_pushed numbers n (i + 1) ∙ ap (λ (t : Bool). count_by (λ m. m == i + 1) numbers + cond t 1 0) (ne_eqb n (i + 1) (λ z. absurd (omega (arith, high, lt, z)))) in
-            omega (arith, was, same);
+            omega (arith, a.each i lt, same);
         past = is ∙ (ap (least_with n) a.past ∙ (sym (least_pushed (filter (nat_lt 128) numbers) n)
             ∙ sym (ap least (filter-append (nat_lt 128) numbers (n ∷ []) ∙ ap (λ (t : Bool). filter (nat_lt 128) numbers ++ cond t (n ∷ []) []) (lt-ltb 128 n high)))));
       })
@@ -234,22 +227,19 @@ Enough content fs counts n = (j : ℕ) → j < n → (get_or counts.each j 0 ≤
 module _ (content : ℕ → List ℕ) (fs : ℕ) (counts : NameCounts) (a : AreCounts (named_numbers content fs) counts) where
   not_over : (i : ℕ) → i < 128 → get_or counts.each i 0 ≤ links_in content fs (i + 1) → links_in content fs (i + 1) < 4294967295 → is_over content fs (i + 1) ≡ false
   not_over i lt le few =
-      let was = a.each i lt in
-      le-ltb (links_in content fs (i + 1)) (names_count content fs (i + 1)) (omega (arith, was, le, few))
+      le-ltb (links_in content fs (i + 1)) (names_count content fs (i + 1)) (omega (arith, a.each i lt, le, few))
 
   enough_none : (n : ℕ) → n ≤ 128 → Enough content fs counts n → (y : ℕ) → y ≢ 0 → y ≤ n → is_over content fs y ≡ false
   enough_none n most enough y some low =
       let p : y - 1 + 1 ≡ y = omega (arith, some) in
       let r = enough (y - 1) (omega (arith, some, low)) in
-      let few = r.1 in
-      subst (λ z. is_over content fs z ≡ false) p (not_over (y - 1) (omega (arith, some, low, most)) r.0 (omega (arith, few)))
+      subst (λ z. is_over content fs z ≡ false) p (not_over (y - 1) (omega (arith, some, low, most)) r.0 (omega (arith, r.1)))
 
   pub over_found : (i : ℕ) → i < 128 → Enough content fs counts i → links_in content fs (i + 1) < get_or counts.each i 0 → over_named content fs ≡ Some (i + 1)
   unfolding over_named
   over_found i lt before over =
       let n = i + 1 in
-      let was = a.each i lt in
-      let more : links_in content fs n < names_count content fs n = omega (arith, was, over) in
+      let more : links_in content fs n < names_count content fs n = omega (arith, a.each i lt, over) in
       let is : is_over content fs n ≡ true = lt-ltb (links_in content fs n) (names_count content fs n) more in
       let there : Contains (named_numbers content fs) n = counted (named_numbers content fs) n (omega (arith, more)) in
       least_is (filter (is_over content fs) (named_numbers content fs)) n (filter_from (is_over content fs) (named_numbers content fs) n there is)
@@ -269,9 +259,8 @@ module _ (content : ℕ → List ℕ) (fs : ℕ) (counts : NameCounts) (a : AreC
       ap least (filter_same (is_over content fs) (nat_lt 128) (named_numbers content fs) (λ y j.
       elim (cases_lt 128 y) [
         | inl high ↦
-            let none = no_links content fs y high in
             let once = contained (named_numbers content fs) y j in
-            lt-ltb (links_in content fs y) (names_count content fs y) (omega (arith, none, once)) ∙ sym (lt-ltb 128 y high)
+            lt-ltb (links_in content fs y) (names_count content fs y) (omega (arith, no_links content fs y high, once)) ∙ sym (lt-ltb 128 y high)
         | inr low ↦ enough_none 128 (omega arith) all y (a.some y j) low ∙ sym (le-ltb 128 y low)
       ]))
       ∙ sym a.past

@@ -1,8 +1,6 @@
 -- Where inodes and entries stand, from what was read.
-use Rattle.std.proofs.Common.{◌≡◌, ℕ, ◌+◌, ◌-◌, ◌*◌, ◌/◌, ◌<◌, ◌≢◌, List, length, ap, sym, ◌∙◌, arith, subst}
-use Rattle.std.specs.Prelude.{Contains, replicate, true, if◌then◌else◌}
+use Rattle.std.proofs.Common.{◌≡◌, ℕ, ◌+◌, ◌-◌, ◌*◌, ◌/◌, ◌<◌, ◌≢◌, List, length, ap, sym, ◌∙◌, arith, subst, Contains, replicate, true, if◌then◌else◌, lt-ltb}
 use Rattle.std.proofs.lemmas.Slice.Eq.{bytes_eq-Decides}
-use Rattle.std.proofs.lemmas.Bool.{lt-ltb}
 use Rattle.xn_model.specs.Lives.{StoreState}
 use Rattle.xn_model.specs.Root.{word_at}
 use Rattle.xn_model.proofs.ForCallers.{blocks_of_has}

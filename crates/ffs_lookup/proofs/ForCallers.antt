@@ -9,6 +9,6 @@ pub use Rattle.ffs_lookup.proofs.Rooms.{find_first, find_none}
 pub use Rattle.ffs_lookup.proofs.Stores.{gives_err, gives_ok}
 pub use Rattle.ffs_lookup.proofs.Walks.{badly_named, first_names, if_some_ok, named_is, names_are, names_more, names_past, no_names, nothing_named, place_more, place_past, same_ok}
 pub use Rattle.ffs_lookup.proofs.ValueCalls.{count_told, created_ok, created_told, has_root, into_told, listed_told, written_told}
-pub use Rattle.ffs_lookup.proofs.ValueNames.{both_found, both_parts, if_both, named_told, removed_ok, removed_told, renamed_ok, renamed_told, unlinked_ok, unlinked_told}
+pub use Rattle.ffs_lookup.proofs.ValueNames.{bare_is, both_found, both_parts, if_both, named_told, removed_ok, removed_told, renamed_ok, renamed_told, unlinked_ok, unlinked_told}
 pub use Rattle.ffs_lookup.proofs.ValuePlaces.{EntryAt, IsPlaceOf, block_here, first_value, put_is, room_is, room_known, room_of}
 pub use Rattle.ffs_lookup.proofs.Values.{directory_parts, file_found, file_parts, value_by_place, value_found, value_outside, value_there, value_used}

@@ -1,6 +1,5 @@
 -- What is found in the newest bytes, step by step.
-use Rattle.std.proofs.Common.{◌≡◌, ℕ, ◌-◌, ◌/◌, ◌%◌, ◌<◌, ◌≤◌, ◌≢◌, ◌⊎◌, inl, inr, Bool, true, false, List, Some, None, refl, sym, ◌∙◌, ap, eq-eqb}
-use Rattle.std.specs.Prelude.{Result, Ok, Err, ◌==◌, ◌||◌, nat_lt, if◌then◌else◌}
+use Rattle.std.proofs.Common.{◌≡◌, ℕ, ◌-◌, ◌/◌, ◌%◌, ◌<◌, ◌≤◌, ◌≢◌, ◌⊎◌, inl, inr, Bool, true, false, List, Some, None, refl, sym, ◌∙◌, ap, eq-eqb, Result, Ok, Err, ◌==◌, ◌||◌, nat_lt, if◌then◌else◌}
 use Rattle.std.proofs.lemmas.Bool.{eqb-false, le-ltb, lt-ltb, ne_eqb}
 use Rattle.std.proofs.lemmas.Option.{same_Some}
 use Rattle.xn_model.specs.declared.refusal.Refusal.{Refusal}
@@ -64,15 +63,13 @@ module _ (T : Types) (state : StoreState) (h : IsConsistent T state) (fs : ℕ) 
 
   pub root_is : (kind : ℕ) → Ok kind ≡ kind_of state fs r → kind ≡ 3 → Ok r ≡ root_in (latest state.lives) fs
   root_is kind k three =
-      let x = slot_is state fs r e in
       let same : kind ≡ (slot_now state fs).1 = cc (k ∙ kind_known) in
-      sym (x.found ∙ ap (λ (t : Bool). if t then Ok r else Err NoEntry) (eq-eqb (slot_now state fs).1 3 (sym same ∙ three)))
+      sym ((slot_is state fs r e).found ∙ ap (λ (t : Bool). if t then Ok r else Err NoEntry) (eq-eqb (slot_now state fs).1 3 (sym same ∙ three)))
 
   pub root_is_other : (kind : ℕ) → Ok kind ≡ kind_of state fs r → kind ≢ 3 → Err NoEntry ≡ root_in (latest state.lives) fs
   root_is_other kind k other =
-      let x = slot_is state fs r e in
       let same : kind ≡ (slot_now state fs).1 = cc (k ∙ kind_known) in
-      sym (x.found ∙ ap (λ (t : Bool). if t then Ok r else Err NoEntry) (ne_eqb (slot_now state fs).1 3 (λ z. other (same ∙ z))))
+      sym ((slot_is state fs r e).found ∙ ap (λ (t : Bool). if t then Ok r else Err NoEntry) (ne_eqb (slot_now state fs).1 3 (λ z. other (same ∙ z))))
 
 -- Blocks of inodes
 
@@ -177,10 +174,9 @@ block_again content fs j b x =
 pub directory_again : (state : StoreState) (fs n : ℕ) (found : Found) → (n == 0) || nat_lt 128 n ≡ false → IsDirectory state fs n found → Ok found.inode ≡ directory_in (latest state.lives) fs n
 directory_again state fs n found right dir =
     let content = latest state.lives in
-    let stands = dir.is.stands in
     let inode : Ok found.inode ≡ inode_in content fs n =
     used_is found.inode dir.is.used ∙ (ap unless_unused dir.is.bytes
-    ∙ in_inode_block content fs n right ((n - 1) / 8) found.place found.block (content found.block) refl stands.at (block_again content fs ((n - 1) / 8) found.block stands.inodes) refl) in
+    ∙ in_inode_block content fs n right ((n - 1) / 8) found.place found.block (content found.block) refl dir.is.stands.at (block_again content fs ((n - 1) / 8) found.block dir.is.stands.inodes) refl) in
     directory_is found.inode dir.directory ∙ in_directory content fs n (Ok found.inode) inode
 
 -- no inode is a directory and a file

@@ -1,6 +1,5 @@
 -- What is reached from a root slot in the newest bytes can be read.
-use Rattle.std.proofs.Common.{◌≡◌, ℕ, ◌<◌, ◌≢◌, Bool, true, false, List, [], ◌∷◌, Some, refl, sym, ◌∙◌, ap, subst, eq-eqb}
-use Rattle.std.specs.Prelude.{Contains, Result, Ok, Err, not}
+use Rattle.std.proofs.Common.{◌≡◌, ℕ, ◌<◌, ◌≢◌, Bool, true, false, List, [], ◌∷◌, Some, refl, sym, ◌∙◌, ap, subst, eq-eqb, Contains, Result, Ok, Err, not}
 use Rattle.std.proofs.lemmas.List.Elements.{Contains-append_right}
 use Rattle.std.proofs.lemmas.Option.{same_Some}
 use Rattle.xn_model.specs.declared.refusal.Refusal.{Refusal}

@@ -1,6 +1,5 @@
 -- What an inode needs, case by case, and what is said of all of them.
-use Rattle.std.proofs.Common.{◌≡◌, ◌≢◌, ◌⊎◌, ℕ, ◌+◌, ◌-◌, ◌<◌, ◌≤◌, inl, inr, Bool, true, false, List, length, get_or, set, replicate, Ok, Err, refl, sym, ◌∙◌, ap, arith}
-use Rattle.std.specs.Prelude.{Result, nat_lt, slice_index_or, if◌then◌else◌}
+use Rattle.std.proofs.Common.{◌≡◌, ◌≢◌, ◌⊎◌, ℕ, ◌+◌, ◌-◌, ◌<◌, ◌≤◌, inl, inr, Bool, true, false, List, length, get_or, set, replicate, Ok, Err, refl, sym, ◌∙◌, ap, arith, Result, nat_lt, slice_index_or, if◌then◌else◌}
 use Rattle.std.proofs.lemmas.Bool.{cases_eq, cases_lt, eq-eqb, le-ltb, lt-ltb, ne_eqb}
 use Rattle.std.proofs.lemmas.List.{get_or-replicate, get_or-set_other, get_or-set_same, get_or_past, length-replicate, length-set}
 use Rattle.ffs_model.specs.Library.{inode_links}
@@ -62,8 +61,7 @@ found_more content fs each at repair x less is = record {
   long = length-set each at repair ∙ x.long;
   low = λ i lt. elim (cases_eq i at) [
     | inl e ↦
-        let long = x.long in
-        ap (λ k. get_or (set each at repair) k Keep) e ∙ (get_or-set_same each at repair Keep (omega (arith, long, less)) ∙ (is ∙ ap (λ k. repair_in content fs (k + 1)) (sym e)))
+        ap (λ k. get_or (set each at repair) k Keep) e ∙ (get_or-set_same each at repair Keep (omega (arith, x.long, less)) ∙ (is ∙ ap (λ k. repair_in content fs (k + 1)) (sym e)))
     | inr ne ↦ get_or-set_other each at i repair Keep ne ∙ x.low i (omega (arith, lt, ne))
   ];
 }
@@ -77,8 +75,7 @@ all_found content fs each at all x n = elim (cases_eq n 0) [
       ap (λ (t : Bool). if t then Keep else slice_index_or each (n - 1) Keep) (ne_eqb n 0 some)
       ∙ elim (cases_lt 128 n) [
         | inl high ↦
-            let long = x.long in
-            get_or_past each (n - 1) Keep (omega (arith, long, high))
+            get_or_past each (n - 1) Keep (omega (arith, x.long, high))
             ∙ sym (unnumbered_repair content fs n (inr (some, high)))
         | inr low ↦ x.low (n - 1) (omega (arith, some, low, all)) ∙ ap (repair_in content fs) (omega (arith, some))
       ]

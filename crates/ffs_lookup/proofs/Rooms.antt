@@ -1,8 +1,6 @@
 -- Where there is room for an entry, or a free inode.
-use Rattle.std.proofs.Common.{◌≡◌, ℕ, zero, suc, ◌+◌, ◌-◌, ◌*◌, ◌<◌, ◌≤◌, ◌≢◌, Bool, true, false, cond, List, [], ◌∷◌, ◌++◌, Option, Some, None, refl, sym, ◌∙◌, ap, append_assoc, arith, eq-eqb}
-use Rattle.std.specs.Prelude.{◌==◌, ◌&&◌, ◌||◌, not, find, option_map}
+use Rattle.std.proofs.Common.{◌≡◌, ℕ, zero, suc, ◌+◌, ◌-◌, ◌*◌, ◌<◌, ◌≤◌, ◌≢◌, Bool, true, false, cond, List, [], ◌∷◌, ◌++◌, Option, Some, None, refl, sym, ◌∙◌, ap, append_assoc, arith, eq-eqb, ◌==◌, ◌&&◌, ◌||◌, not, find, option_map, ne_eqb}
 use Rattle.std.specs.List.{list_any, range_with_len}
-use Rattle.std.proofs.lemmas.Bool.{ne_eqb}
 use Rattle.std.proofs.lemmas.Option.{none-some}
 use Rattle.ffs_model.specs.Library.{half_at, inode_at, inode_blocks, pointer_word}
 use Rattle.ffs_format.specs.Fields.{direct_in}

@@ -1,10 +1,8 @@
 -- A name that stands once in the files still does after each call.
-use Rattle.std.proofs.Common.{◌≡◌, ◌≢◌, ℕ, zero, suc, ◌+◌, ◌-◌, ◌/◌, ◌<◌, ◌⊎◌, Bool, true, false, List, [], ◌∷◌, length, map, replicate, Option, Some, None, refl, sym, ◌∙◌, ap, inl, inr, arith, subst}
-use Rattle.std.specs.Prelude.{Result, Ok, Err, ◌==◌, ◌&&◌, not, nat_le, nat_lt, find, is_some, option_map, option_and_then, slice_index_or, slice_set, unwrap_or, if◌then◌else◌}
+use Rattle.std.proofs.Common.{◌≡◌, ◌≢◌, ℕ, zero, suc, ◌+◌, ◌-◌, ◌/◌, ◌<◌, ◌⊎◌, Bool, true, false, List, [], ◌∷◌, length, map, replicate, Option, Some, None, refl, sym, ◌∙◌, ap, inl, inr, arith, subst, Result, Ok, Err, ◌==◌, ◌&&◌, not, nat_le, nat_lt, find, is_some, option_map, option_and_then, slice_index_or, slice_set, unwrap_or, if◌then◌else◌, get_or-set_other}
 use Rattle.std.specs.List.{range_with_len}
 use Rattle.std.specs.Option.{ok_or, option_or}
 use Rattle.std.proofs.lemmas.Bool.{cases_eq}
-use Rattle.std.proofs.lemmas.List.{get_or-set_other}
 use Rattle.std.proofs.lemmas.Option.{none-some, same_Some}
 use Rattle.std.proofs.lemmas.Slice.Eq.{bytes_eq-Decides}
 use Rattle.ffs_format.specs.Entries.{is_name}
@@ -148,11 +146,10 @@ module _ (bs : Blocks) (name : List ℕ) where
   -- no entry has a name that is not found
   none_named : is_some (look_up name bs) ≡ false → (x : ℕ × ℕ) (f : Entry) → IsPlace x → entry_at bs x ≡ Some f → f.0 ≡ name → ⊥
   none_named none x f at e same =
-      let low = at.0 in
       let all = sym (find_flat named_at (λ (i : ℕ). positions_in i (directory_block bs i)) (range_with_len 0 12)) ∙ found_then (find named_at (positions bs)) refl none in
       let z : x.0 ≡ 0 + x.0 = omega arith in
       let all_in : (i : ℕ) → Option (ℕ × ℕ) = λ i. find named_at (positions_in i (directory_block bs i)) in
-      block (directory_block bs x.0) refl (ap all_in z ∙ none_first all_in 0 12 x.0 all low)
+      block (directory_block bs x.0) refl (ap all_in z ∙ none_first all_in 0 12 x.0 all at.0)
     where
       named : is_named name (entry_at bs x) ≡ true
       named = ap (is_named name) e ∙ (bytes_eq-Decides f.0 name).1 same
@@ -182,15 +179,13 @@ module _ (bs : Blocks) (name : List ℕ) where
           placed : (o : Option ℕ) → find (λ (p : ℕ). named_at (i, p)) (range_with_len 0 16) ≡ o → at_index i o ≡ Some at → IsPlace at
           placed None h k = absurd (none-some at k)
           placed (Some p) h k =
-              let same = same_Some (i, p) at k in
               let few = (found_within (λ (q : ℕ). named_at (i, q)) 0 16 p h).1 in
-              subst IsPlace same (low, omega (arith, few))
+              subst IsPlace (same_Some (i, p) at k) (low, omega (arith, few))
 
       place : (at : ℕ × ℕ) → find named_at (positions bs) ≡ Some at → IsPlace at
       place at g =
           let r = first_within (λ (i : ℕ). find named_at (positions_in i (directory_block bs i))) 0 12 at (sym (find_flat named_at (λ (i : ℕ). positions_in i (directory_block bs i)) (range_with_len 0 12)) ∙ g) in
-          let low = r.1 in
-          of_block at r.0 (omega (arith, low)) (directory_block bs r.0) r.2
+          of_block at r.0 (omega (arith, r.1)) (directory_block bs r.0) r.2
 
       there : (at : ℕ × ℕ) (o : Option Entry) → IsPlace at → entry_at bs at ≡ o → is_named name o ≡ true → with_place at o ≡ Some found → (f : Entry) × IsPlace found.0 × (entry_at bs found.0 ≡ Some f) × (f.0 ≡ name)
       there at None k is h g = absurd (cc h)
@@ -368,8 +363,7 @@ module _ (files : Files) (single : AreSingle files) where
         let a = came (in_use (files d)) (λ from. and_then (in_use (files other)) (λ to. and_then (directories from to) if_names)) both (sym e) in
         let b = came (in_use (files other)) (λ to. and_then (directories a.0 to) if_names) both a.2 in
         let c = came (directories a.0 b.0) if_names both b.2 in
-        let n = if_so (is_name name && is_name new_name) (Ok c.0) BadName both c.2 in
-        let same : c.0 ≡ both = ok_pair n.1 in
+        let same : c.0 ≡ both = ok_pair (if_so (is_name name && is_name new_name) (Ok c.0) BadName both c.2).1 in
         second_is a.0 (files other) b.0 c.0 b.1 c.1 own is ∙ ap (λ (x : (ℕ × Blocks) × (ℕ × Blocks)). x.1.1) same
       where
         ok_pair : {x y : (ℕ × Blocks) × (ℕ × Blocks)} → ◌≡◌ {A = Result ((ℕ × Blocks) × (ℕ × Blocks)) FfsFault} (Ok x) (Ok y) → x ≡ y

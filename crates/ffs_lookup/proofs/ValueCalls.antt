@@ -1,9 +1,7 @@
 -- Each call's look-ups are those of its function of the values.
-use Rattle.std.proofs.Common.{◌≡◌, ℕ, ◌+◌, ◌-◌, ◌/◌, ◌%◌, ◌<◌, Bool, true, false, List, length, take, drop, get_or, Option, Some, None, refl, sym, ◌∙◌, ap, arith, subst}
-use Rattle.std.specs.Prelude.{Result, Ok, Err, ◌==◌, ◌||◌, nat_lt, min, filter_map, is_some, if◌then◌else◌}
+use Rattle.std.proofs.Common.{◌≡◌, ℕ, ◌+◌, ◌-◌, ◌/◌, ◌%◌, ◌<◌, Bool, true, false, List, length, take, drop, get_or, Option, Some, None, refl, sym, ◌∙◌, ap, arith, subst, Result, Ok, Err, ◌==◌, ◌||◌, nat_lt, min, filter_map, is_some, if◌then◌else◌, ok_or}
 use Rattle.std.proofs.lemmas.List.{get_or-drop, get_or-take, length-drop, length-take, same_lists}
 use Rattle.std.proofs.lemmas.List.FromFn.{get_or-map-range_with_len, length-map-range_with_len}
-use Rattle.std.specs.Option.{ok_or}
 use Rattle.ffs_model.specs.Library.{inode_at, inode_links, pointer_word}
 use Rattle.ffs_format.specs.Entries.{is_name}
 use Rattle.ffs_lookup.specs.declared.fault.FfsFault.{FfsFault}

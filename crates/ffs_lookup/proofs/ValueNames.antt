@@ -1,9 +1,6 @@
 -- The look-ups of `unlink`, `rmdir` and `rename` are those of their functions of the values.
-use Rattle.std.proofs.Common.{◌≡◌, ℕ, ◌-◌, ◌/◌, ◌%◌, Bool, true, false, cond, List, [], ◌∷◌, length, Option, Some, None, refl, sym, ◌∙◌, ap, arith}
-use Rattle.std.specs.Prelude.{Result, Ok, Err, ◌==◌, ◌&&◌, ◌||◌, not, nat_lt, filter_map, find, is_some, if◌then◌else◌}
+use Rattle.std.proofs.Common.{◌≡◌, ℕ, ◌-◌, ◌/◌, ◌%◌, Bool, true, false, cond, List, [], ◌∷◌, length, Option, Some, None, refl, sym, ◌∙◌, ap, arith, Result, Ok, Err, ◌==◌, ◌&&◌, ◌||◌, not, nat_lt, filter_map, find, is_some, if◌then◌else◌, ok_or, ne_eqb}
 use Rattle.std.specs.List.{cons_option}
-use Rattle.std.specs.Option.{ok_or}
-use Rattle.std.proofs.lemmas.Bool.{ne_eqb}
 use Rattle.std.proofs.lemmas.List.{length-map}
 use Rattle.ffs_model.specs.Library.{inode_at, inode_links, inode_mode}
 use Rattle.ffs_format.specs.Entries.{is_name}
@@ -36,7 +33,7 @@ bare_list {A} {B} f (x ∷ xs) = step (f x) (bare_list f xs)
     step None r = r
     step (Some y) r = ne_eqb (length (y ∷ filter_map f xs)) 0 (λ z. omega (arith, z))
 
-bare_is : (content : ℕ → List ℕ) (inode : List ℕ) → (length (slots_of content inode) == 0) ≡ is_bare (directory_parts content inode)
+pub bare_is : (content : ℕ → List ℕ) (inode : List ℕ) → (length (slots_of content inode) == 0) ≡ is_bare (directory_parts content inode)
 bare_is content inode =
     let bs = blocks_value content inode in
     ap (λ n. n == 0) (sym (length-map (slots_of content inode) (λ (entry : Slot). (name_at content entry, entry.inode))) ∙ ap length (listed_is content inode))

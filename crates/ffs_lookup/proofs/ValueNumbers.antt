@@ -1,6 +1,5 @@
 -- The number of the lowest free inode is that of the lowest free value.
-use Rattle.std.proofs.Common.{◌≡◌, ℕ, ◌+◌, ◌-◌, ◌*◌, ◌/◌, ◌%◌, ◌<◌, Bool, true, false, List, map, Option, Some, None, refl, sym, ◌∙◌, ap, arith}
-use Rattle.std.specs.Prelude.{Result, Ok, Err, ◌==◌, ◌&&◌, ◌||◌, not, find, flat_map, is_some, option_map, option_and_then, if◌then◌else◌}
+use Rattle.std.proofs.Common.{◌≡◌, ℕ, ◌+◌, ◌-◌, ◌*◌, ◌/◌, ◌%◌, ◌<◌, Bool, true, false, List, map, Option, Some, None, refl, sym, ◌∙◌, ap, arith, Result, Ok, Err, ◌==◌, ◌&&◌, ◌||◌, not, find, flat_map, is_some, option_map, option_and_then, if◌then◌else◌}
 use Rattle.std.specs.List.{list_any, range_with_len}
 use Rattle.std.specs.Option.{option_or}
 use Rattle.ffs_model.specs.Library.{inode_at, inode_links, inode_mode, pointer_word}

@@ -1,6 +1,5 @@
 -- What the blocks of a directory's value say of its entries, and where there is room for one more.
-use Rattle.std.proofs.Common.{◌≡◌, ◌≢◌, ℕ, zero, suc, ◌+◌, ◌*◌, ◌<◌, Bool, true, false, List, [], ◌∷◌, map, replicate, Option, Some, None, refl, sym, ◌∙◌, ap, inl, inr, arith, eq-eqb}
-use Rattle.std.specs.Prelude.{◌==◌, ◌&&◌, ◌||◌, not, find, bytes_eq, filter_map, flat_map, is_some, option_map, option_and_then, unwrap_or, slice_index_or, slice_set, if◌then◌else◌}
+use Rattle.std.proofs.Common.{◌≡◌, ◌≢◌, ℕ, zero, suc, ◌+◌, ◌*◌, ◌<◌, Bool, true, false, List, [], ◌∷◌, map, replicate, Option, Some, None, refl, sym, ◌∙◌, ap, inl, inr, arith, eq-eqb, ◌==◌, ◌&&◌, ◌||◌, not, find, bytes_eq, filter_map, flat_map, is_some, option_map, option_and_then, unwrap_or, slice_index_or, slice_set, if◌then◌else◌}
 use Rattle.std.specs.List.{cons_option, list_any, range_with_len}
 use Rattle.std.specs.Option.{option_or}
 use Rattle.std.proofs.lemmas.Bool.{cases_eq, eqb-false, ne_eqb}
@@ -174,8 +173,7 @@ module _ (content : ℕ → List ℕ) (inode : List ℕ) where
             let held : is_named name (entry_at blocks at) ≡ true = found_holds (λ x. is_named name (entry_at blocks x)) (positions blocks) at e in
             let here : entry_at blocks at ≡ name_of_place (content (word at.0)) at.1 =
             entry_here at.0 at.1 k.0 k.1 ∙ ap (λ (t : Bool). if t then None else name_of_place (content (word at.0)) at.1) (ne_eqb (word at.0) 0 k.2) in
-            let half = half_at (content (word at.0)) (32 * at.1) == 0 in
-            named at e k (same_Some slot (slot_of at) f) half refl (sym (ap (is_named name) here) ∙ held)
+            named at e k (same_Some slot (slot_of at) f) (half_at (content (word at.0)) (32 * at.1) == 0) refl (sym (ap (is_named name) here) ∙ held)
 
     pub none_value : None ≡ first_named content inode name → look_up name blocks ≡ None
     none_value e = go (look_up name blocks) refl

@@ -1,6 +1,5 @@
 -- What the values of inodes say of look-ups in the bytes.
-use Rattle.std.proofs.Common.{◌≡◌, ℕ, ◌-◌, ◌/◌, ◌%◌, Bool, true, false, List, replicate, refl, ◌∙◌, ap}
-use Rattle.std.specs.Prelude.{Result, Ok, Err, ◌==◌, ◌||◌, nat_lt, if◌then◌else◌}
+use Rattle.std.proofs.Common.{◌≡◌, ℕ, ◌-◌, ◌/◌, ◌%◌, Bool, true, false, List, replicate, refl, ◌∙◌, ap, Result, Ok, Err, ◌==◌, ◌||◌, nat_lt, if◌then◌else◌}
 use Rattle.std.proofs.lemmas.Slice.Eq.{bytes_eq-Decides}
 use Rattle.ffs_model.specs.Library.{half_at, inode_at, inode_links, inode_mode, pointer_word}
 use Rattle.ffs_lookup.specs.declared.fault.FfsFault.{FfsFault}

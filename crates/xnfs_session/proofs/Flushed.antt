@@ -1,6 +1,5 @@
 -- The rules of volumes hold on over the waves of a flush.
-use Rattle.std.proofs.Common.{◌∙◌, ◌≡◌, ap, arith, ℕ, zero, suc, List, true, false, Bool, Some, Result, Ok, Err, sym, inl, inr, subst}
-use Rattle.std.specs.Prelude.{[], ◌∷◌, IfOk, IfErr, MatchResult, OnOk}
+use Rattle.std.proofs.Common.{◌∙◌, ◌≡◌, ap, arith, ℕ, zero, suc, List, true, false, Bool, Some, Result, Ok, Err, sym, inl, inr, subst, [], ◌∷◌, IfOk, IfErr, MatchResult, OnOk}
 use Rattle.xn_model.specs.declared.refusal.Refusal.{Refusal}
 use Rattle.std.proofs.lemmas.List.{nil_from_length}
 use Rattle.std.proofs.lemmas.Option.{none-some}

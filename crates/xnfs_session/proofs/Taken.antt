@@ -1,6 +1,5 @@
 -- A write takes at most the bytes that it is given.
-use Rattle.std.proofs.Common.{ℕ, ◌≤◌, List, length, Option, Result, Ok, Err, sym, subst}
-use Rattle.std.specs.Prelude.{IfOk}
+use Rattle.std.proofs.Common.{ℕ, ◌≤◌, List, length, Option, Result, Ok, Err, sym, subst, IfOk}
 use Rattle.xn_model.specs.Types.{Types}
 use Rattle.xn_model.specs.Lives.{StoreState}
 use Rattle.ffs_lookup.specs.declared.fault.FfsFault.{FfsFault}

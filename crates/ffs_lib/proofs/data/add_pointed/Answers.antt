@@ -1,11 +1,7 @@
 use Rattle.std.proofs.Common.{◌≡◌, ◌∙◌, ◌*◌, ◌+◌, ◌-◌, ◌<◌, ℕ, List, [], ◌∷◌, Some, ap, arith, subst, sym}
-use Rattle.xn_model.specs.Lists.{put}
-use Rattle.xn_model.specs.Calls.{init_of}
-use Rattle.ffs_model.specs.Cuts.{latest}
-use Rattle.ffs_model.specs.Library.{zero_block}
+use Rattle.ffs_lib.proofs.Words.{file_block, init_of, latest, put, zero_block}
 use Rattle.ffs_model.proofs.ForCallers.{data_begun}
 use Rattle.ffs_lookup.proofs.ForCallers.{gives_err}
-use Rattle.ffs_lookup.specs.Newest.{file_block}
 use Rattle.ffs_lib.specs.Edits.{edit_at}
 use Rattle.ffs_lib.specs.Steps.{Attached, Ends}
 use Rattle.ffs_lib.specs.WriteOrder.{data_action, pointed_edit}
@@ -20,19 +16,15 @@ use Rattle.ffs_lib.proofs.data.add_pointed.Goals as goal
 pub returns-in_err-block-clause-ends : goal.returns-in_err-block-clause-ends
 returns-in_err-block-clause-ends g c = λ T array n inode e s is points there long none given.
     let old = g.S.Store.state_of c.args.store.now in
-    let new = g.S.Store.state_of c.init.new.self in
-    let fs = c.args.fs.number in
     let index = c.args.index in
-    let far = c.requires.far in
-    let bytes = put zero_block c.args.at c.args.bytes.now in
-    let gave = begins_err (g.S.Store.types_of c.args.store.now) T fs 2 _ bytes old new c.in_err-block.field-0.0 e c.block_with.ensures c.in_err-block.ensures.state in
-    let same = gives_err (init_of T old fs 2 bytes) old new _ gave in
-    let told = told_by (init_of T old fs 2 bytes) old new _ gave in
-    let at : 12 + (index - 12) ≡ index = omega (arith, far) in
+    let gave = begins_err (g.S.Store.types_of c.args.store.now) T _ 2 _ _ old _ c.in_err-block.field-0.0 e c.block_with.ensures c.in_err-block.ensures.state in
+    let same = gives_err (init_of T old _ 2 _) old _ _ gave in
+    let told = told_by (init_of T old _ 2 _) old _ _ gave in
+    let at : 12 + (index - 12) ≡ index = omega (arith, c.requires.far) in
     let hole : file_block (latest old.lives) inode index ≡ 0 = ap (file_block (latest old.lives) inode) (sym at) ∙ (indirect_block (latest old.lives) inode c.args.pointers (index - 12) points there ∙ none) in
     fails _ _ (same_stage s same) c.from_residual.result _ c.from_residual.ensures.1 (
-      short_told (init_of T old fs 2 bytes) (data_begun T old s.keeps.consistent fs bytes (block_long c.args.at c.args.bytes.now c.requires.within)) _ told,
-      not_begun T fs old new n 2 bytes c.args.pointers (pointed_edit index c.args.after) _ (pointed_is (latest old.lives) fs n inode index c.args.pointers c.args.at c.args.bytes.now c.args.after is hole far points) same _ told,
+      short_told (init_of T old _ 2 _) (data_begun T old s.keeps.consistent _ _ (block_long c.args.at c.args.bytes.now c.requires.within)) _ told,
+      not_begun T _ old _ n 2 _ c.args.pointers (pointed_edit index c.args.after) _ (pointed_is (latest old.lives) _ n inode index c.args.pointers c.args.at c.args.bytes.now c.args.after is hole c.requires.far points) same _ told,
     )
 
 pub returns-clause-ends : goal.returns-clause-ends
@@ -41,17 +33,14 @@ returns-clause-ends g c = λ T array n inode e s is points there long none given
     let first = g.S.Store.state_of c.init.new.self in
     let new = g.S.Store.state_of c.attach.new.store in
     let fs = c.args.fs.number in
-    let index = c.args.index in
-    let far = c.requires.far in
-    let few = c.requires.few in
-    let place : ℕ = index - 12 in
+    let place : ℕ = c.args.index - 12 in
     let at = c.args.at in
     let bytes = c.args.bytes.now in
     let last = c.args.pointers in
     let block = c.in_ok-block.block in
     let number = c.in_ok-block.field-0-1 in
-    let low : place < 128 = omega (arith, far, few) in
-    let same : 12 + place ≡ index = omega (arith, far) in
+    let low : place < 128 = omega (arith, c.requires.far, c.requires.few) in
+    let same : 12 + place ≡ c.args.index = omega (arith, c.requires.far) in
     let done = begins_by (g.S.Store.types_of c.args.store.now) T fs 2 _ (put zero_block at bytes) zeroth first (block, number) e c.block_with.ensures c.in_ok-block.ensures.state in
     let types = c.init.ensures.types ∙ e in
     let put_done = subst (λ (b : List ℕ). Attached T fs block last (edit_at (4 * place) b ((block, 2) ∷ []) [] c.args.after) first new c.attach.result) c.pointer_bytes.ensures.bytes (c.attach.ensures.put T types) in

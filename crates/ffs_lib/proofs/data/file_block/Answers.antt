@@ -1,6 +1,5 @@
 use Rattle.std.proofs.Common.{◌-◌, sym, ◌∙◌, ap, arith}
-use Rattle.ffs_model.specs.Cuts.{latest, step}
-use Rattle.ffs_model.specs.Library.{library_layout, pointer_word}
+use Rattle.ffs_lib.proofs.Words.{latest, library_layout, pointer_word, step}
 use Rattle.ffs_model.proofs.ForCallers.{data_owned, library_reads, under_direct}
 use Rattle.ffs_lib.proofs.Edited.{pointers_reached}
 use Rattle.ffs_lookup.proofs.ForCallers.{found_has, not_ok}
@@ -8,13 +7,11 @@ use Rattle.ffs_lib.proofs.data.file_block.Goals as goal
 
 pub returns-then-index-lt-DIRECT_POINTERS-clause-reached : goal.returns-then-index-lt-DIRECT_POINTERS-clause-reached
 returns-then-index-lt-DIRECT_POINTERS-clause-reached g c = λ lib there.
-    let T = g.S.Store.types_of c.args.store.now in
     let state = g.S.Store.state_of c.args.store.now in
-    let fs = c.args.fs.number in
     let file = c.args.file.now in
     let is = c.requires.file.is in
-    under_direct T library_layout (library_reads T lib) (latest state.lives) fs _ file.block file.place c.direct.result is.stands.inodes
-    (found_has state fs c.args.number file is c.args.index c.direct.result c.if-index-lt-DIRECT_POINTERS.true (sym c.direct.ensures) there)
+    under_direct _ library_layout (library_reads _ lib) (latest state.lives) c.args.fs.number _ file.block file.place c.direct.result is.stands.inodes
+    (found_has state c.args.fs.number c.args.number file is c.args.index c.direct.result c.if-index-lt-DIRECT_POINTERS.true (sym c.direct.ensures) there)
 
 pub returns-in_err-read_block-clause-exact : goal.returns-in_err-read_block-clause-exact
 returns-in_err-read_block-clause-exact g c = λ lib.
@@ -24,10 +21,6 @@ returns-in_err-read_block-clause-exact g c = λ lib.
 
 pub returns-clause-reached : goal.returns-clause-reached
 returns-clause-reached g c = λ lib there.
-    let T = g.S.Store.types_of c.args.store.now in
-    let state = g.S.Store.state_of c.args.store.now in
-    let indirect = c.indirect-indirect.result in
-    let few = c.requires.few in
-    step {b = indirect} {t = 5} (pointers_reached T lib state c.args.fs.number c.args.number c.args.file.now c.requires.file.is indirect (sym c.indirect-indirect.ensures) c.if-indirect-eq0.false)
-    (data_owned T lib (latest state.lives indirect) (c.args.index - 12) c.pointer.result (omega arith)
+    step {b = c.indirect-indirect.result} {t = 5} (pointers_reached _ lib _ c.args.fs.number c.args.number c.args.file.now c.requires.file.is _ (sym c.indirect-indirect.ensures) c.if-indirect-eq0.false)
+    (data_owned _ lib (latest (g.S.Store.state_of c.args.store.now).lives _) (c.args.index - 12) c.pointer.result (omega arith)
     (ap (λ m. pointer_word m (c.args.index - 12)) c.in_ok-read_block.ensures.bytes ∙ sym c.pointer.ensures) there)

@@ -1,12 +1,10 @@
 use Rattle.std.proofs.Common.{◌≡◌, ◌∙◌, ℕ, List, ap, inr, length, subst, sym}
-use Rattle.xn_model.specs.Root.{word_at}
-use Rattle.ffs_model.specs.Cuts.{latest}
-use Rattle.ffs_model.specs.Library.{IsLibrary}
+use Rattle.ffs_lib.proofs.Words.{IsLibrary, latest, word_at}
 use Rattle.ffs_lookup.proofs.ForCallers.{same_ok}
 use Rattle.ffs_lib.specs.Orders.{Action, act_of}
+use Rattle.ffs_lib.proofs.Tests.{never}
 use Rattle.ffs_lib.proofs.Actions.{pointers_none}
 use Rattle.ffs_lib.proofs.DataLaws.{points_there}
-use Rattle.ffs_lib.proofs.Tops.{never}
 use Rattle.ffs_lib.proofs.Waiting.{waits_same}
 use Rattle.ffs_lib.proofs.data.pointers_of.Goals as goal
 
@@ -21,12 +19,11 @@ returns-then-indirect-ne0-clause-ends g c = λ T array inode index far e s is lo
     let block = c.indirect-indirect.result in
     let same : word_at inode 56 ≡ block = ap (λ (m : List ℕ). word_at m 56) (same_ok inode c.in_ok-find_file.field-0.inode (is ∙ sym exact)) ∙ sym c.indirect-indirect.ensures in
     let there = c.if-indirect-ne0.true in
-    let n = c.args.number in
     let fs = c.args.fs.number in (
       s,
       (
-        (points_there old fs n inode block is same there (ap (λ b. length (latest old.lives b)) (sym same) ∙ long (λ z. there (sym same ∙ z))), λ last z. waits_same fs n old last),
-        ap (λ (a : Action). act_of T fs a old) (sym (pointers_none (latest old.lives) fs n inode index c.args.after is (inr (λ z. there (sym same ∙ z))))),
+        (points_there old fs _ inode block is same there (ap (λ b. length (latest old.lives b)) (sym same) ∙ long (λ z. there (sym same ∙ z))), λ last z. waits_same fs _ old last),
+        ap (λ (a : Action). act_of T fs a old) (sym (pointers_none (latest old.lives) fs _ inode index c.args.after is (inr (λ z. there (sym same ∙ z))))),
       ),
     )
 

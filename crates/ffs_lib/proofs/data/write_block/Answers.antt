@@ -1,14 +1,11 @@
 use Rattle.std.proofs.Common.{◌≡◌, ◌∙◌, ℕ, List, Err, Ok, ap, refl, length, subst, sym}
-use Rattle.xn_model.specs.Root.{word_at}
-use Rattle.ffs_model.specs.Cuts.{latest}
-use Rattle.ffs_model.specs.Library.{IsLibrary}
-use Rattle.ffs_lookup.specs.Newest.{file_block}
+use Rattle.ffs_lib.proofs.Words.{IsLibrary, file_block, latest, word_at}
 use Rattle.ffs_lookup.proofs.ForCallers.{not_ok, same_ok}
 use Rattle.ffs_lib.specs.WriteOrder.{data_parts}
 use Rattle.ffs_lib.specs.Writes.{PutsParts}
+use Rattle.ffs_lib.proofs.Tests.{never}
 use Rattle.ffs_lib.proofs.DataLaws.{there_data}
 use Rattle.ffs_lib.proofs.Laws.{fails}
-use Rattle.ffs_lib.proofs.Tops.{never}
 use Rattle.ffs_lib.proofs.data.write_block.Goals as goal
 
 pub returns-in_err-file-clause-ends : goal.returns-in_err-file-clause-ends
@@ -40,16 +37,8 @@ returns-in_err-edit-clause-ends g c = λ T array inode e s is given.
 
 pub returns-clause-ends : goal.returns-clause-ends
 returns-clause-ends g c = λ T array inode e s is given.
-    let old = g.S.Store.state_of c.args.store.now in
-    let new = g.S.Store.state_of c.put.new.store in
-    let fs = c.args.fs.number in
-    let n = c.args.number in
-    let index = c.args.index in
-    let at = c.args.at in
-    let bytes = c.args.bytes.now in
-    let last = c.args.last in
     let long = ap length c.in_ok-read_block.ensures.bytes ∙ c.in_ok-read_block.ensures.whole in
     let exact = c.in_ok-file.ensures.exact (subst IsLibrary (sym e) s.library) in
-    let x = there_data T fs array old s n c.in_ok-file.file c.in_ok-file.ensures.found exact index c.in_ok-block.block at bytes c.requires.few (sym c.in_ok-block.ensures.block)
-    c.if-block-eq0.false long c.requires.within last.edit last refl c.requires.some given.0 new (Ok c.in_ok-edit.edit) (c.in_ok-edit.ensures.put T e) in
-    (x.0, subst (PutsParts T fs (data_parts fs n index at bytes last.edit) old new n index at bytes last) (sym c.next_after.ensures) x.1)
+    let x = there_data T _ array _ s _ c.in_ok-file.file c.in_ok-file.ensures.found exact _ c.in_ok-block.block _ _ c.requires.few (sym c.in_ok-block.ensures.block)
+    c.if-block-eq0.false long c.requires.within c.args.last.edit _ refl c.requires.some given.0 _ (Ok c.in_ok-edit.edit) (c.in_ok-edit.ensures.put T e) in
+    (x.0, subst (PutsParts T _ (data_parts _ _ _ _ _ c.args.last.edit) _ _ _ _ _ _ _) (sym c.next_after.ensures) x.1)

@@ -10,12 +10,6 @@ loop-progress-init g c = record {
   parts = λ T array e s ok. parts_none T c.args.fs.number array (g.S.Store.state_of c.args.store.now) c.args.number c.args.end c.args.offset c.args.bytes.now s;
 }
 
-pub write_part-progress-requires-clause-none : goal.write_part-progress-requires-clause-none
-write_part-progress-requires-clause-none g c = c.loop-progress.invariant.none
-
-pub returns-then-is_some-clause-types : goal.returns-then-is_some-clause-types
-returns-then-is_some-clause-types g c = c.write_part-progress.ensures.types ∙ c.loop-progress.invariant.types
-
 pub returns-then-is_some-clause-parts : goal.returns-then-is_some-clause-parts
 returns-then-is_some-clause-parts g c = λ T array e s ok.
     let inv = c.loop-progress.invariant in
@@ -31,20 +25,7 @@ loop-progress-preserved g c =
       parts = λ T array e s ok. c.write_part-progress.ensures.parts T array (g.S.Store.state_of c.args.store.now) (inv.types ∙ e) ok (inv.parts T array e s ok);
     }
 
-pub returns-clause-types : goal.returns-clause-types
-returns-clause-types g c = c.loop-progress.invariant.types
-
-pub returns-clause-few : goal.returns-clause-few
-returns-clause-few g c = c.loop-progress.invariant.few
-
-pub returns-clause-whole : goal.returns-clause-whole
-returns-clause-whole g c = λ none. let few = c.loop-progress.invariant.few in omega (arith, few)
-
-pub returns-clause-parts : goal.returns-clause-parts
-returns-clause-parts g c = c.loop-progress.invariant.parts
-
 pub loop-progress-smaller : goal.loop-progress-smaller
 loop-progress-smaller g c =
     let more = c.write_part-progress.ensures.falls (none_left c.write_part-progress.result.fault c.is_some.result c.if-is_some.false c.is_some.ensures) in
-    let few = c.write_part-progress.ensures.few in
-    omega (arith, more, few)
+    omega (arith, more, c.write_part-progress.ensures.few)

@@ -1,20 +1,15 @@
 use Rattle.std.proofs.Common.{ap, ◌∙◌, length, refl, subst, sym}
-use Rattle.std.proofs.lemmas.Result.{err_from_is_err_and}
-use Rattle.xn_model.specs.Calls.{propose_of}
+use Rattle.ffs_lib.proofs.Words.{err_from_is_err_and}
 use Rattle.ffs_lib.specs.Edits.{data_of_pointers}
-use Rattle.ffs_lib.specs.Steps.{Dropped, Tells, clearing}
+use Rattle.ffs_lib.specs.Steps.{Dropped, Tells}
 use Rattle.ffs_lib.proofs.Laws.{dropped_put, no_memory, some_items}
 use Rattle.ffs_lib.proofs.put.drop_data.Goals as goal
 
 pub returns-in_err-dropped-clause-put : goal.returns-in_err-dropped-clause-put
 returns-in_err-dropped-clause-put g c = λ T e under.
-    let old = g.S.Store.state_of c.args.store.now in
-    let fs = c.args.fs.number in
-    let block = c.args.block in
-    let r = propose_of T old fs block (clearing old block c.args.after) in
     let p = err_from_is_err_and c.from_residual-in_err-dropped.result c.from_residual-in_err-dropped.ensures.1 in
-    subst (Dropped T fs block c.args.after old old) (sym p.1)
-    (refl, c.if-block-eq0.false, ap length c.in_ok-read_block.ensures.bytes ∙ c.in_ok-read_block.ensures.whole, subst (Tells r) (sym p.2) (no_memory r))
+    subst (Dropped T c.args.fs.number _ c.args.after _ _) (sym p.1)
+    (refl, c.if-block-eq0.false, ap length c.in_ok-read_block.ensures.bytes ∙ c.in_ok-read_block.ensures.whole, subst (Tells _) (sym p.2) (no_memory _))
 
 pub returns-clause-put : goal.returns-clause-put
 returns-clause-put g c = λ T e under.

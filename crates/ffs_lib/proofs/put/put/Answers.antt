@@ -1,5 +1,5 @@
 use Rattle.std.proofs.Common.{subst}
-use Rattle.xn_model.specs.Types.{Types}
+use Rattle.ffs_lib.proofs.Words.{Types}
 use Rattle.ffs_lib.specs.Edits.{edit_at}
 use Rattle.ffs_lib.specs.Steps.{Proposed}
 use Rattle.ffs_lib.proofs.Laws.{refused_put}
@@ -8,7 +8,6 @@ use Rattle.ffs_lib.proofs.put.put.Goals as goal
 pub returns-in_err-propose-clause-put : goal.returns-in_err-propose-clause-put
 returns-in_err-propose-clause-put g c = λ T e.
     let old = g.S.Store.state_of c.args.store.now in
-    let new = g.S.Store.state_of c.propose.new.self in
     let edit = edit_at c.args.offset c.args.bytes.now c.args.adds.now c.args.drops.now c.args.after in
-    subst (λ (t : Types). Proposed t c.args.fs.number c.args.block edit old new c.from_residual-in_err-propose.result) e
-    (refused_put (g.S.Store.types_of c.args.store.now) c.args.fs.number c.args.block _ edit c.in_ok-edit.ensures old new c.in_err-propose.field-0.0 c.from_residual-in_err-propose.result c.in_err-propose.ensures.state c.from_residual-in_err-propose.ensures.1)
+    subst (λ (t : Types). Proposed t c.args.fs.number c.args.block edit old (g.S.Store.state_of c.propose.new.self) c.from_residual-in_err-propose.result) e
+    (refused_put (g.S.Store.types_of c.args.store.now) c.args.fs.number c.args.block _ edit c.in_ok-edit.ensures old _ c.in_err-propose.field-0.0 c.from_residual-in_err-propose.result c.in_err-propose.ensures.state c.from_residual-in_err-propose.ensures.1)

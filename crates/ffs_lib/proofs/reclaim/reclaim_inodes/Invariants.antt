@@ -1,9 +1,5 @@
 use Rattle.std.proofs.Common.{◌≡◌, ℕ, Ok, Option}
-use Rattle.std.specs.List.{range_with_len}
-use Rattle.xn_model.specs.Types.{Types}
-use Rattle.xn_model.specs.Calls.{pending_of}
-use Rattle.ffs_model.specs.Cuts.{latest}
-use Rattle.ffs_lookup.specs.FileValues.{files_of}
+use Rattle.ffs_lib.proofs.Words.{Types, files_of, latest, pending_of, range_with_len}
 use Rattle.ffs_lib.specs.Orders.{made_by}
 use Rattle.ffs_lib.specs.RepairOrder.{repair_parts}
 use Rattle.ffs_lib.specs.Steps.{Stage}

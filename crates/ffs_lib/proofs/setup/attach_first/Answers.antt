@@ -1,7 +1,5 @@
 use Rattle.std.proofs.Common.{◌≡◌, ◌∙◌, ℕ, inl}
-use Rattle.ffs_model.specs.Cuts.{latest}
-use Rattle.ffs_lookup.specs.Files.{empty_volume}
-use Rattle.ffs_lookup.specs.FileValues.{files_of}
+use Rattle.ffs_lib.proofs.Words.{empty_volume, files_of, latest}
 use Rattle.ffs_lib.specs.Making.{StopsFirst}
 use Rattle.ffs_lib.proofs.Laws.{fails}
 use Rattle.ffs_lib.proofs.Making.{attached}
@@ -10,11 +8,9 @@ use Rattle.ffs_lib.proofs.setup.attach_first.Goals as goal
 
 pub returns-in_err-prepare_root-clause-ends : goal.returns-in_err-prepare_root-clause-ends
 returns-in_err-prepare_root-clause-ends g c = λ T e s found b.
-    let fs = c.args.fs.number in
-    let old = g.S.Store.state_of c.args.store.now in
     let new = g.S.Store.state_of c.prepare_root.new.store in
     let h = c.in_err-prepare_root.ensures.ends T c.args.block e s found b in
-    fails (λ x. (n : ℕ) → files_of (latest new.lives) fs n ≡ empty_volume n) (StopsFirst T fs (λ s. s) c.args.block old new) h.0 c.from_residual.result _ c.from_residual.ensures.1 (h.1.0, inl h.1.1)
+    fails (λ x. (n : ℕ) → files_of (latest new.lives) _ n ≡ empty_volume n) (StopsFirst T _ (λ s. s) c.args.block _ new) h.0 c.from_residual.result _ c.from_residual.ensures.1 (h.1.0, inl h.1.1)
 
 pub returns-clause-ends : goal.returns-clause-ends
 returns-clause-ends g c = λ T e s found b.

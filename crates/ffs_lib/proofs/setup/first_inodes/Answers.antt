@@ -1,10 +1,6 @@
-use Rattle.std.proofs.Common.{List, ℕ, length, ap, ◌∙◌, subst}
-use Rattle.std.specs.Prelude.{Contains}
-use Rattle.std.specs.Int.{w16, to_le_bytes}
-use Rattle.xn_model.specs.Lists.{put}
-use Rattle.ffs_model.specs.Library.{inode_blocks, library_layout, zero_block}
+use Rattle.std.proofs.Common.{List, ℕ, length, ap, ◌∙◌, subst, Contains}
+use Rattle.ffs_lib.proofs.Words.{Fields, inode_blocks, library_layout}
 use Rattle.ffs_model.proofs.ForCallers.{one_inode}
-use Rattle.ffs_format.specs.Fields.{Fields}
 use Rattle.ffs_lib.proofs.Fields.{free_blocks, same_blocks}
 use Rattle.ffs_lib.proofs.setup.first_inodes.Goals as goal
 
@@ -16,8 +12,3 @@ returns-clause-bare c = λ p block h.
     one_inode c.bytes.result.now (ap length is ∙ c.bytes.ensures.whole)
     (ap inode_blocks is ∙ (same_blocks c.free-inode.result c.set_links.new.self (ap (λ (f : Fields). f.direct) one ∙ ap (λ (f : Fields). f.direct) two) ∙ (ap inode_blocks c.free-inode.ensures ∙ free_blocks)))
     p block (subst (λ (m : List ℕ). Contains (library_layout.direct m p) block) c.block_with.ensures h)
-
-pub returns-clause-exact : goal.returns-clause-exact
-returns-clause-exact c =
-    c.block_with.ensures ∙ ap (λ (b : List ℕ). put zero_block 0 b)
-    (c.bytes.ensures.bytes ∙ (c.set_links.ensures.bytes ∙ ap (λ (b : List ℕ). put b 2 (to_le_bytes w16 1)) (c.set_mode.ensures.bytes ∙ ap (λ (b : List ℕ). put b 0 (to_le_bytes w16 2)) c.free-inode.ensures)))

@@ -8,37 +8,31 @@ returns-in_default g c = no_root_yet (g.S.Store.state_of c.args.store.now) c.arg
 
 pub returns-in_err-kind : goal.returns-in_err-kind
 returns-in_err-kind g c =
-    let store = c.args.store.now in
-    absurd (kind_told (g.S.Store.types_of store) (g.S.Store.state_of store) c.root.ensures.rules c.args.fs.number c.args.fs.few c.in-Some.root c.in-Some.ensures.block _ c.in_err-kind.ensures.kind)
+    absurd (kind_told (g.S.Store.types_of _) (g.S.Store.state_of _) c.root.ensures.rules c.args.fs.number c.args.fs.few c.in-Some.root c.in-Some.ensures.block _ c.in_err-kind.ensures.kind)
 
 pub returns-then-branch-ne-ROOT : goal.returns-then-branch-ne-ROOT
 returns-then-branch-ne-ROOT g c =
-    let store = c.args.store.now in
-    root_taken (g.S.Store.types_of store) (g.S.Store.state_of store) c.root.ensures.rules c.args.fs.number c.args.fs.few c.in-Some.root c.in-Some.ensures.block _ c.in_ok-kind.ensures.kind c.if-branch-ne-ROOT.true
+    root_taken (g.S.Store.types_of _) (g.S.Store.state_of _) c.root.ensures.rules c.args.fs.number c.args.fs.few c.in-Some.root c.in-Some.ensures.block _ c.in_ok-kind.ensures.kind c.if-branch-ne-ROOT.true
 
 pub returns-in_err-bytes : goal.returns-in_err-bytes
 returns-in_err-bytes g c =
-    let store = c.args.store.now in
     absurd (not_ok (c.in_err-bytes.ensures.reached _
-    (root_reached (g.S.Store.types_of store) (g.S.Store.state_of store) c.root.ensures.rules c.args.fs.number c.args.fs.few c.in-Some.root c.in-Some.ensures.block _ c.in_ok-kind.ensures.kind)))
+    (root_reached (g.S.Store.types_of _) (g.S.Store.state_of _) c.root.ensures.rules c.args.fs.number c.args.fs.few c.in-Some.root c.in-Some.ensures.block _ c.in_ok-kind.ensures.kind)))
 
 pub returns-then-pointer-ne0 : goal.returns-then-pointer-ne0
 returns-then-pointer-ne0 g c =
-    let store = c.args.store.now in
     has_inodes c.in_ok-bytes.bytes.now (λ e. c.if-pointer-ne0.true (c.pointer.ensures ∙ e))
-    ∙ root_bare (g.S.Store.types_of store) (g.S.Store.state_of store) c.root.ensures.rules c.args.fs.number c.args.fs.few c.in-Some.root c.in-Some.ensures.block _ c.in_ok-bytes.bytes.now
+    ∙ root_bare (g.S.Store.types_of _) (g.S.Store.state_of _) c.root.ensures.rules c.args.fs.number c.args.fs.few c.in-Some.root c.in-Some.ensures.block _ c.in_ok-bytes.bytes.now
     c.in_ok-kind.ensures.kind c.if-branch-ne-ROOT.false c.in_ok-bytes.ensures.bytes
 
 pub returns-then-has_pointer : goal.returns-then-has_pointer
 returns-then-has_pointer g c =
-    let store = c.args.store.now in
     has_others c.in_ok-bytes.bytes.now (sym c.pointer.ensures ∙ c.if-pointer-ne0.false) (sym c.has_pointer.ensures ∙ c.if-has_pointer.true)
-    ∙ root_bare (g.S.Store.types_of store) (g.S.Store.state_of store) c.root.ensures.rules c.args.fs.number c.args.fs.few c.in-Some.root c.in-Some.ensures.block _ c.in_ok-bytes.bytes.now
+    ∙ root_bare (g.S.Store.types_of _) (g.S.Store.state_of _) c.root.ensures.rules c.args.fs.number c.args.fs.few c.in-Some.root c.in-Some.ensures.block _ c.in_ok-bytes.bytes.now
     c.in_ok-kind.ensures.kind c.if-branch-ne-ROOT.false c.in_ok-bytes.ensures.bytes
 
 pub returns : goal.returns
 returns g c =
-    let store = c.args.store.now in
     has_none c.in_ok-bytes.bytes.now (sym c.pointer.ensures ∙ c.if-pointer-ne0.false) (sym c.has_pointer.ensures ∙ c.if-has_pointer.false)
-    ∙ root_bare (g.S.Store.types_of store) (g.S.Store.state_of store) c.root.ensures.rules c.args.fs.number c.args.fs.few c.in-Some.root c.in-Some.ensures.block _ c.in_ok-bytes.bytes.now
+    ∙ root_bare (g.S.Store.types_of _) (g.S.Store.state_of _) c.root.ensures.rules c.args.fs.number c.args.fs.few c.in-Some.root c.in-Some.ensures.block _ c.in_ok-bytes.bytes.now
     c.in_ok-kind.ensures.kind c.if-branch-ne-ROOT.false c.in_ok-bytes.ensures.bytes

@@ -1,8 +1,6 @@
-use Rattle.std.proofs.Common.{◌≡◌, ◌∙◌, refl, subst}
-use Rattle.xn_model.specs.Types.{Types}
-use Rattle.ffs_model.specs.Library.{zero_block}
+use Rattle.std.proofs.Common.{◌≡◌, ◌∙◌, refl, subst, OnErr}
+use Rattle.ffs_lib.proofs.Words.{Types, zero_block}
 use Rattle.ffs_lib.specs.Making.{without_block}
-use Rattle.std.specs.Prelude.{OnErr}
 use Rattle.ffs_lib.proofs.Laws.{begins_by}
 use Rattle.ffs_lib.proofs.Making.{root_follows, root_refused}
 use Rattle.ffs_lib.proofs.setup.make_root.Goals as goal
@@ -13,13 +11,9 @@ returns-in_err-block-clause-rooted g c = λ T e.
 
 pub returns-clause-rooted : goal.returns-clause-rooted
 returns-clause-rooted g c = λ T e.
-    let fs = c.args.fs.number in
-    let old = g.S.Store.state_of c.args.store.now in
-    let first = g.S.Store.state_of c.init.new.self in
     let second = g.S.Store.state_of c.set_root-made.new.store in
     let third = g.S.Store.state_of c.forgotten.new.store in
-    let block = c.in_ok-block.block in
-    root_follows T fs old first second third block c.in_ok-block.field-0-1
-    (begins_by (g.S.Store.types_of c.args.store.now) T fs 3 zero_block zero_block old first (block, c.in_ok-block.field-0-1) e refl c.in_ok-block.ensures.state)
+    root_follows T c.args.fs.number (g.S.Store.state_of c.args.store.now) _ second third _ c.in_ok-block.field-0-1
+    (begins_by (g.S.Store.types_of c.args.store.now) T _ 3 zero_block zero_block (g.S.Store.state_of c.args.store.now) _ (c.in_ok-block.block, c.in_ok-block.field-0-1) e refl c.in_ok-block.ensures.state)
     c.set_root-made.result c.forgotten.result c.set_root-made.ensures.set c.forgotten.ensures.same c.forgotten.ensures.ok
-    (subst (λ (t : Types). OnErr c.forgotten.result (third ≡ without_block t fs block second)) (c.set_root-made.ensures.types ∙ (c.init.ensures.types ∙ e)) c.forgotten.ensures.forgotten)
+    (subst (λ (t : Types). OnErr c.forgotten.result (third ≡ without_block t c.args.fs.number c.in_ok-block.block second)) (c.set_root-made.ensures.types ∙ (c.init.ensures.types ∙ e)) c.forgotten.ensures.forgotten)

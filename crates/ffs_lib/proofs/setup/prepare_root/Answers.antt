@@ -1,7 +1,5 @@
 use Rattle.std.proofs.Common.{◌≡◌, ◌∙◌, Bool, Err, Ok, ap, sym, true, false}
-use Rattle.ffs_model.specs.Cuts.{latest}
-use Rattle.ffs_lookup.specs.Newest.{make_in}
-use Rattle.xn_model.specs.Calls.{slot_now}
+use Rattle.ffs_lib.proofs.Words.{latest, make_in, slot_now}
 use Rattle.ffs_lib.specs.Making.{IsBegun, StopsRooting, with_root}
 use Rattle.ffs_lib.proofs.Laws.{fails}
 use Rattle.ffs_lib.proofs.Making.{prepared, prepared_by}
@@ -26,10 +24,8 @@ returns-in_err-make_root-clause-ends g c = λ T block e s found b.
 
 pub returns-clause-ends : goal.returns-clause-ends
 returns-clause-ends g c = λ T block e s found b.
-    let fs = c.args.fs.number in
-    let old = g.S.Store.state_of c.args.store.now in
-    let none : Ok false ≡ make_in (latest old.lives) fs = ap (λ (t : Bool). Ok t) (sym c.if-begun.false) ∙ found in
-    prepared T fs old s none block b (g.S.Store.state_of c.make_root.new.store) (Ok c.in_ok-make_root.field-0) (c.in_ok-make_root.ensures.rooted T e)
+    let none : Ok false ≡ make_in (latest (g.S.Store.state_of c.args.store.now).lives) c.args.fs.number = ap (λ (t : Bool). Ok t) (sym c.if-begun.false) ∙ found in
+    prepared T _ _ s none block b (g.S.Store.state_of c.make_root.new.store) (Ok c.in_ok-make_root.field-0) (c.in_ok-make_root.ensures.rooted T e)
 
 pub returns-then-begun-clause-order : goal.returns-then-begun-clause-order
 returns-then-begun-clause-order g c = λ T e s found.

@@ -1,7 +1,6 @@
 use Rattle.std.proofs.Common.{◌≡◌}
-use Rattle.xn_model.specs.Lists.{blocks_of}
+use Rattle.ffs_lib.proofs.Words.{blocks_of, direct_in}
 use Rattle.ffs_model.specs.Library.{pointed}
-use Rattle.ffs_format.specs.Fields.{direct_in}
 use Rattle.ffs_lib.proofs.steps.blocks_of.Given as goal
 
 abbrev pub invariant-loop-i : goal.invariant-loop-i

@@ -1,5 +1,5 @@
 use Rattle.std.proofs.Common.{◌+◌, ◌∙◌, List, ℕ, ap, arith, length, refl, sym}
-use Rattle.ffs_format.specs.Fields.{direct_in}
+use Rattle.ffs_lib.proofs.Words.{direct_in}
 use Rattle.ffs_lib.proofs.Dropping.{counted_more, words_past}
 use Rattle.ffs_lib.proofs.steps.count_blocks.Goals.{then-direct-ne0, else-direct-ne0}
 use Rattle.ffs_lib.proofs.steps.count_blocks.Goals as goal
@@ -7,16 +7,12 @@ use Rattle.ffs_lib.proofs.steps.count_blocks.Goals as goal
 pub loop-i-preserved : goal.loop-i-preserved
 loop-i-preserved c =
     let word = direct_in c.args.inode.now in
-    let k = c.loop-i.i in
     let low = c.loop-i.invariant.0 in
     let inv = c.loop-i.invariant.1 in
-    let is = c.direct.ensures in
     elim c.if-direct-ne0.branch [
       | then-direct-ne0 w ↦
-          let up = w.count-is in
-          let more = counted_more word 2 k (k + 1) refl (λ z. w.if-direct-ne0.true (is ∙ z)) in
-          (omega (arith, up, low), omega (arith, up, inv, more))
+          let more = counted_more word 2 _ (c.loop-i.i + 1) refl (λ z. w.if-direct-ne0.true (c.direct.ensures ∙ z)) in
+          (omega (arith, w.count-is, low), omega (arith, w.count-is, inv, more))
       | else-direct-ne0 w ↦
-          let up = w.count-is in
-          (omega (arith, up, low), up ∙ (inv ∙ ap (λ (bs : List ℕ). length bs) (sym (words_past word 2 k (k + 1) refl (sym is ∙ w.if-direct-ne0.false)))))
+          (omega (arith, w.count-is, low), w.count-is ∙ (inv ∙ ap (λ (bs : List ℕ). length bs) (sym (words_past word 2 _ (c.loop-i.i + 1) refl (sym c.direct.ensures ∙ w.if-direct-ne0.false)))))
     ]

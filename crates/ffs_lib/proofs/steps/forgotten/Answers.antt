@@ -1,4 +1,4 @@
-use Rattle.xn_model.specs.Calls.{forget_of}
+use Rattle.ffs_lib.proofs.Words.{forget_of}
 use Rattle.ffs_lib.proofs.Kept.{forgets, on_err}
 use Rattle.ffs_lib.proofs.Laws.{exactly_left}
 use Rattle.ffs_lib.proofs.steps.forgotten.Goals as goal
@@ -9,5 +9,4 @@ returns-then-is_err-clause-keeps g c =
 
 pub returns-then-is_err-clause-forgotten : goal.returns-then-is_err-clause-forgotten
 returns-then-is_err-clause-forgotten g c =
-    let old = g.S.Store.state_of c.args.store.now in
-    on_err c.args.attached (exactly_left (forget_of (g.S.Store.types_of c.args.store.now) old c.args.fs.number c.args.block) old (g.S.Store.state_of c.forget.new.self) c.forget.result c.forget.ensures.state)
+    on_err c.args.attached (exactly_left (forget_of (g.S.Store.types_of c.args.store.now) _ c.args.fs.number c.args.block) _ (g.S.Store.state_of c.forget.new.self) c.forget.result c.forget.ensures.state)

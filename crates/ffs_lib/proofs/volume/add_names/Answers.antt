@@ -1,8 +1,5 @@
 use Rattle.std.proofs.Common.{◌≡◌, ℕ, ◌+◌, ◌++◌, ◌∙◌, List, [], ◌∷◌, ap, arith, map, refl, sym, append_assoc}
-use Rattle.std.specs.List.{range_with_len}
-use Rattle.std.proofs.lemmas.List.{map-append}
-use Rattle.std.proofs.lemmas.Result.{IfOk-from_err}
-use Rattle.ffs_lookup.specs.Newest.{names_at}
+use Rattle.ffs_lib.proofs.Words.{IfOk-from_err, map-append, names_at, range_with_len}
 use Rattle.ffs_lookup.proofs.ForCallers.{place_more, place_past}
 use Rattle.ffs_lib.proofs.volume.add_names.Goals as goal
 
@@ -16,7 +13,6 @@ loop-place-preserved-then-inode-eq0 c =
 
 pub loop-place-preserved : goal.loop-place-preserved
 loop-place-preserved c =
-    let old = c.args.names.now.items in
     let name = c.in_ok-name.name in
     let inode = c.entry_inode-inode in
     let named : name.items ≡ c.entry_name.result.now = c.in_ok-name.ensures.items_if_clones_equal (λ x y e. e) in
@@ -24,8 +20,8 @@ loop-place-preserved c =
     ap (map (λ name. (name.0.items, name.1))) c.in_ok-push.ensures.items
     ∙ (map-append (λ name. (name.0.items, name.1)) c.loop-place.names.items ((name, inode.result) ∷ [])
     ∙ (ap (λ xs. xs ++ one) c.loop-place.invariant
-    ∙ (append_assoc (map (λ name. (name.0.items, name.1)) old) (names_at c.args.block.now (range_with_len 0 c.loop-place.place)) one
-    ∙ ap (λ xs. map (λ name. (name.0.items, name.1)) old ++ xs)
+    ∙ (append_assoc (map (λ name. (name.0.items, name.1)) c.args.names.now.items) (names_at c.args.block.now (range_with_len 0 c.loop-place.place)) one
+    ∙ ap (λ xs. map (λ name. (name.0.items, name.1)) c.args.names.now.items ++ xs)
     (place_more c.args.block.now c.loop-place.place (c.loop-place.place + 1) refl name.items inode.result (sym inode.ensures) c.if-inode-eq0.false (sym c.entry_name.ensures ∙ sym named)))))
 
 pub returns : goal.returns

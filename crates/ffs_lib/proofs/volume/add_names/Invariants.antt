@@ -1,6 +1,5 @@
 use Rattle.std.proofs.Common.{◌≡◌, ◌++◌, map}
-use Rattle.std.specs.List.{range_with_len}
-use Rattle.ffs_lookup.specs.Newest.{names_at}
+use Rattle.ffs_lib.proofs.Words.{names_at, range_with_len}
 use Rattle.ffs_lib.proofs.volume.add_names.Given as goal
 
 abbrev pub invariant-loop-place : goal.invariant-loop-place

@@ -6,15 +6,12 @@ use Rattle.ffs_lookup.proofs.counts.count_names.Goals as goal
 
 pub loop-at-preserved-in_default : goal.loop-at-preserved-in_default
 loop-at-preserved-in_default g c = λ lib.
-    let content = latest (g.S.Store.state_of c.args.store.now).lives in
-    subst (λ xs. AreCounts xs c.loop-at.counts) (sym (no_directory content c.args.fs.number c.loop-at.at (c.loop-at.at + 1) refl _ (c.in_default.ensures.exact lib))) (c.loop-at.invariant lib)
+    subst (λ xs. AreCounts xs c.loop-at.counts) (sym (no_directory _ c.args.fs.number c.loop-at.at (c.loop-at.at + 1) refl _ (c.in_default.ensures.exact lib))) (c.loop-at.invariant lib)
 
 pub loop-at-preserved : goal.loop-at-preserved
 loop-at-preserved g c = λ lib.
-    let content = latest (g.S.Store.state_of c.args.store.now).lives in
-    let fs = c.args.fs.number in
-    subst (λ xs. AreCounts xs c.add_directory.new.self) (sym (a_directory content fs c.loop-at.at (c.loop-at.at + 1) refl c.in-Ok.directory.inode (c.in-Ok.ensures.exact lib)))
-    (c.in_ok-add_directory.ensures.counts (numbers_below content fs c.loop-at.at) (c.loop-at.invariant lib))
+    subst (λ xs. AreCounts xs c.add_directory.new.self) (sym (a_directory _ c.args.fs.number c.loop-at.at (c.loop-at.at + 1) refl c.in-Ok.directory.inode (c.in-Ok.ensures.exact lib)))
+    (c.in_ok-add_directory.ensures.counts (numbers_below _ c.args.fs.number c.loop-at.at) (c.loop-at.invariant lib))
 
 pub returns-clause-counts : goal.returns-clause-counts
 returns-clause-counts g c = λ lib.

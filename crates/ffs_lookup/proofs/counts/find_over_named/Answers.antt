@@ -1,5 +1,4 @@
-use Rattle.std.proofs.Common.{◌≡◌, ◌+◌, ◌≤◌, ◌<◌, ℕ, ap, arith, inl, inr, subst, sym}
-use Rattle.std.specs.Prelude.{Ok, slice_index_or}
+use Rattle.std.proofs.Common.{◌≡◌, ◌+◌, ◌≤◌, ◌<◌, ℕ, ap, arith, inl, inr, subst, sym, Ok, slice_index_or}
 use Rattle.std.proofs.lemmas.Bool.{cases_lt}
 use Rattle.ffs_model.specs.Cuts.{latest}
 use Rattle.ffs_lookup.specs.Counts.{links_in}
@@ -8,9 +7,8 @@ use Rattle.ffs_lookup.proofs.counts.find_over_named.Goals as goal
 
 pub returns-then-counts-at : goal.returns-then-counts-at
 returns-then-counts-at g c = λ lib.
-    let content = latest (g.S.Store.state_of c.args.store.now).lives in
     let links = c.links_of.ensures lib in
-    ap Ok (sym (over_found content c.args.fs.number c.in_ok-counts.counts (c.in_ok-counts.ensures.counts lib) c.loop-at.at (omega arith) (c.loop-at.invariant lib) (omega (arith, links))))
+    ap Ok (sym (over_found _ c.args.fs.number c.in_ok-counts.counts (c.in_ok-counts.ensures.counts lib) c.loop-at.at (omega arith) (c.loop-at.invariant lib) (omega (arith, links))))
 
 pub loop-at-preserved : goal.loop-at-preserved
 loop-at-preserved g c = λ lib j lt.

@@ -1,5 +1,4 @@
-use Rattle.std.proofs.Common.{◌≡◌, ℕ, zero, suc, ◌+◌, arith}
-use Rattle.std.specs.Prelude.{Some, slice_get}
+use Rattle.std.proofs.Common.{◌≡◌, ℕ, zero, suc, ◌+◌, arith, Some, slice_get}
 use Rattle.xn_model.specs.Types.{Types}
 use Rattle.templates.specs.Tables.{HasTemplate}
 use Rattle.templates.specs.Templates.{TemplateValue}

@@ -12,10 +12,9 @@ use Rattle.ffs_lookup.proofs.places.find_free.Goals as goal
 
 pub returns-in-Some-clause-free : goal.returns-in-Some-clause-free
 returns-in-Some-clause-free g c =
-    let place = c.in-Some.ensures.free in
     free_is (g.S.Store.state_of c.args.store.now) c.args.fs.number c.in_ok-root.root c.loop-index.index c.in-Some.place c.pointer-block.result _
     c.in_ok-read_block.field-0.now c.in_ok-read_block-2.field-0.now c.in_ok-root.ensures.root c.in_ok-read_block.ensures.bytes (omega arith) (sym c.pointer-block.ensures) c.if-block-eq0.false
-    c.in_ok-read_block-2.ensures.bytes c.in_ok-read_block-2.ensures.whole place.0 place.1 refl
+    c.in_ok-read_block-2.ensures.bytes c.in_ok-read_block-2.ensures.whole c.in-Some.ensures.free.0 c.in-Some.ensures.free.1 refl
 
 pub returns-in-Some-clause-exact : goal.returns-in-Some-clause-exact
 returns-in-Some-clause-exact g c = λ lib top e.
@@ -29,10 +28,9 @@ pub returns-in-Some-clause-lowest : goal.returns-in-Some-clause-lowest
 returns-in-Some-clause-lowest g c = λ top e.
     let content = latest (g.S.Store.state_of c.args.store.now).lives in
     let same : c.in_ok-root.root ≡ top = same_ok c.in_ok-root.root top (c.in_ok-root.ensures.exact ∙ sym e) in
-    let bytes = c.in_ok-read_block-2.field-0.now in
     free_lowest content c.in_ok-root.root c.loop-index.index c.pointer-block.result c.in_ok-read_block.field-0.now c.in_ok-read_block.ensures.bytes c.pointer-block.ensures (omega arith) c.loop-index.invariant
-    (free_at_found content c.pointer-block.result bytes c.in_ok-read_block-2.ensures.bytes c.if-block-eq0.false c.in-Some.place c.in-Some.ensures.exact)
-    bytes c.in_ok-read_block-2.ensures.bytes c.in-Some.place c.in-Some.ensures.exact
+    (free_at_found content c.pointer-block.result _ c.in_ok-read_block-2.ensures.bytes c.if-block-eq0.false c.in-Some.place c.in-Some.ensures.exact)
+    _ c.in_ok-read_block-2.ensures.bytes c.in-Some.place c.in-Some.ensures.exact
     ∙ ap (number_in content) same
 
 pub returns-in_err-read_block-clause-exact : goal.returns-in_err-read_block-clause-exact

@@ -11,18 +11,16 @@ use Rattle.ffs_lookup.proofs.places.find_inode.Goals as goal
 pub returns-clause-found : goal.returns-clause-found
 returns-clause-found g c =
     let state = g.S.Store.state_of c.args.store.now in
-    let block = c.in_ok-block.block in
-    let bytes = c.in_ok-read_block.ensures.bytes in
     let at : c.home-index.result.1 ≡ (c.args.number - 1) % 8 = ap (λ (p : ℕ × ℕ). p.1) c.home-index.ensures in
     record {
       stands = record {
         some = c.if-number-eq0.false;
-        inodes = subst (λ i. IsInodes library_layout (latest state.lives) c.args.fs.number i block) (ap (λ (p : ℕ × ℕ). p.0) c.home-index.ensures) c.in_ok-block.ensures.inodes;
+        inodes = subst (λ i. IsInodes library_layout (latest state.lives) c.args.fs.number i c.in_ok-block.block) (ap (λ (p : ℕ × ℕ). p.0) c.home-index.ensures) c.in_ok-block.ensures.inodes;
         at = at;
         few = omega arith;
-        long = ap length bytes ∙ c.in_ok-read_block.ensures.whole;
+        long = ap length c.in_ok-read_block.ensures.bytes ∙ c.in_ok-read_block.ensures.whole;
       };
-      bytes = c.read-inode.ensures ∙ ap (λ m. inode_at m c.home-index.result.1) (sym bytes);
+      bytes = c.read-inode.ensures ∙ ap (λ m. inode_at m c.home-index.result.1) (sym c.in_ok-read_block.ensures.bytes);
       used = λ e. c.if-mode-eq0.false (c.mode.ensures ∙ e);
     }
 
@@ -39,9 +37,8 @@ returns-in_err-block-clause-exact g c = λ lib.
 
 pub returns-in_err-read_block-clause-exact : goal.returns-in_err-read_block-clause-exact
 returns-in_err-read_block-clause-exact g c = λ lib.
-    let T = g.S.Store.types_of c.args.store.now in
     absurd (not_ok (c.in_err-read_block.ensures.reached 4
-    (under_inodes T library_layout (library_reads T lib) (latest (g.S.Store.state_of c.args.store.now).lives) c.args.fs.number c.home-index.result.0 c.in_ok-block.block c.in_ok-block.ensures.inodes)))
+    (under_inodes _ library_layout (library_reads _ lib) (latest (g.S.Store.state_of c.args.store.now).lives) c.args.fs.number c.home-index.result.0 c.in_ok-block.block c.in_ok-block.ensures.inodes)))
 
 pub returns-then-mode-eq0-clause-exact : goal.returns-then-mode-eq0-clause-exact
 returns-then-mode-eq0-clause-exact g c = λ lib.

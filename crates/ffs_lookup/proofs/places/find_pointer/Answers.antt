@@ -1,5 +1,4 @@
-use Rattle.std.proofs.Common.{◌≡◌, ◌∙◌, ap, sym}
-use Rattle.std.specs.Prelude.{◌==◌, find}
+use Rattle.std.proofs.Common.{◌≡◌, ◌∙◌, ap, sym, ◌==◌, find}
 use Rattle.std.specs.List.{range_with_len}
 use Rattle.ffs_model.specs.Cuts.{latest, root}
 use Rattle.ffs_model.specs.Library.{pointer_word}

@@ -9,13 +9,11 @@ use Rattle.ffs_lookup.proofs.places.is_empty.Goals as goal
 
 pub returns-in_err-bytes : goal.returns-in_err-bytes
 returns-in_err-bytes g c = λ n lib dir.
-    let T = g.S.Store.types_of c.args.store.now in
     let state = g.S.Store.state_of c.args.store.now in
     let found = c.args.directory.now in
-    let stands = dir.is.stands in
     let block = c.direct-block in
     absurd (not_ok (c.in_err-bytes.ensures.reached 2
-    (under_direct T library_layout (library_reads T lib) (latest state.lives) c.args.fs.number _ found.block found.place block.result stands.inodes
+    (under_direct _ library_layout (library_reads _ lib) (latest state.lives) c.args.fs.number _ found.block found.place block.result dir.is.stands.inodes
     (found_has state c.args.fs.number n found dir.is c.loop-i.i block.result (omega arith) (sym block.ensures) c.if-block-eq0.false))))
 
 pub loop-i-preserved-then-block-eq0 : goal.loop-i-preserved-then-block-eq0

@@ -7,5 +7,4 @@ returns-clause-bytes g c = lent_latest (g.S.Store.state_of c.args.store.now) c.a
 
 pub returns-in_err-bytes-clause-reached : goal.returns-in_err-bytes-clause-reached
 returns-in_err-bytes-clause-reached g c = λ ty reached.
-    let store = c.args.store.now in
-    absurd (not_refused (g.S.Store.types_of store) (g.S.Store.state_of store) c.read.ensures.rules c.args.fs.number c.args.fs.few c.args.block ty reached _ c.in_err-bytes.ensures.bytes)
+    absurd (not_refused (g.S.Store.types_of _) (g.S.Store.state_of _) c.read.ensures.rules c.args.fs.number c.args.fs.few c.args.block ty reached _ c.in_err-bytes.ensures.bytes)

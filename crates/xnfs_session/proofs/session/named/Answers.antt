@@ -16,9 +16,6 @@ returns-then-not-is_name g c = λ lib.
 
 pub returns : goal.returns
 returns g c = λ lib.
-    let content = latest (g.S.Store.state_of c.args.store.now).lives in
-    let o = c.in_ok-find_entry.field-0 in
-    let inode = c.in_ok-found.found.inode in
     c.ok_or.ensures.value
-    ∙ named_is content c.args.fs.number c.args.directory c.args.name.now inode o (c.in_ok-found.ensures.exact lib) (sym c.if-not-is_name.ensures)
-    (same_ok o (first_named content inode c.args.name.now) (c.in_ok-find_entry.ensures.exact lib))
+    ∙ named_is _ c.args.fs.number c.args.directory c.args.name.now _ _ (c.in_ok-found.ensures.exact lib) (sym c.if-not-is_name.ensures)
+    (same_ok _ (first_named _ _ c.args.name.now) (c.in_ok-find_entry.ensures.exact lib))

@@ -1,12 +1,6 @@
 use Rattle.std.proofs.Common.{◌≡◌, ℕ, ◌+◌, ◌++◌, ◌∙◌, List, Ok, IsOk, ap, arith, inl, inr, is_ok, refl, sym}
-use Rattle.std.specs.List.{range_with_len}
-use Rattle.std.proofs.lemmas.Result.{err_from_is_err_and}
-use Rattle.ffs_model.specs.Cuts.{latest}
-use Rattle.ffs_model.specs.Library.{library_layout}
+use Rattle.ffs_lib.proofs.Words.{directory_in, err_from_is_err_and, files_of, latest, library_layout, listed, names_at, range_with_len}
 use Rattle.ffs_model.proofs.ForCallers.{library_reads, under_direct}
-use Rattle.ffs_lookup.specs.Newest.{directory_in, names_at}
-use Rattle.ffs_lookup.specs.Files.{listed}
-use Rattle.ffs_lookup.specs.FileValues.{files_of}
 use Rattle.ffs_lookup.proofs.ForCallers.{first_names, found_has, listed_told, names_are, names_more, names_past, no_names, not_ok}
 use Rattle.ffs_lib.proofs.volume.Volume.list.Goals as goal
 
@@ -24,15 +18,13 @@ returns-in_err-found g c = record {
 pub returns-in_err-read_block : goal.returns-in_err-read_block
 returns-in_err-read_block g c = record {
   value = λ lib.
-      let T = g.S.Store.types_of c.args.store.now in
       let state = g.S.Store.state_of c.args.store.now in
-      let fs = c.args.self.now.fs.number in
       let found = c.in_ok-found.found in
       let is = c.in_ok-found.ensures.found.is in
       let block = c.direct-block in
       absurd (not_ok (c.in_err-read_block.ensures.reached 2
-      (under_direct T library_layout (library_reads T lib) (latest state.lives) fs _ found.block found.place block.result is.stands.inodes
-      (found_has state fs c.args.directory found is c.loop-i.i block.result (omega arith) (sym block.ensures) c.if-block-eq0.false))));
+      (under_direct _ library_layout (library_reads _ lib) (latest state.lives) _ _ found.block found.place block.result is.stands.inodes
+      (found_has state _ c.args.directory found is c.loop-i.i block.result (omega arith) (sym block.ensures) c.if-block-eq0.false))));
 }
 
 pub returns-in_err-add_names : goal.returns-in_err-add_names
@@ -49,10 +41,9 @@ loop-i-preserved-then-block-eq0 g c =
 
 pub loop-i-preserved : goal.loop-i-preserved
 loop-i-preserved g c =
-    let bytes = c.in_ok-read_block.field-0.now in
     c.in_ok-add_names.ensures
-    ∙ (ap (λ xs. xs ++ names_at bytes (range_with_len 0 16)) c.loop-i.invariant
-    ∙ names_more (latest (g.S.Store.state_of c.args.store.now).lives) c.in_ok-found.found.inode c.loop-i.i (c.loop-i.i + 1) refl c.direct-block.result bytes (sym c.direct-block.ensures) c.if-block-eq0.false
+    ∙ (ap (λ xs. xs ++ names_at c.in_ok-read_block.field-0.now (range_with_len 0 16)) c.loop-i.invariant
+    ∙ names_more (latest (g.S.Store.state_of c.args.store.now).lives) c.in_ok-found.found.inode c.loop-i.i (c.loop-i.i + 1) refl c.direct-block.result _ (sym c.direct-block.ensures) c.if-block-eq0.false
     c.in_ok-read_block.ensures.bytes)
 
 pub returns : goal.returns

@@ -1,6 +1,5 @@
 use Rattle.std.proofs.Common.{Err, Ok, ◌∙◌}
-use Rattle.std.proofs.lemmas.Result.{err_from_is_err_and}
-use Rattle.ffs_model.specs.Cuts.{latest}
+use Rattle.ffs_lib.proofs.Words.{err_from_is_err_and, latest}
 use Rattle.ffs_lib.proofs.Refusals.{entries_left, none_left, rmdir_is, rmdir_nothing}
 use Rattle.ffs_lib.proofs.volume.Volume.look_up_empty.Goals as goal
 
@@ -16,16 +15,12 @@ returns-in_err-found-clause-exact g c = λ lib.
 
 pub returns-then-not-branch-clause-exact : goal.returns-then-not-branch-clause-exact
 returns-then-not-branch-clause-exact g c = λ lib.
-    let content = latest (g.S.Store.state_of c.args.store.now).lives in
-    let slot = c.in_ok-slot.slot in
     let inode = c.in_ok-found.found.inode in
-    entries_left content slot inode c.in_ok-is_empty.field-0 (c.in_ok-is_empty.ensures slot.inode lib c.in_ok-found.ensures.found) c.if-not-branch.true
-    ∙ rmdir_is content c.args.self.now.fs.number c.args.directory c.args.name.now slot (Ok inode) (c.in_ok-slot.ensures.exact lib) (c.in_ok-found.ensures.exact lib)
+    entries_left _ _ inode c.in_ok-is_empty.field-0 (c.in_ok-is_empty.ensures c.in_ok-slot.slot.inode lib c.in_ok-found.ensures.found) c.if-not-branch.true
+    ∙ rmdir_is _ c.args.self.now.fs.number c.args.directory c.args.name.now _ (Ok inode) (c.in_ok-slot.ensures.exact lib) (c.in_ok-found.ensures.exact lib)
 
 pub returns-clause-exact : goal.returns-clause-exact
 returns-clause-exact g c = λ lib.
-    let content = latest (g.S.Store.state_of c.args.store.now).lives in
-    let slot = c.in_ok-slot.slot in
     let inode = c.in_ok-found.found.inode in
-    none_left content slot inode c.in_ok-is_empty.field-0 (c.in_ok-is_empty.ensures slot.inode lib c.in_ok-found.ensures.found) c.if-not-branch.false
-    ∙ rmdir_is content c.args.self.now.fs.number c.args.directory c.args.name.now slot (Ok inode) (c.in_ok-slot.ensures.exact lib) (c.in_ok-found.ensures.exact lib)
+    none_left _ _ inode c.in_ok-is_empty.field-0 (c.in_ok-is_empty.ensures c.in_ok-slot.slot.inode lib c.in_ok-found.ensures.found) c.if-not-branch.false
+    ∙ rmdir_is _ c.args.self.now.fs.number c.args.directory c.args.name.now _ (Ok inode) (c.in_ok-slot.ensures.exact lib) (c.in_ok-found.ensures.exact lib)

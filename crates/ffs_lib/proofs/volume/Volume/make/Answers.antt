@@ -1,9 +1,5 @@
 use Rattle.std.proofs.Common.{rules, ◌∙◌, ℕ, Option, Ok, Err, ap, refl, subst, sym}
-use Rattle.std.proofs.lemmas.Result.{err_from_is_err_and}
-use Rattle.ffs_model.specs.Library.{library_layout}
-use Rattle.ffs_model.specs.Volumes.{VolumeKeeps}
-use Rattle.ffs_lookup.specs.declared.fault.FfsFault.{FfsFault}
-use Rattle.ffs_lookup.specs.Newest.{mapped}
+use Rattle.ffs_lib.proofs.Words.{FfsFault, VolumeKeeps, err_from_is_err_and, library_layout, mapped}
 use Rattle.ffs_lib.proofs.Kept.{on_err}
 use Rattle.ffs_lib.proofs.Making.{no_numbers}
 use Rattle.ffs_lib.proofs.NewOrder.{make_stops}
@@ -49,27 +45,26 @@ returns-in_err-make_first g c =
 
 pub returns : goal.returns
 returns g c =
-    let fs = c.args.fs.number in
     let T = g.S.Store.types_of c.args.store.now in
     let zeroth = g.S.Store.state_of c.args.store.now in
     let exact = c.in_ok-begun.ensures.exact in
     record {
       types = search rules;
       ok =
-          let s = make_stage T zeroth c.look_up_root.ensures.rules fs c.args.fs.few c.requires c.in_ok-begun.begun exact in
-          let h = c.in_ok-make_first.ensures.ends T refl s (make_found zeroth fs c.in_ok-begun.begun exact).1 in
+          let s = make_stage T zeroth c.look_up_root.ensures.rules _ c.args.fs.few c.requires c.in_ok-begun.begun exact in
+          let h = c.in_ok-make_first.ensures.ends T refl s (make_found zeroth _ c.in_ok-begun.begun exact).1 in
           record {
             library = c.requires.library;
-            keeps = subst (λ (array : ℕ → Option ℕ). VolumeKeeps T library_layout fs array (g.S.Store.state_of c.make_first.new.store)) no_numbers h.0.keeps;
+            keeps = subst (λ (array : ℕ → Option ℕ). VolumeKeeps T library_layout c.args.fs.number array (g.S.Store.state_of c.make_first.new.store)) no_numbers h.0.keeps;
           };
       fs = search rules;
       added = sym no_numbers;
       answers =
-          let s = make_stage T zeroth c.look_up_root.ensures.rules fs c.args.fs.few c.requires c.in_ok-begun.begun exact in
-          let h = c.in_ok-make_first.ensures.ends T refl s (make_found zeroth fs c.in_ok-begun.begun exact).1 in
-          make_does T zeroth (g.S.Store.state_of c.make_first.new.store) fs c.in_ok-begun.begun exact (Ok c.in_ok-make_first.field-0) h.1 _ refl;
+          let s = make_stage T zeroth c.look_up_root.ensures.rules _ c.args.fs.few c.requires c.in_ok-begun.begun exact in
+          let h = c.in_ok-make_first.ensures.ends T refl s (make_found zeroth _ c.in_ok-begun.begun exact).1 in
+          make_does T zeroth (g.S.Store.state_of c.make_first.new.store) _ c.in_ok-begun.begun exact (Ok c.in_ok-make_first.field-0) h.1 _ refl;
       order = λ ok.
-          let s = make_stage (g.S.Store.types_of c.args.store.now) zeroth c.look_up_root.ensures.rules fs c.args.fs.few c.requires c.in_ok-begun.begun exact in
-          c.in_ok-make_first.ensures.order (g.S.Store.types_of c.args.store.now) refl s (make_found zeroth fs c.in_ok-begun.begun exact).1;
+          let s = make_stage (g.S.Store.types_of c.args.store.now) zeroth c.look_up_root.ensures.rules _ c.args.fs.few c.requires c.in_ok-begun.begun exact in
+          c.in_ok-make_first.ensures.order (g.S.Store.types_of c.args.store.now) refl s (make_found zeroth _ c.in_ok-begun.begun exact).1;
       err = search rules;
     }

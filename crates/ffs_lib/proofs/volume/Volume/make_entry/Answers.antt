@@ -1,6 +1,5 @@
 use Rattle.std.proofs.Common.{◌≡◌, ◌∙◌, ℕ, Ok, ap, inl, inr, subst, sym, rules}
-use Rattle.ffs_model.specs.Cuts.{latest}
-use Rattle.ffs_lookup.specs.Newest.{create_in, directory_in}
+use Rattle.ffs_lib.proofs.Words.{create_in, directory_in, latest}
 use Rattle.ffs_lib.specs.Results.{IsLowestNumber, MadeEntry, SameOrNew}
 use Rattle.ffs_lib.specs.Steps.{StopsMaking, StopsNew}
 use Rattle.ffs_lib.specs.Volumes.{edits_of}
@@ -13,11 +12,9 @@ use Rattle.ffs_lib.proofs.volume.Volume.make_entry.Goals as goal
 
 pub take_free-requires-clause-room : goal.take_free-requires-clause-room
 take_free-requires-clause-room g c = λ none.
-    let v = c.requires.volume in
     let old = g.S.Store.state_of c.args.store.now in
-    let fs = c.args.self.now.fs.number in
-    let x = c.in_ok-found.ensures.room v.library in
-    free_pointer (g.S.Store.types_of c.args.store.now) fs (edits_of c.args.self.now.added) old v.keeps c.args.directory x.0 (directory_from (latest old.lives) fs c.args.directory x.0 x.1).0 (c.in_ok-found.ensures.pointer none)
+    let x = c.in_ok-found.ensures.room c.requires.volume.library in
+    free_pointer (g.S.Store.types_of c.args.store.now) _ (edits_of c.args.self.now.added) old c.requires.volume.keeps c.args.directory x.0 (directory_from (latest old.lives) _ c.args.directory x.0 x.1).0 (c.in_ok-found.ensures.pointer none)
 
 pub returns-in_err-found-clause-order : goal.returns-in_err-found-clause-order
 returns-in_err-found-clause-order g c = λ n e.
@@ -25,23 +22,18 @@ returns-in_err-found-clause-order g c = λ n e.
 
 pub returns-in_err-free : goal.returns-in_err-free
 returns-in_err-free g c =
-    let T = g.S.Store.types_of c.args.store.now in
     let old = g.S.Store.state_of c.args.store.now in
     let new = g.S.Store.state_of c.take_free.new.store in
-    let fs = c.args.self.now.fs.number in
-    let d = c.args.directory in
-    let mode = c.args.mode in
-    let looked = create_in (latest old.lives) fs d c.args.name.now in
-    let x = is_ok_one looked (c.in_ok-found.ensures.exact c.requires.volume.library) in
+    let x = is_ok_one _ (c.in_ok-found.ensures.exact c.requires.volume.library) in
     let stop = c.in_err-free.ensures.leaves.1 in
     record {
       types = search rules;
       fs = search rules;
       answers =
-          answers_ok looked (λ _ n. MadeEntry (latest old.lives) (latest new.lives) fs d c.args.name.now mode n × IsLowestNumber (latest old.lives) fs n) (λ _ fault. StopsMaking T fs old new d c.args.name.now mode fault) c.from_residual-in_err-free.result x.0 old new x.1
-          (stops_err _ (StopsMaking T fs old new d c.args.name.now mode) c.from_residual-in_err-free.result _ c.from_residual-in_err-free.ensures.1 (stop.0, inl stop.1));
+          answers_ok _ (λ _ n. MadeEntry (latest old.lives) (latest new.lives) _ _ c.args.name.now _ n × IsLowestNumber (latest old.lives) _ n) (λ _ fault. StopsMaking _ _ old new _ c.args.name.now _ fault) c.from_residual-in_err-free.result x.0 old new x.1
+          (stops_err _ (StopsMaking _ _ old new _ c.args.name.now _) c.from_residual-in_err-free.result _ c.from_residual-in_err-free.ensures.1 (stop.0, inl stop.1));
       order = λ n e.
-          creates_stop (g.S.Store.types_of c.args.store.now) fs c.args.directory c.args.name.now c.args.mode n (edits_of c.args.self.now.added) (edits_of c.take_free.new.self.added) (g.S.Store.state_of c.args.store.now) (g.S.Store.state_of c.take_free.new.store)
+          creates_stop (g.S.Store.types_of c.args.store.now) _ c.args.directory c.args.name.now c.args.mode n (edits_of c.args.self.now.added) (edits_of c.take_free.new.self.added) (g.S.Store.state_of c.args.store.now) (g.S.Store.state_of c.take_free.new.store)
           c.in_err-free.field-0.0 c.in_err-free.ensures.order c.from_residual-in_err-free.result c.from_residual-in_err-free.ensures.1;
       added = λ fault e. absurd (not_refused _ fault e (c.in_ok-found.ensures.exact c.requires.volume.library));
       keeps = search rules;
@@ -49,17 +41,8 @@ returns-in_err-free g c =
 
 pub returns : goal.returns
 returns g c =
-    let T = g.S.Store.types_of c.args.store.now in
-    let old = g.S.Store.state_of c.args.store.now in
     let middle = g.S.Store.state_of c.take_free.new.store in
-    let new = g.S.Store.state_of c.name_inode.new.store in
-    let w = latest new.lives in
     let fs = c.args.self.now.fs.number in
-    let d = c.args.directory in
-    let name = c.args.name.now in
-    let mode = c.args.mode in
-    let number = c.in_ok-free.free.number in
-    let lib = c.requires.volume.library in
     let stays = c.in_ok-free.ensures.leaves.1.stays in
     let lowest = c.in_ok-free.ensures.leaves.1.lowest in
     let same = ap (λ f. f.number) c.take_free.ensures.fs in
@@ -67,27 +50,24 @@ returns g c =
       types = search rules;
       fs = search rules;
       answers =
-          let u = latest old.lives in
+          let u = latest (g.S.Store.state_of c.args.store.now).lives in
           let v = latest middle.lives in
-          let x = is_ok_one (create_in u fs d name) (c.in_ok-found.ensures.exact lib) in
-          let dir = c.in_ok-found.ensures.room lib in
-          let y = named_by (g.S.Store.types_of c.take_free.new.store) T c.take_free.new.self.fs.number fs middle new d name mode number c.name_inode.new.self c.name_inode.result (ap (λ f. f.number) c.take_free.ensures.fs) c.take_free.ensures.types c.name_inode.ensures.leaves (dir.0) (dir.1 ∙ sym (directory_same u v fs d (stays d).0)) (same_room u v fs d dir.0 ((stays d).0, (stays d).1) (directory_from u fs d dir.0 dir.1).0 ∙ dir.2) in
-          answers_ok (create_in u fs d name) (λ _ n. MadeEntry u w fs d name mode n × IsLowestNumber u fs n) (λ _ fault. StopsMaking T fs old new d name mode fault) c.name_inode.result x.0 old new x.1
-          (match_then (λ n. MadeEntry v w fs d name mode n × (n ≡ number)) (λ n. MadeEntry u w fs d name mode n × IsLowestNumber u fs n) (StopsNew T fs middle new d name mode number) (StopsMaking T fs old new d name mode) c.name_inode.result
-          (λ n made. (stays_made u v w fs d name mode n (λ e. subst (λ (m : ℕ). SameOrNew u v fs m e) (sym made.1) (stays e)) made.0, subst (IsLowestNumber u fs) (sym made.1) lowest)) (λ fault r. inr (middle, c.in_ok-free.free, c.in_ok-free.ensures.leaves.1, r)) y.1);
+          let x = is_ok_one (create_in u fs _ _) (c.in_ok-found.ensures.exact c.requires.volume.library) in
+          let dir = c.in_ok-found.ensures.room c.requires.volume.library in
+          let y = named_by (g.S.Store.types_of c.take_free.new.store) _ c.take_free.new.self.fs.number fs middle _ _ _ _ _ c.name_inode.new.self c.name_inode.result (ap (λ f. f.number) c.take_free.ensures.fs) c.take_free.ensures.types c.name_inode.ensures.leaves (dir.0) (dir.1 ∙ sym (directory_same u v fs _ (stays _).0)) (same_room u v fs _ dir.0 ((stays _).0, (stays _).1) (directory_from u fs _ dir.0 dir.1).0 ∙ dir.2) in
+          answers_ok (create_in u fs _ _) (λ _ n. MadeEntry u _ fs _ _ _ n × IsLowestNumber u fs n) (λ _ fault. StopsMaking _ fs _ _ _ _ _ fault) c.name_inode.result x.0 _ _ x.1
+          (match_then (λ n. MadeEntry v _ fs _ _ _ n × (n ≡ _)) (λ n. MadeEntry u _ fs _ _ _ n × IsLowestNumber u fs n) (StopsNew _ fs middle _ _ _ _ _) (StopsMaking _ fs _ _ _ _ _) c.name_inode.result
+          (λ n made. (stays_made u v _ fs _ _ _ n (λ e. subst (λ (m : ℕ). SameOrNew u v fs m e) (sym made.1) (stays e)) made.0, subst (IsLowestNumber u fs) (sym made.1) lowest)) (λ fault r. inr (middle, c.in_ok-free.free, c.in_ok-free.ensures.leaves.1, r)) y.1);
       order = λ n e.
-          let u = latest old.lives in
           let v = latest middle.lives in
           let dir = c.in_ok-found.ensures.room c.requires.volume.library in
-          let again : Ok dir.0 ≡ directory_in v fs d = dir.1 ∙ sym (directory_same u v fs d (stays d).0) in
-          let names = c.name_inode.ensures.order dir.0 (subst (λ (x : ℕ). Ok dir.0 ≡ directory_in v x d) (sym same) again) (same_room u v fs d dir.0 ((stays d).0, (stays d).1) (directory_from u fs d dir.0 dir.1).0 ∙ dir.2) in
-          creates_then T (g.S.Store.types_of c.take_free.new.store) fs c.take_free.new.self.fs.number d name c.args.mode n number (edits_of c.args.self.now.added) (edits_of c.take_free.new.self.added) (edits_of c.name_inode.new.self.added) old middle (g.S.Store.state_of c.name_inode.new.store)
-          c.take_free.ensures.types same (new_lowest u fs d name n number e c.in_ok-free.ensures.leaves.1.lowest) c.in_ok-free.ensures.order c.name_inode.result names;
+          let again : Ok dir.0 ≡ directory_in v fs c.args.directory = dir.1 ∙ sym (directory_same _ v fs _ (stays _).0) in
+          let names = c.name_inode.ensures.order dir.0 (subst (λ (x : ℕ). Ok dir.0 ≡ directory_in v x c.args.directory) (sym same) again) (same_room _ v fs _ dir.0 ((stays _).0, (stays _).1) (directory_from _ fs _ dir.0 dir.1).0 ∙ dir.2) in
+          creates_then _ (g.S.Store.types_of c.take_free.new.store) fs c.take_free.new.self.fs.number _ _ c.args.mode n _ (edits_of c.args.self.now.added) (edits_of c.take_free.new.self.added) (edits_of c.name_inode.new.self.added) _ middle (g.S.Store.state_of c.name_inode.new.store)
+          c.take_free.ensures.types same (new_lowest _ fs _ _ n _ e c.in_ok-free.ensures.leaves.1.lowest) c.in_ok-free.ensures.order c.name_inode.result names;
       added = λ fault e. absurd (not_refused _ fault e (c.in_ok-found.ensures.exact c.requires.volume.library));
       keeps =
-          let u = latest (g.S.Store.state_of c.args.store.now).lives in
-          let v = latest (g.S.Store.state_of c.take_free.new.store).lives in
           let dir = c.in_ok-found.ensures.room c.requires.volume.library in
-          let y = named_by (g.S.Store.types_of c.take_free.new.store) T c.take_free.new.self.fs.number fs middle new d c.args.name.now c.args.mode c.in_ok-free.free.number c.name_inode.new.self c.name_inode.result (ap (λ f. f.number) c.take_free.ensures.fs) c.take_free.ensures.types c.name_inode.ensures.leaves (dir.0) (dir.1 ∙ sym (directory_same u v fs d (stays d).0)) (same_room u v fs d dir.0 ((stays d).0, (stays d).1) (directory_from u fs d dir.0 dir.1).0 ∙ dir.2) in
+          let y = named_by (g.S.Store.types_of c.take_free.new.store) _ c.take_free.new.self.fs.number fs middle _ _ c.args.name.now c.args.mode c.in_ok-free.free.number c.name_inode.new.self c.name_inode.result (ap (λ f. f.number) c.take_free.ensures.fs) c.take_free.ensures.types c.name_inode.ensures.leaves (dir.0) (dir.1 ∙ sym (directory_same _ _ fs _ (stays _).0)) (same_room _ _ fs _ dir.0 ((stays _).0, (stays _).1) (directory_from _ fs _ dir.0 dir.1).0 ∙ dir.2) in
           y.0;
     }

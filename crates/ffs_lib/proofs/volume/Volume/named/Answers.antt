@@ -1,8 +1,5 @@
 use Rattle.std.proofs.Common.{sym, ◌∙◌}
-use Rattle.std.proofs.lemmas.Result.{err_from_is_err_and}
-use Rattle.ffs_model.specs.Cuts.{latest}
-use Rattle.ffs_lookup.specs.Newest.{first_named}
-use Rattle.ffs_lookup.specs.Places.{IsSlot}
+use Rattle.ffs_lib.proofs.Words.{IsSlot, err_from_is_err_and, first_named, latest}
 use Rattle.ffs_lib.proofs.Kept.{on_ok}
 use Rattle.ffs_lookup.proofs.ForCallers.{badly_named, if_some_ok, named_is, nothing_named, same_ok}
 use Rattle.ffs_lib.proofs.volume.Volume.named.Goals as goal
@@ -21,12 +18,9 @@ returns-clause-slot g c = if_some_ok (λ slot. IsSlot (g.S.Store.state_of c.args
 
 pub returns-clause-exact : goal.returns-clause-exact
 returns-clause-exact g c = λ lib.
-    let content = latest (g.S.Store.state_of c.args.store.now).lives in
-    let o = c.in_ok-find_entry.field-0 in
-    let inode = c.in_ok-found.found.inode in
     c.ok_or.ensures.value
-    ∙ named_is content c.args.self.now.fs.number c.args.directory c.args.name.now inode o (c.in_ok-found.ensures.exact lib) (sym c.if-not-is_name.ensures)
-    (same_ok o (first_named content inode c.args.name.now) (c.in_ok-find_entry.ensures.exact lib))
+    ∙ named_is _ c.args.self.now.fs.number c.args.directory c.args.name.now _ _ (c.in_ok-found.ensures.exact lib) (sym c.if-not-is_name.ensures)
+    (same_ok _ (first_named _ _ c.args.name.now) (c.in_ok-find_entry.ensures.exact lib))
 
 pub returns-clause-directory : goal.returns-clause-directory
 returns-clause-directory g c = on_ok c.ok_or.result (c.in_ok-found.found, c.in_ok-found.ensures.found, c.in_ok-found.ensures.exact)

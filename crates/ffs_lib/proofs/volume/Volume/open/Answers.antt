@@ -1,6 +1,5 @@
 use Rattle.std.proofs.Common.{ℕ, Option, subst, sym}
-use Rattle.ffs_model.specs.Library.{library_layout}
-use Rattle.ffs_model.specs.Volumes.{VolumeKeeps}
+use Rattle.ffs_lib.proofs.Words.{VolumeKeeps, library_layout}
 use Rattle.ffs_lib.proofs.Making.{no_numbers}
 use Rattle.ffs_lib.proofs.Opening.{opened}
 use Rattle.ffs_lib.proofs.volume.Volume.open.Goals as goal
@@ -8,12 +7,10 @@ use Rattle.ffs_lib.proofs.volume.Volume.open.Goals as goal
 pub returns-clause-ok : goal.returns-clause-ok
 returns-clause-ok g c =
     let T = g.S.Store.types_of c.args.store.now in
-    let state = g.S.Store.state_of c.args.store.now in
-    let fs = c.args.fs in
     record {
       library = c.requires.library;
-      keeps = subst (λ (array : ℕ → Option ℕ). VolumeKeeps T library_layout fs.number array state) no_numbers
-          (opened T state c.look_up_volume.ensures.rules fs.number fs.few c.requires (c.in_ok-look_up_volume.ensures.exact c.requires.library));
+      keeps = subst (λ (array : ℕ → Option ℕ). VolumeKeeps T library_layout c.args.fs.number array (g.S.Store.state_of c.args.store.now)) no_numbers
+          (opened T _ c.look_up_volume.ensures.rules c.args.fs.number c.args.fs.few c.requires (c.in_ok-look_up_volume.ensures.exact c.requires.library));
     }
 
 pub returns-clause-added : goal.returns-clause-added

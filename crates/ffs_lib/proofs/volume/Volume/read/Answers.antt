@@ -1,7 +1,5 @@
 use Rattle.std.proofs.Common.{◌≡◌, ◌+◌, ◌-◌, ◌∙◌, ℕ, Ok, ap, arith, length, min}
-use Rattle.std.proofs.lemmas.Result.{err_from_is_err_and}
-use Rattle.ffs_model.specs.Cuts.{latest}
-use Rattle.ffs_lookup.specs.Newest.{byte_of, file_end, read_count, read_into}
+use Rattle.ffs_lib.proofs.Words.{byte_of, err_from_is_err_and, file_end, latest, read_count, read_into}
 use Rattle.ffs_lookup.proofs.ForCallers.{count_told, into_told}
 use Rattle.ffs_lib.proofs.Parts.{read_done, read_step}
 use Rattle.ffs_lib.proofs.volume.Volume.read.Goals as goal
@@ -19,17 +17,15 @@ loop-done-preserved g c =
 
 pub returns-clause-value : goal.returns-clause-value
 returns-clause-value g c = λ lib.
-    let old = c.args.bytes.now in
     let file = c.in_ok-file.ensures.exact lib in
-    let e : c.min-count.result ≡ min (length old) (file_end c.in_ok-file.file.inode - c.args.offset) = omega arith in
-    ap (λ (k : ℕ). Ok k) e ∙ (ap (read_count (length old) c.args.offset) file ∙ count_told (latest (g.S.Store.state_of c.args.store.now).lives) c.args.self.now.fs.number c.args.inode c.args.offset (length old))
+    let e : c.min-count.result ≡ min (length c.args.bytes.now) (file_end c.in_ok-file.file.inode - c.args.offset) = omega arith in
+    ap (λ (k : ℕ). Ok k) e ∙ (ap (read_count (length _) c.args.offset) file ∙ count_told (latest (g.S.Store.state_of c.args.store.now).lives) c.args.self.now.fs.number c.args.inode c.args.offset (length _))
 
 pub returns-in_err-file-clause-value : goal.returns-in_err-file-clause-value
 returns-in_err-file-clause-value g c = λ lib.
-    let content = latest (g.S.Store.state_of c.args.store.now).lives in
     let p = err_from_is_err_and c.from_residual.result c.from_residual.ensures.1 in
     rw (p.1, p.2)
-    (ap (read_count (length c.args.bytes.now) c.args.offset) (c.in_err-file.ensures.exact lib) ∙ count_told content c.args.self.now.fs.number c.args.inode c.args.offset (length c.args.bytes.now))
+    (ap (read_count (length c.args.bytes.now) c.args.offset) (c.in_err-file.ensures.exact lib) ∙ count_told _ c.args.self.now.fs.number c.args.inode c.args.offset (length c.args.bytes.now))
 
 pub returns-in_err-file-clause-bytes : goal.returns-in_err-file-clause-bytes
 returns-in_err-file-clause-bytes g c = λ lib.
@@ -39,9 +35,7 @@ returns-in_err-file-clause-bytes g c = λ lib.
 pub returns-clause-bytes : goal.returns-clause-bytes
 returns-clause-bytes g c = λ lib.
     let content = latest (g.S.Store.state_of c.args.store.now).lives in
-    let inode = c.in_ok-file.file.inode in
-    let old = c.args.bytes.now in
-    let e : c.loop-done.done ≡ min (length old) (file_end inode - c.args.offset) = omega arith in
+    let e : c.loop-done.done ≡ min (length c.args.bytes.now) (file_end c.in_ok-file.file.inode - c.args.offset) = omega arith in
     c.loop-done.invariant.bytes
-    ∙ (read_done content inode c.args.offset c.loop-done.done old e
-    ∙ (ap (read_into content old c.args.offset) (c.in_ok-file.ensures.exact lib) ∙ into_told content c.args.self.now.fs.number c.args.inode c.args.offset old))
+    ∙ (read_done content c.in_ok-file.file.inode c.args.offset c.loop-done.done _ e
+    ∙ (ap (read_into content _ c.args.offset) (c.in_ok-file.ensures.exact lib) ∙ into_told content c.args.self.now.fs.number c.args.inode c.args.offset _))

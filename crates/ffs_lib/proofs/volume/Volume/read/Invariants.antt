@@ -1,7 +1,5 @@
 use Rattle.std.proofs.Common.{◌≡◌, ◌++◌, ◌-◌, ◌≤◌, drop, map}
-use Rattle.std.specs.List.{range_with_len}
-use Rattle.ffs_model.specs.Cuts.{latest}
-use Rattle.ffs_lookup.specs.Newest.{byte_of}
+use Rattle.ffs_lib.proofs.Words.{byte_of, latest, range_with_len}
 use Rattle.ffs_lib.proofs.volume.Volume.read.Given as goal
 
 abbrev pub invariant-loop-done : goal.invariant-loop-done

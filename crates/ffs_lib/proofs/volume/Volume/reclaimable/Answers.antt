@@ -1,10 +1,5 @@
-use Rattle.std.proofs.Common.{◌≡◌, ◌∙◌, ℕ, List, Result, Ok, Err}
-use Rattle.std.specs.Prelude.{IfOk}
-use Rattle.ffs_model.specs.Cuts.{latest}
-use Rattle.ffs_lookup.specs.declared.fault.FfsFault.{FfsFault}
-use Rattle.ffs_lookup.specs.declared.repairs.Repairs.{Repairs}
-use Rattle.ffs_lookup.specs.FileValues.{files_of}
-use Rattle.ffs_lookup.specs.Repairs.{repair_at, repair_in}
+use Rattle.std.proofs.Common.{◌≡◌, ◌∙◌, ℕ, List, Result, Ok, Err, IfOk}
+use Rattle.ffs_lib.proofs.Words.{FfsFault, Repairs, files_of, latest, repair_at, repair_in}
 use Rattle.ffs_lib.specs.Reclaiming.{needs}
 use Rattle.ffs_lib.proofs.ValueRepairs.{need_is}
 use Rattle.ffs_lib.proofs.volume.Volume.reclaimable.Goals as goal

@@ -1,8 +1,4 @@
 use Rattle.std.proofs.Common.{refl, rules}
-use Rattle.ffs_model.specs.Cuts.{latest}
-use Rattle.ffs_lookup.specs.Newest.{rmdir_in}
-use Rattle.ffs_lookup.specs.Files.{removed}
-use Rattle.ffs_lookup.specs.FileValues.{files_of}
 use Rattle.ffs_lookup.proofs.ForCallers.{removed_ok, removed_told}
 use Rattle.ffs_lib.specs.Volumes.{edits_of}
 use Rattle.ffs_lib.proofs.Laws.{staged}
@@ -13,29 +9,17 @@ use Rattle.ffs_lib.proofs.volume.Volume.rmdir.Goals as goal
 
 pub returns : goal.returns
 returns g c =
-    let T = g.S.Store.types_of c.args.store.now in
-    let old = g.S.Store.state_of c.args.store.now in
-    let u = latest old.lives in
     let volume = c.args.self.now in
-    let fs = volume.fs.number in
-    let d = c.args.directory in
-    let name = c.args.name.now in
-    let slot = c.in_ok-slot.slot in
     let lib = c.requires.library in
     let exact = c.in_ok-slot.ensures.exact lib in
-    let f = rmdir_value u fs d name slot exact in
+    let f = rmdir_value _ _ _ _ _ exact in
     let s = staged c.requires volume.fs.few in
-    let x = c.remove.ensures.ends T (edits_of volume.added) refl s refl in
-    let r = takes_name T lib fs volume.fs.few d name (rmdir_in u fs d name) (removed (files_of u fs) d name) old (g.S.Store.state_of c.remove.new.store) c.requires.keeps.consistent x.0.keeps.consistent slot exact f
-    (removed_ok u fs d name f.own slot (directory_value u fs d f.own f.is) f.entry exact) c.remove.result x.1 (c.remove.ensures.order T (edits_of volume.added) refl s refl) in
+    let x = c.remove.ensures.ends _ (edits_of volume.added) refl s refl in
+    let r = takes_name _ lib _ volume.fs.few _ _ _ _ _ (g.S.Store.state_of c.remove.new.store) c.requires.keeps.consistent x.0.keeps.consistent _ exact f
+    (removed_ok _ _ _ _ f.own _ (directory_value _ _ _ f.own f.is) f.entry exact) c.remove.result x.1 (c.remove.ensures.order _ (edits_of volume.added) refl s refl) in
     record { types = search rules; answers = r.answers; inodes = r.inodes; order = r.order; keeps = record { library = lib; keeps = x.0.keeps } }
 
 pub returns-in_err-slot : goal.returns-in_err-slot
 returns-in_err-slot g c =
-    let old = g.S.Store.state_of c.args.store.now in
-    let u = latest old.lives in
-    let fs = c.args.self.now.fs.number in
-    let d = c.args.directory in
-    let name = c.args.name.now in
-    let r = takes_none (g.S.Store.types_of c.args.store.now) fs d name (rmdir_in u fs d name) (removed (files_of u fs) d name) old _ (c.in_err-slot.ensures.exact c.requires.library) (removed_told u fs d name) c.from_residual.result c.from_residual.ensures.1 in
+    let r = takes_none (g.S.Store.types_of c.args.store.now) _ _ c.args.name.now _ _ _ _ (c.in_err-slot.ensures.exact c.requires.library) (removed_told _ _ _ _) c.from_residual.result c.from_residual.ensures.1 in
     record { types = search rules; answers = r.answers; inodes = r.inodes; order = r.order; keeps = search rules }

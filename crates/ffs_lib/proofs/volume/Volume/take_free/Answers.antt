@@ -1,9 +1,6 @@
-use Rattle.std.proofs.Common.{None, Option, inl, refl, subst}
-use Rattle.std.specs.Prelude.{IfSome}
-use Rattle.ffs_model.specs.Cuts.{latest}
+use Rattle.std.proofs.Common.{None, Option, inl, refl, subst, IfSome}
+use Rattle.ffs_lib.proofs.Words.{IsFree, IsLowest, latest}
 use Rattle.ffs_lookup.specs.declared.places.Free.{Free}
-use Rattle.ffs_lookup.specs.Newest.{IsLowest}
-use Rattle.ffs_lookup.specs.Places.{IsFree}
 use Rattle.ffs_lib.specs.Volumes.{edits_of}
 use Rattle.ffs_lib.proofs.NewOrder.{adds_done, free_there}
 use Rattle.ffs_lib.proofs.volume.Volume.take_free.Goals as goal
@@ -26,6 +23,5 @@ returns-in-Some-clause-leaves g c =
 pub returns-in-Some-clause-order : goal.returns-in-Some-clause-order
 returns-in-Some-clause-order g c =
     let old = g.S.Store.state_of c.args.store.now in
-    let fs = c.args.self.now.fs.number in
-    let is = subst (λ (o : Option Free). IfSome o (λ free. IsFree old fs free)) c.in-Some.is c.requires.free in
-    adds_done (g.S.Store.types_of c.args.store.now) fs (edits_of c.args.self.now.added) (edits_of c.args.self.now.added) old old None (free_there old fs c.in-Some.free is) refl refl
+    let is = subst (λ (o : Option Free). IfSome o (λ free. IsFree old c.args.self.now.fs.number free)) c.in-Some.is c.requires.free in
+    adds_done (g.S.Store.types_of c.args.store.now) _ (edits_of c.args.self.now.added) (edits_of c.args.self.now.added) old old None (free_there old _ c.in-Some.free is) refl refl

@@ -1,17 +1,14 @@
-use Rattle.std.proofs.Common.{◌≡◌, ◌∙◌, ◌*◌, ℕ, List, [], Some, ap, subst, sym}
-use Rattle.ffs_model.specs.Cuts.{latest}
-use Rattle.ffs_model.specs.Library.{IsLibrary}
-use Rattle.std.specs.Int.{w16, to_le_bytes}
-use Rattle.ffs_lookup.specs.declared.places.Slot.{Slot}
+use Rattle.std.proofs.Common.{◌≡◌, ◌∙◌, ◌*◌, ℕ, List, [], Some, ap, subst, sym, w16}
+use Rattle.ffs_lib.proofs.Words.{IsLibrary, Slot, latest, to_le_bytes}
 use Rattle.ffs_lookup.proofs.ForCallers.{same_ok}
 use Rattle.ffs_lib.specs.Edits.{edit_at}
 use Rattle.ffs_lib.specs.Orders.{Orders, turned_edits}
 use Rattle.ffs_lib.specs.Replacing.{Turned}
 use Rattle.ffs_lib.specs.Steps.{Ends, MayLose, Proposed, Wants}
+use Rattle.ffs_lib.proofs.Tests.{never}
 use Rattle.ffs_lib.proofs.Laws.{finishes}
 use Rattle.ffs_lib.proofs.Orders.{numbered, one_order}
 use Rattle.ffs_lib.proofs.PairLaws.{pairs_put_turned}
-use Rattle.ffs_lib.proofs.Tops.{never}
 use Rattle.ffs_lib.proofs.TurnLaws.{turns, turns_short}
 use Rattle.ffs_lib.proofs.volume.Volume.turn.Goals as goal
 
@@ -23,16 +20,14 @@ returns-clause-ends g c = λ T array slot e s named apart m.
     let old = g.S.Store.state_of c.args.store.now in
     let new = g.S.Store.state_of c.put.new.store in
     let fs = c.args.self.now.fs.number in
-    let n = c.args.inode in
     let at = c.in_ok-slot.slot in
     let same : at ≡ slot = same_ok at slot (c.in_ok-slot.ensures.exact (subst IsLibrary (sym e) s.library) ∙ sym named) in
     let is = c.in_ok-slot.ensures.slot in
-    let small = c.ranges.inode.fits in
-    let edit = edit_at (32 * at.place) (to_le_bytes w16 n) [] [] (Some c.args.after) in
-    subst (λ (y : Slot). Ends T fs array new c.put.result (λ d. Turned (latest old.lives) (latest new.lives) fs y n × MayLose new fs y.inode d) (λ fault. (new ≡ old) × Wants T old fs y.block fault)) same
+    let edit = edit_at (32 * at.place) (to_le_bytes w16 _) [] [] (Some c.args.after) in
+    subst (λ (y : Slot). Ends T fs array new c.put.result (λ d. Turned (latest old.lives) (latest new.lives) fs y c.args.inode × MayLose new fs y.inode d) (λ fault. (new ≡ old) × Wants T old fs y.block fault)) same
     (finishes T fs at.block edit array old new _ _ s c.put.result
-    (subst (λ (bytes : List ℕ). Proposed T fs at.block (edit_at (32 * at.place) bytes [] [] (Some c.args.after)) old new c.put.result) c.to_le_bytes-number.ensures (c.put.ensures.put T e)) (turns_short T fs array old s at is n c.args.after small m)
-    (turns T fs array old s at is n c.args.after small m new (λ z. apart (sym (ap (λ (y : Slot). y.inode) same) ∙ z))) (λ fault left told. (left, (edit, told))))
+    (subst (λ (bytes : List ℕ). Proposed T fs at.block (edit_at (32 * at.place) bytes [] [] (Some c.args.after)) old new c.put.result) c.to_le_bytes-number.ensures (c.put.ensures.put T e)) (turns_short T fs array old s at is _ c.args.after c.ranges.inode.fits m)
+    (turns T fs array old s at is _ c.args.after c.ranges.inode.fits m new (λ z. apart (sym (ap (λ (y : Slot). y.inode) same) ∙ z))) (λ fault left told. (left, (edit, told))))
 
 pub returns-in_err-slot-clause-pairs : goal.returns-in_err-slot-clause-pairs
 returns-in_err-slot-clause-pairs g c = λ T array first from slot e s named same x. absurd (never slot _ (named ∙ sym (c.in_err-slot.ensures.exact (subst IsLibrary (sym e) s.library))))

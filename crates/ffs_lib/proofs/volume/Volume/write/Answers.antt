@@ -1,18 +1,12 @@
-use Rattle.std.proofs.Common.{◌∙◌, ◌+◌, ap, length, refl, subst, sym, rules}
-use Rattle.std.proofs.lemmas.Bool.{eqb-false, eqb-true}
-use Rattle.std.proofs.lemmas.List.{nil_from_length}
-use Rattle.xn_model.specs.Lives.{StoreState}
-use Rattle.ffs_model.specs.Cuts.{latest}
-use Rattle.ffs_lookup.specs.Files.{written}
-use Rattle.ffs_lookup.specs.FileValues.{files_of}
-use Rattle.ffs_lookup.specs.Newest.{file_end, mapped, write_in}
+use Rattle.std.proofs.Common.{◌∙◌, ◌+◌, ap, length, refl, subst, sym, rules, eqb-true}
+use Rattle.ffs_lib.proofs.Words.{StoreState, eqb-false, file_end, files_of, latest, mapped, nil_from_length, write_in, written}
 use Rattle.ffs_lookup.proofs.ForCallers.{written_told}
 use Rattle.ffs_lib.specs.Volumes.{edits_of}
 use Rattle.ffs_lib.specs.WriteOrder.{ShowsWhole, after_in}
 use Rattle.ffs_lib.specs.Written.{written_stages}
+use Rattle.ffs_lib.proofs.Tests.{never}
 use Rattle.ffs_lib.proofs.Staged.{does_fault}
 use Rattle.ffs_lib.proofs.StagedWritten.{Begun, begun, found_file, none_does, overwrites_none, volume_of, write_done, write_inodes, write_part_inodes, write_refused}
-use Rattle.ffs_lib.proofs.Tops.{never}
 use Rattle.ffs_lib.proofs.ValueWritten.{looked}
 use Rattle.ffs_lib.proofs.Waiting.{shows_same}
 use Rattle.ffs_lib.proofs.WrittenOrder.{none_reached, order_none, shown, size_order, stops_order}
@@ -66,12 +60,11 @@ returns-then-is_empty g c =
 pub returns-in-Some : goal.returns-in-Some
 returns-in-Some g c =
     let b = first g (goal.at.returns-in-Some g c).After-write_parts-progress in
-    let fault = c.in-Some.fault in
     record {
       types = search rules;
-      answers = write_refused _ _ _ _ _ _ _ _ _ _ b fault c.in-Some.is;
-      inodes = write_part_inodes _ _ _ _ _ _ _ _ _ _ b fault c.in-Some.is;
-      order = stops_order _ _ _ _ _ _ _ _ _ _ b fault c.in-Some.is;
+      answers = write_refused _ _ _ _ _ _ _ _ _ _ b _ c.in-Some.is;
+      inodes = write_part_inodes _ _ _ _ _ _ _ _ _ _ b _ c.in-Some.is;
+      order = stops_order _ _ _ _ _ _ _ _ _ _ b _ c.in-Some.is;
       cuts = λ file there e grow made. tt;
       none = λ z. absurd (b.there z);
       keeps = volume_of (g.S.Store.types_of c.args.store.now) c.args.self.now _ b.first.stage;
@@ -80,21 +73,18 @@ returns-in-Some g c =
 pub returns-in-None : goal.returns-in-None
 returns-in-None g c =
     let b = first g (goal.at.returns-in-None g c).After-write_parts-progress in
-    let T = g.S.Store.types_of c.args.store.now in
-    let array = edits_of c.args.self.now.added in
     let w = b.first.puts.wrote b.inode b.is in
     let types = c.write_parts-progress.ensures.types in
-    let x = c.raise_size.ensures.ends T array w.after types b.first.stage w.file b.first.given.1 in
-    let acts = c.raise_size.ensures.order T array w.after types b.first.stage w.file in
-    let new = g.S.Store.state_of c.raise_size.new.store in
+    let x = c.raise_size.ensures.ends _ _ w.after types b.first.stage w.file b.first.given.1 in
+    let acts = c.raise_size.ensures.order _ _ w.after types b.first.stage w.file in
     record {
       types = search rules;
-      answers = write_done _ _ _ _ _ _ _ _ _ _ b c.in-None.is new c.raise_size.result x.1;
-      inodes = write_inodes _ _ _ _ _ _ _ _ _ _ b c.in-None.is new c.raise_size.result acts x.1;
-      order = size_order _ _ _ _ _ _ _ _ _ _ b c.in-None.is new c.raise_size.result acts;
+      answers = write_done _ _ _ _ _ _ _ _ _ _ b c.in-None.is _ c.raise_size.result x.1;
+      inodes = write_inodes _ _ _ _ _ _ _ _ _ _ b c.in-None.is _ c.raise_size.result acts x.1;
+      order = size_order _ _ _ _ _ _ _ _ _ _ b c.in-None.is _ c.raise_size.result acts;
       cuts = λ file there e grow made.
           let k = shown _ _ _ _ _ _ _ _ _ _ b _ (b.whole c.in-None.is) file e grow there made in
-          c.raise_size.ensures.cuts T array w.after c.write_parts-progress.result.last there.0 types b.first.stage w.file k.0 refl k.1 k.2;
+          c.raise_size.ensures.cuts _ _ w.after c.write_parts-progress.result.last there.0 types b.first.stage w.file k.0 refl k.1 k.2;
       none = λ z. absurd (b.there z);
-      keeps = volume_of T c.args.self.now _ x.0;
+      keeps = volume_of _ c.args.self.now _ x.0;
     }

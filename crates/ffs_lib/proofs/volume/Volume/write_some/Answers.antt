@@ -1,25 +1,14 @@
-use Rattle.std.proofs.Common.{◌∙◌, ◌+◌, ◌<◌, ap, arith, length, refl, sym, rules}
-use Rattle.std.proofs.lemmas.Bool.{eqb-false, eqb-true}
-use Rattle.std.proofs.lemmas.List.{nil_from_length}
-use Rattle.ffs_model.specs.Cuts.{latest}
-use Rattle.ffs_lookup.specs.Files.{written}
-use Rattle.ffs_lookup.specs.FileValues.{files_of}
-use Rattle.ffs_lookup.specs.Newest.{file_end, mapped, write_in}
+use Rattle.std.proofs.Common.{◌∙◌, ◌+◌, ◌<◌, ap, length, refl, sym, rules, eqb-true}
+use Rattle.ffs_lib.proofs.Words.{eqb-false, file_end, files_of, latest, mapped, nil_from_length, write_in, written}
 use Rattle.ffs_lookup.proofs.ForCallers.{written_told}
 use Rattle.ffs_lib.specs.Volumes.{edits_of}
 use Rattle.ffs_lib.specs.WriteOrder.{ShowsWhole, after_in}
+use Rattle.ffs_lib.proofs.Tests.{never}
 use Rattle.ffs_lib.proofs.StagedWritten.{Begun, begun, count_none, count_refused, count_taken, fault_takes, found_file, none_takes, overwrites_none, same_taken, volume_of}
-use Rattle.ffs_lib.proofs.Tops.{never}
 use Rattle.ffs_lib.proofs.ValueWritten.{looked}
 use Rattle.ffs_lib.proofs.WrittenOrder.{none_order, none_shows, refused_order, shown, some_order_none, taken_order, taken_place}
 use Rattle.ffs_lib.proofs.volume.Volume.write_some.Goals as goal
 use Rattle.ffs_lib.proofs.volume.Volume.write_some.Goals.{After-write_parts-progress}
-
-pub overflow_add-size : goal.overflow_add-size
-overflow_add-size g c = let few = c.write_parts-progress.ensures.few in let low = c.in_ok-end.ensures.within in omega (arith, few, low)
-
-pub overflow_cast-size : goal.overflow_cast-size
-overflow_cast-size g c = let few = c.write_parts-progress.ensures.few in let low = c.in_ok-end.ensures.within in omega (arith, few, low)
 
 first : (g : _) (c : After-write_parts-progress g) →
     Begun (g.S.Store.types_of c.args.store.now) c.args.self.now.fs.number (edits_of c.args.self.now.added) (g.S.Store.state_of c.args.store.now) (g.S.Store.state_of c.write_parts-progress.new.store) c.args.inode c.in_ok-end.end c.args.offset c.args.bytes.now
@@ -48,17 +37,13 @@ pub returns-then-is_empty : goal.returns-then-is_empty
 returns-then-is_empty g c =
     let T = g.S.Store.types_of c.args.store.now in
     let old = g.S.Store.state_of c.args.store.now in
-    let fs = c.args.self.now.fs.number in
-    let n = c.args.inode in
-    let offset = c.args.offset in
-    let bytes = c.args.bytes.now in
-    let none = nil_from_length bytes (eqb-true (length bytes) 0 (sym c.is_empty.ensures ∙ c.if-is_empty.true)) in
-    let f = found_file (latest old.lives) fs n (offset + length bytes) c.in_ok-end.end (c.in_ok-end.ensures.exact c.requires.library) in
+    let none = nil_from_length _ (eqb-true (length _) 0 (sym c.is_empty.ensures ∙ c.if-is_empty.true)) in
+    let f = found_file (latest old.lives) _ _ (c.args.offset + length _) c.in_ok-end.end (c.in_ok-end.ensures.exact c.requires.library) in
     record {
       types = search rules;
-      answers = none_takes T fs old n f.0 offset bytes f.1 none (after_in T fs n offset bytes old) f.3;
-      inodes = λ file e. (overwrites_none T fs old n file offset bytes (looked (latest old.lives) fs n (offset + length bytes) file e).0 none, λ z some. absurd (some none));
-      order = λ file e. some_order_none T fs n file offset bytes old _ none;
+      answers = none_takes T _ old _ f.0 _ _ f.1 none (after_in T _ _ _ _ old) f.3;
+      inodes = λ file e. (overwrites_none T _ old _ file _ _ (looked (latest old.lives) _ _ (c.args.offset + length _) file e).0 none, λ z some. absurd (some none));
+      order = λ file e. some_order_none T _ _ file _ _ old _ none;
       cuts = λ file there e made some. absurd (some refl);
       none = search rules;
       keeps = search rules;
@@ -83,49 +68,38 @@ returns-then-taken-eq0 g c =
 pub returns-in-Ok : goal.returns-in-Ok
 returns-in-Ok g c =
     let b = first g (goal.at.returns-in-Ok g c).After-write_parts-progress in
-    let T = g.S.Store.types_of c.args.store.now in
-    let array = edits_of c.args.self.now.added in
     let w = b.first.puts.wrote b.inode b.is in
     let types = c.write_parts-progress.ensures.types in
-    let count = c.saturating_sub-taken.result in
-    let some = c.if-taken-eq0.false in
     let same = same_taken _ _ _ _ _ _ _ _ _ _ b _ _ c.min.ensures c.saturating_sub-taken.ensures in
-    let x = c.in-Ok.ensures.ends T array w.after types b.first.stage w.file b.first.given.1 in
-    let new = g.S.Store.state_of c.raise_size.new.store in
-    let k = count_taken _ _ _ _ _ _ _ _ _ _ b count same some new x.1 in
+    let x = c.in-Ok.ensures.ends _ _ w.after types b.first.stage w.file b.first.given.1 in
+    let k = count_taken _ _ _ _ _ _ _ _ _ _ b _ same c.if-taken-eq0.false _ x.1 in
     record {
       types = search rules;
       answers = k.0;
       inodes = k.1;
-      order = taken_order _ _ _ _ _ _ _ _ _ _ b count same some new (c.in-Ok.ensures.order T array w.after types b.first.stage w.file);
+      order = taken_order _ _ _ _ _ _ _ _ _ _ b _ same c.if-taken-eq0.false _ (c.in-Ok.ensures.order _ _ w.after types b.first.stage w.file);
       cuts = λ file there e made ne grow.
-          let h = shown _ _ _ _ _ _ _ _ _ _ b _ (taken_place _ _ _ _ _ _ _ _ _ _ b count same ne) file e grow there made in
-          c.in-Ok.ensures.cuts T array w.after c.write_parts-progress.result.last there.0 types b.first.stage w.file h.0 refl h.1 h.2;
+          let h = shown _ _ _ _ _ _ _ _ _ _ b _ (taken_place _ _ _ _ _ _ _ _ _ _ b _ same ne) file e grow there made in
+          c.in-Ok.ensures.cuts _ _ w.after c.write_parts-progress.result.last there.0 types b.first.stage w.file h.0 refl h.1 h.2;
       none = λ z. absurd (b.there z);
-      keeps = volume_of T c.args.self.now _ x.0;
+      keeps = volume_of _ c.args.self.now _ x.0;
     }
 
 pub returns-in-Err : goal.returns-in-Err
 returns-in-Err g c =
     let b = first g (goal.at.returns-in-Err g c).After-write_parts-progress in
-    let T = g.S.Store.types_of c.args.store.now in
-    let array = edits_of c.args.self.now.added in
     let w = b.first.puts.wrote b.inode b.is in
     let types = c.write_parts-progress.ensures.types in
-    let count = c.saturating_sub-taken.result in
-    let some = c.if-taken-eq0.false in
     let same = same_taken _ _ _ _ _ _ _ _ _ _ b _ _ c.min.ensures c.saturating_sub-taken.ensures in
-    let x = c.in-Err.ensures.ends T array w.after types b.first.stage w.file b.first.given.1 in
-    let new = g.S.Store.state_of c.raise_size.new.store in
+    let x = c.in-Err.ensures.ends _ _ w.after types b.first.stage w.file b.first.given.1 in
     let told = c.none_taken-in-Err.ensures in
-    let result = c.none_taken-in-Err.result in
-    let k = count_refused _ _ _ _ _ _ _ _ _ _ b count same some new c.in-Err.fault x.1 result (told.none, told.count, told.err) in
+    let k = count_refused _ _ _ _ _ _ _ _ _ _ b _ same c.if-taken-eq0.false _ c.in-Err.fault x.1 _ (told.none, told.count, told.err) in
     record {
       types = search rules;
       answers = k.0;
       inodes = k.1;
-      order = refused_order _ _ _ _ _ _ _ _ _ _ b count same some new c.in-Err.fault x.1.1.1.0 (c.in-Err.ensures.order T array w.after types b.first.stage w.file) result told.count;
-      cuts = λ file there e made. none_shows result told.count (λ k. file_end file < c.args.offset + k → ShowsWhole there.0 new);
+      order = refused_order _ _ _ _ _ _ _ _ _ _ b _ same c.if-taken-eq0.false _ c.in-Err.fault x.1.1.1.0 (c.in-Err.ensures.order _ _ w.after types b.first.stage w.file) _ told.count;
+      cuts = λ file there e made. none_shows _ told.count (λ k. file_end file < c.args.offset + k → ShowsWhole there.0 _);
       none = λ z. absurd (b.there z);
-      keeps = volume_of T c.args.self.now _ x.0;
+      keeps = volume_of _ c.args.self.now _ x.0;
     }

@@ -7,9 +7,8 @@ returns-then-inode-eq0 c = λ numbers a. nothing_added numbers c.args.self.now a
 
 pub returns-then-at-lt-MOST_INODES : goal.returns-then-at-lt-MOST_INODES
 returns-then-at-lt-MOST_INODES c = λ numbers a.
-    let at = c.from-at.result in
-    let is : at ≡ c.args.inode - 1 = c.from-at.ensures in
-    low_added numbers c.args.self.now a c.args.inode at c.if-inode-eq0.false is c.if-at-lt-MOST_INODES.true _ (ap (set c.args.self.now.each at) c.saturating_add.ensures)
+    let is : c.from-at.result ≡ c.args.inode - 1 = c.from-at.ensures in
+    low_added numbers c.args.self.now a c.args.inode _ c.if-inode-eq0.false is c.if-at-lt-MOST_INODES.true _ (ap (set c.args.self.now.each _) c.saturating_add.ensures)
 
 pub returns-else-at-lt-MOST_INODES : goal.returns-else-at-lt-MOST_INODES
 returns-else-at-lt-MOST_INODES c = λ numbers a.

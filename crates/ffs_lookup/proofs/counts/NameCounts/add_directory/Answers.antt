@@ -1,5 +1,4 @@
-use Rattle.std.proofs.Common.{◌≡◌, ◌+◌, ◌++◌, ◌∙◌, ℕ, ap, append_assoc, arith, refl, subst, sym}
-use Rattle.std.proofs.lemmas.List.{append-nil}
+use Rattle.std.proofs.Common.{◌≡◌, ◌+◌, ◌++◌, ◌∙◌, ℕ, ap, append_assoc, arith, refl, subst, sym, append-nil}
 use Rattle.ffs_model.specs.Cuts.{latest}
 use Rattle.ffs_model.specs.Library.{library_layout}
 use Rattle.ffs_model.proofs.ForCallers.{library_reads, under_direct}
@@ -14,30 +13,25 @@ loop-i-init g c = λ numbers a. subst (λ xs. AreCounts xs c.args.self.now) (sym
 
 pub loop-i-preserved-then-block-eq0 : goal.loop-i-preserved-then-block-eq0
 loop-i-preserved-then-block-eq0 g c = λ numbers a.
-    let content = latest (g.S.Store.state_of c.args.store.now).lives in
-    let inode = c.args.directory.now.inode in
-    subst (λ xs. AreCounts (numbers ++ xs) c.loop-i.self) (sym (directory_past content inode c.loop-i.i (c.loop-i.i + 1) refl (sym c.direct-block.ensures ∙ c.if-block-eq0.true)))
+    subst (λ xs. AreCounts (numbers ++ xs) c.loop-i.self) (sym (directory_past _ _ c.loop-i.i (c.loop-i.i + 1) refl (sym c.direct-block.ensures ∙ c.if-block-eq0.true)))
     (c.loop-i.invariant numbers a)
 
 pub loop-i-preserved : goal.loop-i-preserved
 loop-i-preserved g c = λ numbers a.
     let content = latest (g.S.Store.state_of c.args.store.now).lives in
-    let inode = c.args.directory.now.inode in
-    let before = first_numbers content inode c.loop-i.i in
-    let bytes = c.in_ok-read_block.field-0.now in
-    let same : (numbers ++ before) ++ numbers_in bytes ≡ numbers ++ first_numbers content inode (c.loop-i.i + 1) =
-    append_assoc numbers before (numbers_in bytes)
-    ∙ ap (λ xs. numbers ++ xs) (sym (directory_more content inode c.loop-i.i (c.loop-i.i + 1) refl c.direct-block.result bytes (sym c.direct-block.ensures) c.if-block-eq0.false c.in_ok-read_block.ensures.bytes)) in
+    let before = first_numbers content _ c.loop-i.i in
+    let same : (numbers ++ before) ++ numbers_in c.in_ok-read_block.field-0.now ≡ numbers ++ first_numbers content c.args.directory.now.inode (c.loop-i.i + 1) =
+    append_assoc numbers before _
+    ∙ ap (λ xs. numbers ++ xs) (sym (directory_more content _ c.loop-i.i (c.loop-i.i + 1) refl c.direct-block.result _ (sym c.direct-block.ensures) c.if-block-eq0.false c.in_ok-read_block.ensures.bytes)) in
     subst (λ xs. AreCounts xs c.add_block.new.self) same (c.add_block.ensures (numbers ++ before) (c.loop-i.invariant numbers a))
 
 pub returns-in_err-read_block-clause-done : goal.returns-in_err-read_block-clause-done
 returns-in_err-read_block-clause-done g c = λ lib.
-    let T = g.S.Store.types_of c.args.store.now in
     let state = g.S.Store.state_of c.args.store.now in
     let found = c.args.directory.now in
     let block = c.direct-block in
     absurd (not_ok (c.in_err-read_block.ensures.reached 2
-    (under_direct T library_layout (library_reads T lib) (latest state.lives) c.args.fs.number _ found.block found.place block.result c.requires.is.stands.inodes
+    (under_direct _ library_layout (library_reads _ lib) (latest state.lives) c.args.fs.number _ found.block found.place block.result c.requires.is.stands.inodes
     (found_has state c.args.fs.number c.args.number found c.requires.is c.loop-i.i block.result (omega arith) (sym block.ensures) c.if-block-eq0.false))))
 
 pub returns-clause-counts : goal.returns-clause-counts

@@ -1,4 +1,4 @@
-use Rattle.std.specs.Prelude.{◌≡◌}
+use Rattle.std.proofs.Common.{◌≡◌}
 use Rattle.xn_model.specs.Worlds.{all_pending}
 use Rattle.ffs_lib.specs.Volumes.{NothingPending}
 use Rattle.xnfs_session.proofs.Flushed.{flush_after, nothing_left, on_ok}
@@ -11,5 +11,4 @@ returns-clause-keeps g c =
 
 pub returns-clause-done : goal.returns-clause-done
 returns-clause-done g c =
-    let left = c.flush-flushed.new.self.state.lives in
-    on_ok (λ stop. stop.refusal) c.waves_of.result c.flush-flushed.result (all_pending left ≡ 0) (NothingPending left) c.waves_of.ensures c.flush-flushed.ensures.done (nothing_left left)
+    on_ok (λ stop. stop.refusal) c.waves_of.result c.flush-flushed.result (all_pending _ ≡ 0) (NothingPending _) c.waves_of.ensures c.flush-flushed.ensures.done (nothing_left _)

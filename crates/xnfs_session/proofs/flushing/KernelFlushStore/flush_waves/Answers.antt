@@ -1,4 +1,4 @@
-use Rattle.std.specs.Prelude.{◌≡◌, ◌<◌}
+use Rattle.std.proofs.Common.{◌≡◌, ◌<◌}
 use Rattle.xn_model.specs.Worlds.{all_pending}
 use Rattle.ffs_lib.specs.Volumes.{NothingPending}
 use Rattle.xnfs_session.proofs.Flushed.{flush_after, nothing_left, if_ok}
@@ -11,7 +11,5 @@ returns-clause-keeps g c =
 
 pub returns-clause-done : goal.returns-clause-done
 returns-clause-done g c =
-    let left = c.flush_waves-flushed.new.self.state.lives in
-    let most = c.args.most in
-    if_ok (λ stop. stop.refusal) c.waves_of.result c.flush_waves-flushed.result (λ waves. waves < most → all_pending left ≡ 0) (λ waves. waves < most → NothingPending left)
-    c.waves_of.ensures c.flush_waves-flushed.ensures.done (λ waves done few. nothing_left left (done few))
+    if_ok (λ stop. stop.refusal) c.waves_of.result c.flush_waves-flushed.result (λ waves. waves < c.args.most → all_pending _ ≡ 0) (λ waves. waves < c.args.most → NothingPending _)
+    c.waves_of.ensures c.flush_waves-flushed.ensures.done (λ waves done few. nothing_left _ (done few))

@@ -1,5 +1,4 @@
-use Rattle.std.proofs.Common.{◌≡◌, None, Ok, subst}
-use Rattle.std.specs.Prelude.{OnErr}
+use Rattle.std.proofs.Common.{◌≡◌, None, Ok, subst, OnErr}
 use Rattle.ffs_lookup.specs.declared.places.Slot.{Slot}
 use Rattle.ffs_lookup.specs.Newest.{unlink_in}
 use Rattle.ffs_lib.specs.Orders.{Orders, removed_edits}

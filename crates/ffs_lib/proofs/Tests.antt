@@ -1,0 +1,13 @@
+-- Tests, and results that are two things at once.
+use Rattle.std.proofs.Common.{◌≡◌, Bool, true, false, ◌&&◌, Result, Ok, Err, refl}
+use Rattle.ffs_lib.proofs.Words.{FfsFault}
+
+pub true_false : (t : Bool) → t ≡ true → t ≡ false → ⊥
+true_false t e f = cc
+
+pub and_false : (t : Bool) → t && false ≡ false
+and_false true = refl
+and_false false = refl
+
+pub never : {A : Type 0} (x : A) (fault : FfsFault) → ◌≡◌ {A = Result A FfsFault} (Ok x) (Err fault) → ⊥
+never x fault e = cc
