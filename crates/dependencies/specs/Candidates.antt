@@ -33,16 +33,11 @@ pub record AreCandidates (lives : Lives) (q : CandidatesValue) : Type 0 where
   pub long : length q.blocks ≡ length lives
   pub each : (b : ℕ) → IsAccounted lives q b
 
--- a block is a candidate now, or it is as it was and does not wait for this one
-abbrev pub IsWoken : CandidatesValue → CandidatesValue → ℕ → ℕ → Type 0
-IsWoken old new other b =
-    (is_candidate new b ≡ true)
-    ⊎ ((is_candidate new b ≡ is_candidate old b) × (at new.waits b ≡ at old.waits b) × (at new.waits b ≡ Some other → ⊥))
-
--- the blocks that waited for one are candidates
+-- the blocks that waited for one are candidates: each block is one now, or it is as it was and does not wait for this one
 pub record Wakes (old new : CandidatesValue) (other : ℕ) : Type 0 where
   pub long : length new.blocks ≡ length old.blocks
-  pub each : (b : ℕ) → IsWoken old new other b
+  pub each : (b : ℕ) → (is_candidate new b ≡ true)
+      ⊎ ((is_candidate new b ≡ is_candidate old b) × (at new.waits b ≡ at old.waits b) × (at new.waits b ≡ Some other → ⊥))
 
 -- a block is no candidate any more, and waits for another
 pub record Parks (old new : CandidatesValue) (b other : ℕ) : Type 0 where

@@ -4,10 +4,10 @@ use Rattle.std.proofs.lemmas.Bool.{cases_eq}
 use Rattle.std.proofs.lemmas.List.{length-set}
 use Rattle.std.proofs.lemmas.Option.{same_Some, none-some, get_or_from_slice_get, slice_get_within}
 use Rattle.disk.specs.Lanes.{AreLanes}
-use Rattle.disk.specs.Images.{HoldsBytes, block_of_image, image_with_block}
+use Rattle.disk.specs.Images.{HoldsBytes, block_of_image}
 use Rattle.disk.specs.Mem.{MemoryLane, AreFreshLanes, fresh_lane}
 use Rattle.disk.proofs.SliceGet.{slice_get-set_same, slice_get-set_other, slice_get-push_front, slice_get-push_last}
-use Rattle.disk.proofs.BlockAt.{block_at-same, length-with_block, block_at-with_block_same, block_at-with_block_other}
+use Rattle.disk.proofs.BlockAt.{block_at-same}
 
 -- lanes hold one image
 pub HoldsBytes-same : {L : Type 0} (bytes_of : L → List ℕ) (places : List (Option L)) (a b : List ℕ)

@@ -6,13 +6,9 @@ pub record CountsOne (old new : ℕ) : Type 0 where
   pub changed : new ≢ old
 
 -- each lane that is here stands in the place of its number
-abbrev pub EachAtItsNumber : {L : Type 0} → (L → ℕ) → List (Option L) → Type 0
-EachAtItsNumber {L} number_of places =
-    (k : ℕ) (lane : L) → slice_get places k ≡ Some (Some lane) → number_of lane ≡ k
-
 pub record AreLanes {L : Type 0} (number_of : L → ℕ) (places : List (Option L)) : Type 0 where
   pub few : length places < 2 ^ 32
-  pub at_home : EachAtItsNumber number_of places
+  pub at_home : (k : ℕ) (lane : L) → slice_get places k ≡ Some (Some lane) → number_of lane ≡ k
 
 -- What a crash may leave in a block, as a test of bytes.
 

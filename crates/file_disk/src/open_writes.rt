@@ -32,11 +32,6 @@ impl CrashList {
     fn give(&mut self, _bytes: &[u8])
         ensures { self.new.may_leave ≡ _bytes.now ∷ self.old.may_leave }
     {}
-
-    /// The block was settled with these bytes.
-    fn settle(&mut self, _bytes: &[u8])
-        ensures { self.new.may_leave ≡ _bytes.now ∷ [] }
-    {}
 }
 
 /// The writes of a block that may not be settled. No other code changes the list of what a crash may leave, and only a good
@@ -61,7 +56,7 @@ impl OpenWrites {
         ensures { result ≡ record { may_leave = bytes.now ∷ []; settled_by = 0 } }
     {
         let mut crash_list = CrashList::new();
-        crash_list.settle(bytes);
+        crash_list.give(bytes);
         OpenWrites {
             crash_list,
             settled_by: 0,
@@ -89,6 +84,7 @@ impl OpenWrites {
         ensures { self.new ≡ record { may_leave = bytes.now ∷ []; settled_by = self.old.settled_by } }
     {
         let _number = good.number();
-        self.crash_list.settle(bytes);
+        self.crash_list = CrashList::new();
+        self.crash_list.give(bytes);
     }
 }

@@ -4,12 +4,12 @@ ghost use Rattle.std.specs.Prelude.{◌≡◌, ◌≢◌, All, IfOk};
 ghost use Rattle.durable_floor.specs.Rules.{zero_floor};
 ghost use Rattle.xn_state.specs.declared.call.Call.TheVariants.{Drain};
 
-use crate::disks::{bare_lanes, disk_of, edit_of, file_system, mounted, reaches};
+use crate::disks::{all_on_disk, bare_lanes, disk_of, edit_of, mounted};
 use crate::hold::Open;
-use crate::sharing::{end_of, share};
+use crate::sharing::{all_told, share, start, writes_of};
 use disk::{Lane, MemLane};
 use durable_floor::{Floor, Naming, Publisher, Reader};
-use shared::{FlushEnd, Flusher, Gate, Shared, worker};
+use shared::{Flusher, Gate, Shared, worker};
 use std::alloc::{AllocError, Global};
 use std::marker::Brand;
 use std::process::Abort;
@@ -17,6 +17,9 @@ use std::sync::Wait;
 use std::test::*;
 use std::thread::{Threads, join};
 use xn_kernel::{Answer, Call, EditId, Fs, Kernel};
+
+/// How many file systems have a worker.
+const SYSTEMS: u8 = 4;
 
 /// How many edits each worker proposes.
 const EDITS: u8 = 40;
@@ -109,23 +112,6 @@ fn nine_on(alloc: Global) -> Result<Vec<u64>, AllocError> {
     Ok(numbers)
 }
 
-/// A block of each of four file systems, rooted: blocks 1 to 4, entries 1 to 8.
-fn start<L: Lane, G: Gate, K: Naming, R: Wait + Abort>(
-    rt: &R,
-    shared: &Shared<L, G, K>,
-) -> Result<(), Fail> {
-    for number in 0..4 {
-        let fs = file_system(number)?;
-        let block = u32::from(number) + 1;
-        let entry = 2 * u64::from(number) + 1;
-        let made = shared.with(rt, |hub| hub.init(fs, 2, &[0; 512]));
-        assert_eq!(rt; made, Ok((block, EditId(entry))));
-        let rooted = shared.with(rt, |hub| hub.make_root(fs, block));
-        assert_eq!(rt; rooted, Ok(EditId(entry + 1)));
-    }
-    Ok(())
-}
-
 /// Bytes 0 to 39 are 1 to 40, and all others 0.
 fn is_edited(bytes: &[u8]) -> bool {
     let mut good = true;
@@ -134,48 +120,6 @@ fn is_edited(bytes: &[u8]) -> bool {
         good = good && usize::from(*byte) == want;
     }
     good
-}
-
-/// Each file system's floor is told, nothing is pending, and its block has all edits.
-fn all_told<L: Lane, G: Gate, K: Naming, R: Wait + Abort>(
-    rt: &R,
-    shared: &Shared<L, G, K>,
-    reader: Reader,
-) -> Result<(), Fail>
-    requires { reader.floor ≡ K.floor }
-{
-    let mut reader = reader;
-    for number in 0..4 {
-        let fs = file_system(number)?;
-        assert_eq!(rt; shared.meet(rt, fs, &mut reader), 169);
-        assert_eq!(rt; shared.with(rt, |hub| hub.pending(fs)), 0);
-        let read = shared.with(rt, |hub| hub.read(fs, u32::from(number) + 1).copied());
-        match read {
-            Ok(bytes) => assert!(rt; is_edited(bytes.as_slice())),
-            Err(refusal) => panic!(rt; "{refusal:?}"),
-        }
-    }
-    Ok(())
-}
-
-/// The disk is sound, with the four blocks reached, and they have all edits.
-fn all_on_disk<R: Threads + Abort + Sync>(rt: &R, alloc: Global, image: &[u8]) -> Result<(), Fail> {
-    reaches(rt, alloc, image, 5)?;
-    for (at, block) in image.chunks(512).enumerate() {
-        if 1 <= at && at <= 4 {
-            assert!(rt; is_edited(block), "block {at}");
-        }
-    }
-    Ok(())
-}
-
-/// How many writes two flushers made that met no fault.
-fn writes_of<L: Lane + Drop>(rt: &impl Abort, one: FlushEnd<L>, two: FlushEnd<L>) -> u32 {
-    let (one, fault) = end_of(rt, one);
-    assert!(rt; fault.is_none());
-    let (two, fault) = end_of(rt, two);
-    assert!(rt; fault.is_none());
-    one.saturating_add(two)
 }
 
 /// Four workers, each on its own file system, and two flushers.
@@ -194,7 +138,7 @@ fn run<
             || four_workers(rt, alloc, shared),
         ),
     );
-    let writes = writes_of(rt, one, two);
+    let writes = writes_of(rt, one).saturating_add(writes_of(rt, two));
     assert!(rt; 5 <= writes && writes <= 168, "{writes} writes");
     let entries = in_order(worked).ok_or("four workers")?;
     assert_eq!(rt; entries.as_slice(), nine_on(alloc)?.as_slice());
@@ -211,7 +155,7 @@ fn seen<
     requires { stranger.floor ≡ K.floor }
 {
     let mut stranger = stranger;
-    start(rt, shared)?;
+    start(rt, shared, SYSTEMS)?;
     assert_eq!(rt; shared.floor().read(&mut stranger, 0), 0);
     run(rt, alloc, shared)?;
     assert_eq!(rt; shared.floor().read(&mut stranger, 0), 169);
@@ -235,9 +179,9 @@ fn at_once<K: Naming + Send + Sync, R: Threads + Wait + Abort + Sync>(
 {
     let shared: Shared<MemLane, Open, K> = share(alloc, kernel, floor, publisher, Open)?;
     seen(rt, alloc, &shared, stranger)?;
-    all_told(rt, &shared, reader)?;
+    all_told(rt, &shared, reader, SYSTEMS, 169, is_edited)?;
     let disk = disk_of(alloc, shared)?;
-    all_on_disk(rt, alloc, disk.bytes())
+    all_on_disk(rt, alloc, disk.bytes(), SYSTEMS, is_edited)
 }
 
 #[test]

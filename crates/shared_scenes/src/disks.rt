@@ -49,7 +49,7 @@ pub fn disk_of<G: Gate + Drop, K: Naming>(
 }
 
 /// The image of a disk of 32 blocks is sound, and so many of them are reached.
-pub fn reaches<R: Threads + Abort + Sync>(
+fn reaches<R: Threads + Abort + Sync>(
     rt: &R,
     alloc: Global,
     image: &[u8],
@@ -65,6 +65,27 @@ pub fn reaches<R: Threads + Abort + Sync>(
         }
         Err(fault) => Err(fault.into()),
     }
+}
+
+/// The image is sound, with a block of each of so many file systems reached, and the bytes of these blocks are right.
+pub fn all_on_disk<R: Threads + Abort + Sync, F: Fn(&[u8]) -> bool>(
+    rt: &R,
+    alloc: Global,
+    image: &[u8],
+    systems: u8,
+    are_right: F,
+) -> Result<(), Fail>
+    requires few { systems ≤ 31 }
+    requires right { F.IsAlwaysCallable are_right }
+{
+    let systems = usize::from(systems);
+    reaches(rt, alloc, image, systems + 1)?;
+    for (at, block) in image.chunks(512).enumerate() {
+        if 1 <= at && at <= systems {
+            assert!(rt; are_right(block), "block {at}");
+        }
+    }
+    Ok(())
 }
 
 /// The file system of a number below 32.

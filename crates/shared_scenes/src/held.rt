@@ -5,7 +5,7 @@ ghost use Rattle.durable_floor.specs.Rules.{zero_floor};
 
 use crate::disks::{bare_lanes, edit_of, file_system, letters, mounted};
 use crate::hold::{HeldIn, HeldLane, Hold, Holding, Open};
-use crate::sharing::{end_of, share};
+use crate::sharing::{share, writes_of};
 use disk::{Lane, Lanes, MemLane};
 use durable_floor::{Floor, Naming, Publisher};
 use shared::{Flusher, Gate, Shared};
@@ -16,7 +16,7 @@ use std::sync::{Arc, Wait};
 use std::test::*;
 use std::thread::{Threads, join};
 use std::time::Clock;
-use xn_kernel::{Edit, EditId, Fs, Kernel, Refusal};
+use xn_kernel::{Edit, EditId, Fs, Kernel};
 
 /// Lanes whose writes hold, or their syncs.
 fn held_lanes<R: Clock + Drop>(
@@ -41,45 +41,75 @@ fn held_lanes<R: Clock + Drop>(
     Ok(all)
 }
 
-/// Once a write is held, edits the same block, and lets the write go on where that was answered Ok.
+/// Once a write of each of so many blocks is held at once, edits the blocks in turn, and lets the writes go on where each edit was
+/// given its entry. Whether each was.
 fn edit_while_held<L: Lane, G: Gate, K: Naming, R: Wait, C: Clock>(
     rt: &R,
     shared: &Shared<L, G, K>,
     hold: &Hold<C>,
     fs: Fs,
     edit: &Edit,
-) -> Option<Result<EditId, Refusal>> {
-    let mut answer = None;
-    if hold.wait_until_held(1) {
-        let edited = shared.with(rt, |hub| hub.propose(fs, 1, edit));
-        if edited.is_ok() {
-            hold.answer();
+    blocks: u32,
+) -> bool {
+    let mut is_edited = hold.wait_until_held(blocks);
+    for number in 0..blocks {
+        if is_edited {
+            let edited = shared.with(rt, |hub| hub.propose(fs, number + 1, edit));
+            is_edited = edited == Ok(EditId(u64::from(blocks) + u64::from(number) + 1));
         }
-        answer = Some(edited);
+    }
+    if is_edited {
+        hold.answer();
     }
     shared.stop();
-    answer
+    is_edited
 }
 
-/// A flusher, and one who edits the block that it writes.
+/// How many writes one flusher makes, or two at once.
+fn flush<
+    L: Lane + Drop + Send,
+    G: Gate + Sync,
+    K: Naming + Send + Sync,
+    R: Threads + Wait + Abort + Sync,
+>(rt: &R, shared: &Shared<L, G, K>, flushers: u32) -> u32 {
+    if flushers == 1 {
+        return writes_of(rt, Flusher::new(shared).run(rt));
+    }
+    let (one, two) = join(
+        rt,
+        || Flusher::new(shared).run(rt),
+        || Flusher::new(shared).run(rt),
+    );
+    writes_of(rt, one).saturating_add(writes_of(rt, two))
+}
+
+/// One flusher or two, with a block for each, and one who edits the blocks that they write.
 fn edits_beside<
     L: Lane + Drop + Send,
     G: Gate + Sync,
     K: Naming + Send + Sync,
     C: Clock + Send + Sync,
     R: Threads + Wait + Abort + Sync,
->(rt: &R, shared: &Shared<L, G, K>, hold: &Hold<C>, edit: &Edit) -> Result<(), Fail> {
+>(
+    rt: &R,
+    shared: &Shared<L, G, K>,
+    hold: &Hold<C>,
+    edit: &Edit,
+    flushers: u32,
+) -> Result<(), Fail> {
     let fs = file_system(0)?;
-    let first = shared.with(rt, |hub| hub.init(fs, 2, &letters()));
-    assert_eq!(rt; first, Ok((1, EditId(1))));
-    let (end, answer) = join(
+    for number in 0..flushers {
+        let begun = shared.with(rt, |hub| hub.init(fs, 2, &letters()));
+        assert_eq!(rt; begun, Ok((number + 1, EditId(u64::from(number) + 1))));
+    }
+    let (writes, is_edited) = join(
         rt,
-        || Flusher::new(shared).run(rt),
-        || edit_while_held(rt, shared, hold, fs, edit),
+        || flush(rt, shared, flushers),
+        || edit_while_held(rt, shared, hold, fs, edit, flushers),
     );
-    assert_eq!(rt; end_of(rt, end), (2, None));
-    assert_eq!(rt; answer, Some(Ok(EditId(2))));
+    assert!(rt; is_edited);
     assert!(rt; hold.was_in_time());
+    assert_eq!(rt; writes, flushers.saturating_mul(2));
     Ok(())
 }
 
@@ -98,86 +128,14 @@ fn edits_of<
     kernel: Kernel<L>,
     gate: G,
     hold: &Hold<C>,
+    flushers: u32,
 ) -> Result<(), Fail>
     requires floor { floor ≡ K.floor }
     requires publisher { publisher ≡ record { floor = floor; seen = zero_floor } }
 {
     let shared: Shared<L, G, K> = share(alloc, kernel, floor, publisher, gate)?;
     let edit = edit_of(alloc, 0, 0x5a)?;
-    edits_beside(rt, &shared, hold, &edit)
-}
-
-/// Once two writes are held at once, edits both blocks, and lets the writes go on where that was answered Ok.
-fn edit_both_while_held<L: Lane, G: Gate, K: Naming, R: Wait, C: Clock>(
-    rt: &R,
-    shared: &Shared<L, G, K>,
-    hold: &Hold<C>,
-    fs: Fs,
-    edit: &Edit,
-) -> Option<(Result<EditId, Refusal>, Result<EditId, Refusal>)> {
-    let mut answers = None;
-    if hold.wait_until_held(2) {
-        let first = shared.with(rt, |hub| hub.propose(fs, 1, edit));
-        let second = shared.with(rt, |hub| hub.propose(fs, 2, edit));
-        if first.is_ok() && second.is_ok() {
-            hold.answer();
-        }
-        answers = Some((first, second));
-    }
-    shared.stop();
-    answers
-}
-
-/// Two flushers, and one who edits the blocks that they write.
-fn edits_beside_two<
-    L: Lane + Drop + Send,
-    G: Gate + Sync,
-    K: Naming + Send + Sync,
-    C: Clock + Send + Sync,
-    R: Threads + Wait + Abort + Sync,
->(rt: &R, shared: &Shared<L, G, K>, hold: &Hold<C>, edit: &Edit) -> Result<(), Fail> {
-    let fs = file_system(0)?;
-    let first = shared.with(rt, |hub| hub.init(fs, 2, &letters()));
-    assert_eq!(rt; first, Ok((1, EditId(1))));
-    let second = shared.with(rt, |hub| hub.init(fs, 2, &letters()));
-    assert_eq!(rt; second, Ok((2, EditId(2))));
-    let ((one, two), answers) = join(
-        rt,
-        || join(
-            rt,
-            || Flusher::new(shared).run(rt),
-            || Flusher::new(shared).run(rt),
-        ),
-        || edit_both_while_held(rt, shared, hold, fs, edit),
-    );
-    assert_eq!(rt; answers, Some((Ok(EditId(3)), Ok(EditId(4)))));
-    assert!(rt; hold.was_in_time());
-    let (one, two) = (end_of(rt, one), end_of(rt, two));
-    assert_eq!(rt; (one.1, two.1), (None, None));
-    assert_eq!(rt; one.0.saturating_add(two.0), 4);
-    Ok(())
-}
-
-/// The same over a kernel whose lanes hold.
-fn edits_of_two<
-    L: Lane + Drop + Send,
-    K: Naming + Send + Sync,
-    C: Clock + Send + Sync,
-    R: Threads + Wait + Abort + Sync,
->(
-    rt: &R,
-    alloc: Global,
-    floor: Floor,
-    publisher: Publisher,
-    kernel: Kernel<L>,
-    hold: &Hold<C>,
-) -> Result<(), Fail>
-    requires floor { floor ≡ K.floor }
-    requires publisher { publisher ≡ record { floor = floor; seen = zero_floor } }
-{
-    let shared: Shared<L, Open, K> = share(alloc, kernel, floor, publisher, Open)?;
-    let edit = edit_of(alloc, 0, 0x5a)?;
-    edits_beside_two(rt, &shared, hold, &edit)
+    edits_beside(rt, &shared, hold, &edit, flushers)
 }
 
 #[test]
@@ -188,7 +146,7 @@ fn no_lock_is_held_at_the_gate(rt: HostRuntime) -> Result<(), Fail> {
         hold: Arc::try_clone(&hold)?,
     };
     let (floor, publisher, _readers) = Floor::new(rt.alloc(), 0)?;
-    edits_of::<_, _, Brand, _, _>(&rt, rt.alloc(), floor, publisher, kernel, gate, &hold)
+    edits_of::<_, _, Brand, _, _>(&rt, rt.alloc(), floor, publisher, kernel, gate, &hold, 1)
 }
 
 #[test]
@@ -197,7 +155,7 @@ fn no_lock_is_held_in_a_write(rt: HostRuntime) -> Result<(), Fail> {
     let lanes = held_lanes(rt.alloc(), bare_lanes(rt.alloc())?, &hold, HeldIn::Write)?;
     let kernel = mounted(&rt, rt.alloc(), lanes)?;
     let (floor, publisher, _readers) = Floor::new(rt.alloc(), 0)?;
-    edits_of::<_, _, Brand, _, _>(&rt, rt.alloc(), floor, publisher, kernel, Open, &hold)
+    edits_of::<_, _, Brand, _, _>(&rt, rt.alloc(), floor, publisher, kernel, Open, &hold, 1)
 }
 
 #[test]
@@ -206,5 +164,5 @@ fn no_lock_is_held_in_two_syncs_at_once(rt: HostRuntime) -> Result<(), Fail> {
     let lanes = held_lanes(rt.alloc(), bare_lanes(rt.alloc())?, &hold, HeldIn::Sync)?;
     let kernel = mounted(&rt, rt.alloc(), lanes)?;
     let (floor, publisher, _readers) = Floor::new(rt.alloc(), 0)?;
-    edits_of_two::<_, Brand, _, _>(&rt, rt.alloc(), floor, publisher, kernel, &hold)
+    edits_of::<_, _, Brand, _, _>(&rt, rt.alloc(), floor, publisher, kernel, Open, &hold, 2)
 }

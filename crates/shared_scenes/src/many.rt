@@ -3,10 +3,10 @@
 ghost use Rattle.std.specs.Prelude.{◌≡◌};
 ghost use Rattle.durable_floor.specs.Rules.{zero_floor};
 
-use crate::disks::{bare_lanes, file_system, mounted, reaches};
+use crate::disks::{all_on_disk, bare_lanes, mounted};
 use crate::failing::{FailingLane, Fails, failing_lanes};
 use crate::hold::Open;
-use crate::sharing::{share, sync_and_finish};
+use crate::sharing::{all_told, share, start, sync_and_finish};
 use disk::{Lane, Lanes, MemDisk, MemLane};
 use durable_floor::{Floor, Naming, Publisher, Reader};
 use shared::{FlushEnd, Flusher, Gate, Shared};
@@ -18,6 +18,9 @@ use std::test::*;
 use std::thread;
 use std::thread::{Threads, join};
 use xn_kernel::{Edit, Fs, Kernel, Patch, Refusal};
+
+/// How many file systems have a worker.
+const SYSTEMS: u8 = 8;
 
 /// How many edits each file system proposes.
 const EDITS: u32 = 2500;
@@ -157,22 +160,6 @@ fn is_last(bytes: &[u8]) -> bool {
     good
 }
 
-/// A block of each of eight file systems, rooted.
-fn start<L: Lane, G: Gate, K: Naming, R: Wait + Abort>(
-    rt: &R,
-    shared: &Shared<L, G, K>,
-) -> Result<(), Fail> {
-    for number in 0..8 {
-        let fs = file_system(number)?;
-        let block = u32::from(number) + 1;
-        let made = shared.with(rt, |hub| hub.init(fs, 2, &[0; 512]));
-        assert!(rt; made.is_ok());
-        let rooted = shared.with(rt, |hub| hub.make_root(fs, block));
-        assert!(rt; rooted.is_ok());
-    }
-    Ok(())
-}
-
 /// Two workers at once, for these file systems.
 fn two_workers<L: Lane + Send, G: Gate + Sync, K: Naming + Send + Sync, R: Threads + Wait + Sync>(
     rt: &R,
@@ -255,33 +242,6 @@ fn run<
     Ok(())
 }
 
-/// All entries are told durable.
-fn all_told<L: Lane, G: Gate, K: Naming, R: Wait + Abort>(
-    rt: &R,
-    shared: &Shared<L, G, K>,
-    reader: Reader,
-) -> Result<(), Fail>
-    requires { reader.floor ≡ K.floor }
-{
-    let mut reader = reader;
-    for number in 0..8 {
-        let fs = file_system(number)?;
-        assert_eq!(rt; shared.meet(rt, fs, &mut reader), 20_017);
-    }
-    Ok(())
-}
-
-/// The image is sound, with the eight blocks reached, and they have the last edits.
-fn all_on_disk<R: Threads + Abort + Sync>(rt: &R, alloc: Global, image: &[u8]) -> Result<(), Fail> {
-    reaches(rt, alloc, image, 9)?;
-    for (at, block) in image.chunks(512).enumerate() {
-        if 1 <= at && at <= 8 {
-            assert!(rt; is_last(block), "block {at}");
-        }
-    }
-    Ok(())
-}
-
 /// The run, and what it leaves.
 fn many<K: Naming + Send + Sync, R: Threads + Wait + Abort + Sync>(
     rt: &R,
@@ -296,12 +256,12 @@ fn many<K: Naming + Send + Sync, R: Threads + Wait + Abort + Sync>(
     requires reader { reader.floor ≡ floor }
 {
     let shared: Shared<FailingLane, Open, K> = share(alloc, kernel, floor, publisher, Open)?;
-    start(rt, &shared)?;
+    start(rt, &shared, SYSTEMS)?;
     run(rt, alloc, &shared)?;
-    all_told(rt, &shared, reader)?;
+    all_told(rt, &shared, reader, SYSTEMS, 20_017, is_last)?;
     let lanes = shared.into_held().into_kernel().into_lanes();
     match MemDisk::join(alloc, sound_lanes(alloc, lanes)?) {
-        Ok(disk) => all_on_disk(rt, alloc, disk.bytes()),
+        Ok(disk) => all_on_disk(rt, alloc, disk.bytes(), SYSTEMS, is_last),
         Err(_) => Err("a lane is away".into()),
     }
 }

@@ -1,15 +1,17 @@
-// How a kernel comes to be shared, how a flusher ends, and how a write is finished by hand.
+// How a kernel comes to be shared, how its file systems start and are told, how a flusher ends, and how a write is finished by hand.
 
 ghost use Rattle.std.specs.Prelude.{◌≡◌};
 ghost use Rattle.durable_floor.specs.Rules.{zero_floor};
 
+use crate::disks::file_system;
 use disk::Lane;
-use durable_floor::{Floor, Naming, Publisher};
+use durable_floor::{Floor, Naming, Publisher, Reader};
 use shared::{FlushEnd, Gate, Hub, Shared};
 use std::alloc::{AllocError, Global};
 use std::process::Abort;
 use std::sync::{Arc, Wait};
-use xn_kernel::{Kernel, Landed, Refusal, Ticket};
+use std::test::*;
+use xn_kernel::{EditId, Kernel, Landed, Refusal, Ticket};
 
 /// A kernel that threads may share, with a floor that nobody has raised.
 pub fn share<L: Lane + Drop, G: Gate + Drop, K: Naming>(
@@ -27,6 +29,50 @@ pub fn share<L: Lane + Drop, G: Gate + Drop, K: Naming>(
     Ok(Shared::new(hub, floor, gate))
 }
 
+/// A block of each of so many file systems, rooted: the blocks and the entries from 1 on.
+pub fn start<L: Lane, G: Gate, K: Naming, R: Wait + Abort>(
+    rt: &R,
+    shared: &Shared<L, G, K>,
+    systems: u8,
+) -> Result<(), Fail> {
+    for number in 0..systems {
+        let fs = file_system(number)?;
+        let block = u32::from(number) + 1;
+        let entry = 2 * u64::from(number) + 1;
+        let made = shared.with(rt, |hub| hub.init(fs, 2, &[0; 512]));
+        assert_eq!(rt; made, Ok((block, EditId(entry))));
+        let rooted = shared.with(rt, |hub| hub.make_root(fs, block));
+        assert_eq!(rt; rooted, Ok(EditId(entry + 1)));
+    }
+    Ok(())
+}
+
+/// Each of these file systems is told this floor, nothing of it is pending, and its block's bytes are right.
+pub fn all_told<L: Lane, G: Gate, K: Naming, R: Wait + Abort, F: Fn(&[u8]) -> bool>(
+    rt: &R,
+    shared: &Shared<L, G, K>,
+    reader: Reader,
+    systems: u8,
+    floor: u64,
+    are_right: F,
+) -> Result<(), Fail>
+    requires reader { reader.floor ≡ K.floor }
+    requires right { F.IsAlwaysCallable are_right }
+{
+    let mut reader = reader;
+    for number in 0..systems {
+        let fs = file_system(number)?;
+        assert_eq!(rt; shared.meet(rt, fs, &mut reader), floor);
+        assert_eq!(rt; shared.with(rt, |hub| hub.pending(fs)), 0);
+        let read = shared.with(rt, |hub| hub.read(fs, u32::from(number) + 1).copied());
+        match read {
+            Ok(bytes) => assert!(rt; are_right(bytes.as_slice())),
+            Err(refusal) => panic!(rt; "{refusal:?}"),
+        }
+    }
+    Ok(())
+}
+
 /// The writes and the fault of a flusher that has no ticket left.
 pub fn end_of<L: Lane + Drop>(rt: &impl Abort, end: FlushEnd<L>) -> (u32, Option<Refusal>) {
     let FlushEnd {
@@ -42,6 +88,13 @@ pub fn end_of<L: Lane + Drop>(rt: &impl Abort, end: FlushEnd<L>) -> (u32, Option
         None => {}
     }
     (writes, fault)
+}
+
+/// How many writes a flusher made that met no fault.
+pub fn writes_of<L: Lane + Drop>(rt: &impl Abort, end: FlushEnd<L>) -> u32 {
+    let (writes, fault) = end_of(rt, end);
+    assert!(rt; fault.is_none());
+    writes
 }
 
 /// Takes the lock, and finishes a write: what that made durable, or the ticket and why it was refused.

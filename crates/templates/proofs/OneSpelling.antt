@@ -221,6 +221,12 @@ take_four m h =
     ∙ ap (λ l. get_or m 1 0 ∷ l) (drop_more m 2 0 (omega arith) ∙ ap (λ l. get_or m 2 0 ∷ l) (drop_more m 3 0 (omega arith))))
 
 module _ (m : List ℕ) (t : TemplateValue) (long : length m ≡ 512) (bytes : All (λ byte. byte < 256) m) where
+  part_bytes : (i j : ℕ) → All (λ byte. byte < 256) (slice_range m i j)
+  part_bytes i j = All-take (λ byte. byte < 256) (j - i) (drop i m) (All-drop (λ byte. byte < 256) i m bytes)
+
+  part_length : (i j : ℕ) → i ≤ j → j ≤ 512 → length (slice_range m i j) ≡ j - i
+  part_length i j le within = length-take-le (j - i) (drop i m) (let n = length-drop i m in omega arith)
+
   -- the facts that the steps of the reading give
   record Steps : Type 0 where
     mark : bytes_eq (take 2 m) template_mark ≡ true
@@ -241,12 +247,6 @@ module _ (m : List ℕ) (t : TemplateValue) (long : length m ≡ 512) (bytes : A
         code = b.1 ∙ ap Ok (ok_same _ t c.2);
         clear = demand_ok _ BytesAfter c.0 c.1;
       }
-
-  part_bytes : (i j : ℕ) → All (λ byte. byte < 256) (slice_range m i j)
-  part_bytes i j = All-take (λ byte. byte < 256) (j - i) (drop i m) (All-drop (λ byte. byte < 256) i m bytes)
-
-  part_length : (i j : ℕ) → i ≤ j → j ≤ 512 → length (slice_range m i j) ≡ j - i
-  part_length i j le within = length-take-le (j - i) (drop i m) (let n = length-drop i m in omega arith)
 
   module _ (s : Steps) where
     read : CodeOf (slice_range m 4 (owns_end m)) (slice_range m (owns_end m) (size_end m)) t

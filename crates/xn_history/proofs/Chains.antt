@@ -51,6 +51,18 @@ module _ (w : World) (h : Holds w) (hs : Histories) (known : AreHistoriesOf w.st
       let l = living (life_at w.state.lives a) (hs a) (known a) n.history n.known in
       (h.state.linked a l.0 l.1).owned c (type_in (hs c)) (named_newest a c n l.0 l.1)
 
+  -- an owned block that is reached goes on
+  owned_goes : (e : Event) (r : Reply) (w' : World) → IsEvent e → Step w e r w' → (c a u : ℕ) → IsOwnedBy w.state.lives a c → ((image : List (List ℕ)) → MayLeave w image → Reach (types_on w image) (length image) (block_of image) c u) → (l : Life) × (life_at w'.state.lives c ≡ Some l)
+  owned_goes (Client fs k) r w' few s c a u o reached = (goes w h hs known (Client fs k) r w' few s refl).survive c a o.life o.alive o.status
+  owned_goes (Install m) r w' few s c a u o reached = (goes w h hs known (Install m) r w' few s refl).survive c a o.life o.alive o.status
+  owned_goes (Begin b) r w' few s c a u o reached = (goes w h hs known (Begin b) r w' few s refl).survive c a o.life o.alive o.status
+  owned_goes (Land b) r w' few s c a u o reached = (goes w h hs known (Land b) r w' few s refl).survive c a o.life o.alive o.status
+  owned_goes (Fail b stays) r w' few s c a u o reached = (goes w h hs known (Fail b stays) r w' few s refl).survive c a o.life o.alive o.status
+  owned_goes (Finish b) r w' few s c a u o reached = (goes w h hs known (Finish b) r w' few s refl).survive c a o.life o.alive o.status
+  owned_goes (Sync b) r w' few s c a u o reached = (goes w h hs known (Sync b) r w' few s refl).survive c a o.life o.alive o.status
+  owned_goes (FailSync b) r w' few s c a u o reached = (goes w h hs known (FailSync b) r w' few s refl).survive c a o.life o.alive o.status
+  owned_goes (Crash kept) r w' few s c a u o reached = let l = (crash_lives w kept r w' s).all c u (reached (left w kept) (left_may w h kept)) in (l.0, l.1)
+
   -- each block of a chain is reached in every image that a crash may leave
   pub chain_reached : (image : List (List ℕ)) → MayLeave w image → (c : ℕ) (blocks : List ℕ) → IsNamedChain (types_now w) hs (c ∷ blocks) → Reach (types_on w image) (length image) (block_of image) c (type_in (hs c))
   chain_reached image may c [] zero =
@@ -70,18 +82,6 @@ module _ (w : World) (h : Holds w) (hs : Histories) (known : AreHistoriesOf w.st
       (left_installed w h image may a (type_in (hs a)) reached).0
       (subst (λ (o : List ℕ → List (ℕ × ℕ)). Contains (o (block_of image a)) (c, type_in (hs c))) (sym (left_owned w h image may a (type_in (hs a)) reached))
       (subst (λ t. Contains ((types_now w).owned t (block_of image a)) (c, type_in (hs c))) ty (subst (λ m. Contains ((types_now w).owned n.history.ty m) (c, type_in (hs c))) f.3.there names)))
-
-  -- an owned block that is reached goes on
-  owned_goes : (e : Event) (r : Reply) (w' : World) → IsEvent e → Step w e r w' → (c a u : ℕ) → IsOwnedBy w.state.lives a c → ((image : List (List ℕ)) → MayLeave w image → Reach (types_on w image) (length image) (block_of image) c u) → (l : Life) × (life_at w'.state.lives c ≡ Some l)
-  owned_goes (Client fs k) r w' few s c a u o reached = (goes w h hs known (Client fs k) r w' few s refl).survive c a o.life o.alive o.status
-  owned_goes (Install m) r w' few s c a u o reached = (goes w h hs known (Install m) r w' few s refl).survive c a o.life o.alive o.status
-  owned_goes (Begin b) r w' few s c a u o reached = (goes w h hs known (Begin b) r w' few s refl).survive c a o.life o.alive o.status
-  owned_goes (Land b) r w' few s c a u o reached = (goes w h hs known (Land b) r w' few s refl).survive c a o.life o.alive o.status
-  owned_goes (Fail b stays) r w' few s c a u o reached = (goes w h hs known (Fail b stays) r w' few s refl).survive c a o.life o.alive o.status
-  owned_goes (Finish b) r w' few s c a u o reached = (goes w h hs known (Finish b) r w' few s refl).survive c a o.life o.alive o.status
-  owned_goes (Sync b) r w' few s c a u o reached = (goes w h hs known (Sync b) r w' few s refl).survive c a o.life o.alive o.status
-  owned_goes (FailSync b) r w' few s c a u o reached = (goes w h hs known (FailSync b) r w' few s refl).survive c a o.life o.alive o.status
-  owned_goes (Crash kept) r w' few s c a u o reached = let l = (crash_lives w kept r w' s).all c u (reached (left w kept) (left_may w h kept)) in (l.0, l.1)
 
   module _ (e : Event) (r : Reply) (w' : World) (few : IsEvent e) (s : Step w e r w') where
     abbrev hs' : Histories

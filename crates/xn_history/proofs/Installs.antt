@@ -10,11 +10,11 @@ use Rattle.xn_model.specs.Lives.{BlockState, Life, StoreState, life_at, current}
 use Rattle.xn_model.specs.Calls.{install_of, install_at, started, new_life, first_state, root_now, types_of, life_bytes}
 use Rattle.xn_model.specs.Calls as model
 use Rattle.xn_model.specs.Rules.{IsConsistent}
-use Rattle.xn_model.proofs.ForCallers.{accepted, Contains-none, Contains-cons, accepted_is, each_back, each_forth, set_same, set_other, lowest_is, IsInstalled, begun_kept, pointer_stays, small_life}
+use Rattle.xn_model.proofs.ForCallers.{accepted, Contains-none, Contains-cons, accepted_is, each_forth, set_same, set_other, lowest_is, IsInstalled, begun_kept, pointer_stays, small_life}
 use Rattle.xn_history.specs.Histories.{History, Histories, bytes_in, accepting, change_in, start_in, named_catalogue}
 use Rattle.xn_history.specs.Moments.{IsHistoryOf, IsHistoryAt, AreHistoriesOf}
 use Rattle.xn_history.proofs.Turns.{Turn, Keeps, unmatched, turn_earlier}
-use Rattle.xn_history.proofs.Calls.{Turns, starts, accepts_turn, keeps_by, root_bytes, root_long}
+use Rattle.xn_history.proofs.Calls.{Turns, accepts_turn, keeps_by, root_bytes, root_long}
 
 module _ (L : Language) (state new : StoreState) (h : IsConsistent (types_of L state.lives) state) (hs : Histories) (known : AreHistoriesOf state.lives hs)
     (bytes : List ℕ) (whole : length bytes ≡ 512) (made : ℕ × ℕ × ℕ) (x : IsInstalled L state bytes made new) where

@@ -3,7 +3,7 @@ use Rattle.std.proofs.Common.{◌≡◌, ◌≢◌, ◌⊎◌, ℕ, zero, suc, �
 use Rattle.std.specs.Prelude.{Contains, nat_lt, option_map, option_to_list, ◌==◌}
 use Rattle.std.specs.List.{last_or}
 use Rattle.std.proofs.lemmas.Bool.{and_parts, and_from, or_left, eqb-false, ltb-true, ltb-false, lt-ltb, not-true, ne_eqb}
-use Rattle.std.proofs.lemmas.Option.{none-some, same_Some}
+use Rattle.std.proofs.lemmas.Option.{same_Some}
 use Rattle.xn_model.specs.Root.{pointer, has_type, KeepsPointers}
 use Rattle.xn_model.specs.Lives.{BlockState, Life, Lives, life_at, bytes_of, durable_bytes, root_on_disk}
 use Rattle.xn_model.specs.Rules.{PointersStay}

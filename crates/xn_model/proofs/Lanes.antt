@@ -76,13 +76,6 @@ module _ {L : Type 0} (read : L → List ℕ) where
 
   -- A write begins: its lane leaves
 
-  pub fit_begun : (lanes : List (Option L)) (lives : Lives) (b k : ℕ) (l : Life) → life_at lives b ≡ Some l → FitLives read lanes lives → FitLives read (slice_set lanes b None) (begun_at lives b k)
-  fit_begun lanes lives b k l alive z =
-      let f : Life → Life = λ m. record m { begun = Some k } in
-      zip_set lanes lives (begun_at lives b k) b None (length_change lives b f)
-      (λ c x ne h. subst (FitsLife read x) (sym (set_other lives b c (option_map f (life_at lives b)) ne)) h)
-      (subst (FitsLife read None) (sym (change_same lives b f ∙ ap (option_map f) alive)) refl) z
-
   -- A write settles: its lane is back
 
   holds_last : (bytes : List ℕ) (o : Option BlockState) (xs : List BlockState) → 1 ≤ length xs → bytes ≡ bytes_of (last_or None xs) → IfSome (durable_after (last_or o xs)) (λ s. bytes ≡ s.bytes)
@@ -100,6 +93,13 @@ module _ {L : Type 0} (read : L → List ℕ) where
   back_freed : (t : Bool) (lane : L) (l : Life) → FitsLife read (Some lane) (Some l) → FitsLife read (Some lane) (cond t None (Some l))
   back_freed true lane l h = tt
   back_freed false lane l h = h
+
+  pub fit_begun : (lanes : List (Option L)) (lives : Lives) (b k : ℕ) (l : Life) → life_at lives b ≡ Some l → FitLives read lanes lives → FitLives read (slice_set lanes b None) (begun_at lives b k)
+  fit_begun lanes lives b k l alive z =
+      let f : Life → Life = λ m. record m { begun = Some k } in
+      zip_set lanes lives (begun_at lives b k) b None (length_change lives b f)
+      (λ c x ne h. subst (FitsLife read x) (sym (set_other lives b c (option_map f (life_at lives b)) ne)) h)
+      (subst (FitsLife read None) (sym (change_same lives b f ∙ ap (option_map f) alive)) refl) z
 
   module _ (T : Types) (state : StoreState) (h : IsConsistent T state) (b k : ℕ) (lane : L) (s : Settles state.lives b (read lane) k) where
     abbrev pub ended : List ℕ

@@ -47,10 +47,6 @@ module _ (m : List ℕ) (i b : ℕ) (long : length m ≡ 512) (few : i < 16) whe
   unfolding with_pointer bytes
   front = take_put m (8 + 4 * i) (to_le_bytes w32 b) room 4 (omega arith)
 
-  pub pointer_mark : (count : ℕ) → marked count (with_pointer m i b) ≡ marked count m
-  unfolding marked
-  pointer_mark count = λ k. bytes_eq (front k) (88 ∷ 78 ∷ 57 ∷ 55 ∷ []) && (word_other 4 (inl (omega arith)) k == count)
-
   pub pointer_other : (j : ℕ) → j ≢ i → pointer (with_pointer m i b) j ≡ pointer m j
   unfolding pointer
   pointer_other j ne = elim (cases_lt j i) [
@@ -65,6 +61,10 @@ module _ (m : List ℕ) (i b : ℕ) (long : length m ≡ 512) (few : i < 16) whe
   pub roots_still : roots_of (with_pointer m i b) ≡ roots_of m
   unfolding roots_of
   roots_still = λ k. filter_map (λ j. unless_empty (slot_still j k)) (range_with_len 0 32)
+
+  pub pointer_mark : (count : ℕ) → marked count (with_pointer m i b) ≡ marked count m
+  unfolding marked
+  pointer_mark count = λ k. bytes_eq (front k) (88 ∷ 78 ∷ 57 ∷ 55 ∷ []) && (word_other 4 (inl (omega arith)) k == count)
 
   module _ (small : b < 2 ^ 32) where
     pub pointer_same : pointer (with_pointer m i b) i ≡ b

@@ -310,13 +310,6 @@ module _ (m : List ℕ) (fs : ℕ) (p : ℕ × ℕ) (long : length m ≡ 512) (f
     | inr past ↦ ap (take 4) (drop_past m (72 + 8 * fs) (to_le_bytes w32 p.0 ++ to_le_bytes w32 p.1) room j (let e : length (to_le_bytes w32 p.0 ++ to_le_bytes w32 p.1) ≡ 8 = refl in omega arith))
   ])
 
-  pub slot_other : (i : ℕ) → i ≢ fs → slot (with_slot m fs p) i ≡ slot m i
-  unfolding slot
-  slot_other i ne = elim (cases_lt i fs) [
-    | inl before ↦ λ k. (word_other (72 + 8 * i) (inl (omega arith)) k, word_other (76 + 8 * i) (inl (omega arith)) k)
-    | inr past ↦ λ k. (word_other (72 + 8 * i) (inr (omega arith)) k, word_other (76 + 8 * i) (inr (omega arith)) k)
-  ]
-
   first_word : take 4 (drop (72 + 8 * fs) (with_slot m fs p)) ≡ to_le_bytes w32 p.0
   unfolding with_slot bytes
   first_word = ap (take 4) (drop_put m (72 + 8 * fs) (to_le_bytes w32 p.0 ++ to_le_bytes w32 p.1) room)
@@ -328,6 +321,13 @@ module _ (m : List ℕ) (fs : ℕ) (p : ℕ × ℕ) (long : length m ≡ 512) (f
       ap (λ j. take 4 (drop j (with_slot m fs p))) e
       ∙ (ap (take 4) (sym (drop-drop 4 (72 + 8 * fs) (with_slot m fs p)))
       ∙ ap (λ y. take 4 (drop 4 y)) (drop_put m (72 + 8 * fs) (to_le_bytes w32 p.0 ++ to_le_bytes w32 p.1) room))
+
+  pub slot_other : (i : ℕ) → i ≢ fs → slot (with_slot m fs p) i ≡ slot m i
+  unfolding slot
+  slot_other i ne = elim (cases_lt i fs) [
+    | inl before ↦ λ k. (word_other (72 + 8 * i) (inl (omega arith)) k, word_other (76 + 8 * i) (inl (omega arith)) k)
+    | inr past ↦ λ k. (word_other (72 + 8 * i) (inr (omega arith)) k, word_other (76 + 8 * i) (inr (omega arith)) k)
+  ]
 
   module _ (small : p.0 < 2 ^ 32) (small' : p.1 < 2 ^ 32) where
     pub slot_same : slot (with_slot m fs p) fs ≡ p

@@ -45,11 +45,11 @@ module _ (w : World) (h : Holds w) (up : w.down ≡ false) (outcome : ℕ → Ou
   abbrev ys : List ℕ
   ys = written_blocks outcome bs
 
-  abbrev zs : List ℕ
-  zs = done outcome bs
-
   in_ys : (b : ℕ) → Contains ys b → Contains bs b
   in_ys b i = (filter_at (λ c. is_written (outcome c)) bs b i).0
+
+  abbrev zs : List ℕ
+  zs = done outcome bs
 
   module _ (u1 : World) (r1 : Began w bs u1) (h1 : Holds (with_lives w r1.now)) where
     abbrev v1 : World

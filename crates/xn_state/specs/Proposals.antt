@@ -1,15 +1,18 @@
 -- What an edit and the end of a root slot decide before they change anything.
-use Rattle.std.specs.Prelude.{ℕ, Bool, not, ◌&&◌, List, [], ◌∷◌, Option, Some, Result, Ok}
+use Rattle.std.specs.Prelude.{◌≡◌, ℕ, Bool, not, ◌&&◌, List, [], ◌∷◌, Option, Some, Result, Ok, IsTrue, is_some, IfOk, IfSome}
 use Rattle.std.specs.List.{list_all}
 use Rattle.xn_model.specs.Lists.{blocks_of, distinct, has_number}
 use Rattle.xn_model.specs.Types.{Types, named_once, within_size}
 use Rattle.xn_model.specs.Root.{with_slot}
-use Rattle.xn_model.specs.Lives.{BlockState, Life, StoreState, chain_end, current}
+use Rattle.xn_model.specs.Lives.{BlockState, Life, StoreState, chain_end, current, life_at}
 use Rattle.xn_model.specs.declared.refusal.Refusal.{Refusal}
 use Rattle.xn_model.specs.declared.refusal.Refusal.TheVariants.{BadPatch, BadAfter, NotFresh, NotOwned, NotEmpty, ClaimWrong, SizeWrong, TooManyPending}
 use Rattle.xn_model.specs.declared.refusal.Refusal.TheVariants.{Exhausted, Cycle}
-use Rattle.xn_model.specs.Results.{first_refusal, unless, result_and_then}
+use Rattle.xn_model.specs.Results.{first_refusal, unless, result_and_then, result_map}
 use Rattle.claims.specs.Owners.{is_claimed, owned_count}
+use Rattle.claims.specs.Decided.{newest_at}
+use Rattle.templates.specs.Decided.{DecidesOwned}
+use Rattle.udf_run.specs.declared.reads.ReadSet.{ReadSet}
 use Rattle.block_cache.specs.declared.life.Facts.{Facts}
 use Rattle.xn_model.specs.Calls.{Edit, own_life, too_many, exhausted, within_limits, was_given, may_add, may_drop, is_empty, patched, propose_refusal}
 use Rattle.xn_model.specs.Calls.{drop_root_refusal, root_now, slot_now}
@@ -21,6 +24,19 @@ last_tests T state b e ty new =
     (not (is_claimed state.lives b (owned_count state.lives b) (T.owned ty new) e.adds e.drops && named_once T ty new), ClaimWrong)
     ∷ (not (within_size T ty new), SizeWrong)
     ∷ []
+
+-- an edit within the limits, of a block in use with this installed type and these newest bytes
+pub record IsEditOf (T : Types) (state : StoreState) (b ty : ℕ) (old : List ℕ) (e : Edit) : Type 0 where
+  pub alive : IsTrue (is_some (life_at state.lives b))
+  pub installed : IsTrue (T.installed ty)
+  pub newest : newest_at state.lives b ≡ Some (ty, old)
+  pub limits : IsTrue (within_limits e)
+
+-- what those tests answer of it: the first refusal that applies, or the chunks that decide what the block owns with its new bytes, where
+-- they are known
+pub record IsLeftBy (T : Types) (state : StoreState) (b : ℕ) (e : Edit) (ty : ℕ) (new : List ℕ) (answer : Result (Option ReadSet) Refusal) : Type 0 where
+  pub plan : result_map (λ reads. new) answer ≡ unless (first_refusal (last_tests T state b e ty new)) (Ok new)
+  pub reads : IfOk answer (λ reads. IfSome reads (λ set. DecidesOwned T ty new set.chunks))
 
 abbrev pub propose_tests : Types → StoreState → ℕ → ℕ → Edit → Facts → List ℕ → List (Bool × Refusal)
 propose_tests T state fs b e facts old =

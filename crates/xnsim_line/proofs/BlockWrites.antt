@@ -14,7 +14,7 @@ use Rattle.xn_model.specs.Worlds.{World, Step, act, act_up, begun_count, reply_a
 use Rattle.xn_model.proofs.ForCallers.{drain_ends, none_picked}
 use Rattle.xn_kernel.proofs.ForCallers.{idle_from}
 use Rattle.world.specs.Worlds.{is_any_in_flight}
-use Rattle.xnsim_line.specs.Stops.{writes_of, writes_by, is_drain, is_failed_sync, is_write, IsHeldBack}
+use Rattle.xnsim_line.specs.Stops.{writes_of, writes_by, is_drain, is_failed_sync, is_write}
 
 -- one write, or none
 abbrev pub one_if : Bool → ℕ

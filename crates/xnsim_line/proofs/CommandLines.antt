@@ -4,10 +4,12 @@ use Rattle.std.specs.Global.{Box}
 use Rattle.std.specs.Box.{box_value}
 use Rattle.std.specs.Fmt.{decimal}
 use Rattle.std.specs.Result.{IsErrAnd}
+use Rattle.std.specs.Str.{bytes_eq}
 use Rattle.std.proofs.lemmas.Option.{none-some, same_Some}
 use Rattle.std.proofs.lemmas.Bool.Decides.{eqb_tells}
 use Rattle.std.proofs.lemmas.Fmt.{first_decimal}
 use Rattle.clap.specs.Words.{Row, Text, first_of, first_value, found_of, is_simple, rows_of, subcommand_of, subcommand_rows, subcommand_rows_of, takes, HasMatchesOf}
+use Rattle.clap.specs.Lexer.{strip_byte}
 use Rattle.clap.specs.Matches.{subcommand_name_of}
 use Rattle.clap.specs.declared.parser.matches.ArgMatches.{ArgMatches}
 use Rattle.clap.specs.declared.parser.matches.ArgMatches.TheViews.{out-ArgMatches, out-SubCommand}
@@ -30,43 +32,34 @@ use Rattle.xnsim_line.specs.Lines.{fault_of_kind, IsLine, IsName, IsNoLine, IsTh
 no_dash : (x : ℕ) → x ≢ 45 → (x == 45) ≡ false
 no_dash x other = elim (eqb_tells x 45) [ inl same ↦ absurd (other same.1) | inr apart ↦ apart.0 ]
 
+-- a name is no flag, and not the end of the flags
+no_flag : (word : List ℕ) → IsName word → (strip_byte 45 word ≡ None) × (bytes_eq word (45 ∷ 45 ∷ []) ≡ false)
+no_flag [] name = (refl, refl)
+no_flag (x ∷ xs) name = (simp (no_dash x name) refl, simp (no_dash x name) refl)
+
 -- the two words that were found behind a command
 abbrev pub words_in : Option (Text × List Row) → Option (Text × Option Text × Option Text)
 words_in = option_map (λ found. (found.0, first_of (codes "first") found.1, first_of (codes "second") found.1))
 
--- the reader takes these words, and finds them
-pub record IsFound (name first second : List ℕ) : Type 0 where
-  pub taken : takes program (name ∷ first ∷ second ∷ []) ≡ true
-  pub found : words_in (subcommand_of program (name ∷ first ∷ second ∷ [])) ≡ Some (name, Some first, Some second)
+-- the reader takes these words, and finds them behind a command
+pub record IsFound (words : List (List ℕ)) (three : IsThreeWords words) : Type 0 where
+  pub name : List ℕ
+  pub line : words ≡ name ∷ three.first ∷ three.second ∷ []
+  pub taken : takes program (name ∷ three.first ∷ three.second ∷ []) ≡ true
+  pub found : words_in (subcommand_of program (name ∷ three.first ∷ three.second ∷ [])) ≡ Some (name, Some three.first, Some three.second)
 
--- so it is of each command and the two words that it always has
-format_found : (first second : List ℕ) → IsName first → IsName second → IsFound (codes "format") first second
+-- so it is of each command
+is_found : (words : List (List ℕ)) (three : IsThreeWords words) → IsFound words three
 unfolding clap_on_literals
-format_found [] [] a b = record { taken = refl; found = refl }
-format_found [] (y ∷ ys) a b = record { taken = simp (no_dash y b) refl; found = simp (no_dash y b) refl }
-format_found (x ∷ xs) [] a b = record { taken = simp (no_dash x a) refl; found = simp (no_dash x a) refl }
-format_found (x ∷ xs) (y ∷ ys) a b = record { taken = simp (no_dash x a, no_dash y b) refl; found = simp (no_dash x a, no_dash y b) refl }
-
-run_found : (first second : List ℕ) → IsName first → IsName second → IsFound (codes "run") first second
-unfolding clap_on_literals
-run_found [] [] a b = record { taken = refl; found = refl }
-run_found [] (y ∷ ys) a b = record { taken = simp (no_dash y b) refl; found = simp (no_dash y b) refl }
-run_found (x ∷ xs) [] a b = record { taken = simp (no_dash x a) refl; found = simp (no_dash x a) refl }
-run_found (x ∷ xs) (y ∷ ys) a b = record { taken = simp (no_dash x a, no_dash y b) refl; found = simp (no_dash x a, no_dash y b) refl }
-
-asm_found : (first second : List ℕ) → IsName first → IsName second → IsFound (codes "asm") first second
-unfolding clap_on_literals
-asm_found [] [] a b = record { taken = refl; found = refl }
-asm_found [] (y ∷ ys) a b = record { taken = simp (no_dash y b) refl; found = simp (no_dash y b) refl }
-asm_found (x ∷ xs) [] a b = record { taken = simp (no_dash x a) refl; found = simp (no_dash x a) refl }
-asm_found (x ∷ xs) (y ∷ ys) a b = record { taken = simp (no_dash x a, no_dash y b) refl; found = simp (no_dash x a, no_dash y b) refl }
-
-verify_found : (first second : List ℕ) → IsName first → IsName second → IsFound (codes "verify") first second
-unfolding clap_on_literals
-verify_found [] [] a b = record { taken = refl; found = refl }
-verify_found [] (y ∷ ys) a b = record { taken = simp (no_dash y b) refl; found = simp (no_dash y b) refl }
-verify_found (x ∷ xs) [] a b = record { taken = simp (no_dash x a) refl; found = simp (no_dash x a) refl }
-verify_found (x ∷ xs) (y ∷ ys) a b = record { taken = simp (no_dash x a, no_dash y b) refl; found = simp (no_dash x a, no_dash y b) refl }
+is_found words three =
+    let a = no_flag three.first three.first_name in
+    let b = no_flag three.second three.second_name in
+    elim three.command [
+      | inl line ↦ record { name = codes "format"; line = line; taken = simp (a.0, a.1, b.0, b.1) refl; found = simp (a.0, a.1, b.0, b.1) refl }
+      | inr (inl line) ↦ record { name = codes "run"; line = line; taken = simp (a.0, a.1, b.0, b.1) refl; found = simp (a.0, a.1, b.0, b.1) refl }
+      | inr (inr (inl line)) ↦ record { name = codes "asm"; line = line; taken = simp (a.0, a.1, b.0, b.1) refl; found = simp (a.0, a.1, b.0, b.1) refl }
+      | inr (inr (inr line)) ↦ record { name = codes "verify"; line = line; taken = simp (a.0, a.1, b.0, b.1) refl; found = simp (a.0, a.1, b.0, b.1) refl }
+    ]
 
 -- its matches are known from the words
 program_is_simple : is_simple program ≡ true
@@ -94,27 +87,16 @@ pub record ShowsLine (words : List (List ℕ)) (m : ArgMatches) : Type 0 where
   pub line : words ≡ name ∷ first ∷ second ∷ []
   pub shown : Shows (subcommand_rows_of m) name first second
 
-shows_found : (words : List (List ℕ)) (m : ArgMatches) (name first second : List ℕ) → HasMatchesOf program words m → words ≡ name ∷ first ∷ second ∷ [] →
-    IsFound name first second → ShowsLine words m
-shows_found words m name first second matches line found =
-    let met : subcommand_rows_of m ≡ subcommand_of program (name ∷ first ∷ second ∷ []) = (matches program_is_simple).1 ∙ ap (subcommand_of program) line in
-    record { name = name; first = first; second = second; line = line; shown = shows (subcommand_rows_of m) name first second (ap words_in met ∙ found.found) }
-
 pub shows_line : (words : List (List ℕ)) (m : ArgMatches) → HasMatchesOf program words m → IsThreeWords words → ShowsLine words m
-shows_line words m matches three = elim three.command [
-  | inl line ↦ shows_found words m (codes "format") three.first three.second matches line (format_found three.first three.second three.first_name three.second_name)
-  | inr (inl line) ↦ shows_found words m (codes "run") three.first three.second matches line (run_found three.first three.second three.first_name three.second_name)
-  | inr (inr (inl line)) ↦ shows_found words m (codes "asm") three.first three.second matches line (asm_found three.first three.second three.first_name three.second_name)
-  | inr (inr (inr line)) ↦ shows_found words m (codes "verify") three.first three.second matches line (verify_found three.first three.second three.first_name three.second_name)
-]
+shows_line words m matches three =
+    let found = is_found words three in
+    let met : subcommand_rows_of m ≡ subcommand_of program (found.name ∷ three.first ∷ three.second ∷ []) =
+    (matches program_is_simple).1 ∙ ap (subcommand_of program) found.line in
+    let shown = shows (subcommand_rows_of m) found.name three.first three.second (ap words_in met ∙ found.found) in
+    record { name = found.name; first = three.first; second = three.second; line = found.line; shown = shown }
 
 pub is_taken : (words : List (List ℕ)) → IsThreeWords words → takes program words ≡ true
-is_taken words three = elim three.command [
-  | inl line ↦ ap (takes program) line ∙ (format_found three.first three.second three.first_name three.second_name).taken
-  | inr (inl line) ↦ ap (takes program) line ∙ (run_found three.first three.second three.first_name three.second_name).taken
-  | inr (inr (inl line)) ↦ ap (takes program) line ∙ (asm_found three.first three.second three.first_name three.second_name).taken
-  | inr (inr (inr line)) ↦ ap (takes program) line ∙ (verify_found three.first three.second three.first_name three.second_name).taken
-]
+is_taken words three = let found = is_found words three in ap (takes program) found.line ∙ found.taken
 
 -- the three words, of what the reader's matches answer: the command's name, its arguments, and their values
 module _ (words : List (List ℕ)) (m : ArgMatches) (line : ShowsLine words m) where

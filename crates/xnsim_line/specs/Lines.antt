@@ -16,6 +16,19 @@ abbrev pub role_name : Role → List ℕ
 role_name Owns = codes "owns"
 role_name Size = codes "size"
 
+-- the word that asks for the templates of the library's file system, or none
+abbrev pub file_system_words : Bool → List (List ℕ)
+file_system_words file_system = if file_system then codes "--ffs" ∷ [] else []
+
+-- the words behind a script: none, or after how many block writes the run is to stop, and whether it then loses what is not settled
+abbrev pub lose_words : Bool → List (List ℕ)
+lose_words false = []
+lose_words true = codes "--lose" ∷ []
+
+abbrev pub stop_words : Option Stop → List (List ℕ)
+stop_words None = []
+stop_words (Some stop) = codes "--stop" ∷ decimal stop.writes ∷ lose_words stop.loses
+
 -- a word that doesn't begin with `-`
 abbrev pub IsName : List ℕ → Type 0
 IsName word = slice_index word 0 ≢ 45
@@ -34,11 +47,7 @@ abbrev pub fault_of_kind : ErrorKind → LineFault
 fault_of_kind OutOfMemory = NoMemory
 fault_of_kind _ = Usage
 
--- the word that asks for the templates of the library's file system, or none
-abbrev pub file_system_words : Bool → List (List ℕ)
-file_system_words file_system = if file_system then codes "--ffs" ∷ [] else []
-
--- that word is cut off where it is the first of the words
+-- the word `--ffs` is cut off where it is the first of the words
 pub record CutsFileSystem (words : List (List ℕ)) (file_system : Bool) (rest : List (List ℕ)) : Type 0 where
   pub spelled : words ≡ file_system_words file_system ++ rest
   pub cut : file_system ≡ false → (more : List (List ℕ)) → words ≢ codes "--ffs" ∷ more
@@ -48,15 +57,7 @@ pub record IsTemplateWords (words : List (List ℕ)) (file_system : Bool) (names
   pub spelled : words ≡ file_system_words file_system ++ names
   pub named : All IsName names
 
--- the words behind a script: none, or after how many block writes the run is to stop, and whether it then loses what is not settled
-abbrev pub lose_words : Bool → List (List ℕ)
-lose_words false = []
-lose_words true = codes "--lose" ∷ []
-
-abbrev pub stop_words : Option Stop → List (List ℕ)
-stop_words None = []
-stop_words (Some stop) = codes "--stop" ∷ decimal stop.writes ∷ lose_words stop.loses
-
+-- the words behind a script
 pub record IsStopWords (words : List (List ℕ)) (stop : Option Stop) : Type 0 where
   pub spelled : words ≡ stop_words stop
   pub small : IfSome stop (λ stop. stop.writes < 2 ^ 64)

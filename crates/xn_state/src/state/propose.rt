@@ -5,13 +5,13 @@ ghost use Rattle.std.specs.List.{list_all};
 ghost use Rattle.xn_model.specs.Lists.{blocks_of, distinct, has_number};
 ghost use Rattle.xn_model.specs.Types.{named_once};
 ghost use Rattle.xn_model.specs.Lives.{Life, chain_end, current, life_at};
-ghost use Rattle.xn_model.specs.Results.{Gives, first_refusal, result_map, unless};
+ghost use Rattle.xn_model.specs.Results.{Gives, result_map};
 ghost use Rattle.xn_model.specs.Calls.{is_empty, life_bytes, life_pending, may_add, may_drop, patched, pending_of, propose_of, was_given, within_limits};
 ghost use Rattle.xn_model.specs.Rules.{IsConsistent};
 ghost use Rattle.claims.specs.Owners.{is_claimed, owned_count};
 ghost use Rattle.templates.specs.Decided.{DecidesOwned};
 ghost use Rattle.claims.specs.Decided.{Decides, Leaves, newest_at};
-ghost use Rattle.xn_state.specs.Proposals.{edited_with, last_tests, proposed_of};
+ghost use Rattle.xn_state.specs.Proposals.{IsEditOf, IsLeftBy, edited_with, proposed_of};
 ghost use Rattle.udf_run.specs.Safe.{IsBlock};
 ghost use Rattle.xn_state.specs.States.{own_types};
 
@@ -183,14 +183,8 @@ impl State {
         old: &[u8; 512],
         edit: &Edit,
     ) -> Result<Option<ReadSet>, Refusal>
-        requires alive { IsTrue (is_some (life_at self.now.lives block)) }
-        requires installed { IsTrue ((own_types self.now).installed ty) }
-        requires newest { newest_at self.now.lives block ≡ Some (ty, old.now) }
-        requires limits { IsTrue (within_limits edit.now) }
-        ensures plan { result_map (λ reads. patched old.now edit.now.patches) result
-            ≡ unless (first_refusal (last_tests (own_types self.now) self.now block edit.now ty (patched old.now edit.now.patches)))
-            (Ok (patched old.now edit.now.patches)) }
-        ensures reads { IfOk result (λ reads. IfSome reads (λ set. DecidesOwned (own_types self.now) ty (patched old.now edit.now.patches) set.chunks)) }
+        requires { IsEditOf (own_types self.now) self.now block ty old.now edit.now }
+        ensures { IsLeftBy (own_types self.now) self.now block edit.now ty (patched old.now edit.now.patches) result }
     {
         if ty == DATA_TYPE && edit.adds().is_empty() && edit.drops().is_empty() {
             self.keeps_rules();
@@ -209,14 +203,8 @@ impl State {
         old: &[u8; 512],
         edit: &Edit,
     ) -> Result<Option<ReadSet>, Refusal>
-        requires alive { IsTrue (is_some (life_at self.now.lives block)) }
-        requires installed { IsTrue ((own_types self.now).installed ty) }
-        requires newest { newest_at self.now.lives block ≡ Some (ty, old.now) }
-        requires limits { IsTrue (within_limits edit.now) }
-        ensures plan { result_map (λ reads. patched old.now edit.now.patches) result
-            ≡ unless (first_refusal (last_tests (own_types self.now) self.now block edit.now ty (patched old.now edit.now.patches)))
-            (Ok (patched old.now edit.now.patches)) }
-        ensures reads { IfOk result (λ reads. IfSome reads (λ set. DecidesOwned (own_types self.now) ty (patched old.now edit.now.patches) set.chunks)) }
+        requires { IsEditOf (own_types self.now) self.now block ty old.now edit.now }
+        ensures { IsLeftBy (own_types self.now) self.now block edit.now ty (patched old.now edit.now.patches) result }
     {
         if self.types().may_use_all(ty)
             && let Some(reads) = self.kept_reads(block, edit)
@@ -235,14 +223,8 @@ impl State {
         old: &[u8; 512],
         edit: &Edit,
     ) -> Result<Option<ReadSet>, Refusal>
-        requires alive { IsTrue (is_some (life_at self.now.lives block)) }
-        requires installed { IsTrue ((own_types self.now).installed ty) }
-        requires newest { newest_at self.now.lives block ≡ Some (ty, old.now) }
-        requires limits { IsTrue (within_limits edit.now) }
-        ensures plan { result_map (λ reads. patched old.now edit.now.patches) result
-            ≡ unless (first_refusal (last_tests (own_types self.now) self.now block edit.now ty (patched old.now edit.now.patches)))
-            (Ok (patched old.now edit.now.patches)) }
-        ensures reads { IfOk result (λ reads. IfSome reads (λ set. DecidesOwned (own_types self.now) ty (patched old.now edit.now.patches) set.chunks)) }
+        requires { IsEditOf (own_types self.now) self.now block ty old.now edit.now }
+        ensures { IsLeftBy (own_types self.now) self.now block edit.now ty (patched old.now edit.now.patches) result }
     {
         let mut bytes = *old;
         edit.apply(&mut bytes);

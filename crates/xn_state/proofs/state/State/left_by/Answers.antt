@@ -7,8 +7,8 @@ use Rattle.xn_state.specs.States.{own_types}
 use Rattle.xn_state.proofs.Unclaimed.{data_left, newest_type, some_life}
 use Rattle.xn_state.proofs.state.State.left_by.Goals as goal
 
-pub returns-then-is_empty-2-clause-plan : goal.returns-then-is_empty-2-clause-plan
-returns-then-is_empty-2-clause-plan c =
+pub returns-then-is_empty-2 : goal.returns-then-is_empty-2
+returns-then-is_empty-2 c =
     let state = c.args.self.now in
     let edit = c.args.edit.now in
     let l = some_life state.lives c.args.block c.requires.alive in
@@ -17,4 +17,4 @@ returns-then-is_empty-2-clause-plan c =
     let same = newest_type state.lives c.args.block c.args.ty l.0 c.args.old.now l.1 c.requires.newest in
     let long : length c.args.old.now ≡ 512 = omega (arith, c.told-old) in
     let left = data_left (own_types state) state c.args.block c.args.ty l.0 c.args.old.now edit c.keeps_rules.ensures l.1 same c.if-ty-eq-DATA_TYPE.true long c.requires.limits adds drops in
-    sym (ap (λ r. unless r (Ok (patched c.args.old.now edit.patches))) left)
+    record { plan = sym (ap (λ r. unless r (Ok (patched c.args.old.now edit.patches))) left); reads = tt }

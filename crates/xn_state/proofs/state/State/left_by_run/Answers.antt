@@ -6,8 +6,8 @@ use Rattle.xn_state.specs.States.{own_types}
 use Rattle.xn_state.proofs.Unclaimed.{kept_left, some_life}
 use Rattle.xn_state.proofs.state.State.left_by_run.Goals as goal
 
-pub returns-clause-plan : goal.returns-clause-plan
-returns-clause-plan c =
+pub returns : goal.returns
+returns c =
     let state = c.args.self.now in
     let l = some_life state.lives c.args.block c.requires.alive in
     let old = c.args.old.now in
@@ -16,4 +16,4 @@ returns-clause-plan c =
     let whole = subst (λ (T : Types). (m : List ℕ) → T.size c.args.ty m ≡ 512) c.types.ensures all in
     let left = kept_left (own_types state) state c.args.block c.args.ty c.in-Some.reads.chunks l.0 old c.args.edit.now l.1 c.requires.newest long (c.in-Some.ensures.decides l.0 l.1)
     c.in-Some.ensures.leaves c.kept_reads.ensures.rules c.are_bytes.ensures c.requires.limits whole in
-    sym (ap (λ r. unless r (Ok (patched old c.args.edit.now.patches))) left.0)
+    record { plan = sym (ap (λ r. unless r (Ok (patched old c.args.edit.now.patches))) left.0); reads = left.1 }
