@@ -39,6 +39,8 @@ pub struct Kernel<L: Lane> {
     id: u64,
     lanes: Lanes<L>,
     state: State,
+    /// What a finish read back last, where that was not what it looked for: kept so that none is cleared for each finish.
+    read_back: [u8; 512],
 }
 
 impl<L: Lane> Model for Kernel<L> {
@@ -58,6 +60,7 @@ impl<L: Lane + Drop> Drop for Kernel<L> {
             id: _,
             lanes: _,
             state: _,
+            read_back: _,
         } = self;
     }
 }
@@ -88,7 +91,12 @@ impl<L: Lane> Kernel<L> {
         ensures err { IfErr result (λ back. back ≡ lanes) }
     {
         match State::new(alloc, table, image, found) {
-            Ok(state) => Ok(Kernel { id, lanes, state }),
+            Ok(state) => Ok(Kernel {
+                id,
+                lanes,
+                state,
+                read_back: [0; 512],
+            }),
             Err(_) => Err(lanes),
         }
     }
@@ -100,7 +108,12 @@ impl<L: Lane> Kernel<L> {
         ensures { result ≡ record { id = id; lanes = lanes; state = state } }
     {
         state.keeps_rules();
-        Kernel { id, lanes, state }
+        Kernel {
+            id,
+            lanes,
+            state,
+            read_back: [0; 512],
+        }
     }
 
     /// Its rules.
@@ -153,6 +166,7 @@ impl<L: Lane> Kernel<L> {
             id: _,
             lanes,
             state: _,
+            read_back: _,
         } = self;
         lanes
     }
@@ -222,13 +236,12 @@ impl<L: Lane> Kernel<L> {
         let Some(newest) = self.state.newest(ticket.block) else {
             unreachable!()
         };
-        let mut bytes = [0u8; 512];
-        let Ok(same) = ticket.lane.compare(newest, &mut bytes) else {
+        let Ok(same) = ticket.lane.compare(newest, &mut self.read_back) else {
             return Err((ticket, Refusal::Device));
         };
         match self
             .state
-            .settled_unless(ticket.block, other_unless(same, &bytes))
+            .settled_unless(ticket.block, other_unless(same, &self.read_back))
         {
             Err(refusal) => Err((ticket, refusal)),
             Ok((durable, freed)) => match self.lanes.give(ticket.into_lane()) {
