@@ -1,4 +1,4 @@
--- Tests, and results that are two things at once.
+-- Lemmas of tests and of results.
 use Rattle.std.proofs.Common.{◌≡◌, Bool, true, false, ◌&&◌, Result, Ok, Err, refl}
 use Rattle.ffs_lib.proofs.Words.{FfsFault}
 

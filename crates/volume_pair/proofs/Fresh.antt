@@ -1,7 +1,6 @@
 -- A fresh disk with the library's templates has no volume yet, of any file system.
-use Rattle.std.proofs.Common.{◌∙◌, ◌≡◌, ℕ, ◌<◌, ◌≤◌, List, [], length, Option, None, false, arith, refl, ap, subst, sym}
+use Rattle.std.proofs.Common.{◌∙◌, ◌≡◌, ℕ, ◌<◌, ◌≤◌, List, [], length, Option, None, false, arith, refl, ap, subst, sym, All}
 use Rattle.std.proofs.lemmas.Bool.{false≢true}
-use Rattle.std.specs.Prelude.{All}
 use Rattle.xn_model.specs.Types.{Types}
 use Rattle.xn_model.specs.Root.{has_type, pointer, slot, word_at}
 use Rattle.std.specs.List.{last_or}

@@ -1,7 +1,6 @@
 -- A world that was just mounted gets the library's types.
-use Rattle.std.proofs.Common.{◌≡◌, ◌∙◌, ◌+◌, ◌-◌, ◌<◌, ◌≤◌, ℕ, zero, suc, List, [], ◌∷◌, length, take, Option, Some, None, false, arith, refl, sym, ap, subst}
+use Rattle.std.proofs.Common.{◌≡◌, ◌∙◌, ◌+◌, ◌-◌, ◌<◌, ◌≤◌, ℕ, zero, suc, List, [], ◌∷◌, length, take, Option, Some, None, false, arith, refl, sym, ap, subst, IsTrue}
 use Rattle.std.specs.List.{last_or}
-use Rattle.std.specs.Prelude.{IsTrue}
 use Rattle.std.proofs.lemmas.Bool.{false≢true}
 use Rattle.xn_model.specs.Root.{has_type}
 use Rattle.xn_model.specs.Images.{block_of}
@@ -39,6 +38,5 @@ module _ (world : WorldValue) (is : IsRemounted world) (n : ℕ) (few : n ≤ 3)
   -- without them there is no root
   pub no_root_yet : n < 3 → has_type (block_of world.image 0) (3 + n) ≡ false → (fs : ℕ) → VolumeKeeps (own_types world.state) library_layout fs no_edits world.state → HasNoRoot world.state.lives fs
   no_root_yet lt none fs v k r cut x =
-      let types = v.frame.typed k r cut x in
       let shown : seen world.state.lives k 0 ≡ block_of world.image 0 = shows_newest world.state.lives k 0 (is.rests 0) ∙ is.newest in
-      false≢true (sym none ∙ (ap (λ m. has_type m (3 + n)) (sym shown) ∙ types (3 + n) (omega arith) (omega (arith, lt))))
+      false≢true (sym none ∙ (ap (λ m. has_type m (3 + n)) (sym shown) ∙ (v.frame.typed k r cut x) (3 + n) (omega arith) (omega (arith, lt))))

@@ -1,6 +1,5 @@
 -- What is known of a file system stays over the rounds of a drain.
-use Rattle.std.proofs.Common.{◌≡◌, ℕ, zero, suc, List, Option, Some, None, Result, Ok, Err, sym, inl, inr, subst}
-use Rattle.std.specs.Prelude.{IfOk, IfErr}
+use Rattle.std.proofs.Common.{◌≡◌, ℕ, zero, suc, List, Option, Some, None, Result, Ok, Err, sym, inl, inr, subst, IfOk, IfErr}
 use Rattle.xn_model.specs.declared.refusal.Refusal.{Refusal}
 use Rattle.xn_model.specs.Lives.{StoreState}
 use Rattle.xn_model.specs.Calls.{begun_of, settled_of}

@@ -9,16 +9,13 @@ use Rattle.volume_pair.proofs.kernels.mounted.Goals as goal
 
 pub mount_image-requires-clause-held : goal.mount_image-requires-clause-held
 mount_image-requires-clause-held g c κs h =
-    let lanes = c.in_ok-lanes.lanes in
-    let tickets = replicate {A = Option (TicketValue MemoryLane)} (length lanes) None in
-    let image = c.args.image.now in
-    held_image lanes tickets (opened_disk image c.requires.whole lanes c.in_ok-lanes.ensures tickets refl) image (opened_image image c.requires.whole lanes c.in_ok-lanes.ensures tickets refl)
+    let tickets = replicate {A = Option (TicketValue MemoryLane)} (length _) None in
+    held_image _ tickets (opened_disk _ c.requires.whole _ c.in_ok-lanes.ensures tickets refl) _ (opened_image _ c.requires.whole _ c.in_ok-lanes.ensures tickets refl)
 
 pub mount_image-requires-clause-synced : goal.mount_image-requires-clause-synced
 mount_image-requires-clause-synced g c κs h =
-    let lanes = c.in_ok-lanes.lanes in
-    let tickets = replicate {A = Option (TicketValue MemoryLane)} (length lanes) None in
-    lanes_synced lanes (opened_disk c.args.image.now c.requires.whole lanes c.in_ok-lanes.ensures tickets refl).home
+    let tickets = replicate {A = Option (TicketValue MemoryLane)} (length _) None in
+    lanes_synced _ (opened_disk c.args.image.now c.requires.whole _ c.in_ok-lanes.ensures tickets refl).home
 
 pub returns-in-Ok : goal.returns-in-Ok
 returns-in-Ok g c =

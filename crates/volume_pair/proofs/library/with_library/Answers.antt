@@ -1,5 +1,4 @@
-use Rattle.std.proofs.Common.{[], ◌≡◌, false, ◌<◌, ◌+◌, ℕ, arith, subst}
-use Rattle.std.specs.Prelude.{IsTrue}
+use Rattle.std.proofs.Common.{[], ◌≡◌, false, ◌<◌, ◌+◌, ℕ, arith, subst, IsTrue}
 use Rattle.xn_model.specs.Root.{has_type}
 use Rattle.ffs_model.specs.Library.{library_layout}
 use Rattle.ffs_model.proofs.ForCallers.{rootless_keeps}
@@ -11,12 +10,11 @@ use Rattle.volume_pair.proofs.library.with_library.Goals as goal
 
 pub returns-then-there-eq-TYPES-clause-has : goal.returns-then-there-eq-TYPES-clause-has
 returns-then-there-eq-TYPES-clause-has c =
-    let world = c.args.running in
     let there : (i : ℕ) → i < 3 → IsTrue (has_type c.root_bytes.result.now (3 + i)) = subst (λ n. (i : ℕ) → i < n → IsTrue (has_type c.root_bytes.result.now (3 + i))) c.if-there-eq-TYPES.true c.types_there-there.ensures.there in
     record {
       rules = c.rules.ensures.state;
-      library = types_make (own_types world.state) (c.templates_are_the_librarys.ensures.formatted [])
-          (by_place (IsLibraryType (own_types world.state)) (types_found world c.requires 3 (omega arith) (subst (λ m. (i : ℕ) → i < 3 → IsTrue (has_type m (3 + i))) c.root_bytes.ensures there)));
+      library = types_make (own_types c.args.running.state) (c.templates_are_the_librarys.ensures.formatted [])
+          (by_place (IsLibraryType (own_types c.args.running.state)) (types_found _ c.requires 3 (omega arith) (subst (λ m. (i : ℕ) → i < 3 → IsTrue (has_type m (3 + i))) c.root_bytes.ensures there)));
     }
 
 pub returns-clause-has : goal.returns-clause-has
@@ -30,8 +28,7 @@ returns-clause-has c =
 pub returns-clause-keeps : goal.returns-clause-keeps
 returns-clause-keeps c fs few volume =
     let world = c.install_from.new.running in
-    let not = c.if-there-eq-TYPES.false in
     let at_most = c.types_there-there.ensures.few in
-    let less : c.types_there-there.result < 3 = omega (arith, not, at_most) in
+    let less : c.types_there-there.result < 3 = omega (arith, c.if-there-eq-TYPES.false, at_most) in
     let none = no_root_yet c.args.running c.requires c.types_there-there.result at_most less (subst (λ m. has_type m (3 + c.types_there-there.result) ≡ false) c.root_bytes.ensures (c.types_there-there.ensures.next less)) fs volume in
     rootless_keeps (own_types world.state) library_layout world.state c.rules-2.ensures.state fs (c.install_from.ensures.rootless fs few none)

@@ -1,5 +1,4 @@
-use Rattle.std.proofs.Common.{◌≡◌, None, subst, sym}
-use Rattle.std.specs.Prelude.{IsSomeAnd}
+use Rattle.std.proofs.Common.{◌≡◌, None, subst, sym, IsSomeAnd}
 use Rattle.xn_state.specs.States.{own_types}
 use Rattle.world.specs.Worlds.{WorldValue}
 use Rattle.volume_pair.specs.Kept.{HasLibrary, IsKept, Recovers}
@@ -19,12 +18,11 @@ returns g c =
 
 pub invariant_of-result : goal.invariant_of-result
 invariant_of-result g c =
-    let self = c.args.self in
     let store = c.in_ok-store.store in
     let recovers = returns g c in (
       recovers.has,
       if_some (λ o. (o.volume ≡ None) × IsSomeAnd c.into_parts-running.result.1 (λ before. before.fs ≡ o.fs)) (λ o. IsKept (own_types store.state) store.state o.fs.number o.volume) c.closed-other.result
           (λ o is x.
-          let b = some_and (λ before. before.fs ≡ o.fs) (λ before. IsKept (own_types self.state) self.state before.fs.number before.volume) c.into_parts-running.result.1 x.1 c.into_parts-running.ensures.other in
+          let b = some_and (λ before. before.fs ≡ o.fs) (λ before. IsKept (own_types c.args.self.state) c.args.self.state before.fs.number before.volume) c.into_parts-running.result.1 x.1 c.into_parts-running.ensures.other in
           rw (x.0, ← b.1) (recovers.kept b.0.fs.number b.0.volume b.2)) c.closed-other.ensures,
     )

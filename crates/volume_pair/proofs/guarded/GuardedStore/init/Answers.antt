@@ -6,15 +6,11 @@ use Rattle.volume_pair.proofs.guarded.GuardedStore.init.Goals as goal
 
 pub invariant_of-self : goal.invariant_of-self
 invariant_of-self g c =
-    let types_of = g.S.Store.types_of in
     let state_of = g.S.Store.state_of in
-    let old = c.self.inside.store in
     let new = c.init.new.self in
-    let T = types_of old in
-    let T' = types_of new in
     let ensures = c.init.ensures in
     let h = subst (λ U. IsConsistent U (state_of new)) ensures.types ensures.rules in (
-      retyped_library T T' (state_of new) ensures.types (init_has T (state_of old) (state_of new) c.self.invariant.0 c.args.fs.number c.args.ty c.args.bytes.now c.init.result ensures.state),
-      if_some (λ o. IsKept T (state_of old) o.fs.number o.volume) (λ o. IsKept T' (state_of new) o.fs.number o.volume) c.self.inside.other
-          (λ o is k. retyped T T' (state_of new) o.fs.number o.volume ensures.types (init_keeps T (state_of old) (state_of new) h o.fs.number o.volume k c.args.fs.number c.args.ty c.args.bytes.now c.init.result ensures.state)) c.self.invariant.1,
+      retyped_library _ _ (state_of new) ensures.types (init_has _ (state_of _) (state_of new) c.self.invariant.0 c.args.fs.number c.args.ty c.args.bytes.now c.init.result ensures.state),
+      if_some (λ o. IsKept _ (state_of _) o.fs.number o.volume) (λ o. IsKept _ (state_of new) o.fs.number o.volume) c.self.inside.other
+          (λ o is k. retyped _ _ (state_of new) o.fs.number o.volume ensures.types (init_keeps _ (state_of _) (state_of new) h o.fs.number o.volume k c.args.fs.number c.args.ty c.args.bytes.now c.init.result ensures.state)) c.self.invariant.1,
     )

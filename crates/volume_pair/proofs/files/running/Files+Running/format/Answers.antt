@@ -1,5 +1,4 @@
-use Rattle.std.proofs.Common.{◌≡◌, ap, ◌∙◌, [], length, None, subst}
-use Rattle.std.specs.Prelude.{All}
+use Rattle.std.proofs.Common.{◌≡◌, ap, ◌∙◌, [], length, None, subst, All}
 use Rattle.xn_model.specs.BareDisks.{mounted_disk}
 use Rattle.templates.specs.Formats.{format_fault, formatted}
 use Rattle.templates.specs.Language.{language}
