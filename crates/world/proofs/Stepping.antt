@@ -17,7 +17,7 @@ use Rattle.xn_model.specs.Lanes.{FitLives}
 use Rattle.xn_model.specs.Flights.{flight_of, HaveSameFlights}
 use Rattle.xn_state.specs.States.{own_types}
 use Rattle.xn_state.specs.declared.call.Call.{Call}
-use Rattle.xn_state.specs.declared.call.Call.TheVariants.{Init, Propose, MakeRoot, DropRoot, Forget, Read, Root, Kind, Tainted, Pending, Floor, Free, Pick, Drain}
+use Rattle.xn_state.specs.declared.call.Call.TheVariants.{Init, Propose, MakeRoot, DropRoot, Forget, Drain}
 use Rattle.xn_state.specs.declared.answer.Answer.{Answer}
 use Rattle.xn_state.specs.Answers.{StateAnswers, call_of, reply_of_answer, told}
 use Rattle.xn_state.proofs.ForCallers.{answers_step}
@@ -57,15 +57,8 @@ module _ (kernel : KernelValue MemoryLane) (tickets : Tickets) (is : IsWorld ker
     fits (MakeRoot b) h = gives_keeps (λ s. FitLives (λ (l : MemoryLane). l.bytes) kernel.lanes s.lives) (make_root_of kernel.state fs b) kernel.state new h.0 h.2 is.fit (λ entry e. lemmas.lanes_make_root (λ (l : MemoryLane). l.bytes) kernel.lanes kernel.state new fs b entry e is.fit)
     fits DropRoot h = gives_keeps (λ s. FitLives (λ (l : MemoryLane). l.bytes) kernel.lanes s.lives) (drop_root_of (own_types kernel.state) kernel.state fs) kernel.state new h.0 h.2 is.fit (λ entry e. lemmas.lanes_drop_root (λ (l : MemoryLane). l.bytes) kernel.lanes (own_types kernel.state) kernel.state new fs entry e is.fit)
     fits (Forget b) h = gives_exactly_keeps (λ s. FitLives (λ (l : MemoryLane). l.bytes) kernel.lanes s.lives) (forget_of (own_types kernel.state) kernel.state fs b) kernel.state new h.0 h.2 is.fit (λ done e. lemmas.lanes_forget (λ (l : MemoryLane). l.bytes) kernel.lanes (own_types kernel.state) kernel.state new fs b done e is.fit)
-    fits (Read b) h = subst (λ (s : StoreState). FitLives (λ (l : MemoryLane). l.bytes) kernel.lanes s.lives) (sym h.1) is.fit
-    fits Root h = subst (λ (s : StoreState). FitLives (λ (l : MemoryLane). l.bytes) kernel.lanes s.lives) (sym h.1) is.fit
-    fits (Kind b) h = subst (λ (s : StoreState). FitLives (λ (l : MemoryLane). l.bytes) kernel.lanes s.lives) (sym h.1) is.fit
-    fits (Tainted b) h = subst (λ (s : StoreState). FitLives (λ (l : MemoryLane). l.bytes) kernel.lanes s.lives) (sym h.1) is.fit
-    fits Pending h = subst (λ (s : StoreState). FitLives (λ (l : MemoryLane). l.bytes) kernel.lanes s.lives) (sym h.1) is.fit
-    fits Floor h = subst (λ (s : StoreState). FitLives (λ (l : MemoryLane). l.bytes) kernel.lanes s.lives) (sym h.1) is.fit
-    fits Free h = subst (λ (s : StoreState). FitLives (λ (l : MemoryLane). l.bytes) kernel.lanes s.lives) (sym h.1) is.fit
-    fits Pick h = subst (λ (s : StoreState). FitLives (λ (l : MemoryLane). l.bytes) kernel.lanes s.lives) (sym h.1) is.fit
     fits Drain h = absurd h
+    fits call h = subst (λ (s : StoreState). FitLives (λ (l : MemoryLane). l.bytes) kernel.lanes s.lives) (sym h.1) is.fit
 
     still : new ≡ kernel.state → HaveSameFlights kernel.state.lives new.lives
     still same = subst (λ (s : StoreState). HaveSameFlights kernel.state.lives s.lives) (sym same) (λ b. refl)
@@ -76,15 +69,8 @@ module _ (kernel : KernelValue MemoryLane) (tickets : Tickets) (is : IsWorld ker
     flies_on (MakeRoot b) h = gives_keeps (λ s. HaveSameFlights kernel.state.lives s.lives) (make_root_of kernel.state fs b) kernel.state new h.0 h.2 (λ b. refl) (λ entry e. lemmas.flights_make_root (own_types kernel.state) kernel.state new is.holds.state fs b entry e)
     flies_on DropRoot h = gives_keeps (λ s. HaveSameFlights kernel.state.lives s.lives) (drop_root_of (own_types kernel.state) kernel.state fs) kernel.state new h.0 h.2 (λ b. refl) (λ entry e. lemmas.flights_drop_root (own_types kernel.state) kernel.state new is.holds.state fs entry e)
     flies_on (Forget b) h = gives_exactly_keeps (λ s. HaveSameFlights kernel.state.lives s.lives) (forget_of (own_types kernel.state) kernel.state fs b) kernel.state new h.0 h.2 (λ b. refl) (λ done e. lemmas.flights_forget (own_types kernel.state) kernel.state new fs b done e)
-    flies_on (Read b) h = still h.1
-    flies_on Root h = still h.1
-    flies_on (Kind b) h = still h.1
-    flies_on (Tainted b) h = still h.1
-    flies_on Pending h = still h.1
-    flies_on Floor h = still h.1
-    flies_on Free h = still h.1
-    flies_on Pick h = still h.1
     flies_on Drain h = absurd h
+    flies_on call h = still h.1
 
     pub call_world : fs < 32 → IsWorld (record kernel { state = new }) tickets
     call_world few = new_state new
