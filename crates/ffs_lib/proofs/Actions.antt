@@ -1,7 +1,7 @@
 -- Which actions write into a file, by the newest bytes where they begin, and what they make.
 use Rattle.std.proofs.Common.{◌≡◌, ◌≢◌, ℕ, zero, suc, ◌+◌, ◌*◌, ◌/◌, ◌-◌, ◌%◌, ◌<◌, ◌≤◌, ◌⊎◌, Bool, true, false, List, [], ◌∷◌, length, take, drop, replicate, Option, Some, Result, Ok, refl, sym, ◌∙◌, ap, inl, inr, arith, subst, eq-eqb, ◌==◌, ◌||◌, ◌&&◌, not, nat_lt, if◌then◌else◌, eqb-true, le-ltb, lt-ltb, ne_eqb, w32}
-use Rattle.ffs_lib.proofs.Words.{Edit, FfsFault, StoreState, Types, and_parts, file_block, file_in, init_of, inode_block_in, latest, list_all, propose_of, put}
-use Rattle.ffs_lib.proofs.Words.{result_and_then, to_le_bytes, word_at, zero_block}
+use Rattle.ffs_lib.proofs.Common.{Edit, FfsFault, StoreState, Types, and_parts, file_block, file_in, init_of, inode_block_in, latest, list_all, propose_of, put}
+use Rattle.ffs_lib.proofs.Common.{result_and_then, to_le_bytes, word_at, zero_block}
 use Rattle.ffs_model.proofs.ForCallers.{begun_next, one_later, proposed_next}
 use Rattle.ffs_lookup.proofs.ForCallers.{block_again}
 use Rattle.ffs_lib.specs.Edits.{edit_at}

@@ -1,6 +1,6 @@
 -- An entry that stands where none stood.
 use Rattle.std.proofs.Common.{◌≡◌, ℕ, ◌*◌, Bool, true, false, ◌&&◌, List, [], ◌∷◌, ◌++◌, Some, None, refl, sym, ◌∙◌, ap, inl, inr, eq-eqb, Contains, ◌==◌, ◌||◌, filter_map, flat_map, if◌then◌else◌, ne_eqb}
-use Rattle.ffs_lib.proofs.Words.{Slot, cases_eq, cons_option, half_at, inode_blocks, is_at, list_any, listing, name_in, range_with_len}
+use Rattle.ffs_lib.proofs.Common.{Slot, cases_eq, cons_option, half_at, inode_blocks, is_at, list_any, listing, name_in, range_with_len}
 use Rattle.xn_model.proofs.ForCallers.{Contains-head, Contains-tail}
 use Rattle.ffs_lib.proofs.Tests.{and_false}
 use Rattle.ffs_lib.proofs.Frames.{listed_at, listed_blocks, listed_in}

@@ -1,6 +1,6 @@
 -- Directories and their blocks.
 use Rattle.std.proofs.Common.{ℕ, ◌<◌, sym, ◌∙◌, arith}
-use Rattle.ffs_lib.proofs.Words.{AreBlocksOnce, IsConsistent, IsLibrary, StoreState, Types, latest}
+use Rattle.ffs_lib.proofs.Common.{AreBlocksOnce, IsConsistent, IsLibrary, StoreState, Types, latest}
 use Rattle.ffs_lib.proofs.Entering.{directory_from}
 use Rattle.ffs_lib.proofs.Owners.{direct_block, stands_from, two_blocks}
 

@@ -1,6 +1,6 @@
 -- How many numbers the edits of an action get.
 use Rattle.std.proofs.Common.{◌≡◌, ℕ, ◌+◌, ◌-◌, ◌≤◌, [], ◌∷◌, length, take, Ok, sym, ◌∙◌, ap, arith}
-use Rattle.ffs_lib.proofs.Words.{StoreState, Types, init_of, propose_of}
+use Rattle.ffs_lib.proofs.Common.{StoreState, Types, init_of, propose_of}
 use Rattle.xn_model.proofs.ForCallers.{same_ok, then_ok}
 use Rattle.ffs_model.proofs.ForCallers.{begun_next, proposed_next}
 use Rattle.ffs_lib.specs.Orders.{Action, Attaches, Edits, FirstMade, Makes, Parts, act_of, made_by, made_of}

@@ -1,7 +1,7 @@
 -- What is looked up before a name is made.
 use Rattle.std.proofs.Common.{◌≡◌, ℕ, Bool, true, false, List, Option, refl, sym, ◌∙◌, ap, subst, Result, Ok, Err, IsErrAnd, IsOk, MatchResult, ◌||◌, is_some, if◌then◌else◌}
-use Rattle.ffs_lib.proofs.Words.{BadName, Exists, FfsFault, NoInode, Slot, TooLarge, and_then, create_in, directory_in, err_from_is_err_and, first_named}
-use Rattle.ffs_lib.proofs.Words.{has_empty_pointer, has_free_inode, has_inode, has_room, if_new, if_room, is_name, root_in}
+use Rattle.ffs_lib.proofs.Common.{BadName, Exists, FfsFault, NoInode, Slot, TooLarge, and_then, create_in, directory_in, err_from_is_err_and, first_named}
+use Rattle.ffs_lib.proofs.Common.{has_empty_pointer, has_free_inode, has_inode, has_room, if_new, if_room, is_name, root_in}
 use Rattle.ffs_lookup.proofs.ForCallers.{same_ok}
 
 -- a free inode, or a pointer for a new block of them

@@ -1,8 +1,8 @@
 -- What the edits leave by which bytes of a file are written: one law for each kind.
 use Rattle.std.proofs.Common.{◌≡◌, ◌≢◌, ℕ, ◌+◌, ◌-◌, ◌*◌, ◌/◌, ◌%◌, ◌^◌, ◌<◌, ◌≤◌, false, List, [], ◌∷◌, ◌++◌, length, drop, replicate, take, Option, Some, Ok, Err, Result, refl, sym, ◌∙◌, ap, arith, subst, inl, inr, Contains, IsTrue, slice_set, ◌==◌, w32}
-use Rattle.ffs_lib.proofs.Words.{Edit, FfsFault, Fields, Found, IsFile, StoreState, Types, Under, byte_of, direct_in, fields_of, file_block, file_in, forget_of}
-use Rattle.ffs_lib.proofs.Words.{init_of, inode_block_in, inode_blocks, inode_links, inode_mode, latest, length-replicate, library_layout, life_at, list_all}
-use Rattle.ffs_lib.proofs.Words.{mapped, none-some, pointer_word, propose_of, put, result_and_then, take-replicate, to_le_bytes, was_given, word_at, zero_block}
+use Rattle.ffs_lib.proofs.Common.{Edit, FfsFault, Fields, Found, IsFile, StoreState, Types, Under, byte_of, direct_in, fields_of, file_block, file_in, forget_of}
+use Rattle.ffs_lib.proofs.Common.{init_of, inode_block_in, inode_blocks, inode_links, inode_mode, latest, length-replicate, library_layout, life_at, list_all}
+use Rattle.ffs_lib.proofs.Common.{mapped, none-some, pointer_word, propose_of, put, result_and_then, take-replicate, to_le_bytes, was_given, word_at, zero_block}
 use Rattle.xn_model.proofs.ForCallers.{Contains-head}
 use Rattle.ffs_model.proofs.ForCallers.{begun_next, data_short, given_later, later_then, latest_reached, library_reads, one_later, pointer_set_short, proposed_given, proposed_next, proposed_others, started, started_here, started_keeps, under_inodes, zero_word}
 use Rattle.ffs_lookup.proofs.ForCallers.{found_has, same_ok}

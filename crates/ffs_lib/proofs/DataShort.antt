@@ -1,6 +1,6 @@
 -- The edits of a file's bytes are refused for want of something alone, and their numbers were given.
 use Rattle.std.proofs.Common.{◌≡◌, ℕ, ◌+◌, ◌*◌, ◌<◌, ◌≤◌, List, [], ◌∷◌, length, get_or, Option, sym, ◌∙◌, ap, arith, subst, IsTrue, slice_set}
-use Rattle.ffs_lib.proofs.Words.{Found, IsFile, StoreState, Types, direct_in, fields_of, inode_pairs, length-replicate, may_add, put, word_at, zero_block}
+use Rattle.ffs_lib.proofs.Common.{Found, IsFile, StoreState, Types, direct_in, fields_of, inode_pairs, length-replicate, may_add, put, word_at, zero_block}
 use Rattle.xn_model.proofs.ForCallers.{addable, length_put}
 use Rattle.ffs_model.proofs.ForCallers.{Replaces, indirect_set}
 use Rattle.ffs_lib.specs.Edits.{edit_at}

@@ -1,6 +1,6 @@
 -- The blocks that are dropped, listed word by word.
 use Rattle.std.proofs.Common.{◌≡◌, ◌≢◌, ℕ, zero, suc, ◌+◌, ◌*◌, length, List, [], ◌∷◌, ◌++◌, Option, Some, None, refl, ◌∙◌, ap, arith, filter_map, option_to_list, append-nil, length-append}
-use Rattle.ffs_lib.proofs.Words.{Types, blocks_of, cons_option, drop_all, map-append, put, range_with_len, unless_empty}
+use Rattle.ffs_lib.proofs.Common.{Types, blocks_of, cons_option, drop_all, map-append, put, range_with_len, unless_empty}
 use Rattle.ffs_model.specs.Library.{IsLibrary, pointed, pointer_word, zero_block}
 use Rattle.ffs_model.proofs.ForCallers.{is_not_empty, pointed_none, word_within, zero_word}
 

@@ -1,9 +1,9 @@
 -- What each edit of a volume leaves.
 use Rattle.std.proofs.Common.{◌≡◌, ℕ, suc, ◌+◌, ◌*◌, ◌^◌, ◌<◌, ◌≢◌, ◌⊎◌, List, [], ◌∷◌, length, Option, Some, None, Ok, refl, sym, ◌∙◌, ap, inr, arith, subst, replicate, eq-eqb, Contains, if◌then◌else◌, ne_eqb, w32}
-use Rattle.ffs_lib.proofs.Words.{CanName, CanUnlink, Edit, EntryMade, Found, HoldsOnly, InodeFreed, InodeKept, InodeMade, IsDirectory, IsEmptyPointer, IsFile}
-use Rattle.ffs_lib.proofs.Words.{IsFound, IsGap, IsInFile, IsInodes, IsLibrary, IsPlace, IsRoot, IsSlot, LinkAdded, LinkTaken, OneEntry, Reads, Slot}
-use Rattle.ffs_lib.proofs.Words.{StoreState, Types, Under, VolumeKeeps, half_at, inode_at, inode_blocks, inode_links, inode_mode, latest, library_layout}
-use Rattle.ffs_lib.proofs.Words.{pointer_word, propose_of, put, to_le_bytes, with_edit, with_inode, word_at, zero_block}
+use Rattle.ffs_lib.proofs.Common.{CanName, CanUnlink, Edit, EntryMade, Found, HoldsOnly, InodeFreed, InodeKept, InodeMade, IsDirectory, IsEmptyPointer, IsFile}
+use Rattle.ffs_lib.proofs.Common.{IsFound, IsGap, IsInFile, IsInodes, IsLibrary, IsPlace, IsRoot, IsSlot, LinkAdded, LinkTaken, OneEntry, Reads, Slot}
+use Rattle.ffs_lib.proofs.Common.{StoreState, Types, Under, VolumeKeeps, half_at, inode_at, inode_blocks, inode_links, inode_mode, latest, library_layout}
+use Rattle.ffs_lib.proofs.Common.{pointer_word, propose_of, put, to_le_bytes, with_edit, with_inode, word_at, zero_block}
 use Rattle.ffs_model.proofs.ForCallers.{below_written, data_owned, directory_grown, entry_cleared, entry_made, entry_turned, entry_written, file_written, freed_waits, indirect_owned, indirect_reached, inode_forgets, inode_freed, inode_kept, inode_made, inodes_set, library_reads, link_added, link_taken, links_read, mode_read, number_written, other_spare, other_waits, other_written, pointer_set, pointer_written, proposed_others, slot_waits, taken_waits, under_direct, word_part, zeros_direct, zeros_mode, zeros_pointer}
 use Rattle.ffs_model.proofs.Rewritten as rewritten
 use Rattle.ffs_lib.specs.Edits.{edit_at}

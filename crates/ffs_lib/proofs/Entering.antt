@@ -1,8 +1,8 @@
 -- What an edit of an inode, or of a directory's entries, leaves in the newest bytes.
 use Rattle.std.proofs.Common.{◌≡◌, ◌≢◌, ℕ, ◌+◌, ◌-◌, ◌*◌, ◌/◌, ◌%◌, ◌<◌, ◌≤◌, Bool, true, List, [], ◌∷◌, length, take, drop, Option, Some, Ok, Err, refl, sym, ◌∙◌, ap, arith, inl, inr, Contains, Result, ◌==◌, filter_map, if◌then◌else◌, IsTrue, slice_set, eqb-true, lt-ltb}
-use Rattle.ffs_lib.proofs.Words.{FfsFault, IsConsistent, IsFree, IsInodes, IsPlace, NoEntry, NotDir, Slot, StoreState, Types, and_then, blocks_of, direct_in}
-use Rattle.ffs_lib.proofs.Words.{directory_in, distinct, entry_of, fields_of, file_block, if_directory, init_of, inode_block_in, inode_in, is_at, is_name}
-use Rattle.ffs_lib.proofs.Words.{latest, list_any, listing, place_in, propose_of, put, range_with_len, room_in, take-length, unless_unused}
+use Rattle.ffs_lib.proofs.Common.{FfsFault, IsConsistent, IsFree, IsInodes, IsPlace, NoEntry, NotDir, Slot, StoreState, Types, and_then, blocks_of, direct_in}
+use Rattle.ffs_lib.proofs.Common.{directory_in, distinct, entry_of, fields_of, file_block, if_directory, init_of, inode_block_in, inode_in, is_at, is_name}
+use Rattle.ffs_lib.proofs.Common.{latest, list_any, listing, place_in, propose_of, put, range_with_len, room_in, take-length, unless_unused}
 use Rattle.ffs_model.specs.Library.{IsLibrary, direct_word, half_at, inode_at, inode_blocks, inode_links, inode_mode, library_layout, pointed, zero_block}
 use Rattle.ffs_model.proofs.ForCallers.{blocks_read, bytes_within, direct_distinct, direct_where, library_reads, one_type, proposed_here, started_here, under_inodes}
 use Rattle.ffs_lookup.specs.declared.places.Free.{Free}

@@ -1,7 +1,7 @@
 -- The blocks of an inode whose fields were set.
 use Rattle.std.proofs.Common.{◌≡◌, ℕ, zero, suc, ◌+◌, ◌-◌, ◌*◌, ◌<◌, ◌^◌, ◌⊎◌, Bool, true, false, cond, List, [], ◌∷◌, Some, None, refl, sym, ◌∙◌, ap, inl, inr, subst, replicate, arith, get_or, take, Contains, filter_map, map, slice_set, ◌==◌}
-use Rattle.ffs_lib.proofs.Words.{blocks_of, cons_option, direct_in, drop-replicate, entry_of, fields_of, from_le_bytes-to_le_bytes_2, half_at, inode_at}
-use Rattle.ffs_lib.proofs.Words.{inode_blocks, inode_mode, range_with_len, take-replicate, unless_empty, word_at, zero_block}
+use Rattle.ffs_lib.proofs.Common.{blocks_of, cons_option, direct_in, drop-replicate, entry_of, fields_of, from_le_bytes-to_le_bytes_2, half_at, inode_at}
+use Rattle.ffs_lib.proofs.Common.{inode_blocks, inode_mode, range_with_len, take-replicate, unless_empty, word_at, zero_block}
 use Rattle.xn_model.proofs.ForCallers.{Contains-cons, Contains-head, Contains-tail}
 
 -- the words that are not 0

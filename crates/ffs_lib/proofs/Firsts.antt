@@ -1,6 +1,6 @@
 -- The first entry with a name.
 use Rattle.std.proofs.Common.{◌≡◌, ℕ, Bool, true, false, cond, List, [], ◌∷◌, ◌++◌, map, Option, Some, refl, ap, find, bytes_eq, option_map}
-use Rattle.ffs_lib.proofs.Words.{Slot, bytes_eq-Decides, has_name, name_at}
+use Rattle.ffs_lib.proofs.Common.{Slot, bytes_eq-Decides, has_name, name_at}
 
 -- by the listing
 

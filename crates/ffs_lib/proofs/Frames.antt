@@ -1,7 +1,7 @@
 -- What an edit leaves of the directories that it does not touch, and what it takes from the one that it does.
 use Rattle.std.proofs.Common.{◌≡◌, ℕ, ◌+◌, ◌*◌, ◌<◌, ◌≤◌, ◌≢◌, ◌⊎◌, Bool, true, false, cond, List, [], ◌∷◌, ◌++◌, map, length, take, drop, replicate, get_or, Option, Some, None, Ok, refl, sym, ◌∙◌, ap, inl, inr, arith, eq-eqb, get_or-take, get_or-drop, Contains, ◌==◌, ◌&&◌, not, min, filter, filter_map, flat_map, if◌then◌else◌, ne_eqb}
-use Rattle.ffs_lib.proofs.Words.{Edit, IsConsistent, IsLibrary, Slot, StoreState, Types, Under, cases_eq, cases_lt, cons_option, filter-append, half_at}
-use Rattle.ffs_lib.proofs.Words.{inode_blocks, latest, map-append, name_in, propose_of, put, range_with_len}
+use Rattle.ffs_lib.proofs.Common.{Edit, IsConsistent, IsLibrary, Slot, StoreState, Types, Under, cases_eq, cases_lt, cons_option, filter-append, half_at}
+use Rattle.ffs_lib.proofs.Common.{inode_blocks, latest, map-append, name_in, propose_of, put, range_with_len}
 use Rattle.xn_model.proofs.ForCallers.{Contains-head, Contains-tail}
 use Rattle.ffs_model.proofs.ForCallers.{bytes_apart, bytes_within, half_apart, half_within, proposed_others}
 use Rattle.ffs_lookup.specs.Newest.{slots_in_block, entry_at, is_at, listing, name_at, used_entry, without_entry}

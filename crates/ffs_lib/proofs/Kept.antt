@@ -1,6 +1,6 @@
 -- What stays where a call is refused, and how the parts of a step come together.
 use Rattle.std.proofs.Common.{◌≡◌, ◌≢◌, ℕ, ◌<◌, List, Option, Result, Ok, Err, sym, subst, ap, ◌∙◌, OnOk, OnErr}
-use Rattle.ffs_lib.proofs.Words.{Gives, GivesExactly, Refusal, StoreState, Types, VolumeKeeps, forget_of, init_of, library_layout, life_at, none-some}
+use Rattle.ffs_lib.proofs.Common.{Gives, GivesExactly, Refusal, StoreState, Types, VolumeKeeps, forget_of, init_of, library_layout, life_at, none-some}
 use Rattle.xn_model.proofs.ForCallers.{gives_exactly_keeps}
 use Rattle.ffs_model.proofs.ForCallers.{ended_keeps, library_reads, started}
 use Rattle.ffs_lib.specs.Outcomes.{Keeps}

@@ -1,8 +1,8 @@
 -- What each edit of a call leaves: one law for each kind, of all that a call says of it.
 use Rattle.std.proofs.Common.{◌≡◌, ◌≢◌, ℕ, ◌+◌, ◌-◌, ◌*◌, ◌/◌, ◌<◌, ◌≤◌, ◌⊎◌, List, [], length, replicate, Option, None, Some, Result, Ok, Err, refl, sym, ◌∙◌, ap, arith, subst, Bool, true, false, suc, inl, inr, eq-eqb, Contains, IsErrAnd, IsOk, IsTrue, MatchResult, OnErr, OnOk, ◌==◌}
-use Rattle.ffs_lib.proofs.Words.{CanUnlink, Edit, FfsFault, Fields, Found, Gives, GivesExactly, IsFound, IsPlace, IsSlot, Kernel, NoMemory, Refusal, Slot}
-use Rattle.ffs_lib.proofs.Words.{StoreState, Types, Under, cases_eq, err_from_is_err_and, fields_of, forget_of, init_of, inode_block_in, inode_in, is_short}
-use Rattle.ffs_lib.proofs.Words.{is_shortage, latest, place_in, propose_of, was_given, word_at}
+use Rattle.ffs_lib.proofs.Common.{CanUnlink, Edit, FfsFault, Fields, Found, Gives, GivesExactly, IsFound, IsPlace, IsSlot, Kernel, NoMemory, Refusal, Slot}
+use Rattle.ffs_lib.proofs.Common.{StoreState, Types, Under, cases_eq, err_from_is_err_and, fields_of, forget_of, init_of, inode_block_in, inode_in, is_short}
+use Rattle.ffs_lib.proofs.Common.{is_shortage, latest, place_in, propose_of, was_given, word_at}
 use Rattle.ffs_model.specs.Library.{inode_blocks, inode_links, inode_mode, inode_pairs, library_layout, pointed, pointer_word, zero_block}
 use Rattle.ffs_model.proofs.ForCallers.{pointers_cleared_short, proposed_given, proposed_here, proposed_others}
 use Rattle.ffs_lookup.proofs.ForCallers.{block_again, gives_err, gives_ok, same_ok}

@@ -1,4 +1,4 @@
-pub mod Words
+pub mod Common
 pub mod Tests
 pub mod Fields
 pub mod Edited

@@ -1,7 +1,7 @@
 -- An inode that an entry names is in use, with a link at least.
 use Rattle.std.proofs.Common.{◌≡◌, ◌≢◌, ℕ, ◌-◌, ◌/◌, ◌%◌, ◌<◌, ◌≤◌, Bool, List, Option, Some, None, Ok, true, refl, sym, ◌∙◌, ap, inl, inr, arith, subst, IsTrue, if◌then◌else◌, le-ltb}
-use Rattle.ffs_lib.proofs.Words.{IsInodes, IsSlot, Slot, StoreState, Types, VolumeKeeps, cases_lt, has_empty_pointer, has_room, inode_at, inode_in, inode_links}
-use Rattle.ffs_lib.proofs.Words.{latest, library_layout, pointer_word, root_in, was_given}
+use Rattle.ffs_lib.proofs.Common.{IsInodes, IsSlot, Slot, StoreState, Types, VolumeKeeps, cases_lt, has_empty_pointer, has_room, inode_at, inode_in, inode_links}
+use Rattle.ffs_lib.proofs.Common.{latest, library_layout, pointer_word, root_in, was_given}
 use Rattle.ffs_model.proofs.ForCallers.{everything, everything_cut, everything_seen, links_read, mode_read, named_linked, named_links}
 use Rattle.ffs_lookup.proofs.ForCallers.{block_again, root_again, same_ok}
 use Rattle.ffs_lib.specs.Outcomes.{HasFreePointer}

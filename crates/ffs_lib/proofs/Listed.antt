@@ -1,6 +1,6 @@
 -- What each edit of a call leaves of directories.
 use Rattle.std.proofs.Common.{◌≡◌, ℕ, ◌<◌, sym, ◌∙◌, ap, subst, IsTrue}
-use Rattle.ffs_lib.proofs.Words.{IsConsistent, IsLibrary, StoreState, Types, Under, bytes_of, fits, latest, life_bytes}
+use Rattle.ffs_lib.proofs.Common.{IsConsistent, IsLibrary, StoreState, Types, Under, bytes_of, fits, latest, life_bytes}
 use Rattle.xn_model.proofs.ForCallers.{last_of}
 use Rattle.ffs_model.proofs.ForCallers.{latest_reached}
 

@@ -1,6 +1,6 @@
 -- What is said of an inode that is named, for the types and the file system of before.
 use Rattle.std.proofs.Common.{◌≡◌, ℕ, List, Result, Ok, true, subst}
-use Rattle.ffs_lib.proofs.Words.{FfsFault, StoreState, Types, directory_in, has_room, latest}
+use Rattle.ffs_lib.proofs.Common.{FfsFault, StoreState, Types, directory_in, has_room, latest}
 use Rattle.ffs_lib.specs.Results.{MadeEntry}
 use Rattle.ffs_lib.specs.Steps.{Leaves, StopsNew}
 use Rattle.ffs_lib.specs.declared.volume.Volume.{Volume}

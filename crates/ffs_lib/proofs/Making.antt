@@ -1,9 +1,9 @@
 -- How a volume is made.
 use Rattle.std.proofs.Common.{◌≡◌, ◌≢◌, ℕ, zero, suc, ◌^◌, ◌<◌, Bool, true, false, List, [], ◌∷◌, length, get_or, Option, Some, None, Result, Ok, Err, refl, sym, ◌∙◌, ap, inl, inr, subst, replicate, arith, eq-eqb, Contains, IsErrAnd, MatchResult, OnErr, OnOk, ◌==◌, ◌&&◌, if◌then◌else◌, ne_eqb}
-use Rattle.ffs_lib.proofs.Words.{BlockState, FfsFault, Gives, HoldsOnly, IsRoot, Kernel, Life, Lives, Refusal, StoreState, Types, VolumeKeeps, alive_and}
-use Rattle.ffs_lib.proofs.Words.{empty_volume, err_from_is_err_and, files_of, init_of, is_for, is_fresh, is_short, is_shortage, latest, library_layout, life_at}
-use Rattle.ffs_lib.proofs.Words.{make_in, make_root_of, may_add, new_life, no_edits, none-some, pointer_word, propose_of, result_and_then, root, root_state}
-use Rattle.ffs_lib.proofs.Words.{slot_now, states, zero_block}
+use Rattle.ffs_lib.proofs.Common.{BlockState, FfsFault, Gives, HoldsOnly, IsRoot, Kernel, Life, Lives, Refusal, StoreState, Types, VolumeKeeps, alive_and}
+use Rattle.ffs_lib.proofs.Common.{empty_volume, err_from_is_err_and, files_of, init_of, is_for, is_fresh, is_short, is_shortage, latest, library_layout, life_at}
+use Rattle.ffs_lib.proofs.Common.{make_in, make_root_of, may_add, new_life, no_edits, none-some, pointer_word, propose_of, result_and_then, root, root_state}
+use Rattle.ffs_lib.proofs.Common.{slot_now, states, zero_block}
 use Rattle.xn_model.proofs.ForCallers.{accept, accepted, accepted_other, each_forth, set_other}
 use Rattle.ffs_model.proofs.ForCallers.{inodes_begun, library_reads, pointer_set, pointer_written, root_begun, root_made, root_set_short, root_short, rooted, rooted_here, rooted_others, started, started_here, started_holds, started_keeps, started_others, zeros_pointer}
 use Rattle.ffs_lookup.proofs.ForCallers.{gives_err, pointer_is, root_again}

@@ -1,8 +1,8 @@
 -- A list with one element more, and a directory with one entry more.
 use Rattle.std.proofs.Common.{◌≡◌, ◌≢◌, ℕ, zero, suc, ◌+◌, ◌-◌, ◌*◌, ◌<◌, ◌≤◌, Bool, true, false, cond, not, ◌&&◌, List, [], ◌∷◌, ◌++◌, length, take, drop, get_or, replicate, Option, Some, None, refl, sym, ◌∙◌, ap, inl, inr, arith, subst, append_assoc, eq-eqb, Contains, ◌==◌, min, nat_le, filter_map, flat_map, slice_set, if◌then◌else◌, IsTrue, leb-true, ne_eqb}
-use Rattle.ffs_lib.proofs.Words.{and_parts, blocks_of, cases_eq, cons_option, distinct, entry_of, false≢true, half_at, has_number, is_dots, is_name}
-use Rattle.ffs_lib.proofs.Words.{is_name_byte, is_name_length, list_all, min-eq_left, name_in, not-true, put, range_with_len, take-append_seam, unless_empty}
-use Rattle.ffs_lib.proofs.Words.{zero_block}
+use Rattle.ffs_lib.proofs.Common.{and_parts, blocks_of, cases_eq, cons_option, distinct, entry_of, false≢true, half_at, has_number, is_dots, is_name}
+use Rattle.ffs_lib.proofs.Common.{is_name_byte, is_name_length, list_all, min-eq_left, name_in, not-true, put, range_with_len, take-append_seam, unless_empty}
+use Rattle.ffs_lib.proofs.Common.{zero_block}
 use Rattle.std.proofs.lemmas.List.Concat.{flat_map-append}
 use Rattle.xn_model.proofs.ForCallers.{Contains-cons, Contains-head, Contains-none, Contains-tail, has_number_from}
 use Rattle.ffs_model.proofs.ForCallers.{bytes_within, half_within, zero_half}

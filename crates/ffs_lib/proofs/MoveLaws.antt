@@ -1,7 +1,7 @@
 -- What is left of a name that is moved, after its inode was named again and the old name taken.
 use Rattle.std.proofs.Common.{◌≡◌, ◌≢◌, ◌∙◌, ℕ, ◌*◌, ◌<◌, ◌≤◌, ◌++◌, ◌∷◌, List, None, Ok, Some, ap, arith, eq-eqb, inl, inr, length, length-append, refl, subst, suc, sym, ◌==◌, if◌then◌else◌}
-use Rattle.ffs_lib.proofs.Words.{AreBlocksOnce, FfsFault, Slot, StoreState, Types, blocks_value, cases_eq, direct_in, directory_in, inode_in, inode_links}
-use Rattle.ffs_lib.proofs.Words.{latest, listing, named_in, none-some, room, without_entry}
+use Rattle.ffs_lib.proofs.Common.{AreBlocksOnce, FfsFault, Slot, StoreState, Types, blocks_value, cases_eq, direct_in, directory_in, inode_in, inode_links}
+use Rattle.ffs_lib.proofs.Common.{latest, listing, named_in, none-some, room, without_entry}
 use Rattle.ffs_lookup.proofs.ForCallers.{direct_has, first_value, same_ok}
 use Rattle.ffs_lib.specs.Results.{AsBefore, IsAs, IsExtended, MovedInodes, SameInode}
 use Rattle.ffs_lib.specs.Steps.{Clearing, NamedAgain, StopsNaming, StopsTaking, StopsUnnaming, Unnamed}

@@ -1,8 +1,8 @@
 -- What is left of names and files where a name is moved.
 use Rattle.std.proofs.Common.{◌≡◌, ◌≢◌, ℕ, ◌*◌, ◌/◌, ◌%◌, ◌<◌, Bool, true, false, cond, List, [], ◌∷◌, length, map, get_or, replicate, Option, Some, None, Ok, refl, sym, ◌∙◌, ap, inl, inr, arith, subst, Contains, ◌==◌, filter_map, find, flat_map, if◌then◌else◌, ok_or}
-use Rattle.ffs_lib.proofs.Words.{BadName, Found, IsConsistent, IsFound, IsLibrary, IsSlot, NoEntry, Slot, StoreState, Types, Under, cases_eq, cons_option}
-use Rattle.ffs_lib.proofs.Words.{fields_of, find-append, half_at, inode_blocks, inode_mode, is_name, latest, library_layout, none-some, option_or, propose_of}
-use Rattle.ffs_lib.proofs.Words.{range_with_len, same_Some, word_at}
+use Rattle.ffs_lib.proofs.Common.{BadName, Found, IsConsistent, IsFound, IsLibrary, IsSlot, NoEntry, Slot, StoreState, Types, Under, cases_eq, cons_option}
+use Rattle.ffs_lib.proofs.Common.{fields_of, find-append, half_at, inode_blocks, inode_mode, is_name, latest, library_layout, none-some, option_or, propose_of}
+use Rattle.ffs_lib.proofs.Common.{range_with_len, same_Some, word_at}
 use Rattle.xn_model.proofs.ForCallers.{Contains-head, Contains-tail}
 use Rattle.ffs_model.proofs.ForCallers.{direct_where, library_reads, proposed_here, proposed_others, under_direct, under_inodes}
 use Rattle.ffs_lib.specs.Edits.{edit_at}

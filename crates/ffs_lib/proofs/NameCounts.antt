@@ -1,7 +1,7 @@
 -- Names are good where no inode has more names than links.
 use Rattle.std.proofs.Common.{◌≡◌, ◌≢◌, ℕ, suc, ◌+◌, ◌-◌, ◌*◌, ◌/◌, ◌%◌, ◌<◌, ◌≤◌, inl, inr, Bool, true, false, cond, List, [], ◌∷◌, map, length, Option, Some, None, refl, sym, ◌∙◌, ap, arith, subst, Contains, Result, Ok, Err, ◌==◌, nat_lt, filter, filter_map, flat_map, if◌then◌else◌, eq-eqb, le-ltb, lt-ltb, ne_eqb}
-use Rattle.ffs_lib.proofs.Words.{Contains-append_left, Contains-append_right, FfsFault, HasLinks, IsInodes, LeavesRoom, LinksGood, Names, Slot, cases_lt}
-use Rattle.ffs_lib.proofs.Words.{cons_option, half_at, inode_at, inode_blocks, inode_links, inode_mode, library_layout, range_with_len, result_ok}
+use Rattle.ffs_lib.proofs.Common.{Contains-append_left, Contains-append_right, FfsFault, HasLinks, IsInodes, LeavesRoom, LinksGood, Names, Slot, cases_lt}
+use Rattle.ffs_lib.proofs.Common.{cons_option, half_at, inode_at, inode_blocks, inode_links, inode_mode, library_layout, range_with_len, result_ok}
 use Rattle.std.proofs.lemmas.List.Sums.{length-filter}
 use Rattle.xn_model.proofs.ForCallers.{Contains-cons, Contains-head, Contains-none, Contains-tail, filter_from}
 use Rattle.ffs_model.proofs.ForCallers.{blocks_read, links_read, mode_read, one_more}

@@ -1,9 +1,9 @@
 -- What the edits leave by which a name is made.
 use Rattle.std.proofs.Common.{◌≡◌, ◌≢◌, ℕ, ◌+◌, ◌-◌, ◌*◌, ◌/◌, ◌%◌, ◌^◌, ◌<◌, List, [], ◌∷◌, length, replicate, Option, None, Some, Ok, Err, refl, sym, ◌∙◌, ap, arith, subst, inl, inr, Contains, IsTrue, find, option_map, slice_set, ◌==◌, w32}
-use Rattle.ffs_lib.proofs.Words.{Edit, FfsFault, Fields, Found, IsDirectory, IsEmptyPointer, IsFree, IsGap, IsInodes, IsRoot, NoEntry, OneEntry, StoreState}
-use Rattle.ffs_lib.proofs.Words.{Types, cases_eq, direct_in, fields_of, forget_of, init_of, inode_at, inode_blocks, inode_links, inode_mode, inode_pairs}
-use Rattle.ffs_lib.proofs.Words.{latest, library_layout, list_any, pointer_word, propose_of, put, range_with_len, to_le_bytes, was_given, without_edit}
-use Rattle.ffs_lib.proofs.Words.{zero_block}
+use Rattle.ffs_lib.proofs.Common.{Edit, FfsFault, Fields, Found, IsDirectory, IsEmptyPointer, IsFree, IsGap, IsInodes, IsRoot, NoEntry, OneEntry, StoreState}
+use Rattle.ffs_lib.proofs.Common.{Types, cases_eq, direct_in, fields_of, forget_of, init_of, inode_at, inode_blocks, inode_links, inode_mode, inode_pairs}
+use Rattle.ffs_lib.proofs.Common.{latest, library_layout, list_any, pointer_word, propose_of, put, range_with_len, to_le_bytes, was_given, without_edit}
+use Rattle.ffs_lib.proofs.Common.{zero_block}
 use Rattle.xn_model.proofs.ForCallers.{Contains-head}
 use Rattle.ffs_model.proofs.ForCallers.{Replaces, blocks_read, begun_next, given_later, library_reads, mode_read, one_entry, one_later, proposed_given, proposed_others, started_here, started_holds, started_keeps, started_names, under_direct, zeros_mode, zeros_pointer}
 use Rattle.ffs_lookup.specs.declared.places.Free.{Free}

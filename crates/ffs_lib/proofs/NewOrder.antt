@@ -1,8 +1,8 @@
 -- Which edits make a file, a directory or a volume.
 use Rattle.std.proofs.Common.{◌≡◌, ℕ, zero, suc, ◌+◌, ◌-◌, ◌*◌, ◌/◌, ◌%◌, ◌<◌, ◌≤◌, Bool, true, false, List, [], ◌∷◌, length, Option, None, Some, Result, Ok, Err, refl, sym, ◌∙◌, ap, inl, inr, arith, subst, eq-eqb, IsErrAnd, IsOk, OnOk, find, option_map, ◌==◌, ◌&&◌, ◌||◌, not, if◌then◌else◌, ok_or, ne_eqb}
-use Rattle.ffs_lib.proofs.Words.{FfsFault, IsFree, IsRoot, NoInode, StoreState, Types, and_then, cases_eq, create_in, entry_of, err_from_is_err_and}
-use Rattle.ffs_lib.proofs.Words.{has_free_at, has_free_inode, init_of, inode_at, inode_block_in, is_free_inode, latest, list_any, make_in, number_in}
-use Rattle.ffs_lib.proofs.Words.{pointer_word, range_with_len, result_and_then, root_in, slot_now, without_edit}
+use Rattle.ffs_lib.proofs.Common.{FfsFault, IsFree, IsRoot, NoInode, StoreState, Types, and_then, cases_eq, create_in, entry_of, err_from_is_err_and}
+use Rattle.ffs_lib.proofs.Common.{has_free_at, has_free_inode, init_of, inode_at, inode_block_in, is_free_inode, latest, list_any, make_in, number_in}
+use Rattle.ffs_lib.proofs.Common.{pointer_word, range_with_len, result_and_then, root_in, slot_now, without_edit}
 use Rattle.ffs_lookup.specs.declared.places.Free.{Free}
 use Rattle.ffs_lookup.proofs.ForCallers.{pointer_is, root_again}
 use Rattle.ffs_lib.specs.Edits.{edit_at}

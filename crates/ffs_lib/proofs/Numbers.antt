@@ -1,6 +1,6 @@
 -- The numbers of edits that a volume keeps.
 use Rattle.std.proofs.Common.{◌≡◌, ℕ, zero, suc, refl, [], ◌∷◌, ◌+◌, ◌-◌, ◌*◌, ◌/◌, ◌<◌, ◌≤◌, List, length, get_or, Option, Some, None, sym, ◌∙◌, ap, inl, inr, arith, subst, eq-eqb, if◌then◌else◌, set, get_or-set_other, ne_eqb}
-use Rattle.ffs_lib.proofs.Words.{IsFree, IsInodes, StoreState, Types, cases_eq, get_or-set_at, inode_at, latest, library_layout, with_edit, without_edit}
+use Rattle.ffs_lib.proofs.Common.{IsFree, IsInodes, StoreState, Types, cases_eq, get_or-set_at, inode_at, latest, library_layout, with_edit, without_edit}
 use Rattle.ffs_lib.specs.Outcomes.{IsAdded}
 use Rattle.ffs_lib.specs.Volumes.{edits_of}
 

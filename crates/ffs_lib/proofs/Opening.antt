@@ -1,7 +1,7 @@
 -- What a volume is opened or made with.
 use Rattle.std.proofs.Common.{◌≡◌, ℕ, ◌<◌, inl, inr, Bool, true, false, Option, Some, None, Ok, refl, arith, ◌==◌, eqb-true}
-use Rattle.ffs_lib.proofs.Words.{IsConsistent, IsInodes, KeepsImage, Pending, StoreState, Types, VolumeKeeps, inode_block_in, latest, library_layout, make_from}
-use Rattle.ffs_lib.proofs.Words.{make_in, no_edits, open_in, over_named, pending_of, sound_in, unless_over}
+use Rattle.ffs_lib.proofs.Common.{IsConsistent, IsInodes, KeepsImage, Pending, StoreState, Types, VolumeKeeps, inode_block_in, latest, library_layout, make_from}
+use Rattle.ffs_lib.proofs.Common.{make_in, no_edits, open_in, over_named, pending_of, sound_in, unless_over}
 use Rattle.ffs_model.proofs.ForCallers.{library_reads, newest_types, no_root_keeps, nothing_pending, opened_keeps, rest_keeps}
 use Rattle.ffs_lib.specs.Steps.{Stage}
 use Rattle.ffs_lib.specs.Volumes.{MayOpen, NothingPending}

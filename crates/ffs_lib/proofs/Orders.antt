@@ -1,8 +1,8 @@
 -- Which edits a call makes, one after another.
 use Rattle.std.proofs.Common.{◌≡◌, ◌≢◌, ℕ, suc, ◌+◌, ◌-◌, ◌*◌, ◌/◌, ◌%◌, ◌<◌, ◌≤◌, ◌⊎◌, Bool, true, false, List, [], ◌∷◌, length, take, replicate, Option, None, Some, Result, Ok, Err, refl, sym, ◌∙◌, ap, inl, inr, arith, subst, eq-eqb, IfOk, IsErrAnd, ◌==◌, ◌||◌, not, nat_lt, if◌then◌else◌, le-ltb, lt-ltb, ne_eqb, w16}
-use Rattle.ffs_lib.proofs.Words.{Edit, FfsFault, IsConsistent, IsLibrary, IsSlot, Room, Slot, StoreState, Types, Under, cases_eq, directory_in, entry_of}
-use Rattle.ffs_lib.proofs.Words.{err_from_is_err_and, init_of, inode_block_in, inode_in, inode_links, latest, library_layout, propose_of, put, result_and_then}
-use Rattle.ffs_lib.proofs.Words.{room_in, to_le_bytes, word_at}
+use Rattle.ffs_lib.proofs.Common.{Edit, FfsFault, IsConsistent, IsLibrary, IsSlot, Room, Slot, StoreState, Types, Under, cases_eq, directory_in, entry_of}
+use Rattle.ffs_lib.proofs.Common.{err_from_is_err_and, init_of, inode_block_in, inode_in, inode_links, latest, library_layout, propose_of, put, result_and_then}
+use Rattle.ffs_lib.proofs.Common.{room_in, to_le_bytes, word_at}
 use Rattle.ffs_model.proofs.ForCallers.{library_reads, one_type, proposed, proposed_next, proposed_others, under_direct}
 use Rattle.ffs_lookup.specs.declared.places.Room.TheVariants.{Entry}
 use Rattle.ffs_lib.specs.Edits.{data_of_pointers, edit_at}

@@ -1,7 +1,7 @@
 -- What two entries name in the cuts after each edit of `replace`.
 use Rattle.std.proofs.Common.{◌≡◌, ◌≢◌, ℕ, ◌-◌, ◌*◌, ◌/◌, ◌%◌, ◌^◌, ◌<◌, List, [], replicate, false, Option, Some, None, Result, Ok, Err, refl, sym, ◌∙◌, ap, arith, subst, inl, inr, eq-eqb, Contains, MatchResult, ◌==◌, ◌&&◌, w16}
-use Rattle.ffs_lib.proofs.Words.{Edit, FfsFault, IsPlace, IsSlot, Lives, Slot, SlotPair, StayNamed, StoreState, Types, Under, directory_in, inode_blocks, is_at}
-use Rattle.ffs_lib.proofs.Words.{latest, library_layout, propose_of, to_le_bytes}
+use Rattle.ffs_lib.proofs.Common.{Edit, FfsFault, IsPlace, IsSlot, Lives, Slot, SlotPair, StayNamed, StoreState, Types, Under, directory_in, inode_blocks, is_at}
+use Rattle.ffs_lib.proofs.Common.{latest, library_layout, propose_of, to_le_bytes}
 use Rattle.ffs_model.proofs.ForCallers.{blocks_read, entry_written, inodes_stay, library_reads, number_written, one_type, proposed_others, stands_cleared, stands_other, stands_turned, under_direct, under_inodes}
 use Rattle.ffs_lib.specs.Edits.{edit_at}
 use Rattle.ffs_lib.specs.Replacing.{AreDirect, IsDirect, KeepsPairs, pair_of}

@@ -1,7 +1,7 @@
 -- Bytes of a file that are written block after block, and what a write comes to.
 use Rattle.std.proofs.Common.{◌≡◌, ◌≢◌, ℕ, ◌+◌, ◌-◌, ◌*◌, ◌/◌, ◌%◌, ◌<◌, ◌≤◌, Bool, true, false, List, ◌++◌, length, drop, take, get_or, replicate, Option, None, Some, Result, Ok, Err, refl, sym, ◌∙◌, ap, arith, subst, inl, inr, length-append, IfErr, IfOk, IfSome, is_some, min, nat_lt, if◌then◌else◌, get_or-drop, get_or-take, length-drop, length-take-le, le-ltb, lt-ltb, take-add}
-use Rattle.ffs_lib.proofs.Words.{FfsFault, IsConsistent, StoreState, Types, byte_in, byte_of, cases_lt, drop-append-add, drop-append-le, drop-replicate}
-use Rattle.ffs_lib.proofs.Words.{file_block, file_end, file_in, get_or-replicate, latest, length-replicate, mapped, most_bytes, take-append-le, take-replicate}
+use Rattle.ffs_lib.proofs.Common.{FfsFault, IsConsistent, StoreState, Types, byte_in, byte_of, cases_lt, drop-append-add, drop-append-le, drop-replicate}
+use Rattle.ffs_lib.proofs.Common.{file_block, file_end, file_in, get_or-replicate, latest, length-replicate, mapped, most_bytes, take-append-le, take-replicate}
 use Rattle.ffs_model.proofs.ForCallers.{given_later}
 use Rattle.xn_model.proofs.ForCallers.{same_ok as same_run}
 use Rattle.ffs_lookup.proofs.ForCallers.{same_ok}

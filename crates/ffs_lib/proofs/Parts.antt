@@ -1,7 +1,7 @@
 -- Bytes that a read copies, part after part.
 use Rattle.std.proofs.Common.{◌≡◌, ℕ, zero, suc, ◌+◌, ◌-◌, ◌/◌, ◌%◌, ◌<◌, ◌≤◌, ◌≢◌, Bool, List, [], ◌∷◌, ◌++◌, map, length, take, drop, get_or, refl, sym, ◌∙◌, ap, arith, length-take, length-drop, get_or-take, get_or-drop, eq-eqb, length-append, min, Ok, if◌then◌else◌, ne_eqb, drop-drop, take-append-drop}
-use Rattle.ffs_lib.proofs.Words.{byte_in, byte_of, drop-append-add, file_block, file_end, length-map-range_with_len, range_with_len, read_into}
-use Rattle.ffs_lib.proofs.Words.{take-append_seam}
+use Rattle.ffs_lib.proofs.Common.{byte_in, byte_of, drop-append-add, file_block, file_end, length-map-range_with_len, range_with_len, read_into}
+use Rattle.ffs_lib.proofs.Common.{take-append_seam}
 use Rattle.std.proofs.lemmas.Slice.{drop-put_mid, take-put_mid}
 use borrow.Rule.Slice.PartMut.{put_mid}
 

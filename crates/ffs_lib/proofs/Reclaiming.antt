@@ -1,8 +1,8 @@
 -- What the edits of `reclaim` leave, and how they come together.
 use Rattle.std.proofs.Common.{◌≡◌, ◌≢◌, ℕ, ◌+◌, ◌-◌, ◌*◌, ◌%◌, ◌<◌, ◌≤◌, ◌⊎◌, List, [], length, replicate, Option, None, Result, Ok, Err, Bool, refl, sym, ◌∙◌, ap, arith, subst, inl, inr, IsErrAnd, flat_map, if◌then◌else◌, ne_eqb}
-use Rattle.ffs_lib.proofs.Words.{FfsFault, Fields, Found, GiveUp, InodeFreed, IsFound, Keep, KeepsNumber, LeavesRoom, LinksTaken, Names, Pending, Repair}
-use Rattle.ffs_lib.proofs.Words.{SetLinks, StoreState, Types, Under, cases_eq, cases_lt, err_from_is_err_and, fields_of, files_of, idle_in, inode_in, latest}
-use Rattle.ffs_lib.proofs.Words.{names_count, pending_of, propose_of, range_with_len, repair_in, word_at}
+use Rattle.ffs_lib.proofs.Common.{FfsFault, Fields, Found, GiveUp, InodeFreed, IsFound, Keep, KeepsNumber, LeavesRoom, LinksTaken, Names, Pending, Repair}
+use Rattle.ffs_lib.proofs.Common.{SetLinks, StoreState, Types, Under, cases_eq, cases_lt, err_from_is_err_and, fields_of, files_of, idle_in, inode_in, latest}
+use Rattle.ffs_lib.proofs.Common.{names_count, pending_of, propose_of, range_with_len, repair_in, word_at}
 use Rattle.ffs_model.specs.Library.{inode_at, inode_blocks, inode_links, inode_mode, inode_pairs, library_layout, pointed, pointer_word, with_inode, zero_block}
 use Rattle.ffs_model.proofs.ForCallers.{inode_unlinked, library_reads, links_read, links_taken, other_number, other_written, pointers_cleared_short, proposed_here, proposed_others, spare_begins, spare_by_freed, spare_by_taken}
 use Rattle.ffs_model.proofs.Rewritten as rewritten

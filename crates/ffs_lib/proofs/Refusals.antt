@@ -1,6 +1,6 @@
 -- Where the look-ups of a call fail, and where they pass.
 use Rattle.std.proofs.Common.{◌≡◌, ℕ, ◌<◌, ◌≤◌, Bool, true, false, List, [], ◌∷◌, length, sym, ◌∙◌, ap, arith, Result, Ok, Err, ◌==◌, find, nat_lt, if◌then◌else◌, le-ltb, lt-ltb, ne_eqb, ok_or}
-use Rattle.ffs_lib.proofs.Words.{BadName, DirNotEmpty, FfsFault, NoEntry, Slot, TooLarge, is_name}
+use Rattle.ffs_lib.proofs.Common.{BadName, DirNotEmpty, FfsFault, NoEntry, Slot, TooLarge, is_name}
 use Rattle.ffs_lookup.specs.Newest.{and_then, directory_in, slots_of, entry_named, file_in, has_name, if_empty, mapped, named_in, rmdir_in, unlink_in, write_in, most_bytes}
 
 module _ (content : ℕ → List ℕ) (fs d : ℕ) (name : List ℕ) where

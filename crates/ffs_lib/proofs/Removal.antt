@@ -1,6 +1,6 @@
 -- What the look-ups of `unlink` and `rmdir` find: an entry in a block of its directory, which is another inode.
 use Rattle.std.proofs.Common.{◌≡◌, ◌≢◌, ℕ, true, List, Ok, Err, refl, sym, ◌∙◌, ap, subst, Result, ◌==◌, length, ok_or}
-use Rattle.ffs_lib.proofs.Words.{BadName, DirNotEmpty, FfsFault, NoEntry, Slot, is_name}
+use Rattle.ffs_lib.proofs.Common.{BadName, DirNotEmpty, FfsFault, NoEntry, Slot, is_name}
 use Rattle.ffs_lookup.specs.Newest.{and_then, directory_in, slots_of, entry_named, file_in, first_named, if_empty, inode_in, mapped, named_in, rmdir_in, unlink_in}
 use Rattle.ffs_lookup.proofs.ForCallers.{EntryAt, first_value, not_both}
 use Rattle.ffs_lib.proofs.Entering.{directory_from}

@@ -1,8 +1,8 @@
 -- What is looked up before a name is moved, in the order of the tests.
 use Rattle.std.proofs.Common.{◌≡◌, ◌≢◌, ℕ, Bool, true, false, List, Option, Some, None, refl, sym, ◌∙◌, ap, eq-eqb, IsErrAnd, IsTrue, Result, Ok, Err, ◌==◌, ◌&&◌, not, is_some, if◌then◌else◌, ok_or, eqb-true, ne_eqb}
-use Rattle.ffs_lib.proofs.Words.{BadName, Exists, FfsFault, IsDir, NoEntry, NotDir, Slot, TooLarge, and_parts, and_then, directory_in, eqb-false}
-use Rattle.ffs_lib.proofs.Words.{err_from_is_err_and, first_named, has_room, if_linkable, if_movable, if_unnamed, inode_in, inode_links, inode_mode, is_name}
-use Rattle.ffs_lib.proofs.Words.{rename_in}
+use Rattle.ffs_lib.proofs.Common.{BadName, Exists, FfsFault, IsDir, NoEntry, NotDir, Slot, TooLarge, and_parts, and_then, directory_in, eqb-false}
+use Rattle.ffs_lib.proofs.Common.{err_from_is_err_and, first_named, has_room, if_linkable, if_movable, if_unnamed, inode_in, inode_links, inode_mode, is_name}
+use Rattle.ffs_lib.proofs.Common.{rename_in}
 use Rattle.ffs_lookup.proofs.ForCallers.{directory_is, in_directory, same_ok}
 use Rattle.ffs_lib.proofs.Owners.{not_first, only_first, passed, then_first}
 

@@ -1,7 +1,7 @@
 -- Which edits `reclaim` makes, one after another.
 use Rattle.std.proofs.Common.{◌≡◌, ◌≢◌, ℕ, suc, ◌+◌, ◌-◌, ◌*◌, ◌/◌, ◌%◌, ◌<◌, ◌≤◌, Bool, List, [], ◌∷◌, ◌++◌, replicate, None, Result, Ok, sym, ◌∙◌, ap, inl, inr, arith, subst, if◌then◌else◌}
-use Rattle.ffs_lib.proofs.Words.{FfsFault, Files, GiveUp, IsConsistent, IsLibrary, StoreState, Types, Under, inode_block_in, inode_in, latest, map-append}
-use Rattle.ffs_lib.proofs.Words.{range_with_len, result_and_then, word_at, zero_block}
+use Rattle.ffs_lib.proofs.Common.{FfsFault, Files, GiveUp, IsConsistent, IsLibrary, StoreState, Types, Under, inode_block_in, inode_in, latest, map-append}
+use Rattle.ffs_lib.proofs.Common.{range_with_len, result_and_then, word_at, zero_block}
 use Rattle.xn_model.proofs.ForCallers.{same_ok, then_ok}
 use Rattle.ffs_lib.specs.Edits.{data_of_inode, data_of_pointers, edit_at}
 use Rattle.ffs_lib.specs.Orders.{Action, Edits, Makes, Orders, Parts, StopsAct, StopsIn, act_of, edits_at, made_by, made_of}

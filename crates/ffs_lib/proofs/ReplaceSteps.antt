@@ -1,6 +1,6 @@
 -- What stands where a file is replaced by another one: at the beginning, and where the second entry is turned.
 use Rattle.std.proofs.Common.{◌≡◌, ◌≢◌, ℕ, ◌+◌, ◌≤◌, false, List, Option, None, Some, Ok}
-use Rattle.ffs_lib.proofs.Words.{IsSlot, Slot, StayNamed, StoreState, Types, inode_in, inode_links, is_at, latest, library_layout, named_in}
+use Rattle.ffs_lib.proofs.Common.{IsSlot, Slot, StayNamed, StoreState, Types, inode_in, inode_links, is_at, latest, library_layout, named_in}
 use Rattle.ffs_model.proofs.ForCallers.{stands_first}
 use Rattle.ffs_lib.specs.Orders.{linked_edits, made_of, turned_edits}
 use Rattle.ffs_lib.specs.Replacing.{AreDirect, Turned, pair_of, replace_in}

@@ -1,7 +1,7 @@
 -- What is left of two files after each edit by which the name of one goes to the other.
 use Rattle.std.proofs.Common.{◌≡◌, ◌≢◌, ℕ, ◌<◌, ◌≤◌, Bool, true, false, List, map, Option, Some, None, Result, Ok, refl, sym, ◌∙◌, ap, inl, inr, arith, subst, eq-eqb, Contains, OnErr, bytes_eq, find, option_map, ◌==◌, ◌&&◌, if◌then◌else◌, eqb-true}
-use Rattle.ffs_lib.proofs.Words.{FfsFault, IsConsistent, IsLibrary, IsSlot, Slot, StoreState, Types, and_parts, cases_eq, directory_in, file_in, inode_blocks}
-use Rattle.ffs_lib.proofs.Words.{inode_in, inode_links, is_at, latest, library_layout, listing, named_in, none-some, same_Some, slots_of}
+use Rattle.ffs_lib.proofs.Common.{FfsFault, IsConsistent, IsLibrary, IsSlot, Slot, StoreState, Types, and_parts, cases_eq, directory_in, file_in, inode_blocks}
+use Rattle.ffs_lib.proofs.Common.{inode_in, inode_links, is_at, latest, library_layout, listing, named_in, none-some, same_Some, slots_of}
 use Rattle.ffs_lookup.proofs.ForCallers.{EntryAt, direct_has, first_value, not_both, same_ok}
 use Rattle.ffs_lib.specs.Replacing.{AreDirect, Replaced, ReplacedInodes, Turned, pair_of, turned_entry}
 use Rattle.ffs_lib.specs.Results.{AsBefore, OnlyChanges, SameInode}

@@ -1,7 +1,7 @@
 -- What is looked up before an entry is replaced, in the order of the tests.
 use Rattle.std.proofs.Common.{◌≡◌, ◌≢◌, ℕ, Bool, true, false, List, Option, Some, sym, ◌∙◌, ap, ne_eqb, IsTrue, Result, Ok, Err, ◌==◌, ◌&&◌, not, if◌then◌else◌, ok_or, eqb-true}
-use Rattle.ffs_lib.proofs.Words.{BadName, FfsFault, NoEntry, NotDir, Slot, TooLarge, and_parts, and_then, directory_in, eqb-false, file_in, first_named}
-use Rattle.ffs_lib.proofs.Words.{inode_in, inode_links, inode_mode, is_name}
+use Rattle.ffs_lib.proofs.Common.{BadName, FfsFault, NoEntry, NotDir, Slot, TooLarge, and_parts, and_then, directory_in, eqb-false, file_in, first_named}
+use Rattle.ffs_lib.proofs.Common.{inode_in, inode_links, inode_mode, is_name}
 use Rattle.ffs_lookup.proofs.ForCallers.{directory_is, in_directory, same_ok}
 use Rattle.ffs_lib.specs.Replacing.{directories_in, entries_named, files_in, if_directories, is_full_for, replace_in}
 use Rattle.ffs_lib.proofs.Owners.{not_first, passed, then_first}

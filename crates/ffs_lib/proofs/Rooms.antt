@@ -1,7 +1,7 @@
 -- Whether a directory has room, by what is read of its blocks.
 use Rattle.std.proofs.Common.{◌≡◌, ◌≢◌, ℕ, zero, suc, ◌+◌, ◌*◌, ◌/◌, ◌%◌, ◌<◌, Bool, true, false, cond, List, [], ◌∷◌, Some, inl, inr, take, drop, get_or, refl, sym, ◌∙◌, ap, arith, get_or-take, get_or-drop, Contains, ◌==◌, ◌||◌, find, if◌then◌else◌, option_map, slice_set, ne_eqb, w16}
-use Rattle.ffs_lib.proofs.Words.{Slot, byte_in, byte_of, direct_in, fields_of, file_block, from_le_bytes, half_at, has_gap, has_room, inode_blocks, list_any}
-use Rattle.ffs_lib.proofs.Words.{most_bytes, range_with_len, room_from, room_in, word_at}
+use Rattle.ffs_lib.proofs.Common.{Slot, byte_in, byte_of, direct_in, fields_of, file_block, from_le_bytes, half_at, has_gap, has_room, inode_blocks, list_any}
+use Rattle.ffs_lib.proofs.Common.{most_bytes, range_with_len, room_from, room_in, word_at}
 use Rattle.xn_model.proofs.ForCallers.{Contains-head, Contains-tail}
 use Rattle.ffs_model.proofs.ForCallers.{direct_where}
 use Rattle.ffs_lookup.specs.declared.places.Room.TheVariants.{Entry, Pointer}

@@ -1,9 +1,9 @@
 -- What a change of one block leaves of the inodes that it does not touch.
 use Rattle.std.proofs.Common.{◌≡◌, ◌≢◌, ℕ, ◌+◌, ◌-◌, ◌*◌, ◌/◌, ◌%◌, ◌^◌, ◌<◌, ◌≤◌, ◌⊎◌, Bool, true, false, List, [], ◌∷◌, length, get_or, replicate, None, Ok, Err, refl, sym, ◌∙◌, ap, inl, inr, arith, subst, eq-eqb, Contains, Result, ◌==◌, ◌||◌, nat_lt, if◌then◌else◌, w32}
-use Rattle.ffs_lib.proofs.Words.{Edit, FfsFault, IsConsistent, IsInodes, IsLibrary, IsPlace, IsRoot, Life, NoEntry, Reads, StoreState, Types, Under, and_then}
-use Rattle.ffs_lib.proofs.Words.{byte_in, cases_eq, cases_lt, direct_in, file_block, from_le_bytes-to_le_bytes_4, init_of, inode_at, inode_block_in, inode_in}
-use Rattle.ffs_lib.proofs.Words.{inode_mode, latest, library_layout, life_at, none-some, place_in, pointer_word, propose_of, put, root, root_in, root_of_type}
-use Rattle.ffs_lib.proofs.Words.{same_Some, slot, step, to_le_bytes, unless_unused, unless_zero, word_at}
+use Rattle.ffs_lib.proofs.Common.{Edit, FfsFault, IsConsistent, IsInodes, IsLibrary, IsPlace, IsRoot, Life, NoEntry, Reads, StoreState, Types, Under, and_then}
+use Rattle.ffs_lib.proofs.Common.{byte_in, cases_eq, cases_lt, direct_in, file_block, from_le_bytes-to_le_bytes_4, init_of, inode_at, inode_block_in, inode_in}
+use Rattle.ffs_lib.proofs.Common.{inode_mode, latest, library_layout, life_at, none-some, place_in, pointer_word, propose_of, put, root, root_in, root_of_type}
+use Rattle.ffs_lib.proofs.Common.{same_Some, slot, step, to_le_bytes, unless_unused, unless_zero, word_at}
 use Rattle.ffs_model.proofs.ForCallers.{bytes_apart, direct_where, latest_reached, library_reads, one_type, proposed_here, proposed_others, started, started_others, under_inodes, word_apart, word_within}
 use Rattle.ffs_lib.specs.Results.{SameContents, SameInode, SameOrNew, SamePlace, SameUse}
 use Rattle.ffs_lib.specs.Edits.{edit_at}

@@ -1,8 +1,8 @@
 -- Edits of a step that are refused for want of something alone.
 use Rattle.std.proofs.Common.{◌≡◌, ◌≢◌, ℕ, ◌*◌, ◌^◌, ◌<◌, ◌≤◌, true, ◌&&◌, List, [], ◌∷◌, length, get_or, Option, Some, Ok, refl, sym, ◌∙◌, ap, arith, eq-eqb, slice_set, replicate, ◌==◌, w32}
-use Rattle.ffs_lib.proofs.Words.{Gives, IsEmptyPointer, IsPlace, IsRoot, IsSlot, Slot, StoreState, Types, Under, alive_and, and_from, direct_in, fields_of}
-use Rattle.ffs_lib.proofs.Words.{init_of, inode_at, inode_pairs, is_for, is_fresh, latest, library_layout, life_at, may_add, new_life, pointer_word, root}
-use Rattle.ffs_lib.proofs.Words.{to_le_bytes, word_at}
+use Rattle.ffs_lib.proofs.Common.{Gives, IsEmptyPointer, IsPlace, IsRoot, IsSlot, Slot, StoreState, Types, Under, alive_and, and_from, direct_in, fields_of}
+use Rattle.ffs_lib.proofs.Common.{init_of, inode_at, inode_pairs, is_for, is_fresh, latest, library_layout, life_at, may_add, new_life, pointer_word, root}
+use Rattle.ffs_lib.proofs.Common.{to_le_bytes, word_at}
 use Rattle.xn_model.proofs.ForCallers.{set_same}
 use Rattle.ffs_model.proofs.ForCallers.{Replaces, data_short, direct_set, inode_add_short, inode_freed_short, inode_short, inode_words, library_reads, root_set_short, started, under_direct, under_inodes}
 use Rattle.ffs_lookup.proofs.ForCallers.{gives_ok}

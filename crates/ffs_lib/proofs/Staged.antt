@@ -1,10 +1,10 @@
 -- A call does what its function of the files says, or leaves one of its stages.
 use Rattle.std.proofs.Common.{◌≡◌, ◌≢◌, ℕ, ◌-◌, ◌*◌, ◌/◌, ◌%◌, ◌<◌, ◌≤◌, ◌⊎◌, Bool, true, false, List, [], ◌∷◌, ◌++◌, length, map, take, replicate, get_or, Some, None, Result, Ok, Err, refl, sym, ◌∙◌, ap, inl, inr, arith, subst, length-append, Contains, IsErrAnd, MatchResult, OnErr, ◌==◌, min, nat_le, nat_lt, if◌then◌else◌, ok_or, le-leb, le-ltb, lt-ltb, get_or-take, length-take}
-use Rattle.ffs_lib.proofs.Words.{BadName, FfsFault, IsConsistent, IsLibrary, NoEntry, Slot, StoreState, Types, and_then, blocks_value, byte_in, byte_of}
-use Rattle.ffs_lib.proofs.Words.{bytes_value, cases_lt, direct_in, directory_in, eqb-false, err_from_is_err_and, file_block, file_end, files_of}
-use Rattle.ffs_lib.proofs.Words.{get_or-append_right, get_or-map-range_with_len, get_or-replicate, get_or_append_left, inode_blocks, inode_in, inode_links}
-use Rattle.ffs_lib.proofs.Words.{inode_mode, is_name, latest, length-map-range_with_len, length-replicate, name_of_place, pointer_word, range_with_len}
-use Rattle.ffs_lib.proofs.Words.{same_lists, word_at}
+use Rattle.ffs_lib.proofs.Common.{BadName, FfsFault, IsConsistent, IsLibrary, NoEntry, Slot, StoreState, Types, and_then, blocks_value, byte_in, byte_of}
+use Rattle.ffs_lib.proofs.Common.{bytes_value, cases_lt, direct_in, directory_in, eqb-false, err_from_is_err_and, file_block, file_end, files_of}
+use Rattle.ffs_lib.proofs.Common.{get_or-append_right, get_or-map-range_with_len, get_or-replicate, get_or_append_left, inode_blocks, inode_in, inode_links}
+use Rattle.ffs_lib.proofs.Common.{inode_mode, is_name, latest, length-map-range_with_len, length-replicate, name_of_place, pointer_word, range_with_len}
+use Rattle.ffs_lib.proofs.Common.{same_lists, word_at}
 use Rattle.ffs_model.proofs.ForCallers.{direct_where, zero_word}
 use Rattle.ffs_lookup.specs.Files.{Answer, Blocks, Directory, File, Files, cleared, directory_of, entry_named, look_up, fault_told, with_entry, without_link}
 use Rattle.ffs_lookup.proofs.ForCallers.{IsPlaceOf, direct_has, map_on, same_ok}

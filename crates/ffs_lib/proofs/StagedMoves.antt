@@ -1,7 +1,7 @@
 -- What a `rename` leaves where it is refused is one of its stages.
 use Rattle.std.proofs.Common.{◌≡◌, ℕ, ◌<◌, Bool, true, List, Some, Result, Ok, Err, sym, ◌∙◌, ap, inl, inr, ◌&&◌, if◌then◌else◌, ok_or}
-use Rattle.ffs_lib.proofs.Words.{BadName, Blocks, Directory, FfsFault, Files, IsConsistent, IsLibrary, NoEntry, Slot, StoreState, TooLarge, Types, and_then}
-use Rattle.ffs_lib.proofs.Words.{blocks_value, directories, files_of, in_use, inode_links, is_name, latest, look_up, moved, rename_in, renamed, room}
+use Rattle.ffs_lib.proofs.Common.{BadName, Blocks, Directory, FfsFault, Files, IsConsistent, IsLibrary, NoEntry, Slot, StoreState, TooLarge, Types, and_then}
+use Rattle.ffs_lib.proofs.Common.{blocks_value, directories, files_of, in_use, inode_links, is_name, latest, look_up, moved, rename_in, renamed, room}
 use Rattle.ffs_lookup.proofs.ForCallers.{EntryAt, first_value, renamed_ok}
 use Rattle.ffs_lib.specs.Stages.{IsRefused, Stages, found_stages, moved_stages, renamed_stages, stages_of}
 use Rattle.ffs_lib.specs.Steps.{NamedAgain, StopsNaming, StopsUnnaming}

@@ -1,8 +1,8 @@
 -- What `create` and `mkdir` leave where they are refused is one of their stages.
 use Rattle.std.proofs.Common.{◌≡◌, ◌≢◌, ℕ, ◌∷◌, [], ◌-◌, ◌/◌, ◌%◌, ◌<◌, Bool, true, false, List, Result, Ok, Err, refl, sym, ◌∙◌, ap, inl, inr, arith, subst, ◌==◌, ◌||◌, nat_lt, OnErr, Some}
-use Rattle.ffs_lib.proofs.Words.{Answer, AreBlocksOnce, FfsFault, Files, InodeValue, IsConsistent, IsLibrary, NoEntry, StoreState, Types, and_then}
-use Rattle.ffs_lib.proofs.Words.{blocks_value, create_in, created, directory_in, entry_of, fault_told, files_of, inode_at, inode_in, inode_value, is_absent}
-use Rattle.ffs_lib.proofs.Words.{latest, made_at, place_in, room, value_in, with_block, with_value}
+use Rattle.ffs_lib.proofs.Common.{Answer, AreBlocksOnce, FfsFault, Files, InodeValue, IsConsistent, IsLibrary, NoEntry, StoreState, Types, and_then}
+use Rattle.ffs_lib.proofs.Common.{blocks_value, create_in, created, directory_in, entry_of, fault_told, files_of, inode_at, inode_in, inode_value, is_absent}
+use Rattle.ffs_lib.proofs.Common.{latest, made_at, place_in, room, value_in, with_block, with_value}
 use Rattle.ffs_lookup.specs.declared.places.Free.{Free}
 use Rattle.ffs_lookup.proofs.ForCallers.{block_again, created_ok, created_told, good_number, has_root, same_ok, value_by_place, value_found, value_outside}
 use Rattle.ffs_lib.specs.Results.{IsExtended, IsLowestNumber, MadeEntry, SameOrNew, new_inode}

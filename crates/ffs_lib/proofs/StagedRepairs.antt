@@ -1,8 +1,8 @@
 -- What `reclaim` does is what its function of the files says, or one of its stages.
 use Rattle.std.proofs.Common.{◌≡◌, ℕ, suc, ◌+◌, ◌-◌, ◌<◌, ◌≤◌, Bool, true, false, List, [], ◌∷◌, ◌++◌, Option, Result, Ok, Err, refl, sym, ◌∙◌, ap, arith, subst, inl, inr, eq-eqb, IsErrAnd, ◌==◌, flat_map, if◌then◌else◌, le-ltb, lt-ltb}
-use Rattle.ffs_lib.proofs.Words.{Answer, FfsFault, Files, GiveUp, IsConsistent, IsLibrary, Keep, Pending, Repair, Repairs, SetLinks, StoreState, Types}
-use Rattle.ffs_lib.proofs.Words.{cases_eq, cases_lt, err_from_is_err_and, files_of, idle_in, if_idle, is_short, latest, pending_of, range_with_len, repair_at}
-use Rattle.ffs_lib.proofs.Words.{repair_in}
+use Rattle.ffs_lib.proofs.Common.{Answer, FfsFault, Files, GiveUp, IsConsistent, IsLibrary, Keep, Pending, Repair, Repairs, SetLinks, StoreState, Types}
+use Rattle.ffs_lib.proofs.Common.{cases_eq, cases_lt, err_from_is_err_and, files_of, idle_in, if_idle, is_short, latest, pending_of, range_with_len, repair_at}
+use Rattle.ffs_lib.proofs.Common.{repair_in}
 use Rattle.std.proofs.lemmas.Grind.{flat_map-append}
 use Rattle.ffs_lookup.proofs.ForCallers.{unnumbered_repair}
 use Rattle.ffs_lib.specs.Reclaiming.{InMiddle, LeftByRepair, Reclaims, Repaired, StopsRepairing, needs, reclaimed, reclaimed_stages, repair_stages, repaired, repaired_below, stages_at}

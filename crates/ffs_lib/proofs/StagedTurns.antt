@@ -1,7 +1,7 @@
 -- What a `replace` does is what its function of the files says, or one of its stages.
 use Rattle.std.proofs.Common.{◌≡◌, ◌≢◌, ℕ, ◌<◌, ◌≤◌, Bool, true, false, List, [], Result, Ok, Err, refl, sym, ◌∙◌, ap, inl, inr, arith, subst, eq-eqb, Option, IsErrAnd, MatchResult, OnErr, ◌==◌, ◌&&◌, if◌then◌else◌, ne_eqb}
-use Rattle.ffs_lib.proofs.Words.{FfsFault, IsConsistent, IsLibrary, Slot, StoreState, Types, direct_in, directory_in, err_from_is_err_and, files_of, inode_in}
-use Rattle.ffs_lib.proofs.Words.{inode_links, is_at, is_short, latest}
+use Rattle.ffs_lib.proofs.Common.{FfsFault, IsConsistent, IsLibrary, Slot, StoreState, Types, direct_in, directory_in, err_from_is_err_and, files_of, inode_in}
+use Rattle.ffs_lib.proofs.Common.{inode_links, is_at, is_short, latest}
 use Rattle.ffs_lookup.specs.Files.{Answer, Files, replaced, turned, without_link}
 use Rattle.ffs_lookup.proofs.ForCallers.{EntryAt, first_value, not_both}
 use Rattle.ffs_lib.specs.Replacing.{ReplacedInodes, Turned}

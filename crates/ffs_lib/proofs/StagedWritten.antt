@@ -1,8 +1,8 @@
 -- A write does what its function of the files says, or leaves one of its stages.
 use Rattle.std.proofs.Common.{◌≡◌, ◌≢◌, ℕ, ◌+◌, ◌-◌, ◌%◌, ◌<◌, ◌≤◌, ◌⊎◌, Bool, true, false, List, [], ◌∷◌, ◌++◌, length, map, take, replicate, Option, Some, None, Result, Ok, Err, refl, sym, ◌∙◌, ap, inl, inr, arith, eq-eqb, subst, length-append, Contains, IfErr, IfOk, IfSome, IsOk, MatchResult, OnOk, ◌==◌, ◌&&◌, ◌||◌, filter, min, nat_lt, if◌then◌else◌, le-ltb, lt-ltb, ne_eqb, append-nil, length-take-le, take_all}
-use Rattle.ffs_lib.proofs.Words.{Answer, FfsFault, File, Files, IsLibrary, Kernel, Refusal, StoreState, TooManyPending, Types, byte_of, cases_eq, fault_told}
-use Rattle.ffs_lib.proofs.Words.{file_end, file_in, file_of, files_of, is_short, latest, length-map-range_with_len, length-replicate, mapped, most_bytes}
-use Rattle.ffs_lib.proofs.Words.{or_left, or_right, range_with_len, take-append-add, with_value, word_at, write_in, written, written_bytes}
+use Rattle.ffs_lib.proofs.Common.{Answer, FfsFault, File, Files, IsLibrary, Kernel, Refusal, StoreState, TooManyPending, Types, byte_of, cases_eq, fault_told}
+use Rattle.ffs_lib.proofs.Common.{file_end, file_in, file_of, files_of, is_short, latest, length-map-range_with_len, length-replicate, mapped, most_bytes}
+use Rattle.ffs_lib.proofs.Common.{or_left, or_right, range_with_len, take-append-add, with_value, word_at, write_in, written, written_bytes}
 use Rattle.xn_model.proofs.ForCallers.{Contains-cons, Contains-none, filter_from}
 use Rattle.ffs_lookup.proofs.ForCallers.{same_ok}
 use Rattle.ffs_lib.specs.Outcomes.{IsRaised}

@@ -1,6 +1,6 @@
 -- A name that is moved is still there once the inode is named a second time.
 use Rattle.std.proofs.Common.{◌≡◌, ◌≢◌, ℕ, Bool, true, false, List, ◌∷◌, ◌++◌, Option, Some, None, Result, Ok, Err, refl, sym, ◌∙◌, ap, inl, inr, IsTrue, bytes_eq, find, if◌then◌else◌, option_map, ok_or}
-use Rattle.ffs_lib.proofs.Words.{BadName, FfsFault, NoEntry, Slot, cases_eq, is_name, none-some}
+use Rattle.ffs_lib.proofs.Common.{BadName, FfsFault, NoEntry, Slot, cases_eq, is_name, none-some}
 use Rattle.ffs_lookup.specs.Newest.{and_then, directory_in, slots_of, entry_named, first_named, listing, named_in}
 use Rattle.ffs_lookup.proofs.ForCallers.{same_ok}
 use Rattle.ffs_lib.specs.Results.{AsBefore, HasMore, IsAs, SameInode}

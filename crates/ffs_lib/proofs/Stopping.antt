@@ -1,6 +1,6 @@
 -- Where a write stops, by the numbers of its edits.
 use Rattle.std.proofs.Common.{◌≡◌, ◌≢◌, ℕ, ◌+◌, ◌-◌, ◌<◌, ◌≤◌, Bool, List, [], ◌∷◌, ◌++◌, length, Result, Ok, Err, refl, sym, ◌∙◌, ap, inl, inr, arith, subst, MatchResult, min, take, if◌then◌else◌, le-ltb, lt-ltb}
-use Rattle.ffs_lib.proofs.Words.{FfsFault, Refusal, StoreState, Types, file_end, init_of}
+use Rattle.ffs_lib.proofs.Common.{FfsFault, Refusal, StoreState, Types, file_end, init_of}
 use Rattle.xn_model.proofs.ForCallers.{same_ok, then_ok}
 use Rattle.ffs_lib.specs.Orders.{Action, Acts, Attaches, Makes, act_of, made_by}
 use Rattle.ffs_lib.specs.Orders as orders

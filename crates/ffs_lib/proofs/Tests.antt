@@ -1,6 +1,6 @@
 -- Lemmas of tests and of results.
 use Rattle.std.proofs.Common.{◌≡◌, Bool, true, false, ◌&&◌, Result, Ok, Err, refl}
-use Rattle.ffs_lib.proofs.Words.{FfsFault}
+use Rattle.ffs_lib.proofs.Common.{FfsFault}
 
 pub true_false : (t : Bool) → t ≡ true → t ≡ false → ⊥
 true_false t e f = cc

@@ -1,11 +1,11 @@
 -- What a file system has before its volume is made, and after.
 use Rattle.std.proofs.Common.{◌≡◌, ◌≢◌, ℕ, zero, suc, ◌+◌, ◌-◌, ◌*◌, ◌%◌, ◌^◌, ◌<◌, ◌≤◌, ◌⊎◌, Bool, true, false, List, [], ◌∷◌, length, Option, Some, None, Result, Ok, Err, refl, sym, ◌∙◌, ap, inl, inr, arith, subst, eq-eqb, replicate, Contains, not, ◌==◌, ◌&&◌, nat_lt, if◌then◌else◌, option_map, option_to_list, ◌++◌, w32, eqb-true, le-ltb, ne_eqb}
-use Rattle.ffs_lib.proofs.Words.{BlockState, Exists, FfsFault, IsConsistent, IsInodes, IsLibrary, IsRoot, Kernel, Life, NoEntry, NotInUse, NotYours, RootTaken}
-use Rattle.ffs_lib.proofs.Words.{StoreState, Types, Under, Unsound, alive_and, blocks_of, cases_eq, cases_lt, direct_word, eqb-false, false≢true, first_refusal}
-use Rattle.ffs_lib.proofs.Words.{has_pointer, if_bare, if_makeable, init_of, inode_at, inode_block_in, inode_blocks, inode_pairs, is_dropped, is_for, is_fresh}
-use Rattle.ffs_lib.proofs.Words.{kind_of, latest, library_layout, life_at, make_in, make_root_of, may_add, new_life, own_life, own_place, pointer_word}
-use Rattle.ffs_lib.proofs.Words.{propose_of, put, range_with_len, root, root_in, root_of, root_state, slot, slot_now, to_le_bytes, unless, unless_empty}
-use Rattle.ffs_lib.proofs.Words.{word_at, zero_block}
+use Rattle.ffs_lib.proofs.Common.{BlockState, Exists, FfsFault, IsConsistent, IsInodes, IsLibrary, IsRoot, Kernel, Life, NoEntry, NotInUse, NotYours, RootTaken}
+use Rattle.ffs_lib.proofs.Common.{StoreState, Types, Under, Unsound, alive_and, blocks_of, cases_eq, cases_lt, direct_word, eqb-false, false≢true, first_refusal}
+use Rattle.ffs_lib.proofs.Common.{has_pointer, if_bare, if_makeable, init_of, inode_at, inode_block_in, inode_blocks, inode_pairs, is_dropped, is_for, is_fresh}
+use Rattle.ffs_lib.proofs.Common.{kind_of, latest, library_layout, life_at, make_in, make_root_of, may_add, new_life, own_life, own_place, pointer_word}
+use Rattle.ffs_lib.proofs.Common.{propose_of, put, range_with_len, root, root_in, root_of, root_state, slot, slot_now, to_le_bytes, unless, unless_empty}
+use Rattle.ffs_lib.proofs.Common.{word_at, zero_block}
 use Rattle.xn_model.specs.declared.status.Status.{Status}
 use Rattle.xn_model.proofs.ForCallers.{Contains-cons, Contains-head, Contains-none, Contains-tail, accepted, any_at, any_from, each_at, place_from, range_at, set_same, status_cases}
 use Rattle.ffs_model.proofs.ForCallers.{bytes_apart, one_inode, pointed_none, rooted, started, word_apart, zero_word}

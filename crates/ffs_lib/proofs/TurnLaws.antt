@@ -1,7 +1,7 @@
 -- What the edits of `replace` leave: of an entry that goes to another inode, and of a link that may be taken later.
 use Rattle.std.proofs.Common.{◌≡◌, ◌≢◌, ℕ, suc, ◌*◌, ◌^◌, ◌<◌, List, [], length, replicate, Option, Some, Result, Ok, Err, sym, ◌∙◌, ap, arith, subst, inl, inr, OnOk, w16}
-use Rattle.ffs_lib.proofs.Words.{CanUnlink, Edit, FfsFault, Fields, Found, IsFound, IsSlot, Slot, StoreState, Types, Under, fields_of, inode_blocks, inode_in}
-use Rattle.ffs_lib.proofs.Words.{inode_links, inode_mode, latest, library_layout, propose_of, to_le_bytes}
+use Rattle.ffs_lib.proofs.Common.{CanUnlink, Edit, FfsFault, Fields, Found, IsFound, IsSlot, Slot, StoreState, Types, Under, fields_of, inode_blocks, inode_in}
+use Rattle.ffs_lib.proofs.Common.{inode_links, inode_mode, latest, library_layout, propose_of, to_le_bytes}
 use Rattle.ffs_model.proofs.ForCallers.{given_later, library_reads, one_later, proposed_given, proposed_next, under_direct}
 use Rattle.ffs_lookup.proofs.ForCallers.{entry_is}
 use Rattle.ffs_lib.specs.Edits.{edit_at}

@@ -1,7 +1,7 @@
 -- An entry of a directory goes to another inode: what is listed then, and what else is as before.
 use Rattle.std.proofs.Common.{◌≡◌, ℕ, ◌+◌, ◌*◌, ◌^◌, ◌<◌, ◌≤◌, ◌≢◌, ◌⊎◌, Bool, true, false, List, [], ◌∷◌, ◌++◌, map, length, take, drop, get_or, Option, Some, None, Ok, refl, sym, ◌∙◌, ap, inl, inr, arith, eq-eqb, ◌==◌, ◌&&◌, min, filter_map, flat_map, option_map, if◌then◌else◌, w16, ne_eqb}
-use Rattle.ffs_lib.proofs.Words.{IsConsistent, IsLibrary, IsSlot, Slot, StoreState, Types, Under, cases_eq, cases_lt, cons_option, from_le_bytes-to_le_bytes_2}
-use Rattle.ffs_lib.proofs.Words.{half_at, inode_blocks, latest, library_layout, listing, map-append, name_in, propose_of, put, range_with_len, to_le_bytes}
+use Rattle.ffs_lib.proofs.Common.{IsConsistent, IsLibrary, IsSlot, Slot, StoreState, Types, Under, cases_eq, cases_lt, cons_option, from_le_bytes-to_le_bytes_2}
+use Rattle.ffs_lib.proofs.Common.{half_at, inode_blocks, latest, library_layout, listing, map-append, name_in, propose_of, put, range_with_len, to_le_bytes}
 use Rattle.ffs_model.proofs.ForCallers.{bytes_apart, direct_where, half_apart, half_within, library_reads, proposed_here, proposed_others, under_direct}
 use Rattle.ffs_lib.specs.Edits.{edit_at}
 use Rattle.ffs_lib.specs.Replacing.{Turned, turned_entry}

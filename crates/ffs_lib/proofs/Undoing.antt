@@ -1,9 +1,9 @@
 -- A new block was begun, and forgotten: the store is as it was before, but for the number that the block got.
 use Rattle.std.proofs.Common.{◌≡◌, ℕ, zero, suc, ◌+◌, ◌<◌, ◌≤◌, List, [], ◌∷◌, length, Option, None, Some, Result, Ok, Err, refl, sym, ◌∙◌, ap, eq-eqb, inl, inr, arith, subst, false, MatchResult, ◌||◌, is_some, nat_lt, not, slice_set}
-use Rattle.ffs_lib.proofs.Words.{BadType, ClaimWrong, Exhausted, FfsFault, InFlight, Life, Lives, NotEmpty, NotFresh, NotInUse, NotYours, Refusal, SizeWrong}
-use Rattle.ffs_lib.proofs.Words.{StoreState, TooManyPending, Types, current, exhausted, forget_at, forget_of, init_at, init_of, is_dropped, is_for, is_fresh}
-use Rattle.ffs_lib.proofs.Words.{is_untouched, latest, life_at, lowest_free, new_life, own_life, own_place, owns_nothing, propose_of, result_and_then, too_many}
-use Rattle.ffs_lib.proofs.Words.{within_size}
+use Rattle.ffs_lib.proofs.Common.{BadType, ClaimWrong, Exhausted, FfsFault, InFlight, Life, Lives, NotEmpty, NotFresh, NotInUse, NotYours, Refusal, SizeWrong}
+use Rattle.ffs_lib.proofs.Common.{StoreState, TooManyPending, Types, current, exhausted, forget_at, forget_of, init_at, init_of, is_dropped, is_for, is_fresh}
+use Rattle.ffs_lib.proofs.Common.{is_untouched, latest, life_at, lowest_free, new_life, own_life, own_place, owns_nothing, propose_of, result_and_then, too_many}
+use Rattle.ffs_lib.proofs.Common.{within_size}
 use Rattle.xn_model.proofs.ForCallers.{place_from, set_same, unless_ok, unless_passed}
 use Rattle.ffs_model.proofs.ForCallers.{begun_next, started}
 use Rattle.ffs_lib.specs.Orders.{Action, Attaches, Makes}

@@ -1,7 +1,7 @@
 -- The places of a directory's value, by its listing.
 use Rattle.std.proofs.Common.{◌≡◌, ◌≢◌, ℕ, zero, suc, ◌+◌, ◌*◌, ◌<◌, ◌≤◌, ◌⊎◌, Bool, true, false, cond, List, [], ◌∷◌, ◌++◌, map, Option, Some, None, refl, sym, ◌∙◌, ap, inl, inr, arith, eq-eqb, subst, Contains, ◌==◌, ◌&&◌, ◌||◌, not, filter, filter_map, find, flat_map, option_map, if◌then◌else◌, eqb-true, ne_eqb}
-use Rattle.ffs_lib.proofs.Words.{Slot, and_parts, cases_eq, cons_option, find-append, half_at, inode_blocks, is_at, list_any, listing, name_in, name_of_place}
-use Rattle.ffs_lib.proofs.Words.{option_or, range_with_len, without_entry}
+use Rattle.ffs_lib.proofs.Common.{Slot, and_parts, cases_eq, cons_option, find-append, half_at, inode_blocks, is_at, list_any, listing, name_in, name_of_place}
+use Rattle.ffs_lib.proofs.Common.{option_or, range_with_len, without_entry}
 use Rattle.xn_model.proofs.ForCallers.{Contains-cons, Contains-head, Contains-none, Contains-tail}
 use Rattle.ffs_lookup.proofs.ForCallers.{find_first, found_holds}
 use Rattle.ffs_lib.specs.Replacing.{turned_entry}

@@ -1,9 +1,9 @@
 -- What `create` and `mkdir` leave is what their function of the files says.
 use Rattle.std.proofs.Common.{◌≡◌, ◌≢◌, ℕ, ◌<◌, ◌⊎◌, Bool, true, false, List, get_or, Some, None, Ok, refl, sym, ◌∙◌, ap, inl, inr, arith, eq-eqb, subst, Contains, ◌==◌, ◌&&◌, ◌||◌, nat_lt, option_map, slice_set, if◌then◌else◌, get_or-set_other, get_or-set_same, eqb-true, ne_eqb}
-use Rattle.ffs_lib.proofs.Words.{Answer, AreBlocksOnce, Directory, File, Files, HasBlocksOnce, InodeValue, NoEntry, blocks_value, bytes_value, cases_eq}
-use Rattle.ffs_lib.proofs.Words.{create_in, created, direct_in, directory_in, fault_told, fields_of, files_of, half_at, if_new, inode_blocks, inode_in}
-use Rattle.ffs_lib.proofs.Words.{inode_links, inode_mode, inode_value, is_absent, listing, made_at, name_of_place, new_directory, new_file, none-some}
-use Rattle.ffs_lib.proofs.Words.{put_entry, room, room_in, same_Some, value_in, with_block, with_entry_in, word_at}
+use Rattle.ffs_lib.proofs.Common.{Answer, AreBlocksOnce, Directory, File, Files, HasBlocksOnce, InodeValue, NoEntry, blocks_value, bytes_value, cases_eq}
+use Rattle.ffs_lib.proofs.Common.{create_in, created, direct_in, directory_in, fault_told, fields_of, files_of, half_at, if_new, inode_blocks, inode_in}
+use Rattle.ffs_lib.proofs.Common.{inode_links, inode_mode, inode_value, is_absent, listing, made_at, name_of_place, new_directory, new_file, none-some}
+use Rattle.ffs_lib.proofs.Common.{put_entry, room, room_in, same_Some, value_in, with_block, with_entry_in, word_at}
 use Rattle.ffs_model.proofs.ForCallers.{direct_where}
 use Rattle.ffs_lookup.specs.declared.places.Room.TheVariants.{Entry as InBlock, Pointer}
 use Rattle.ffs_lookup.proofs.ForCallers.{created_ok, direct_has, good_number, has_root, put_is, room_is, room_known, room_of, value_by_place, value_found, value_outside, value_there, value_used}

@@ -1,7 +1,7 @@
 -- What `rename` leaves is what its function of the files says.
 use Rattle.std.proofs.Common.{◌≡◌, ◌≢◌, ℕ, ◌<◌, ◌≤◌, List, Some, None, Ok, refl, sym, ◌∙◌, ap, inl, inr, subst}
-use Rattle.ffs_lib.proofs.Words.{AreBlocksOnce, Files, HasBlocksOnce, Slot, blocks_value, cases_eq, direct_in, directory_in, files_of, inode_in, inode_links}
-use Rattle.ffs_lib.proofs.Words.{links_of, moved, room, with_entry, without_link}
+use Rattle.ffs_lib.proofs.Common.{AreBlocksOnce, Files, HasBlocksOnce, Slot, blocks_value, cases_eq, direct_in, directory_in, files_of, inode_in, inode_links}
+use Rattle.ffs_lib.proofs.Common.{links_of, moved, room, with_entry, without_link}
 use Rattle.ffs_lookup.proofs.ForCallers.{EntryAt, IsPlaceOf, same_ok}
 use Rattle.ffs_lib.specs.Results.{HasMore, IsAs}
 use Rattle.ffs_lib.specs.Steps.{Clearing, NamedAgain, Unnamed}

@@ -1,8 +1,8 @@
 -- What inodes need is what the files say, and one that is repaired is as they say.
 use Rattle.std.proofs.Common.{◌≡◌, ℕ, zero, suc, ◌+◌, ◌-◌, ◌/◌, ◌%◌, Bool, true, false, List, [], ◌∷◌, ◌++◌, length, map, Result, Ok, Err, refl, sym, ◌∙◌, ap, arith, ◌==◌, ◌||◌, not, nat_lt, count_by, filter_map, flat_map, if◌then◌else◌, append-nil}
-use Rattle.ffs_lib.proofs.Words.{FfsFault, GiveUp, Keep, NoEntry, Repair, SetLinks, Slot, and_then, blocks_value, bytes_value, cons_option, directory_in}
-use Rattle.ffs_lib.proofs.Words.{files_of, inode_at, inode_block_in, inode_in, inode_links, inode_mode, is_free_inode, map-append, mapped, name_at}
-use Rattle.ffs_lib.proofs.Words.{names_in, names_of, range_with_len, repair_found, repair_in, repair_of, result_ok, slots_of, unless_unused, value_in}
+use Rattle.ffs_lib.proofs.Common.{FfsFault, GiveUp, Keep, NoEntry, Repair, SetLinks, Slot, and_then, blocks_value, bytes_value, cons_option, directory_in}
+use Rattle.ffs_lib.proofs.Common.{files_of, inode_at, inode_block_in, inode_in, inode_links, inode_mode, is_free_inode, map-append, mapped, name_at}
+use Rattle.ffs_lib.proofs.Common.{names_in, names_of, range_with_len, repair_found, repair_in, repair_of, result_ok, slots_of, unless_unused, value_in}
 use Rattle.std.proofs.lemmas.Grind.{flat_map-append}
 use Rattle.ffs_lookup.specs.Counts.{names_count, numbers_of}
 use Rattle.ffs_lookup.specs.Files.{Absent, Directory, Entry, File, Files, Free, Unusable, listed}

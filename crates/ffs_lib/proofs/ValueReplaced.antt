@@ -1,7 +1,7 @@
 -- What `replace` looks up is what its function of the files does, and so is what it leaves.
 use Rattle.std.proofs.Common.{◌≡◌, ◌≢◌, ℕ, ◌<◌, ◌≤◌, ◌⊎◌, Bool, true, false, List, Some, None, Ok, Err, refl, sym, ◌∙◌, ap, inl, inr, arith, eq-eqb, Result, not, ◌==◌, ◌&&◌, if◌then◌else◌, ok_or, ne_eqb}
-use Rattle.ffs_lib.proofs.Words.{AreBlocksOnce, BadName, FfsFault, NoEntry, Slot, TooLarge, and_then, blocks_value, cases_eq, direct_in, directory_in, file_in}
-use Rattle.ffs_lib.proofs.Words.{files_of, first_named, inode_in, inode_links, is_at, is_name, mapped}
+use Rattle.ffs_lib.proofs.Common.{AreBlocksOnce, BadName, FfsFault, NoEntry, Slot, TooLarge, and_then, blocks_value, cases_eq, direct_in, directory_in, file_in}
+use Rattle.ffs_lib.proofs.Common.{files_of, first_named, inode_in, inode_links, is_at, is_name, mapped}
 use Rattle.ffs_lookup.specs.Files.{Answer, Blocks, Directory, Files, both_directories, cleared, directories, file_of, in_use, is_same, links_of, look_up, replaced, replaced_in, fault_told, turned, with_entry, without_link}
 use Rattle.ffs_lookup.proofs.ForCallers.{EntryAt, both_found, both_parts, file_found, file_parts, if_both, named_told, same_ok}
 use Rattle.ffs_lib.specs.Replacing.{Turned, directories_in, files_in, is_full_for, replace_in}

@@ -1,8 +1,8 @@
 -- An inode that is as before has its value, and what a new block of inodes is in the files.
 use Rattle.std.proofs.Common.{◌≡◌, ◌≢◌, ℕ, ◌-◌, ◌/◌, ◌%◌, ◌<◌, ◌≤◌, Bool, true, false, List, map, Some, None, Ok, Err, refl, sym, ◌∙◌, ap, inl, inr, arith, eq-eqb, Contains, Result, ◌==◌, ◌&&◌, ◌||◌, not, min, nat_lt, if◌then◌else◌, eqb-true, ne_eqb}
-use Rattle.ffs_lib.proofs.Words.{FfsFault, NoEntry, and_then, block_value, blocks_value, byte_of, bytes_value, cases_eq, direct_in, eqb-false, file_end}
-use Rattle.ffs_lib.proofs.Words.{files_of, inode_at, inode_block_in, inode_blocks, inode_in, inode_links, inode_mode, inode_value, is_free_inode, listing}
-use Rattle.ffs_lib.proofs.Words.{most_bytes, name_of_place, place_in, range_with_len, unless_unused, value_in, word_at}
+use Rattle.ffs_lib.proofs.Common.{FfsFault, NoEntry, and_then, block_value, blocks_value, byte_of, bytes_value, cases_eq, direct_in, eqb-false, file_end}
+use Rattle.ffs_lib.proofs.Common.{files_of, inode_at, inode_block_in, inode_blocks, inode_in, inode_links, inode_mode, inode_value, is_free_inode, listing}
+use Rattle.ffs_lib.proofs.Common.{most_bytes, name_of_place, place_in, range_with_len, unless_unused, value_in, word_at}
 use Rattle.ffs_lookup.specs.Files.{Free, Unusable, File, Directory, is_absent, with_block}
 use Rattle.ffs_lookup.proofs.ForCallers.{direct_has, good_number, map_on, used_is, value_by_place, value_outside, value_there}
 use Rattle.ffs_lib.specs.Results.{SameContents, SameInode}

@@ -1,7 +1,7 @@
 -- What each edit of a name does to the files.
 use Rattle.std.proofs.Common.{◌≡◌, ◌≢◌, ℕ, ◌+◌, ◌-◌, ◌<◌, ◌≤◌, Bool, true, false, List, get_or, Option, Some, None, Ok, refl, sym, ◌∙◌, ap, inl, inr, arith, eq-eqb, Contains, option_map, ◌==◌, ◌&&◌, if◌then◌else◌, eqb-true, le-leb, ne_eqb}
-use Rattle.ffs_lib.proofs.Words.{HasBlocksOnce, Slot, blocks_value, bytes_value, cases_eq, cases_lt, direct_in, directory_in, files_of, inode_blocks, inode_in}
-use Rattle.ffs_lib.proofs.Words.{inode_links, inode_mode, listing, lt-leb, name_of_place, value_in}
+use Rattle.ffs_lib.proofs.Common.{HasBlocksOnce, Slot, blocks_value, bytes_value, cases_eq, cases_lt, direct_in, directory_in, files_of, inode_blocks, inode_in}
+use Rattle.ffs_lib.proofs.Common.{inode_links, inode_mode, listing, lt-leb, name_of_place, value_in}
 use Rattle.ffs_lookup.specs.Files.{Absent, Directory, Entry, File, Files, Free, InodeValue, Unusable, less_a_link, links_of, put_entry, with_entry, with_entry_in, with_value, without_link}
 use Rattle.ffs_lookup.proofs.ForCallers.{IsPlaceOf, direct_has, good_number, put_is, value_by_place, value_found, value_used}
 use Rattle.ffs_lib.specs.Reclaiming.{with_links}

@@ -1,8 +1,8 @@
 -- What `make` leaves is what its function of the files says.
 use Rattle.std.proofs.Common.{◌≡◌, ◌≢◌, ℕ, ◌-◌, ◌/◌, ◌%◌, ◌<◌, ◌≤◌, ◌⊎◌, ◌+◌, ◌*◌, Bool, true, false, List, Ok, Err, refl, eq-eqb, sym, ◌∙◌, ap, inl, inr, arith, subst, IsOk, MatchResult, Result, not, nat_le, nat_lt, ◌==◌, ◌&&◌, ◌||◌, if◌then◌else◌, eqb-true, le-leb, ne_eqb}
-use Rattle.ffs_lib.proofs.Words.{Exists, FfsFault, IsRoot, Kernel, NoEntry, Pending, RootTaken, StoreState, Types, Unsound, and_then, cases_eq, cases_lt}
-use Rattle.ffs_lib.proofs.Words.{eqb-false, files_of, has_pointer, if_bare, inode_at, inode_block_in, inode_value, latest, lt-leb, make_from, make_in, mapped}
-use Rattle.ffs_lib.proofs.Words.{pending_of, pointer_word, put, range_with_len, root_in, slot, unless_zero, value_in, zero_block}
+use Rattle.ffs_lib.proofs.Common.{Exists, FfsFault, IsRoot, Kernel, NoEntry, Pending, RootTaken, StoreState, Types, Unsound, and_then, cases_eq, cases_lt}
+use Rattle.ffs_lib.proofs.Common.{eqb-false, files_of, has_pointer, if_bare, inode_at, inode_block_in, inode_value, latest, lt-leb, make_from, make_in, mapped}
+use Rattle.ffs_lib.proofs.Common.{pending_of, pointer_word, put, range_with_len, root_in, slot, unless_zero, value_in, zero_block}
 use Rattle.xn_model.proofs.ForCallers.{any_at, any_from, range_at}
 use Rattle.ffs_lookup.specs.Files.{Absent, Answer, Files, Free, empty_volume, is_absent, made, new_directory}
 use Rattle.ffs_lookup.proofs.ForCallers.{good_number, in_root_block, root_again, value_by_place, value_outside, value_there}

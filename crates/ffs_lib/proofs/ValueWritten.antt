@@ -1,8 +1,8 @@
 -- What is written into a file by its bytes as a value.
 use Rattle.std.proofs.Common.{◌≡◌, ◌≢◌, [], ℕ, ◌+◌, ◌-◌, ◌<◌, ◌≤◌, Bool, List, ◌++◌, length, map, take, drop, replicate, get_or, Ok, Err, refl, sym, ◌∙◌, ap, inl, inr, arith, subst, length-append, ◌==◌, ◌&&◌, nat_lt, max, min, if◌then◌else◌, le-leb, le-ltb, lt-ltb, ne_eqb, get_or-drop, get_or-take, length-drop, length-take, length-take-le}
-use Rattle.ffs_lib.proofs.Words.{StoreState, TooLarge, and_then, byte_of, bytes_value, cases_lt, file_end, file_in, files_of, get_or-append_right}
-use Rattle.ffs_lib.proofs.Words.{get_or-map-range_with_len, get_or-replicate, get_or_append_left, get_or_default, inode_links, latest}
-use Rattle.ffs_lib.proofs.Words.{length-map-range_with_len, length-replicate, lt-leb, mapped, most_bytes, range_with_len, same_lists, word_at, write_in}
+use Rattle.ffs_lib.proofs.Common.{StoreState, TooLarge, and_then, byte_of, bytes_value, cases_lt, file_end, file_in, files_of, get_or-append_right}
+use Rattle.ffs_lib.proofs.Common.{get_or-map-range_with_len, get_or-replicate, get_or_append_left, get_or_default, inode_links, latest}
+use Rattle.ffs_lib.proofs.Common.{length-map-range_with_len, length-replicate, lt-leb, mapped, most_bytes, range_with_len, same_lists, word_at, write_in}
 use Rattle.ffs_lookup.specs.Files.{Absent, Answer, Directory, File, Files, Free, InodeValue, Unusable, file_of, with_value, written, written_bytes, written_in}
 use Rattle.ffs_lookup.proofs.ForCallers.{file_found, file_parts, same_ok}
 use Rattle.ffs_lib.specs.Outcomes.{IsRaised}

@@ -1,7 +1,7 @@
 -- In the cuts: which edits are taken with others, after each step of a write.
 use Rattle.std.proofs.Common.{◌≡◌, ◌≢◌, ℕ, zero, suc, ◌-◌, ◌/◌, ◌<◌, ◌≤◌, ◌⊎◌, Bool, cond, List, [], ◌∷◌, ◌++◌, length, take, Option, Some, None, Ok, refl, sym, ◌∙◌, ap, inl, inr, arith, subst, Contains, slice_set, eq-eqb, ne_eqb}
-use Rattle.ffs_lib.proofs.Words.{BlockState, Choice, Contains-push_cases, IsChosen, IsConsistent, IsCut, IsFullAt, Life, Lives, StoreState, Takes, TakesAny}
-use Rattle.ffs_lib.proofs.Words.{Types, cases_eq, inode_block_in, last_or, latest, life_at, none-some, same_Some}
+use Rattle.ffs_lib.proofs.Common.{BlockState, Choice, Contains-push_cases, IsChosen, IsConsistent, IsCut, IsFullAt, Life, Lives, StoreState, Takes, TakesAny}
+use Rattle.ffs_lib.proofs.Common.{Types, cases_eq, inode_block_in, last_or, latest, life_at, none-some, same_Some}
 use Rattle.xn_model.specs.Calls.{Edit, edited, first_state, init_of, new_life, propose_of}
 use Rattle.xn_model.proofs.ForCallers.{Contains-cons, Contains-head, Contains-none, accept, accepted, below_next, each_back, set_other, set_same}
 use Rattle.ffs_model.proofs.ForCallers.{Proposed, Started, cut_before, full_before, full_seen, full_took, proposed, start_cut, started, takes_before, takes_then, takes_took, took_adds, took_after, took_full, took_now}

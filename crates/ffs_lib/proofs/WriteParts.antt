@@ -1,6 +1,6 @@
 -- The parts of a write, one after another.
 use Rattle.std.proofs.Common.{◌≡◌, ◌≢◌, ℕ, zero, suc, ◌+◌, ◌-◌, ◌/◌, ◌%◌, ◌<◌, ◌≤◌, ◌⊎◌, Bool, true, false, List, [], ◌∷◌, ◌++◌, length, take, Option, None, Result, Ok, Err, refl, sym, ◌∙◌, ap, inl, inr, arith, append_assoc, eq-eqb, MatchResult, ◌==◌, ◌||◌, filter, min, nat_lt, if◌then◌else◌, append-nil, take_all, le-ltb, lt-ltb, ne_eqb}
-use Rattle.ffs_lib.proofs.Words.{FfsFault, Refusal, StoreState, Types, cases_eq, cases_lt, init_of, latest, or_left, or_right, range_with_len, result_and_then}
+use Rattle.ffs_lib.proofs.Common.{FfsFault, Refusal, StoreState, Types, cases_eq, cases_lt, init_of, latest, or_left, or_right, range_with_len, result_and_then}
 use Rattle.ffs_lib.specs.Orders.{Action, Attaches, Makes, StopsAct, StopsIn, made_by}
 use Rattle.ffs_lib.specs.Orders as orders
 use Rattle.ffs_lib.specs.WriteOrder.{TellsAct, TellsIn, adds_direct, after_at, borders, data_at, data_parts, goes_past, last_after, last_at, parts_at, places, parts_made, zeros_parts}

@@ -1,9 +1,9 @@
 -- What an edit of a file's blocks leaves of its bytes.
 use Rattle.std.proofs.Common.{◌≡◌, ◌≢◌, ℕ, zero, suc, ◌+◌, ◌-◌, ◌*◌, ◌/◌, ◌%◌, ◌^◌, ◌<◌, ◌≤◌, ◌⊎◌, Bool, List, [], ◌∷◌, ◌++◌, length, get_or, Option, Ok, refl, sym, ◌∙◌, ap, inl, inr, arith, subst, eq-eqb, length-append, Result, ◌==◌, ◌&&◌, max, min, nat_le, nat_lt, if◌then◌else◌, slice_set, w32, le-leb, le-ltb, lt-ltb, ne_eqb, get_or-append-add}
-use Rattle.ffs_lib.proofs.Words.{Edit, FfsFault, Found, IsConsistent, IsDir, IsFile, IsLibrary, StoreState, Types, Under, and_then, byte_in, byte_of, cases_eq}
-use Rattle.ffs_lib.proofs.Words.{cases_lt, direct_in, fields_of, file_block, file_in, get_or-replicate, get_or_append_left, if_file, init_of, inode_in}
-use Rattle.ffs_lib.proofs.Words.{inode_links, inode_mode, latest, library_layout, life_at, lt-leb, max-eq_left, max-eq_right, min-eq_left, min-eq_right}
-use Rattle.ffs_lib.proofs.Words.{most_bytes, none-some, pointer_word, propose_of, put, to_le_bytes, word_at, zero_block}
+use Rattle.ffs_lib.proofs.Common.{Edit, FfsFault, Found, IsConsistent, IsDir, IsFile, IsLibrary, StoreState, Types, Under, and_then, byte_in, byte_of, cases_eq}
+use Rattle.ffs_lib.proofs.Common.{cases_lt, direct_in, fields_of, file_block, file_in, get_or-replicate, get_or_append_left, if_file, init_of, inode_in}
+use Rattle.ffs_lib.proofs.Common.{inode_links, inode_mode, latest, library_layout, life_at, lt-leb, max-eq_left, max-eq_right, min-eq_left, min-eq_right}
+use Rattle.ffs_lib.proofs.Common.{most_bytes, none-some, pointer_word, propose_of, put, to_le_bytes, word_at, zero_block}
 use Rattle.ffs_model.proofs.ForCallers.{latest_reached, library_reads, one_type, started, proposed_here, proposed_others, started_here, under_inodes, word_apart, word_within, zero_word}
 use Rattle.ffs_lib.specs.Edits.{edit_at}
 use Rattle.ffs_lib.specs.Outcomes.{HasBlock, IsRaised}

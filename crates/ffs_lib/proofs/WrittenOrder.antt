@@ -1,6 +1,6 @@
 -- The edits of a write, in their order, by what its parts made and where they stopped.
 use Rattle.std.proofs.Common.{◌≡◌, ◌≢◌, ℕ, ◌+◌, ◌-◌, ◌<◌, ◌≤◌, ◌⊎◌, Bool, true, false, List, [], ◌∷◌, length, Option, Some, None, Result, Ok, Err, refl, sym, ◌∙◌, ap, inl, inr, arith, subst, IfOk, IfSome, MatchResult, min, nat_lt, le-ltb, lt-ltb}
-use Rattle.ffs_lib.proofs.Words.{FfsFault, IsConsistent, StoreState, Types, file_end, latest, word_at, write_in}
+use Rattle.ffs_lib.proofs.Common.{FfsFault, IsConsistent, StoreState, Types, file_end, latest, word_at, write_in}
 use Rattle.xn_model.proofs.ForCallers.{same_ok as same_run}
 use Rattle.ffs_lookup.proofs.ForCallers.{same_ok}
 use Rattle.ffs_lib.specs.Orders.{Acts}

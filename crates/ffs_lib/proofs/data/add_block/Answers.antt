@@ -1,5 +1,5 @@
 use Rattle.std.proofs.Common.{◌∙◌, ◌*◌, ◌+◌, Some, ap, inl, refl, subst, sym, Bool, if◌then◌else◌}
-use Rattle.ffs_lib.proofs.Words.{latest}
+use Rattle.ffs_lib.proofs.Common.{latest}
 use Rattle.ffs_model.proofs.ForCallers.{later_then, given_later}
 use Rattle.ffs_lib.specs.Orders.{Action, act_of}
 use Rattle.ffs_lib.specs.Writes.{LastGiven, WaitsOn}

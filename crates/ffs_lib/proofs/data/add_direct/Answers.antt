@@ -1,5 +1,5 @@
 use Rattle.std.proofs.Common.{◌∙◌, ap, length, subst, sym}
-use Rattle.ffs_lib.proofs.Words.{IsLibrary, fields_of, init_of, latest, put, zero_block}
+use Rattle.ffs_lib.proofs.Common.{IsLibrary, fields_of, init_of, latest, put, zero_block}
 use Rattle.ffs_model.proofs.ForCallers.{data_begun}
 use Rattle.ffs_lookup.proofs.ForCallers.{gives_err}
 use Rattle.ffs_lib.specs.WriteOrder.{direct_edit}

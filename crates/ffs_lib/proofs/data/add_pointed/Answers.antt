@@ -1,5 +1,5 @@
 use Rattle.std.proofs.Common.{◌≡◌, ◌∙◌, ◌*◌, ◌+◌, ◌-◌, ◌<◌, ℕ, List, [], ◌∷◌, Some, ap, arith, subst, sym}
-use Rattle.ffs_lib.proofs.Words.{file_block, init_of, latest, put, zero_block}
+use Rattle.ffs_lib.proofs.Common.{file_block, init_of, latest, put, zero_block}
 use Rattle.ffs_model.proofs.ForCallers.{data_begun}
 use Rattle.ffs_lookup.proofs.ForCallers.{gives_err}
 use Rattle.ffs_lib.specs.Edits.{edit_at}

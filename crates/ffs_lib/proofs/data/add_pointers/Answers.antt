@@ -1,5 +1,5 @@
 use Rattle.std.proofs.Common.{◌∙◌, Err, Ok, ap, length, refl, subst, sym}
-use Rattle.ffs_lib.proofs.Words.{IsLibrary, fields_of, init_of, latest, zero_block}
+use Rattle.ffs_lib.proofs.Common.{IsLibrary, fields_of, init_of, latest, zero_block}
 use Rattle.ffs_model.proofs.ForCallers.{pointers_begun}
 use Rattle.ffs_lookup.proofs.ForCallers.{gives_err}
 use Rattle.ffs_lib.specs.WriteOrder.{indirect_edit}

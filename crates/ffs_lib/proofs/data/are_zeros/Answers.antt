@@ -1,5 +1,5 @@
 use Rattle.std.proofs.Common.{◌≡◌, ◌∙◌, length, replicate, sym, take}
-use Rattle.ffs_lib.proofs.Words.{bytes_eq-Decides, take-replicate}
+use Rattle.ffs_lib.proofs.Common.{bytes_eq-Decides, take-replicate}
 use Rattle.ffs_lib.proofs.data.are_zeros.Goals as goal
 
 pub returns : goal.returns

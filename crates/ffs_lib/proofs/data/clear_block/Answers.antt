@@ -1,5 +1,5 @@
 use Rattle.std.proofs.Common.{◌≡◌, ◌∙◌, ◌+◌, ◌-◌, ℕ, List, true, Err, Ok, ap, arith, drop, length, replicate, subst, sym, take}
-use Rattle.ffs_lib.proofs.Words.{IsLibrary, byte_in, file_block, latest}
+use Rattle.ffs_lib.proofs.Common.{IsLibrary, byte_in, file_block, latest}
 use Rattle.ffs_lib.specs.WriteOrder.{zeros_parts}
 use Rattle.ffs_lib.specs.Writes.{PutsParts}
 use Rattle.ffs_lib.proofs.Actions.{zeros_all, zeros_by, zeros_hole, zeros_none, zeros_not}

@@ -1,5 +1,5 @@
 use Rattle.std.proofs.Common.{◌∙◌, ◌-◌, ◌+◌, ◌≡◌, ap, arith, drop, length, map, take}
-use Rattle.ffs_lib.proofs.Words.{byte_in, latest, range_with_len}
+use Rattle.ffs_lib.proofs.Common.{byte_in, latest, range_with_len}
 use Rattle.ffs_lib.proofs.Parts.{part_of, zero_part}
 use Rattle.ffs_lib.proofs.data.copy_block.Goals as goal
 

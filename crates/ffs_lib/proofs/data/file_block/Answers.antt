@@ -1,5 +1,5 @@
 use Rattle.std.proofs.Common.{◌-◌, sym, ◌∙◌, ap, arith}
-use Rattle.ffs_lib.proofs.Words.{latest, library_layout, pointer_word, step}
+use Rattle.ffs_lib.proofs.Common.{latest, library_layout, pointer_word, step}
 use Rattle.ffs_model.proofs.ForCallers.{data_owned, library_reads, under_direct}
 use Rattle.ffs_lib.proofs.Edited.{pointers_reached}
 use Rattle.ffs_lookup.proofs.ForCallers.{found_has, not_ok}

@@ -1,5 +1,5 @@
 use Rattle.std.proofs.Common.{◌≡◌, ◌+◌, ◌<◌, ◌∙◌, ℕ, Ok, Err, Result, ap, arith, min}
-use Rattle.ffs_lib.proofs.Words.{FfsFault, err_from_is_err_and, file_end, latest, mapped, most_bytes}
+use Rattle.ffs_lib.proofs.Common.{FfsFault, err_from_is_err_and, file_end, latest, mapped, most_bytes}
 use Rattle.ffs_lib.proofs.Refusals.{fits_file, too_large, write_nothing}
 use Rattle.ffs_lib.proofs.data.look_up_end.Goals as goal
 use Rattle.ffs_lib.proofs.data.look_up_end.Goals.{then-offset-gt-MOST_BYTES-via-then-offset-gt-MOST_BYTES, then-offset-gt-MOST_BYTES-via-else-offset-gt-MOST_BYTES+then-count-offset}

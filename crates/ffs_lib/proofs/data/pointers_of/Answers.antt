@@ -1,5 +1,5 @@
 use Rattle.std.proofs.Common.{◌≡◌, ◌∙◌, ℕ, List, ap, inr, length, subst, sym}
-use Rattle.ffs_lib.proofs.Words.{IsLibrary, latest, word_at}
+use Rattle.ffs_lib.proofs.Common.{IsLibrary, latest, word_at}
 use Rattle.ffs_lookup.proofs.ForCallers.{same_ok}
 use Rattle.ffs_lib.specs.Orders.{Action, act_of}
 use Rattle.ffs_lib.proofs.Tests.{never}

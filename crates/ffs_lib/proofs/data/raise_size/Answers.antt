@@ -1,6 +1,6 @@
 use Rattle.std.proofs.Common.{◌∙◌, ◌*◌, ◌<◌, ◌≤◌, ℕ, List, [], Err, Ok, ap, arith, subst, sym, w32}
 use Rattle.std.specs.Prelude.{⊤}
-use Rattle.ffs_lib.proofs.Words.{IsLibrary, latest, propose_of, put, to_le_bytes, word_at}
+use Rattle.ffs_lib.proofs.Common.{IsLibrary, latest, propose_of, put, to_le_bytes, word_at}
 use Rattle.ffs_lookup.proofs.ForCallers.{same_ok}
 use Rattle.ffs_lib.specs.Edits.{edit_at}
 use Rattle.ffs_lib.specs.Outcomes.{IsRaised}

@@ -1,5 +1,5 @@
 use Rattle.std.proofs.Common.{◌∙◌, length}
-use Rattle.ffs_lib.proofs.Words.{latest, on_ok_weaker}
+use Rattle.ffs_lib.proofs.Common.{latest, on_ok_weaker}
 use Rattle.ffs_lib.proofs.Parts.{in_one_block}
 use Rattle.ffs_lib.proofs.data.read_part.Goals as goal
 

@@ -1,5 +1,5 @@
 use Rattle.std.proofs.Common.{◌≡◌, ◌∙◌, ℕ, List, Err, Ok, ap, refl, length, subst, sym}
-use Rattle.ffs_lib.proofs.Words.{IsLibrary, file_block, latest, word_at}
+use Rattle.ffs_lib.proofs.Common.{IsLibrary, file_block, latest, word_at}
 use Rattle.ffs_lookup.proofs.ForCallers.{not_ok, same_ok}
 use Rattle.ffs_lib.specs.WriteOrder.{data_parts}
 use Rattle.ffs_lib.specs.Writes.{PutsParts}

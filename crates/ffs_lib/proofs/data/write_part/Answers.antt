@@ -1,5 +1,5 @@
 use Rattle.std.proofs.Common.{◌≡◌, ◌∙◌, ◌+◌, ◌-◌, ◌%◌, ℕ, List, ap, arith, drop, inl, inr, length, sym, take, min, nat_lt, length-drop, length-take-le}
-use Rattle.ffs_lib.proofs.Words.{cases_eq}
+use Rattle.ffs_lib.proofs.Common.{cases_eq}
 use Rattle.ffs_lib.specs.WriteOrder.{data_at}
 use Rattle.ffs_lib.proofs.Laws.{is_ok_one}
 use Rattle.ffs_lib.proofs.Parting.{bytes_next, data_make, last_given, padded_long, parts_by, zeros_make, zeros_next}

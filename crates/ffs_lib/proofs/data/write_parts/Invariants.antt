@@ -1,5 +1,5 @@
 use Rattle.std.proofs.Common.{◌≡◌, ◌+◌, ◌-◌, ◌≤◌, ℕ, Option, None, length, IsOk, min}
-use Rattle.ffs_lib.proofs.Words.{Types, file_in}
+use Rattle.ffs_lib.proofs.Common.{Types, file_in}
 use Rattle.ffs_lib.specs.Steps.{Stage, newest_block}
 use Rattle.ffs_lib.specs.Writes.{Parts}
 use Rattle.ffs_lib.proofs.data.write_parts.Given as goal

@@ -1,5 +1,5 @@
 use Rattle.std.proofs.Common.{◌∙◌, ◌+◌, ◌*◌, ℕ, [], None, ap, arith, subst, sym, w16}
-use Rattle.ffs_lib.proofs.Words.{IsLibrary, latest, put, to_le_bytes}
+use Rattle.ffs_lib.proofs.Common.{IsLibrary, latest, put, to_le_bytes}
 use Rattle.ffs_lib.specs.Edits.{edit_at}
 use Rattle.ffs_lib.specs.Orders.{Edits, Orders}
 use Rattle.ffs_lib.proofs.Tests.{never}

@@ -1,5 +1,5 @@
 use Rattle.std.proofs.Common.{◌≡◌, ◌∙◌, [], ◌∷◌, subst, OnErr}
-use Rattle.ffs_lib.proofs.Words.{Types, forget_of}
+use Rattle.ffs_lib.proofs.Common.{Types, forget_of}
 use Rattle.ffs_lib.specs.Edits.{edit_at}
 use Rattle.ffs_lib.specs.Steps.{left_by}
 use Rattle.ffs_lib.proofs.Laws.{attached_put}

@@ -1,5 +1,5 @@
 use Rattle.std.proofs.Common.{ap, ◌∙◌, length, refl, subst, sym}
-use Rattle.ffs_lib.proofs.Words.{err_from_is_err_and}
+use Rattle.ffs_lib.proofs.Common.{err_from_is_err_and}
 use Rattle.ffs_lib.specs.Edits.{data_of_pointers}
 use Rattle.ffs_lib.specs.Steps.{Dropped, Tells}
 use Rattle.ffs_lib.proofs.Laws.{dropped_put, no_memory, some_items}

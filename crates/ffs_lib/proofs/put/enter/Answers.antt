@@ -1,4 +1,4 @@
-use Rattle.ffs_lib.proofs.Words.{IsLibrary, IsRoom, Room, direct_in, entry_of, half_at, latest, put, room_in, zero_block}
+use Rattle.ffs_lib.proofs.Common.{IsLibrary, IsRoom, Room, direct_in, entry_of, half_at, latest, put, room_in, zero_block}
 use Rattle.ffs_lookup.specs.declared.places.Room.TheVariants.{Entry, Pointer}
 use Rattle.ffs_lib.specs.Orders.{Action, Acts, Attaches, grown_edit}
 use Rattle.ffs_lib.proofs.Orders.{entered_is, gap_act}

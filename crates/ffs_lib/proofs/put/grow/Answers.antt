@@ -1,4 +1,4 @@
-use Rattle.ffs_lib.proofs.Words.{Fields, IsLibrary, fields_of, init_of, inode_blocks, latest, put, to_le_bytes, zero_block}
+use Rattle.ffs_lib.proofs.Common.{Fields, IsLibrary, fields_of, init_of, inode_blocks, latest, put, to_le_bytes, zero_block}
 use Rattle.std.proofs.Common.{rules, ◌≡◌, ◌∙◌, ◌+◌, ◌*◌, inl, ℕ, List, [], ◌∷◌, Some, ap, arith, length, subst, sym, w32}
 use Rattle.ffs_model.proofs.ForCallers.{data_begun}
 use Rattle.ffs_lookup.proofs.ForCallers.{block_again, gives_err, same_ok}

@@ -1,5 +1,5 @@
 use Rattle.std.proofs.Common.{subst}
-use Rattle.ffs_lib.proofs.Words.{Types}
+use Rattle.ffs_lib.proofs.Common.{Types}
 use Rattle.ffs_lib.specs.Edits.{edit_at}
 use Rattle.ffs_lib.specs.Steps.{Proposed}
 use Rattle.ffs_lib.proofs.Laws.{refused_put}

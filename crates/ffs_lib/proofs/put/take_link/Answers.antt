@@ -1,5 +1,5 @@
 use Rattle.std.proofs.Common.{rules, ◌≡◌, ◌∙◌, ◌*◌, ◌-◌, ℕ, List, [], Err, Option, Some, ap, arith, refl, replicate, subst, sym, inl, inr, w16}
-use Rattle.ffs_lib.proofs.Words.{IsLibrary, Kernel, NoMemory, Types, inode_links, latest, propose_of, put, to_le_bytes, word_at}
+use Rattle.ffs_lib.proofs.Common.{IsLibrary, Kernel, NoMemory, Types, inode_links, latest, propose_of, put, to_le_bytes, word_at}
 use Rattle.ffs_lookup.proofs.ForCallers.{same_ok}
 use Rattle.ffs_lib.specs.Edits.{data_of_inode, edit_at}
 use Rattle.ffs_lib.specs.Orders.{Edits, Orders, free_edit, links_edit, taken_edits}

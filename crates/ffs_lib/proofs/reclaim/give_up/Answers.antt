@@ -1,5 +1,5 @@
 use Rattle.std.proofs.Common.{rules, ◌≡◌, ◌∙◌, ◌*◌, ℕ, List, [], ◌∷◌, None, Option, ap, inr, refl, replicate, subst, sym}
-use Rattle.ffs_lib.proofs.Words.{GiveUp, IsLibrary, KeepsNumber, Types, inode_links, latest, library_layout, propose_of}
+use Rattle.ffs_lib.proofs.Common.{GiveUp, IsLibrary, KeepsNumber, Types, inode_links, latest, library_layout, propose_of}
 use Rattle.ffs_lookup.proofs.ForCallers.{same_ok}
 use Rattle.ffs_lib.specs.Edits.{data_of_inode, edit_at}
 use Rattle.ffs_lib.specs.Outcomes.{HasNoData}

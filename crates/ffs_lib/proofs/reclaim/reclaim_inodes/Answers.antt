@@ -1,5 +1,5 @@
 use Rattle.std.proofs.Common.{◌≡◌, ◌+◌, ◌≤◌, ◌∙◌, ℕ, Ok, ap, arith, inl, refl, subst, sym}
-use Rattle.ffs_lib.proofs.Words.{IsLibrary, Repair, files_of, latest, range_with_len, repair_in}
+use Rattle.ffs_lib.proofs.Common.{IsLibrary, Repair, files_of, latest, range_with_len, repair_in}
 use Rattle.ffs_lib.specs.Orders.{Makes, StopsAct, made_by, made_of}
 use Rattle.ffs_lib.specs.Reclaiming.{needs}
 use Rattle.ffs_lib.specs.RepairOrder.{reclaimed_parts, repair_parts, repaired_edits}

@@ -1,5 +1,5 @@
 use Rattle.std.proofs.Common.{◌≡◌, ℕ, Ok, Option}
-use Rattle.ffs_lib.proofs.Words.{Types, files_of, latest, pending_of, range_with_len}
+use Rattle.ffs_lib.proofs.Common.{Types, files_of, latest, pending_of, range_with_len}
 use Rattle.ffs_lib.specs.Orders.{made_by}
 use Rattle.ffs_lib.specs.RepairOrder.{repair_parts}
 use Rattle.ffs_lib.specs.Steps.{Stage}

@@ -1,5 +1,5 @@
 use Rattle.std.proofs.Common.{subst, sym}
-use Rattle.ffs_lib.proofs.Words.{GiveUp, Repair, SetLinks, latest}
+use Rattle.ffs_lib.proofs.Common.{GiveUp, Repair, SetLinks, latest}
 use Rattle.ffs_lib.specs.Orders.{Orders}
 use Rattle.ffs_lib.specs.RepairOrder.{repaired_edits}
 use Rattle.ffs_lib.proofs.Orders.{order_err}

@@ -1,5 +1,5 @@
 use Rattle.std.proofs.Common.{◌≡◌, ◌-◌, ◌≤◌, ◌*◌, ◌∙◌, ℕ, List, [], ◌∷◌, None, ap, arith, inl, refl, subst, sym, w16}
-use Rattle.ffs_lib.proofs.Words.{IsLibrary, KeepsNumber, SetLinks, inode_links, latest, library_layout, put, to_le_bytes}
+use Rattle.ffs_lib.proofs.Common.{IsLibrary, KeepsNumber, SetLinks, inode_links, latest, library_layout, put, to_le_bytes}
 use Rattle.ffs_lookup.proofs.ForCallers.{same_ok}
 use Rattle.ffs_lib.specs.Edits.{edit_at}
 use Rattle.ffs_lib.specs.Orders.{Edits, Orders}

@@ -1,5 +1,5 @@
 use Rattle.std.proofs.Common.{◌≡◌, ◌∙◌, ℕ, inl}
-use Rattle.ffs_lib.proofs.Words.{empty_volume, files_of, latest}
+use Rattle.ffs_lib.proofs.Common.{empty_volume, files_of, latest}
 use Rattle.ffs_lib.specs.Making.{StopsFirst}
 use Rattle.ffs_lib.proofs.Laws.{fails}
 use Rattle.ffs_lib.proofs.Making.{attached}

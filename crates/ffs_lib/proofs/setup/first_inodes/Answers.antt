@@ -1,5 +1,5 @@
 use Rattle.std.proofs.Common.{List, ℕ, length, ap, ◌∙◌, subst, Contains}
-use Rattle.ffs_lib.proofs.Words.{Fields, inode_blocks, library_layout}
+use Rattle.ffs_lib.proofs.Common.{Fields, inode_blocks, library_layout}
 use Rattle.ffs_model.proofs.ForCallers.{one_inode}
 use Rattle.ffs_lib.proofs.Fields.{free_blocks, same_blocks}
 use Rattle.ffs_lib.proofs.setup.first_inodes.Goals as goal

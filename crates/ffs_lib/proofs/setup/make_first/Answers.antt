@@ -1,5 +1,5 @@
 use Rattle.std.proofs.Common.{◌≡◌, ◌∙◌, subst, OnErr}
-use Rattle.ffs_lib.proofs.Words.{Types, init_of}
+use Rattle.ffs_lib.proofs.Common.{Types, init_of}
 use Rattle.ffs_lookup.proofs.ForCallers.{gives_err}
 use Rattle.ffs_lib.specs.Making.{top_inodes, without_block}
 use Rattle.ffs_lib.proofs.Laws.{begins_by, begins_err, told_by}

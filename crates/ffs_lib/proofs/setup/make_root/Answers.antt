@@ -1,5 +1,5 @@
 use Rattle.std.proofs.Common.{◌≡◌, ◌∙◌, refl, subst, OnErr}
-use Rattle.ffs_lib.proofs.Words.{Types, zero_block}
+use Rattle.ffs_lib.proofs.Common.{Types, zero_block}
 use Rattle.ffs_lib.specs.Making.{without_block}
 use Rattle.ffs_lib.proofs.Laws.{begins_by}
 use Rattle.ffs_lib.proofs.Making.{root_follows, root_refused}

@@ -1,5 +1,5 @@
 use Rattle.std.proofs.Common.{◌≡◌, ◌∙◌, Bool, Err, Ok, ap, sym, true, false}
-use Rattle.ffs_lib.proofs.Words.{latest, make_in, slot_now}
+use Rattle.ffs_lib.proofs.Common.{latest, make_in, slot_now}
 use Rattle.ffs_lib.specs.Making.{IsBegun, StopsRooting, with_root}
 use Rattle.ffs_lib.proofs.Laws.{fails}
 use Rattle.ffs_lib.proofs.Making.{prepared, prepared_by}

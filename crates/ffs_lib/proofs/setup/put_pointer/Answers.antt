@@ -1,5 +1,5 @@
 use Rattle.std.proofs.Common.{◌∙◌, ℕ, List, [], ◌∷◌, None, ap, length, subst, sym}
-use Rattle.ffs_lib.proofs.Words.{latest, root}
+use Rattle.ffs_lib.proofs.Common.{latest, root}
 use Rattle.ffs_lookup.proofs.ForCallers.{not_ok, root_again}
 use Rattle.ffs_lib.specs.Edits.{edit_at}
 use Rattle.ffs_lib.specs.Making.{first_pointer}

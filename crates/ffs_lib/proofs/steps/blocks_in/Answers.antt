@@ -1,5 +1,5 @@
 use Rattle.std.proofs.Common.{◌≡◌, ◌+◌, ◌++◌, ◌∷◌, [], ℕ, Vec, Global, sym, ◌∙◌, ap, refl, arith}
-use Rattle.ffs_lib.proofs.Words.{blocks_of}
+use Rattle.ffs_lib.proofs.Common.{blocks_of}
 use Rattle.ffs_model.specs.Library.{pointed, pointer_word}
 use Rattle.ffs_lib.proofs.Dropping.{words_more, words_past}
 use Rattle.ffs_lib.proofs.steps.blocks_in.Goals.{then-block-ne0+in_ok-push, else-block-ne0}

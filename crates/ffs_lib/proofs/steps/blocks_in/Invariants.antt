@@ -1,5 +1,5 @@
 use Rattle.std.proofs.Common.{◌≡◌}
-use Rattle.ffs_lib.proofs.Words.{blocks_of}
+use Rattle.ffs_lib.proofs.Common.{blocks_of}
 use Rattle.ffs_model.specs.Library.{pointed, pointer_word}
 use Rattle.ffs_lib.proofs.steps.blocks_in.Given as goal
 

@@ -1,5 +1,5 @@
 use Rattle.std.proofs.Common.{◌≡◌, ◌+◌, ◌++◌, ◌∷◌, [], ℕ, Vec, Global, sym, ◌∙◌, ap, refl}
-use Rattle.ffs_lib.proofs.Words.{blocks_of, direct_in}
+use Rattle.ffs_lib.proofs.Common.{blocks_of, direct_in}
 use Rattle.ffs_model.specs.Library.{pointed}
 use Rattle.ffs_lib.proofs.Dropping.{words_more, words_past}
 use Rattle.ffs_lib.proofs.steps.blocks_of.Goals.{then-block-ne0+in_ok-push, else-block-ne0}

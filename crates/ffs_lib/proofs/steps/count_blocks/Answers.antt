@@ -1,5 +1,5 @@
 use Rattle.std.proofs.Common.{◌+◌, ◌∙◌, List, ℕ, ap, arith, length, refl, sym}
-use Rattle.ffs_lib.proofs.Words.{direct_in}
+use Rattle.ffs_lib.proofs.Common.{direct_in}
 use Rattle.ffs_lib.proofs.Dropping.{counted_more, words_past}
 use Rattle.ffs_lib.proofs.steps.count_blocks.Goals.{then-direct-ne0, else-direct-ne0}
 use Rattle.ffs_lib.proofs.steps.count_blocks.Goals as goal

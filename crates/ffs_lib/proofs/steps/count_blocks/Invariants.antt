@@ -1,5 +1,5 @@
 use Rattle.std.proofs.Common.{◌≡◌, ◌≤◌, length}
-use Rattle.ffs_lib.proofs.Words.{blocks_of, direct_in}
+use Rattle.ffs_lib.proofs.Common.{blocks_of, direct_in}
 use Rattle.ffs_model.specs.Library.{pointed}
 use Rattle.ffs_lib.proofs.steps.count_blocks.Given as goal
 

@@ -1,4 +1,4 @@
-use Rattle.ffs_lib.proofs.Words.{forget_of}
+use Rattle.ffs_lib.proofs.Common.{forget_of}
 use Rattle.ffs_lib.proofs.Kept.{forgets, on_err}
 use Rattle.ffs_lib.proofs.Laws.{exactly_left}
 use Rattle.ffs_lib.proofs.steps.forgotten.Goals as goal

@@ -1,5 +1,5 @@
 use Rattle.std.proofs.Common.{◌≡◌, ℕ, ◌+◌, ◌++◌, ◌∙◌, List, [], ◌∷◌, ap, arith, map, refl, sym, append_assoc}
-use Rattle.ffs_lib.proofs.Words.{IfOk-from_err, map-append, names_at, range_with_len}
+use Rattle.ffs_lib.proofs.Common.{IfOk-from_err, map-append, names_at, range_with_len}
 use Rattle.ffs_lookup.proofs.ForCallers.{place_more, place_past}
 use Rattle.ffs_lib.proofs.volume.add_names.Goals as goal
 

@@ -1,5 +1,5 @@
 use Rattle.std.proofs.Common.{◌≡◌, ◌++◌, map}
-use Rattle.ffs_lib.proofs.Words.{names_at, range_with_len}
+use Rattle.ffs_lib.proofs.Common.{names_at, range_with_len}
 use Rattle.ffs_lib.proofs.volume.add_names.Given as goal
 
 abbrev pub invariant-loop-place : goal.invariant-loop-place

@@ -1,5 +1,5 @@
 use Rattle.std.proofs.Common.{sym}
-use Rattle.ffs_lib.proofs.Words.{err_from_is_err_and, latest}
+use Rattle.ffs_lib.proofs.Common.{err_from_is_err_and, latest}
 use Rattle.ffs_lib.proofs.Creating.{none_left, one_left, pointer_left}
 use Rattle.ffs_lib.proofs.volume.look_up_free.Goals as goal
 

@@ -1,5 +1,5 @@
 use Rattle.std.proofs.Common.{◌≡◌, ◌-◌, ◌*◌, ◌<◌, ◌∙◌, [], ◌∷◌, ℕ, List, Err, None, Ok, Option, Some, ap, arith, length, refl, rules, subst, sym}
-use Rattle.ffs_lib.proofs.Words.{VolumeKeeps, init_of, library_layout, propose_of, with_edit, zero_block}
+use Rattle.ffs_lib.proofs.Common.{VolumeKeeps, init_of, library_layout, propose_of, with_edit, zero_block}
 use Rattle.ffs_model.proofs.ForCallers.{free_begun}
 use Rattle.ffs_lookup.proofs.ForCallers.{gives_err, gives_ok}
 use Rattle.ffs_lib.specs.Edits.{edit_at}

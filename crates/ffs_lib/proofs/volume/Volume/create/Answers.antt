@@ -1,4 +1,4 @@
-use Rattle.ffs_lib.proofs.Words.{new_file}
+use Rattle.ffs_lib.proofs.Common.{new_file}
 use Rattle.ffs_lib.proofs.BlocksOnce.{blocks_once}
 use Rattle.ffs_lib.proofs.StagedNew.{created_does, created_makes, created_stays}
 use Rattle.ffs_lib.proofs.ValueMade.{file_made}

@@ -1,5 +1,5 @@
 use Rattle.std.proofs.Common.{◌≡◌, ℕ, ◌+◌, ◌++◌, ◌∙◌, List, Ok, IsOk, ap, arith, inl, inr, is_ok, refl, sym}
-use Rattle.ffs_lib.proofs.Words.{directory_in, err_from_is_err_and, files_of, latest, library_layout, listed, names_at, range_with_len}
+use Rattle.ffs_lib.proofs.Common.{directory_in, err_from_is_err_and, files_of, latest, library_layout, listed, names_at, range_with_len}
 use Rattle.ffs_model.proofs.ForCallers.{library_reads, under_direct}
 use Rattle.ffs_lookup.proofs.ForCallers.{first_names, found_has, listed_told, names_are, names_more, names_past, no_names, not_ok}
 use Rattle.ffs_lib.proofs.volume.Volume.list.Goals as goal

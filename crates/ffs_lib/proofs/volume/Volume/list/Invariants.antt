@@ -1,5 +1,5 @@
 use Rattle.std.proofs.Common.{◌≡◌, map}
-use Rattle.ffs_lib.proofs.Words.{latest}
+use Rattle.ffs_lib.proofs.Common.{latest}
 use Rattle.ffs_lookup.proofs.ForCallers.{first_names}
 use Rattle.ffs_lib.proofs.volume.Volume.list.Given as goal
 

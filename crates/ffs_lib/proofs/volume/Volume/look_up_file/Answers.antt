@@ -1,5 +1,5 @@
 use Rattle.std.proofs.Common.{Err, Ok}
-use Rattle.ffs_lib.proofs.Words.{err_from_is_err_and, latest}
+use Rattle.ffs_lib.proofs.Common.{err_from_is_err_and, latest}
 use Rattle.ffs_lib.proofs.Refusals.{unlink_is, unlink_nothing}
 use Rattle.ffs_lib.proofs.volume.Volume.look_up_file.Goals as goal
 

@@ -1,5 +1,5 @@
 use Rattle.std.proofs.Common.{sym}
-use Rattle.ffs_lib.proofs.Words.{and_parts, is_name}
+use Rattle.ffs_lib.proofs.Common.{and_parts, is_name}
 use Rattle.ffs_lib.proofs.Renaming.{bad_names, may_move, most_links, new_taken, no_directory, no_first, no_inode_named, no_name, no_room_there, no_second, other_directory, told}
 use Rattle.ffs_lib.proofs.volume.Volume.look_up_move.Goals as goal
 

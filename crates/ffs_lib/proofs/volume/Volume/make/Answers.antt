@@ -1,5 +1,5 @@
 use Rattle.std.proofs.Common.{rules, ◌∙◌, ℕ, Option, Ok, Err, ap, refl, subst, sym}
-use Rattle.ffs_lib.proofs.Words.{FfsFault, VolumeKeeps, err_from_is_err_and, library_layout, mapped}
+use Rattle.ffs_lib.proofs.Common.{FfsFault, VolumeKeeps, err_from_is_err_and, library_layout, mapped}
 use Rattle.ffs_lib.proofs.Kept.{on_err}
 use Rattle.ffs_lib.proofs.Making.{no_numbers}
 use Rattle.ffs_lib.proofs.NewOrder.{make_stops}

@@ -1,5 +1,5 @@
 use Rattle.std.proofs.Common.{◌≡◌, ◌∙◌, ℕ, Ok, ap, inl, inr, subst, sym, rules}
-use Rattle.ffs_lib.proofs.Words.{create_in, directory_in, latest}
+use Rattle.ffs_lib.proofs.Common.{create_in, directory_in, latest}
 use Rattle.ffs_lib.specs.Results.{IsLowestNumber, MadeEntry, SameOrNew}
 use Rattle.ffs_lib.specs.Steps.{StopsMaking, StopsNew}
 use Rattle.ffs_lib.specs.Volumes.{edits_of}

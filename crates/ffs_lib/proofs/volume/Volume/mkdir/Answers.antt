@@ -1,4 +1,4 @@
-use Rattle.ffs_lib.proofs.Words.{new_directory}
+use Rattle.ffs_lib.proofs.Common.{new_directory}
 use Rattle.ffs_lib.proofs.BlocksOnce.{blocks_once}
 use Rattle.ffs_lib.proofs.StagedNew.{created_does, created_makes, created_stays}
 use Rattle.ffs_lib.proofs.ValueMade.{directory_made}

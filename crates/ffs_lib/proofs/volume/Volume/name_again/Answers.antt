@@ -1,7 +1,7 @@
 use Rattle.std.proofs.Common.{◌≡◌, ◌+◌, ◌∙◌, ℕ, inl, inr, subst, IfOk}
 use Rattle.ffs_lib.specs.Orders.{Acts, entered_action}
 use Rattle.ffs_lib.proofs.Orders.{names_err, names_then}
-use Rattle.ffs_lib.proofs.Words.{entry_of, latest}
+use Rattle.ffs_lib.proofs.Common.{entry_of, latest}
 use Rattle.ffs_lib.specs.Steps.{Enters, NamesAgain, StopsEntering, StopsNaming}
 use Rattle.ffs_lib.proofs.Entering.{directory_from}
 use Rattle.ffs_lib.proofs.Laws.{fails, match_then}

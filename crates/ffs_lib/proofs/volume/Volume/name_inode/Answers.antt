@@ -1,5 +1,5 @@
 use Rattle.std.proofs.Common.{◌∙◌, ◌*◌, ◌-◌, ◌/◌, ℕ, [], Option, get_or, inl, inr, refl, rules, subst, sym}
-use Rattle.ffs_lib.proofs.Words.{VolumeKeeps, latest, library_layout, propose_of}
+use Rattle.ffs_lib.proofs.Common.{VolumeKeeps, latest, library_layout, propose_of}
 use Rattle.ffs_lib.specs.Steps.{StopsNew}
 use Rattle.ffs_lib.specs.Edits.{edit_at}
 use Rattle.ffs_lib.proofs.Entering.{made_then}

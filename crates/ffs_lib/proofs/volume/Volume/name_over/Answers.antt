@@ -1,5 +1,5 @@
 use Rattle.std.proofs.Common.{◌≡◌, ◌≢◌, ◌∙◌, ℕ, Err, Ok, inl, inr, refl, sym, ap, subst, None, Some}
-use Rattle.ffs_lib.proofs.Words.{IsLibrary, Slot, StayNamed, is_at, latest, library_layout}
+use Rattle.ffs_lib.proofs.Common.{IsLibrary, Slot, StayNamed, is_at, latest, library_layout}
 use Rattle.ffs_lookup.proofs.ForCallers.{same_ok}
 use Rattle.ffs_lib.specs.Orders.{Orders, removed_edits, replaced_parts, taken_edits, turned_edits}
 use Rattle.ffs_lib.specs.Replacing.{AreDirect, pair_of}

@@ -1,5 +1,5 @@
 use Rattle.std.proofs.Common.{sym, ◌∙◌}
-use Rattle.ffs_lib.proofs.Words.{IsSlot, err_from_is_err_and, first_named, latest}
+use Rattle.ffs_lib.proofs.Common.{IsSlot, err_from_is_err_and, first_named, latest}
 use Rattle.ffs_lib.proofs.Kept.{on_ok}
 use Rattle.ffs_lookup.proofs.ForCallers.{badly_named, if_some_ok, named_is, nothing_named, same_ok}
 use Rattle.ffs_lib.proofs.volume.Volume.named.Goals as goal

@@ -1,5 +1,5 @@
 use Rattle.std.proofs.Common.{ℕ, Option, subst, sym}
-use Rattle.ffs_lib.proofs.Words.{VolumeKeeps, library_layout}
+use Rattle.ffs_lib.proofs.Common.{VolumeKeeps, library_layout}
 use Rattle.ffs_lib.proofs.Making.{no_numbers}
 use Rattle.ffs_lib.proofs.Opening.{opened}
 use Rattle.ffs_lib.proofs.volume.Volume.open.Goals as goal

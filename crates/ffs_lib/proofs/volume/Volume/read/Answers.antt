@@ -1,5 +1,5 @@
 use Rattle.std.proofs.Common.{◌≡◌, ◌+◌, ◌-◌, ◌∙◌, ℕ, Ok, ap, arith, length, min}
-use Rattle.ffs_lib.proofs.Words.{byte_of, err_from_is_err_and, file_end, latest, read_count, read_into}
+use Rattle.ffs_lib.proofs.Common.{byte_of, err_from_is_err_and, file_end, latest, read_count, read_into}
 use Rattle.ffs_lookup.proofs.ForCallers.{count_told, into_told}
 use Rattle.ffs_lib.proofs.Parts.{read_done, read_step}
 use Rattle.ffs_lib.proofs.volume.Volume.read.Goals as goal

@@ -1,5 +1,5 @@
 use Rattle.std.proofs.Common.{◌≡◌, ◌++◌, ◌-◌, ◌≤◌, drop, map}
-use Rattle.ffs_lib.proofs.Words.{byte_of, latest, range_with_len}
+use Rattle.ffs_lib.proofs.Common.{byte_of, latest, range_with_len}
 use Rattle.ffs_lib.proofs.volume.Volume.read.Given as goal
 
 abbrev pub invariant-loop-done : goal.invariant-loop-done

@@ -1,5 +1,5 @@
 use Rattle.std.proofs.Common.{◌≡◌, ◌∙◌, ℕ, List, Result, Ok, Err, IfOk}
-use Rattle.ffs_lib.proofs.Words.{FfsFault, Repairs, files_of, latest, repair_at, repair_in}
+use Rattle.ffs_lib.proofs.Common.{FfsFault, Repairs, files_of, latest, repair_at, repair_in}
 use Rattle.ffs_lib.specs.Reclaiming.{needs}
 use Rattle.ffs_lib.proofs.ValueRepairs.{need_is}
 use Rattle.ffs_lib.proofs.volume.Volume.reclaimable.Goals as goal

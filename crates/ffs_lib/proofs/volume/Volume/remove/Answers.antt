@@ -1,5 +1,5 @@
 use Rattle.std.proofs.Common.{rules, ◌∙◌, ◌+◌, ◌*◌, ℕ, [], Err, Ok, inl, inr, replicate, subst, sym}
-use Rattle.ffs_lib.proofs.Words.{StayNamed, StoreState, latest, library_layout, propose_of}
+use Rattle.ffs_lib.proofs.Common.{StayNamed, StoreState, latest, library_layout, propose_of}
 use Rattle.ffs_lib.specs.Edits.{edit_at}
 use Rattle.ffs_lib.specs.Orders.{Edits, Orders, removed_edits, taken_edits}
 use Rattle.ffs_lib.specs.Replacing.{pair_of}

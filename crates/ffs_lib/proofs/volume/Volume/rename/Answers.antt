@@ -1,5 +1,5 @@
 use Rattle.std.proofs.Common.{◌≡◌, ◌-◌, ◌∙◌, ℕ, Some, arith, refl, rules, subst, sym, MatchResult, Result, Ok, Err}
-use Rattle.ffs_lib.proofs.Words.{FfsFault, IsLibrary, Slot, files_of, is_name, latest, moved, rename_in, renamed}
+use Rattle.ffs_lib.proofs.Common.{FfsFault, IsLibrary, Slot, files_of, is_name, latest, moved, rename_in, renamed}
 use Rattle.ffs_lookup.proofs.ForCallers.{first_value, renamed_told, same_ok}
 use Rattle.ffs_lib.specs.Orders.{InOrder, Orders, moved_parts, removed_edits}
 use Rattle.ffs_lib.specs.Results.{MovedInodes}

@@ -1,5 +1,5 @@
 use Rattle.std.proofs.Common.{◌≡◌, ◌∙◌, Ok, refl, rules, subst, sym, true, ◌==◌}
-use Rattle.ffs_lib.proofs.Words.{Slot, files_of, latest, replaced}
+use Rattle.ffs_lib.proofs.Common.{Slot, files_of, latest, replaced}
 use Rattle.ffs_lookup.proofs.ForCallers.{same_ok}
 use Rattle.ffs_lib.specs.Orders.{InOrder, replaced_parts}
 use Rattle.ffs_lib.specs.Replacing.{NamesStand, Replaced, replace_in}

@@ -1,5 +1,5 @@
 use Rattle.std.proofs.Common.{None, Option, inl, refl, subst, IfSome}
-use Rattle.ffs_lib.proofs.Words.{IsFree, IsLowest, latest}
+use Rattle.ffs_lib.proofs.Common.{IsFree, IsLowest, latest}
 use Rattle.ffs_lookup.specs.declared.places.Free.{Free}
 use Rattle.ffs_lib.specs.Volumes.{edits_of}
 use Rattle.ffs_lib.proofs.NewOrder.{adds_done, free_there}

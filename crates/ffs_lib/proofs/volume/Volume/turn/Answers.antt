@@ -1,5 +1,5 @@
 use Rattle.std.proofs.Common.{◌≡◌, ◌∙◌, ◌*◌, ℕ, List, [], Some, ap, subst, sym, w16}
-use Rattle.ffs_lib.proofs.Words.{IsLibrary, Slot, latest, to_le_bytes}
+use Rattle.ffs_lib.proofs.Common.{IsLibrary, Slot, latest, to_le_bytes}
 use Rattle.ffs_lookup.proofs.ForCallers.{same_ok}
 use Rattle.ffs_lib.specs.Edits.{edit_at}
 use Rattle.ffs_lib.specs.Orders.{Orders, turned_edits}

@@ -1,5 +1,5 @@
 use Rattle.std.proofs.Common.{◌∙◌, ◌+◌, ap, length, refl, subst, sym, rules, eqb-true}
-use Rattle.ffs_lib.proofs.Words.{StoreState, eqb-false, file_end, files_of, latest, mapped, nil_from_length, write_in, written}
+use Rattle.ffs_lib.proofs.Common.{StoreState, eqb-false, file_end, files_of, latest, mapped, nil_from_length, write_in, written}
 use Rattle.ffs_lookup.proofs.ForCallers.{written_told}
 use Rattle.ffs_lib.specs.Volumes.{edits_of}
 use Rattle.ffs_lib.specs.WriteOrder.{ShowsWhole, after_in}

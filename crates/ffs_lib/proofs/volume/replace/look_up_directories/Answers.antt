@@ -1,5 +1,5 @@
 use Rattle.std.proofs.Common.{sym}
-use Rattle.ffs_lib.proofs.Words.{err_from_is_err_and}
+use Rattle.ffs_lib.proofs.Common.{err_from_is_err_and}
 use Rattle.ffs_lib.proofs.Replacing.{both_are_found, no_home, no_target, one_is_file, one_is_no_name}
 use Rattle.ffs_lib.proofs.volume.replace.look_up_directories.Goals as goal
 

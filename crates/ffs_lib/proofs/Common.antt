@@ -1,4 +1,4 @@
--- The words of the crates below that these proofs use, and lemmas of the library, by crate.
+-- What these proofs use of the crates below: their definitions, and lemmas of the library.
 -- the library
 pub use Rattle.std.proofs.Math.Nat.{max-eq_left, max-eq_right, min-eq_left, min-eq_right}
 pub use Rattle.std.proofs.Math.Seq.{drop-append-add, take-append-add, take-append_seam, take-length}
