@@ -36,19 +36,6 @@ module _ (u w : ℕ → List ℕ) (fs d : ℕ) (name : List ℕ) (other : ℕ) (
   pub still_one : (entry : Slot) → Ok entry ≡ named_in w fs d name → entry ≡ slot
   still_one entry again = same_ok entry slot (again ∙ sym still_there)
 
-  -- two links at least
-  many : 1 ≤ inode_links x.own → (inode : List ℕ) → Ok inode ≡ inode_in w fs slot.inode → 1 < inode_links inode
-  many linked inode i =
-      elim (cases_eq slot.inode other) [
-        | inr ne ↦ let one = z.linked.links x.own inode x.is_own (i ∙ (z.entered.others slot.inode ne).0) in omega (arith, one, linked)
-        | inl e ↦
-            let at = directory_from u fs other x.to x.is_to in
-            let to1 = z.linked.before other x.to at.0 in
-            let more = z.entered.more to1.after (directory_to z.middle fs other to1.after to1.found (to1.mode ∙ at.1)) in
-            let same : inode_links inode ≡ inode_links more.after = ap inode_links (same_ok inode more.after (i ∙ (ap (inode_in w fs) e ∙ sym (directory_from w fs other more.after more.directory).0))) in
-            omega (arith, z.linked.links x.own to1.after x.is_own (to1.found ∙ ap (inode_in z.middle fs) (sym e)), linked, same, more.links)
-      ]
-
   -- the directory that is entered has an entry more
   more_listed : (inode after : List ℕ) → Ok inode ≡ directory_in u fs other → Ok after ≡ directory_in w fs other → listing w after ≡ listing u inode → ⊥
   more_listed inode after i now same =
@@ -116,6 +103,19 @@ module _ (u w : ℕ → List ℕ) (fs d : ℕ) (name : List ℕ) (other : ℕ) (
       | inr p ↦ inr (λ same. p.0 (sym y.2.direct ∙ same), y.2.size ∙ (p.1 ∙ ap (λ (bs : List ℕ). 512 * length bs) (sym (same_blocks before y.2.after y.2.direct))))
     ],
   )
+
+  -- two links at least
+  many : 1 ≤ inode_links x.own → (inode : List ℕ) → Ok inode ≡ inode_in w fs slot.inode → 1 < inode_links inode
+  many linked inode i =
+      elim (cases_eq slot.inode other) [
+        | inr ne ↦ let one = z.linked.links x.own inode x.is_own (i ∙ (z.entered.others slot.inode ne).0) in omega (arith, one, linked)
+        | inl e ↦
+            let at = directory_from u fs other x.to x.is_to in
+            let to1 = z.linked.before other x.to at.0 in
+            let more = z.entered.more to1.after (directory_to z.middle fs other to1.after to1.found (to1.mode ∙ at.1)) in
+            let same : inode_links inode ≡ inode_links more.after = ap inode_links (same_ok inode more.after (i ∙ (ap (inode_in w fs) e ∙ sym (directory_from w fs other more.after more.directory).0))) in
+            omega (arith, z.linked.links x.own to1.after x.is_own (to1.found ∙ ap (inode_in z.middle fs) (sym e)), linked, same, more.links)
+      ]
 
   module _ (once : AreBlocksOnce w fs) (at : ℕ × ℕ) (room_at : Some at ≡ room (blocks_value u x.to)) where
     -- the directory that is entered

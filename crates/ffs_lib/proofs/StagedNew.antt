@@ -74,9 +74,6 @@ module _ (T : Types) (lib : IsLibrary T) (fs : ℕ) (few : fs < 32) (d : ℕ) (n
   abbrev u : ℕ → List ℕ
   u = latest old.lives
 
-  abbrev w : ℕ → List ℕ
-  w = latest new.lives
-
   abbrev files : Files
   files = files_of u fs
 
@@ -90,6 +87,9 @@ module _ (T : Types) (lib : IsLibrary T) (fs : ℕ) (few : fs < 32) (d : ℕ) (n
             let made = made_inode_value (latest middle.lives) (latest q.0.lives) fs mode free.number value (is (latest q.0.lives)) q.1 in
             inr (inl (q.0, made ∙ ap (λ (f : Files). with_value f free.number value) block, q.2))
       ]
+
+  abbrev w : ℕ → List ℕ
+  w = latest new.lives
 
   module _ (inode : List ℕ) (found : Ok inode ≡ create_in u fs d name) where
     refused : (next : ℕ × Files) → Ok next ≡ created value files d name → (fault : FfsFault) → StopsMaking T fs old new d name mode fault → IsRefused T fs old new fault (made_stages value files d name next.0)

@@ -419,19 +419,6 @@ module _ (T : Types) (fs : ℕ) (array : ℕ → Option ℕ) (old middle : Store
   abbrev NoneStops : StoreState → FfsFault → Type 0
   NoneStops new y = IsRefused T fs old new y (some_stages all asked n offset bytes) × IsStage T fs new y (place_stages all asked n offset bytes progress.done)
 
-  takes_none : (new : StoreState) (fault : Option FfsFault) → new.next ≡ middle.next → Overwrites (latest old.lives) (latest new.lives) fs n inode offset bytes progress.done → fault ≢ None → ((x : FfsFault) → fault ≡ Some x → Stops (NoneStops new) x) →
-      (result : Result ℕ FfsFault) → IsTold fault result → Takes new result
-  takes_none new fault same o there stop (Ok count) fault_told =
-      takes_by new (Ok count) (ap (λ (t : Bool). if t then written_by T fs n inode offset bytes old new else (offset - file_end inode) + count) (eq-eqb count 0 fault_told.1) ∙ by_done new (stops_there new same)) o (
-        record { few = let z = fault_told.1 in omega (arith, z); leads = λ ne. absurd (ne fault_told.1); stopped = λ ne less. absurd (ne fault_told.1); none = λ z any. (told_stop fault_told.0).0 },
-        λ z any. (told_stop fault_told.0).1,
-      )
-    where
-      told_stop : (fault ≡ None) ⊎ (fault ≡ Some (Kernel TooManyPending)) → NoneStops new (Kernel TooManyPending)
-      told_stop (inl none) = absurd (there none)
-      told_stop (inr e) = (stop (Kernel TooManyPending) e).1
-  takes_none new fault same o there stop (Err other) fault_told = let s = stop other fault_told.2.0 in takes_by new (Err other) (by_done new (stops_there new same)) o ((fault_told.2.1, s.0, s.1.0), s.1.1)
-
   -- where it takes some
   takes_some : taken ≢ 0 → (new : StoreState) → Raises new (offset + taken) tt → TakesSome T fs all asked n offset bytes old new taken
   takes_some some new r = record {
@@ -454,6 +441,19 @@ module _ (T : Types) (fs : ℕ) (array : ℕ → Option ℕ) (old middle : Store
             subst (IsStage T fs middle x.0) (sym (next_are taken))
                 (inl (k.before, first_files old fs n offset inode is k.before bytes progress.done (omega (arith, k.low)) k.puts ∙ ap to here, subst (λ (at : ℕ). Refused at k.before x.0) here (refused x.0 k))),
           )
+
+  takes_none : (new : StoreState) (fault : Option FfsFault) → new.next ≡ middle.next → Overwrites (latest old.lives) (latest new.lives) fs n inode offset bytes progress.done → fault ≢ None → ((x : FfsFault) → fault ≡ Some x → Stops (NoneStops new) x) →
+      (result : Result ℕ FfsFault) → IsTold fault result → Takes new result
+  takes_none new fault same o there stop (Ok count) fault_told =
+      takes_by new (Ok count) (ap (λ (t : Bool). if t then written_by T fs n inode offset bytes old new else (offset - file_end inode) + count) (eq-eqb count 0 fault_told.1) ∙ by_done new (stops_there new same)) o (
+        record { few = let z = fault_told.1 in omega (arith, z); leads = λ ne. absurd (ne fault_told.1); stopped = λ ne less. absurd (ne fault_told.1); none = λ z any. (told_stop fault_told.0).0 },
+        λ z any. (told_stop fault_told.0).1,
+      )
+    where
+      told_stop : (fault ≡ None) ⊎ (fault ≡ Some (Kernel TooManyPending)) → NoneStops new (Kernel TooManyPending)
+      told_stop (inl none) = absurd (there none)
+      told_stop (inr e) = (stop (Kernel TooManyPending) e).1
+  takes_none new fault same o there stop (Err other) fault_told = let s = stop other fault_told.2.0 in takes_by new (Err other) (by_done new (stops_there new same)) o ((fault_told.2.1, s.0, s.1.0), s.1.1)
 
   -- by a count
   module _ (count : ℕ) (same : count ≡ taken) where

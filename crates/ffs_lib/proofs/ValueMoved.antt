@@ -28,14 +28,14 @@ module _ (u w : ℕ → List ℕ) (fs d : ℕ) (name : List ℕ) (other : ℕ) (
   to1_is : Ok to1.after ≡ directory_in m fs other
   to1_is = directory_to m fs other to1.after to1.found (to1.mode ∙ (directory_from u fs other x.to x.is_to).1)
 
-  more : HasMore m w fs other to1.after new_name slot.inode
-  more = z.entered.more to1.after to1_is
-
   direct_to : (i : ℕ) → i < 12 → direct_in to1.after i ≡ direct_in x.to i
   direct_to i lt = as_direct u m fs other x.to to1 i lt
 
   blocks_to : blocks_value m to1.after ≡ blocks_value u x.to
   blocks_to = blocks_same u m x.to to1.after direct_to to1.entries to1.size to1.each
+
+  more : HasMore m w fs other to1.after new_name slot.inode
+  more = z.entered.more to1.after to1_is
 
   module _ (entry : EntryAt u x.from name slot) (at : ℕ × ℕ) (room_at : Some at ≡ room (blocks_value u x.to)) where
     room_then : Some at ≡ room (blocks_value m to1.after)

@@ -135,12 +135,6 @@ module _ (T : Types) (zeroth first : StoreState) (h0 : IsConsistent T zeroth) (f
   begun_entry : (t : BlockState) → Contains start.pending t → t.entry ≡ zeroth.next
   begun_entry t i = elim (Contains-cons (first_state zeroth.next (Some fs) bytes) [] t i) [ inl e ↦ ap (λ (x : BlockState). x.entry) (sym e) | inr j ↦ absurd (Contains-none t j) ]
 
-  pub begun_newer : (from c : ℕ) → from ≤ zeroth.next → IsFrom from zeroth.lives c → IsFrom from first.lives c
-  begun_newer from c low older l t e i = elim (begun_was c l e) [
-    | inl p ↦ let is = begun_entry t (subst (λ (y : Life). Contains y.pending t) p.1 i) in omega (arith, is, low)
-    | inr old ↦ older l t old i
-  ]
-
   begun_any : (k : Choice) (o : Option ℕ) → TakesAny first.lives k o → TakesAny zeroth.lives k o
   begun_any k None t = tt
   begun_any k (Some n) t = takes_then T zeroth h0 block start r.within r.free refl k n (subst (λ (xs : Lives). Takes xs k n) r.lives t)
@@ -162,6 +156,12 @@ module _ (T : Types) (zeroth first : StoreState) (h0 : IsConsistent T zeroth) (f
         let one = one_chosen (k block) (first_state zeroth.next (Some fs) bytes) chosen.state (subst (λ (l : Life). last_or l.durable (take (k block) l.pending) ≡ Some chosen.state) life chosen.is) in
         subst (λ (l : Life). length l.pending ≤ k block) (sym p.1) one
     | inr old ↦ absurd (not_here block m old refl)
+  ]
+
+  pub begun_newer : (from c : ℕ) → from ≤ zeroth.next → IsFrom from zeroth.lives c → IsFrom from first.lives c
+  begun_newer from c low older l t e i = elim (begun_was c l e) [
+    | inl p ↦ let is = begun_entry t (subst (λ (y : Life). Contains y.pending t) p.1 i) in omega (arith, is, low)
+    | inr old ↦ older l t old i
   ]
 
   module _ (new : StoreState) (h : IsConsistent T first) (b : ℕ) (edit : Edit) (entry : ℕ) (done : propose_of T first fs b edit ≡ Ok (entry, new)) (adds : Contains edit.adds (block, ty)) (at from : ℕ) (last : Last) (comes : edit.after ≡ last.edit) (w : Waits at from zeroth.lives last) where

@@ -152,15 +152,15 @@ module _ (T : Types) (fs : ℕ) (array : ℕ → Option ℕ) (old middle : Store
       subst (λ (m : List ℕ). WritesSomeInOrder T fs n m offset bytes old new result) (same_ok inode other (b.is ∙ sym (looked (latest old.lives) fs n (offset + length bytes) other found).0))
       (some_order_of T fs n inode offset bytes old new result b.there h)
 
-  none_by : (new : StoreState) → Before new → (result : Result ℕ FfsFault) → IfOk result (λ count. count ≡ 0) → InOrderSome new result
-  none_by new stops (Ok count) z = some_in_order new (Ok count) (λ ne. absurd (ne z), λ e. stops)
-  none_by new stops (Err fault) z = some_in_order new (Err fault) stops
-
   -- behind the offset or not
   before_by : (new : StoreState) → stops_at T fs n inode offset bytes old new ≡ at → (t : Bool) → nat_lt offset at ≡ t → Where t (TakesUpTo T fs n inode offset bytes taken old (λ last m. SizeStops T fs n at last m new)) (StopsThere T fs n inode offset bytes at old new) → Before new
   before_by new e t is h =
       subst (λ (x : ℕ). StopsBefore T fs n inode offset bytes x old new) (sym e)
       (subst (λ (u : Bool). Where u (TakesUpTo T fs n inode offset bytes taken old (λ last m. SizeStops T fs n at last m new)) (StopsThere T fs n inode offset bytes at old new)) (sym is) h)
+
+  none_by : (new : StoreState) → Before new → (result : Result ℕ FfsFault) → IfOk result (λ count. count ≡ 0) → InOrderSome new result
+  none_by new stops (Ok count) z = some_in_order new (Ok count) (λ ne. absurd (ne z), λ e. stops)
+  none_by new stops (Err fault) z = some_in_order new (Err fault) stops
 
   module _ (count : ℕ) (same : count ≡ taken) where
     pub taken_place : count ≢ 0 → at ≡ offset + count
