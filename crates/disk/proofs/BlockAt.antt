@@ -1,11 +1,9 @@
 -- Laws of the blocks of an image, for callers too.
-use Rattle.std.proofs.Common.{◌≡◌, ◌≢◌, ℕ, ◌+◌, ◌-◌, ◌*◌, ◌/◌, ◌%◌, ◌<◌, ◌≤◌, List, ◌++◌, length, take, drop, get_or, inl, inr, arith, sym, ap, ◌∙◌}
+use Rattle.std.proofs.Common.{◌≡◌, ℕ, ◌+◌, ◌-◌, ◌*◌, ◌/◌, ◌%◌, ◌<◌, ◌≤◌, List, ◌++◌, length, take, drop, get_or, arith, sym, ap, ◌∙◌}
 use Rattle.std.proofs.lemmas.Grind.{common_steps}
 use Rattle.std.proofs.lemmas.List.{ext_get_or, get_or-drop, get_or-take, take-append-drop}
-use Rattle.std.proofs.lemmas.Slice.{drop-append-drop}
-use Rattle.std.proofs.lemmas.Bool.{cases_lt}
 use Rattle.std.proofs.lemmas.List.FromFn.{length-map-range_with_len}
-use Rattle.disk.specs.Images.{block_of_image, image_blocks, image_with_block}
+use Rattle.disk.specs.Images.{block_of_image, image_blocks}
 
 pub block_at-append_front : (xs ys : List ℕ) (k : ℕ) → 512 * k + 512 ≤ length xs → block_of_image (xs ++ ys) k ≡ block_of_image xs k
 block_at-append_front xs ys k h = grind (arith, common_steps)
@@ -37,26 +35,3 @@ block_at-same a b n la lb same = ext_get_or 0 a b (la ∙ sym lb) (λ i h.
 pub length-blocks_of : (image : List ℕ) → length (image_blocks image) ≡ length image / 512
 unfolding image_blocks
 length-blocks_of image = length-map-range_with_len (block_of_image image) 0 (length image / 512)
-
--- a block written into an image: that block is the new one, and all others stay
-pub length-with_block : (image : List ℕ) (k : ℕ) (bytes : List ℕ) → 512 * k + 512 ≤ length image → length bytes ≡ 512
-    → length (image_with_block image k bytes) ≡ length image
-length-with_block image k bytes h l = grind (arith, common_steps)
-
-pub block_at-with_block_same : (image : List ℕ) (k : ℕ) (bytes : List ℕ) → 512 * k + 512 ≤ length image → length bytes ≡ 512
-    → block_of_image (image_with_block image k bytes) k ≡ bytes
-block_at-with_block_same image k bytes h l = grind (arith, common_steps)
-
-pub block_at-with_block_other : (image : List ℕ) (k j : ℕ) (bytes : List ℕ) → 512 * k + 512 ≤ length image → length bytes ≡ 512
-    → j ≢ k → block_of_image (image_with_block image k bytes) j ≡ block_of_image image j
-block_at-with_block_other image k j bytes h l n =
-    let front = take (512 * k) image in
-    let back = drop (512 * k + 512) image in
-    elim (cases_lt j k) [
-      | inl before ↦
-          block_at-append_front (front ++ bytes) back j (grind (arith, common_steps)) ∙ (block_at-append_front front bytes j (grind (arith, common_steps))
-          ∙ (sym (block_at-append_front front (drop (512 * k) image) j (grind (arith, common_steps))) ∙ ap (λ xs. block_of_image xs j) (take-append-drop (512 * k) image)))
-      | inr after ↦
-          let past : 512 * k + 512 ≤ 512 * j = omega arith in
-          ap (take (512 * j + 512 - 512 * j)) (drop-append-drop (512 * k + 512) image (front ++ bytes) (512 * j) past (grind (arith, common_steps)))
-    ]

@@ -1,4 +1,4 @@
-use Rattle.std.specs.Prelude.{◌≡◌, ℕ, ◌+◌, ◌*◌, ◌/◌, ◌<◌, List, ◌++◌, length, take, drop, map, Option, Some, slice_get, slice_range}
+use Rattle.std.specs.Prelude.{◌≡◌, ℕ, ◌+◌, ◌*◌, ◌/◌, ◌<◌, List, length, map, Option, Some, slice_get, slice_range}
 use Rattle.std.specs.List.{range_with_len}
 
 -- the bytes of one block of an image
@@ -8,10 +8,6 @@ block_of_image image block = slice_range image (512 * block) (512 * block + 512)
 -- the blocks of an image, in order
 unfoldable pub image_blocks : List ℕ → List (List ℕ)
 image_blocks image = map (block_of_image image) (range_with_len 0 (length image / 512))
-
--- the image with one block replaced
-abbrev pub image_with_block : List ℕ → ℕ → List ℕ → List ℕ
-image_with_block image block bytes = take (512 * block) image ++ bytes ++ drop (512 * block + 512) image
 
 -- Every place has its lane, and the bytes of the lanes, one after another, are the image.
 pub record HoldsBytes {L : Type 0} (bytes_of : L → List ℕ) (places : List (Option L)) (image : List ℕ) : Type 0 where
