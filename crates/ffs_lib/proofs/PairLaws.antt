@@ -30,10 +30,10 @@ pub pairs_then : (fs : ℕ) (old middle new : StoreState) → ((p : SlotPair) �
 pairs_then fs old middle new direct one two = λ first p after d x. two first p after (direct p d) (one first p after d x)
 
 module _ (T : Types) (fs : ℕ) (array : ℕ → Option ℕ) (old : StoreState) (s : Stage T fs array old) where
-  direct_under : (b : ℕ) → IsDirect (latest old.lives) fs b → Under T (latest old.lives) fs b 2
-  direct_under b d = under_direct T library_layout (library_reads T s.library) (latest old.lives) fs d.index d.block d.place b d.inodes d.has
-
   module _ (new : StoreState) (c u : ℕ) (edit : Edit) (entry : ℕ) (done : propose_of T old fs c edit ≡ Ok (entry, new)) (at : Under T (latest old.lives) fs c u) where
+    direct_under : (b : ℕ) → IsDirect (latest old.lives) fs b → Under T (latest old.lives) fs b 2
+    direct_under b d = under_direct T library_layout (library_reads T s.library) (latest old.lives) fs d.index d.block d.place b d.inodes d.has
+
     pub pairs_other : u ≢ 2 → KeepsPairs fs old new
     pairs_other ne = λ first p after d x. stands_other T library_layout first old new s.keeps.consistent fs c edit entry done p (apart p.from.0 d.from) (apart p.to.0 d.to) after x
       where

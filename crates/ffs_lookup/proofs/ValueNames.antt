@@ -74,17 +74,6 @@ module _ (content : ℕ → List ℕ) where
   abbrev pub both_parts : List ℕ × List ℕ → (ℕ × Blocks) × (ℕ × Blocks)
   both_parts p = (directory_parts content p.0, directory_parts content p.1)
 
-  directories_are : (a b : List ℕ) → inode_mode a == 0 ≡ false → inode_mode b == 0 ≡ false →
-      directories (inode_value content a) (inode_value content b) ≡ (if (inode_mode a == 2) && (inode_mode b == 2) then Ok (both_parts (a, b)) else Err NotDir)
-  directories_are a b e f =
-      ap (λ v. directories v (inode_value content b)) (value_used content a e) ∙ (ap (directories (kind a (inode_mode a == 2))) (value_used content b f) ∙ go (inode_mode a == 2) (inode_mode b == 2))
-    where
-      go : (t u : Bool) → directories (kind a t) (kind b u) ≡ (if t && u then Ok (both_parts (a, b)) else Err NotDir)
-      go true true = refl
-      go true false = refl
-      go false true = refl
-      go false false = refl
-
   module _ (fs : ℕ) where
     abbrev files : Files
     files = files_of content fs
@@ -197,6 +186,17 @@ module _ (content : ℕ → List ℕ) where
     -- Two directories, where both names are names
 
     module _ (d : ℕ) (name : List ℕ) (other : ℕ) (new_name : List ℕ) where
+      directories_are : (a b : List ℕ) → inode_mode a == 0 ≡ false → inode_mode b == 0 ≡ false →
+          directories (inode_value content a) (inode_value content b) ≡ (if (inode_mode a == 2) && (inode_mode b == 2) then Ok (both_parts (a, b)) else Err NotDir)
+      directories_are a b e f =
+          ap (λ v. directories v (inode_value content b)) (value_used content a e) ∙ (ap (directories (kind a (inode_mode a == 2))) (value_used content b f) ∙ go (inode_mode a == 2) (inode_mode b == 2))
+        where
+          go : (t u : Bool) → directories (kind a t) (kind b u) ≡ (if t && u then Ok (both_parts (a, b)) else Err NotDir)
+          go true true = refl
+          go true false = refl
+          go false true = refl
+          go false false = refl
+
       abbrev pub if_both : List ℕ → List ℕ → Result (List ℕ × List ℕ) FfsFault
       if_both from to = if (inode_mode from == 2) && (inode_mode to == 2) then (if is_name name && is_name new_name then Ok (from, to) else Err BadName) else Err NotDir
 
