@@ -230,17 +230,17 @@ impl Cache {
         }
     }
 
-    /// Writes into `bytes` what the first pending entries of a block in use leave.
+    /// What the first pending entries of a block in use leave.
     #[inline(always)]
-    pub fn image_into(&self, block: u32, count: u32, bytes: &mut [u8; 512])
+    pub fn image(&self, block: u32, count: u32) -> [u8; 512]
         requires alive { IsTrue (is_some (life_at self.now block)) }
         requires has { IfSome (life_at self.now block) (HasImage count) }
-        ensures { IfSome (life_at self.now block) (λ l. bytes.new ≡ image_at count l) }
+        ensures { IfSome (life_at self.now block) (λ l. result ≡ image_at count l) }
     {
         let Some(life) = self.places.life(block) else {
             unreachable!()
         };
-        rollback::image_into(&self.entries, life, count as usize, bytes);
+        rollback::image_of(&self.entries, life, count as usize)
     }
 
     /// One more entry of a block in use, which leaves these bytes, and the bytes that it overwrites.

@@ -185,16 +185,14 @@ impl<L: Lane> Kernel<L> {
         let Some(lane) = self.lanes.take(block) else {
             unreachable!()
         };
-        let mut ticket = Ticket {
+        Ok(Ticket {
             kernel: self.id,
             block,
             count,
-            bytes: [0; 512],
+            bytes: self.state.begin_counted(block, count),
             lane,
             unsynced: false,
-        };
-        self.state.begin_into(block, count, &mut ticket.bytes);
-        Ok(ticket)
+        })
     }
 
     /// Ends a write by what is read back: where the begun bytes stand there, the entries that it

@@ -6,13 +6,13 @@ use Rattle.std.proofs.lemmas.List.{take_all}
 use Rattle.std.proofs.lemmas.Slice.Eq.{bytes_eq-Decides}
 use Rattle.std.proofs.lemmas.Bool.{ne_eqb}
 use Rattle.std.proofs.lemmas.Option.{none-some, same_Some}
-use Rattle.xn_model.specs.Lives.{Life, Lives, StoreState, alive_and, begun_at, bytes_of, current, prefix_of}
+use Rattle.xn_model.specs.Lives.{Life, Lives, StoreState, alive_and, begun_at, bytes_of, current, life_at, prefix_of}
 use Rattle.xn_model.specs.declared.refusal.Refusal.{Refusal}
 use Rattle.xn_model.specs.Results.{first_refusal, result_map, unless}
 use Rattle.xn_model.specs.declared.refusal.Refusal.TheVariants.{NothingSafe, NoSuchBlock, NotInUse, InFlight, NotMine}
 use Rattle.xn_model.specs.Calls.{begun_of, begun_place, bytes_at, is_durable, life_bytes, life_pending, settled_count, settled_place}
 use Rattle.xn_model.specs.Rules.{IsCount}
-use Rattle.xn_model.proofs.ForCallers.{never_ok, same_ok, unless_passed}
+use Rattle.xn_model.proofs.ForCallers.{change_same, never_ok, same_ok, unless_passed}
 use Rattle.block_cache.specs.declared.life.Facts.{Facts}
 use Rattle.block_cache.specs.Views.{facts_of, image_at}
 use Rattle.xn_state.proofs.Lasts.{image_of_some}
@@ -44,6 +44,24 @@ begun_carries lives (Some (Some l)) count bytes e some within image =
     let given = given_count (first_refusal ((is_some l.begun, InFlight) ∷ (k == 0, NothingSafe) ∷ [])) (bytes_at k l, k) count e in
     let there = image ∙ image_of_some l count some within in
     given.0 ∙ ((λ i. Ok (bytes_at (given.1 i) l, given.1 i)) ∙ (λ i. Ok (sym there i, count)))
+
+-- what a block has pending stays as a write of it begins, and so does what the first of it leave
+abbrev begun_with : ℕ → Life → Life
+begun_with k l = record l { begun = Some k }
+
+pub begun_has : (lives : Lives) (b k count : ℕ) → count ≤ life_pending (life_at lives b) → count ≤ life_pending (life_at (begun_at lives b k) b)
+begun_has lives b k count few = subst (λ (o : Option Life). count ≤ life_pending o) (sym (change_same lives b (begun_with k))) (has (life_at lives b) few)
+  where
+    has : (o : Option Life) → count ≤ life_pending o → count ≤ life_pending (option_map (begun_with k) o)
+    has None few = few
+    has (Some l) few = few
+
+pub begun_image : (lives : Lives) (b k : ℕ) (bytes : List ℕ) → IfSome (life_at (begun_at lives b k) b) (λ l. bytes ≡ image_at k l) → IfSome (life_at lives b) (λ l. bytes ≡ image_at k l)
+begun_image lives b k bytes image = of (life_at lives b) (subst (λ (o : Option Life). IfSome o (λ l. bytes ≡ image_at k l)) (change_same lives b (begun_with k)) image)
+  where
+    of : (o : Option Life) → IfSome (option_map (begun_with k) o) (λ l. bytes ≡ image_at k l) → IfSome o (λ l. bytes ≡ image_at k l)
+    of None image = image
+    of (Some l) image = image
 
 -- of a block of a state
 pub begun_of_place : (state : StoreState) (b : ℕ) → result_map (λ (begun : (List ℕ × ℕ) × StoreState). begun.0.1) (begun_of state b) ≡ result_map (λ (begun : List ℕ × ℕ). begun.1) (begun_place state.lives (slice_get state.lives b))

@@ -180,9 +180,7 @@ impl State {
         ensures state { GivesExactly (begun_of self.old block) self.old self.new result }
     {
         let count = self.begun_count(block)?;
-        let mut bytes = [0u8; 512];
-        self.begin_into(block, count, &mut bytes);
-        Ok((bytes, count))
+        Ok((self.begin_counted(block, count), count))
     }
 
     /// How many entries a write of a block carries that begins now.
@@ -194,16 +192,17 @@ impl State {
         self.lives.begun(block)
     }
 
-    /// Begins a write of a block, where the first pending entries may be written, and writes what they leave into `bytes`.
+    /// Begins a write of a block, where so many of its first pending entries may be written: the bytes that they leave. They come last, so
+    /// that they are made where the caller wants them.
     #[inline(always)]
-    pub fn begin_into(&mut self, block: u32, count: u32, bytes: &mut [u8; 512])
+    pub fn begin_counted(&mut self, block: u32, count: u32) -> [u8; 512]
         requires count { result_map (λ begun. begun.0.1) (begun_of self.old block) ≡ Ok count }
         requires some { 1 ≤ count }
         requires within { count ≤ life_pending (life_at self.old.lives block) }
-        ensures { begun_of self.old block ≡ Ok ((bytes.new, count), self.new) }
+        ensures { begun_of self.old block ≡ Ok ((result, count), self.new) }
     {
-        self.lives.image_into(block, count, bytes);
         self.lives.begin(block, count);
+        self.lives.image(block, count)
     }
 
     /// Ends a write of a block by the bytes that are read back: how many entries are durable now,

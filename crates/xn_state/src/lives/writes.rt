@@ -37,14 +37,14 @@ impl Lives {
         Ok(count)
     }
 
-    /// Writes into `bytes` what the first pending entries of a block leave.
+    /// What the first pending entries of a block leave.
     #[inline(always)]
-    pub fn image_into(&self, block: u32, count: u32, bytes: &mut [u8; 512])
+    pub fn image(&self, block: u32, count: u32) -> [u8; 512]
         requires some { 1 ≤ count }
         requires within { count ≤ life_pending (life_at self.now block) }
-        ensures { IfSome (life_at self.now block) (λ l. bytes.new ≡ image_at count l) }
+        ensures { IfSome (life_at self.now block) (λ l. result ≡ image_at count l) }
     {
-        self.cache.image_into(block, count, bytes);
+        self.cache.image(block, count)
     }
 
     /// Whether a block in use has these bytes once only its first pending entries are done.

@@ -14,4 +14,4 @@ unreachable-requires g c =
 
 pub invariant_of-self : goal.invariant_of-self
 invariant_of-self g c =
-    rw c.take.ensures.rest (begun_so g.L.Lane.bytes_of g.L.Lane.crash_leaves c.self.inside.lanes c.self.inside.state c.begin_into.new.self c.self.invariant c.args.block (c.begin_into.new.bytes, c.in_ok-count.count) c.begin_into.ensures)
+    rw c.take.ensures.rest (begun_so g.L.Lane.bytes_of g.L.Lane.crash_leaves c.self.inside.lanes c.self.inside.state c.begin_counted.new.self c.self.invariant c.args.block (c.begin_counted.result, c.in_ok-count.count) c.begin_counted.ensures)
