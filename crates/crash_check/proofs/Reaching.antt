@@ -1,5 +1,5 @@
 -- The reached blocks as a map: each named block is put behind those before it.
-use Rattle.std.proofs.Common.{subst, map, option_map, ◌≡◌, ℕ, suc, zero, Bool, true, false, ◌||◌, ◌<◌, List, [], ◌∷◌, ◌++◌, Option, Some, None, refl, sym, ap, ◌∙◌, nat_eq, slice_get, take, true≢false, is_some}
+use Rattle.std.proofs.Common.{subst, map, option_map, ◌≡◌, ℕ, suc, zero, Bool, true, false, ◌||◌, List, [], ◌∷◌, ◌++◌, Some, refl, sym, ap, ◌∙◌, nat_eq, slice_get, take, true≢false, is_some}
 use Rattle.std.specs.List.{IsDistinct, list_any}
 use Rattle.std.specs.Map.{keys_of}
 use Rattle.std.proofs.lemmas.Cmp.{nat_eq_equiv}

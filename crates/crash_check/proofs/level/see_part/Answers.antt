@@ -14,4 +14,4 @@ loop-k-preserved c =
     let view = option_map (λ w. map numbers_of_pair w.items) in
     ap (map view) c.in_ok-push.ensures.items
     ∙ part_more view (visit_sees_at T (block_of c.args.blocks.now)) c.args.named.now.entries c.args.from c.loop-k.k c.loop-k.level.items x c.in_ok-seen.seen
-    (omega (arith, c.loop-k.auto.k)) c.get-number.ensures (c.in_ok-seen.ensures ∙ ap (visit_sees T x.1.ty) c.block.ensures) c.loop-k.invariant
+    (omega (arith, c.loop-k.auto.k)) c.get-number.ensures (c.in_ok-seen.ensures ∙ ap (visit_sees T x.1.ty) c.block-block.ensures) c.loop-k.invariant
