@@ -51,6 +51,28 @@ fn parse_template(text: &str) -> Option<[u8; 512]>
     }
 }
 
+/// Whether a text spells a fresh block's bytes. It is not inlined, so that no other line clears the room of a block for it.
+#[inline(never)]
+fn is_block(text: &str) -> bool
+    ensures { MatchBool result (IsBlockText text.now × ((block : List ℕ) × SpellsBlock text.now block)) (¬ IsBlockText text.now) }
+{
+    match parse_block(text) {
+        Some(_block) => true,
+        None => false,
+    }
+}
+
+/// Whether a text spells a template's bytes. It is not inlined either.
+#[inline(never)]
+fn is_template(text: &str) -> bool
+    ensures { MatchBool result (IsHex text.now × ((block : List ℕ) × SpellsBlock text.now block)) (¬ IsHex text.now) }
+{
+    match parse_template(text) {
+        Some(_block) => true,
+        None => false,
+    }
+}
+
 /// Whether what a line tells is an event: the text of a fresh block's bytes or of a template's has to spell them.
 fn is_event(told: &LineEvent) -> bool
     ensures { MatchBool result
@@ -58,14 +80,8 @@ fn is_event(told: &LineEvent) -> bool
         ((words : List (List ℕ)) → SpellsEvent words told.now → SpellNothing words) }
 {
     match told {
-        LineEvent::Init(_, _, text) => match parse_block(text) {
-            Some(_block) => true,
-            None => false,
-        },
-        LineEvent::Install(text) => match parse_template(text) {
-            Some(_block) => true,
-            None => false,
-        },
+        LineEvent::Init(_, _, text) => is_block(text),
+        LineEvent::Install(text) => is_template(text),
         _ => true,
     }
 }
