@@ -119,12 +119,17 @@ fn put_install(text: &str, event: &mut Event)
     *event = Event::Install(bytes);
 }
 
-/// Leaves the event that a line tells in `event`. It is not inlined, so that its room is not cleared once more where it is called.
+/// Leaves the event that a line tells in `event`. That holds a `Begin` until then, as nothing is to be dropped here: each of these assignments would
+/// clear room for an edit to drop. It is not inlined, so that its room is not cleared once more where it is called.
 #[inline(never)]
 fn put_told(told: LineEvent, event: &mut Event)
-    requires { IsSpelledOut told }
+    requires told { IsSpelledOut told }
+    requires small { event.old ≡ Event.Begin 0 }
     ensures { (words : List (List ℕ)) → SpellsEvent words told.entry → Spells words event.new }
 {
+    let Event::Begin(_) = event else {
+        unreachable!()
+    };
     match told {
         LineEvent::Init(fs, ty, text) => put_init(fs, ty, text, event),
         LineEvent::Edit(fs, block, edit) => put_edit(fs, block, edit, event),
@@ -162,9 +167,10 @@ impl<'a> ScriptLine<'a> {
         Ok(Some(ScriptLine { text, told }))
     }
 
-    /// Leaves the event that the line spells in `event`. An event has room for a block, and this one is not copied.
+    /// Leaves the event that the line spells in `event`, which holds `Begin(0)` until then. An event has room for a block, and this one is not copied.
     #[inline(always)]
     pub fn event_into(self, event: &mut Event)
+        requires { event.old ≡ Event.Begin 0 }
         ensures { LineSpells self.entry event.new }
     {
         let ScriptLine { text: _, told } = self;
