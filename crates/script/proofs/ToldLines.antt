@@ -1,5 +1,6 @@
 -- What a line tells is an event.
-use Rattle.std.proofs.Common.{◌≡◌, List, ℕ, refl}
+use Rattle.std.proofs.Common.{◌≡◌, Bool, true, false, List, ℕ, refl}
+use Rattle.std.specs.Prelude.{MatchBool}
 use Rattle.xn_state.specs.declared.call.Call.TheVariants.{Propose, MakeRoot, DropRoot, Forget, Read, Pending, Floor, Pick, Drain}
 use Rattle.events.specs.declared.event.Event.{Event}
 use Rattle.events.specs.declared.event.Event.TheVariants as event
@@ -7,6 +8,11 @@ use Rattle.script.specs.declared.told.LineEvent.{LineEvent}
 use Rattle.script.specs.declared.told.LineEvent.TheVariants as line
 use Rattle.script.specs.Events.{Spells}
 use Rattle.script.specs.Told.{IsSpelledOut, SpellsEvent}
+
+-- what follows from either side of a test
+pub either : {P Q P2 Q2 : Type 0} (b : Bool) → (P → P2) → (Q → Q2) → MatchBool b P Q → MatchBool b P2 Q2
+either true left right h = left h
+either false left right h = right h
 
 -- any but a fresh block and a template
 pub told_event : (words : List (List ℕ)) (told : LineEvent) → ((fs : _) (ty : _) (text : _) → told ≡ line.Init fs ty text → ⊥) → ((text : _) → told ≡ line.Install text → ⊥) → SpellsEvent words told → (e : Event) × Spells words e

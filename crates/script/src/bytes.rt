@@ -48,7 +48,9 @@ fn hex_pairs(bytes: &[u8]) -> ArrayVec<u8, 1024>
     digits
 }
 
-/// Prints a block's bytes without the zeros at their end, in pairs of digits, or `-` for none.
+/// Prints a block's bytes without the zeros at their end, in pairs of digits, or `-` for none. It is not inlined, so that no other reply clears the room
+/// of the digits for it.
+#[inline(never)]
 pub fn print_bytes<W: Write>(out: &mut W, bytes: &[u8; 512]) -> io::Result<()>
     ensures { OnOk result (Appends (W.contents out.old) (W.contents out.new) (bytes_text bytes.now)) }
 {

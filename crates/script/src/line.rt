@@ -1,7 +1,7 @@
 // A line of a script, with the event that it spells.
 
 ghost use Rattle.std.specs.Prelude.{◌≡◌, ◌↔◌, List, IfNone, IfOk, IfSome, IsSome, IsTrue, MatchBool, ℕ};
-ghost use Rattle.script.specs.Hex.{IsHex, SpellsBlock};
+ghost use Rattle.script.specs.Hex.{IsBlockText, IsHex, SpellsBlock};
 ghost use Rattle.events.specs.declared.event.Event.{Event};
 ghost use Rattle.script.specs.Events.{Spells, SpellNothing};
 ghost use Rattle.script.specs.Scripts.{LineSpells, SpellsSome, line_words};
@@ -10,10 +10,11 @@ ghost use Rattle.script.specs.Told.{IsSpelledOut, SpellsEvent};
 use crate::parse_block;
 use crate::told::LineEvent;
 use crate::words::read_line;
+use edit_list::Edit;
 use events::Event;
 use std::alloc::{AllocError, Global};
 use std::marker::Model;
-use xn_state::Call;
+use xn_state::{Call, Fs};
 
 /// A line of a script that spells an event, which was read from it. Clauses see the line's text.
 pub struct ScriptLine<'a> {
@@ -50,6 +51,28 @@ fn parse_template(text: &str) -> Option<[u8; 512]>
     }
 }
 
+/// Whether a text spells a fresh block's bytes. It is not inlined, so that no other line clears the room of a block for it.
+#[inline(never)]
+fn is_block(text: &str) -> bool
+    ensures { MatchBool result (IsBlockText text.now × ((block : List ℕ) × SpellsBlock text.now block)) (¬ IsBlockText text.now) }
+{
+    match parse_block(text) {
+        Some(_block) => true,
+        None => false,
+    }
+}
+
+/// Whether a text spells a template's bytes. It is not inlined either.
+#[inline(never)]
+fn is_template(text: &str) -> bool
+    ensures { MatchBool result (IsHex text.now × ((block : List ℕ) × SpellsBlock text.now block)) (¬ IsHex text.now) }
+{
+    match parse_template(text) {
+        Some(_block) => true,
+        None => false,
+    }
+}
+
 /// Whether what a line tells is an event: the text of a fresh block's bytes or of a template's has to spell them.
 fn is_event(told: &LineEvent) -> bool
     ensures { MatchBool result
@@ -57,63 +80,75 @@ fn is_event(told: &LineEvent) -> bool
         ((words : List (List ℕ)) → SpellsEvent words told.now → SpellNothing words) }
 {
     match told {
-        LineEvent::Init(_, _, text) => match parse_block(text) {
-            Some(_block) => true,
-            None => false,
-        },
-        LineEvent::Install(text) => match parse_template(text) {
-            Some(_block) => true,
-            None => false,
-        },
+        LineEvent::Init(_, _, text) => is_block(text),
+        LineEvent::Install(text) => is_template(text),
         _ => true,
     }
 }
 
-/// The event of the word `install` and the text behind it. It is not inlined, so that no other line clears the room of a template for it.
+/// Leaves the event of the word `init` and the text behind it in `event`. It is not inlined, so that no other line clears the room of a block for it.
 #[inline(never)]
-fn install_event(text: &str) -> Event
+fn put_init(fs: Fs, ty: u32, text: &str, event: &mut Event)
+    requires { IsBlockText text.now }
+    ensures { (block : List ℕ) × (event.new ≡ Event.Call fs (Call.Init ty block)) × SpellsBlock text.now block }
+{
+    let Some(bytes) = parse_block(text) else {
+        unreachable!()
+    };
+    *event = Event::Call(fs, Call::Init { ty, bytes });
+}
+
+/// Leaves the event of the word `edit` in `event`. It is not inlined either.
+#[inline(never)]
+fn put_edit(fs: Fs, block: u32, edit: Box<Edit>, event: &mut Event)
+    ensures { event.new ≡ Event.Call fs (Call.Propose block edit.value) }
+{
+    let edit = Box::into_inner(edit);
+    *event = Event::Call(fs, Call::Propose { block, edit });
+}
+
+/// Leaves the event of the word `install` and the text behind it in `event`. It is not inlined either.
+#[inline(never)]
+fn put_install(text: &str, event: &mut Event)
     requires { IsHex text.now }
-    ensures { (block : List ℕ) × (result ≡ Event.Install block) × SpellsBlock text.now block }
+    ensures { (block : List ℕ) × (event.new ≡ Event.Install block) × SpellsBlock text.now block }
 {
     let Some(bytes) = parse_template(text) else {
         unreachable!()
     };
-    Event::Install(bytes)
+    *event = Event::Install(bytes);
 }
 
-/// The event that a line tells. It is not inlined, so that its room is not cleared and copied once more where it is called.
+/// Leaves the event that a line tells in `event`. That holds a `Begin` until then, as nothing is to be dropped here: each of these assignments would
+/// clear room for an edit to drop. It is not inlined, so that its room is not cleared once more where it is called.
 #[inline(never)]
-fn told_event(told: LineEvent) -> Event
-    requires { IsSpelledOut told }
-    ensures { (words : List (List ℕ)) → SpellsEvent words told.entry → Spells words result }
+fn put_told(told: LineEvent, event: &mut Event)
+    requires told { IsSpelledOut told }
+    requires small { event.old ≡ Event.Begin 0 }
+    ensures { (words : List (List ℕ)) → SpellsEvent words told.entry → Spells words event.new }
 {
+    let Event::Begin(_) = event else {
+        unreachable!()
+    };
     match told {
-        LineEvent::Init(fs, ty, text) => {
-            let Some(bytes) = parse_block(text) else {
-                unreachable!()
-            };
-            Event::Call(fs, Call::Init { ty, bytes })
-        }
-        LineEvent::Edit(fs, block, edit) => {
-            let edit = Box::into_inner(edit);
-            Event::Call(fs, Call::Propose { block, edit })
-        }
-        LineEvent::MakeRoot(fs, block) => Event::Call(fs, Call::MakeRoot { block }),
-        LineEvent::DropRoot(fs) => Event::Call(fs, Call::DropRoot),
-        LineEvent::Forget(fs, block) => Event::Call(fs, Call::Forget { block }),
-        LineEvent::Read(fs, block) => Event::Call(fs, Call::Read { block }),
-        LineEvent::Pending(fs) => Event::Call(fs, Call::Pending),
-        LineEvent::Floor(fs) => Event::Call(fs, Call::Floor),
-        LineEvent::Pick(fs) => Event::Call(fs, Call::Pick),
-        LineEvent::Drain(fs) => Event::Call(fs, Call::Drain),
-        LineEvent::Install(text) => install_event(text),
-        LineEvent::Begin(block) => Event::Begin(block),
-        LineEvent::Land(block) => Event::Land(block),
-        LineEvent::Fail(block, new_bytes_stay) => Event::Fail(block, new_bytes_stay),
-        LineEvent::Sync(block) => Event::Sync(block),
-        LineEvent::FailSync(block) => Event::FailSync(block),
-        LineEvent::Finish(block) => Event::Finish(block),
-        LineEvent::Crash(kept) => Event::Crash(kept),
+        LineEvent::Init(fs, ty, text) => put_init(fs, ty, text, event),
+        LineEvent::Edit(fs, block, edit) => put_edit(fs, block, edit, event),
+        LineEvent::MakeRoot(fs, block) => *event = Event::Call(fs, Call::MakeRoot { block }),
+        LineEvent::DropRoot(fs) => *event = Event::Call(fs, Call::DropRoot),
+        LineEvent::Forget(fs, block) => *event = Event::Call(fs, Call::Forget { block }),
+        LineEvent::Read(fs, block) => *event = Event::Call(fs, Call::Read { block }),
+        LineEvent::Pending(fs) => *event = Event::Call(fs, Call::Pending),
+        LineEvent::Floor(fs) => *event = Event::Call(fs, Call::Floor),
+        LineEvent::Pick(fs) => *event = Event::Call(fs, Call::Pick),
+        LineEvent::Drain(fs) => *event = Event::Call(fs, Call::Drain),
+        LineEvent::Install(text) => put_install(text, event),
+        LineEvent::Begin(block) => *event = Event::Begin(block),
+        LineEvent::Land(block) => *event = Event::Land(block),
+        LineEvent::Fail(block, new_bytes_stay) => *event = Event::Fail(block, new_bytes_stay),
+        LineEvent::Sync(block) => *event = Event::Sync(block),
+        LineEvent::FailSync(block) => *event = Event::FailSync(block),
+        LineEvent::Finish(block) => *event = Event::Finish(block),
+        LineEvent::Crash(kept) => *event = Event::Crash(kept),
     }
 }
 
@@ -132,12 +167,13 @@ impl<'a> ScriptLine<'a> {
         Ok(Some(ScriptLine { text, told }))
     }
 
-    /// The event that the line spells.
+    /// Leaves the event that the line spells in `event`, which holds `Begin(0)` until then. An event has room for a block, and this one is not copied.
     #[inline(always)]
-    pub fn into_event(self) -> Event
-        ensures { LineSpells self.entry result }
+    pub fn event_into(self, event: &mut Event)
+        requires { event.old ≡ Event.Begin 0 }
+        ensures { LineSpells self.entry event.new }
     {
         let ScriptLine { text: _, told } = self;
-        told_event(told)
+        put_told(told, event);
     }
 }

@@ -166,6 +166,13 @@ impl MountedDisk {
         let _kernel = &self.kernel;
     }
 
+    /// It is up. This does nothing.
+    fn up(&self)
+        ensures { self.now.down ≡ false }
+    {
+        let _kernel = &self.kernel;
+    }
+
     /// How many blocks the disk has.
     fn blocks(&self) -> usize
         ensures { result ≡ length self.now.image }

@@ -1,6 +1,8 @@
 // The calls of clients.
 
+ghost use Rattle.std.specs.Prelude.{◌≢◌};
 ghost use Rattle.xn_model.specs.Worlds as model;
+ghost use Rattle.xn_state.specs.declared.call.Call.TheVariants.{Drain};
 ghost use Rattle.xn_state.specs.Answers.{call_of};
 ghost use Rattle.events.specs.Events.{reply_of};
 ghost use Rattle.world.specs.Worlds.{world_with};
@@ -11,15 +13,37 @@ use xn_kernel::DrainStop;
 use xn_state::{Answer, Call, Fs, Stopped};
 
 impl MountedDisk {
-    /// A client's call.
+    /// A client's call. Its answer is left in `reply` at once where it is short.
     #[inline(always)]
     pub(crate) fn call(&mut self, fs: Fs, call: &Call, reply: &mut Reply)
         ensures { model.Step (world_with self.old) (model.Client fs.number (call_of call.now)) (reply_of reply.new) (world_with self.new) }
     {
+        self.up();
         match call {
-            Call::Drain => *reply = self.drain(fs),
-            _ => *reply = Reply::Answered(self.kernel.call(fs, call)),
+            Call::Init { ty, bytes } => *reply = Reply::Answered(Answer::Init(self.init(
+                fs, *ty, bytes,
+            ))),
+            Call::Propose { block, edit } => *reply = Reply::Answered(Answer::Propose(self.propose(
+                fs, *block, edit,
+            ))),
+            Call::Forget { block } => *reply = Reply::Answered(Answer::Forget(self.forget(
+                fs, *block,
+            ))),
+            Call::Pending => *reply = Reply::Answered(Answer::Pending(self.pending(fs))),
+            Call::Floor => *reply = Reply::Answered(Answer::Floor(self.floor(fs))),
+            Call::Pick => *reply = Reply::Answered(Answer::Pick(self.pick())),
+            Call::Drain => self.drain(fs, reply),
+            _ => self.answer(fs, call, reply),
         }
+    }
+
+    /// A call whose answer may be a block's bytes, or that comes seldom. It is not inlined, so that no other call clears the room of such an answer.
+    #[inline(never)]
+    fn answer(&mut self, fs: Fs, call: &Call, reply: &mut Reply)
+        requires { call.now ≢ Drain }
+        ensures { model.Step (world_with self.old) (model.Client fs.number (call_of call.now)) (reply_of reply.new) (world_with self.new) }
+    {
+        *reply = Reply::Answered(self.kernel.call(fs, call));
     }
 
     /// A template is installed.
@@ -33,12 +57,13 @@ impl MountedDisk {
         };
     }
 
-    /// Writes all that is pending.
-    fn drain(&mut self, fs: Fs) -> Reply
-        ensures { model.Step (world_with self.old) (model.Client fs.number model.Drain) (reply_of result) (world_with self.new) }
+    /// Writes all that is pending. It is not inlined either.
+    #[inline(never)]
+    fn drain(&mut self, fs: Fs, reply: &mut Reply)
+        ensures { model.Step (world_with self.old) (model.Client fs.number model.Drain) (reply_of reply.new) (world_with self.new) }
     {
         match self.kernel.drain() {
-            Ok(writes) => Reply::Answered(Answer::Drain(Ok(writes))),
+            Ok(writes) => *reply = Reply::Answered(Answer::Drain(Ok(writes))),
             Err(
                 DrainStop {
                     writes,
@@ -46,7 +71,7 @@ impl MountedDisk {
                     refusal,
                 },
             ) => match ticket {
-                None => Reply::Answered(Answer::Drain(Err(Stopped { writes, refusal }))),
+                None => *reply = Reply::Answered(Answer::Drain(Err(Stopped { writes, refusal }))),
                 Some(_ticket) => unreachable!(),
             },
         }

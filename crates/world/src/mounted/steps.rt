@@ -10,8 +10,8 @@ use crate::ticket::DroppableTicket;
 use events::Reply;
 
 impl MountedDisk {
-    /// A write of a block begins, and its ticket is kept.
-    #[inline(always)]
+    /// A write of a block begins, and its ticket is kept. It is not inlined, so that no other event clears the room of a ticket for it.
+    #[inline(never)]
     pub(crate) fn begin(&mut self, block: u32, reply: &mut Reply)
         ensures { model.Step (world_with self.old) (model.Begin block) (reply_of reply.new) (world_with self.new) }
     {
@@ -73,8 +73,8 @@ impl MountedDisk {
         }
     }
 
-    /// A block is read back, and its write ends. A write that isn't synced goes on.
-    #[inline(always)]
+    /// A block is read back, and its write ends. A write that isn't synced goes on. It is not inlined either.
+    #[inline(never)]
     pub(crate) fn finish(&mut self, block: u32, reply: &mut Reply)
         ensures { model.Step (world_with self.old) (model.Finish block) (reply_of reply.new) (world_with self.new) }
     {

@@ -1,20 +1,29 @@
-use Rattle.std.proofs.Common.{sym, subst}
-use Rattle.disk.specs.Mem.{MemoryLane}
-use Rattle.xn_model.specs.Worlds as model
-use Rattle.xn_kernel.specs.Kernels.{KernelValue}
-use Rattle.xn_state.specs.Answers.{call_of, reply_of_answer}
-use Rattle.world.specs.Worlds.{IsWorld, value_of, world_of}
-use Rattle.world.proofs.Stepping.{call_step, call_world}
-use Rattle.world.proofs.Views.{seen}
+use Rattle.std.proofs.Common.{ap, refl}
+use Rattle.xn_state.specs.declared.call.Call.TheVariants.{Init, Propose, Forget, Pending, Floor, Pick}
+use Rattle.xn_state.specs.declared.answer.Answer.TheVariants as answer
+use Rattle.world.proofs.Views.{called}
 use Rattle.world.proofs.mounted.MountedDisk.call.Goals as goal
 
-pub invariant_of-self : goal.invariant_of-self
-invariant_of-self c =
-    subst (λ (k : KernelValue MemoryLane). IsWorld k c.self.inside.tickets) (sym c.call.ensures.rest)
-    (call_world c.self.inside.kernel c.self.inside.tickets c.self.invariant c.args.fs.number c.args.call.now c.call.result c.call.new.self.state c.call.ensures.answer c.args.fs.few)
+pub returns-in-Init : goal.returns-in-Init
+returns-in-Init c = called c.args.self.now c.init.new.self c.up.ensures c.init.ensures.rest c.args.fs.number c.args.call.now (Init c.in-Init.ty c.in-Init.bytes) c.in-Init.is
+    (answer.Init c.init.result) (c.init.result, refl, c.init.ensures.state)
 
-pub returns-in_default : goal.returns-in_default
-returns-in_default c =
-    seen (value_of c.self.inside.kernel c.self.inside.tickets) c.args.self.now c.self.view_is (model.Client c.args.fs.number (call_of c.args.call.now)) (reply_of_answer c.call.result) _
-    (subst (λ (k : KernelValue MemoryLane). model.AfterCall (world_of c.self.inside.kernel c.self.inside.tickets) (model.Client c.args.fs.number (call_of c.args.call.now)) (reply_of_answer c.call.result) (world_of k c.self.inside.tickets)) (sym c.call.ensures.rest)
-    (call_step c.self.inside.kernel c.self.inside.tickets c.self.invariant c.args.fs.number c.args.call.now c.call.result c.call.new.self.state c.call.ensures.answer))
+pub returns-in-Propose : goal.returns-in-Propose
+returns-in-Propose c = called c.args.self.now c.propose.new.self c.up.ensures c.propose.ensures.rest c.args.fs.number c.args.call.now (Propose c.in-Propose.block c.in-Propose.edit)
+    c.in-Propose.is (answer.Propose c.propose.result) (c.propose.result, refl, c.propose.ensures.state)
+
+pub returns-in-Forget : goal.returns-in-Forget
+returns-in-Forget c = called c.args.self.now c.forget.new.self c.up.ensures c.forget.ensures.rest c.args.fs.number c.args.call.now (Forget c.in-Forget.block) c.in-Forget.is
+    (answer.Forget c.forget.result) (c.forget.result, refl, c.forget.ensures.state)
+
+pub returns-in-Pending : goal.returns-in-Pending
+returns-in-Pending c = called c.args.self.now c.args.self.now c.up.ensures refl c.args.fs.number c.args.call.now Pending c.in-Pending.is
+    (answer.Pending c.pending.result) (ap answer.Pending c.pending.ensures, refl)
+
+pub returns-in-Floor : goal.returns-in-Floor
+returns-in-Floor c = called c.args.self.now c.args.self.now c.up.ensures refl c.args.fs.number c.args.call.now Floor c.in-Floor.is
+    (answer.Floor c.floor.result) (ap answer.Floor c.floor.ensures, refl)
+
+pub returns-in-Pick : goal.returns-in-Pick
+returns-in-Pick c = called c.args.self.now c.args.self.now c.up.ensures refl c.args.fs.number c.args.call.now Pick c.in-Pick.is
+    (answer.Pick c.pick.result) (ap answer.Pick c.pick.ensures, refl)

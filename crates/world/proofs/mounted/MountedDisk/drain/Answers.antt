@@ -22,11 +22,11 @@ invariant_of-self c = elim c.match-drain.branch [
 pub returns : goal.returns
 returns c = elim c.match-drain.branch [
   | in-Ok w ↦
-      seen (value_of c.self.inside.kernel c.self.inside.tickets) c.args.self.now c.self.view_is (model.Client c.args.fs.number model.Drain) (reply_of c.match-drain.result) _
-      (subst (λ r. model.AfterCall (world_of c.self.inside.kernel c.self.inside.tickets) (model.Client c.args.fs.number model.Drain) (reply_of r) (world_of c.drain.new.self c.self.inside.tickets)) (sym w.result-is)
+      seen (value_of c.self.inside.kernel c.self.inside.tickets) c.args.self.now c.self.view_is (model.Client c.args.fs.number model.Drain) (reply_of c.match-drain.reply) _
+      (subst (λ r. model.AfterCall (world_of c.self.inside.kernel c.self.inside.tickets) (model.Client c.args.fs.number model.Drain) (reply_of r) (world_of c.drain.new.self c.self.inside.tickets)) (sym w.reply-is)
       (drain_step c.self.inside.kernel c.self.inside.tickets c.self.invariant c.args.fs.number c.drain.new.self w.in-Ok.writes w.in-Ok.ensures.rounds w.in-Ok.ensures.idle w.in-Ok.ensures.done w.in-Ok.ensures.few))
   | in-Err+in-None w ↦
-      seen (value_of c.self.inside.kernel c.self.inside.tickets) c.args.self.now c.self.view_is (model.Client c.args.fs.number model.Drain) (reply_of c.match-drain.result) _
-      (subst (λ r. model.AfterCall (world_of c.self.inside.kernel c.self.inside.tickets) (model.Client c.args.fs.number model.Drain) (reply_of r) (world_of c.drain.new.self c.self.inside.tickets)) (sym w.result-is)
+      seen (value_of c.self.inside.kernel c.self.inside.tickets) c.args.self.now c.self.view_is (model.Client c.args.fs.number model.Drain) (reply_of c.match-drain.reply) _
+      (subst (λ r. model.AfterCall (world_of c.self.inside.kernel c.self.inside.tickets) (model.Client c.args.fs.number model.Drain) (reply_of r) (world_of c.drain.new.self c.self.inside.tickets)) (sym w.reply-is)
       (drain_refused c.self.inside.kernel c.self.inside.tickets c.self.invariant c.args.fs.number c.drain.new.self w.in-Err.field-0.writes w.in-Err.field-0.ticket w.in-Err.field-0.refusal w.in-Err.ensures.err).1)
 ]

@@ -1,0 +1,6 @@
+use Rattle.std.proofs.Common.{subst}
+use Rattle.script.specs.Scripts.{LineSpells}
+use Rattle.script.proofs.line.ScriptLine.event_into.Goals as goal
+
+pub returns : goal.returns
+returns c = subst (λ line. LineSpells line c.put_told.new.event) c.self.view_is (c.put_told.ensures _ c.self.invariant.tells)
