@@ -13,13 +13,13 @@ use std::marker::Model;
 use xn_model::Status;
 
 /// What a block in use holds: its newest bytes, whether a state of it is on the disk, and the keys of its pending entries,
-/// the oldest first.
+/// the oldest first. The bytes come first, so that a life that is found in an image has them copied once, and the others lie side by side.
 #[derive(Drop)]
 pub struct Life {
+    current: [u8; 512],
     fs: Option<Fs>,
     ty: u32,
     status: Status,
-    current: [u8; 512],
     is_durable: bool,
     keys: Vec<usize>,
     begun: Option<u32>,
@@ -116,10 +116,10 @@ impl Life {
         ensures { result.keys ≡ [] }
     {
         Life {
+            current: [0; 512],
             fs: None,
             ty: 0,
             status: Status::Fresh,
-            current: [0; 512],
             is_durable: false,
             keys: Vec::new(alloc),
             begun: None,
@@ -155,10 +155,10 @@ impl Life {
         ensures { result ≡ resting found bytes.now }
     {
         Life {
+            current: *bytes,
             fs: found.fs,
             ty: found.ty,
             status: found.status,
-            current: *bytes,
             is_durable: true,
             keys: Vec::new(alloc),
             begun: None,

@@ -17,8 +17,8 @@ use xn_model::Status;
 /// copied once and never moved.
 #[derive(Drop)]
 pub struct Place {
-    is_used: bool,
     life: Life,
+    is_used: bool,
 }
 
 impl Model for Place {
@@ -36,8 +36,8 @@ impl Place {
         ensures { result ≡ None }
     {
         Place {
-            is_used: false,
             life: Life::blank(alloc),
+            is_used: false,
         }
     }
 
@@ -46,8 +46,8 @@ impl Place {
         ensures { result ≡ Some (resting found bytes.now) }
     {
         Place {
-            is_used: true,
             life: Life::found(alloc, found, bytes),
+            is_used: true,
         }
     }
 
