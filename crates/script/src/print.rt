@@ -22,6 +22,21 @@ fn print_count<W: Write>(out: &mut W, text: &str, number: u64) -> io::Result<()>
     out.write_all(Buffer::new().format(number).as_bytes())
 }
 
+/// Prints two texts, each with a number behind it. It is not inlined, so that no other reply clears the room of what the first may fail with.
+#[inline(never)]
+fn print_counts<W: Write>(
+    out: &mut W,
+    text: &str,
+    number: u64,
+    other_text: &str,
+    other: u64,
+) -> io::Result<()>
+    ensures { OnOk result (Appends (W.contents out.old) (W.contents out.new) (text.now ++ decimal number ++ other_text.now ++ decimal other)) }
+{
+    print_count(out, text, number)?;
+    print_count(out, other_text, other)
+}
+
 /// Prints the line of a reply.
 pub fn print_reply<W: Write>(out: &mut W, reply: &Reply) -> io::Result<()>
     ensures { OnOk result (Appends (W.contents out.old) (W.contents out.new) (reply_line reply.now)) }
@@ -41,29 +56,40 @@ fn print_text<W: Write>(out: &mut W, reply: &Reply) -> io::Result<()>
         Reply::Landed => out.write_all(b"landed"),
         Reply::Synced => out.write_all(b"synced"),
         Reply::Fault => out.write_all(b"fault"),
-        Reply::Finished(landed) => {
-            print_count(out, "durable ", u64::from(landed.durable))?;
-            print_count(out, " freed ", u64::from(landed.freed))
-        }
-        Reply::Mounted { reached, free } => {
-            print_count(out, "mounted ", u64::from(*reached))?;
-            print_count(out, " ", u64::from(*free))
-        }
+        Reply::Finished(landed) => print_counts(
+            out,
+            "durable ",
+            u64::from(landed.durable),
+            " freed ",
+            u64::from(landed.freed),
+        ),
+        Reply::Mounted { reached, free } => print_counts(
+            out,
+            "mounted ",
+            u64::from(*reached),
+            " ",
+            u64::from(*free),
+        ),
         Reply::NoTicket => out.write_all(b"no ticket"),
         Reply::Down => out.write_all(b"down"),
         Reply::Refused(refusal) => print_refusal(out, *refusal),
     }
 }
 
-/// Prints the type, the block and the entries of an installed template.
+/// Prints the type, the block and the entries of an installed template. It is not inlined either.
+#[inline(never)]
 fn print_installed<W: Write>(out: &mut W, made: &Installed) -> io::Result<()>
     ensures { OnOk result (Appends (W.contents out.old) (W.contents out.new) (installed_text made.now)) }
 {
     let (first, second) = made.edits;
-    print_count(out, "type ", u64::from(made.ty))?;
-    print_count(out, " block ", u64::from(made.block))?;
-    print_count(out, " edits ", first.number())?;
-    print_count(out, " ", second.number())
+    print_counts(
+        out,
+        "type ",
+        u64::from(made.ty),
+        " block ",
+        u64::from(made.block),
+    )?;
+    print_counts(out, " edits ", first.number(), " ", second.number())
 }
 
 /// Prints the text of an answer.
@@ -71,10 +97,13 @@ fn print_answer<W: Write>(out: &mut W, answer: &Answer) -> io::Result<()>
     ensures { OnOk result (Appends (W.contents out.old) (W.contents out.new) (answer_text answer.now)) }
 {
     match answer {
-        Answer::Init(Ok((block, entry))) => {
-            print_count(out, "block ", u64::from(*block))?;
-            print_count(out, " edit ", entry.number())
-        }
+        Answer::Init(Ok((block, entry))) => print_counts(
+            out,
+            "block ",
+            u64::from(*block),
+            " edit ",
+            entry.number(),
+        ),
         Answer::Init(Err(refusal)) => print_refusal(out, *refusal),
         Answer::Propose(edit) => print_edit(out, *edit),
         Answer::MakeRoot(edit) => print_edit(out, *edit),

@@ -16,7 +16,7 @@ use std::alloc::{AllocError, Global};
 use std::io::Write;
 use std::thread::Threads;
 use templates::{FormatFault, Template};
-use world::{Reply, World};
+use world::{Event, Reply, World};
 
 /// The first mount of a fresh disk.
 fn fresh_world(
@@ -36,23 +36,28 @@ fn fresh_world(
     }
 }
 
-/// Runs the event that a line spells on a world, leaves its reply in `reply`, and prints it.
+/// Leaves the event that a line spells in `event`, which holds `Begin(0)` until then, runs it on a world, leaves its reply in `reply`, and prints it.
 fn run_line<'a, W: Write>(
     rt: &(impl Threads + Sync),
     world: &mut World,
     line: ScriptLine<'_>,
+    event: &mut Event,
     reply: &mut Reply,
     out: &mut W,
 ) -> Result<(), Fault<'a>>
+    requires { event.old ≡ Event.Begin 0 }
     ensures run { OnOk result (IsRunLine (world_with world.old) line.entry (W.contents out.old) (W.contents out.new) (world_with world.new)) }
     ensures fault { IfErr result IsRunFault }
 {
-    world.step_into(rt, &line.into_event(), reply);
+    line.event_into(event);
+    world.step_into(rt, event, reply);
     print_reply(out, reply)?;
     Ok(())
 }
 
-/// Runs the events that these lines spell on a world, and prints a reply an event.
+/// Runs the events that these lines spell on a world, and prints a reply an event. Events and replies have their room here, where it is cleared once
+/// for all lines.
+#[tactic(auto, using(crate::proofs::ScriptRuns::line_run))]
 fn run_lines<'a, W: Write>(
     rt: &(impl Threads + Sync),
     world: &mut World,
@@ -65,7 +70,8 @@ fn run_lines<'a, W: Write>(
 {
     let mut reply = Reply::Down;
     for line in lines {
-        run_line(rt, world, line, &mut reply, out)?;
+        let mut event = Event::Begin(0);
+        run_line(rt, world, line, &mut event, &mut reply, out)?;
     }
     Ok(())
 }

@@ -226,7 +226,8 @@ fn run_line_within<'a, W: Write>(
         (IsLineHeldBack (world_with world.old) line.entry left.old (W.contents out.old) (W.contents out.new) (world_with world.new))) }
     ensures fault { IfErr result IsRunFault }
 {
-    let event = line.into_event();
+    let mut event = Event::Begin(0);
+    line.event_into(&mut event);
     match go_on_within(rt, world, &event, left) {
         Some(reply) => {
             print_reply(out, &reply)?;

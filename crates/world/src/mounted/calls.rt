@@ -20,15 +20,18 @@ impl MountedDisk {
     {
         self.up();
         match call {
-            Call::Init { ty, bytes } => *reply = Reply::Answered(Answer::Init(self.init(
-                fs, *ty, bytes,
-            ))),
-            Call::Propose { block, edit } => *reply = Reply::Answered(Answer::Propose(self.propose(
-                fs, *block, edit,
-            ))),
-            Call::Forget { block } => *reply = Reply::Answered(Answer::Forget(self.forget(
-                fs, *block,
-            ))),
+            Call::Init { ty, bytes } => {
+                let made = self.init(fs, *ty, bytes);
+                *reply = Reply::Answered(Answer::Init(made));
+            }
+            Call::Propose { block, edit } => {
+                let made = self.propose(fs, *block, edit);
+                *reply = Reply::Answered(Answer::Propose(made));
+            }
+            Call::Forget { block } => {
+                let done = self.forget(fs, *block);
+                *reply = Reply::Answered(Answer::Forget(done));
+            }
             Call::Pending => *reply = Reply::Answered(Answer::Pending(self.pending(fs))),
             Call::Floor => *reply = Reply::Answered(Answer::Floor(self.floor(fs))),
             Call::Pick => *reply = Reply::Answered(Answer::Pick(self.pick())),

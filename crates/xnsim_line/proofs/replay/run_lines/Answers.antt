@@ -2,17 +2,11 @@ use Rattle.std.proofs.Common.{◌∙◌, map-id, rules, sym}
 use Rattle.std.proofs.lemmas.Iterator.Adapters.{YieldsList-from_vec}
 use Rattle.std.proofs.lemmas.Iterator.Consumers.{YieldsList-end}
 use Rattle.world.specs.Worlds.{world_with}
-use Rattle.xnsim_line.proofs.ScriptRuns.{line_run, lines_run, no_lines_run}
+use Rattle.xnsim_line.proofs.ScriptRuns.{lines_run, no_lines_run}
 use Rattle.xnsim_line.proofs.replay.run_lines.Goals as goal
 
 pub loop-line-init : goal.loop-line-init
 loop-line-init g c = no_lines_run (world_with c.args.world.now) (g.W.Write.contents c.args.out.now)
-
-pub loop-line-preserved : goal.loop-line-preserved
-loop-line-preserved g c =
-    line_run (world_with c.args.world.now) c.loop-line.yielded c.in-Some.line
-    (g.W.Write.contents c.args.out.now) (g.W.Write.contents c.loop-line.out) (g.W.Write.contents c.run_line.new.out)
-    (world_with c.loop-line.world) (world_with c.run_line.new.world) c.in_ok-run_line.ensures.run c.loop-line.invariant
 
 pub returns-clause-run : goal.returns-clause-run
 returns-clause-run g c =

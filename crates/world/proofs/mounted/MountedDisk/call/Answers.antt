@@ -5,16 +5,16 @@ use Rattle.world.proofs.Views.{called}
 use Rattle.world.proofs.mounted.MountedDisk.call.Goals as goal
 
 pub returns-in-Init : goal.returns-in-Init
-returns-in-Init c = called c.args.self.now c.init.new.self c.up.ensures c.init.ensures.rest c.args.fs.number c.args.call.now (Init c.in-Init.ty c.in-Init.bytes) c.in-Init.is
-    (answer.Init c.init.result) (c.init.result, refl, c.init.ensures.state)
+returns-in-Init c = called c.args.self.now c.init-made.new.self c.up.ensures c.init-made.ensures.rest c.args.fs.number c.args.call.now (Init c.in-Init.ty c.in-Init.bytes) c.in-Init.is
+    (answer.Init c.init-made.result) (c.init-made.result, refl, c.init-made.ensures.state)
 
 pub returns-in-Propose : goal.returns-in-Propose
-returns-in-Propose c = called c.args.self.now c.propose.new.self c.up.ensures c.propose.ensures.rest c.args.fs.number c.args.call.now (Propose c.in-Propose.block c.in-Propose.edit)
-    c.in-Propose.is (answer.Propose c.propose.result) (c.propose.result, refl, c.propose.ensures.state)
+returns-in-Propose c = called c.args.self.now c.propose-made.new.self c.up.ensures c.propose-made.ensures.rest c.args.fs.number c.args.call.now (Propose c.in-Propose.block c.in-Propose.edit)
+    c.in-Propose.is (answer.Propose c.propose-made.result) (c.propose-made.result, refl, c.propose-made.ensures.state)
 
 pub returns-in-Forget : goal.returns-in-Forget
-returns-in-Forget c = called c.args.self.now c.forget.new.self c.up.ensures c.forget.ensures.rest c.args.fs.number c.args.call.now (Forget c.in-Forget.block) c.in-Forget.is
-    (answer.Forget c.forget.result) (c.forget.result, refl, c.forget.ensures.state)
+returns-in-Forget c = called c.args.self.now c.forget-done.new.self c.up.ensures c.forget-done.ensures.rest c.args.fs.number c.args.call.now (Forget c.in-Forget.block) c.in-Forget.is
+    (answer.Forget c.forget-done.result) (c.forget-done.result, refl, c.forget-done.ensures.state)
 
 pub returns-in-Pending : goal.returns-in-Pending
 returns-in-Pending c = called c.args.self.now c.args.self.now c.up.ensures refl c.args.fs.number c.args.call.now Pending c.in-Pending.is
