@@ -1,7 +1,7 @@
 // The bytes of a block in memory.
 
-ghost use Rattle.std.specs.Prelude.{◌≡◌, ◌≢◌, ◌⊎◌, ◌↔◌, IsTrue, ◌+◌, ◌<◌, ◌≤◌, ◌∷◌, ◌++◌, length, take, drop, Some, IfOk, cond, unwrap_or, vec_capacity};
-ghost use Rattle.disk.specs.Blocks.{all_settled};
+ghost use Rattle.std.specs.Prelude.{◌≡◌, ◌≢◌, ◌⊎◌, ◌↔◌, ℕ, ◌+◌, ◌<◌, ◌≤◌, max, length, IsTrue, Some, IfOk, cond, unwrap_or, slice_index_or, vec_capacity};
+ghost use Rattle.disk.specs.Blocks.{all_settled, first_of, no_lot};
 
 use crate::lane::BLOCK_LEN;
 use std::alloc::{AllocError, Global};
@@ -18,51 +18,83 @@ enum OpenWrite {
     Unread,
 }
 
+/// What is kept of a block beside its bytes: its number, how often it failed, and what it was told to let fail.
+#[derive(Clone, Copy)]
+pub struct Told {
+    pub faults: u64,
+    pub number: u32,
+    pub write_fault: Option<bool>,
+    pub read_fault: bool,
+    pub sync_fault: bool,
+}
+
+/// A lot of bytes. What stands beside the bytes counts in the first one alone.
+#[derive(Clone, Copy)]
+struct Lot {
+    told: Told,
+    settled_at: u8,
+    open_write: OpenWrite,
+    bytes: [u8; BLOCK_LEN],
+}
+
 /// The bytes of a block: what a read gives, what is settled, and what an open write was given.
 ///
 /// There is room for two lots of bytes from the start, which stay where they are. The second one comes with the first write, so that room is left as
-/// it is until then. A write goes into the lot that is not settled, so that nothing is copied but what it was given.
+/// it is until then. A write goes into the lot that is not settled, so that nothing is copied but what it was given. All else that is kept of the
+/// block stands in the first lot, so that what goes from hand to hand is small.
 #[derive(Drop)]
 pub struct Blocks {
-    lots: Vec<[u8; BLOCK_LEN]>,
-    settled_at: u8,
-    open_write: OpenWrite,
+    lots: Vec<Lot>,
 }
 
 impl Model for Blocks {
-    ghost use Rattle.std.specs.Prelude.{◌≡◌, ◌≢◌, ◌≤◌, ◌<◌, length, vec_capacity};
-    ghost use Rattle.disk.specs.Blocks.{BlockBytes, bytes_of_lots};
-    ghost use Rattle.disk.specs.declared.blocks.OpenWrite.TheVariants.{Absent};
+    ghost use Rattle.std.specs.Prelude.{◌≤◌, vec_capacity};
+    ghost use Rattle.disk.specs.Blocks.{BlockBytes, bytes_of_lots, AreLots};
 
     ghost Value = { BlockBytes };
 
-    ghost view = { λ a. bytes_of_lots a.open_write a.settled_at a.lots.items };
+    ghost view = { λ a. bytes_of_lots a.lots.items };
 
-    ghost invariant = { λ a. (a.settled_at < length a.lots.items) × (length a.lots.items ≤ 2) × (2 ≤ vec_capacity a.lots)
-        × (a.open_write ≢ Absent → length a.lots.items ≡ 2) };
+    ghost invariant = { λ a. AreLots a.lots.items × (2 ≤ vec_capacity a.lots) };
 }
 
 impl Blocks {
     /// These bytes, all settled. `Err` comes only for want of memory.
-    pub fn new(alloc: Global, bytes: &[u8; BLOCK_LEN]) -> Result<Blocks, AllocError>
-        ensures { IfOk result (λ blocks. blocks ≡ all_settled bytes.now) }
+    pub fn new(alloc: Global, told: Told, bytes: &[u8; BLOCK_LEN]) -> Result<Blocks, AllocError>
+        ensures { IfOk result (λ blocks. blocks ≡ all_settled told bytes.now) }
     {
         let mut lots = Vec::with_capacity(alloc, 2)?;
-        lots.push_reserved(*bytes);
-        Ok(Blocks {
-            lots,
+        lots.push_reserved(Lot {
+            told,
             settled_at: 0,
             open_write: OpenWrite::Absent,
-        })
+            bytes: *bytes,
+        });
+        Ok(Blocks { lots })
+    }
+
+    /// What is kept beside the bytes.
+    pub fn told(&self) -> Told
+        ensures { result ≡ self.now.told }
+    {
+        self.lots[0].told
+    }
+
+    /// Keeps this beside the bytes.
+    pub fn set_told(&mut self, told: Told)
+        ensures { self.new ≡ record self.old { told = told } }
+    {
+        self.lots[0].told = told;
     }
 
     /// What a read gives.
     pub fn bytes(&self) -> &[u8; BLOCK_LEN]
         ensures { result.now ≡ self.now.bytes }
     {
-        match self.open_write {
-            OpenWrite::Newest => &self.lots[1 - self.settled_at as usize],
-            OpenWrite::Absent | OpenWrite::Unread => &self.lots[self.settled_at as usize],
+        let settled_at = self.lots[0].settled_at as usize;
+        match self.lots[0].open_write {
+            OpenWrite::Newest => &self.lots[1 - settled_at].bytes,
+            OpenWrite::Absent | OpenWrite::Unread => &self.lots[settled_at].bytes,
         }
     }
 
@@ -70,8 +102,9 @@ impl Blocks {
     pub fn put(&mut self, from: &[u8; BLOCK_LEN])
         ensures { self.new ≡ record self.old { bytes = from.now; given = Some from.now } }
     {
-        set_lot(&mut self.lots, 1 - self.settled_at, from);
-        self.open_write = OpenWrite::Newest;
+        let place = 1 - self.lots[0].settled_at;
+        set_lot(&mut self.lots, place, from);
+        self.lots[0].open_write = OpenWrite::Newest;
     }
 
     /// A write was given these bytes, and a read finds the ones before. Where those are an open write's, they stay what a
@@ -82,8 +115,9 @@ impl Blocks {
             ⊎ ((self.old.given ≢ Some self.old.bytes) × (self.new.given ≡ Some from.now)) }
     {
         if !self.is_newest_given() {
-            set_lot(&mut self.lots, 1 - self.settled_at, from);
-            self.open_write = OpenWrite::Unread;
+            let place = 1 - self.lots[0].settled_at;
+            set_lot(&mut self.lots, place, from);
+            self.lots[0].open_write = OpenWrite::Unread;
         }
     }
 
@@ -91,47 +125,57 @@ impl Blocks {
     fn is_newest_given(&self) -> bool
         ensures { IsTrue result ↔ (self.now.given ≡ Some self.now.bytes) }
     {
-        match self.open_write {
+        match self.lots[0].open_write {
             OpenWrite::Absent => false,
             OpenWrite::Newest => true,
-            OpenWrite::Unread => self.lots[0] == self.lots[1],
+            OpenWrite::Unread => self.lots[0].bytes == self.lots[1].bytes,
         }
     }
 
     /// What a read gives is settled.
     pub fn settle(&mut self)
-        ensures { self.new ≡ all_settled self.old.bytes }
+        ensures { self.new ≡ all_settled self.old.told self.old.bytes }
     {
-        if let OpenWrite::Newest = self.open_write {
-            self.settled_at = 1 - self.settled_at;
+        let settled_at = self.lots[0].settled_at;
+        if let OpenWrite::Newest = self.lots[0].open_write {
+            self.lots[0].settled_at = 1 - settled_at;
         }
-        self.open_write = OpenWrite::Absent;
+        self.lots[0].open_write = OpenWrite::Absent;
     }
 
     /// What an open write was given is settled, where there is one and it is kept, and else what was settled before. A read gives that.
     pub fn crash(&mut self, kept: bool)
-        ensures { self.new ≡ all_settled (cond kept (unwrap_or self.old.given self.old.settled) self.old.settled) }
+        ensures { self.new ≡ all_settled self.old.told (cond kept (unwrap_or self.old.given self.old.settled) self.old.settled) }
     {
-        match self.open_write {
-            OpenWrite::Newest | OpenWrite::Unread if kept => self.settled_at = 1 - self.settled_at,
+        let settled_at = self.lots[0].settled_at;
+        match self.lots[0].open_write {
+            OpenWrite::Newest | OpenWrite::Unread if kept => self.lots[0].settled_at = 1 - settled_at,
             OpenWrite::Absent | OpenWrite::Newest | OpenWrite::Unread => {}
         }
-        self.open_write = OpenWrite::Absent;
+        self.lots[0].open_write = OpenWrite::Absent;
     }
 }
 
 /// Puts these bytes into the lot of this place, which may be the one behind the last.
-#[tactic(auto, using(std::proofs::lemmas::List::set_split))]
-fn set_lot(lots: &mut Vec<[u8; BLOCK_LEN]>, place: u8, from: &[u8; BLOCK_LEN])
+fn set_lot(lots: &mut Vec<Lot>, place: u8, from: &[u8; BLOCK_LEN])
+    requires some { 0 < length lots.old.items }
     requires within { place ≤ length lots.old.items }
     requires room { place < vec_capacity lots.old }
-    ensures lots { lots.new.items ≡ take place lots.old.items ++ from.now ∷ drop (place + 1) lots.old.items }
+    ensures bytes { (slice_index_or lots.new.items place no_lot).bytes ≡ from.now }
+    ensures first { first_of lots.new.items ≡ record (first_of lots.old.items) { bytes = (first_of lots.new.items).bytes } }
+    ensures rest { (k : ℕ) → k ≢ place → k < length lots.old.items → slice_index_or lots.new.items k no_lot ≡ slice_index_or lots.old.items k no_lot }
+    ensures count { length lots.new.items ≡ max (length lots.old.items) (place + 1) }
     ensures room { vec_capacity lots.new ≡ vec_capacity lots.old }
 {
     let place = place as usize;
     if place < lots.len() {
-        lots[place] = *from;
+        lots[place].bytes = *from;
     } else {
-        lots.push_reserved(*from);
+        lots.push_reserved(Lot {
+            told: lots[0].told,
+            settled_at: 0,
+            open_write: OpenWrite::Absent,
+            bytes: *from,
+        });
     }
 }

@@ -6,7 +6,7 @@ ghost use Rattle.disk.specs.Mem.{MemoryLane, AreFreshLanes, fresh_lane, read_fai
 ghost use Rattle.disk.specs.Mem.{synced, crashed_lane, memory_read, memory_write};
 ghost use Rattle.disk.specs.Mem.{memory_sync, memory_leaves, IsGivenAfterFault};
 
-use crate::blocks::Blocks;
+use crate::blocks::{Blocks, Told};
 use crate::lane::{BLOCK_LEN, DeviceFault, Lane};
 use crate::lanes::Lanes;
 use std::alloc::{AllocError, Global};
@@ -18,11 +18,6 @@ use std::marker::Model;
 #[derive(Drop)]
 pub struct MemLane {
     blocks: Blocks,
-    faults: u64,
-    number: u32,
-    write_fault: Option<bool>,
-    read_fault: bool,
-    sync_fault: bool,
 }
 
 impl Model for MemLane {
@@ -31,14 +26,14 @@ impl Model for MemLane {
     ghost Value = { MemoryLane };
 
     ghost view = { λ a. record {
-      number = a.number;
+      number = a.blocks.told.number;
       bytes = a.blocks.bytes;
       settled = a.blocks.settled;
       given = a.blocks.given;
-      faults = a.faults;
-      write_fault = a.write_fault;
-      read_fault = a.read_fault;
-      sync_fault = a.sync_fault;
+      faults = a.blocks.told.faults;
+      write_fault = a.blocks.told.write_fault;
+      read_fault = a.blocks.told.read_fault;
+      sync_fault = a.blocks.told.sync_fault;
     } };
 }
 
@@ -47,13 +42,15 @@ impl MemLane {
     fn new(alloc: Global, number: u32, bytes: &[u8; BLOCK_LEN]) -> Result<MemLane, AllocError>
         ensures { IfOk result (λ lane. lane ≡ fresh_lane number bytes.now) }
     {
-        Ok(MemLane {
-            blocks: Blocks::new(alloc, bytes)?,
+        let told = Told {
             faults: 0,
             number,
             write_fault: None,
             read_fault: false,
             sync_fault: false,
+        };
+        Ok(MemLane {
+            blocks: Blocks::new(alloc, told, bytes)?,
         })
     }
 
@@ -69,21 +66,24 @@ impl MemLane {
     pub fn fail_write(&mut self, new_bytes_stay: bool)
         ensures { self.new ≡ record self.old { write_fault = Some new_bytes_stay } }
     {
-        self.write_fault = Some(new_bytes_stay);
+        let told = self.blocks.told();
+        self.blocks.set_told(Told { write_fault: Some(new_bytes_stay), ..told });
     }
 
     /// Lets the next read fail, and that one alone.
     pub fn fail_read(&mut self)
         ensures { self.new ≡ record self.old { read_fault = true } }
     {
-        self.read_fault = true;
+        let told = self.blocks.told();
+        self.blocks.set_told(Told { read_fault: true, ..told });
     }
 
     /// Lets the next sync fail, and that one alone.
     pub fn fail_sync(&mut self)
         ensures { self.new ≡ record self.old { sync_fault = true } }
     {
-        self.sync_fault = true;
+        let told = self.blocks.told();
+        self.blocks.set_told(Told { sync_fault: true, ..told });
     }
 
     /// Crashes: the block then has the last bytes that were given to a write since its last good sync, where there are such
@@ -100,11 +100,15 @@ impl MemLane {
         ensures gives { memory_read self.old result self.new }
         ensures counts { OnErr result (CountsOne self.old.faults self.new.faults) }
     {
-        if !self.read_fault {
+        let told = self.blocks.told();
+        if !told.read_fault {
             return Ok(());
         }
-        self.read_fault = false;
-        self.faults = self.faults.wrapping_add(1);
+        self.blocks.set_told(Told {
+            read_fault: false,
+            faults: told.faults.wrapping_add(1),
+            ..told
+        });
         Err(DeviceFault)
     }
 }
@@ -125,11 +129,11 @@ impl Lane for MemLane {
     ghost sync_gives = { memory_sync };
 
     fn number(&self) -> u32 {
-        self.number
+        self.blocks.told().number
     }
 
     fn faults(&self) -> u64 {
-        self.faults
+        self.blocks.told().faults
     }
 
     /// Fails exactly where it was told to, and then counts one fault and forgets what it was told.
@@ -171,14 +175,18 @@ impl Lane for MemLane {
         ensures given { OnErr result (IsGivenAfterFault self.old.write_fault self.old from.now self.new.given) }
         ensures counts { OnErr result (CountsOne self.old.faults self.new.faults) }
     {
-        match self.write_fault {
+        let told = self.blocks.told();
+        match told.write_fault {
             None => {
                 self.blocks.put(from);
                 Ok(())
             }
             Some(new_bytes_stay) => {
-                self.write_fault = None;
-                self.faults = self.faults.wrapping_add(1);
+                self.blocks.set_told(Told {
+                    write_fault: None,
+                    faults: told.faults.wrapping_add(1),
+                    ..told
+                });
                 if new_bytes_stay {
                     self.blocks.put(from);
                 } else {
@@ -196,9 +204,13 @@ impl Lane for MemLane {
         ensures err { OnErr result (self.new ≡ sync_failed self.old) }
         ensures counts { OnErr result (CountsOne self.old.faults self.new.faults) }
     {
-        if self.sync_fault {
-            self.sync_fault = false;
-            self.faults = self.faults.wrapping_add(1);
+        let told = self.blocks.told();
+        if told.sync_fault {
+            self.blocks.set_told(Told {
+                sync_fault: false,
+                faults: told.faults.wrapping_add(1),
+                ..told
+            });
             return Err(DeviceFault);
         }
         self.blocks.settle();
