@@ -1,5 +1,5 @@
 -- The bytes of a block in memory, by its lots of bytes.
-use Rattle.std.specs.Prelude.{◌≡◌, ◌≢◌, ℕ, ◌-◌, ◌<◌, ◌≤◌, List, [], length, Option, Some, None, Bool, false, slice_index_or}
+use Rattle.std.specs.Prelude.{◌≡◌, ◌≢◌, ℕ, ◌-◌, ◌<◌, ◌≤◌, List, [], length, Option, Some, None, false, slice_index_or}
 use Rattle.disk.specs.declared.blocks.Lot.{Lot}
 use Rattle.disk.specs.declared.blocks.Told.{Told}
 use Rattle.disk.specs.declared.blocks.OpenWrite.{OpenWrite}

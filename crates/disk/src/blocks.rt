@@ -149,7 +149,8 @@ impl Blocks {
     {
         let settled_at = self.lots[0].settled_at;
         match self.lots[0].open_write {
-            OpenWrite::Newest | OpenWrite::Unread if kept => self.lots[0].settled_at = 1 - settled_at,
+            OpenWrite::Newest | OpenWrite::Unread if kept => self.lots[0].settled_at = 1
+                - settled_at,
             OpenWrite::Absent | OpenWrite::Newest | OpenWrite::Unread => {}
         }
         self.lots[0].open_write = OpenWrite::Absent;

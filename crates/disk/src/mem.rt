@@ -67,7 +67,10 @@ impl MemLane {
         ensures { self.new ≡ record self.old { write_fault = Some new_bytes_stay } }
     {
         let told = self.blocks.told();
-        self.blocks.set_told(Told { write_fault: Some(new_bytes_stay), ..told });
+        self.blocks.set_told(Told {
+            write_fault: Some(new_bytes_stay),
+            ..told
+        });
     }
 
     /// Lets the next read fail, and that one alone.
@@ -75,7 +78,10 @@ impl MemLane {
         ensures { self.new ≡ record self.old { read_fault = true } }
     {
         let told = self.blocks.told();
-        self.blocks.set_told(Told { read_fault: true, ..told });
+        self.blocks.set_told(Told {
+            read_fault: true,
+            ..told
+        });
     }
 
     /// Lets the next sync fail, and that one alone.
@@ -83,7 +89,10 @@ impl MemLane {
         ensures { self.new ≡ record self.old { sync_fault = true } }
     {
         let told = self.blocks.told();
-        self.blocks.set_told(Told { sync_fault: true, ..told });
+        self.blocks.set_told(Told {
+            sync_fault: true,
+            ..told
+        });
     }
 
     /// Crashes: the block then has the last bytes that were given to a write since its last good sync, where there are such
