@@ -12,56 +12,79 @@ use crate::lanes::Lanes;
 use std::alloc::{AllocError, Global};
 use std::marker::Model;
 
-/// A block in memory that holds writes until they are synced. A test may tell its next read, write or sync to fail.
-///
-/// A lane goes from hand to hand with each write, so the bytes stand behind a pointer and stay where they are.
+/// Whether a block holds a write that is not settled, and what its two lots of bytes are then.
+#[derive(Clone, Copy)]
+enum OpenWrite {
+    /// It holds none: what a read gives is settled.
+    Absent,
+    /// A read gives what the write was given, and the other bytes are the settled ones.
+    Newest,
+    /// What a read gives is settled, and the other bytes are those that the write was given.
+    Unread,
+}
+
+/// What a block in memory has: its bytes, whether some are not settled, how often it failed, and what it was told to let fail.
 #[derive(Drop)]
-pub struct MemLane {
+struct Held {
     blocks: Blocks,
+    open_write: OpenWrite,
     faults: u64,
-    number: u32,
     write_fault: Option<bool>,
     read_fault: bool,
     sync_fault: bool,
 }
 
+/// A block in memory that holds writes until they are synced. A test may tell its next read, write or sync to fail.
+///
+/// A lane goes from hand to hand with each write, so what it has stands behind a pointer and stays where it is. A write goes into the lot
+/// of bytes that is not settled, so that nothing is copied but what it was given.
+#[derive(Drop)]
+pub struct MemLane {
+    number: u32,
+    held: Box<Held>,
+}
+
 impl Model for MemLane {
     ghost use Rattle.disk.specs.Mem.{MemoryLane};
+    ghost use Rattle.disk.specs.OpenWrites.{settled_by, given_by};
 
     ghost Value = { MemoryLane };
 
     ghost view = { λ a. record {
       number = a.number;
-      bytes = a.blocks.bytes;
-      settled = a.blocks.settled;
-      given = a.blocks.given;
-      faults = a.faults;
-      write_fault = a.write_fault;
-      read_fault = a.read_fault;
-      sync_fault = a.sync_fault;
+      bytes = a.held.value.blocks.bytes;
+      settled = settled_by a.held.value.open_write a.held.value.blocks.bytes a.held.value.blocks.other;
+      given = given_by a.held.value.open_write a.held.value.blocks.bytes a.held.value.blocks.other;
+      faults = a.held.value.faults;
+      write_fault = a.held.value.write_fault;
+      read_fault = a.held.value.read_fault;
+      sync_fault = a.held.value.sync_fault;
     } };
 }
 
 impl MemLane {
-    /// A lane that holds no write and is told no failure. `Err` comes only for want of memory.
+    /// The bytes are put where they stay, so that they are copied once.
     fn new(alloc: Global, number: u32, bytes: &[u8; BLOCK_LEN]) -> Result<MemLane, AllocError>
         ensures { IfOk result (λ lane. lane ≡ fresh_lane number bytes.now) }
     {
-        Ok(MemLane {
-            blocks: Blocks::new(alloc, bytes)?,
+        let held = Held {
+            blocks: Blocks::new(),
+            open_write: OpenWrite::Absent,
             faults: 0,
-            number,
             write_fault: None,
             read_fault: false,
             sync_fault: false,
-        })
+        };
+        let mut held = Box::new(alloc, held)?;
+        held.blocks.set_bytes(bytes);
+        Ok(MemLane { number, held })
     }
 
     /// The bytes of the block.
     pub fn bytes(&self) -> &[u8; BLOCK_LEN]
         ensures { result.now ≡ self.now.bytes }
     {
-        self.blocks.bytes()
+        self.held.blocks.bytes()
     }
 
     /// Lets the next write fail, and that one alone. The block then holds the new bytes or keeps the old ones, as asked
@@ -69,21 +92,21 @@ impl MemLane {
     pub fn fail_write(&mut self, new_bytes_stay: bool)
         ensures { self.new ≡ record self.old { write_fault = Some new_bytes_stay } }
     {
-        self.write_fault = Some(new_bytes_stay);
+        self.held.write_fault = Some(new_bytes_stay);
     }
 
     /// Lets the next read fail, and that one alone.
     pub fn fail_read(&mut self)
         ensures { self.new ≡ record self.old { read_fault = true } }
     {
-        self.read_fault = true;
+        self.held.read_fault = true;
     }
 
     /// Lets the next sync fail, and that one alone.
     pub fn fail_sync(&mut self)
         ensures { self.new ≡ record self.old { sync_fault = true } }
     {
-        self.sync_fault = true;
+        self.held.sync_fault = true;
     }
 
     /// Crashes: the block then has the last bytes that were given to a write since its last good sync, where there are such
@@ -91,7 +114,13 @@ impl MemLane {
     pub fn crash(&mut self, kept: bool)
         ensures { self.new ≡ crashed_lane self.old kept }
     {
-        self.blocks.crash(kept);
+        match self.held.open_write {
+            OpenWrite::Absent => {}
+            OpenWrite::Newest if kept => {}
+            OpenWrite::Unread if !kept => {}
+            OpenWrite::Newest | OpenWrite::Unread => self.held.blocks.turn(),
+        }
+        self.held.open_write = OpenWrite::Absent;
     }
 
     /// Fails where a read was told to, and then counts one fault and forgets what it was told.
@@ -100,12 +129,41 @@ impl MemLane {
         ensures gives { memory_read self.old result self.new }
         ensures counts { OnErr result (CountsOne self.old.faults self.new.faults) }
     {
-        if !self.read_fault {
+        if !self.held.read_fault {
             return Ok(());
         }
-        self.read_fault = false;
-        self.faults = self.faults.wrapping_add(1);
+        self.held.read_fault = false;
+        self.held.faults = self.held.faults.wrapping_add(1);
         Err(DeviceFault)
+    }
+
+    /// A write was given these bytes, and a read finds them.
+    fn put(&mut self, from: &[u8; BLOCK_LEN])
+        ensures { self.new ≡ record self.old { bytes = from.now; given = Some from.now } }
+    {
+        match self.held.open_write {
+            OpenWrite::Newest => {}
+            OpenWrite::Absent | OpenWrite::Unread => self.held.blocks.turn(),
+        }
+        self.held.blocks.set_bytes(from);
+        self.held.open_write = OpenWrite::Newest;
+    }
+
+    /// A write was given these bytes, and a read finds the ones before. Where those are an open write's, they stay what a
+    /// crash may leave, as the lane has no room for a third lot of bytes.
+    fn hold(&mut self, from: &[u8; BLOCK_LEN])
+        ensures rest { self.new ≡ record self.old { given = self.new.given } }
+        ensures given { IsGivenAfterFault (Some false) self.old from.now self.new.given }
+    {
+        let is_newest = match self.held.open_write {
+            OpenWrite::Absent => false,
+            OpenWrite::Newest => true,
+            OpenWrite::Unread => self.held.blocks.other() == self.held.blocks.bytes(),
+        };
+        if !is_newest {
+            self.held.blocks.set_other(from);
+            self.held.open_write = OpenWrite::Unread;
+        }
     }
 }
 
@@ -129,7 +187,7 @@ impl Lane for MemLane {
     }
 
     fn faults(&self) -> u64 {
-        self.faults
+        self.held.faults
     }
 
     /// Fails exactly where it was told to, and then counts one fault and forgets what it was told.
@@ -142,7 +200,7 @@ impl Lane for MemLane {
         ensures counts { OnErr result (CountsOne self.old.faults self.new.faults) }
     {
         self.fail_if_told()?;
-        *into = *self.blocks.bytes();
+        *into = *self.held.blocks.bytes();
         Ok(())
     }
 
@@ -154,7 +212,7 @@ impl Lane for MemLane {
         other: &mut [u8; BLOCK_LEN],
     ) -> Result<bool, DeviceFault> {
         self.fail_if_told()?;
-        let bytes = self.blocks.bytes();
+        let bytes = self.held.blocks.bytes();
         if bytes == with {
             return Ok(true);
         }
@@ -171,18 +229,18 @@ impl Lane for MemLane {
         ensures given { OnErr result (IsGivenAfterFault self.old.write_fault self.old from.now self.new.given) }
         ensures counts { OnErr result (CountsOne self.old.faults self.new.faults) }
     {
-        match self.write_fault {
+        match self.held.write_fault {
             None => {
-                self.blocks.put(from);
+                self.put(from);
                 Ok(())
             }
             Some(new_bytes_stay) => {
-                self.write_fault = None;
-                self.faults = self.faults.wrapping_add(1);
+                self.held.write_fault = None;
+                self.held.faults = self.held.faults.wrapping_add(1);
                 if new_bytes_stay {
-                    self.blocks.put(from);
+                    self.put(from);
                 } else {
-                    self.blocks.hold(from);
+                    self.hold(from);
                 }
                 Err(DeviceFault)
             }
@@ -196,12 +254,12 @@ impl Lane for MemLane {
         ensures err { OnErr result (self.new ≡ sync_failed self.old) }
         ensures counts { OnErr result (CountsOne self.old.faults self.new.faults) }
     {
-        if self.sync_fault {
-            self.sync_fault = false;
-            self.faults = self.faults.wrapping_add(1);
+        if self.held.sync_fault {
+            self.held.sync_fault = false;
+            self.held.faults = self.held.faults.wrapping_add(1);
             return Err(DeviceFault);
         }
-        self.blocks.settle();
+        self.held.open_write = OpenWrite::Absent;
         Ok(())
     }
 }
