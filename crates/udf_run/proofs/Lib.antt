@@ -4,3 +4,4 @@ pub mod Rows
 pub mod Sound
 pub mod Runs
 pub mod Branches
+pub mod SlotTurns

@@ -10,6 +10,7 @@ mod opening;
 pub mod pair;
 pub mod reads;
 pub mod run;
+mod slots;
 mod step;
 
 pub use pair::Pair;
