@@ -9,7 +9,7 @@ ghost use Rattle.disk.specs.Mem.{memory_sync, memory_leaves, IsGivenAfterFault};
 use crate::blocks::Blocks;
 use crate::lane::{BLOCK_LEN, DeviceFault, Lane};
 use crate::lanes::Lanes;
-use std::alloc::{AllocError, Global};
+use std::alloc::{AllocError, Allocator, Global};
 use std::marker::Model;
 
 /// Whether a block holds a write that is not settled, and what its two lots of bytes are then.
@@ -25,8 +25,8 @@ enum OpenWrite {
 
 /// What a block in memory has: its bytes, whether some are not settled, how often it failed, and what it was told to let fail.
 #[derive(Drop)]
-struct Held {
-    blocks: Blocks,
+struct Held<A: Allocator> {
+    blocks: Blocks<A>,
     open_write: OpenWrite,
     faults: u64,
     write_fault: Option<bool>,
@@ -39,12 +39,12 @@ struct Held {
 /// A lane goes from hand to hand with each write, so what it has stands behind a pointer and stays where it is. A write goes into the lot
 /// of bytes that is not settled, so that nothing is copied but what it was given.
 #[derive(Drop)]
-pub struct MemLane {
+pub struct MemLane<A: Allocator = Global> {
     number: u32,
-    held: Box<Held>,
+    held: Box<Held<A>>,
 }
 
-impl Model for MemLane {
+impl<A: Allocator> Model for MemLane<A> {
     ghost use Rattle.disk.specs.Mem.{MemoryLane};
     ghost use Rattle.disk.specs.OpenWrites.{settled_by, given_by};
 
@@ -62,13 +62,18 @@ impl Model for MemLane {
     } };
 }
 
-impl MemLane {
-    /// The bytes are put where they stay, so that they are copied once.
-    fn new(alloc: Global, number: u32, bytes: &[u8; BLOCK_LEN]) -> Result<MemLane, AllocError>
+impl<A: Allocator> MemLane<A> {
+    /// A lane over these bytes, whose second lot has its memory from `rooms`. The bytes are put where they stay, so that they are copied once.
+    fn new(
+        alloc: Global,
+        rooms: A,
+        number: u32,
+        bytes: &[u8; BLOCK_LEN],
+    ) -> Result<MemLane<A>, AllocError>
         ensures { IfOk result (λ lane. lane ≡ fresh_lane number bytes.now) }
     {
         let held = Held {
-            blocks: Blocks::new(),
+            blocks: Blocks::new(rooms)?,
             open_write: OpenWrite::Absent,
             faults: 0,
             write_fault: None,
@@ -138,6 +143,7 @@ impl MemLane {
     }
 
     /// A write was given these bytes, and a read finds them.
+    #[inline(always)]
     fn put(&mut self, from: &[u8; BLOCK_LEN])
         ensures { self.new ≡ record self.old { bytes = from.now; given = Some from.now } }
     {
@@ -158,7 +164,7 @@ impl MemLane {
         let is_newest = match self.held.open_write {
             OpenWrite::Absent => false,
             OpenWrite::Newest => true,
-            OpenWrite::Unread => self.held.blocks.other() == self.held.blocks.bytes(),
+            OpenWrite::Unread => self.held.blocks.are_same(),
         };
         if !is_newest {
             self.held.blocks.set_other(from);
@@ -167,7 +173,7 @@ impl MemLane {
     }
 }
 
-impl Lane for MemLane {
+impl<A: Allocator> Lane for MemLane<A> {
     ghost number_of = { λ lane. lane.number };
 
     ghost bytes_of = { λ lane. lane.bytes };
@@ -222,6 +228,7 @@ impl Lane for MemLane {
 
     /// Fails exactly where it was told to, with the bytes that it was told to leave, and then counts one fault and forgets
     /// what it was told.
+    #[inline(always)]
     fn write(&mut self, from: &[u8; BLOCK_LEN]) -> Result<(), DeviceFault>
         ensures fails { IsErr result ↔ IsSome self.old.write_fault }
         ensures ok { OnOk result (self.new ≡ record self.old { bytes = from.now; given = Some from.now }) }
@@ -334,7 +341,7 @@ pub fn fresh_lanes(alloc: Global, image: &[u8]) -> Result<Lanes<MemLane>, AllocE
     let blocks = (image.len() / BLOCK_LEN) as u32;
     let mut places = Vec::with_capacity(alloc, blocks as usize)?;
     for block in 0..blocks {
-        let lane = MemLane::new(alloc, block, block_of(image, block))?;
+        let lane = MemLane::new(alloc, alloc, block, block_of(image, block))?;
         places.push_reserved(Some(lane));
     }
     Ok(Lanes::of_places(places))
@@ -344,8 +351,13 @@ pub fn fresh_lanes(alloc: Global, image: &[u8]) -> Result<Lanes<MemLane>, AllocE
 const GIVEN_BACK: usize = 64;
 
 /// The same, where the bytes are not wanted any more: what the lanes stand in is taken from the memory of those that have their lanes already, as
-/// memory that was used before costs less than new one. So it goes from the last block down.
-pub fn lanes_from(alloc: Global, mut image: Vec<u8>) -> Result<Lanes<MemLane>, AllocError>
+/// memory that was used before costs less than new one. So it goes from the last block down. The memory of each lane's second lot of bytes is taken from
+/// `rooms`.
+pub fn lanes_from<A: Allocator + Copy>(
+    alloc: Global,
+    rooms: A,
+    mut image: Vec<u8>,
+) -> Result<Lanes<MemLane<A>>, AllocError>
     requires whole { length image.items % 512 ≡ 0 }
     requires small { length image.items < 512 * 2 ^ 32 }
     ensures { IfOk result (λ lanes. AreFreshLanes image.items lanes) }
@@ -354,7 +366,7 @@ pub fn lanes_from(alloc: Global, mut image: Vec<u8>) -> Result<Lanes<MemLane>, A
     let mut lanes = Lanes::new(alloc, blocks)?;
     for done in 0..blocks {
         let block = blocks - 1 - done;
-        let lane = MemLane::new(alloc, block, block_of(&image, block))?;
+        let lane = MemLane::new(alloc, rooms, block, block_of(&image, block))?;
         put_in_place(&mut lanes, lane);
         give_back(&mut image, block as usize);
     }
@@ -362,7 +374,7 @@ pub fn lanes_from(alloc: Global, mut image: Vec<u8>) -> Result<Lanes<MemLane>, A
 }
 
 /// Puts a lane into its empty place.
-fn put_in_place(lanes: &mut Lanes<MemLane>, lane: MemLane)
+fn put_in_place<A: Allocator>(lanes: &mut Lanes<MemLane<A>>, lane: MemLane<A>)
     requires { slice_get lanes.old lane.number ≡ Some None }
     ensures { lanes.new ≡ slice_set lanes.old lane.number (Some lane) }
 {

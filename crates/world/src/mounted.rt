@@ -13,7 +13,7 @@ use crate::tickets::Tickets;
 use crate::unmounted::{UnmountedDisk, bytes_of_all, crash_lanes, take_lanes_back};
 use disk::{BLOCK_LEN, MemLane};
 use events::{Event, Reply};
-use std::alloc::{AllocError, Global};
+use std::alloc::{AllocError, Allocator, Global};
 use std::marker::Model;
 use xn_kernel::Kernel;
 
@@ -22,12 +22,12 @@ mod steps;
 mod store;
 
 /// A disk in memory with its kernel, and the tickets of the writes that are under way.
-pub struct MountedDisk {
-    kernel: Kernel<MemLane>,
-    tickets: Tickets,
+pub struct MountedDisk<A: Allocator> {
+    kernel: Kernel<MemLane<A>>,
+    tickets: Tickets<A>,
 }
 
-impl Model for MountedDisk {
+impl<A: Allocator> Model for MountedDisk<A> {
     ghost use Rattle.world.specs.Worlds.{WorldValue, value_of, IsWorld};
 
     ghost Value = { WorldValue };
@@ -38,7 +38,7 @@ impl Model for MountedDisk {
 }
 
 /// Written by hand, so that a function that drops one calls this: a derived drop is proved anew in each such function.
-impl Drop for MountedDisk {
+impl<A: Allocator> Drop for MountedDisk<A> {
     fn drop(self) {
         let MountedDisk {
             kernel: _,
@@ -47,9 +47,9 @@ impl Drop for MountedDisk {
     }
 }
 
-impl MountedDisk {
+impl<A: Allocator> MountedDisk<A> {
     /// The disk of this kernel, with a place for each ticket.
-    pub fn new(kernel: Kernel<MemLane>, tickets: Tickets) -> MountedDisk
+    pub fn new(kernel: Kernel<MemLane<A>>, tickets: Tickets<A>) -> MountedDisk<A>
         requires { IsWorld kernel tickets }
         ensures { result ≡ value_of kernel tickets }
     {
@@ -90,7 +90,7 @@ impl MountedDisk {
 
     /// Drops the kernel, and lets the disk crash: the open writes of these blocks are kept, and no others. Every lane is at home
     /// then, with no open write; the writes that were under way are given up.
-    pub fn unmount(self, kept: &[u32]) -> UnmountedDisk
+    pub fn unmount(self, kept: &[u32]) -> UnmountedDisk<A>
         ensures { result ≡ model.left (world_with self) kept.now }
     {
         let MountedDisk {

@@ -23,7 +23,7 @@ pub struct Running {
     alloc: Global,
     /// The number of the last kernel.
     kernel: u64,
-    disk: MountedDisk,
+    disk: MountedDisk<Global>,
 }
 
 impl Model for Running {
@@ -47,7 +47,7 @@ impl Drop for Running {
 
 impl Running {
     /// Of a mounted disk, with the number of its kernel.
-    pub(crate) fn new(alloc: Global, kernel: u64, disk: MountedDisk) -> Running
+    pub(crate) fn new(alloc: Global, kernel: u64, disk: MountedDisk<Global>) -> Running
         ensures { result ≡ disk }
     {
         Running {

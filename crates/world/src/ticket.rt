@@ -3,15 +3,16 @@
 ghost use Rattle.std.specs.Prelude.{◌≡◌, Some};
 
 use disk::{DeviceFault, MemLane};
+use std::alloc::Allocator;
 use std::marker::Model;
 use xn_kernel::Ticket;
 
 /// The ticket of a write that is under way. Where it is dropped, the write is given up.
-pub struct DroppableTicket {
-    ticket: Ticket<MemLane>,
+pub struct DroppableTicket<A: Allocator> {
+    ticket: Ticket<MemLane<A>>,
 }
 
-impl Model for DroppableTicket {
+impl<A: Allocator> Model for DroppableTicket<A> {
     ghost use Rattle.disk.specs.Mem.{MemoryLane};
     ghost use Rattle.xn_kernel.specs.Kernels.{TicketValue};
 
@@ -20,25 +21,25 @@ impl Model for DroppableTicket {
     ghost view = { λ a. a.ticket };
 }
 
-impl Drop for DroppableTicket {
+impl<A: Allocator> Drop for DroppableTicket<A> {
     fn drop(self) {
         let DroppableTicket { ticket } = self;
         let _lane = ticket.into_lane();
     }
 }
 
-impl DroppableTicket {
+impl<A: Allocator> DroppableTicket<A> {
     ghost use Rattle.std.specs.Prelude.{OnOk, OnErr, true, false};
     ghost use Rattle.disk.specs.Mem.{memory_write, memory_sync};
     ghost use Rattle.world.specs.Disks.{synced_ticket};
 
-    pub fn new(ticket: Ticket<MemLane>) -> DroppableTicket
+    pub fn new(ticket: Ticket<MemLane<A>>) -> DroppableTicket<A>
         ensures { result ≡ ticket }
     {
         DroppableTicket { ticket }
     }
 
-    pub fn into_ticket(self) -> Ticket<MemLane>
+    pub fn into_ticket(self) -> Ticket<MemLane<A>>
         ensures { result ≡ self }
     {
         let DroppableTicket { ticket } = self;
@@ -46,7 +47,7 @@ impl DroppableTicket {
     }
 
     /// Takes the lane and gives the write up.
-    pub fn into_lane(self) -> MemLane
+    pub fn into_lane(self) -> MemLane<A>
         ensures lane { result ≡ self.lane }
         ensures number { result.number ≡ self.block }
     {
@@ -54,7 +55,7 @@ impl DroppableTicket {
     }
 
     /// The lane, for looking.
-    pub fn lane(&self) -> &MemLane
+    pub fn lane(&self) -> &MemLane<A>
         ensures { result.now ≡ self.now.lane }
     {
         self.ticket.lane()

@@ -7,18 +7,18 @@ ghost use Rattle.world.specs.Disks.{ticket_at, IsLanded, IsFailed, IsSynced, IsS
 
 use crate::ticket::DroppableTicket;
 use disk::DeviceFault;
-use std::alloc::{AllocError, Global};
+use std::alloc::{AllocError, Allocator, Global};
 use std::marker::Model;
 
 /// A place for the ticket of each block. The memory for all of them is taken at once, but a place is written only once a block
 /// from there on gets a ticket: no mount goes through that memory.
-pub struct Tickets {
+pub struct Tickets<A: Allocator> {
     blocks: usize,
     /// The first places; all behind them are empty.
-    front: Vec<Option<DroppableTicket>>,
+    front: Vec<Option<DroppableTicket<A>>>,
 }
 
-impl Model for Tickets {
+impl<A: Allocator> Model for Tickets<A> {
     ghost use Rattle.std.specs.Prelude.{◌≤◌, length, vec_capacity};
     ghost use Rattle.world.specs.Disks.{all_places};
     ghost use Rattle.world.specs.Worlds.{Tickets as Places};
@@ -31,7 +31,7 @@ impl Model for Tickets {
 }
 
 /// Written by hand, so that a function that drops one calls this: a derived drop is proved anew in each such function.
-impl Drop for Tickets {
+impl<A: Allocator> Drop for Tickets<A> {
     fn drop(self) {
         let Tickets {
             blocks: _,
@@ -40,9 +40,9 @@ impl Drop for Tickets {
     }
 }
 
-impl Tickets {
+impl<A: Allocator> Tickets<A> {
     /// An empty place for each block.
-    pub fn new(alloc: Global, blocks: usize) -> Result<Tickets, AllocError>
+    pub fn new(alloc: Global, blocks: usize) -> Result<Tickets<A>, AllocError>
         ensures { IfOk result (λ tickets. tickets ≡ replicate blocks None) }
     {
         let front = Vec::with_capacity(alloc, blocks)?;
@@ -57,14 +57,14 @@ impl Tickets {
     }
 
     /// The ticket of a block, for looking.
-    pub fn get(&self, block: u32) -> Option<&DroppableTicket>
+    pub fn get(&self, block: u32) -> Option<&DroppableTicket<A>>
         ensures { option_copied result ≡ ticket_at self.now block }
     {
         ticket_of(&self.front, block)
     }
 
     /// Puts a ticket into the place of a block.
-    pub fn put(&mut self, block: u32, ticket: DroppableTicket)
+    pub fn put(&mut self, block: u32, ticket: DroppableTicket<A>)
         requires { block < length self.old }
         ensures { self.new ≡ slice_set self.old block (Some ticket) }
     {
@@ -73,7 +73,7 @@ impl Tickets {
     }
 
     /// Takes the ticket of a block, whose place is then empty.
-    pub fn take(&mut self, block: u32) -> Option<DroppableTicket>
+    pub fn take(&mut self, block: u32) -> Option<DroppableTicket<A>>
         ensures ticket { result ≡ ticket_at self.old block }
         ensures rest { self.new ≡ slice_set self.old block None }
     {
@@ -113,7 +113,7 @@ impl Tickets {
 }
 
 /// The ticket of a block among the first places.
-fn ticket_of(front: &[Option<DroppableTicket>], block: u32) -> Option<&DroppableTicket>
+fn ticket_of<A: Allocator>(front: &[Option<DroppableTicket<A>>], block: u32) -> Option<&DroppableTicket<A>>
     ensures { option_copied result ≡ ticket_at front.now block }
 {
     match front.get(block as usize) {
@@ -124,7 +124,7 @@ fn ticket_of(front: &[Option<DroppableTicket>], block: u32) -> Option<&Droppable
 }
 
 /// Makes so many places, or leaves them where there are as many.
-fn make_places(front: &mut Vec<Option<DroppableTicket>>, count: usize)
+fn make_places<A: Allocator>(front: &mut Vec<Option<DroppableTicket<A>>>, count: usize)
     requires { count ≤ vec_capacity front.old }
     ensures made { front.new.items ≡ front.old.items ++ replicate (count - length front.old.items) None }
     ensures capacity { vec_capacity front.new ≡ vec_capacity front.old }
@@ -135,7 +135,7 @@ fn make_places(front: &mut Vec<Option<DroppableTicket>>, count: usize)
 }
 
 /// Carries out the write of a block, if there is a ticket for it.
-fn land_at(front: &mut Vec<Option<DroppableTicket>>, block: u32) -> Option<Result<(), DeviceFault>>
+fn land_at<A: Allocator>(front: &mut Vec<Option<DroppableTicket<A>>>, block: u32) -> Option<Result<(), DeviceFault>>
     ensures landed { IsLanded front.old.items block result front.new.items }
     ensures count { length front.new.items ≡ length front.old.items }
     ensures capacity { vec_capacity front.new ≡ vec_capacity front.old }
@@ -150,8 +150,8 @@ fn land_at(front: &mut Vec<Option<DroppableTicket>>, block: u32) -> Option<Resul
 }
 
 /// Lets the write of a block fail, if there is a ticket for it.
-fn fail_at(
-    front: &mut Vec<Option<DroppableTicket>>,
+fn fail_at<A: Allocator>(
+    front: &mut Vec<Option<DroppableTicket<A>>>,
     block: u32,
     new_bytes_stay: bool,
 ) -> Option<Result<(), DeviceFault>>
@@ -169,7 +169,7 @@ fn fail_at(
 }
 
 /// Syncs a block, if there is a ticket for it.
-fn sync_at(front: &mut Vec<Option<DroppableTicket>>, block: u32) -> Option<Result<(), DeviceFault>>
+fn sync_at<A: Allocator>(front: &mut Vec<Option<DroppableTicket<A>>>, block: u32) -> Option<Result<(), DeviceFault>>
     ensures synced { IsSynced front.old.items block result front.new.items }
     ensures count { length front.new.items ≡ length front.old.items }
     ensures capacity { vec_capacity front.new ≡ vec_capacity front.old }
@@ -184,8 +184,8 @@ fn sync_at(front: &mut Vec<Option<DroppableTicket>>, block: u32) -> Option<Resul
 }
 
 /// Lets the sync of a block fail, if there is a ticket for it.
-fn fail_sync_at(
-    front: &mut Vec<Option<DroppableTicket>>,
+fn fail_sync_at<A: Allocator>(
+    front: &mut Vec<Option<DroppableTicket<A>>>,
     block: u32,
 ) -> Option<Result<(), DeviceFault>>
     ensures failed { IsSyncFailed front.old.items block result front.new.items }

@@ -16,19 +16,19 @@ use crate::ticket::DroppableTicket;
 use crate::tickets::Tickets;
 use crash_check::{ImageFault, mount};
 use disk::{BLOCK_LEN, Lanes, MemLane, lanes_from};
-use std::alloc::{AllocError, Global};
+use std::alloc::{AllocError, Allocator, Global};
 use std::marker::Model;
 use std::thread::Threads;
 use xn_kernel::Kernel;
 use xn_state::State;
 
 /// A disk in memory whose lanes are all at home, and the empty places of its tickets.
-pub struct UnmountedDisk {
-    lanes: Lanes<MemLane>,
-    tickets: Tickets,
+pub struct UnmountedDisk<A: Allocator> {
+    lanes: Lanes<MemLane<A>>,
+    tickets: Tickets<A>,
 }
 
-impl Model for UnmountedDisk {
+impl<A: Allocator> Model for UnmountedDisk<A> {
     ghost use Rattle.std.specs.Prelude.{List, ℕ};
     ghost use Rattle.world.specs.Disks.{image_of, IsUnmounted};
 
@@ -40,7 +40,7 @@ impl Model for UnmountedDisk {
 }
 
 /// Written by hand, so that a function that drops one calls this: a derived drop is proved anew in each such function.
-impl Drop for UnmountedDisk {
+impl<A: Allocator> Drop for UnmountedDisk<A> {
     fn drop(self) {
         let UnmountedDisk {
             lanes: _,
@@ -49,24 +49,13 @@ impl Drop for UnmountedDisk {
     }
 }
 
-impl UnmountedDisk {
+impl<A: Allocator> UnmountedDisk<A> {
     /// The disk of these lanes.
-    pub fn new(lanes: Lanes<MemLane>, tickets: Tickets) -> UnmountedDisk
+    pub fn new(lanes: Lanes<MemLane<A>>, tickets: Tickets<A>) -> UnmountedDisk<A>
         requires { IsUnmounted lanes tickets }
         ensures { result ≡ image_of lanes tickets }
     {
         UnmountedDisk { lanes, tickets }
-    }
-
-    /// The disk of an image, which is whole blocks, with a place for the ticket of each block.
-    pub fn of_image(alloc: Global, image: Vec<u8>) -> Result<UnmountedDisk, AllocError>
-        requires whole { length image.items % 512 ≡ 0 }
-        requires small { length image.items < 512 * 2 ^ 32 }
-        ensures { IfOk result (λ disk. disk ≡ blocks_in image.items) }
-    {
-        let lanes = lanes_from(alloc, image)?;
-        let tickets = Tickets::new(alloc, lanes.blocks())?;
-        Ok(UnmountedDisk::new(lanes, tickets))
     }
 
     /// Mounts the disk, by a kernel of this number. `Err` has the first fault and gives the disk back; of a sound disk it
@@ -76,7 +65,7 @@ impl UnmountedDisk {
         rt: &(impl Threads + Sync),
         alloc: Global,
         id: u64,
-    ) -> Result<MountedDisk, (ImageFault, UnmountedDisk)>
+    ) -> Result<MountedDisk<A>, (ImageFault, UnmountedDisk<A>)>
         ensures ok { IfOk result (λ disk. disk ≡ mounted_value self) }
         ensures sound { IfOk result (λ disk. IsSound (types_of_image self) (length self) (block_of self)) }
         ensures back { IfErr result (λ back. back.1 ≡ self) }
@@ -91,7 +80,7 @@ impl UnmountedDisk {
     }
 
     /// Mounts the disk, which is sound and of which all is known, by a kernel of this number: no lane is read.
-    pub fn mount_known(self, id: u64, state: State) -> MountedDisk
+    pub fn mount_known(self, id: u64, state: State) -> MountedDisk<A>
         requires sound { IsSound (types_of_image self) (length self) (block_of self) }
         requires known { state ≡ state_of self }
         ensures { result ≡ mounted_value self }
@@ -134,9 +123,27 @@ impl UnmountedDisk {
     }
 }
 
+impl<A: Allocator + Copy> UnmountedDisk<A> {
+    /// The disk of an image, which is whole blocks, with a place for the ticket of each block. The memory of each lane's second lot of bytes is taken
+    /// from `rooms`.
+    pub fn of_image(
+        alloc: Global,
+        rooms: A,
+        image: Vec<u8>,
+    ) -> Result<UnmountedDisk<A>, AllocError>
+        requires whole { length image.items % 512 ≡ 0 }
+        requires small { length image.items < 512 * 2 ^ 32 }
+        ensures { IfOk result (λ disk. disk ≡ blocks_in image.items) }
+    {
+        let lanes = lanes_from(alloc, rooms, image)?;
+        let tickets = Tickets::new(alloc, lanes.blocks())?;
+        Ok(UnmountedDisk::new(lanes, tickets))
+    }
+}
+
 /// The bytes of all lanes, block after block. Each lane is dropped as soon as its bytes are copied, while what it stands in is in the
 /// processor's memory.
-pub fn bytes_of_all(alloc: Global, mut lanes: Lanes<MemLane>) -> Result<Vec<u8>, AllocError>
+pub fn bytes_of_all<A: Allocator>(alloc: Global, mut lanes: Lanes<MemLane<A>>) -> Result<Vec<u8>, AllocError>
     requires { AllByRecursion IsLaneHome lanes }
     ensures { IfOk result (λ image. image.items ≡ joined (image_of lanes (replicate (length lanes) None))) }
 {
@@ -150,7 +157,7 @@ pub fn bytes_of_all(alloc: Global, mut lanes: Lanes<MemLane>) -> Result<Vec<u8>,
 }
 
 /// Takes the lane of a block, which is at home.
-fn take_home(lanes: &mut Lanes<MemLane>, block: u32) -> MemLane
+fn take_home<A: Allocator>(lanes: &mut Lanes<MemLane<A>>, block: u32) -> MemLane<A>
     requires home { slice_get lanes.old block ≢ Some None }
     requires within { block < length lanes.old }
     ensures lane { slice_get lanes.old block ≡ Some (Some result) }
@@ -163,7 +170,7 @@ fn take_home(lanes: &mut Lanes<MemLane>, block: u32) -> MemLane
 }
 
 /// Puts the lane of each ticket back in its place.
-pub fn take_lanes_back(lanes: &mut Lanes<MemLane>, tickets: &mut Tickets)
+pub fn take_lanes_back<A: Allocator>(lanes: &mut Lanes<MemLane<A>>, tickets: &mut Tickets<A>)
     requires { AreWhole lanes.old tickets.old }
     ensures home { AllByRecursion IsLaneHome lanes.new }
     ensures empty { tickets.new ≡ replicate (length lanes.new) None }
@@ -178,7 +185,7 @@ pub fn take_lanes_back(lanes: &mut Lanes<MemLane>, tickets: &mut Tickets)
 }
 
 /// Each lane crashes: the open writes of these blocks are kept, and no others.
-pub fn crash_lanes(lanes: &mut Lanes<MemLane>, kept: &[u32])
+pub fn crash_lanes<A: Allocator>(lanes: &mut Lanes<MemLane<A>>, kept: &[u32])
     ensures crashed { HaveCrashed kept.now lanes.old lanes.new }
     ensures long { AreLong lanes.new }
 {
@@ -188,7 +195,7 @@ pub fn crash_lanes(lanes: &mut Lanes<MemLane>, kept: &[u32])
 }
 
 /// The lane of a block crashes.
-fn crash_lane(lanes: &mut Lanes<MemLane>, block: u32, kept: bool)
+fn crash_lane<A: Allocator>(lanes: &mut Lanes<MemLane<A>>, block: u32, kept: bool)
     requires { block < length lanes.old }
     ensures crashed { lanes.new ≡ slice_set lanes.old block (option_map (λ lane. crashed_lane lane kept) (lane_at lanes.old block)) }
     ensures long { IsLong (lane_at lanes.new block) }
@@ -214,7 +221,7 @@ pub fn is_whole(bytes: &[u8; BLOCK_LEN])
 }
 
 /// Puts a ticket's lane back in its place.
-fn give_back(lanes: &mut Lanes<MemLane>, ticket: Option<DroppableTicket>)
+fn give_back<A: Allocator>(lanes: &mut Lanes<MemLane<A>>, ticket: Option<DroppableTicket<A>>)
     requires { IfSome ticket (λ t. slice_get lanes.old t.block ≡ Some None) }
     ensures { lanes.new ≡ lanes_with lanes.old ticket }
 {

@@ -26,7 +26,7 @@ use crate::unmounted::{UnmountedDisk, is_whole};
 use crash_check::{ImageFault, state_of};
 use events::{Event, Reply};
 use ffs_model::{events_keep_cuts, image_is_cut};
-use std::alloc::{AllocError, Global};
+use std::alloc::{AllocError, Allocator, Global};
 use std::marker::Model;
 use std::thread::Threads;
 use templates::{FormatFault, Template, format_image};
@@ -34,17 +34,17 @@ use xn_model::Refusal;
 use xn_state::{Answer, EditId, Landed, State, Stopped};
 
 /// A disk in memory, its kernel, and the tickets of the writes that are under way. After a crash whose mount found no memory it
-/// is down, and has no kernel.
-pub struct World {
+/// is down, and has no kernel. The second lots of its lanes' bytes have their memory from `A`.
+pub struct World<A: Allocator = Global> {
     alloc: Global,
     /// The number of the last kernel.
     kernel: u64,
-    mounted: Option<MountedDisk>,
+    mounted: Option<MountedDisk<A>>,
     /// The disk while the world is down.
-    unmounted: Option<UnmountedDisk>,
+    unmounted: Option<UnmountedDisk<A>>,
 }
 
-impl Model for World {
+impl<A: Allocator> Model for World<A> {
     ghost use Rattle.world.specs.Worlds.{WorldValue, world_value, IsWorldOf};
 
     ghost Value = { WorldValue };
@@ -55,7 +55,7 @@ impl Model for World {
 }
 
 /// Written by hand, so that a function that drops one calls this: a derived drop is proved anew in each such function.
-impl Drop for World {
+impl<A: Allocator> Drop for World<A> {
     fn drop(self) {
         let World {
             alloc: _,
@@ -102,7 +102,7 @@ impl World {
     {
         let state = state_of(rt, alloc, image)?;
         match Vec::from_slice(alloc, image) {
-            Ok(image) => World::known(alloc, image, state),
+            Ok(image) => World::known(alloc, alloc, image, state),
             Err(_) => Err(ImageFault::NoMemory),
         }
     }
@@ -118,23 +118,70 @@ impl World {
         ensures err { IfErr result (λ fault. (fault ≡ ImageFault.NoMemory) ⊎ (verdict (types_of_image (blocks_in image.items)) image.items ≡ Err fault)) }
         ensures head_first { IfErr result (λ fault. fault ≡ ImageFault.NoMemory → head_fault image.items ≡ None) }
     {
+        World::open_image_in(rt, alloc, alloc, image)
+    }
+
+    /// The world as a store, for as long as no crash comes. `Err` gives it back, and comes only while it is down.
+    pub fn into_running(self) -> Result<Running, World>
+        ensures ok { IfOk result (λ running. (running ≡ self) × (running.down ≡ false)) }
+        ensures err { IfErr result (λ back. (back ≡ self) × (back.down ≡ true)) }
+    {
+        let World {
+            alloc,
+            kernel,
+            mounted,
+            unmounted,
+        } = self;
+        match mounted {
+            Some(disk) => Ok(Running::new(alloc, kernel, disk)),
+            None => Err(World {
+                alloc,
+                kernel,
+                mounted: None,
+                unmounted,
+            }),
+        }
+    }
+}
+
+impl<A: Allocator + Copy> World<A> {
+    /// The same, where the memory of each lane's second lot of bytes is taken from `rooms`. It is asked for at once, since no write may want any, and
+    /// first used by a write: from an allocator that keeps nothing beside what it gives, blocks that are never written take no page for it.
+    pub fn open_image_in(
+        rt: &(impl Threads + Sync),
+        alloc: Global,
+        rooms: A,
+        image: Vec<u8>,
+    ) -> Result<World<A>, ImageFault>
+        ensures ok { IfOk result (λ world. IsSoundImage (types_of_image (blocks_in image.items)) image.items
+            × (world_with world ≡ mounted_disk language (blocks_in image.items))) }
+        ensures err { IfErr result (λ fault. (fault ≡ ImageFault.NoMemory) ⊎ (verdict (types_of_image (blocks_in image.items)) image.items ≡ Err fault)) }
+        ensures head_first { IfErr result (λ fault. fault ≡ ImageFault.NoMemory → head_fault image.items ≡ None) }
+    {
         let state = state_of(rt, alloc, &image)?;
-        World::known(alloc, image, state)
+        World::known(alloc, rooms, image, state)
     }
 
     /// The disk of a sound image, mounted with what is known of its blocks.
-    fn known(alloc: Global, image: Vec<u8>, state: State) -> Result<World, ImageFault>
+    fn known(
+        alloc: Global,
+        rooms: A,
+        image: Vec<u8>,
+        state: State,
+    ) -> Result<World<A>, ImageFault>
         requires sound { IsSoundImage (types_of_image (blocks_in image.items)) image.items }
         requires state { state ≡ state_of (blocks_in image.items) }
         ensures ok { IfOk result (λ world. world_with world ≡ mounted_disk language (blocks_in image.items)) }
         ensures err { IfErr result (λ fault. fault ≡ ImageFault.NoMemory) }
     {
-        match UnmountedDisk::of_image(alloc, image) {
+        match UnmountedDisk::of_image(alloc, rooms, image) {
             Ok(disk) => Ok(World::mounted(alloc, 1, disk.mount_known(1, state))),
             Err(_) => Err(ImageFault::NoMemory),
         }
     }
+}
 
+impl<A: Allocator> World<A> {
     /// One event. The reply and the world after it are a step of the model; and each block that the
     /// root reaches in an image that a crash may leave holds a state of its life, from the durable to the begun one, and has
     /// one owner. After any event but a crash, or an edit by a file system, each cut of the lives reaches from that file system's
@@ -272,28 +319,6 @@ impl World {
         }
     }
 
-    /// The world as a store, for as long as no crash comes. `Err` gives it back, and comes only while it is down.
-    pub fn into_running(self) -> Result<Running, World>
-        ensures ok { IfOk result (λ running. (running ≡ self) × (running.down ≡ false)) }
-        ensures err { IfErr result (λ back. (back ≡ self) × (back.down ≡ true)) }
-    {
-        let World {
-            alloc,
-            kernel,
-            mounted,
-            unmounted,
-        } = self;
-        match mounted {
-            Some(disk) => Ok(Running::new(alloc, kernel, disk)),
-            None => Err(World {
-                alloc,
-                kernel,
-                mounted: None,
-                unmounted,
-            }),
-        }
-    }
-
     /// Whether the last crash's mount found no memory.
     pub fn is_down(&self) -> bool
         ensures { result ≡ self.now.down }
@@ -305,7 +330,7 @@ impl World {
     }
 
     /// The world of a mounted disk, with the number of its kernel.
-    pub(crate) fn mounted(alloc: Global, kernel: u64, disk: MountedDisk) -> World
+    pub(crate) fn mounted(alloc: Global, kernel: u64, disk: MountedDisk<A>) -> World<A>
         ensures { result ≡ disk }
     {
         World {
@@ -427,11 +452,11 @@ fn are_events(events: &[Event])
 }
 
 /// What a crash leaves of the disk of a world, whether it is mounted or not, with all lanes at home.
-fn taken(
-    mounted: Option<MountedDisk>,
-    unmounted: Option<UnmountedDisk>,
+fn taken<A: Allocator>(
+    mounted: Option<MountedDisk<A>>,
+    unmounted: Option<UnmountedDisk<A>>,
     kept: &[u32],
-) -> UnmountedDisk
+) -> UnmountedDisk<A>
     requires { IsWorldOf mounted unmounted }
     ensures image { result ≡ model.left (world_with (world_value mounted unmounted)) kept.now }
     ensures sound { IsSoundDisk result }

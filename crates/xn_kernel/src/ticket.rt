@@ -5,6 +5,7 @@ ghost use Rattle.disk.specs.Lanes.{CountsOne, LeavesNoMore, LeavesOnly, LeavesAl
 ghost use Rattle.xn_kernel.specs.Kernels.{TicketValue};
 
 use disk::{DeviceFault, Lane, MemLane};
+use std::alloc::Allocator;
 use std::marker::Model;
 
 /// A write that was begun: the block's lane, and the bytes that the block's safe entries leave.
@@ -118,7 +119,7 @@ impl<L: Lane> Ticket<L> {
     }
 }
 
-impl Ticket<MemLane> {
+impl<A: Allocator> Ticket<MemLane<A>> {
     ghost use Rattle.std.specs.Prelude.{Some, true};
 
     /// Lets the next write of the block fail, and that one alone. The block then holds the new bytes or keeps the old ones, as

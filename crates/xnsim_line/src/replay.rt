@@ -11,8 +11,9 @@ ghost use Rattle.xnsim_line.specs.Stops.{IsAskedOn, IsAskedRun};
 use crate::Fault;
 use crate::invocation::Stop;
 use crate::stopping::run_lines_until;
+use bumpalo::Bump;
 use script::{ScriptLine, print_reply};
-use std::alloc::{AllocError, Global};
+use std::alloc::{AllocError, Allocator, Global};
 use std::io::Write;
 use std::thread::Threads;
 use templates::{FormatFault, Template};
@@ -37,9 +38,9 @@ fn fresh_world(
 }
 
 /// Leaves the event that a line spells in `event`, which holds `Begin(0)` until then, runs it on a world, leaves its reply in `reply`, and prints it.
-fn run_line<'a, W: Write>(
+fn run_line<'a, A: Allocator, W: Write>(
     rt: &(impl Threads + Sync),
-    world: &mut World,
+    world: &mut World<A>,
     line: ScriptLine<'_>,
     event: &mut Event,
     reply: &mut Reply,
@@ -58,9 +59,9 @@ fn run_line<'a, W: Write>(
 /// Runs the events that these lines spell on a world, and prints a reply an event. Events and replies have their room here, where it is cleared once
 /// for all lines.
 #[tactic(auto, using(crate::proofs::ScriptRuns::line_run))]
-fn run_lines<'a, W: Write>(
+fn run_lines<'a, A: Allocator, W: Write>(
     rt: &(impl Threads + Sync),
-    world: &mut World,
+    world: &mut World<A>,
     lines: Vec<ScriptLine<'_>>,
     out: &mut W,
 ) -> Result<(), Fault<'a>>
@@ -77,10 +78,10 @@ fn run_lines<'a, W: Write>(
 }
 
 /// Runs the events that these lines spell on a world, to their end or to a stop.
-fn run_asked<'a, W: Write>(
+fn run_asked<'a, A: Allocator, W: Write>(
     rt: &(impl Threads + Sync),
     alloc: Global,
-    world: &mut World,
+    world: &mut World<A>,
     lines: Vec<ScriptLine<'_>>,
     stop: Option<Stop>,
     out: &mut W,
@@ -97,7 +98,7 @@ fn run_asked<'a, W: Write>(
 }
 
 /// The bytes that are on the disk after a run.
-fn end_run<'a>(world: World, ran: Result<(), Fault<'a>>) -> Result<Vec<u8>, Fault<'a>>
+fn end_run<'a, A: Allocator>(world: World<A>, ran: Result<(), Fault<'a>>) -> Result<Vec<u8>, Fault<'a>>
     requires { IfErr ran IsRunFault }
     ensures ran { OnOk result (IsOk ran.entry) }
     ensures image { IfOk result (λ image. image.items ≡ joined world.image) }
@@ -144,7 +145,9 @@ pub fn run_on_image<'a, W: Write>(
         (λ events. IsAskedRun stop image.items events (W.contents out.old) (W.contents out.new) after.items)) }
     ensures fault { IfErr result (IsFaultOnImage image.items) }
 {
-    let opened = World::open_image(rt, alloc, image);
+    // Blocks that no line writes take no page for their second lots.
+    let rooms = Bump::new(alloc);
+    let opened = World::open_image_in(rt, alloc, &rooms, image);
     match opened {
         Ok(mut world) => {
             let ran = run_asked(rt, alloc, &mut world, lines, stop, out);

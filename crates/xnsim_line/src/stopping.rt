@@ -16,7 +16,7 @@ ghost use Rattle.xnsim_line.specs.Stops.{is_drain, is_write, writes_by, IsHeldBa
 use crate::Fault;
 use crate::invocation::Stop;
 use script::{ScriptLine, print_reply};
-use std::alloc::Global;
+use std::alloc::{Allocator, Global};
 use std::io;
 use std::io::Write;
 use std::thread::Threads;
@@ -31,7 +31,7 @@ fn print_stopped<W: Write>(out: &mut W) -> io::Result<()>
 }
 
 /// Whether the event writes a block by itself: it lands a write that is under way, or lets it fail.
-fn is_write(world: &World, event: &Event) -> bool
+fn is_write<A: Allocator>(world: &World<A>, event: &Event) -> bool
     ensures write { result ≡ is_write (world_with world.now) (event_of event.now) }
     ensures up { IsTrue result → world.now.down ≡ false }
 {
@@ -68,7 +68,7 @@ fn writes_by(event: &Event, reply: &Reply) -> u32
 }
 
 /// The block that is picked.
-fn pick(rt: &(impl Threads + Sync), world: &mut World, fs: Fs) -> Option<u32>
+fn pick<A: Allocator>(rt: &(impl Threads + Sync), world: &mut World<A>, fs: Fs) -> Option<u32>
     requires { world.old.down ≡ false }
     ensures picked { result ≡ pick_of world.old.state }
     ensures same { world_with world.new ≡ world_with world.old }
@@ -80,7 +80,7 @@ fn pick(rt: &(impl Threads + Sync), world: &mut World, fs: Fs) -> Option<u32>
 }
 
 /// Writes a block, from its begin to its finish.
-fn write_out(rt: &(impl Threads + Sync), world: &mut World, block: u32)
+fn write_out<A: Allocator>(rt: &(impl Threads + Sync), world: &mut World<A>, block: u32)
     requires { world.old.down ≡ false }
     ensures written { world_with world.new ≡ write_out (world_with world.old) block }
     ensures up { world.new.down ≡ false }
@@ -92,7 +92,7 @@ fn write_out(rt: &(impl Threads + Sync), world: &mut World, block: u32)
 }
 
 /// Writes the picked block again and again, at most so many times, and answers how often that was.
-fn write_at_most(rt: &(impl Threads + Sync), world: &mut World, fs: Fs, limit: u32) -> u32
+fn write_at_most<A: Allocator>(rt: &(impl Threads + Sync), world: &mut World<A>, fs: Fs, limit: u32) -> u32
     requires { world.old.down ≡ false }
     ensures rounds { drain_for limit 0 (world_with world.old) ≡ (result, world_with world.new) }
     ensures few { result ≤ limit }
@@ -108,9 +108,9 @@ fn write_at_most(rt: &(impl Threads + Sync), world: &mut World, fs: Fs, limit: u
 }
 
 /// One event, of which as many block writes come as may.
-fn step_counted(
+fn step_counted<A: Allocator>(
     rt: &(impl Threads + Sync),
-    world: &mut World,
+    world: &mut World<A>,
     event: &Event,
     left: &mut u64,
 ) -> Reply
@@ -125,9 +125,9 @@ fn step_counted(
 }
 
 /// A drain with no write under way, of which at most so many may come: those that are left. `None` is for one more.
-fn drain_counted(
+fn drain_counted<A: Allocator>(
     rt: &(impl Threads + Sync),
-    world: &mut World,
+    world: &mut World<A>,
     fs: Fs,
     limit: u32,
     left: &mut u64,
@@ -151,9 +151,9 @@ fn drain_counted(
 }
 
 /// A drain. `None` is for a block write that may not come any more.
-fn drain_within(
+fn drain_within<A: Allocator>(
     rt: &(impl Threads + Sync),
-    world: &mut World,
+    world: &mut World<A>,
     fs: Fs,
     left: &mut u64,
 ) -> Option<Reply>
@@ -175,9 +175,9 @@ fn drain_within(
 }
 
 /// An event that is no drain. `None` is for a block write that may not come any more.
-fn step_within(
+fn step_within<A: Allocator>(
     rt: &(impl Threads + Sync),
-    world: &mut World,
+    world: &mut World<A>,
     event: &Event,
     left: &mut u64,
 ) -> Option<Reply>
@@ -196,9 +196,9 @@ fn step_within(
 }
 
 /// One event. `None` is for a block write that may not come any more; the world is then as before that write.
-fn go_on_within(
+fn go_on_within<A: Allocator>(
     rt: &(impl Threads + Sync),
-    world: &mut World,
+    world: &mut World<A>,
     event: &Event,
     left: &mut u64,
 ) -> Option<Reply>
@@ -214,9 +214,9 @@ fn go_on_within(
 
 /// Runs the event that a line spells, and prints its reply; or prints that the run stopped, where a block write may not come any
 /// more, and answers false.
-fn run_line_within<'a, W: Write>(
+fn run_line_within<'a, A: Allocator, W: Write>(
     rt: &(impl Threads + Sync),
-    world: &mut World,
+    world: &mut World<A>,
     line: ScriptLine<'_>,
     left: &mut u64,
     out: &mut W,
@@ -241,7 +241,7 @@ fn run_line_within<'a, W: Write>(
 }
 
 /// Where a stop loses what is not settled, the disk has from then on what a crash leaves that keeps no open write.
-fn lose_unsettled(rt: &(impl Threads + Sync), alloc: Global, world: &mut World, stop: Stop)
+fn lose_unsettled<A: Allocator>(rt: &(impl Threads + Sync), alloc: Global, world: &mut World<A>, stop: Stop)
     ensures { world.new.image ≡ cond stop.loses (model.left (world_with world.old) []) world.old.image }
 {
     if stop.loses {
@@ -251,10 +251,10 @@ fn lose_unsettled(rt: &(impl Threads + Sync), alloc: Global, world: &mut World, 
 
 /// Runs the events that these lines spell on a world, to their end or to a stop immediately before the block write that comes after
 /// so many, where perhaps all that is not settled is lost. Prints a reply an event, and whether the run stopped.
-pub fn run_lines_until<'a, W: Write>(
+pub fn run_lines_until<'a, A: Allocator, W: Write>(
     rt: &(impl Threads + Sync),
     alloc: Global,
-    world: &mut World,
+    world: &mut World<A>,
     lines: Vec<ScriptLine<'_>>,
     stop: Stop,
     out: &mut W,

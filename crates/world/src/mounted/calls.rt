@@ -9,10 +9,11 @@ ghost use Rattle.world.specs.Worlds.{world_with};
 
 use crate::mounted::MountedDisk;
 use events::Reply;
+use std::alloc::Allocator;
 use xn_kernel::DrainStop;
 use xn_state::{Answer, Call, Fs, Stopped};
 
-impl MountedDisk {
+impl<A: Allocator> MountedDisk<A> {
     /// A client's call. Its answer is left in `reply` at once where it is short.
     #[inline(always)]
     pub(crate) fn call(&mut self, fs: Fs, call: &Call, reply: &mut Reply)

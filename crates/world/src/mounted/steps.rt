@@ -8,8 +8,9 @@ ghost use Rattle.world.specs.Worlds.{world_with};
 use crate::mounted::MountedDisk;
 use crate::ticket::DroppableTicket;
 use events::Reply;
+use std::alloc::Allocator;
 
-impl MountedDisk {
+impl<A: Allocator> MountedDisk<A> {
     /// A write of a block begins, and its ticket is kept. It is not inlined, so that no other event clears the room of a ticket for it.
     #[inline(never)]
     pub(crate) fn begin(&mut self, block: u32, reply: &mut Reply)

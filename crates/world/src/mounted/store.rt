@@ -9,11 +9,12 @@ ghost use Rattle.xn_state.specs.States.{own_types};
 ghost use Rattle.world.specs.Worlds.{WorldValue};
 
 use crate::mounted::MountedDisk;
+use std::alloc::Allocator;
 use templates::Template;
 use xn_model::Refusal;
 use xn_state::{Edit, EditId, Fs};
 
-impl MountedDisk {
+impl<A: Allocator> MountedDisk<A> {
     /// Starts a life with these bytes on the lowest free block.
     pub(crate) fn init(
         &mut self,

@@ -10,7 +10,7 @@ shorter : (xs ys : List ℕ) (m n k : ℕ) → ys ≡ take m xs → k ≤ m → 
 shorter xs ys m n k is le same = grind (arith, common_steps)
 
 pub loop-done-preserved : goal.loop-done-preserved
-loop-done-preserved c =
+loop-done-preserved g c =
     let all = c.args.image.items in
     let n = c.len.result / 512 in
     let done = c.loop-done.done in

@@ -4,7 +4,7 @@ use Rattle.disk.specs.Images.{block_of_image}
 use Rattle.disk.proofs.mem.lanes_from.Given as goal
 
 abbrev pub invariant-loop-done : goal.invariant-loop-done
-invariant-loop-done l = record {
+invariant-loop-done g l = record {
   rest : l.image.items ≡ take (512 * (l.blocks - l.done)) l.initial.image.items;
   count : length l.lanes ≡ l.blocks;
   empty : (k : ℕ) → k + l.done < l.blocks → slice_get l.lanes k ≡ Some None;

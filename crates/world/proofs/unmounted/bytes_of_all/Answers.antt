@@ -8,7 +8,7 @@ use Rattle.world.proofs.Images.{block_of-home, length-image_of}
 use Rattle.world.proofs.unmounted.bytes_of_all.Goals as goal
 
 pub loop-block-preserved : goal.loop-block-preserved
-loop-block-preserved c =
+loop-block-preserved g c =
     let lanes = c.args.lanes in
     let block = c.loop-block.block in
     let lane = c.take_home-lane.result in
@@ -24,7 +24,7 @@ loop-block-preserved c =
     }
 
 pub returns : goal.returns
-returns c =
+returns g c =
     let lanes = c.args.lanes in
     let long = length-image_of lanes (replicate (length lanes) None) in
     c.loop-block.invariant.image ∙ ap joined (take_all c.loop-block.block (image_of lanes (replicate (length lanes) None)) (omega arith))

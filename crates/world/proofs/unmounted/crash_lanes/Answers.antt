@@ -4,7 +4,7 @@ use Rattle.world.proofs.Crashing.{one_crashed, all_crashed, more_long}
 use Rattle.world.proofs.unmounted.crash_lanes.Goals as goal
 
 pub loop-block-preserved : goal.loop-block-preserved
-loop-block-preserved c =
+loop-block-preserved g c =
     let l = c.loop-block in
     let b = l.block-counter in
     let long = l.invariant.2 in
@@ -17,7 +17,7 @@ loop-block-preserved c =
     )
 
 pub returns-clause-crashed : goal.returns-clause-crashed
-returns-clause-crashed c =
+returns-clause-crashed g c =
     let done = c.loop-block-test.false in
     let long = c.loop-block.invariant.2 in
     let count = c.loop-block.invariant.0.count in
@@ -25,7 +25,7 @@ returns-clause-crashed c =
     all_crashed c.args.kept.now c.args.lanes.now c.loop-block.lanes c.loop-block.block-counter past c.loop-block.invariant.0
 
 pub returns-clause-long : goal.returns-clause-long
-returns-clause-long c = λ b lt.
+returns-clause-long g c = λ b lt.
     let done = c.loop-block-test.false in
     let long = c.loop-block.invariant.2 in
     c.loop-block.invariant.1 b (omega arith)

@@ -8,7 +8,7 @@ use Rattle.world.proofs.Stepping.{begin_step, begin_world}
 use Rattle.world.proofs.mounted.MountedDisk.begin.Goals as goal
 
 pub returns-in-Ok : goal.returns-in-Ok
-returns-in-Ok c =
+returns-in-Ok g c =
     let begun = gives_exactly-ok (begun_of c.self.inside.kernel.state c.args.block) c.self.inside.kernel.state c.begin.new.self.state (c.in-Ok.ticket.bytes, c.in-Ok.ticket.count) c.in-Ok.ensures.state in
     let step = begin_step c.self.inside.kernel c.self.inside.tickets c.self.invariant c.args.block (c.in-Ok.ticket.bytes, c.in-Ok.ticket.count) c.begin.new.self.state begun c.in-Ok.ticket (refl, refl)
     (c.in-Ok.ensures.ticket.0, c.in-Ok.ensures.ticket.1) c.in-Ok.ensures.ticket.2 c.in-Ok.ensures.ticket.3 in
@@ -16,7 +16,7 @@ returns-in-Ok c =
     (rw (c.count-entries.ensures, c.put.ensures, c.new.ensures, c.in-Ok.ensures.lanes) step)
 
 pub invariant_of-self-in-Ok : goal.invariant_of-self-in-Ok
-invariant_of-self-in-Ok c =
+invariant_of-self-in-Ok g c =
     let begun = gives_exactly-ok (begun_of c.self.inside.kernel.state c.args.block) c.self.inside.kernel.state c.begin.new.self.state (c.in-Ok.ticket.bytes, c.in-Ok.ticket.count) c.in-Ok.ensures.state in
     let leaves = begin_world c.self.inside.kernel c.self.inside.tickets c.self.invariant c.args.block (c.in-Ok.ticket.bytes, c.in-Ok.ticket.count) c.begin.new.self.state begun c.in-Ok.ticket (refl, refl)
     (c.in-Ok.ensures.ticket.0, c.in-Ok.ensures.ticket.1) c.in-Ok.ensures.ticket.2 c.in-Ok.ensures.ticket.3 in

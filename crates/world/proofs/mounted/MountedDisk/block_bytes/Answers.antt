@@ -10,7 +10,7 @@ use Rattle.world.proofs.Sizes.{few, long, nowhere}
 use Rattle.world.proofs.mounted.MountedDisk.block_bytes.Goals as goal
 
 pub overflow_cast-block : goal.overflow_cast-block
-overflow_cast-block c =
+overflow_cast-block g c =
     let size = few c.self.inside.kernel c.self.inside.tickets c.self.invariant in
     let same = long c.self.inside.kernel c.self.inside.tickets c.self.invariant in
     let seen : length (image_of c.self.inside.kernel.lanes c.self.inside.tickets) ≡ length c.args.self.now.image = ap (λ (v : WorldValue). length v.image) c.self.view_is in
@@ -18,7 +18,7 @@ overflow_cast-block c =
     omega arith
 
 pub unreachable-requires : goal.unreachable-requires
-unreachable-requires c =
+unreachable-requires g c =
     let same = long c.self.inside.kernel c.self.inside.tickets c.self.invariant in
     let seen : length (image_of c.self.inside.kernel.lanes c.self.inside.tickets) ≡ length c.args.self.now.image = ap (λ (v : WorldValue). length v.image) c.self.view_is in
     let asked = c.requires in
@@ -28,13 +28,13 @@ unreachable-requires c =
     nowhere c.self.inside.kernel c.self.inside.tickets c.self.invariant c.args.block within home ticket
 
 pub returns-in-Some : goal.returns-in-Some
-returns-in-Some c =
+returns-in-Some g c =
     let home = sym c.lane.ensures ∙ ap option_copied c.in-Some.is in
     c.bytes.ensures ∙ (sym (block_of-home c.self.inside.kernel.lanes c.self.inside.tickets c.args.block c.in-Some.lane.now (full_get c.self.inside.kernel.lanes c.args.block c.in-Some.lane.now home))
     ∙ ap (λ (v : WorldValue). block_of v.image c.args.block) c.self.view_is)
 
 pub returns-in-Some-get : goal.returns-in-Some-get
-returns-in-Some-get c =
+returns-in-Some-get g c =
     let same = long c.self.inside.kernel c.self.inside.tickets c.self.invariant in
     let seen : length (image_of c.self.inside.kernel.lanes c.self.inside.tickets) ≡ length c.args.self.now.image = ap (λ (v : WorldValue). length v.image) c.self.view_is in
     let asked = c.requires in

@@ -5,7 +5,7 @@ use Rattle.world.proofs.Sizes.{long}
 use Rattle.world.proofs.mounted.MountedDisk.blocks.Goals as goal
 
 pub returns : goal.returns
-returns c =
+returns g c =
     let same = long c.self.inside.kernel c.self.inside.tickets c.self.invariant in
     let given = c.len.ensures in
     let seen : length (image_of c.self.inside.kernel.lanes c.self.inside.tickets) ≡ length c.args.self.now.image = ap (λ (v : WorldValue). length v.image) c.self.view_is in

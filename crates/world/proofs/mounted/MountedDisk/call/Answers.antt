@@ -5,25 +5,25 @@ use Rattle.world.proofs.Views.{called}
 use Rattle.world.proofs.mounted.MountedDisk.call.Goals as goal
 
 pub returns-in-Init : goal.returns-in-Init
-returns-in-Init c = called c.args.self.now c.init-made.new.self c.up.ensures c.init-made.ensures.rest c.args.fs.number c.args.call.now (Init c.in-Init.ty c.in-Init.bytes) c.in-Init.is
+returns-in-Init g c = called c.args.self.now c.init-made.new.self c.up.ensures c.init-made.ensures.rest c.args.fs.number c.args.call.now (Init c.in-Init.ty c.in-Init.bytes) c.in-Init.is
     (answer.Init c.init-made.result) (c.init-made.result, refl, c.init-made.ensures.state)
 
 pub returns-in-Propose : goal.returns-in-Propose
-returns-in-Propose c = called c.args.self.now c.propose-made.new.self c.up.ensures c.propose-made.ensures.rest c.args.fs.number c.args.call.now (Propose c.in-Propose.block c.in-Propose.edit)
+returns-in-Propose g c = called c.args.self.now c.propose-made.new.self c.up.ensures c.propose-made.ensures.rest c.args.fs.number c.args.call.now (Propose c.in-Propose.block c.in-Propose.edit)
     c.in-Propose.is (answer.Propose c.propose-made.result) (c.propose-made.result, refl, c.propose-made.ensures.state)
 
 pub returns-in-Forget : goal.returns-in-Forget
-returns-in-Forget c = called c.args.self.now c.forget-done.new.self c.up.ensures c.forget-done.ensures.rest c.args.fs.number c.args.call.now (Forget c.in-Forget.block) c.in-Forget.is
+returns-in-Forget g c = called c.args.self.now c.forget-done.new.self c.up.ensures c.forget-done.ensures.rest c.args.fs.number c.args.call.now (Forget c.in-Forget.block) c.in-Forget.is
     (answer.Forget c.forget-done.result) (c.forget-done.result, refl, c.forget-done.ensures.state)
 
 pub returns-in-Pending : goal.returns-in-Pending
-returns-in-Pending c = called c.args.self.now c.args.self.now c.up.ensures refl c.args.fs.number c.args.call.now Pending c.in-Pending.is
+returns-in-Pending g c = called c.args.self.now c.args.self.now c.up.ensures refl c.args.fs.number c.args.call.now Pending c.in-Pending.is
     (answer.Pending c.pending.result) (ap answer.Pending c.pending.ensures, refl)
 
 pub returns-in-Floor : goal.returns-in-Floor
-returns-in-Floor c = called c.args.self.now c.args.self.now c.up.ensures refl c.args.fs.number c.args.call.now Floor c.in-Floor.is
+returns-in-Floor g c = called c.args.self.now c.args.self.now c.up.ensures refl c.args.fs.number c.args.call.now Floor c.in-Floor.is
     (answer.Floor c.floor.result) (ap answer.Floor c.floor.ensures, refl)
 
 pub returns-in-Pick : goal.returns-in-Pick
-returns-in-Pick c = called c.args.self.now c.args.self.now c.up.ensures refl c.args.fs.number c.args.call.now Pick c.in-Pick.is
+returns-in-Pick g c = called c.args.self.now c.args.self.now c.up.ensures refl c.args.fs.number c.args.call.now Pick c.in-Pick.is
     (answer.Pick c.pick.result) (ap answer.Pick c.pick.ensures, refl)

@@ -11,7 +11,7 @@ use Rattle.world.proofs.mounted.MountedDisk.fail_sync.Goals as goal
 use Rattle.world.proofs.mounted.MountedDisk.fail_sync.Goals.{in-None, in-Some-Err}
 
 pub invariant_of-self : goal.invariant_of-self
-invariant_of-self c = elim c.match-fail_sync.branch [
+invariant_of-self g c = elim c.match-fail_sync.branch [
   | in-None w ↦ subst (λ (ts : Tickets). IsWorld c.self.inside.kernel ts) (sym w.in-None.ensures.1) c.self.invariant
   | in-Some-Err w ↦
       let h = w.in-Some-Err.ensures in
@@ -21,7 +21,7 @@ invariant_of-self c = elim c.match-fail_sync.branch [
 ]
 
 pub returns : goal.returns
-returns c = elim c.match-fail_sync.branch [
+returns g c = elim c.match-fail_sync.branch [
   | in-None w ↦
       seen (value_of c.self.inside.kernel c.self.inside.tickets) c.args.self.now c.self.view_is (model.FailSync c.args.block) (reply_of c.match-fail_sync.reply) _
       (rw (w.reply-is) (subst (λ (ts : Tickets). model.AfterCall (world_of c.self.inside.kernel c.self.inside.tickets) (model.FailSync c.args.block) model.NoTicket (world_of c.self.inside.kernel ts)) (sym w.in-None.ensures.1)

@@ -8,9 +8,10 @@ use Rattle.world.proofs.Stepping.{finish_without, open_step, finish_step, finish
 use Rattle.world.proofs.Views.{seen}
 use Rattle.world.proofs.mounted.MountedDisk.finish.Goals as goal
 use Rattle.world.proofs.mounted.MountedDisk.finish.Goals.{After-put, In-Ok}
+use Rattle.world.proofs.mounted.MountedDisk.finish.Given.{Over}
 
 pub returns-in_default : goal.returns-in_default
-returns-in_default c =
+returns-in_default g c =
     let none = sym c.take.ensures.ticket ∙ c.in_default.is in
     let still = c.take.ensures.rest ∙ set_still c.self.inside.tickets c.args.block None none in
     seen (value_of c.self.inside.kernel c.self.inside.tickets) c.args.self.now c.self.view_is (model.Finish c.args.block) model.NoTicket _
@@ -18,17 +19,17 @@ returns-in_default c =
     (finish_without c.self.inside.kernel c.self.inside.tickets c.self.invariant c.args.block none))
 
 pub invariant_of-self : goal.invariant_of-self
-invariant_of-self c =
+invariant_of-self g c =
     let none = sym c.take.ensures.ticket ∙ c.in_default.is in
     let still = c.take.ensures.rest ∙ set_still c.self.inside.tickets c.args.block None none in
     subst (λ (ts : Tickets). IsWorld c.self.inside.kernel ts) (sym still) c.self.invariant
 
 -- the write that was under way
 
-finished : (c : In-Ok) →
+finished : (g : Over) (c : In-Ok g) →
     model.AfterCall (world_of c.self.inside.kernel c.self.inside.tickets) (model.Finish c.args.block) (model.Finished c.in-Ok.landed.durable c.in-Ok.landed.freed) (world_of c.finish.new.self c.take.new.self)
     × IsWorld c.finish.new.self c.take.new.self
-finished c =
+finished g c =
     let kernel = c.self.inside.kernel in
     let tickets = c.self.inside.tickets in
     let ticket = c.into_ticket.result in
@@ -46,26 +47,26 @@ finished c =
     )
 
 pub returns-in-Ok : goal.returns-in-Ok
-returns-in-Ok c =
+returns-in-Ok g c =
     seen (value_of c.self.inside.kernel c.self.inside.tickets) c.args.self.now c.self.view_is (model.Finish c.args.block) (model.Finished c.in-Ok.landed.durable c.in-Ok.landed.freed) _
-    (finished (goal.at.returns-in-Ok c).In-Ok).0
+    (finished g (goal.at.returns-in-Ok g c).In-Ok).0
 
 pub invariant_of-self-in-Ok : goal.invariant_of-self-in-Ok
-invariant_of-self-in-Ok c = (finished (goal.at.invariant_of-self-in-Ok c).In-Ok).1
+invariant_of-self-in-Ok g c = (finished g (goal.at.invariant_of-self-in-Ok g c).In-Ok).1
 
 -- or that goes on, as it isn't synced
 
 pub put-requires : goal.put-requires
-put-requires c =
+put-requires g c =
     let has = sym c.take.ensures.ticket ∙ (c.in-Some.is ∙ ap (λ t. Some t) (sym c.into_ticket.ensures)) in
     let within = within_tickets c.self.inside.kernel c.self.inside.tickets c.self.invariant c.args.block c.into_ticket.result has in
     let long = ap length c.take.ensures.rest ∙ length-set c.self.inside.tickets c.args.block None in
     omega arith
 
-unread : (c : After-put) →
+unread : (g : Over) (c : After-put g) →
     model.AfterCall (world_of c.self.inside.kernel c.self.inside.tickets) (model.Finish c.args.block) (model.Refused c.in-Err.refusal) (world_of c.finish.new.self c.put.new.self)
     × IsWorld c.finish.new.self c.put.new.self
-unread c =
+unread g c =
     let kernel = c.self.inside.kernel in
     let tickets = c.self.inside.tickets in
     let ticket = c.into_ticket.result in
@@ -80,9 +81,9 @@ unread c =
     rw (still, c.in-Err.ensures.err, told.1) (open_step kernel tickets c.self.invariant c.args.block ticket has unsynced, c.self.invariant)
 
 pub invariant_of-self-in-Err : goal.invariant_of-self-in-Err
-invariant_of-self-in-Err c = (unread (goal.at.invariant_of-self-in-Err c).After-put).1
+invariant_of-self-in-Err g c = (unread g (goal.at.invariant_of-self-in-Err g c).After-put).1
 
 pub returns-in-Err : goal.returns-in-Err
-returns-in-Err c =
+returns-in-Err g c =
     seen (value_of c.self.inside.kernel c.self.inside.tickets) c.args.self.now c.self.view_is (model.Finish c.args.block) (model.Refused c.in-Err.refusal) _
-    (unread (goal.at.returns-in-Err c).After-put).0
+    (unread g (goal.at.returns-in-Err g c).After-put).0

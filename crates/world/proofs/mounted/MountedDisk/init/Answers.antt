@@ -8,6 +8,6 @@ use Rattle.world.proofs.Stepping.{call_world}
 use Rattle.world.proofs.mounted.MountedDisk.init.Goals as goal
 
 pub invariant_of-self : goal.invariant_of-self
-invariant_of-self c =
+invariant_of-self g c =
     subst (λ (k : KernelValue MemoryLane). IsWorld k c.self.inside.tickets) (sym c.init.ensures.rest)
     (call_world c.self.inside.kernel c.self.inside.tickets c.self.invariant c.args.fs.number (Init c.args.ty c.args.bytes.now) (answer.Init c.init.result) c.init.new.self.state (c.init.result, refl, c.init.ensures.state) c.args.fs.few)

@@ -13,12 +13,12 @@ use Rattle.world.proofs.mounted.MountedDisk.install.Goals as goal
 use Rattle.world.proofs.mounted.MountedDisk.install.Goals.{in-Ok, in-Err}
 
 pub invariant_of-self : goal.invariant_of-self
-invariant_of-self c =
+invariant_of-self g c =
     subst (λ (k : KernelValue MemoryLane). IsWorld k c.self.inside.tickets) (sym c.install.ensures.rest)
     (install_world c.self.inside.kernel c.self.inside.tickets c.self.invariant c.args.template.now c.told-template c.install.new.self.state (result_map installed_of c.install.result) c.install.ensures.state)
 
 pub returns : goal.returns
-returns c =
+returns g c =
     let reply : told installed_reply (result_map installed_of c.install.result) ≡ reply_of c.match-install.reply = elim c.match-install.branch [
       | in-Ok w ↦ ap (λ r. told installed_reply (result_map installed_of r)) w.in-Ok.is ∙ ((λ i. model.Installed w.in-Ok.installed.ty w.in-Ok.installed.block w.in-Ok.installed.edits.0 (sym w.in-Ok.ensures.second i)) ∙ ap reply_of (sym w.reply-is))
       | in-Err w ↦ ap (λ r. told installed_reply (result_map installed_of r)) w.in-Err.is ∙ ap reply_of (sym w.reply-is)

@@ -7,10 +7,10 @@ use Rattle.world.proofs.Returns.{Lanes, none_missing}
 use Rattle.world.proofs.mounted.MountedDisk.into_image.Goals as goal
 
 pub take_lanes_back-requires : goal.take_lanes_back-requires
-take_lanes_back-requires c = rw c.into_lanes-lanes.ensures (none_missing c.self.inside.kernel c.self.inside.tickets c.self.invariant)
+take_lanes_back-requires g c = rw c.into_lanes-lanes.ensures (none_missing c.self.inside.kernel c.self.inside.tickets c.self.invariant)
 
 pub returns : goal.returns
-returns c =
+returns g c =
     let back = c.take_lanes_back.new in
     let is = c.take_lanes_back.ensures in
     let image : image_of back.lanes (replicate (length back.lanes) None) ≡ c.args.self.image =

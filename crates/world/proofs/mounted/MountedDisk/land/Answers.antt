@@ -12,7 +12,7 @@ use Rattle.world.proofs.mounted.MountedDisk.land.Goals as goal
 use Rattle.world.proofs.mounted.MountedDisk.land.Goals.{in-None, in-Some-Ok}
 
 pub invariant_of-self : goal.invariant_of-self
-invariant_of-self c = elim c.match-land.branch [
+invariant_of-self g c = elim c.match-land.branch [
   | in-None w ↦ subst (λ (ts : Tickets). IsWorld c.self.inside.kernel ts) (sym w.in-None.ensures.1) c.self.invariant
   | in-Some-Ok w ↦
       let h = w.in-Some-Ok.ensures in
@@ -21,7 +21,7 @@ invariant_of-self c = elim c.match-land.branch [
 ]
 
 pub returns : goal.returns
-returns c = elim c.match-land.branch [
+returns g c = elim c.match-land.branch [
   | in-None w ↦
       seen (value_of c.self.inside.kernel c.self.inside.tickets) c.args.self.now c.self.view_is (model.Land c.args.block) (reply_of c.match-land.reply) _
       (rw (w.reply-is) (subst (λ (ts : Tickets). model.AfterCall (world_of c.self.inside.kernel c.self.inside.tickets) (model.Land c.args.block) model.NoTicket (world_of c.self.inside.kernel ts)) (sym w.in-None.ensures.1)
@@ -35,7 +35,7 @@ returns c = elim c.match-land.branch [
 ]
 
 pub unreachable-requires : goal.unreachable-requires
-unreachable-requires c =
+unreachable-requires g c =
     let h = c.in-Some-Err.ensures in
     let gave = subst (λ (r : Result (Unit {0}) DeviceFault). memory_write h.0.lane h.0.bytes r h.1) c.in-Some-Err.field-0-is h.3 in
     false≢true (ap is_some (sym (c.self.invariant.mine c.args.block h.0 h.2).calm.0) ∙ gave.0)

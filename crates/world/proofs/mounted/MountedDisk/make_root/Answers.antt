@@ -8,6 +8,6 @@ use Rattle.world.proofs.Stepping.{call_world}
 use Rattle.world.proofs.mounted.MountedDisk.make_root.Goals as goal
 
 pub invariant_of-self : goal.invariant_of-self
-invariant_of-self c =
+invariant_of-self g c =
     subst (λ (k : KernelValue MemoryLane). IsWorld k c.self.inside.tickets) (sym c.make_root.ensures.rest)
     (call_world c.self.inside.kernel c.self.inside.tickets c.self.invariant c.args.fs.number (MakeRoot c.args.block) (answer.MakeRoot c.make_root.result) c.make_root.new.self.state (c.make_root.result, refl, c.make_root.ensures.state) c.args.fs.few)

@@ -8,6 +8,6 @@ use Rattle.world.proofs.Stepping.{call_world}
 use Rattle.world.proofs.mounted.MountedDisk.propose.Goals as goal
 
 pub invariant_of-self : goal.invariant_of-self
-invariant_of-self c =
+invariant_of-self g c =
     subst (λ (k : KernelValue MemoryLane). IsWorld k c.self.inside.tickets) (sym c.propose.ensures.rest)
     (call_world c.self.inside.kernel c.self.inside.tickets c.self.invariant c.args.fs.number (Propose c.args.block c.args.edit.now) (answer.Propose c.propose.result) c.propose.new.self.state (c.propose.result, refl, c.propose.ensures.state) c.args.fs.few)

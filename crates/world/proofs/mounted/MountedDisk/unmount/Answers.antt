@@ -7,10 +7,10 @@ use Rattle.world.proofs.Crashing.{crashed_rest, crashed_image, long_image}
 use Rattle.world.proofs.mounted.MountedDisk.unmount.Goals as goal
 
 pub take_lanes_back-requires : goal.take_lanes_back-requires
-take_lanes_back-requires c = rw c.into_lanes-lanes.ensures (none_missing c.self.inside.kernel c.self.inside.tickets c.self.invariant)
+take_lanes_back-requires g c = rw c.into_lanes-lanes.ensures (none_missing c.self.inside.kernel c.self.inside.tickets c.self.invariant)
 
 pub new-requires : goal.new-requires
-new-requires c =
+new-requires g c =
     let crash = c.crash_lanes.ensures.crashed in
     let rest = crashed_rest c.args.kept.now c.take_lanes_back.new.lanes c.crash_lanes.new.lanes c.take_lanes_back.ensures.home crash in
     record {
@@ -20,7 +20,7 @@ new-requires c =
     }
 
 pub returns : goal.returns
-returns c =
+returns g c =
     let tickets = c.self.inside.tickets in
     let back = c.take_lanes_back.new in
     let is = c.take_lanes_back.ensures in

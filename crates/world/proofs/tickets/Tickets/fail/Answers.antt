@@ -6,7 +6,7 @@ use Rattle.world.proofs.Ticketing.{written_places}
 use Rattle.world.proofs.tickets.Tickets.fail.Goals as goal
 
 pub returns : goal.returns
-returns c =
+returns g c =
     let told : MemoryLane → MemoryLane = λ lane. record lane { write_fault = Some c.args.new_bytes_stay } in
     let blocks = c.self.inside.blocks in
     subst (λ (v : Tickets). IsWritten told v c.args.block c.fail_at.result (all_places blocks c.fail_at.new.front.items)) c.self.view_is

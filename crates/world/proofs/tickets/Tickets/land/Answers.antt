@@ -6,7 +6,7 @@ use Rattle.world.proofs.Ticketing.{written_places}
 use Rattle.world.proofs.tickets.Tickets.land.Goals as goal
 
 pub returns : goal.returns
-returns c =
+returns g c =
     let told : MemoryLane → MemoryLane = λ lane. lane in
     let blocks = c.self.inside.blocks in
     subst (λ (v : Tickets). IsWritten told v c.args.block c.land_at.result (all_places blocks c.land_at.new.front.items)) c.self.view_is

@@ -5,7 +5,7 @@ use Rattle.world.proofs.Ticketing.{count_places, made_places, made_reaches, set_
 use Rattle.world.proofs.tickets.Tickets.put.Goals as goal
 
 pub returns : goal.returns
-returns c =
+returns g c =
     let blocks = c.self.inside.blocks in
     let front = c.self.inside.front.items in
     let made = c.make_places.ensures.made in

@@ -6,14 +6,14 @@ use Rattle.world.proofs.Ticketing.{none_behind, place_behind, set_place}
 use Rattle.world.proofs.tickets.Tickets.take.Goals as goal
 
 pub returns-then-block-len-clause-rest : goal.returns-then-block-len-clause-rest
-returns-then-block-len-clause-rest c =
+returns-then-block-len-clause-rest g c =
     let blocks = c.self.inside.blocks in
     let front = c.self.inside.front.items in
     let none = place_behind blocks front c.args.block ∙ none_behind front c.args.block (omega arith) in
     subst (λ (v : Tickets). v ≡ slice_set v c.args.block None) c.self.view_is (sym (set_still (all_places blocks front) c.args.block None none))
 
 pub returns-clause-ticket : goal.returns-clause-ticket
-returns-clause-ticket c =
+returns-clause-ticket g c =
     let blocks = c.self.inside.blocks in
     let front = c.self.inside.front.items in
     let within : c.args.block < length front = omega arith in
@@ -21,7 +21,7 @@ returns-clause-ticket c =
     ∙ (sym (place_behind blocks front c.args.block) ∙ ap (λ (v : Tickets). ticket_at v c.args.block) c.self.view_is))
 
 pub returns-clause-rest : goal.returns-clause-rest
-returns-clause-rest c =
+returns-clause-rest g c =
     let blocks = c.self.inside.blocks in
     let front = c.self.inside.front.items in
     let within : c.args.block < length front = omega arith in

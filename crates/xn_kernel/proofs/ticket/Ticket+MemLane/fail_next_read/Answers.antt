@@ -1,4 +1,0 @@
-use Rattle.xn_kernel.proofs.ticket.Ticket+MemLane.fail_next_read.Goals as goal
-
-pub invariant_of-self : goal.invariant_of-self
-invariant_of-self c = rw c.fail_read.ensures c.self.invariant
