@@ -4,7 +4,7 @@ ghost use Rattle.std.specs.Prelude.{◌≡◌, bytes_eq, position, string_bytes,
 ghost use Rattle.xnsim_line.specs.Files.{with_file};
 
 use std::alloc::{AllocError, Global};
-use xnsim_line::Files;
+use xnsim_line::{Files, Source};
 
 /// A file in memory.
 #[derive(Drop)]
@@ -113,15 +113,19 @@ impl Files for MemoryFiles {
         Some(bytes)
     }
 
-    fn write(&mut self, name: &str, bytes: &[u8]) -> bool {
+    fn write_from<S: Source + Drop>(&mut self, name: &str, source: S) -> bool {
+        let mut bytes = Vec::new(self.alloc);
+        if source.write_to(&mut bytes).is_err() {
+            return false;
+        }
         let Some(place) = self.place_of(name) else {
-            return self.add(name, bytes);
+            return self.add(name, bytes.as_slice());
         };
         let file = &mut self.files[place];
         if !file.is_writable {
             return false;
         }
         file.bytes.clear();
-        file.bytes.extend_from_slice(bytes).is_ok()
+        file.bytes.extend_from_slice(&bytes).is_ok()
     }
 }

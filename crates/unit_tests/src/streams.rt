@@ -4,7 +4,7 @@ use std::alloc::Global;
 use std::io;
 use std::io::{ErrorKind, Read, Write};
 use std::test::Fail;
-use xnsim_line::{Files, line};
+use xnsim_line::{Files, Source, line};
 
 /// No files.
 #[derive(Drop)]
@@ -23,7 +23,7 @@ impl Files for NoFiles {
         None
     }
 
-    fn write(&mut self, _name: &str, _bytes: &[u8]) -> bool {
+    fn write_from<S: Source + Drop>(&mut self, _name: &str, _source: S) -> bool {
         false
     }
 }

@@ -1,6 +1,7 @@
 // A disk that is mounted.
 
-ghost use Rattle.std.specs.Prelude.{◌≡◌, ◌≢◌, ◌<◌, ◌-◌, length, IfOk, false};
+ghost use Rattle.std.specs.Prelude.{◌≡◌, ◌≢◌, ◌<◌, ◌-◌, length, IfOk, OnOk, false};
+ghost use Rattle.std.specs.Io.KnownBytes.{Appends};
 ghost use Rattle.xn_model.specs.Images.{block_of, joined};
 ghost use Rattle.xn_model.specs.Calls.{free_of};
 ghost use Rattle.xn_model.specs.Worlds as model;
@@ -10,10 +11,12 @@ ghost use Rattle.events.specs.Events.{event_of, reply_of, IsNoCrash};
 ghost use Rattle.world.specs.Worlds.{is_any_in_flight, world_with, value_of, IsWorld};
 
 use crate::tickets::Tickets;
-use crate::unmounted::{UnmountedDisk, bytes_of_all, crash_lanes, take_lanes_back};
+use crate::unmounted::{UnmountedDisk, crash_lanes, take_lanes_back, write_lanes};
 use disk::{BLOCK_LEN, MemLane};
 use events::{Event, Reply};
 use std::alloc::{AllocError, Allocator, Global};
+use std::io;
+use std::io::Write;
 use std::marker::Model;
 use xn_kernel::Kernel;
 
@@ -117,9 +120,9 @@ impl<A: Allocator> MountedDisk<A> {
         Ok(image)
     }
 
-    /// The bytes that the disk holds, block after block. What the kernel knew is given up first, and they may stand in its memory.
-    pub fn into_image(self, alloc: Global) -> Result<Vec<u8>, AllocError>
-        ensures { IfOk result (λ image. image.items ≡ joined self.image) }
+    /// Writes the bytes that the disk holds, block after block. The disk is given up for them, and what the kernel knew first.
+    pub fn write_to<W: Write>(self, alloc: Global, out: &mut W) -> io::Result<()>
+        ensures { OnOk result (Appends (W.contents out.old) (W.contents out.new) (joined self.image)) }
     {
         let MountedDisk {
             kernel,
@@ -127,7 +130,7 @@ impl<A: Allocator> MountedDisk<A> {
         } = self;
         let mut lanes = kernel.into_lanes();
         take_lanes_back(&mut lanes, &mut tickets);
-        bytes_of_all(alloc, lanes)
+        write_lanes(alloc, lanes, out)
     }
 
     /// Whether a write of the block is under way.

@@ -1,8 +1,9 @@
 // A disk that is not mounted.
 
-ghost use Rattle.std.specs.Prelude.{◌≡◌, ◌≢◌, ◌⊎◌, ◌*◌, ◌%◌, ◌^◌, ◌<◌, List, All, length, replicate, Some, None, Err, IfOk, IfErr, IfSome, slice_get};
+ghost use Rattle.std.specs.Prelude.{◌≡◌, ◌≢◌, ◌⊎◌, ◌*◌, ◌%◌, ◌^◌, ◌<◌, List, All, length, replicate, Some, None, Err, IfOk, IfErr, IfSome, OnOk, slice_get};
 ghost use Rattle.std.specs.Prelude.{slice_set, option_map};
 ghost use Rattle.std.specs.List.{AllByRecursion};
+ghost use Rattle.std.specs.Io.KnownBytes.{Appends};
 ghost use Rattle.xn_model.specs.Images.{block_of, blocks_in, joined, IsSound};
 ghost use Rattle.image_model.specs.Walk.{verdict};
 ghost use Rattle.templates.specs.Language.{types_of_image};
@@ -17,6 +18,8 @@ use crate::tickets::Tickets;
 use crash_check::{ImageFault, mount};
 use disk::{BLOCK_LEN, Lanes, MemLane, lanes_from};
 use std::alloc::{AllocError, Allocator, Global};
+use std::io;
+use std::io::Write;
 use std::marker::Model;
 use std::thread::Threads;
 use xn_kernel::Kernel;
@@ -104,6 +107,14 @@ impl<A: Allocator> UnmountedDisk<A> {
         Ok(image)
     }
 
+    /// Writes the bytes that the disk holds, block after block. The disk is given up for them.
+    pub fn write_to<W: Write>(self, alloc: Global, out: &mut W) -> io::Result<()>
+        ensures { OnOk result (Appends (W.contents out.old) (W.contents out.new) (joined self)) }
+    {
+        let UnmountedDisk { lanes, tickets: _ } = self;
+        write_lanes(alloc, lanes, out)
+    }
+
     /// How many blocks the disk has.
     fn blocks(&self) -> u32
         ensures { result ≡ length self.now }
@@ -141,19 +152,29 @@ impl<A: Allocator + Copy> UnmountedDisk<A> {
     }
 }
 
-/// The bytes of all lanes, block after block. Each lane is dropped as soon as its bytes are copied, while what it stands in is in the
+/// How many bytes are written at a time.
+const PIECE_LEN: usize = 128 * BLOCK_LEN;
+
+/// Writes the bytes of all lanes, block after block. Each lane is dropped as soon as its bytes are copied, while what it stands in is in the
 /// processor's memory.
-pub fn bytes_of_all<A: Allocator>(alloc: Global, mut lanes: Lanes<MemLane<A>>) -> Result<Vec<u8>, AllocError>
+pub fn write_lanes<A: Allocator, W: Write>(
+    alloc: Global,
+    mut lanes: Lanes<MemLane<A>>,
+    out: &mut W,
+) -> io::Result<()>
     requires { AllByRecursion IsLaneHome lanes }
-    ensures { IfOk result (λ image. image.items ≡ joined (image_of lanes (replicate (length lanes) None))) }
+    ensures { OnOk result (Appends (W.contents out.old) (W.contents out.new) (joined (image_of lanes (replicate (length lanes) None)))) }
 {
-    let blocks = lanes.blocks() as u32;
-    let mut image = Vec::with_capacity(alloc, BLOCK_LEN.saturating_mul(blocks as usize))?;
-    for block in 0..blocks {
+    let mut piece = Vec::with_capacity(alloc, PIECE_LEN)?;
+    for block in 0..lanes.blocks() as u32 {
         let lane = take_home(&mut lanes, block);
-        image.extend_from_slice(lane.bytes())?;
+        piece.extend_from_slice(lane.bytes())?;
+        if piece.len() >= PIECE_LEN {
+            out.write_all(&piece)?;
+            piece.clear();
+        }
     }
-    Ok(image)
+    out.write_all(&piece)
 }
 
 /// Takes the lane of a block, which is at home.

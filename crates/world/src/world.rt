@@ -1,6 +1,7 @@
 // A world.
 
-ghost use Rattle.std.specs.Prelude.{◌≡◌, ◌≢◌, ◌⊎◌, ℕ, ◌<◌, List, All, length, map, Err, None, IfOk, IfErr, MatchResult, IsTrue, true, false};
+ghost use Rattle.std.specs.Prelude.{◌≡◌, ◌≢◌, ◌⊎◌, ℕ, ◌<◌, List, All, length, map, Err, None, IfOk, IfErr, OnOk, MatchResult, IsTrue, true, false};
+ghost use Rattle.std.specs.Io.KnownBytes.{Appends};
 ghost use Rattle.xn_model.specs.Images.{block_of, blocks_in, joined, IsSound};
 ghost use Rattle.xn_model.specs.BareDisks.{mounted_disk};
 ghost use Rattle.xn_model.specs.Worlds as model;
@@ -27,6 +28,8 @@ use crash_check::{ImageFault, state_of};
 use events::{Event, Reply};
 use ffs_model::{events_keep_cuts, image_is_cut};
 use std::alloc::{AllocError, Allocator, Global};
+use std::io;
+use std::io::Write;
 use std::marker::Model;
 use std::thread::Threads;
 use templates::{FormatFault, Template, format_image};
@@ -279,9 +282,10 @@ impl<A: Allocator> World<A> {
         }
     }
 
-    /// The bytes that the disk holds, block after block, also while the world is down. The world is given up for them.
-    pub fn into_image(self) -> Result<Vec<u8>, AllocError>
-        ensures { IfOk result (λ image. image.items ≡ joined self.image) }
+    /// Writes the bytes that the disk holds, block after block, also while the world is down. The world is given up for them: an `Err` of `out`, or for
+    /// want of memory, may come behind some of them.
+    pub fn write_to<W: Write>(self, out: &mut W) -> io::Result<()>
+        ensures { OnOk result (Appends (W.contents out.old) (W.contents out.new) (joined self.image)) }
     {
         let World {
             alloc,
@@ -290,9 +294,9 @@ impl<A: Allocator> World<A> {
             unmounted,
         } = self;
         match mounted {
-            Some(disk) => disk.into_image(alloc),
+            Some(disk) => disk.write_to(alloc, out),
             None => match unmounted {
-                Some(disk) => disk.image_into(Vec::new(alloc)),
+                Some(disk) => disk.write_to(alloc, out),
                 None => unreachable!(),
             },
         }

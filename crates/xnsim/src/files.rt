@@ -5,7 +5,7 @@ use std::fs::{File, OpenFile, OpenOptions, Permissions};
 use std::io::{ErrorKind, Read, Write};
 use std::rt::Files as System;
 use std::{fs, io};
-use xnsim_line::Files;
+use xnsim_line::{Files, Source};
 
 /// How many names are tried for a file that is written beside another one.
 const TRIES: u32 = 100;
@@ -60,10 +60,10 @@ fn file_beside<R: System + AllocGlobal>(rt: &R, name: &str) -> io::Result<(Strin
     Err(ErrorKind::AlreadyExists.into())
 }
 
-/// Writes bytes to a new file and syncs it.
-fn fill<F: OpenFile + Write>(
+/// Writes the bytes of a source to a new file and syncs it.
+fn fill<F: OpenFile + Write, S: Source + Drop>(
     mut file: F,
-    bytes: &[u8],
+    source: S,
     permissions: Option<Permissions>,
 ) -> io::Result<()>
 where
@@ -72,19 +72,19 @@ where
     if let Some(permissions) = permissions {
         file.set_permissions(permissions)?;
     }
-    file.write_all(bytes)?;
+    source.write_to(&mut file)?;
     file.sync_all()
 }
 
 /// Puts a new file of these bytes in the place of that of a name, which is no symbolic link.
-fn replace<R: System + AllocGlobal>(
+fn replace<R: System + AllocGlobal, S: Source + Drop>(
     rt: &R,
     name: &str,
-    bytes: &[u8],
+    source: S,
     permissions: Option<Permissions>,
 ) -> io::Result<()> {
     let (beside, file) = file_beside(rt, name)?;
-    let done = match fill(file, bytes, permissions) {
+    let done = match fill(file, source, permissions) {
         Ok(()) => fs::rename(rt, beside.as_str(), name),
         Err(error) => Err(error),
     };
@@ -95,27 +95,31 @@ fn replace<R: System + AllocGlobal>(
 }
 
 /// The same, and a symbolic link stays: the file that it leads to is replaced, which has to be there.
-fn replace_file<R: System + AllocGlobal>(
+fn replace_file<R: System + AllocGlobal, S: Source + Drop>(
     rt: &R,
     name: &str,
-    bytes: &[u8],
+    source: S,
     permissions: Option<Permissions>,
 ) -> io::Result<()> {
     if !is_link(rt, name) {
-        return replace(rt, name, bytes, permissions);
+        return replace(rt, name, source, permissions);
     }
     let path = fs::canonicalize(rt, name)?;
     match path.to_str() {
-        Some(name) => replace(rt, name, bytes, permissions),
+        Some(name) => replace(rt, name, source, permissions),
         None => Err(ErrorKind::InvalidInput.into()),
     }
 }
 
-/// Writes the file of a name.
-fn write<R: System + AllocGlobal>(rt: &R, name: &str, bytes: &[u8]) -> io::Result<()> {
+/// Writes the bytes of a source to the file of a name.
+fn write<R: System + AllocGlobal, S: Source + Drop>(
+    rt: &R,
+    name: &str,
+    source: S,
+) -> io::Result<()> {
     match target_of(rt, name)? {
-        Target::Replaced(permissions) => replace_file(rt, name, bytes, permissions),
-        Target::InPlace => fs::write(rt, name, bytes),
+        Target::Replaced(permissions) => replace_file(rt, name, source, permissions),
+        Target::InPlace => source.write_to(&mut File::create(rt, name)?),
     }
 }
 
@@ -141,7 +145,7 @@ impl<'a, R: System + AllocGlobal> Files for SystemFiles<'a, R> {
         read_start(self.rt, name, limit).ok()
     }
 
-    fn write(&mut self, name: &str, bytes: &[u8]) -> bool {
-        write(self.rt, name, bytes).is_ok()
+    fn write_from<S: Source + Drop>(&mut self, name: &str, source: S) -> bool {
+        write(self.rt, name, source).is_ok()
     }
 }

@@ -15,6 +15,7 @@ use crate::invocation::{Stop, read};
 use crate::program::verify_text;
 use crate::replay::{run_on_image, run_script};
 use crate::{Fault, Files, Invocation};
+use bumpalo::Bump;
 use crash_check::count;
 use disk::BLOCK_LEN;
 use script::parse;
@@ -118,8 +119,10 @@ fn run_files<'a, F: Files, W: Write>(
         .ok_or(Fault::CannotRead(image))?;
     let text = files.read(alloc, script).ok_or(Fault::CannotRead(script))?;
     let lines = parse(alloc, text_of(text.as_slice(), script)?)?;
-    let after = run_on_image(rt, alloc, before, lines, stop, out)?;
-    if !files.write(image, after.as_slice()) {
+    // Blocks that no line writes take no page for their second lots.
+    let rooms = Bump::new(alloc);
+    let after = run_on_image(rt, alloc, &rooms, before, lines, stop, out)?;
+    if !files.write_from(image, after) {
         return Err(Fault::CannotWrite(image));
     }
     Ok(())

@@ -11,7 +11,6 @@ ghost use Rattle.xnsim_line.specs.Stops.{IsAskedOn, IsAskedRun};
 use crate::Fault;
 use crate::invocation::Stop;
 use crate::stopping::run_lines_until;
-use bumpalo::Bump;
 use script::{ScriptLine, print_reply};
 use std::alloc::{AllocError, Allocator, Global};
 use std::io::Write;
@@ -97,19 +96,22 @@ fn run_asked<'a, A: Allocator, W: Write>(
     }
 }
 
-/// The bytes that are on the disk after a run.
-fn end_run<'a, A: Allocator>(world: World<A>, ran: Result<(), Fault<'a>>) -> Result<Vec<u8>, Fault<'a>>
+/// The world after a run that ended well.
+fn end_run<'a, A: Allocator>(
+    world: World<A>,
+    ran: Result<(), Fault<'a>>,
+) -> Result<World<A>, Fault<'a>>
     requires { IfErr ran IsRunFault }
     ensures ran { OnOk result (IsOk ran.entry) }
-    ensures image { IfOk result (λ image. image.items ≡ joined world.image) }
+    ensures world { IfOk result (λ after. after ≡ world) }
     ensures fault { IfErr result IsRunFault }
 {
     ran?;
-    Ok(world.into_image()?)
+    Ok(world)
 }
 
 /// Runs the events that these lines spell on a fresh disk of so many blocks with these templates, prints a reply an event, and
-/// answers the bytes that are then on the disk.
+/// answers the world after them.
 pub fn run_script<'a, W: Write>(
     rt: &(impl Threads + Sync),
     alloc: Global,
@@ -117,12 +119,12 @@ pub fn run_script<'a, W: Write>(
     templates: &[Template],
     lines: Vec<ScriptLine<'_>>,
     out: &mut W,
-) -> Result<Vec<u8>, Fault<'a>>
+) -> Result<World, Fault<'a>>
     requires size { IsDiskSize blocks }
     requires few { length templates.now ≤ 16 }
     requires lines { SpellEvents lines.items }
-    ensures run { IfOk result (λ image. RunsLines lines.entry.items
-        (λ events. IsPrintedRun (fresh_world blocks templates.now) events (W.contents out.old) (W.contents out.new) image.items)) }
+    ensures run { IfOk result (λ world. RunsLines lines.entry.items
+        (λ events. IsPrintedRun (fresh_world blocks templates.now) events (W.contents out.old) (W.contents out.new) (joined world.image))) }
     ensures fault { IfErr result IsRunFault }
 {
     let mut world = fresh_world(rt, alloc, blocks, templates)?;
@@ -131,24 +133,23 @@ pub fn run_script<'a, W: Write>(
 }
 
 /// Runs the events that these lines spell on the disk of a sound image, to their end or to a stop before the block write that comes after so many,
-/// prints a reply an event, and answers the bytes that are then on the disk. Of any other image the fault is told.
-pub fn run_on_image<'a, W: Write>(
+/// prints a reply an event, and answers the world after them. Of any other image the fault is told. Blocks' second lots of bytes have their memory from
+/// `rooms`.
+pub fn run_on_image<'a, A: Allocator + Copy, W: Write>(
     rt: &(impl Threads + Sync),
     alloc: Global,
+    rooms: A,
     image: Vec<u8>,
     lines: Vec<ScriptLine<'_>>,
     stop: Option<Stop>,
     out: &mut W,
-) -> Result<Vec<u8>, Fault<'a>>
+) -> Result<World<A>, Fault<'a>>
     requires lines { SpellEvents lines.items }
     ensures run { IfOk result (λ after. RunsLines lines.entry.items
-        (λ events. IsAskedRun stop image.items events (W.contents out.old) (W.contents out.new) after.items)) }
+        (λ events. IsAskedRun stop image.items events (W.contents out.old) (W.contents out.new) (joined after.image))) }
     ensures fault { IfErr result (IsFaultOnImage image.items) }
 {
-    // Blocks that no line writes take no page for their second lots.
-    let rooms = Bump::new(alloc);
-    let opened = World::open_image_in(rt, alloc, &rooms, image);
-    match opened {
+    match World::open_image_in(rt, alloc, rooms, image) {
         Ok(mut world) => {
             let ran = run_asked(rt, alloc, &mut world, lines, stop, out);
             end_run(world, ran)

@@ -1,5 +1,6 @@
 use Rattle.std.proofs.Common.{rules, ◌≡◌, ◌<◌, ◌≤◌, ◌*◌, length, subst, arith}
 use Rattle.std.proofs.lemmas.Result.{err_from_is_err_and}
+use Rattle.xn_model.specs.Images.{joined}
 use Rattle.image_model.specs.Walk.{count_of}
 use Rattle.script.specs.Scripts.{AllSpell}
 use Rattle.xnsim_line.specs.Files.{IsStartHeld}
@@ -14,7 +15,7 @@ returns-clause-done g c =
     let image = c.in_ok-before.before.items in
     let start : IsStartHeld held c.args.image.now 16777217 image = search rules in
     let run = c.in_ok-after.ensures.run in
-    let sound = asked_sound c.args.stop image run.0 _ _ c.in_ok-after.after.items run.2 in
+    let sound = asked_sound c.args.stop image run.0 _ _ (joined c.in_ok-after.after.image) run.2 in
     let long : length image ≡ 512 * count_of image = sound.whole in
     let most : count_of image ≤ 32768 = sound.blocks.size.1 in
     let few : length image < 16777217 = omega (arith, long, most) in
@@ -22,7 +23,7 @@ returns-clause-done g c =
       image = image;
       text = c.in_ok-text_of.field-0.now;
       events = run.0;
-      after = c.in_ok-after.after.items;
+      after = joined c.in_ok-after.after.image;
       image_held = whole_held held c.args.image.now image 16777217 start few;
       script_held = search rules;
       script = subst (λ lines. AllSpell lines run.0) c.in_ok-lines.ensures.lines run.1;

@@ -1,4 +1,5 @@
 use Rattle.std.proofs.Common.{rules, subst}
+use Rattle.xn_model.specs.Images.{joined}
 use Rattle.script.specs.Scripts.{AllSpell}
 use Rattle.xnsim_line.proofs.commands.run_input.Goals as goal
 
@@ -8,7 +9,7 @@ returns-clause-told g c =
     record {
       text = c.in_ok-text_of.field-0.now;
       events = run.0;
-      image = c.in_ok-run_script.field-0.items;
+      image = joined c.in_ok-run_script.field-0.image;
       read = search rules;
       script = subst (λ lines. AllSpell lines run.0) c.in_ok-lines.ensures.lines run.1;
       run = run.2;
