@@ -113,7 +113,10 @@ impl<A: Allocator> Tickets<A> {
 }
 
 /// The ticket of a block among the first places.
-fn ticket_of<A: Allocator>(front: &[Option<DroppableTicket<A>>], block: u32) -> Option<&DroppableTicket<A>>
+fn ticket_of<A: Allocator>(
+    front: &[Option<DroppableTicket<A>>],
+    block: u32,
+) -> Option<&DroppableTicket<A>>
     ensures { option_copied result ≡ ticket_at front.now block }
 {
     match front.get(block as usize) {
@@ -135,7 +138,10 @@ fn make_places<A: Allocator>(front: &mut Vec<Option<DroppableTicket<A>>>, count:
 }
 
 /// Carries out the write of a block, if there is a ticket for it.
-fn land_at<A: Allocator>(front: &mut Vec<Option<DroppableTicket<A>>>, block: u32) -> Option<Result<(), DeviceFault>>
+fn land_at<A: Allocator>(
+    front: &mut Vec<Option<DroppableTicket<A>>>,
+    block: u32,
+) -> Option<Result<(), DeviceFault>>
     ensures landed { IsLanded front.old.items block result front.new.items }
     ensures count { length front.new.items ≡ length front.old.items }
     ensures capacity { vec_capacity front.new ≡ vec_capacity front.old }
@@ -169,7 +175,10 @@ fn fail_at<A: Allocator>(
 }
 
 /// Syncs a block, if there is a ticket for it.
-fn sync_at<A: Allocator>(front: &mut Vec<Option<DroppableTicket<A>>>, block: u32) -> Option<Result<(), DeviceFault>>
+fn sync_at<A: Allocator>(
+    front: &mut Vec<Option<DroppableTicket<A>>>,
+    block: u32,
+) -> Option<Result<(), DeviceFault>>
     ensures synced { IsSynced front.old.items block result front.new.items }
     ensures count { length front.new.items ≡ length front.old.items }
     ensures capacity { vec_capacity front.new ≡ vec_capacity front.old }

@@ -137,11 +137,7 @@ impl<A: Allocator> UnmountedDisk<A> {
 impl<A: Allocator + Copy> UnmountedDisk<A> {
     /// The disk of an image, which is whole blocks, with a place for the ticket of each block. The memory of each lane's second lot of bytes is taken
     /// from `rooms`.
-    pub fn of_image(
-        alloc: Global,
-        rooms: A,
-        image: Vec<u8>,
-    ) -> Result<UnmountedDisk<A>, AllocError>
+    pub fn of_image(alloc: Global, rooms: A, image: Vec<u8>) -> Result<UnmountedDisk<A>, AllocError>
         requires whole { length image.items % 512 ≡ 0 }
         requires small { length image.items < 512 * 2 ^ 32 }
         ensures { IfOk result (λ disk. disk ≡ blocks_in image.items) }

@@ -166,12 +166,7 @@ impl<A: Allocator + Copy> World<A> {
     }
 
     /// The disk of a sound image, mounted with what is known of its blocks.
-    fn known(
-        alloc: Global,
-        rooms: A,
-        image: Vec<u8>,
-        state: State,
-    ) -> Result<World<A>, ImageFault>
+    fn known(alloc: Global, rooms: A, image: Vec<u8>, state: State) -> Result<World<A>, ImageFault>
         requires sound { IsSoundImage (types_of_image (blocks_in image.items)) image.items }
         requires state { state ≡ state_of (blocks_in image.items) }
         ensures ok { IfOk result (λ world. world_with world ≡ mounted_disk language (blocks_in image.items)) }

@@ -92,7 +92,12 @@ fn write_out<A: Allocator>(rt: &(impl Threads + Sync), world: &mut World<A>, blo
 }
 
 /// Writes the picked block again and again, at most so many times, and answers how often that was.
-fn write_at_most<A: Allocator>(rt: &(impl Threads + Sync), world: &mut World<A>, fs: Fs, limit: u32) -> u32
+fn write_at_most<A: Allocator>(
+    rt: &(impl Threads + Sync),
+    world: &mut World<A>,
+    fs: Fs,
+    limit: u32,
+) -> u32
     requires { world.old.down ≡ false }
     ensures rounds { drain_for limit 0 (world_with world.old) ≡ (result, world_with world.new) }
     ensures few { result ≤ limit }
@@ -241,7 +246,12 @@ fn run_line_within<'a, A: Allocator, W: Write>(
 }
 
 /// Where a stop loses what is not settled, the disk has from then on what a crash leaves that keeps no open write.
-fn lose_unsettled<A: Allocator>(rt: &(impl Threads + Sync), alloc: Global, world: &mut World<A>, stop: Stop)
+fn lose_unsettled<A: Allocator>(
+    rt: &(impl Threads + Sync),
+    alloc: Global,
+    world: &mut World<A>,
+    stop: Stop,
+)
     ensures { world.new.image ≡ cond stop.loses (model.left (world_with world.old) []) world.old.image }
 {
     if stop.loses {

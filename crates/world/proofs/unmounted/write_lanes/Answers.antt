@@ -1,4 +1,4 @@
-use Rattle.std.proofs.Common.{◌≡◌, ◌∙◌, ◌+◌, ◌++◌, Option, Result, Err, ℕ, List, [], None, Some, Ok, length, replicate, slice_get, sym, ap, subst, arith, take, append-nil, append_assoc}
+use Rattle.std.proofs.Common.{◌≡◌, ◌∙◌, ◌+◌, ◌++◌, Option, Result, Err, ℕ, List, None, Some, Ok, length, replicate, slice_get, sym, ap, subst, arith, take, append-nil}
 use Rattle.std.proofs.lemmas.Grind.{common_steps}
 use Rattle.std.proofs.lemmas.List.{take_all, length-set}
 use Rattle.std.proofs.KnownBytes.{Appends-trans}
@@ -26,11 +26,11 @@ loop-block-preserved g c =
     record {
       written = elim c.if-len-ge-PIECE_LEN.branch [
         | then-len-ge-PIECE_LEN+in_ok-write_all w ↦ rw (w.out-is, w.piece-is, w.clear.ensures.items) (
-            before.0 ++ w.deref.result.now,
-            Appends-trans (g.W.Write.contents c.args.out.now) (g.W.Write.contents c.loop-block.out) (g.W.Write.contents w.write_all.new.self)
-            before.0 w.deref.result.now before.1 w.in_ok-write_all.ensures.bytes,
-            append-nil (before.0 ++ w.deref.result.now) ∙ (ap (λ p. before.0 ++ p) w.deref.ensures.value ∙ whole),
-          )
+          before.0 ++ w.deref.result.now,
+          Appends-trans (g.W.Write.contents c.args.out.now) (g.W.Write.contents c.loop-block.out) (g.W.Write.contents w.write_all.new.self)
+              before.0 w.deref.result.now before.1 w.in_ok-write_all.ensures.bytes,
+          append-nil (before.0 ++ w.deref.result.now) ∙ (ap (λ p. before.0 ++ p) w.deref.ensures.value ∙ whole),
+        )
         | else-len-ge-PIECE_LEN w ↦ rw (w.out-is, w.piece-is) (before.0, before.1, whole)
       ];
       rest = λ k le. ap (λ ls. slice_get ls k) c.take_home-lane.ensures.rest ∙ slice_get-set_other c.loop-block.lanes block k None (omega arith)
