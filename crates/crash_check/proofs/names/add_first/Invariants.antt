@@ -7,5 +7,5 @@ use Rattle.crash_check.proofs.names.add_first.Given as goal
 
 abbrev pub invariant-loop-at : goal.invariant-loop-at
 invariant-loop-at l =
-    (T : Types) → AreKnown T l.known.marks → add_all T l.count l.owner l.fn.named.entries (map (named_by l.owner l.fs) (map numbers_of_pair l.pairs))
+    (T : Types) → AreKnown T l.known → add_all T l.count l.owner l.fn.named.entries (map (named_by l.owner l.fs) (map numbers_of_pair l.pairs))
     ≡ add_all T l.count l.owner l.named.entries (map (named_by l.owner l.fs) (map numbers_of_pair (drop l.at l.pairs)))
