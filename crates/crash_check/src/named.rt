@@ -1,6 +1,6 @@
 // The named blocks.
 
-ghost use Rattle.std.specs.Prelude.{◌≡◌, ◌^◌, ◌<◌, ◌++◌, ◌∷◌, [], false, length, replicate, Some, IfOk, OnOk, slice_get};
+ghost use Rattle.std.specs.Prelude.{◌≡◌, ◌^◌, ◌<◌, ◌++◌, ◌∷◌, ◌||◌, ◌==◌, [], false, length, replicate, Some, IfOk, IsTrue, OnOk, slice_get};
 ghost use Rattle.image_model.specs.Walk.{has_block};
 ghost use Rattle.crash_check.specs.Marks.{NamedList};
 
@@ -10,7 +10,7 @@ use std::marker::Model;
 use templates::MAX_BLOCKS;
 
 /// The blocks that are named, in the order of their names, each with its place. Beside them stands a mark for each block of the
-/// largest disk, which says whether it is named.
+/// largest disk, which says whether it is 0 or named.
 #[derive(Drop)]
 pub struct NamedBlocks {
     entries: Vec<(u32, Place)>,
@@ -32,10 +32,10 @@ impl NamedBlocks {
     pub fn new(alloc: Global, count: usize) -> Result<NamedBlocks, AllocError>
         ensures { IfOk result (λ named. named.entries ≡ []) }
     {
-        Ok(NamedBlocks {
-            entries: Vec::with_capacity(alloc, count)?,
-            marks: no_marks(alloc)?,
-        })
+        let entries = Vec::with_capacity(alloc, count)?;
+        let mut marks = no_marks(alloc)?;
+        marks[0] = true;
+        Ok(NamedBlocks { entries, marks })
     }
 
     /// How many blocks are named.
@@ -56,8 +56,17 @@ impl NamedBlocks {
 
     /// Whether a block is named.
     pub fn has(&self, block: u32) -> bool
-        requires { block < 32768 }
+        requires nonzero { 0 < block }
+        requires within { block < 32768 }
         ensures { result ≡ has_block self.now.entries block }
+    {
+        self.marks[block as usize]
+    }
+
+    /// Whether a block is 0 or named.
+    pub fn is_taken(&self, block: u32) -> bool
+        requires { block < 32768 }
+        ensures { result ≡ ((block == 0) || has_block self.now.entries block) }
     {
         self.marks[block as usize]
     }
@@ -70,6 +79,20 @@ impl NamedBlocks {
         self.entries.push((block, place))?;
         self.marks[block as usize] = true;
         Ok(())
+    }
+
+    /// The same, unless the list has no room for one more. Answers whether it had.
+    pub fn push_within(&mut self, block: u32, place: Place) -> bool
+        requires { block < 32768 }
+        ensures pushed { IsTrue result → self.new.entries ≡ self.old.entries ++ (block, place) ∷ [] }
+        ensures full { result ≡ false → self.new.entries ≡ self.old.entries }
+    {
+        if self.entries.len() == self.entries.capacity() {
+            return false;
+        }
+        self.marks[block as usize] = true;
+        self.entries.push_reserved((block, place));
+        true
     }
 }
 
