@@ -8,8 +8,9 @@ ghost use Rattle.script.specs.Events.{Spells, SpellNothing, IsNoWrite};
 ghost use Rattle.script.specs.Told.{SpellsEvent};
 ghost use Rattle.script.specs.Scripts.{words_in, line_words};
 
+use crate::number::parse_small;
 use crate::told::LineEvent;
-use crate::{parse_edit, parse_number, parse_numbers, parse_u32};
+use crate::{parse_edit, parse_numbers, parse_u32};
 use edit_list::Edit;
 use std::alloc::{AllocError, Global};
 use std::mem;
@@ -20,7 +21,7 @@ fn parse_fs(word: &str) -> Option<Fs>
     ensures spelled { IfSome result (λ fs. word.now ≡ decimal fs.number) }
     ensures readable { (n : ℕ) → n < 32 → word.now ≡ decimal n → IsSome result }
 {
-    let number = parse_number(word, 31)?;
+    let number = parse_small(word, 31)?;
     Fs::new(number as u8)
 }
 
