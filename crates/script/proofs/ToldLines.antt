@@ -7,7 +7,7 @@ use Rattle.events.specs.declared.event.Event.TheVariants as event
 use Rattle.script.specs.declared.told.LineEvent.{LineEvent}
 use Rattle.script.specs.declared.told.LineEvent.TheVariants as line
 use Rattle.script.specs.Events.{Spells}
-use Rattle.script.specs.Told.{IsSpelledOut, SpellsEvent}
+use Rattle.script.specs.Told.{IsSpelledOut, SpellsEvent, only_patches}
 
 -- what follows from either side of a test
 pub either : {P Q P2 Q2 : Type 0} (b : Bool) → (P → P2) → (Q → Q2) → MatchBool b P Q → MatchBool b P2 Q2
@@ -17,6 +17,7 @@ either false left right h = right h
 -- any but a fresh block and a template
 pub told_event : (words : List (List ℕ)) (told : LineEvent) → ((fs : _) (ty : _) (text : _) → told ≡ line.Init fs ty text → ⊥) → ((text : _) → told ≡ line.Install text → ⊥) → SpellsEvent words told → (e : Event) × Spells words e
 told_event words (line.Init fs ty text) other more tells = absurd (other fs ty text refl)
+told_event words (line.Patches fs block patches) other more tells = (event.Call fs (Propose block (only_patches patches.items)), tells)
 told_event words (line.Edit fs block edit) other more tells = (event.Call fs (Propose block edit.value), tells)
 told_event words (line.MakeRoot fs block) other more tells = (event.Call fs (MakeRoot block), tells)
 told_event words (line.DropRoot fs) other more tells = (event.Call fs DropRoot, tells)
@@ -37,6 +38,7 @@ told_event words (line.Crash kept) other more tells = (event.Crash kept, tells)
 
 pub told_out : (told : LineEvent) → ((fs : _) (ty : _) (text : _) → told ≡ line.Init fs ty text → ⊥) → ((text : _) → told ≡ line.Install text → ⊥) → IsSpelledOut told
 told_out (line.Init fs ty text) other more = absurd (other fs ty text refl)
+told_out (line.Patches fs block patches) other more = tt
 told_out (line.Edit fs block edit) other more = tt
 told_out (line.MakeRoot fs block) other more = tt
 told_out (line.DropRoot fs) other more = tt

@@ -1,5 +1,6 @@
 -- Events as lines tell them.
-use Rattle.std.specs.Prelude.{⊤, ℕ, List}
+use Rattle.std.specs.Prelude.{⊤, ℕ, List, [], None}
+use Rattle.xn_model.specs.Calls as model
 use Rattle.xn_state.specs.declared.call.Call.TheVariants.{Init, Propose, MakeRoot, DropRoot, Forget, Read, Pending, Floor, Pick, Drain}
 use Rattle.events.specs.declared.event.Event.TheVariants as event
 use Rattle.script.specs.declared.told.LineEvent.{LineEvent}
@@ -8,12 +9,17 @@ use Rattle.script.specs.Hex.{IsBlockText, IsHex, SpellsBlock}
 use Rattle.script.specs.Events.{Spells, SpellNothing}
 use Rattle.script.specs.Scripts.{line_words}
 
+-- the edit that has these patches, and nothing else
+abbrev pub only_patches : List model.Patch → model.Edit
+only_patches patches = record { patches = patches; adds = []; drops = []; after = None }
+
 -- The words tell this: they spell its event. Of a fresh block and of a template they do where the text spells its bytes; where it spells none, they
 -- spell nothing.
 abbrev pub SpellsEvent : List (List ℕ) → LineEvent → Type 0
 SpellsEvent words (line.Init fs ty text) =
     ((bytes : List ℕ) → IsBlockText text.now → SpellsBlock text.now bytes → Spells words (event.Call fs (Init ty bytes)))
     × (¬ IsBlockText text.now → SpellNothing words)
+SpellsEvent words (line.Patches fs block patches) = Spells words (event.Call fs (Propose block (only_patches patches.items)))
 SpellsEvent words (line.Edit fs block edit) = Spells words (event.Call fs (Propose block edit.value))
 SpellsEvent words (line.MakeRoot fs block) = Spells words (event.Call fs (MakeRoot block))
 SpellsEvent words (line.DropRoot fs) = Spells words (event.Call fs DropRoot)

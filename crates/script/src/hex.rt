@@ -1,4 +1,4 @@
-ghost use Rattle.std.specs.Prelude.{◌≡◌, ◌<◌, ◌↔◌, IsTrue, IsSome, IfSome, IfNone, IfOk, Some, None, length, slice_index};
+ghost use Rattle.std.specs.Prelude.{◌≡◌, ◌+◌, ◌*◌, ◌<◌, ◌≤◌, ◌↔◌, IsTrue, IsSome, IfSome, IfNone, IfOk, Some, None, length, slice_index};
 ghost use Rattle.script.specs.Hex.{is_hex_digit, hex_digit_value, hex_byte, IsHex, IsBlockText, SpellsBlock, SpellsBytes};
 
 use std::alloc::{AllocError, Global};
@@ -16,19 +16,36 @@ fn digit_value(digit: u8) -> Option<u8>
     }
 }
 
+/// The byte that two digits spell.
+fn pair_value(high: u8, low: u8) -> Option<u8>
+    ensures digits { IsSome result ↔ (IsTrue (is_hex_digit high) × IsTrue (is_hex_digit low)) }
+    ensures value { IfSome result (λ byte. byte ≡ 16 * hex_digit_value high + hex_digit_value low) }
+{
+    let high = digit_value(high)?;
+    let low = digit_value(low)?;
+    Some(16 * high + low)
+}
+
+/// How many pairs these are, where there are 1 to 512.
+fn count_pairs(digits: &[u8]) -> Option<usize>
+    ensures some { IfSome result (λ pairs. (length digits.now ≡ 2 * pairs) × (0 < pairs) × (pairs ≤ 512)) }
+    ensures none { IfNone result (¬ IsHex digits.now) }
+{
+    if digits.is_empty() || digits.len() > 1024 || digits.len() % 2 != 0 {
+        return None;
+    }
+    Some(digits.len() / 2)
+}
+
 /// The block that 1 to 512 pairs of lower-case digits spell; the bytes behind them are zero.
 fn parse_pairs(digits: &[u8]) -> Option<[u8; 512]>
     ensures readable { IsSome result ↔ IsHex digits.now }
     ensures block { IfSome result (SpellsBlock digits.now) }
 {
-    if digits.is_empty() || digits.len() > 1024 || digits.len() % 2 != 0 {
-        return None;
-    }
+    let pairs = count_pairs(digits)?;
     let mut block = [0u8; 512];
-    for place in 0..digits.len() / 2 {
-        let high = digit_value(digits[2 * place])?;
-        let low = digit_value(digits[2 * place + 1])?;
-        block[place] = 16 * high + low;
+    for place in 0..pairs {
+        block[place] = pair_value(digits[2 * place], digits[2 * place + 1])?;
     }
     Some(block)
 }
@@ -49,9 +66,16 @@ pub fn parse_bytes(alloc: Global, text: &str) -> Result<Option<Vec<u8>>, AllocEr
     ensures readable { IfOk result (λ read. IsSome read ↔ IsHex text.now) }
     ensures bytes { IfOk result (λ read. IfSome read (λ bytes. SpellsBytes text.now bytes.items)) }
 {
-    let Some(block) = parse_pairs(text.as_bytes()) else {
+    let digits = text.as_bytes();
+    let Some(pairs) = count_pairs(digits) else {
         return Ok(None);
     };
-    let bytes = Vec::from_slice(alloc, &block[..text.len() / 2])?;
+    let mut bytes = Vec::with_capacity(alloc, pairs)?;
+    for place in 0..pairs {
+        let Some(byte) = pair_value(digits[2 * place], digits[2 * place + 1]) else {
+            return Ok(None);
+        };
+        bytes.push_reserved(byte);
+    }
     Ok(Some(bytes))
 }

@@ -5,12 +5,12 @@ ghost use Rattle.script.specs.Hex.{IsBlockText, IsHex, SpellsBlock};
 ghost use Rattle.events.specs.declared.event.Event.{Event};
 ghost use Rattle.script.specs.Events.{Spells, SpellNothing};
 ghost use Rattle.script.specs.Scripts.{LineSpells, SpellsSome, line_words};
-ghost use Rattle.script.specs.Told.{IsSpelledOut, SpellsEvent};
+ghost use Rattle.script.specs.Told.{IsSpelledOut, SpellsEvent, only_patches};
 
 use crate::parse_block;
 use crate::told::LineEvent;
 use crate::words::read_line;
-use edit_list::Edit;
+use edit_list::{Edit, Patch};
 use events::Event;
 use std::alloc::{AllocError, Global};
 use std::marker::Model;
@@ -107,6 +107,21 @@ fn put_edit(fs: Fs, block: u32, edit: Box<Edit>, event: &mut Event)
     *event = Event::Call(fs, Call::Propose { block, edit });
 }
 
+/// Leaves the event of the word `edit` with patches alone behind it in `event`. It is not inlined either.
+#[inline(never)]
+fn put_patches(fs: Fs, block: u32, patches: Vec<Patch>, event: &mut Event)
+    ensures { event.new ≡ Event.Call fs (Call.Propose block (only_patches patches.items)) }
+{
+    let alloc = *patches.allocator();
+    let edit = Edit {
+        patches,
+        adds: Vec::new(alloc),
+        drops: Vec::new(alloc),
+        after: None,
+    };
+    *event = Event::Call(fs, Call::Propose { block, edit });
+}
+
 /// Leaves the event of the word `install` and the text behind it in `event`. It is not inlined either.
 #[inline(never)]
 fn put_install(text: &str, event: &mut Event)
@@ -132,6 +147,7 @@ fn put_told(told: LineEvent, event: &mut Event)
     };
     match told {
         LineEvent::Init(fs, ty, text) => put_init(fs, ty, text, event),
+        LineEvent::Patches(fs, block, patches) => put_patches(fs, block, patches, event),
         LineEvent::Edit(fs, block, edit) => put_edit(fs, block, edit, event),
         LineEvent::MakeRoot(fs, block) => *event = Event::Call(fs, Call::MakeRoot { block }),
         LineEvent::DropRoot(fs) => *event = Event::Call(fs, Call::DropRoot),
@@ -153,12 +169,16 @@ fn put_told(told: LineEvent, event: &mut Event)
 }
 
 impl<'a> ScriptLine<'a> {
-    /// Reads a line. `None` is for one that spells no event.
-    pub fn read(alloc: Global, text: &'a str) -> Result<Option<ScriptLine<'a>>, AllocError>
+    /// Reads a line. `None` is for one that spells no event. `words` is room for the line's words, which is used again for the next line.
+    pub fn read(
+        alloc: Global,
+        words: &mut Vec<&'a str>,
+        text: &'a str,
+    ) -> Result<Option<ScriptLine<'a>>, AllocError>
         ensures some { IfOk result (λ read. IfSome read (λ line. (line ≡ text.now) × SpellsSome text.now)) }
         ensures none { IfOk result (λ read. IfNone read (SpellNothing (line_words text.now))) }
     {
-        let Some(told) = read_line(alloc, text)? else {
+        let Some(told) = read_line(alloc, words, text)? else {
             return Ok(None);
         };
         if !is_event(&told) {

@@ -1,4 +1,4 @@
-ghost use Rattle.std.specs.Prelude.{◌≡◌, ◌≤◌, ◌↔◌, ℕ, List, map, Some, IfOk, IfSome, IfNone, IsTrue};
+ghost use Rattle.std.specs.Prelude.{◌≡◌, ◌+◌, ◌≤◌, ◌↔◌, ℕ, List, map, Some, IfOk, IfSome, IfNone, IsSome, IsTrue};
 ghost use Rattle.std.specs.Fmt.{decimal};
 ghost use Rattle.script.specs.Numbers.{IsPlain, SpellNumbers};
 
@@ -24,13 +24,41 @@ pub fn parse_number(text: &str, greatest: u64) -> Option<u64>
     Some(number)
 }
 
+/// The value of a decimal digit.
+fn digit_value(digit: u8) -> Option<u8>
+    ensures digit { IsSome result ↔ ((48 ≤ digit) × (digit ≤ 57)) }
+    ensures value { IfSome result (λ value. value + 48 ≡ digit) }
+{
+    match digit {
+        b'0'..=b'9' => Some(digit - b'0'),
+        _ => None,
+    }
+}
+
+/// The same as `parse_number`, of numbers of 32 bits, where no sum or product has to be tested for its size.
+pub fn parse_small(text: &str, greatest: u32) -> Option<u32>
+    ensures spelled { IfSome result (λ n. (text.now ≡ decimal n) × (n ≤ greatest)) }
+    ensures readable { (n : ℕ) → n ≤ greatest → text.now ≡ decimal n → result ≡ Some n }
+{
+    if text.is_empty() || !is_plain(text) {
+        return None;
+    }
+    let mut number = 0;
+    for digit in text.as_bytes() {
+        number = 10 * number + u64::from(digit_value(*digit)?);
+        if number > u64::from(greatest) {
+            return None;
+        }
+    }
+    Some(number as u32)
+}
+
 /// A number of at most 32 bits.
 pub fn parse_u32(text: &str) -> Option<u32>
     ensures spelled { IfSome result (λ n. text.now ≡ decimal n) }
     ensures readable { (n : ℕ) → n ≤ 4294967295 → text.now ≡ decimal n → result ≡ Some n }
 {
-    let number = parse_number(text, u64::from(u32::MAX))?;
-    Some(number as u32)
+    parse_small(text, u32::MAX)
 }
 
 /// The numbers of at most 32 bits that the words spell, one a word.

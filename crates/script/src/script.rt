@@ -25,11 +25,12 @@ pub fn parse<'a>(alloc: Global, script: &'a str) -> Result<Vec<ScriptLine<'a>>, 
     ensures fault { IfErr result (IsScriptFault script.now) }
 {
     let mut lines = Vec::new(alloc);
+    let mut words = Vec::new(alloc);
     for (place, text) in script.split('\n').enumerate() {
         if is_passed_over(text) {
             continue;
         }
-        match ScriptLine::read(alloc, text)? {
+        match ScriptLine::read(alloc, &mut words, text)? {
             Some(line) => lines.push(line)?,
             None => {
                 let line = place as u64 + 1;

@@ -1,15 +1,19 @@
 // The words of a line are read.
 
-ghost use Rattle.std.specs.Prelude.{◌≡◌, ◌≢◌, ◌<◌, ◌==◌, ℕ, List, IfOk, IfSome, IfNone, IsSome, [], ◌∷◌, codes, map, option_copied};
+ghost use Rattle.std.specs.Prelude.{◌≡◌, ◌≢◌, ◌<◌, ◌==◌, ℕ, List, IfOk, OnOk, IfSome, IfNone, IsSome, [], ◌∷◌, codes, map, option_copied};
 ghost use Rattle.std.specs.Fmt.{decimal};
-ghost use Rattle.std.specs.List.{slice_split};
-ghost use Rattle.script.specs.Events.{SpellNothing, IsNoWrite};
+ghost use Rattle.events.specs.declared.event.Event.{Event};
+ghost use Rattle.xn_state.specs.declared.call.Call.{Call};
+ghost use Rattle.script.specs.Events.{Spells, SpellNothing, IsNoWrite};
 ghost use Rattle.script.specs.Told.{SpellsEvent};
 ghost use Rattle.script.specs.Scripts.{words_in, line_words};
 
+use crate::number::parse_small;
 use crate::told::LineEvent;
-use crate::{parse_edit, parse_number, parse_numbers, parse_u32};
+use crate::{parse_edit, parse_numbers, parse_u32};
+use edit_list::Edit;
 use std::alloc::{AllocError, Global};
+use std::mem;
 use xn_state::Fs;
 
 /// The file system that a word names.
@@ -17,7 +21,7 @@ fn parse_fs(word: &str) -> Option<Fs>
     ensures spelled { IfSome result (λ fs. word.now ≡ decimal fs.number) }
     ensures readable { (n : ℕ) → n < 32 → word.now ≡ decimal n → IsSome result }
 {
-    let number = parse_number(word, 31)?;
+    let number = parse_small(word, 31)?;
     Fs::new(number as u8)
 }
 
@@ -30,6 +34,22 @@ fn parse_init<'a>(fs: &str, ty: &str, words: &[&'a str]) -> Option<LineEvent<'a>
         return None;
     };
     Some(LineEvent::Init(parse_fs(fs)?, parse_u32(ty)?, bytes))
+}
+
+/// An edit of a block as a line tells it.
+fn tell_edit<'a>(
+    alloc: Global,
+    fs: Fs,
+    block: u32,
+    mut edit: Edit,
+) -> Result<LineEvent<'a>, AllocError>
+    ensures { IfOk result (λ told. (words : List (List ℕ)) → Spells words (Event.Call fs (Call.Propose block edit)) → SpellsEvent words told) }
+{
+    if edit.adds.is_empty() && edit.drops.is_empty() && edit.after.is_none() {
+        let patches = mem::replace(&mut edit.patches, Vec::new(alloc));
+        return Ok(LineEvent::Patches(fs, block, patches));
+    }
+    Ok(LineEvent::Edit(fs, block, Box::new(alloc, edit)?))
 }
 
 /// The event of the words `edit`, these two and the words behind them.
@@ -48,7 +68,7 @@ fn parse_edit_event<'a>(
     let Some(edit) = parse_edit(alloc, words)? else {
         return Ok(None);
     };
-    Ok(Some(LineEvent::Edit(fs, block, Box::new(alloc, edit)?)))
+    Ok(Some(tell_edit(alloc, fs, block, edit)?))
 }
 
 /// The event of a name and two words behind it, a file system and a block.
@@ -166,14 +186,6 @@ fn parse_crash<'a>(alloc: Global, words: &[&str]) -> Result<Option<LineEvent<'a>
     }
 }
 
-/// The parts of a text that is cut at each `separator`.
-fn cut<'a>(alloc: Global, text: &'a str, separator: char) -> Result<Vec<&'a str>, AllocError>
-    requires { separator < 128 }
-    ensures { IfOk result (λ parts. map (λ part. part.now) parts.items ≡ slice_split (λ byte. byte == separator) text.now) }
-{
-    text.split(separator).collect(alloc)
-}
-
 /// The first word of a text, and what stands behind the space after it, where there is one.
 fn first_word(text: &str) -> (&str, Option<&str>)
     ensures { line_words text.now ≡ result.0.now ∷ words_in (option_copied result.1) }
@@ -184,19 +196,24 @@ fn first_word(text: &str) -> (&str, Option<&str>)
     }
 }
 
-/// The words of a text, or none where there is no text.
-fn words_in(alloc: Global, text: Option<&str>) -> Result<Vec<&str>, AllocError>
-    ensures { IfOk result (λ words. map (λ word. word.now) words.items ≡ words_in (option_copied text.entry)) }
+/// Leaves the words of a text in `words`, or none where there is no text.
+fn cut_words<'a>(text: Option<&'a str>, words: &mut Vec<&'a str>) -> Result<(), AllocError>
+    ensures { OnOk result (map (λ word. word.now) words.new.items ≡ words_in (option_copied text.entry)) }
 {
-    match text {
-        Some(text) => cut(alloc, text, ' '),
-        None => Ok(Vec::new(alloc)),
+    words.clear();
+    let mut rest = text;
+    while let Some(text) = rest {
+        let (word, behind) = first_word(text);
+        words.push(word)?;
+        rest = behind;
     }
+    Ok(())
 }
 
 /// The event of a name and what stands behind it, where that is no crash.
 fn read_words<'a>(
     alloc: Global,
+    words: &mut Vec<&'a str>,
     name: &str,
     rest: Option<&'a str>,
 ) -> Result<Option<LineEvent<'a>>, AllocError>
@@ -211,19 +228,23 @@ fn read_words<'a>(
         return Ok(parse_short(name, first));
     };
     let (second, rest) = first_word(rest);
-    let words = words_in(alloc, rest)?;
+    cut_words(rest, words)?;
     parse_long(alloc, name, first, second, words.as_slice())
 }
 
 /// The event of a line as it tells it, or `None` where it tells none. Crashes come last, as few lines are such.
-pub fn read_line(alloc: Global, line: &str) -> Result<Option<LineEvent>, AllocError>
+pub fn read_line<'a>(
+    alloc: Global,
+    words: &mut Vec<&'a str>,
+    line: &'a str,
+) -> Result<Option<LineEvent<'a>>, AllocError>
     ensures some { IfOk result (λ read. IfSome read (SpellsEvent (line_words line.now))) }
     ensures none { IfOk result (λ read. IfNone read (SpellNothing (line_words line.now))) }
 {
     let (name, rest) = first_word(line);
-    match read_words(alloc, name, rest)? {
+    match read_words(alloc, words, name, rest)? {
         None if name == "crash" => {
-            let words = words_in(alloc, rest)?;
+            cut_words(rest, words)?;
             parse_crash(alloc, words.as_slice())
         }
         told => Ok(told),

@@ -8,10 +8,10 @@ use Rattle.script.proofs.change.parse_patch.Goals as goal
 pub returns-in_default-clause-none : goal.returns-in_default-clause-none
 returns-in_default-clause-none c = λ patch spells. rw c.in_default.is at (patch_split c.args.word.now c.split_once.result patch c.split_once.ensures.cases spells)
 
-pub returns-in_default-parse_number-clause-none : goal.returns-in_default-parse_number-clause-none
-returns-in_default-parse_number-clause-none c = λ patch spells.
+pub returns-in_default-parse_small-clause-none : goal.returns-in_default-parse_small-clause-none
+returns-in_default-parse_small-clause-none c = λ patch spells.
     let split = rw c.in-Some.is at (patch_split c.args.word.now c.split_once.result patch c.split_once.ensures.cases spells) in
-    none-some patch.offset (c.in_default-parse_number.ensures.readable patch.offset (omega (arith, spells.small)) split.0)
+    none-some patch.offset (c.in_default-parse_small.ensures.readable patch.offset (omega (arith, spells.small)) split.0)
 
 pub returns-in_default-2-clause-none : goal.returns-in_default-2-clause-none
 returns-in_default-2-clause-none c = λ patch spells.
