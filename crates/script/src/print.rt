@@ -188,5 +188,5 @@ fn print_block<W: Write>(out: &mut W, text: &str, block: Option<u32>) -> io::Res
 fn print_refusal<W: Write>(out: &mut W, refusal: Refusal) -> io::Result<()>
     ensures { OnOk result (Appends (W.contents out.old) (W.contents out.new) (codes "refused " ++ refusal_text refusal ++ 10 ∷ [])) }
 {
-    write!(out, "refused {refusal}\n")
+    writeln!(out, "refused {refusal}")
 }
