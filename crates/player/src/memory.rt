@@ -1,6 +1,6 @@
 // Files in memory.
 
-ghost use Rattle.std.specs.Prelude.{◌≡◌, bytes_eq, position, string_bytes, IsTrue, OnOk};
+ghost use Rattle.std.specs.Prelude.{◌≡◌, bytes_eq, position, string_bytes, IfSome, IsTrue, OnOk};
 ghost use Rattle.xnsim_line.specs.Files.{with_file};
 
 use std::alloc::{AllocError, Global};
@@ -91,6 +91,21 @@ impl MemoryFiles {
         }
         self.put(name, bytes).is_ok()
     }
+
+    /// Whether the file of a name now holds these bytes.
+    fn set(&mut self, name: &str, bytes: &[u8]) -> bool
+        ensures { IsTrue result → held_by self.new.files.items ≡ with_file (held_by self.old.files.items) name.now bytes.now }
+    {
+        let Some(place) = self.place_of(name) else {
+            return self.add(name, bytes);
+        };
+        let file = &mut self.files[place];
+        if !file.is_writable {
+            return false;
+        }
+        file.bytes.clear();
+        file.bytes.extend_from_slice(bytes).is_ok()
+    }
 }
 
 impl Files for MemoryFiles {
@@ -114,18 +129,20 @@ impl Files for MemoryFiles {
     }
 
     fn write_from<S: Source + Drop>(&mut self, name: &str, source: S) -> bool {
-        let mut bytes = Vec::new(self.alloc);
-        if source.write_to(&mut bytes).is_err() {
-            return false;
+        match bytes_from(self.alloc, source) {
+            Some(bytes) => self.set(name, bytes.as_slice()),
+            None => false,
         }
-        let Some(place) = self.place_of(name) else {
-            return self.add(name, bytes.as_slice());
-        };
-        let file = &mut self.files[place];
-        if !file.is_writable {
-            return false;
-        }
-        file.bytes.clear();
-        file.bytes.extend_from_slice(&bytes).is_ok()
+    }
+}
+
+/// The bytes that a source writes, or `None` for want of memory.
+fn bytes_from<S: Source + Drop>(alloc: Global, source: S) -> Option<Vec<u8>>
+    ensures { IfSome result (λ bytes. bytes.items ≡ S.bytes_of source) }
+{
+    let mut bytes = Vec::new(alloc);
+    match source.write_to(&mut bytes) {
+        Ok(()) => Some(bytes),
+        Err(_) => None,
     }
 }

@@ -2,7 +2,7 @@ use Rattle.std.proofs.Common.{rules, ◌≡◌, ◌∙◌, Some, true, ap, sym, 
 use Rattle.std.specs.Result.{is_ok}
 use Rattle.player.specs.declared.memory.MemoryFile.{MemoryFile}
 use Rattle.player.proofs.HeldFiles.{write_held}
-use Rattle.player.proofs.memory.MemoryFilesFiles.write.Goals as goal
+use Rattle.player.proofs.memory.MemoryFiles.set.Goals as goal
 
 pub returns : goal.returns
 returns c = λ done i.
