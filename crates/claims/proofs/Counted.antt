@@ -1,17 +1,20 @@
 -- The counts of owned blocks, where lives change.
-use Rattle.std.proofs.Common.{◌≡◌, ℕ, ◌+◌, ◌-◌, ◌<◌, ◌≤◌, false, cond, List, length, take, replicate, Option, Some, None, refl, sym, ◌∙◌, ap, arith, inl, inr}
-use Rattle.std.specs.Prelude.{Contains, option_map, slice_index, slice_set}
+use Rattle.std.proofs.Common.{◌≡◌, ℕ, ◌+◌, ◌-◌, ◌<◌, ◌≤◌, false, cond, List, length, map, take, replicate, Option, Some, None, refl, sym, subst, ◌∙◌, ap, arith, inl, inr}
+use Rattle.std.specs.Prelude.{Contains, option_map, slice_index, slice_index_or, slice_set}
 use Rattle.std.proofs.lemmas.Bool.{cases_eq, cases_lt, eq-eqb, ne_eqb}
 use Rattle.std.proofs.lemmas.Option.{unwrap_or-slice_get}
-use Rattle.std.proofs.lemmas.List.{get_or_past, get_or-replicate, get_or-set_other, get_or-set_same, length-replicate, length-set, length-take-le, take_all}
+use Rattle.std.proofs.lemmas.List.{get_or_past, get_or_read, get_or-replicate, get_or-set_other, get_or-set_same, length-replicate, length-set, length-take-le, take_all}
+use Rattle.std.proofs.lemmas.List.FromFn.{get_or-map-range_with_len, length-map-range_with_len}
 use Rattle.std.proofs.lemmas.List.Sums.{count_by-le-length, sum_by_more}
+use Rattle.std.specs.List.{range_with_len}
 use Rattle.xn_model.specs.declared.status.Status.{Status}
 use Rattle.xn_model.specs.declared.status.Status.TheVariants.{Fresh, Owned, Dropped}
 use Rattle.xn_model.specs.Lives.{BlockState, Life, Lives, life_at, is_owned_by, settle, settled_at, begun_at, accepted_at, freed, owner_of}
 use Rattle.xn_model.specs.Calls.{new_life}
 use Rattle.claims.specs.Owners.{owned_count}
-use Rattle.block_cache.specs.Views.{facts_of}
-use Rattle.claims.specs.Owned.{AreOwnedCounts, MayClaim, one_more, owner_in}
+use Rattle.block_cache.specs.declared.life.FoundLife.{FoundLife}
+use Rattle.block_cache.specs.Views.{facts_of, rest_at, rest_in}
+use Rattle.claims.specs.Owned.{AreOwnedCounts, MayClaim, found_owner, one_more, owner_in}
 use Rattle.claims.proofs.Owners.{is_owned, count_same, count_kept, status_kept, accepted_count, drops_within, freed_count, length_accepted, length_freed}
 
 -- there are no more than blocks
@@ -143,6 +146,34 @@ one_counted counts lives n there h = record {
       let life = ap {B = ℕ} (λ o. cond (is_owned b o) 1 0) (unwrap_or-slice_get lives n None) in
       let was = h.each b within in
       omega (arith, here, more, life, was);
+}
+
+-- the lives of blocks of which this is found in an image of these
+abbrev lives_of_found : List (Option FoundLife) → List (List ℕ) → Lives
+lives_of_found found blocks = map (rest_at found blocks) (range_with_len 0 (length found))
+
+pub length-found : (found : List (Option FoundLife)) (blocks : List (List ℕ)) → length (lives_of_found found blocks) ≡ length found
+length-found found blocks = length-map-range_with_len (rest_at found blocks) 0 (length found)
+
+rest_owner : (blocks : List (List ℕ)) (b : ℕ) (o : Option FoundLife) → owner_in (option_map facts_of (rest_in blocks b o)) ≡ found_owner o
+rest_owner blocks b None = refl
+rest_owner blocks b (Some found) = refl
+
+pub one_found : (counts : List ℕ) (found : List (Option FoundLife)) (blocks : List (List ℕ)) (n : ℕ) → n < length found →
+    (o : Option FoundLife) → o ≡ slice_index_or found n o → AreCountedTo counts (lives_of_found found blocks) n →
+    AreCountedTo (one_more counts (found_owner o)) (lives_of_found found blocks) (n + 1)
+one_found counts found blocks n there o is h =
+    let lives = lives_of_found found blocks in
+    let life = unwrap_or-slice_get lives n None ∙ get_or-map-range_with_len (rest_at found blocks) 0 (length found) n n None there (omega arith) in
+    let item = sym (get_or_read found n o there is None) in
+    let owner = ap (λ (l : Option Life). owner_in (option_map facts_of l)) life ∙ (rest_owner blocks n (slice_index_or found n None) ∙ ap found_owner item) in
+    subst (λ (a : Option ℕ). AreCountedTo (one_more counts a) lives (n + 1)) owner (one_counted counts lives n (omega (arith, there, length-found found blocks)) h)
+
+-- all of them
+pub all_counted : (counts : List ℕ) (lives : Lives) (n : ℕ) → length lives ≤ n → AreCountedTo counts lives n → AreOwnedCounts counts lives
+all_counted counts lives n all h = record {
+  long = h.long;
+  each = λ b within. h.each b within ∙ ap (λ (ls : Lives). owned_count ls b) (take_all n lives all);
 }
 
 -- a count so far is small

@@ -7,6 +7,7 @@ use Rattle.xn_model.specs.Lists.{blocks_of, distinct}
 use Rattle.xn_model.specs.Lives.{Lives, life_at, alive_and, is_fresh, is_owned_by, owner_of}
 use Rattle.claims.specs.Owners.{owned_count}
 use Rattle.block_cache.specs.declared.life.Facts.{Facts}
+use Rattle.block_cache.specs.declared.life.FoundLife.{FoundLife}
 
 pub record AreOwnedCounts (counts : List ℕ) (lives : Lives) : Type 0 where
   pub long : length counts ≡ length lives
@@ -16,6 +17,11 @@ pub record AreOwnedCounts (counts : List ℕ) (lives : Lives) : Type 0 where
 abbrev pub owner_in : Option Facts → Option ℕ
 owner_in None = None
 owner_in (Some facts) = owner_of facts.status
+
+-- the same of what is found of it in an image
+abbrev pub found_owner : Option FoundLife → Option ℕ
+found_owner None = None
+found_owner (Some found) = owner_of found.status
 
 abbrev pub one_more : List ℕ → Option ℕ → List ℕ
 one_more counts None = counts

@@ -1,9 +1,12 @@
 // How many blocks each block owns.
 
-ghost use Rattle.std.specs.Prelude.{◌≡◌, ℕ, ◌+◌, ◌-◌, ◌<◌, ◌≤◌, ◌^◌, IfOk, length, slice_index, slice_set};
-ghost use Rattle.claims.specs.Owned.{AreOwnedCounts, one_more, owner_in};
+ghost use Rattle.std.specs.Prelude.{◌≡◌, ℕ, ◌+◌, ◌-◌, ◌<◌, ◌≤◌, ◌^◌, List, IfOk, length, map, slice_index, slice_set};
+ghost use Rattle.std.specs.List.{range_with_len};
+ghost use Rattle.xn_model.specs.Lives.{owner_of};
+ghost use Rattle.block_cache.specs.Views.{rest_at};
+ghost use Rattle.claims.specs.Owned.{AreOwnedCounts, one_more, owner_in, found_owner};
 
-use block_cache::{Cache, Facts, Status};
+use block_cache::{Facts, FoundLife, Status};
 use std::alloc::{AllocError, Global};
 use std::marker::Model;
 
@@ -22,15 +25,17 @@ impl Model for OwnedCounts {
 }
 
 impl OwnedCounts {
-    /// How many blocks each block of a disk owns.
-    pub fn of(alloc: Global, cache: &Cache) -> Result<OwnedCounts, AllocError>
-        ensures { IfOk result (λ counts. AreOwnedCounts counts cache.now) }
+    /// How many blocks each block owns of those that are found in an image. It reads what is found, which lies close together, and no life.
+    pub fn found(alloc: Global, found: &[Option<FoundLife>]) -> Result<OwnedCounts, AllocError>
+        requires few { length found.now < 2 ^ 32 }
+        ensures { IfOk result (λ counts. (blocks : List (List ℕ))
+            → AreOwnedCounts counts (map (rest_at found.now blocks) (range_with_len 0 (length found.now)))) }
     {
         let mut owned = OwnedCounts {
-            counts: vec![in alloc; 0; cache.blocks() as usize]?,
+            counts: vec![in alloc; 0; found.len()]?,
         };
-        for block in 0..cache.blocks() {
-            owned.count_one(owner_in(cache.facts(block)));
+        for life in found {
+            owned.count_one(found_owner(life));
         }
         Ok(owned)
     }
@@ -70,11 +75,28 @@ impl OwnedCounts {
     }
 }
 
-/// The block that owns a block.
+/// The block that owns a block of which this is known.
 pub(crate) fn owner_in(facts: Option<Facts>) -> Option<u32>
     ensures { result ≡ owner_in facts }
 {
-    match facts?.status {
+    owner_of(facts?.status)
+}
+
+/// The block that owns a block of which this is found.
+fn found_owner(found: &Option<FoundLife>) -> Option<u32>
+    ensures { result ≡ found_owner found.now }
+{
+    match found {
+        None => None,
+        Some(life) => owner_of(life.status),
+    }
+}
+
+/// The block that owns a block of this status.
+fn owner_of(status: Status) -> Option<u32>
+    ensures { result ≡ owner_of status }
+{
+    match status {
         Status::Fresh => None,
         Status::Owned(owner) => Some(owner),
         Status::Dropped(_) => None,

@@ -84,9 +84,9 @@ impl Lives {
             places[block.block as usize] = Some(found_life(block));
             free.take(block.block);
         }
+        let owned = OwnedCounts::found(alloc, &places)?;
         let cache = Cache::found(alloc, &places, blocks)?;
         drop(places);
-        let owned = OwnedCounts::of(alloc, &cache)?;
         let index = Index::at_rest(alloc, free, count)?;
         Ok(Lives {
             cache,

@@ -1,10 +1,11 @@
-use Rattle.std.proofs.Common.{◌≡◌, ◌∙◌, ap, sym, length, map, replicate, slice_set, take, None, Some, arith}
+use Rattle.std.proofs.Common.{◌≡◌, ◌∙◌, ap, sym, subst, length, map, replicate, slice_set, take, None, Some, arith}
 use Rattle.std.specs.Prelude.{is_none}
 use Rattle.std.specs.List.{range_with_len}
 use Rattle.block_cache.specs.Views.{rest_at}
 use Rattle.std.proofs.lemmas.List.{take_all}
 use Rattle.xn_model.specs.Images.{blocks_in}
 use Rattle.xn_model.specs.Lives.{Lives}
+use Rattle.claims.specs.Owned.{AreOwnedCounts}
 use Rattle.dependencies.proofs.ForCallers.{marks}
 use Rattle.xn_state.specs.Mounts.{found_of}
 use Rattle.xn_state.proofs.Finding.{all_found, all_marked, all_put, found_clean, found_more, found_uncounted, marks_more, no_marks, put_found}
@@ -31,20 +32,22 @@ all_are : goal.returns
 all_are c =
     let image = c.args.image.now in
     let found = c.args.found.now in
-    let places = c.deref.result.now in
+    let places = c.deref-2.result.now in
     let whole : take c.loop-block.block-index found ≡ found = take_all c.loop-block.block-index found (omega arith) in
-    let put = c.deref.ensures.value ∙ (c.loop-block.invariant.0 ∙ (λ i. all_put (replicate (length (c.as_chunks.ensures.front i)) None) (whole i))) in
+    let put = c.deref-2.ensures.value ∙ (c.loop-block.invariant.0 ∙ (λ i. all_put (replicate (length (c.as_chunks.ensures.front i)) None) (whole i))) in
     c.in_ok-cache.ensures ∙ ((λ i. map (rest_at places (c.as_chunks.ensures.front i)) (range_with_len 0 (length places))) ∙ all_found image found places c.requires.once put)
 
 pub invariant_of-result : goal.invariant_of-result
 invariant_of-result c =
     let count = length c.as_chunks.result.0.now in
     let are = all_are c in
-    let places = c.deref.result.now in
-    let free = c.loop-block.invariant.1 ∙ (ap (map is_none) (sym c.deref.ensures.value) ∙ (all_marked c.as_chunks.result.0.now places ∙ ap (λ (ls : Lives). marks ls) (sym c.in_ok-cache.ensures))) in
+    let places = c.deref-2.result.now in
+    let free = c.loop-block.invariant.1 ∙ (ap (map is_none) (sym c.deref-2.ensures.value) ∙ (all_marked c.as_chunks.result.0.now places ∙ ap (λ (ls : Lives). marks ls) (sym c.in_ok-cache.ensures))) in
     let blocks = blocks_in c.args.image.now in
     let found = map found_of c.args.found.now in (
-      c.in_ok-owned.ensures,
+      subst (λ (ls : Lives). AreOwnedCounts c.in_ok-owned.owned ls) (sym c.in_ok-cache.ensures)
+          (subst (λ ps. AreOwnedCounts c.in_ok-owned.owned (map (rest_at ps c.as_chunks.result.0.now) (range_with_len 0 (length ps))))
+          (c.deref.ensures.value ∙ sym c.deref-2.ensures.value) (c.in_ok-owned.ensures c.as_chunks.result.0.now)),
       c.in_ok-index.ensures c.in_ok-cache.cache free (found_clean blocks found c.in_ok-cache.cache count are (ap length c.as_chunks.ensures.front)) (found_uncounted blocks found c.in_ok-cache.cache are),
     )
 
