@@ -11,6 +11,7 @@ use crate::known::KnownTypes;
 use crate::named::NamedBlocks;
 use crate::sights::{Sights, see_all};
 use std::alloc::{AllocError, Global};
+use std::hint::spin_loop;
 use std::sync::atomic::{AtomicUsize, Ordering};
 use std::sync::{OnceLock, OnceToken};
 use templates::Table;
@@ -180,6 +181,28 @@ pub fn fill_next<'a>(alloc: Global, ahead: &Ahead<'a>) -> Option<Filled<'a>>
     let sights = see_slot(alloc, ahead, at)?;
     let token = ahead.slots[at].try_set(sights).ok()?;
     Some(Filled { at, token })
+}
+
+/// How often in all a thread looks again for slots that other threads are filling: some 0.2 milliseconds.
+pub const LOOKS: usize = 4000;
+
+/// What shows that a slot is filled, where it is now or after at most so many looks at it, which are then fewer.
+pub fn look_again<'a>(
+    slot: &'a OnceLock<Sights>,
+    looks: &mut usize,
+) -> Option<OnceToken<'a, Sights>>
+    ensures { IfSome result (λ token. token.of ≡ slot.now.id) }
+{
+    let most = *looks;
+    *looks = 0;
+    for done in 0..most {
+        if let Some(token) = slot.witness() {
+            *looks = most - done;
+            return Some(token);
+        }
+        spin_loop();
+    }
+    slot.witness()
 }
 
 /// Fills slots until none is left, and answers which.

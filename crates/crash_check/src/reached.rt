@@ -12,7 +12,7 @@ ghost use Rattle.crash_check.specs.Ahead.{AreTaken, named_in};
 ghost use Rattle.crash_check.specs.Answers.{IsFront};
 ghost use Rattle.crash_check.specs.Reached.{IsMapped, IsReached};
 
-use crate::ahead::{Ahead, Filled, fill_next, fill_rest};
+use crate::ahead::{Ahead, Filled, LOOKS, fill_next, fill_rest, look_again};
 use crate::named::NamedBlocks;
 use crate::sights::Sights;
 use indexmap::IndexMap;
@@ -41,7 +41,8 @@ fn insert_pairs(reached: &mut IndexMap<u32, u32>, pairs: &[Pair]) -> Result<(), 
     Ok(())
 }
 
-/// Puts what slot after slot names into the map. Where the next one isn't filled yet, this thread fills one itself; where none is left to fill, it ends.
+/// Puts what slot after slot names into the map. Where the next one isn't filled yet, this thread looks for it again: what it does takes longest, so
+/// others fill the slots. After `LOOKS` it fills one itself; where none is left to fill, it ends.
 pub fn map_ahead<'a>(
     alloc: Global,
     ahead: &Ahead<'a>,
@@ -58,12 +59,13 @@ pub fn map_ahead<'a>(
         };
     };
     let mut filled = Vec::new(alloc);
+    let mut looks = LOOKS;
     for _ in 0..2 * ahead.slots.len() {
         if taken.len() >= ahead.slots.len() {
             break;
         }
         let slot = &ahead.slots[taken.len()];
-        match slot.witness() {
+        match look_again(slot, &mut looks) {
             Some(token) => {
                 let pairs = slot.value(&token).pairs.as_slice();
                 if insert_pairs(&mut reached, pairs).is_err() || taken.push(token).is_err() {

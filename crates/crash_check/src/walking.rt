@@ -11,7 +11,7 @@ ghost use Rattle.crash_check.specs.Rounds.{Walks};
 ghost use Rattle.crash_check.specs.Sights.{AreSeen, sights, count_sum, pairs_of};
 ghost use Rattle.crash_check.specs.Walking.{IsUnderWay};
 
-use crate::ahead::{Ahead, Filled, fill_next};
+use crate::ahead::{Ahead, Filled, LOOKS, fill_next, look_again};
 use crate::named::NamedBlocks;
 use crate::rounds::{is_leaf_at, take_in};
 use crate::sights::Sights;
@@ -142,7 +142,8 @@ fn walk_slot<'a>(ahead: &Ahead<'a>, walk: Walking<'a>, token: OnceToken<'a, Sigh
     }
 }
 
-/// Goes on with a walk by slot after slot. Where the next one isn't filled yet, this thread fills one itself; where none is left to fill, it ends.
+/// Goes on with a walk by slot after slot. Where the next one isn't filled yet, this thread fills one itself. Where none is left to fill, it looks
+/// for the next one again, and ends after `LOOKS`.
 pub fn walk_ahead<'a>(alloc: Global, ahead: &Ahead<'a>, mut walk: Walking<'a>) -> Walking<'a>
     requires few { length ahead.now.blocks.now ≤ 32768 }
     requires valid { walk.fault ≡ None → Valid (table_types ahead.now.table.now) (length ahead.now.blocks.now) walk.named.entries }
@@ -150,20 +151,26 @@ pub fn walk_ahead<'a>(alloc: Global, ahead: &Ahead<'a>, mut walk: Walking<'a>) -
     ensures goes_on { (start : _) (from : ℕ) → IsUnderWay (table_types ahead.now.table.now) ahead.now.blocks.now ahead.now.slots.now start from walk.entry
         → IsUnderWay (table_types ahead.now.table.now) ahead.now.blocks.now ahead.now.slots.now start from result }
 {
+    let mut looks = 0;
+    let mut are_all_drawn = false;
     for _ in 0..2 * ahead.slots.len() {
         if walk.fault.is_some() || !walk.fits || walk.taken.len() >= ahead.slots.len() {
             return walk;
         }
-        match ahead.slots[walk.taken.len()].witness() {
+        match look_again(&ahead.slots[walk.taken.len()], &mut looks) {
             Some(token) => walk = walk_slot(ahead, walk, token),
-            None => {
-                let Some(slot) = fill_next(alloc, ahead) else {
-                    return walk;
-                };
-                if walk.filled.push(slot).is_err() {
-                    return walk;
+            None if are_all_drawn => return walk,
+            None => match fill_next(alloc, ahead) {
+                Some(slot) => {
+                    if walk.filled.push(slot).is_err() {
+                        return walk;
+                    }
                 }
-            }
+                None => {
+                    are_all_drawn = true;
+                    looks = LOOKS;
+                }
+            },
         }
     }
     walk

@@ -8,7 +8,7 @@ use Rattle.templates.specs.Tables.{table_types}
 use Rattle.crash_check.specs.Ahead.{AreTaken, IsFilled, named_in}
 use Rattle.crash_check.proofs.Mapped.{AreTaken-none, AreTaken-push, map-push, on_ok}
 use Rattle.crash_check.proofs.reached.map_ahead.Goals as goal
-use Rattle.crash_check.proofs.reached.map_ahead.Goals.{in-Some-witness+else-is_err+else-is_err-2, in-None+in-Some-fill_next+else-is_err-3, then-is_err-via-then-is_err, then-is_err-via-else-is_err+then-is_err-2, else-loop-test, then-loop-test+then-len-ahead, then-loop-test+else-len-ahead+in-None+in_default-fill_next, then-loop-test+else-len-ahead+in-None+in-Some-fill_next+then-is_err-3}
+use Rattle.crash_check.proofs.reached.map_ahead.Goals.{in-Some-look_again+else-is_err+else-is_err-2, in-None+in-Some-fill_next+else-is_err-3, then-is_err-via-then-is_err, then-is_err-via-else-is_err+then-is_err-2, else-loop-test, then-loop-test+then-len-ahead, then-loop-test+else-len-ahead+in-None+in_default-fill_next, then-loop-test+else-len-ahead+in-None+in-Some-fill_next+then-is_err-3}
 
 pub loop-init : goal.loop-init
 loop-init c =
@@ -25,7 +25,7 @@ returns-then-is_err c = record {
   taken = elim c.then-is_err.branch [
     | then-is_err-via-then-is_err w ↦ subst (λ v. AreTaken c.args.ahead.now.slots.now v.items) (sym w.taken-is) c.loop.invariant.taken
     | then-is_err-via-else-is_err+then-is_err-2 w ↦
-        let token = c.in-Some-witness.token in
+        let token = c.in-Some-look_again.token in
         let same = ap (λ v. v.items) w.taken-is ∙ w.push.ensures.items ∙ ap (λ b. if b then c.loop.taken.items ++ token ∷ [] else c.loop.taken.items) w.if-is_err-2.ensures.negation in
         subst (AreTaken c.args.ahead.now.slots.now) (sym same) c.loop.invariant.taken
   ];
@@ -37,28 +37,28 @@ pub loop-preserved : goal.loop-preserved
 loop-preserved c =
     let slots = c.args.ahead.now.slots.now in
     let IsGood = IsFilled (table_types c.args.ahead.now.table.now) c.args.ahead.now.blocks.now slots in
-    elim c.match-witness.branch [
-      | in-Some-witness+else-is_err+else-is_err-2 w ↦
-          let token = w.in-Some-witness.token in
+    elim c.match-look_again.branch [
+      | in-Some-look_again+else-is_err+else-is_err-2 w ↦
+          let token = w.in-Some-look_again.token in
           let taken = c.loop.taken.items in
           let slot = c.index-ahead-len.result in
-          let pushed : c.match-witness.taken.items ≡ taken ++ token ∷ [] =
+          let pushed : c.match-look_again.taken.items ≡ taken ++ token ∷ [] =
           ap (λ v. v.items) w.taken-is ∙ w.push.ensures.items ∙ ap (λ b. if b then taken ++ token ∷ [] else taken) w.if-is_err-2.ensures.negation in
           let at : slice_get slots (length taken) ≡ Some slot =
           subst (λ k. slice_get slots k ≡ Some slot) (omega arith) (slice_get_read slots (length slots) c.len-in-loop.result slot refl (omega arith) c.index-ahead-len.is) in
           let named = ap (map numbers_of_pair) (w.as_slice-pairs.ensures.value ∙ ap (λ s. s.pairs.items) w.value.ensures) in
           record {
-            taken = subst (AreTaken slots) (sym pushed) (AreTaken-push slots taken token c.loop.invariant.taken (slot, at, w.in-Some-witness.ensures ∙ ap (λ s. s.id) (sym c.index-ahead-len.is)));
+            taken = subst (AreTaken slots) (sym pushed) (AreTaken-push slots taken token c.loop.invariant.taken (slot, at, w.in-Some-look_again.ensures ∙ ap (λ s. s.id) (sym c.index-ahead-len.is)));
             filled = subst (λ v. All IsGood v.items) (sym w.filled-is) c.loop.invariant.filled;
             reached =
-                map-push c.in-Some.reached.entries c.loop.reached.entries c.match-witness.reached.entries (map numbers_of_pair w.as_slice-pairs.result.now) taken token
+                map-push c.in-Some.reached.entries c.loop.reached.entries c.match-look_again.reached.entries (map numbers_of_pair w.as_slice-pairs.result.now) taken token
                 c.loop.invariant.reached named (ap (λ m. m.entries) w.reached-is ∙ on_ok _ w.insert_pairs.result w.if-is_err.ensures.value w.insert_pairs.ensures)
                 ∙ ap (λ l. insert_all nat_eq c.in-Some.reached.entries (named_in l)) (sym pushed);
           }
       | in-None+in-Some-fill_next+else-is_err-3 w ↦
           let filled = c.loop.filled.items in
           let slot = w.in-Some-fill_next.slot in
-          let pushed : c.match-witness.filled.items ≡ filled ++ slot ∷ [] =
+          let pushed : c.match-look_again.filled.items ≡ filled ++ slot ∷ [] =
           ap (λ v. v.items) w.filled-is ∙ w.push-in-None.ensures.items ∙ ap (λ b. if b then filled ++ slot ∷ [] else filled) w.if-is_err-3.ensures.negation in
           record {
             taken = subst (λ v. AreTaken slots v.items) (sym w.taken-is) c.loop.invariant.taken;

@@ -2,7 +2,7 @@ use Rattle.std.proofs.Common.{◌≡◌, ◌∙◌, ◌<◌, length, true, false
 use Rattle.std.specs.Prelude.{is_ok}
 use Rattle.templates.specs.Tables.{table_types}
 use Rattle.crash_check.proofs.TakesIn.{filled-more, filled-same, no-fault, token-at}
-use Rattle.crash_check.proofs.walking.walk_ahead.Goals.{in-Some, in-None+in-Some-fill_next+else-is_err}
+use Rattle.crash_check.proofs.walking.walk_ahead.Goals.{in-Some, in-None-2+in-Some-fill_next+else-is_err, in-None-2+in-None-fill_next}
 use Rattle.crash_check.proofs.walking.walk_ahead.Goals as goal
 
 pub loop-init : goal.loop-init
@@ -24,11 +24,11 @@ walk_slot-walk-requires-clause-next c =
     let within : c.len-in-loop.result < length c.args.ahead.now.slots.now = omega arith in
     token-at c.args.ahead.now.slots.now c.len-in-loop.result (length taken.items) c.index-ahead-len.result c.in-Some.token at within c.in-Some.ensures
 
-pub returns-in_default-clause-valid : goal.returns-in_default-clause-valid
-returns-in_default-clause-valid c = c.loop.invariant.valid
+pub returns-in-None-clause-valid : goal.returns-in-None-clause-valid
+returns-in-None-clause-valid c = c.loop.invariant.valid
 
-pub returns-in_default-clause-goes_on : goal.returns-in_default-clause-goes_on
-returns-in_default-clause-goes_on c = c.loop.invariant.goes_on
+pub returns-in-None-clause-goes_on : goal.returns-in-None-clause-goes_on
+returns-in-None-clause-goes_on c = c.loop.invariant.goes_on
 
 pub returns-then-is_err-clause-valid : goal.returns-then-is_err-clause-valid
 returns-then-is_err-clause-valid c = c.loop.invariant.valid
@@ -41,13 +41,13 @@ returns-then-is_err-clause-goes_on c = λ start from u.
 
 pub loop-preserved : goal.loop-preserved
 loop-preserved c =
-    elim c.match-witness.branch [
+    elim c.match-look_again.branch [
       | in-Some w ↦ rw (w.walk-is)
           (record {
             valid = w.walk_slot-walk.ensures.valid;
             goes_on = λ start from u. w.walk_slot-walk.ensures.goes_on start from (c.loop.invariant.goes_on start from u);
           })
-      | in-None+in-Some-fill_next+else-is_err w ↦
+      | in-None-2+in-Some-fill_next+else-is_err w ↦
           let pushed : is_ok w.push.result ≡ true = w.is_err.ensures.negation ∙ ap not w.if-is_err.false in
           rw (w.walk-is)
           (record {
@@ -56,6 +56,7 @@ loop-preserved c =
                 filled-more (table_types c.args.ahead.now.table.now) c.args.ahead.now.blocks.now c.args.ahead.now.slots.now start from c.loop.walk (c.loop.invariant.goes_on start from u)
                 w.push.new.self w.in-Some-fill_next.slot (rw pushed at w.push.ensures.items) w.in-Some-fill_next.ensures;
           })
+      | in-None-2+in-None-fill_next w ↦ rw (w.walk-is) (record { valid = c.loop.invariant.valid; goes_on = c.loop.invariant.goes_on })
     ]
 
 pub returns-clause-valid : goal.returns-clause-valid
