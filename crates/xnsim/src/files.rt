@@ -1,11 +1,20 @@
 // The files of the system.
 
-use std::alloc::Global;
+ghost use Rattle.std.specs.Prelude.{◌≡◌, OnOk, vec_len};
+
+use std::alloc::{AllocError, Global};
 use std::fs::{File, OpenFile, OpenOptions, Permissions};
 use std::io::{ErrorKind, Read, Write};
 use std::rt::Files as System;
 use std::{fs, io};
 use xnsim_line::{Files, Source};
+
+/// How many bytes are asked of the system at once.
+const PIECE: usize = 128 * 1024;
+
+/// How many bytes are cleared at once before they are read into. The GNU C library clears 2,048 and more by `rep stosb`, which takes longer where
+/// each page is touched for the first time.
+const CLEARED: usize = 1024;
 
 /// How many names are tried for a file that is written beside another one.
 const TRIES: u32 = 100;
@@ -123,12 +132,38 @@ fn write<R: System + AllocGlobal, S: Source + Drop>(
     }
 }
 
-/// The first bytes of the file of a name, at most `limit` of them.
+/// Puts zeros behind these bytes, up to a length.
+fn clear_to(bytes: &mut Vec<u8>, length: usize) -> Result<(), AllocError>
+    ensures { OnOk result (vec_len bytes.new ≡ length) }
+{
+    for end in (bytes.len()..length).step_by(CLEARED) {
+        bytes.resize(end, 0)?;
+    }
+    bytes.resize(length, 0)
+}
+
+/// Reads so many bytes of a file behind these.
+fn read_piece<F: Read>(file: &mut F, bytes: &mut Vec<u8>, length: usize) -> io::Result<()> {
+    let start = bytes.len();
+    clear_to(bytes, start.saturating_add(length))?;
+    file.read_exact(&mut bytes[start..])
+}
+
+/// The first bytes of the file of a name, at most `limit` of them. As many as the system says that it has are read piece by piece. A device has
+/// none by that, so what comes behind them is read too.
 fn read_start<R: System + AllocGlobal>(rt: &R, name: &str, limit: usize) -> io::Result<Vec<u8>> {
     let mut bytes = Vec::with_capacity(rt.alloc(), limit)?;
-    fs::open(rt, name)?
-        .take(limit as u64)
-        .read_to_end(&mut bytes)?;
+    let mut file = fs::open(rt, name)?;
+    let length = file.metadata()?.len().min(limit as u64) as usize;
+    for start in (0..length).step_by(PIECE) {
+        read_piece(
+            &mut file,
+            &mut bytes,
+            PIECE.min(length.saturating_sub(start)),
+        )?;
+    }
+    let left = limit.saturating_sub(bytes.len());
+    file.take(left as u64).read_to_end(&mut bytes)?;
     Ok(bytes)
 }
 
