@@ -6,9 +6,11 @@ import shutil
 import subprocess
 from dataclasses import dataclass
 
+from made_from import program_to_try
+
 TOP = os.path.dirname(os.path.dirname(os.path.abspath(__file__)))
-XNFS = os.path.join(TOP, "crates/xnfs/out/xnfs")
-XNSIM = os.path.join(TOP, "crates/xnsim/out/xnsim")
+XNFS = program_to_try("xnfs")
+XNSIM = program_to_try("xnsim")
 NAMES = ["a", "b", "c", "notes.txt", "data"]
 LENGTHS = [0, 1, 100, 511, 512, 513, 3000, 6144, 6145, 20000, 30000, 45000, 71680]
 # Files of the system, by their names: one of each length, and those of a folder.

@@ -12,8 +12,9 @@ import sys
 TOP = os.path.dirname(os.path.dirname(os.path.abspath(__file__)))
 sys.path.insert(0, os.path.join(TOP, "bench"))
 import reference_store as reference
+from made_from import program_to_try
 
-PROGRAM = os.path.join(TOP, "crates/xnsim/out/xnsim")
+PROGRAM = program_to_try("xnsim")
 DATA = os.path.join(TOP, "crates/transcripts/data")
 BLOCKS = 32
 
