@@ -64,11 +64,11 @@ def below(crates, name):
 
 
 def files_below(folder, parts):
-    """The files below these folders of a folder, in order."""
-    found = []
+    """The files of these names in a folder, and those below the folders of these names, in order, without what was built."""
+    found = [os.path.join(folder, part) for part in parts if os.path.isfile(os.path.join(folder, part))]
     for part in parts:
         for at, folders, names in os.walk(os.path.join(folder, part)):
-            folders.sort()
+            folders[:] = [it for it in folders if it != "out"]
             found += [os.path.join(at, name) for name in names]
     return sorted(found)
 

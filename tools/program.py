@@ -260,10 +260,9 @@ def program_of(name):
 
 
 def execute(program, words, ignored):
-    """Runs the program in place of this process, with the signals ignored that the caller ignores."""
-    for number in range(1, signal.NSIG):
-        with contextlib.suppress(OSError, ValueError):
-            signal.signal(number, signal.SIG_IGN if ignored >> (number - 1) & 1 else signal.SIG_DFL)
+    """Runs the program in place of this process, with the signals ignored that the caller ignores; Python itself ignores these two."""
+    for number in (signal.SIGPIPE, signal.SIGXFSZ):
+        signal.signal(number, signal.SIG_IGN if ignored >> (number - 1) & 1 else signal.SIG_DFL)
     os.execv(program, [program, *words])
 
 
