@@ -182,6 +182,8 @@ def held(path, name):
 @contextlib.contextmanager
 def room_for(lock):
     """A temporary folder, whose path stands in the file of the lock as long as it is there."""
+    import code_alone
+
     path = os.path.join(temporary(), f"kandrefosy-build-{os.urandom(8).hex()}")
     lock.truncate(0)
     lock.write(path)
@@ -190,8 +192,9 @@ def room_for(lock):
         os.mkdir(path, 0o700)
         yield path
     finally:
-        remove_folder(path)
-        lock.truncate(0)
+        with code_alone.undisturbed():
+            remove_folder(path)
+            lock.truncate(0)
 
 
 def told_kit():
@@ -234,7 +237,7 @@ def build_alone(name):
                 os.replace(beside, program)
                 write_record(program, made_from, known)
             finally:
-                with contextlib.suppress(FileNotFoundError):
+                with code_alone.undisturbed(), contextlib.suppress(FileNotFoundError):
                     os.remove(beside)
     return "code alone", program
 
