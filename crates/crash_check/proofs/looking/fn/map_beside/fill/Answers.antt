@@ -1,5 +1,0 @@
-use Rattle.std.proofs.Common.{sym}
-use Rattle.crash_check.proofs.looking.fn.map_beside.fill.Goals as goal
-
-pub returns : goal.returns
-returns c = rw (sym c.new.ensures.table, sym c.new.ensures.blocks, sym c.new.ensures.slots) c.fill_rest.ensures
