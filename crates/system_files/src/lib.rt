@@ -8,6 +8,7 @@
 #![tactic(auto)]
 
 mod fault;
+mod locking;
 mod naming;
 mod real;
 mod replacing;
@@ -17,6 +18,7 @@ mod taking;
 mod writing;
 
 pub use fault::WriteFault;
+pub use locking::{Access, OpenFault, lead_to_one_file, open_locked};
 pub use real::write_file;
 pub use source::Source;
 pub use system::{Found, System};

@@ -1,5 +1,6 @@
 // The calls of the system that runs the program.
 
+use crate::locking::is_same;
 use crate::{Found, Links, Source, System, WriteFault, write_by};
 use std::fs;
 use std::fs::{File, Files, Metadata, OpenOptions, TryLockError};
@@ -23,10 +24,6 @@ fn found_of(metadata: &Metadata) -> Found {
     } else {
         Found::Other
     }
-}
-
-fn is_same(one: &Metadata, other: &Metadata) -> bool {
-    one.dev() == other.dev() && one.ino() == other.ino()
 }
 
 impl<'a, R: Files<File = File> + AllocGlobal> Real<'a, R> {

@@ -1,6 +1,6 @@
 // A new file takes the place of another one.
 
-use crate::naming::{name_beside, parted};
+use crate::naming::{folder_of, name_beside};
 use crate::{Source, System, WriteFault};
 use std::alloc::Global;
 use std::io::ErrorKind;
@@ -26,7 +26,7 @@ fn fill<Y: System, S: Source + Drop>(
     beside: &str,
     file: &mut Y::Handle,
     path: &str,
-    old: Option<&Y::Handle>,
+    old: &Option<Y::Handle>,
     source: S,
 ) -> Result<(), WriteFault> {
     if let Some(old) = old {
@@ -42,11 +42,10 @@ pub fn replace<Y: System, S: Source + Drop>(
     system: &mut Y,
     alloc: Global,
     path: &str,
-    old: Option<&Y::Handle>,
+    old: &Option<Y::Handle>,
     source: S,
 ) -> Result<(), WriteFault> {
-    let (folder, _) = parted(path);
-    let folder = system.open_folder(folder)?;
+    let folder = system.open_folder(folder_of(path))?;
     let (beside, mut file) = make_beside(system, alloc, path)?;
     if let Err(fault) = fill(system, beside.as_str(), &mut file, path, old, source) {
         system.remove(beside.as_str());

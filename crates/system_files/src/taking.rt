@@ -17,11 +17,9 @@ const TRIES: u32 = 100;
 
 /// A file that is to be written.
 #[derive(Drop)]
-pub enum Target<H: Drop> {
-    /// Nothing has this name.
-    Absent(String),
-    /// A regular file has this name, and is locked.
-    Locked(String, H),
+pub enum Target<H> {
+    /// A new file takes this path. The regular file that has it, if there is one, is open and locked.
+    Replaced { path: String, old: Option<H> },
     /// What is open is no regular file.
     InPlace(H),
 }
@@ -39,7 +37,10 @@ fn lock_at<Y: System>(
     if !system.is_at(&file, path.as_str())? {
         return Ok(None);
     }
-    Ok(Some(Target::Locked(path, file)))
+    Ok(Some(Target::Replaced {
+        path,
+        old: Some(file),
+    }))
 }
 
 /// What has a name and is no regular file, opened. `None` where it is one by then.
@@ -74,7 +75,10 @@ fn try_take<Y: System>(
     links: Links,
 ) -> Result<Option<Target<Y::Handle>>, WriteFault> {
     match (system.look(name)?, links) {
-        (Found::Nothing, _) => Ok(Some(Target::Absent(String::from_str(alloc, name)?))),
+        (Found::Nothing, _) => Ok(Some(Target::Replaced {
+            path: String::from_str(alloc, name)?,
+            old: None,
+        })),
         (Found::Regular, _) => lock_at(system, String::from_str(alloc, name)?),
         (Found::Folder, _) => Err(WriteFault::Folder),
         (Found::Link, Links::Refused) => Err(WriteFault::Link),

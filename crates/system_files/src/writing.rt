@@ -17,8 +17,7 @@ pub fn write_by<Y: System, S: Source + Drop>(
         return Err(WriteFault::Name);
     }
     match take(system, alloc, name, links)? {
-        Target::Absent(path) => replace(system, alloc, path.as_str(), None, source),
-        Target::Locked(path, old) => replace(system, alloc, path.as_str(), Some(&old), source),
+        Target::Replaced { path, old } => replace(system, alloc, path.as_str(), &old, source),
         Target::InPlace(mut file) => system.write(&mut file, source),
     }
 }
