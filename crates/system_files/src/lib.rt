@@ -18,7 +18,7 @@ mod taking;
 mod writing;
 
 pub use fault::WriteFault;
-pub use locking::{Access, OpenFault, lead_to_one_file, open_locked};
+pub use locking::{Access, OpenFault, is_same, lead_to_one_file, open_locked};
 pub use real::write_file;
 pub use source::Source;
 pub use system::{Found, System};

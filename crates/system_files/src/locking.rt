@@ -55,8 +55,8 @@ impl From<TryLockError> for OpenFault {
     }
 }
 
-/// Whether these are of one file.
-pub(crate) fn is_same(one: &Metadata, other: &Metadata) -> bool {
+/// Whether these are of one file: they have the same device and inode.
+pub fn is_same(one: &Metadata, other: &Metadata) -> bool {
     one.dev() == other.dev() && one.ino() == other.ino()
 }
 
