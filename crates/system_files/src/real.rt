@@ -37,7 +37,11 @@ impl<'a, R: Files<File = File> + AllocGlobal> Real<'a, R> {
 }
 
 impl<'a, R: Files<File = File> + AllocGlobal> System for Real<'a, R> {
+    ghost use Rattle.std.specs.Prelude.{None};
+
     type Handle = File;
+
+    ghost calls = { λ _. None };
 
     fn look(&mut self, name: &str) -> Result<Found, WriteFault> {
         match fs::symlink_metadata(self.rt, name) {

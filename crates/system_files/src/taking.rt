@@ -1,5 +1,9 @@
 // The file that is to be written is found, and locked.
 
+ghost use Rattle.std.specs.Prelude.{◌≡◌, IfOk, IfSome, true};
+ghost use Rattle.system_files.specs.Calls.{IsLocked, Looked};
+ghost use Rattle.system_files.specs.Targets.{IsLockedTarget, IsTarget};
+
 use crate::{Found, System, WriteFault};
 use std::alloc::Global;
 
@@ -24,17 +28,25 @@ pub enum Target<H> {
     InPlace(H),
 }
 
-/// The open file under a path without links, where it can be locked and is the one under the path then. `None` where it is another one by then.
-fn lock_at<Y: System>(
-    system: &mut Y,
-    path: String,
-) -> Result<Option<Target<Y::Handle>>, WriteFault> {
-    let file = system.open(path.as_str())?;
-    if system.kind(&file)? != Found::Regular {
-        return Ok(None);
+/// Whether an open file is regular, could be locked, and is the one under this path then; a link is not followed.
+fn is_locked_at<Y: System>(system: &mut Y, file: &Y::Handle, path: &str) -> Result<bool, WriteFault>
+    ensures looked { Looked (Y.calls system.old) (Y.calls system.new) }
+    ensures locked { result ≡ Ok true → IsLocked path.now (Y.calls system.old) (Y.calls system.new) }
+{
+    if system.kind(file)? != Found::Regular {
+        return Ok(false);
     }
-    system.lock(&file)?;
-    if !system.is_at(&file, path.as_str())? {
+    system.lock(file)?;
+    system.is_at(file, path)
+}
+
+/// The file under a path without links, open and locked. `None` where it is another one by then.
+fn lock_at<Y: System>(system: &mut Y, path: String) -> Result<Option<Target<Y::Handle>>, WriteFault>
+    ensures looked { Looked (Y.calls system.old) (Y.calls system.new) }
+    ensures target { IfOk result (λ found. IfSome found (IsLockedTarget (Y.calls system.old) (Y.calls system.new))) }
+{
+    let file = system.open(path.as_str())?;
+    if !is_locked_at(system, &file, path.as_str())? {
         return Ok(None);
     }
     Ok(Some(Target::Replaced {
@@ -47,7 +59,10 @@ fn lock_at<Y: System>(
 fn open_in_place<Y: System>(
     system: &mut Y,
     name: &str,
-) -> Result<Option<Target<Y::Handle>>, WriteFault> {
+) -> Result<Option<Target<Y::Handle>>, WriteFault>
+    ensures looked { Looked (Y.calls system.old) (Y.calls system.new) }
+    ensures target { IfOk result (λ found. IfSome found (IsTarget name.now (Y.calls system.old) (Y.calls system.new))) }
+{
     let file = system.open(name)?;
     match system.kind(&file)? {
         Found::Regular => Ok(None),
@@ -56,7 +71,10 @@ fn open_in_place<Y: System>(
 }
 
 /// The file that a link leads to.
-fn follow<Y: System>(system: &mut Y, name: &str) -> Result<Option<Target<Y::Handle>>, WriteFault> {
+fn follow<Y: System>(system: &mut Y, name: &str) -> Result<Option<Target<Y::Handle>>, WriteFault>
+    ensures looked { Looked (Y.calls system.old) (Y.calls system.new) }
+    ensures target { IfOk result (λ found. IfSome found (IsTarget name.now (Y.calls system.old) (Y.calls system.new))) }
+{
     match system.look_through(name)? {
         Found::Regular => {
             let path = system.resolve(name)?;
@@ -73,7 +91,10 @@ fn try_take<Y: System>(
     alloc: Global,
     name: &str,
     links: Links,
-) -> Result<Option<Target<Y::Handle>>, WriteFault> {
+) -> Result<Option<Target<Y::Handle>>, WriteFault>
+    ensures looked { Looked (Y.calls system.old) (Y.calls system.new) }
+    ensures target { IfOk result (λ found. IfSome found (IsTarget name.now (Y.calls system.old) (Y.calls system.new))) }
+{
     match (system.look(name)?, links) {
         (Found::Nothing, _) => Ok(Some(Target::Replaced {
             path: String::from_str(alloc, name)?,
@@ -93,7 +114,10 @@ pub fn take<Y: System>(
     alloc: Global,
     name: &str,
     links: Links,
-) -> Result<Target<Y::Handle>, WriteFault> {
+) -> Result<Target<Y::Handle>, WriteFault>
+    ensures looked { Looked (Y.calls system.old) (Y.calls system.new) }
+    ensures target { IfOk result (IsTarget name.now (Y.calls system.old) (Y.calls system.new)) }
+{
     for _ in 0..TRIES {
         if let Some(target) = try_take(system, alloc, name, links)? {
             return Ok(target);

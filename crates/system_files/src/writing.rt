@@ -1,5 +1,7 @@
 // A file is written.
 
+ghost use Rattle.system_files.specs.Calls.{Writes};
+
 use crate::replacing::replace;
 use crate::taking::{Target, take};
 use crate::{Links, Source, System, WriteFault};
@@ -12,7 +14,9 @@ pub fn write_by<Y: System, S: Source + Drop>(
     name: &str,
     links: Links,
     source: S,
-) -> Result<(), WriteFault> {
+) -> Result<(), WriteFault>
+    ensures { Writes name.now (S.bytes_of source) (Y.calls system.old) (Y.calls system.new) result }
+{
     if name.is_empty() {
         return Err(WriteFault::Name);
     }

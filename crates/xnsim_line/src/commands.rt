@@ -10,11 +10,11 @@ ghost use Rattle.xnsim_line.specs.Lines.{IsNoLine};
 
 use crate::assembling::{make_template, print_template};
 use crate::checking::print_report;
+use crate::files::DiskImage;
 use crate::formatting::{all_templates, made_image, read_files};
 use crate::invocation::{Stop, read};
 use crate::program::verify_text;
 use crate::replay::{run_on_image, run_script};
-use crate::files::DiskImage;
 use crate::{Fault, Files, Invocation};
 use bumpalo::Bump;
 use crash_check::count;
