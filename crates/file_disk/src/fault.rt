@@ -2,6 +2,7 @@
 
 use std::alloc::AllocError;
 use std::io;
+use system_files::OpenFault;
 use thiserror::Error;
 
 /// Why a file was not opened as a disk, or not made.
@@ -13,7 +14,7 @@ pub enum FileFault {
     /// Nothing has the name of the file that was to be opened.
     #[error("there is no such file")]
     NotThere,
-    /// Another handle, of this process or of another one, has the file open as a disk.
+    /// Another handle, of this process or of another one, has the file's lock.
     #[error("the file is in use")]
     InUse,
     /// A device, a pipe or the like has the name. Of a folder the system answers an error of its own.
@@ -39,5 +40,16 @@ impl From<io::Error> for FileFault {
 impl From<AllocError> for FileFault {
     fn from(_error: AllocError) -> FileFault {
         FileFault::NoMemory
+    }
+}
+
+impl From<OpenFault> for FileFault {
+    fn from(fault: OpenFault) -> FileFault {
+        match fault {
+            OpenFault::NotThere => FileFault::NotThere,
+            OpenFault::InUse => FileFault::InUse,
+            OpenFault::NotAFile => FileFault::NotAFile,
+            OpenFault::System(error) => FileFault::System(error),
+        }
     }
 }

@@ -8,11 +8,12 @@ use crate::lane::FileLane;
 use crate::lanes::{found_lanes, written_lanes};
 use disk::{BLOCK_LEN, Lanes};
 use std::alloc::Global;
-use std::fs::{File, Files, OpenOptions, TryLockError};
-use std::io;
+use std::fs::{File, Files, Metadata, OpenOptions, TryLockError};
 use std::marker::Model;
 use std::os::unix::fs::FileExt;
 use std::path::Path;
+use std::{fs, io};
+use system_files::{Access, is_same, open_locked};
 
 /// The fewest blocks of a disk.
 pub const MIN_BLOCKS: u32 = 32;
@@ -54,9 +55,9 @@ impl FileDisk {
     }
 
     /// Makes a file of these bytes, which are whole blocks, and locks it. After `Ok` the file and its name are settled.
-    /// `AlreadyThere` comes where something has the name, and nothing is done then. After another `Err`, and after a crash, a
-    /// file that was not there may be there, whole or short. Block 0 is written last, once all others are settled, so that it
-    /// never stands before an image that is not whole.
+    /// `AlreadyThere` comes where something has the name, and nothing is done then. After another `Err` the file that was made is
+    /// removed. After a crash a file that was not there may be there, whole or short: block 0 is written last, once all others are
+    /// settled, so that it never stands before an image that is not whole.
     pub fn create_with<R: Files<File = File>>(
         rt: &R,
         alloc: Global,
@@ -70,15 +71,17 @@ impl FileDisk {
         ensures image { IfOk result (λ disk. HoldsBytes (λ lane. lane.bytes) disk image.now) }
     {
         let file = make(rt, path)?;
-        lock(&file)?;
-        settle_name(rt, path)?;
-        write_image(&file, image)?;
-        let lanes = written_lanes(alloc, file, image)?;
-        Ok(FileDisk { lanes })
+        let made = file.metadata()?;
+        let filled = fill(rt, alloc, path, file, image);
+        if filled.is_err() {
+            remove_made(rt, path, &made);
+        }
+        filled
     }
 
     /// Opens and locks a file, settles what the system still holds of it, and reads each block. `NotThere` comes where nothing
-    /// has the name, `InUse` at once where another handle has the lock, `NotAFile` and `BadLength` where it can be no disk.
+    /// has the name, `InUse` at once where another handle has the lock, `NotAFile` and `BadLength` where it can be no disk. The
+    /// file is the one that had the name once its lock was taken.
     pub fn open<R: Files<File = File>>(
         rt: &R,
         alloc: Global,
@@ -88,11 +91,22 @@ impl FileDisk {
         ensures least { IfOk result (λ disk. 32 ≤ length disk) }
         ensures most { IfOk result (λ disk. length disk ≤ 32768) }
     {
-        let file = find(rt, path)?;
-        lock(&file)?;
-        let blocks = blocks_of(&file)?;
-        let lanes = found_lanes(alloc, file, blocks)?;
-        Ok(FileDisk { lanes })
+        open_as(rt, alloc, path, Access::Written)
+    }
+
+    /// Opens a file as `open`, but to look at it alone: it need not be one that may be written, others that look may have it open
+    /// too, and `InUse` comes where somebody has it open to change it. The system refuses each write to such a file, so a lane's
+    /// write is a fault, and its sync, where no write was, is none.
+    pub fn open_to_read<R: Files<File = File>>(
+        rt: &R,
+        alloc: Global,
+        path: &str,
+    ) -> Result<FileDisk, FileFault>
+        ensures opened { IfOk result (λ disk. AreOpened (length disk) disk) }
+        ensures least { IfOk result (λ disk. 32 ≤ length disk) }
+        ensures most { IfOk result (λ disk. length disk ≤ 32768) }
+    {
+        open_as(rt, alloc, path, Access::Shared)
     }
 
     /// How many blocks it has.
@@ -125,12 +139,50 @@ fn make<R: Files<File = File>>(rt: &R, path: &str) -> Result<File, FileFault> {
     }
 }
 
-/// Opens a file that is there.
-fn find<R: Files<File = File>>(rt: &R, path: &str) -> Result<File, FileFault> {
-    match OpenOptions::new().read(true).write(true).open(rt, path) {
-        Ok(file) => Ok(file),
-        Err(error) if error.kind() == io::ErrorKind::NotFound => Err(FileFault::NotThere),
-        Err(error) => Err(FileFault::System(error)),
+/// Opens a file that is there as a disk.
+fn open_as<R: Files<File = File>>(
+    rt: &R,
+    alloc: Global,
+    path: &str,
+    access: Access,
+) -> Result<FileDisk, FileFault>
+    ensures opened { IfOk result (λ disk. AreOpened (length disk) disk) }
+    ensures least { IfOk result (λ disk. 32 ≤ length disk) }
+    ensures most { IfOk result (λ disk. length disk ≤ 32768) }
+{
+    let file = open_locked(rt, path, access)?;
+    let blocks = blocks_of(&file)?;
+    let lanes = found_lanes(alloc, file, blocks)?;
+    Ok(FileDisk { lanes })
+}
+
+/// Locks a file that was just made, writes these bytes and settles them and its name.
+fn fill<R: Files<File = File>>(
+    rt: &R,
+    alloc: Global,
+    path: &str,
+    file: File,
+    image: &[u8],
+) -> Result<FileDisk, FileFault>
+    requires whole { length image.now % 512 ≡ 0 }
+    requires least { 512 * 32 ≤ length image.now }
+    requires most { length image.now ≤ 512 * 32768 }
+    ensures opened { IfOk result (λ disk. AreOpened (length image.now / 512) disk) }
+    ensures image { IfOk result (λ disk. HoldsBytes (λ lane. lane.bytes) disk image.now) }
+{
+    lock(&file)?;
+    settle_name(rt, path)?;
+    write_image(&file, image)?;
+    let lanes = written_lanes(alloc, file, image)?;
+    Ok(FileDisk { lanes })
+}
+
+/// Removes a file that was made, while the path leads to it. Where that fails it stays.
+fn remove_made<R: Files<File = File>>(rt: &R, path: &str, made: &Metadata) {
+    if let Ok(found) = fs::symlink_metadata(rt, path)
+        && is_same(&found, made)
+    {
+        let _ = fs::remove_file(rt, path);
     }
 }
 

@@ -58,9 +58,21 @@ fn a_second_opener_is_refused(rt: HostRuntime) -> Result<(), Fail> {
     let lanes = FileDisk::create(&rt, rt.alloc(), "locked.disk", 32)?.into_lanes();
     let second = FileDisk::open(&rt, rt.alloc(), "locked.disk");
     assert!(rt; matches!(second, Err(FileFault::InUse)));
+    let looker = FileDisk::open_to_read(&rt, rt.alloc(), "locked.disk");
+    assert!(rt; matches!(looker, Err(FileFault::InUse)));
     drop(lanes);
     let third = FileDisk::open(&rt, rt.alloc(), "locked.disk");
     assert!(rt; third.is_ok());
+    drop(third);
+    let mut lanes = FileDisk::open_to_read(&rt, rt.alloc(), "locked.disk")?.into_lanes();
+    let fourth = FileDisk::open_to_read(&rt, rt.alloc(), "locked.disk");
+    assert!(rt; fourth.is_ok());
+    let fifth = FileDisk::open(&rt, rt.alloc(), "locked.disk");
+    assert!(rt; matches!(fifth, Err(FileFault::InUse)));
+    let mut lane = lanes.take(3).ok_or("a lane")?;
+    lane.sync()?;
+    assert!(rt; lane.write(&[1; 512]).is_err());
+    lane.read(&mut [0; 512])?;
     fs::remove_file(&rt, "locked.disk")?;
     Ok(())
 }

@@ -1,10 +1,11 @@
 // Files in memory.
 
 ghost use Rattle.std.specs.Prelude.{◌≡◌, bytes_eq, position, string_bytes, IfSome, IsTrue, OnOk};
-ghost use Rattle.xnsim_line.specs.Files.{with_file};
+ghost use Rattle.xnsim_line.specs.Files.{IsHeld, with_file};
 
 use std::alloc::{AllocError, Global};
-use xnsim_line::{Files, Source};
+use system_files::{Access, Source};
+use xnsim_line::Files;
 
 /// A file in memory.
 #[derive(Drop)]
@@ -48,6 +49,18 @@ impl MemoryFiles {
     pub fn find(&self, name: &str) -> Option<&[u8]> {
         let place = self.place_of(name)?;
         Some(self.files[place].bytes.as_slice())
+    }
+
+    /// The bytes of a file, or `None` where it can't be read.
+    pub fn read(&self, alloc: Global, name: &str) -> Option<Vec<u8>>
+        ensures { IfSome result (λ bytes. IsHeld (held_by self.now.files.items) name.now bytes.items) }
+    {
+        let place = self.place_of(name)?;
+        let file = &self.files[place];
+        if !file.is_readable {
+            return None;
+        }
+        Vec::from_slice(alloc, file.bytes.as_slice()).ok()
     }
 
     /// Forbids to read a file, and answers whether there is one.
@@ -113,19 +126,24 @@ impl Files for MemoryFiles {
 
     ghost held = { λ m. held_by m.files.items };
 
-    fn read(&mut self, alloc: Global, name: &str) -> Option<Vec<u8>> {
-        let place = self.place_of(name)?;
-        let file = &self.files[place];
-        if !file.is_readable {
-            return None;
-        }
-        Vec::from_slice(alloc, file.bytes.as_slice()).ok()
-    }
-
     fn read_start(&mut self, alloc: Global, name: &str, limit: usize) -> Option<Vec<u8>> {
-        let mut bytes = self.read(alloc, name)?;
+        let mut bytes = MemoryFiles::read(self, alloc, name)?;
         bytes.truncate(limit);
         Some(bytes)
+    }
+
+    fn read_disk(
+        &mut self,
+        alloc: Global,
+        name: &str,
+        limit: usize,
+        _access: Access,
+    ) -> Option<Vec<u8>> {
+        self.read_start(alloc, name, limit)
+    }
+
+    fn is_one_file(&mut self, one: &str, other: &str) -> bool {
+        one == other
     }
 
     fn write_from<S: Source + Drop>(&mut self, name: &str, source: S) -> bool {

@@ -4,7 +4,8 @@ use std::alloc::Global;
 use std::io;
 use std::io::{ErrorKind, Read, Write};
 use std::test::Fail;
-use xnsim_line::{Files, Source, line};
+use system_files::{Access, Source};
+use xnsim_line::{Files, line};
 
 /// No files.
 #[derive(Drop)]
@@ -15,12 +16,22 @@ impl Files for NoFiles {
 
     ghost held = { λ _. None };
 
-    fn read(&mut self, _alloc: Global, _name: &str) -> Option<Vec<u8>> {
+    fn read_start(&mut self, _alloc: Global, _name: &str, _limit: usize) -> Option<Vec<u8>> {
         None
     }
 
-    fn read_start(&mut self, _alloc: Global, _name: &str, _limit: usize) -> Option<Vec<u8>> {
+    fn read_disk(
+        &mut self,
+        _alloc: Global,
+        _name: &str,
+        _limit: usize,
+        _access: Access,
+    ) -> Option<Vec<u8>> {
         None
+    }
+
+    fn is_one_file(&mut self, one: &str, other: &str) -> bool {
+        one == other
     }
 
     fn write_from<S: Source + Drop>(&mut self, _name: &str, _source: S) -> bool {

@@ -4,10 +4,12 @@
 #![tactic(auto)]
 
 mod files;
+mod reading;
 
 use files::SystemFiles;
 use std::alloc::Global;
-use std::io::BufWriter;
+use std::fs::File;
+use std::io::{BufWriter, ErrorKind};
 use std::process::ExitCode;
 use std::thread::Threads;
 use std::{env, io};
@@ -30,7 +32,7 @@ fn run(rt: &HostRuntime, threads: &(impl Threads + Sync)) -> io::Result<u8> {
     let words: Vec<String> = env::args(rt)?.skip(1).collect(alloc)?;
     let mut out = BufWriter::new(alloc, rt.stdout())?;
     let mut err = BufWriter::new(alloc, rt.stderr())?;
-    let mut files = SystemFiles { rt };
+    let mut files = SystemFiles::new(rt);
     Ok(line(
         threads,
         alloc,
@@ -42,12 +44,33 @@ fn run(rt: &HostRuntime, threads: &(impl Threads + Sync)) -> io::Result<u8> {
     ))
 }
 
+/// Three open folders. They have the numbers of the standard streams that are closed, so that no file which is opened later has one; such a stream fails,
+/// as a folder is neither read nor written.
+fn hold_streams(rt: &HostRuntime) -> io::Result<[File; 3]> {
+    Ok([
+        File::open(rt, "/")?,
+        File::open(rt, "/")?,
+        File::open(rt, "/")?,
+    ])
+}
+
+/// The program's status after a fault before its line was read, which is told.
+fn tell_early(rt: &HostRuntime, error: &io::Error) -> u8 {
+    if error.kind() == ErrorKind::InvalidData {
+        let _ = eprintln!(rt; "a word of the line is not UTF-8");
+        return 2;
+    }
+    let _ = eprintln!(rt; "no memory");
+    1
+}
+
 fn main(rt: HostRuntime) -> ExitCode {
+    let Ok(_held) = hold_streams(&rt) else {
+        let _ = eprintln!(rt; "cannot read /");
+        return ExitCode::from(1);
+    };
     match run(&rt, &rt) {
         Ok(status) => ExitCode::from(status),
-        Err(_) => {
-            let _ = eprintln!(rt; "no memory");
-            ExitCode::from(1)
-        }
+        Err(error) => ExitCode::from(tell_early(&rt, &error)),
     }
 }

@@ -1,5 +1,5 @@
 -- What a line of the program prints, and the faults that may come of it.
-use Rattle.std.specs.Prelude.{◌≡◌, ◌⊎◌, ⊤, ℕ, List, [], length, map, Option, IfSome, codes, string_bytes, Contains}
+use Rattle.std.specs.Prelude.{◌≡◌, ◌≢◌, ◌≤◌, ◌⊎◌, ⊤, ℕ, List, [], length, map, Option, IfSome, codes, string_bytes, Contains}
 use Rattle.templates.specs.Templates.{TemplateValue}
 use Rattle.events.specs.declared.event.Event.{Event}
 use Rattle.xnsim_line.specs.declared.invocation.Invocation.{Invocation}
@@ -26,6 +26,7 @@ pub record PrintsReplies (known : Option (List ℕ)) (blocks : ℕ) (templates :
   pub events : List Event
   pub image : List ℕ
   pub read : IfSome known (λ bytes. text ≡ bytes)
+  pub short : length text ≤ 67108864
   pub script : IsScript text events
   pub run : IsPrintedRun (fresh_world blocks templates) events old new image
 
@@ -38,22 +39,28 @@ pub record PrintsMounted (held held_after : Held) (image_name script_name : List
   pub after : List ℕ
   pub image_held : IsHeld held image_name image
   pub script_held : IsHeld held script_name text
+  pub script_short : length text ≤ 67108864
   pub script : IsScript text events
   pub run : IsAskedRun stop image events old new after
   pub written : held_after ≡ with_file held image_name after
 
--- the template of the texts of two files was made, its block written, and its line printed
+-- the template of the texts of two files was made, its block written to another file, and its line printed
 pub record PrintsAssembled (held held_after : Held) (owns_name size_name block_name : List ℕ) (old new : Option (List ℕ)) : Type 0 where
   pub owns_text : List ℕ
   pub size_text : List ℕ
   pub owns_held : IsHeld held owns_name owns_text
   pub size_held : IsHeld held size_name size_text
+  pub owns_short : length owns_text ≤ 1048576
+  pub size_short : length size_text ≤ 1048576
+  pub not_owns : owns_name ≢ block_name
+  pub not_size : size_name ≢ block_name
   pub template : PrintsTemplate held held_after block_name owns_text size_text old new
 
 -- the program of a file's text was accepted, and its line printed
 pub record PrintsVerified (held held_after : Held) (name : List ℕ) (role : Role) (old new : Option (List ℕ)) : Type 0 where
   pub text : List ℕ
   pub text_held : IsHeld held name text
+  pub text_short : length text ≤ 1048576
   pub accepted : PrintsAccepted text role old new
   pub kept : held_after ≡ held
 
@@ -76,6 +83,12 @@ abbrev pub IsRunFault : Fault → Type 0
 IsRunFault NoMemory = ⊤
 IsRunFault Stream = ⊤
 IsRunFault fault = ⊥
+
+-- why standard input is not read
+abbrev pub IsInputFault : Fault → Type 0
+IsInputFault NoMemory = ⊤
+IsInputFault (CannotRead name) = name.now ≡ codes "-"
+IsInputFault fault = ⊥
 
 -- a fault that may come of a run on the disk of an image
 abbrev pub IsFaultOnImage : List ℕ → Fault → Type 0

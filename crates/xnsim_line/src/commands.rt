@@ -1,15 +1,16 @@
 // What each line asks for is done.
 
-ghost use Rattle.std.specs.Prelude.{◌≡◌, ◌≤◌, ℕ, List, [], None, IfErr, IfOk, OnOk, length, map, string_bytes};
+ghost use Rattle.std.specs.Prelude.{◌≡◌, ◌≤◌, ℕ, List, [], None, IfErr, IfOk, IfSome, OnOk, length, map, string_bytes};
 ghost use Rattle.std.specs.Str.{IsUtf8};
 ghost use Rattle.std.specs.Io.KnownBytes.{Appends};
-ghost use Rattle.xnsim_line.specs.Done.{IsFaultOf, IsLineDone, IsLineFault, PrintsAssembled, PrintsMounted, PrintsReplies, PrintsVerified};
+ghost use Rattle.xnsim_line.specs.Done.{IsFaultOf, IsInputFault, IsLineDone, IsLineFault, PrintsAssembled, PrintsMounted, PrintsReplies, PrintsVerified};
 ghost use Rattle.xnsim_line.specs.Checking.{PrintsChecked};
 ghost use Rattle.xnsim_line.specs.Formatting.{made_line, PrintsMade};
 ghost use Rattle.xnsim_line.specs.Lines.{IsNoLine};
 
 use crate::assembling::{make_template, print_template};
 use crate::checking::print_report;
+use crate::files::DiskImage;
 use crate::formatting::{all_templates, made_image, read_files};
 use crate::invocation::{Stop, read};
 use crate::program::verify_text;
@@ -23,11 +24,18 @@ use std::alloc::Global;
 use std::io::{ErrorKind, Read, Write};
 use std::thread::Threads;
 use std::{io, str};
+use system_files::Access;
 use templates::{MAX_BLOCKS, MIN_BLOCKS, write_block};
 use udf_verify::Role;
 
 /// How many bytes the image of the largest disk has.
 const GREATEST_IMAGE_LEN: usize = BLOCK_LEN * MAX_BLOCKS as usize;
+
+/// How many bytes the text of a program has at most.
+const GREATEST_TEXT_LEN: usize = 1024 * 1024;
+
+/// How many bytes a script has at most.
+const GREATEST_SCRIPT_LEN: usize = 64 * 1024 * 1024;
 
 /// The name of standard input in what is told.
 const STANDARD_INPUT: &str = "-";
@@ -74,7 +82,7 @@ fn format<'a, F: Files, W: Write>(
     Ok(())
 }
 
-/// Writes the block of the template whose programs have the texts of two files, and then says so.
+/// Writes the block of the template whose programs have the texts of two files, and then says so. A file of one of these texts is not written.
 fn assemble_files<'a, F: Files, W: Write>(
     alloc: Global,
     files: &mut F,
@@ -87,12 +95,17 @@ fn assemble_files<'a, F: Files, W: Write>(
         (W.contents out.new)) }
     ensures fault { IfErr result (IsFaultOf None (Invocation.Asm owns.entry size.entry block.entry)) }
 {
-    let owns_bytes = files.read(alloc, owns).ok_or(Fault::CannotRead(owns))?;
+    let owns_bytes = files
+        .read_short(alloc, owns, GREATEST_TEXT_LEN)
+        .ok_or(Fault::CannotRead(owns))?;
     let owns_text = text_of(owns_bytes.as_slice(), owns)?;
-    let size_bytes = files.read(alloc, size).ok_or(Fault::CannotRead(size))?;
+    let size_bytes = files
+        .read_short(alloc, size, GREATEST_TEXT_LEN)
+        .ok_or(Fault::CannotRead(size))?;
     let size_text = text_of(size_bytes.as_slice(), size)?;
     let template = make_template(alloc, owns_text, size_text)?;
-    if !files.write(block, &write_block(&template)) {
+    let is_source = files.is_one_file(owns, block) || files.is_one_file(size, block);
+    if is_source || !files.write(block, &write_block(&template)) {
         return Err(Fault::CannotWrite(block));
     }
     print_template(out, &template)?;
@@ -115,14 +128,16 @@ fn run_files<'a, F: Files, W: Write>(
     ensures fault { IfErr result (IsFaultOf None (Invocation.Run image.entry script.entry stop)) }
 {
     let before = files
-        .read_start(alloc, image, GREATEST_IMAGE_LEN + 1)
+        .read_disk(alloc, image, GREATEST_IMAGE_LEN + 1, Access::Alone)
         .ok_or(Fault::CannotRead(image))?;
-    let text = files.read(alloc, script).ok_or(Fault::CannotRead(script))?;
+    let text = files
+        .read_short(alloc, script, GREATEST_SCRIPT_LEN)
+        .ok_or(Fault::CannotRead(script))?;
     let lines = parse(alloc, text_of(text.as_slice(), script)?)?;
     // Blocks that no line writes take no page for their second lots.
     let rooms = Bump::new(alloc);
     let after = run_on_image(rt, alloc, &rooms, before, lines, stop, out)?;
-    if !files.write_from(image, after) {
+    if !files.write_from(image, DiskImage::new(after)) {
         return Err(Fault::CannotWrite(image));
     }
     Ok(())
@@ -140,7 +155,7 @@ fn check_file<'a, F: Files, W: Write>(
     ensures fault { IfErr result (IsFaultOf None (Invocation.Check image.entry)) }
 {
     let bytes = files
-        .read_start(alloc, image, GREATEST_IMAGE_LEN + 1)
+        .read_disk(alloc, image, GREATEST_IMAGE_LEN + 1, Access::Shared)
         .ok_or(Fault::CannotRead(image))?;
     let counts = match count(rt, alloc, bytes.as_slice()) {
         Ok(counts) => counts,
@@ -148,6 +163,26 @@ fn check_file<'a, F: Files, W: Write>(
     };
     print_report(out, counts.reached, counts.free)?;
     Ok(())
+}
+
+/// All that is left of standard input, which is a script: no more is read than one byte over what a script has at most.
+fn read_input<'a, R: Read>(alloc: Global, input: &mut R) -> Result<Vec<u8>, Fault<'a>>
+    ensures whole { IfOk result (λ text. IfSome (R.remaining input.old) (λ bytes. text.items ≡ bytes)) }
+    ensures short { IfOk result (λ text. length text.items ≤ 67108864) }
+    ensures fault { IfErr result (IsInputFault) }
+{
+    let mut text = Vec::new(alloc);
+    let limit = GREATEST_SCRIPT_LEN as u64 + 1;
+    if let Err(error) = input.take(limit).read_to_end(&mut text) {
+        return Err(match error.kind() {
+            ErrorKind::OutOfMemory => Fault::NoMemory,
+            _ => Fault::CannotRead(STANDARD_INPUT),
+        });
+    }
+    if text.len() > GREATEST_SCRIPT_LEN {
+        return Err(Fault::CannotRead(STANDARD_INPUT));
+    }
+    Ok(text)
 }
 
 /// Runs the script on standard input on a fresh disk, of which nothing is kept.
@@ -160,13 +195,7 @@ fn run_input<'a, R: Read, W: Write>(
     ensures told { OnOk result (PrintsReplies (R.remaining input.old) 32 [] (W.contents out.old) (W.contents out.new)) }
     ensures fault { IfErr result (IsFaultOf (R.remaining input.old) Invocation.Bare) }
 {
-    let mut text = Vec::new(alloc);
-    if let Err(error) = input.read_to_end(&mut text) {
-        return Err(match error.kind() {
-            ErrorKind::OutOfMemory => Fault::NoMemory,
-            _ => Fault::CannotRead(STANDARD_INPUT),
-        });
-    }
+    let text = read_input(alloc, input)?;
     let lines = parse(alloc, text_of(text.as_slice(), STANDARD_INPUT)?)?;
     run_script(rt, alloc, MIN_BLOCKS, &[], lines, out)?;
     Ok(())
@@ -183,7 +212,9 @@ fn verify_file<'a, F: Files, W: Write>(
     ensures done { OnOk result (PrintsVerified (F.held files.old) (F.held files.new) text.entry.now role (W.contents out.old) (W.contents out.new)) }
     ensures fault { IfErr result (IsFaultOf None (Invocation.Verify text.entry role)) }
 {
-    let bytes = files.read(alloc, text).ok_or(Fault::CannotRead(text))?;
+    let bytes = files
+        .read_short(alloc, text, GREATEST_TEXT_LEN)
+        .ok_or(Fault::CannotRead(text))?;
     verify_text(alloc, text_of(bytes.as_slice(), text)?, role, out)
 }
 

@@ -1,11 +1,11 @@
-ghost use Rattle.std.specs.Prelude.{◌≡◌, ℕ, List, IfSome, IsTrue, OnOk};
-ghost use Rattle.std.specs.Io.KnownBytes.{Appends};
+ghost use Rattle.std.specs.Prelude.{◌≡◌, ◌+◌, ◌^◌, ◌<◌, ◌≤◌, IfSome, IsTrue, length};
 ghost use Rattle.xn_model.specs.Images.{joined};
 ghost use Rattle.xnsim_line.specs.Files.{Held, IsHeld, IsStartHeld, with_file};
 
 use std::alloc::{Allocator, Global};
 use std::io;
 use std::io::Write;
+use system_files::{Access, Source};
 use world::World;
 
 /// Files by their names.
@@ -15,19 +15,45 @@ pub trait Files {
     /// What the files hold, where that is known. Of the files of a system it is not, since others may write them.
     ghost held: { Self → Held };
 
-    /// The bytes of a file, or `None` where it can't be read.
-    fn read(&mut self, alloc: Global, name: &str) -> Option<Vec<u8>>
-        ensures bytes { IfSome result (λ bytes. IsHeld (held self.old) name.now bytes.items) }
-        ensures kept { held self.new ≡ held self.old };
-
     /// The first bytes of a file, `limit` of them or all where it has no more, or `None` where it can't be read.
     fn read_start(&mut self, alloc: Global, name: &str, limit: usize) -> Option<Vec<u8>>
         ensures bytes { IfSome result (λ bytes. IsStartHeld (held self.old) name.now limit bytes.items) }
         ensures kept { held self.new ≡ held self.old };
 
-    /// Whether the file now holds the bytes of this source and no others.
+    /// The same of a disk, whose lock is taken as it is said, and held from then on. `None` also where somebody has a lock that doesn't
+    /// go with this one.
+    fn read_disk(
+        &mut self,
+        alloc: Global,
+        name: &str,
+        limit: usize,
+        access: Access,
+    ) -> Option<Vec<u8>>
+        ensures bytes { IfSome result (λ bytes. IsStartHeld (held self.old) name.now limit bytes.items) }
+        ensures kept { held self.new ≡ held self.old };
+
+    /// Whether two names lead to one file.
+    fn is_one_file(&mut self, one: &str, other: &str) -> bool
+        ensures same_name { one.now ≡ other.now → IsTrue result }
+        ensures kept { held self.new ≡ held self.old };
+
+    /// Whether the file now holds the bytes of this source and no others. It does not where somebody else has its lock.
     fn write_from<S: Source + Drop>(&mut self, name: &str, source: S) -> bool
         ensures { IsTrue result → held self.new ≡ with_file (held self.old) name.now (S.bytes_of source) };
+
+    /// The bytes of a file, or `None` where it has more than `most`, or can't be read. No more than one byte over that is read.
+    final fn read_short(&mut self, alloc: Global, name: &str, most: usize) -> Option<Vec<u8>>
+        requires { most < 2 ^ 32 }
+        ensures bytes { IfSome result (λ bytes. IsHeld (held self.old) name.now bytes.items) }
+        ensures short { IfSome result (λ bytes. length bytes.items ≤ most) }
+        ensures kept { held self.new ≡ held self.old }
+    {
+        let bytes = self.read_start(alloc, name, most + 1)?;
+        if bytes.len() > most {
+            return None;
+        }
+        Some(bytes)
+    }
 
     /// Whether the file now holds these bytes and no others.
     final fn write(&mut self, name: &str, bytes: &[u8]) -> bool
@@ -37,28 +63,31 @@ pub trait Files {
     }
 }
 
-/// Bytes that are written to where they are wanted.
-pub trait Source {
-    ghost bytes_of: { Self → List ℕ };
-
-    /// Writes all of them.
-    fn write_to<W: Write>(self, out: &mut W) -> io::Result<()>
-        ensures { OnOk result (Appends (W.contents out.old) (W.contents out.new) (bytes_of self)) };
+/// The bytes that a world's disk holds, block after block.
+pub struct DiskImage<A: Allocator> {
+    world: World<A>,
 }
 
-impl<'a> Source for &'a [u8] {
-    ghost bytes_of = { λ bytes. bytes.now };
-
-    fn write_to<W: Write>(self, out: &mut W) -> io::Result<()> {
-        out.write_all(self)
+impl<A: Allocator> DiskImage<A> {
+    pub fn new(world: World<A>) -> DiskImage<A>
+        ensures { result.world ≡ world }
+    {
+        DiskImage { world }
     }
 }
 
-/// The bytes that a world's disk holds, block after block.
-impl<A: Allocator> Source for World<A> {
-    ghost bytes_of = { λ world. joined world.image };
+/// Written by hand, so that a function that drops one calls this.
+impl<A: Allocator> Drop for DiskImage<A> {
+    fn drop(self) {
+        let DiskImage { world: _ } = self;
+    }
+}
+
+impl<A: Allocator> Source for DiskImage<A> {
+    ghost bytes_of = { λ image. joined image.world.image };
 
     fn write_to<W: Write>(self, out: &mut W) -> io::Result<()> {
-        World::write_to(self, out)
+        let DiskImage { world } = self;
+        world.write_to(out)
     }
 }

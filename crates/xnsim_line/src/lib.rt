@@ -22,7 +22,7 @@ mod telling;
 
 use commands::run;
 pub use fault::Fault;
-pub use files::{Files, Source};
+pub use files::Files;
 pub use invocation::{Invocation, LineFault};
 pub use program_fault::ProgramFault;
 use std::alloc::Global;

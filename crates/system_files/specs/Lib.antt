@@ -1,0 +1,3 @@
+pub mod Calls
+pub mod Naming
+pub mod Targets
