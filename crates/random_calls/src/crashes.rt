@@ -2,6 +2,7 @@
 
 use crate::record::BLOCKS;
 use crate::run::Run;
+use crate::tally::Met;
 use crash_check::{ImageFault, mount};
 use disk::{Lanes, MemLane};
 use std::alloc::{AllocError, Global};
@@ -40,7 +41,11 @@ impl Run {
     fn crash_block(&mut self, lanes: &mut Lanes<MemLane>, block: u32, is_kept: bool) {
         let held = self.record.held(block);
         if held.given.is_some() {
-            self.tally.crashed(is_kept, held.newest == held.left(true));
+            self.tally
+                .add(if is_kept { Met::Kept } else { Met::Lost }, 1);
+            if is_kept && held.newest != held.left(true) {
+                self.tally.add(Met::Unread, 1);
+            }
         }
         self.record.crash(block, is_kept);
         match take(lanes, block) {
@@ -85,8 +90,8 @@ impl Run {
         alloc: Global,
         mut lanes: Lanes<MemLane>,
     ) -> Option<Kernel<MemLane>> {
-        self.tally.crashes = self.tally.crashes.saturating_add(1);
-        let id = u64::from(self.tally.crashes).saturating_add(1);
+        self.tally.add(Met::Crashes, 1);
+        let id = u64::from(self.tally.of(Met::Crashes)).saturating_add(1);
         if self.numbers.below(4) == 0 {
             let is_there = self.fail_lane(&mut lanes);
             self.tally.check(is_there);
@@ -94,7 +99,7 @@ impl Run {
                 Ok(_) => return None,
                 Err((fault, back)) => {
                     self.tally.check(fault == ImageFault::Device);
-                    self.tally.unmounted();
+                    self.tally.add(Met::Unmounted, 1);
                     lanes = back;
                 }
             }
@@ -124,7 +129,9 @@ impl Run {
             Err(refusal) => self.tally.check(wanted == Err(refusal)),
         }
         if wanted != Err(Refusal::NotYours) {
-            self.tally.reached(wanted.is_ok());
+            let is_reached = wanted.is_ok();
+            self.tally
+                .add(if is_reached { Met::Reached } else { Met::Left }, 1);
         }
     }
 
@@ -142,7 +149,10 @@ impl Run {
         let is_sound = self.record.mount(alloc)?;
         self.tally.check(is_sound);
         let (left, _) = self.record.count_types();
-        self.tally.types(pending, installed.saturating_sub(left));
+        let taken = installed.saturating_sub(left);
+        self.tally.add(Met::TypesTaken, taken);
+        self.tally
+            .add(Met::TypesKept, pending.saturating_sub(taken));
         let Some(kernel) = self.mount_lanes(rt, alloc, lanes) else {
             self.tally.check(false);
             return Ok(None);

@@ -3,7 +3,7 @@
 use crate::held::Held;
 use crate::record::BLOCKS;
 use crate::run::Run;
-use crate::tally::Kind;
+use crate::tally::{Kind, Met};
 use crate::writes::{Write, drain};
 use disk::MemLane;
 use std::alloc::{AllocError, Global};
@@ -75,7 +75,8 @@ impl Run {
         let fails = self.numbers.below(8) == 0;
         let is_well = write.sync(fails);
         self.tally.ask(code(is_well), code(!fails));
-        self.tally.synced(is_well);
+        self.tally
+            .add(if is_well { Met::Synced } else { Met::Unsynced }, 1);
         let block = write.block();
         let mut held = self.record.held(block);
         if !fails {
@@ -98,7 +99,8 @@ impl Run {
         };
         let count = if held.newest == write.bytes { begun } else { 0 };
         let freed = self.record.settle(block, count);
-        self.tally.landed(count, freed);
+        self.tally.add(Met::Durable, count);
+        self.tally.add(Met::Freed, freed);
         Ok((count, u64::from(freed)))
     }
 
@@ -186,7 +188,7 @@ impl Run {
                 self.record.start_with(block, lane.bytes());
             }
         }
-        self.tally.disks = self.tally.disks.saturating_add(1);
+        self.tally.add(Met::Disks, 1);
         let is_sound = self.record.mount(alloc)?;
         self.tally.check(is_sound);
         Ok(())

@@ -5,7 +5,7 @@ use crate::held::{Bytes, put_word, word_at};
 use crate::reached::slot;
 use crate::record::{BLOCKS, Entry, Record};
 use crate::shapes::{SHAPES, SPOILS, block_of, shape_of_number, spoiled};
-use crate::tally::{Kind, Tally};
+use crate::tally::{Kind, Met, Tally, uninstalled};
 use crate::types::{ADDED, FIRST_ADDED};
 use crate::writes::Write;
 use disk::MemLane;
@@ -117,7 +117,9 @@ impl Run {
         if let Some(added) = entry.adds
             && !self.record.is_empty(added)
         {
-            self.tally.attached(entry.block);
+            let is_root = entry.block == 0;
+            self.tally
+                .add(if is_root { Met::Rooted } else { Met::Trees }, 1);
         }
         self.record.accept(entry)
     }
@@ -262,7 +264,7 @@ impl Run {
                 Ok((made.block, first.number()))
             }
             Err(refusal) => {
-                self.tally.uninstalled(refusal);
+                self.tally.add(uninstalled(refusal), 1);
                 Err(refusal)
             }
         };
@@ -287,9 +289,16 @@ impl Run {
         tally.ask(u64::from(kernel.free()), u64::from(record.free_count()));
         let is_tainted = record.tainted(block);
         tally.ask(u64::from(kernel.tainted(block)), u64::from(is_tainted));
-        tally.awaits(record.awaits_type(block));
+        if is_tainted {
+            tally.add(Met::Tainted, 1);
+        }
+        if record.awaits_type(block) {
+            tally.add(Met::Awaiting, 1);
+        }
         let (_, owners) = record.chain_end(block);
-        tally.met(record.entries.len(), is_tainted, owners);
+        tally.raise(Met::MostOwners, owners);
+        let pending = u32::try_from(record.entries.len()).unwrap_or(u32::MAX);
+        tally.raise(Met::MostPending, pending);
         tally.ask(code(kernel.root(fs)), code(record.root(system)));
         if let Ok(bytes) = kernel.read(fs, block) {
             tally.check(*bytes == record.bytes_after(block, u32::MAX));

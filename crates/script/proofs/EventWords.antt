@@ -3,7 +3,7 @@ use Rattle.std.proofs.Common.{ℕ, List, [], ◌∷◌, drop, get_or, codes, ari
 use Rattle.xn_model.specs.Calls as model
 use Rattle.xn_state.specs.declared.call.Call.{Call}
 use Rattle.xn_state.specs.declared.call.Call.TheVariants.{Init, Propose, MakeRoot, DropRoot, Forget, Read, Root, Kind, Tainted, Pending, Floor, Free, Pick, Drain}
-use Rattle.events.specs.declared.event.Event.TheVariants as event
+use Rattle.xn_state.specs.declared.event.Event.TheVariants as event
 use Rattle.script.specs.Edits.{SpellsEdit}
 use Rattle.script.specs.Events.{SpellsCall, SpellNothing}
 

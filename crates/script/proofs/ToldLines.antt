@@ -2,8 +2,8 @@
 use Rattle.std.proofs.Common.{◌≡◌, Bool, true, false, List, ℕ, refl}
 use Rattle.std.specs.Prelude.{MatchBool}
 use Rattle.xn_state.specs.declared.call.Call.TheVariants.{Propose, MakeRoot, DropRoot, Forget, Read, Pending, Floor, Pick, Drain}
-use Rattle.events.specs.declared.event.Event.{Event}
-use Rattle.events.specs.declared.event.Event.TheVariants as event
+use Rattle.xn_state.specs.declared.event.Event.{Event}
+use Rattle.xn_state.specs.declared.event.Event.TheVariants as event
 use Rattle.script.specs.declared.told.LineEvent.{LineEvent}
 use Rattle.script.specs.declared.told.LineEvent.TheVariants as line
 use Rattle.script.specs.Events.{Spells}

@@ -3,8 +3,8 @@ use Rattle.std.specs.Fmt.{decimal}
 use Rattle.xn_state.specs.declared.call.Call.{Call}
 use Rattle.xn_state.specs.declared.call.Call.TheVariants.{Init, Propose, MakeRoot, DropRoot, Forget, Read, Root, Kind, Tainted, Pending, Floor, Free, Pick}
 use Rattle.xn_state.specs.declared.call.Call.TheVariants.{Drain}
-use Rattle.events.specs.declared.event.Event.{Event}
-use Rattle.events.specs.declared.event.Event.TheVariants as event
+use Rattle.xn_state.specs.declared.event.Event.{Event}
+use Rattle.xn_state.specs.declared.event.Event.TheVariants as event
 use Rattle.script.specs.Edits.{SpellsEdit}
 use Rattle.script.specs.Hex.{IsBlockText, IsHex, SpellsBlock}
 use Rattle.script.specs.Numbers.{SpellsNumber, SpellNumbers}

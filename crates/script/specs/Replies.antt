@@ -5,8 +5,8 @@ use Rattle.xn_model.specs.declared.refusal.Refusal.{Refusal}
 use Rattle.xn_model.specs.Refusals.{refusal_text}
 use Rattle.xn_state.specs.declared.answer.Answer.{Answer}
 use Rattle.xn_state.specs.declared.answer.Answer.TheVariants as answer
-use Rattle.events.specs.declared.reply.Reply.{Reply}
-use Rattle.events.specs.declared.reply.Reply.TheVariants as reply
+use Rattle.xn_state.specs.declared.reply.Reply.{Reply}
+use Rattle.xn_state.specs.declared.reply.Reply.TheVariants as reply
 use Rattle.xn_state.specs.declared.installed.Installed.{Installed}
 use Rattle.script.specs.Bytes.{bytes_text}
 

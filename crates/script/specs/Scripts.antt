@@ -1,7 +1,7 @@
 -- The text of a script.
 use Rattle.std.specs.Prelude.{◌≡◌, ◌<◌, ◌⊎◌, ⊤, ℕ, ◌+◌, ◌==◌, Bool, true, false, not, List, [], ◌∷◌, length, filter, Option, Some, None}
 use Rattle.std.specs.List.{AllZip, slice_split, slice_index_or}
-use Rattle.events.specs.declared.event.Event.{Event}
+use Rattle.xn_state.specs.declared.event.Event.{Event}
 use Rattle.script.specs.declared.fault.ScriptFault.{ScriptFault}
 use Rattle.script.specs.declared.fault.ScriptFault.TheVariants.{Unreadable, NoMemory}
 use Rattle.script.specs.Events.{Spells, SpellNothing}

@@ -2,7 +2,7 @@
 use Rattle.std.specs.Prelude.{⊤, ℕ, List, [], None}
 use Rattle.xn_model.specs.Calls as model
 use Rattle.xn_state.specs.declared.call.Call.TheVariants.{Init, Propose, MakeRoot, DropRoot, Forget, Read, Pending, Floor, Pick, Drain}
-use Rattle.events.specs.declared.event.Event.TheVariants as event
+use Rattle.xn_state.specs.declared.event.Event.TheVariants as event
 use Rattle.script.specs.declared.told.LineEvent.{LineEvent}
 use Rattle.script.specs.declared.told.LineEvent.TheVariants as line
 use Rattle.script.specs.Hex.{IsBlockText, IsHex, SpellsBlock}

@@ -2,7 +2,7 @@
 
 ghost use Rattle.std.specs.Prelude.{◌≡◌, ◌↔◌, List, IfNone, IfOk, IfSome, IsSome, IsTrue, MatchBool, ℕ};
 ghost use Rattle.script.specs.Hex.{IsBlockText, IsHex, SpellsBlock};
-ghost use Rattle.events.specs.declared.event.Event.{Event};
+ghost use Rattle.xn_state.specs.declared.event.Event.{Event};
 ghost use Rattle.script.specs.Events.{Spells, SpellNothing};
 ghost use Rattle.script.specs.Scripts.{LineSpells, SpellsSome, line_words};
 ghost use Rattle.script.specs.Told.{IsSpelledOut, SpellsEvent, only_patches};
@@ -11,10 +11,9 @@ use crate::parse_block;
 use crate::told::LineEvent;
 use crate::words::read_line;
 use edit_list::{Edit, Patch};
-use events::Event;
 use std::alloc::{AllocError, Global};
 use std::marker::Model;
-use xn_state::{Call, Fs};
+use xn_state::{Call, Event, Fs};
 
 /// A line of a script that spells an event, which was read from it. Clauses see the line's text.
 pub struct ScriptLine<'a> {

@@ -10,12 +10,11 @@ ghost use Rattle.script.specs.Bytes.{bytes_text};
 
 use crate::print_bytes;
 use arrayvec::ArrayVec;
-use events::{Installed, Reply};
 use itoa::Buffer;
 use std::io;
 use std::io::Write;
 use xn_model::Refusal;
-use xn_state::{Answer, EditId};
+use xn_state::{Answer, EditId, Installed, Reply};
 
 /// Adds a text and a number behind it to a line.
 fn add_count(line: &mut ArrayVec<u8, 128>, text: &str, number: u64)

@@ -2,7 +2,7 @@
 
 ghost use Rattle.std.specs.Prelude.{◌≡◌, ◌≢◌, ◌<◌, ◌==◌, ℕ, List, IfOk, OnOk, IfSome, IfNone, IsSome, [], ◌∷◌, codes, map, option_copied};
 ghost use Rattle.std.specs.Fmt.{decimal};
-ghost use Rattle.events.specs.declared.event.Event.{Event};
+ghost use Rattle.xn_state.specs.declared.event.Event.{Event};
 ghost use Rattle.xn_state.specs.declared.call.Call.{Call};
 ghost use Rattle.script.specs.Events.{Spells, SpellNothing, IsNoWrite};
 ghost use Rattle.script.specs.Told.{SpellsEvent};

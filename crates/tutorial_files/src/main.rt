@@ -7,13 +7,12 @@ mod directory;
 
 use directory::{Directory, Fault};
 use edit_list::Fs;
-use events::Event;
 use std::alloc::Global;
 use std::io;
 use std::thread::Threads;
 use world::{Running, World};
 use xn_model::Refusal;
-use xn_state::Store;
+use xn_state::{Event, Store};
 
 /// How many blocks the disk has.
 const BLOCKS: u32 = 32;

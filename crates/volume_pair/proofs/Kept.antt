@@ -19,9 +19,9 @@ use Rattle.ffs_lookup.specs.declared.fault.FfsFault.{FfsFault}
 use Rattle.ffs_lookup.specs.Files.{Answer}
 use Rattle.ffs_lib.specs.Stages.{Does, Stages}
 use Rattle.ffs_lib.specs.declared.volume.Volume.{Volume}
-use Rattle.events.specs.declared.event.Event as world_event
-use Rattle.events.specs.declared.event.Event.TheVariants as event
-use Rattle.events.specs.Events.{event_of}
+use Rattle.xn_state.specs.declared.event.Event as world_event
+use Rattle.xn_state.specs.declared.event.Event.TheVariants as event
+use Rattle.xn_state.specs.Events.{event_of}
 use Rattle.volume_pair.specs.Kept.{HasLibrary, IsDevice, IsKept, Lasts, Stays, array_of}
 
 pub if_some : {A : Type 0} (P Q : A → Type 0) (o : Option A) → ((x : A) → o ≡ Some x → P x → Q x) → IfSome o P → IfSome o Q

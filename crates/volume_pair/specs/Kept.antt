@@ -7,8 +7,8 @@
 --     Recovers T old T' new       they hold after a crash
 --     IsDevice event              no crash, and no call of a file system
 use Rattle.std.specs.Prelude.{◌≡◌, ◌<◌, ℕ, length, Option, Some, None, IfSome, ⊤}
-use Rattle.events.specs.declared.event.Event.{Event}
-use Rattle.events.specs.declared.event.Event.TheVariants as event
+use Rattle.xn_state.specs.declared.event.Event.{Event}
+use Rattle.xn_state.specs.declared.event.Event.TheVariants as event
 use Rattle.xn_model.specs.Types.{Types}
 use Rattle.xn_model.specs.Lives.{StoreState}
 use Rattle.xn_model.specs.Rules.{IsConsistent}

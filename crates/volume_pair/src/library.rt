@@ -8,7 +8,7 @@ ghost use Rattle.ffs_model.specs.Volumes.{HasNoRoot, VolumeKeeps, no_edits};
 ghost use Rattle.templates.specs.Tables.{HasTemplate};
 ghost use Rattle.ffs_format.specs.Library.{file_system_templates};
 ghost use Rattle.xn_state.specs.States.{own_types};
-ghost use Rattle.events.specs.Events.{reply_of};
+ghost use Rattle.xn_state.specs.Events.{reply_of};
 ghost use Rattle.volume_pair.specs.Kept.{HasLibrary};
 ghost use Rattle.volume_pair.specs.LibraryTypes.{IsInstalledAt, IsLibraryType, IsRemounted};
 

@@ -6,9 +6,9 @@ use Rattle.xn_model.specs.Worlds as model
 use Rattle.xn_model.specs.Worlds.{Run, Step}
 use Rattle.xn_model.specs.Rules.{Holds, Agrees}
 use Rattle.xn_model.proofs.ForCallers.{left_agrees, left_sound}
-use Rattle.events.specs.declared.event.Event.{Event}
-use Rattle.events.specs.declared.reply.Reply.{Reply}
-use Rattle.events.specs.Events.{event_of, reply_of}
+use Rattle.xn_state.specs.declared.event.Event.{Event}
+use Rattle.xn_state.specs.declared.reply.Reply.{Reply}
+use Rattle.xn_state.specs.Events.{event_of, reply_of}
 use Rattle.world.specs.Worlds.{WorldValue, world_with}
 
 run_more : (w : model.World) (es : List model.Event) (rs : List model.Reply) (mid : model.World) (e : model.Event) (r : model.Reply) (after : model.World) →

@@ -16,8 +16,8 @@ use Rattle.templates.specs.Templates.{TemplateValue, IsTemplate}
 use Rattle.templates.specs.Formats.{formatted}
 use Rattle.templates.proofs.ForCallers.{formatted_holds}
 use Rattle.templates.specs.Language.{language, types_of_image}
-use Rattle.events.specs.declared.event.Event.{Event}
-use Rattle.events.specs.Events.{event_of}
+use Rattle.xn_state.specs.declared.event.Event.{Event}
+use Rattle.xn_state.specs.Events.{event_of}
 
 -- each event of a list is one
 pub are_events : (es : List Event) → All (λ e. model.IsEvent (event_of e)) es → AllByRecursion model.IsEvent (map event_of es)

@@ -1,3 +1,3 @@
-pub use Rattle.events.specs.Events
+pub use Rattle.xn_state.specs.Events
 pub mod Disks
 pub mod Worlds

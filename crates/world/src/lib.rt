@@ -11,7 +11,6 @@ mod unmounted;
 mod world;
 
 pub use crash_check::ImageFault;
-pub use events::{Event, Reply};
 pub use running::Running;
 pub use world::World;
-pub use xn_state::{Answer, Call, Landed, Stopped};
+pub use xn_state::{Answer, Call, Event, Landed, Reply, Stopped};

@@ -7,18 +7,18 @@ ghost use Rattle.xn_model.specs.Calls.{free_of};
 ghost use Rattle.xn_model.specs.Worlds as model;
 ghost use Rattle.xn_model.specs.Rules.{Holds};
 ghost use Rattle.xn_kernel.specs.Kernels.{is_in_flight};
-ghost use Rattle.events.specs.Events.{event_of, reply_of, IsNoCrash};
+ghost use Rattle.xn_state.specs.Events.{event_of, reply_of, IsNoCrash};
 ghost use Rattle.world.specs.Worlds.{is_any_in_flight, world_with, value_of, IsWorld};
 
 use crate::tickets::Tickets;
 use crate::unmounted::{UnmountedDisk, crash_lanes, take_lanes_back, write_lanes};
 use disk::{BLOCK_LEN, MemLane};
-use events::{Event, Reply};
 use std::alloc::{AllocError, Allocator, Global};
 use std::io;
 use std::io::Write;
 use std::marker::Model;
 use xn_kernel::Kernel;
+use xn_state::{Event, Reply};
 
 mod calls;
 mod steps;

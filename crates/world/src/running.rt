@@ -5,18 +5,17 @@ ghost use Rattle.xn_model.specs.Images.{block_of, joined};
 ghost use Rattle.xn_model.specs.Calls.{pending_of, floor_of, free_of, pick_of};
 ghost use Rattle.xn_model.specs.Worlds as model;
 ghost use Rattle.xn_model.specs.Rules.{Holds};
-ghost use Rattle.events.specs.Events.{event_of, reply_of, IsNoCrash};
+ghost use Rattle.xn_state.specs.Events.{event_of, reply_of, IsNoCrash};
 ghost use Rattle.world.specs.Worlds.{WorldValue, world_with};
 
 use crate::mounted::MountedDisk;
 use crate::world::World;
-use events::{Event, Reply};
 use std::alloc::{AllocError, Global};
 use std::marker::Model;
 use std::thread::Threads;
 use templates::Template;
 use xn_model::Refusal;
-use xn_state::{Edit, EditId, Fs, Store};
+use xn_state::{Edit, EditId, Event, Fs, Reply, Store};
 
 /// A world that is up: a store, whose calls are those of clients, and a disk, whose events go on beside them.
 pub struct Running {

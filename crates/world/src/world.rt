@@ -18,14 +18,13 @@ ghost use Rattle.templates.specs.Templates.{IsTemplate};
 ghost use Rattle.templates.specs.Formats.{formatted, format_fault, IsFormatFault};
 ghost use Rattle.templates.specs.Language.{language, types_of_image};
 ghost use Rattle.xn_kernel.specs.Kernels.{is_in_flight};
-ghost use Rattle.events.specs.Events.{event_of, reply_of, IsNoCrash};
+ghost use Rattle.xn_state.specs.Events.{event_of, reply_of, IsNoCrash};
 ghost use Rattle.world.specs.Worlds.{is_any_in_flight, world_with, world_value, IsSoundDisk, IsWorldOf};
 
 use crate::mounted::MountedDisk;
 use crate::running::Running;
 use crate::unmounted::{UnmountedDisk, is_whole};
 use crash_check::{ImageFault, state_of};
-use events::{Event, Reply};
 use ffs_model::{events_keep_cuts, image_is_cut};
 use std::alloc::{AllocError, Allocator, Global};
 use std::io;
@@ -34,7 +33,7 @@ use std::marker::Model;
 use std::thread::Threads;
 use templates::{FormatFault, Template, format_image};
 use xn_model::Refusal;
-use xn_state::{Answer, EditId, Landed, State, Stopped};
+use xn_state::{Answer, EditId, Event, Landed, Reply, State, Stopped};
 
 /// A disk in memory, its kernel, and the tickets of the writes that are under way. After a crash whose mount found no memory it
 /// is down, and has no kernel. The second lots of its lanes' bytes have their memory from `A`.

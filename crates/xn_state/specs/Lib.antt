@@ -6,3 +6,4 @@ pub mod Proposals
 pub mod Answers
 pub mod Installs
 pub mod Awaits
+pub mod Events

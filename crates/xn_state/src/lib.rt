@@ -4,10 +4,12 @@
 
 mod answer;
 mod call;
+mod event;
 mod found;
 mod installed;
 pub mod law;
 mod lives;
+mod reply;
 mod root;
 mod state;
 mod store;
@@ -15,8 +17,10 @@ mod store;
 pub use answer::{Answer, Landed, Stopped};
 pub use call::Call;
 pub use edit_list::{Edit, EditId, Fs, Patch};
+pub use event::Event;
 pub use found::Found;
 pub use installed::Installed;
+pub use reply::Reply;
 pub use state::State;
 pub use store::Store;
 pub use xn_model::{Refusal, Status};

@@ -12,7 +12,7 @@ use Rattle.xnsim_line.specs.Runs.{IsMountedRun, IsPrintedRun}
 use Rattle.xnsim_line.specs.Stops.{IsAskedRun, IsStoppedRun}
 use Rattle.xn_model.specs.Worlds.{World}
 use Rattle.udf_verify.specs.declared.fault.Role.{Role}
-use Rattle.events.specs.declared.event.Event.{Event}
+use Rattle.xn_state.specs.declared.event.Event.{Event}
 
 appends_kept : (old mid new : Option (List ℕ)) (bytes : List ℕ) → Appends old mid bytes → Keeps mid new → Appends old new bytes
 appends_kept None mid new bytes printed flushed = tt

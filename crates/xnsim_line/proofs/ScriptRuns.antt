@@ -6,9 +6,9 @@ use Rattle.std.proofs.lemmas.List.{map-append, append-nil, append_assoc}
 use Rattle.std.proofs.lemmas.Grind.{flat_map-append}
 use Rattle.xn_model.specs.Worlds as model
 use Rattle.xn_model.specs.Worlds.{Run, Step}
-use Rattle.events.specs.declared.reply.Reply.{Reply}
-use Rattle.events.specs.declared.event.Event.{Event}
-use Rattle.events.specs.Events.{event_of, reply_of}
+use Rattle.xn_state.specs.declared.reply.Reply.{Reply}
+use Rattle.xn_state.specs.declared.event.Event.{Event}
+use Rattle.xn_state.specs.Events.{event_of, reply_of}
 use Rattle.script.specs.Replies.{reply_line}
 use Rattle.script.specs.Scripts.{AllSpell, LineSpells}
 use Rattle.script.proofs.ForCallers.{zip_push}

@@ -2,7 +2,7 @@
 use Rattle.std.proofs.Common.{◌≡◌, ◌<◌, ◌+◌, ℕ, zero, suc, List, [], ◌∷◌, ◌++◌, length, take, drop, get_or, ap, sym, ◌∙◌, subst}
 use Rattle.std.specs.List.{AllZip}
 use Rattle.std.proofs.lemmas.List.{take-append-drop, take_more}
-use Rattle.events.specs.declared.event.Event.{Event}
+use Rattle.xn_state.specs.declared.event.Event.{Event}
 use Rattle.script.specs.Scripts.{AllSpell, LineSpells, SpellEvents}
 
 zip_drop : {A B : Type 0} (R : A → B → Type 0) (n : ℕ) (xs : List A) (ys : List B) → AllZip R xs ys → AllZip R (drop n xs) (drop n ys)

@@ -10,9 +10,9 @@ use Rattle.xn_model.specs.Worlds as model
 use Rattle.xn_model.specs.Worlds.{World, Step, Run}
 use Rattle.image_model.specs.Report.{IsSoundImage}
 use Rattle.templates.specs.Language.{types_of_image}
-use Rattle.events.specs.declared.reply.Reply.{Reply}
-use Rattle.events.specs.declared.event.Event.{Event}
-use Rattle.events.specs.Events.{event_of, reply_of}
+use Rattle.xn_state.specs.declared.reply.Reply.{Reply}
+use Rattle.xn_state.specs.declared.event.Event.{Event}
+use Rattle.xn_state.specs.Events.{event_of, reply_of}
 use Rattle.script.specs.Replies.{reply_line}
 use Rattle.script.specs.Scripts.{AllSpell, LineSpells, SpellEvents}
 use Rattle.script.proofs.ForCallers.{zip_push}

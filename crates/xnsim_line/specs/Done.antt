@@ -1,7 +1,7 @@
 -- What a line of the program prints, and the faults that may come of it.
 use Rattle.std.specs.Prelude.{◌≡◌, ◌≢◌, ◌≤◌, ◌⊎◌, ⊤, ℕ, List, [], length, map, Option, IfSome, codes, string_bytes, Contains}
 use Rattle.templates.specs.Templates.{TemplateValue}
-use Rattle.events.specs.declared.event.Event.{Event}
+use Rattle.xn_state.specs.declared.event.Event.{Event}
 use Rattle.xnsim_line.specs.declared.invocation.Invocation.{Invocation}
 use Rattle.xnsim_line.specs.declared.invocation.Stop.{Stop}
 use Rattle.xnsim_line.specs.declared.invocation.Invocation.TheVariants.{Bare, Format, Run, Check, Asm, Verify}

@@ -9,9 +9,9 @@ use Rattle.image_model.specs.Report.{IsSoundImage}
 use Rattle.templates.specs.Templates.{TemplateValue}
 use Rattle.templates.specs.Formats.{formatted}
 use Rattle.templates.specs.Language.{language, types_of_image}
-use Rattle.events.specs.declared.reply.Reply.{Reply}
-use Rattle.events.specs.declared.event.Event.{Event}
-use Rattle.events.specs.Events.{event_of, reply_of}
+use Rattle.xn_state.specs.declared.reply.Reply.{Reply}
+use Rattle.xn_state.specs.declared.event.Event.{Event}
+use Rattle.xn_state.specs.Events.{event_of, reply_of}
 use Rattle.script.specs.Replies.{reply_line}
 use Rattle.script.specs.Scripts.{AllSpell, LineSpells}
 

@@ -9,9 +9,9 @@ use Rattle.xn_model.specs.Images.{blocks_in, joined}
 use Rattle.xn_kernel.specs.Kernels.{is_in_flight}
 use Rattle.image_model.specs.Report.{IsSoundImage}
 use Rattle.templates.specs.Language.{types_of_image}
-use Rattle.events.specs.declared.reply.Reply.{Reply}
-use Rattle.events.specs.declared.event.Event.{Event}
-use Rattle.events.specs.Events.{event_of, reply_of}
+use Rattle.xn_state.specs.declared.reply.Reply.{Reply}
+use Rattle.xn_state.specs.declared.event.Event.{Event}
+use Rattle.xn_state.specs.Events.{event_of, reply_of}
 use Rattle.world.specs.Worlds.{is_any_in_flight}
 use Rattle.script.specs.Replies.{reply_line}
 use Rattle.script.specs.Scripts.{LineSpells}

@@ -7,7 +7,7 @@ ghost use Rattle.xn_model.specs.Images.{joined};
 ghost use Rattle.xn_model.specs.Worlds as model;
 ghost use Rattle.xn_model.specs.Worlds.{drain_for, write_out};
 ghost use Rattle.script.specs.Scripts.{SpellEvents};
-ghost use Rattle.events.specs.Events.{event_of, reply_of};
+ghost use Rattle.xn_state.specs.Events.{event_of, reply_of};
 ghost use Rattle.world.specs.Worlds.{is_any_in_flight, world_with};
 ghost use Rattle.xnsim_line.specs.Done.{IsRunFault};
 ghost use Rattle.xnsim_line.specs.Runs.{RunsLines};

@@ -4,14 +4,13 @@ ghost use Rattle.std.specs.Prelude.{◌≢◌};
 ghost use Rattle.xn_model.specs.Worlds as model;
 ghost use Rattle.xn_state.specs.declared.call.Call.TheVariants.{Drain};
 ghost use Rattle.xn_state.specs.Answers.{call_of};
-ghost use Rattle.events.specs.Events.{reply_of};
+ghost use Rattle.xn_state.specs.Events.{reply_of};
 ghost use Rattle.world.specs.Worlds.{world_with};
 
 use crate::mounted::MountedDisk;
-use events::Reply;
 use std::alloc::Allocator;
 use xn_kernel::DrainStop;
-use xn_state::{Answer, Call, Fs, Stopped};
+use xn_state::{Answer, Call, Fs, Reply, Stopped};
 
 impl<A: Allocator> MountedDisk<A> {
     /// A client's call. Its answer is left in `reply` at once where it is short.

@@ -2,13 +2,13 @@
 
 ghost use Rattle.std.specs.Prelude.{◌<◌, ◌≤◌, length};
 ghost use Rattle.xn_model.specs.Worlds as model;
-ghost use Rattle.events.specs.Events.{reply_of};
+ghost use Rattle.xn_state.specs.Events.{reply_of};
 ghost use Rattle.world.specs.Worlds.{world_with};
 
 use crate::mounted::MountedDisk;
 use crate::ticket::DroppableTicket;
-use events::Reply;
 use std::alloc::Allocator;
+use xn_state::Reply;
 
 impl<A: Allocator> MountedDisk<A> {
     /// A write of a block begins, and its ticket is kept. It is not inlined, so that no other event clears the room of a ticket for it.

@@ -1,6 +1,6 @@
 use Rattle.std.proofs.Common.{subst, sym}
 use Rattle.xn_state.specs.declared.call.Call.TheVariants.{Init}
-use Rattle.events.specs.declared.event.Event.TheVariants as event
+use Rattle.xn_state.specs.declared.event.Event.TheVariants as event
 use Rattle.script.specs.Told.{IsSpelledOut, SpellsEvent}
 use Rattle.script.proofs.ToldLines.{either, told_event, told_out}
 use Rattle.script.proofs.line.is_event.Goals as goal

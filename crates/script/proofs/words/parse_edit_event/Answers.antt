@@ -1,6 +1,6 @@
 use Rattle.std.proofs.Common.{rules, ◌∷◌, map, codes}
 use Rattle.xn_state.specs.declared.call.Call.TheVariants.{Propose}
-use Rattle.events.specs.declared.event.Event.TheVariants as event
+use Rattle.xn_state.specs.declared.event.Event.TheVariants as event
 use Rattle.script.specs.Events.{Spells}
 use Rattle.script.proofs.EventWords.{no_edit}
 use Rattle.script.proofs.words.parse_edit_event.Goals as goal

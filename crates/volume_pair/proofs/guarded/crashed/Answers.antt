@@ -2,7 +2,7 @@ use Rattle.std.proofs.Common.{[], sym, subst}
 use Rattle.ffs_model.specs.Library.{library_layout}
 use Rattle.ffs_model.specs.Volumes.{VolumeKeeps, no_edits}
 use Rattle.xn_state.specs.States.{own_types}
-use Rattle.events.specs.Events.{reply_of}
+use Rattle.xn_state.specs.Events.{reply_of}
 use Rattle.world.specs.Worlds.{WorldValue}
 use Rattle.volume_pair.specs.Kept.{HasLibrary}
 use Rattle.volume_pair.specs.LibraryTypes.{IsRemounted}

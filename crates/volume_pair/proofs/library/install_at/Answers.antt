@@ -1,4 +1,4 @@
-use Rattle.events.specs.Events.{reply_of}
+use Rattle.xn_state.specs.Events.{reply_of}
 use Rattle.volume_pair.proofs.InstalledTypes.{rootless_still, type_says, types_more}
 use Rattle.volume_pair.proofs.library.install_at.Goals as goal
 

@@ -3,7 +3,7 @@ use Rattle.std.specs.Prelude.{All}
 use Rattle.std.proofs.lemmas.List.{take_more, take_all}
 use Rattle.std.proofs.lemmas.List.Elements.{All-push}
 use Rattle.xn_model.specs.Worlds as model
-use Rattle.events.specs.Events.{event_of}
+use Rattle.xn_state.specs.Events.{event_of}
 use Rattle.world.proofs.world.are_events.Goals as goal
 
 pub loop-at-preserved : goal.loop-at-preserved

@@ -1,7 +1,7 @@
 use Rattle.std.proofs.Common.{take}
 use Rattle.std.specs.Prelude.{All}
 use Rattle.xn_model.specs.Worlds as model
-use Rattle.events.specs.Events.{event_of}
+use Rattle.xn_state.specs.Events.{event_of}
 use Rattle.world.proofs.world.are_events.Given as goal
 
 abbrev pub invariant-loop-at : goal.invariant-loop-at

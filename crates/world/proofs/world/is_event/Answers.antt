@@ -1,6 +1,6 @@
 use Rattle.std.proofs.Common.{sym, subst}
 use Rattle.xn_model.specs.Worlds as model
-use Rattle.events.specs.Events.{event_of}
+use Rattle.xn_state.specs.Events.{event_of}
 use Rattle.world.proofs.world.is_event.Goals as goal
 
 pub returns-in-Install : goal.returns-in-Install

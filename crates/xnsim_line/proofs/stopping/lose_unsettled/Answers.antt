@@ -1,7 +1,7 @@
 use Rattle.std.proofs.Common.{◌≡◌, ◌∙◌, [], ap, rules}
 use Rattle.xn_model.specs.Worlds.{left}
 use Rattle.xn_model.proofs.ForCallers.{crash_mounts}
-use Rattle.events.specs.Events.{reply_of}
+use Rattle.xn_state.specs.Events.{reply_of}
 use Rattle.world.specs.Worlds.{world_with}
 use Rattle.xnsim_line.proofs.stopping.lose_unsettled.Goals as goal
 

@@ -1,5 +1,5 @@
 use Rattle.std.proofs.Common.{arith}
-use Rattle.events.specs.Events.{reply_of}
+use Rattle.xn_state.specs.Events.{reply_of}
 use Rattle.world.specs.Worlds.{world_with}
 use Rattle.xnsim_line.proofs.stopping.step_counted.Goals as goal
 

@@ -1,5 +1,5 @@
 use Rattle.std.proofs.Common.{◌≡◌, ◌∙◌, sym, ap, arith}
-use Rattle.events.specs.Events.{event_of}
+use Rattle.xn_state.specs.Events.{event_of}
 use Rattle.world.specs.Worlds.{world_with}
 use Rattle.xnsim_line.specs.Stops.{is_write}
 use Rattle.xnsim_line.proofs.BlockWrites.{one_if, step_counts}

@@ -1,4 +1,4 @@
-use Rattle.events.specs.Events.{reply_of}
+use Rattle.xn_state.specs.Events.{reply_of}
 use Rattle.world.specs.Worlds.{world_with}
 use Rattle.xnsim_line.proofs.BlockWrites.{wrote}
 use Rattle.xnsim_line.proofs.stopping.write_out.Goals as goal

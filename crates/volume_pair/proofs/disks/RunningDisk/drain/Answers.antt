@@ -1,6 +1,6 @@
 use Rattle.std.proofs.Common.{inr, refl}
 use Rattle.xn_model.specs.Worlds.{Client, Drain}
-use Rattle.events.specs.Events.{reply_of}
+use Rattle.xn_state.specs.Events.{reply_of}
 use Rattle.world.specs.Worlds.{world_with}
 use Rattle.volume_pair.proofs.Kept.{event_stays}
 use Rattle.volume_pair.proofs.disks.RunningDisk.drain.Goals as goal

@@ -1,5 +1,5 @@
 use Rattle.xn_state.specs.States.{own_types}
-use Rattle.events.specs.Events.{event_of, reply_of}
+use Rattle.xn_state.specs.Events.{event_of, reply_of}
 use Rattle.world.specs.Worlds.{world_with}
 use Rattle.volume_pair.specs.Kept.{IsKept}
 use Rattle.volume_pair.proofs.Kept.{device_event, event_stays, if_some, stays_kept}

@@ -1,7 +1,7 @@
 use Rattle.std.proofs.Common.{◌∙◌, sym, subst}
 use Rattle.std.proofs.lemmas.Option.{none-some}
 use Rattle.xn_model.specs.Worlds as model
-use Rattle.events.specs.Events.{reply_of}
+use Rattle.xn_state.specs.Events.{reply_of}
 use Rattle.world.specs.Worlds.{value_of, world_of}
 use Rattle.world.proofs.Draining.{rounds_world, drain_step, drain_refused}
 use Rattle.world.proofs.Views.{seen}

@@ -2,7 +2,7 @@ use Rattle.std.proofs.Common.{Some, Result, sym, subst}
 use Rattle.disk.specs.declared.lane.DeviceFault.{DeviceFault}
 use Rattle.disk.specs.Mem.{memory_write}
 use Rattle.xn_model.specs.Worlds as model
-use Rattle.events.specs.Events.{reply_of}
+use Rattle.xn_state.specs.Events.{reply_of}
 use Rattle.world.specs.Worlds.{Tickets, IsWorld, value_of, world_of}
 use Rattle.world.proofs.Stepping.{fail_without, fail_step, fail_world}
 use Rattle.world.proofs.Views.{seen}

@@ -5,7 +5,7 @@ use Rattle.xn_model.specs.Worlds as model
 use Rattle.xn_kernel.specs.Kernels.{KernelValue}
 use Rattle.xn_state.specs.Answers.{told}
 use Rattle.xn_state.specs.Installs.{installed_of}
-use Rattle.events.specs.Events.{reply_of}
+use Rattle.xn_state.specs.Events.{reply_of}
 use Rattle.world.specs.Worlds.{IsWorld, value_of, world_of}
 use Rattle.world.proofs.Stepping.{install_step, install_world, installed_reply}
 use Rattle.world.proofs.Views.{seen}

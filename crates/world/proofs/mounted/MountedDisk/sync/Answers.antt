@@ -3,7 +3,7 @@ use Rattle.std.proofs.lemmas.Bool.{false≢true}
 use Rattle.disk.specs.declared.lane.DeviceFault.{DeviceFault}
 use Rattle.disk.specs.Mem.{memory_sync}
 use Rattle.xn_model.specs.Worlds as model
-use Rattle.events.specs.Events.{reply_of}
+use Rattle.xn_state.specs.Events.{reply_of}
 use Rattle.world.specs.Disks.{synced_ticket}
 use Rattle.world.specs.Worlds.{Tickets, IsWorld, value_of, world_of}
 use Rattle.world.proofs.Stepping.{sync_without, sync_step, sync_world}

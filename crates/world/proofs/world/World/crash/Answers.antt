@@ -2,7 +2,7 @@ use Rattle.std.proofs.Common.{◌≡◌, ◌∙◌, ◌-◌, Some, None, length,
 use Rattle.xn_model.specs.Calls.{free_of}
 use Rattle.xn_model.specs.Worlds as model
 use Rattle.world.specs.Worlds.{WorldValue, world_with, world_value, mounted_value, IsSoundDisk}
-use Rattle.events.specs.Events.{reply_of}
+use Rattle.xn_state.specs.Events.{reply_of}
 use Rattle.world.proofs.Crashes.{crash_mounts, crash_stops}
 use Rattle.world.proofs.world.World.crash.Goals as goal
 

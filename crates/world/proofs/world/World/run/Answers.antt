@@ -3,7 +3,7 @@ use Rattle.std.specs.Vec.{vec_capacity}
 use Rattle.std.proofs.lemmas.List.{take_all}
 use Rattle.xn_model.specs.Worlds.{Run, Step}
 use Rattle.xn_model.specs.Rules.{Holds}
-use Rattle.events.specs.Events.{event_of, reply_of}
+use Rattle.xn_state.specs.Events.{event_of, reply_of}
 use Rattle.world.specs.Worlds.{world_with}
 use Rattle.world.proofs.Tellings.{are_events, ran_told}
 use Rattle.world.proofs.Runs.{ran_more, rules_agree, rules_sound}

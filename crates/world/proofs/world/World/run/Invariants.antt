@@ -2,7 +2,7 @@ use Rattle.std.proofs.Common.{◌≡◌, ◌≤◌, map, take, vec_len}
 use Rattle.std.specs.Vec.{vec_capacity}
 use Rattle.xn_model.specs.Worlds.{Run}
 use Rattle.xn_model.specs.Rules.{Holds}
-use Rattle.events.specs.Events.{event_of, reply_of}
+use Rattle.xn_state.specs.Events.{event_of, reply_of}
 use Rattle.world.specs.Worlds.{world_with}
 use Rattle.world.proofs.world.World.run.Given as goal
 

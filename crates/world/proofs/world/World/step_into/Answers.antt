@@ -1,4 +1,4 @@
-use Rattle.events.specs.Events.{event_of, reply_of}
+use Rattle.xn_state.specs.Events.{event_of, reply_of}
 use Rattle.world.specs.Worlds.{world_with}
 use Rattle.world.proofs.Runs.{rules_agree}
 use Rattle.world.proofs.world.World.step_into.Goals as goal

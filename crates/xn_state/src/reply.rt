@@ -1,7 +1,8 @@
 // What a world answers.
 
+use crate::answer::{Answer, Landed};
+use crate::installed::Installed;
 use xn_model::Refusal;
-use xn_state::{Answer, Installed, Landed};
 
 /// The reply to an event.
 #[derive(Clone, Copy, Debug, PartialEq, Eq)]

@@ -2,10 +2,10 @@
 use Rattle.std.specs.Prelude.{◌≡◌, false}
 use Rattle.xn_model.specs.Worlds as model
 use Rattle.xn_state.specs.Answers.{call_of, reply_of_answer}
-use Rattle.events.specs.declared.event.Event.{Event}
-use Rattle.events.specs.declared.event.Event.TheVariants as event
-use Rattle.events.specs.declared.reply.Reply.{Reply}
-use Rattle.events.specs.declared.reply.Reply.TheVariants as reply
+use Rattle.xn_state.specs.declared.event.Event.{Event}
+use Rattle.xn_state.specs.declared.event.Event.TheVariants as event
+use Rattle.xn_state.specs.declared.reply.Reply.{Reply}
+use Rattle.xn_state.specs.declared.reply.Reply.TheVariants as reply
 
 abbrev pub event_of : Event → model.Event
 event_of (event.Call fs call) = model.Client fs.number (call_of call)

@@ -1,6 +1,7 @@
 // What may happen to a world.
 
-use xn_state::{Call, Fs};
+use crate::call::Call;
+use edit_list::Fs;
 
 /// One step of a world. Tickets are named by their block.
 #[derive(Debug, Drop)]
