@@ -6,7 +6,7 @@ use std::fs::{File, Files as System};
 use std::io::Read;
 use std::{fs, io};
 use system_files::{
-    Access, Links, OpenFault, Source, lead_to_one_file, open_locked, write_file,
+    Access, Links, OpenFault, Source, is_same, lead_to_one_file, open_locked, write_file,
 };
 use xnsim_line::Files;
 
@@ -65,6 +65,14 @@ fn open_disk<R: System<File = File> + AllocGlobal>(
     }
 }
 
+/// Whether a name still leads to an open file.
+fn leads_to<R: System>(rt: &R, name: &str, file: &File) -> bool {
+    match (fs::metadata(rt, name), file.metadata()) {
+        (Ok(found), Ok(own)) => is_same(&found, &own),
+        _ => false,
+    }
+}
+
 impl<'a, R: System<File = File> + AllocGlobal> Files for SystemFiles<'a, R> {
     ghost use Rattle.std.specs.Prelude.{None};
 
@@ -91,7 +99,13 @@ impl<'a, R: System<File = File> + AllocGlobal> Files for SystemFiles<'a, R> {
         one == other || lead_to_one_file(self.rt, one, other).unwrap_or(false)
     }
 
+    /// A disk that was read is written only while it is the one of that name.
     fn write_from<S: Source + Drop>(&mut self, name: &str, source: S) -> bool {
+        if let Some(disk) = &self.disk
+            && !leads_to(self.rt, name, disk)
+        {
+            return false;
+        }
         write_file(
             self.rt,
             name,
