@@ -71,6 +71,7 @@ module _ (old mid new : Option (List ℕ)) (flushed : Keeps mid new) where
       events = done.0.events;
       image = done.0.image;
       read = done.0.read;
+      short = done.0.short;
       script = done.0.script;
       run = run_kept _ done.0.events done.0.image done.0.run;
     },
@@ -94,6 +95,7 @@ module _ (old mid new : Option (List ℕ)) (flushed : Keeps mid new) where
     after = done.after;
     image_held = done.image_held;
     script_held = done.script_held;
+    script_short = done.script_short;
     script = done.script;
     run = asked_kept stop done.image done.events done.after done.run;
     written = done.written;
@@ -113,10 +115,14 @@ module _ (old mid new : Option (List ℕ)) (flushed : Keeps mid new) where
     size_text = done.size_text;
     owns_held = done.owns_held;
     size_held = done.size_held;
+    owns_short = done.owns_short;
+    size_short = done.size_short;
+    not_owns = done.not_owns;
+    not_size = done.not_size;
     template = template_kept held held_after _ done.owns_text done.size_text done.template;
   }
   done_kept input held held_after (Verify name role) done =
-      record { text = done.text; text_held = done.text_held; accepted = accepted_kept done.text role done.accepted; kept = done.kept }
+      record { text = done.text; text_held = done.text_held; text_short = done.text_short; accepted = accepted_kept done.text role done.accepted; kept = done.kept }
 
   pub line_kept : (input : Option (List ℕ)) (held held_after : Held) (words : List (List ℕ)) → IsLineDone input held held_after words old mid → IsLineDone input held held_after words old new
   line_kept input held held_after words done = (done.0, done.1, done_kept input held held_after done.0 done.2)

@@ -1,6 +1,6 @@
 -- Files of which fewer bytes were read than the limit are read whole.
 use Rattle.std.proofs.Common.{◌≡◌, ◌<◌, ℕ, List, length, take, Option, Some, None, sym, ◌∙◌, ap, arith, inl, inr}
-use Rattle.std.specs.Prelude.{IsSomeAnd}
+use Rattle.std.specs.Prelude.{IfSome, IsSomeAnd, option_map}
 use Rattle.std.proofs.lemmas.List.{take_all, length-take-le}
 use Rattle.std.proofs.lemmas.Bool.{cases_lt}
 use Rattle.xnsim_line.specs.Files.{Held, IsHeld, IsStartHeld}
@@ -18,3 +18,8 @@ found_whole (Some whole) bytes limit is few = ap Some (start_is_whole whole byte
 pub whole_held : (held : Held) (name bytes : List ℕ) (limit : ℕ) → IsStartHeld held name limit bytes → length bytes < limit → IsHeld held name bytes
 whole_held None name bytes limit start few = tt
 whole_held (Some files) name bytes limit start few = found_whole (files name) bytes limit start few
+
+-- known bytes of which fewer than the limit were read are read whole
+pub whole_input : (known : Option (List ℕ)) (text : List ℕ) (limit : ℕ) → IfSome (option_map (take limit) known) (λ bytes. text ≡ bytes) → length text < limit → IfSome known (λ bytes. text ≡ bytes)
+whole_input None text limit is few = tt
+whole_input (Some whole) text limit is few = sym (start_is_whole whole text limit is few)

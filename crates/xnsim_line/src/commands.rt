@@ -1,6 +1,6 @@
 // What each line asks for is done.
 
-ghost use Rattle.std.specs.Prelude.{◌≡◌, ◌≤◌, ℕ, List, [], None, IfErr, IfOk, IfSome, OnOk, length, map, string_bytes};
+ghost use Rattle.std.specs.Prelude.{◌≡◌, ◌≤◌, ℕ, List, [], None, IfErr, IfOk, IfSome, IsTrue, OnOk, length, map, string_bytes};
 ghost use Rattle.std.specs.Str.{IsUtf8};
 ghost use Rattle.std.specs.Io.KnownBytes.{Appends};
 ghost use Rattle.xnsim_line.specs.Done.{IsFaultOf, IsInputFault, IsLineDone, IsLineFault, PrintsAssembled, PrintsMounted, PrintsReplies, PrintsVerified};
@@ -82,6 +82,15 @@ fn format<'a, F: Files, W: Write>(
     Ok(())
 }
 
+/// Whether a name leads to one of two files.
+fn is_source<F: Files>(files: &mut F, owns: &str, size: &str, block: &str) -> bool
+    ensures owns { owns.now ≡ block.now → IsTrue result }
+    ensures size { size.now ≡ block.now → IsTrue result }
+    ensures kept { F.held files.new ≡ F.held files.old }
+{
+    files.is_one_file(owns, block) || files.is_one_file(size, block)
+}
+
 /// Writes the block of the template whose programs have the texts of two files, and then says so. A file of one of these texts is not written.
 fn assemble_files<'a, F: Files, W: Write>(
     alloc: Global,
@@ -104,8 +113,7 @@ fn assemble_files<'a, F: Files, W: Write>(
         .ok_or(Fault::CannotRead(size))?;
     let size_text = text_of(size_bytes.as_slice(), size)?;
     let template = make_template(alloc, owns_text, size_text)?;
-    let is_source = files.is_one_file(owns, block) || files.is_one_file(size, block);
-    if is_source || !files.write(block, &write_block(&template)) {
+    if is_source(files, owns, size, block) || !files.write(block, &write_block(&template)) {
         return Err(Fault::CannotWrite(block));
     }
     print_template(out, &template)?;
@@ -173,11 +181,10 @@ fn read_input<'a, R: Read>(alloc: Global, input: &mut R) -> Result<Vec<u8>, Faul
 {
     let mut text = Vec::new(alloc);
     let limit = GREATEST_SCRIPT_LEN as u64 + 1;
-    if let Err(error) = input.take(limit).read_to_end(&mut text) {
-        return Err(match error.kind() {
-            ErrorKind::OutOfMemory => Fault::NoMemory,
-            _ => Fault::CannotRead(STANDARD_INPUT),
-        });
+    match input.take(limit).read_to_end(&mut text) {
+        Ok(_) => {}
+        Err(error) if error.kind() == ErrorKind::OutOfMemory => return Err(Fault::NoMemory),
+        Err(_) => return Err(Fault::CannotRead(STANDARD_INPUT)),
     }
     if text.len() > GREATEST_SCRIPT_LEN {
         return Err(Fault::CannotRead(STANDARD_INPUT));

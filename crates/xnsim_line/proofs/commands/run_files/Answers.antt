@@ -26,6 +26,7 @@ returns-clause-done g c =
       after = joined c.in_ok-after.after.image;
       image_held = whole_held held c.args.image.now image 16777217 start few;
       script_held = search rules;
+      script_short = search rules;
       script = subst (λ lines. AllSpell lines run.0) c.in_ok-lines.ensures.lines run.1;
       run = run.2;
       written = search rules;

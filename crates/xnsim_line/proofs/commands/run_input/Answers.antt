@@ -11,6 +11,7 @@ returns-clause-told g c =
       events = run.0;
       image = joined c.in_ok-run_script.field-0.image;
       read = search rules;
+      short = search rules;
       script = subst (λ lines. AllSpell lines run.0) c.in_ok-lines.ensures.lines run.1;
       run = run.2;
     }
