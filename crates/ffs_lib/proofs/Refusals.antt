@@ -2,6 +2,7 @@
 use Rattle.std.proofs.Common.{◌≡◌, ℕ, ◌<◌, ◌≤◌, Bool, true, false, List, [], ◌∷◌, length, sym, ◌∙◌, ap, arith, Result, Ok, Err, ◌==◌, find, nat_lt, if◌then◌else◌, le-ltb, lt-ltb, ne_eqb, ok_or}
 use Rattle.ffs_lib.proofs.Common.{BadName, DirNotEmpty, FfsFault, NoEntry, Slot, TooLarge, is_name}
 use Rattle.ffs_lookup.specs.Newest.{and_then, directory_in, slots_of, entry_named, file_in, has_name, if_empty, mapped, named_in, rmdir_in, unlink_in, write_in, most_bytes}
+use Rattle.ffs_lib.specs.Unnaming.{if_again, unname_in}
 
 module _ (content : ℕ → List ℕ) (fs d : ℕ) (name : List ℕ) where
   pub unlink_nothing : (fault : FfsFault) → Err fault ≡ named_in content fs d name → Err fault ≡ unlink_in content fs d name
@@ -60,3 +61,20 @@ pub not_bare : (content : ℕ → List ℕ) (fs n : ℕ) (name inode : List ℕ)
 unfolding named_in
 not_bare content fs n name inode entry is named bare =
     bare_named (has_name content name) entry (is_name name) (slots_of content inode) bare (named ∙ sym (ap (λ (r : Result (List ℕ) FfsFault). and_then r (entry_named content name)) is))
+
+module _ (content : ℕ → List ℕ) (fs d : ℕ) (name other : List ℕ) where
+  pub unname_nothing : (fault : FfsFault) → Err fault ≡ named_in content fs d name → Err fault ≡ unname_in content fs d name other
+  unfolding unname_in
+  unname_nothing fault e =
+      ap (λ (r : Result Slot FfsFault). and_then r (λ entry. and_then (named_in content fs d other) (λ kept. and_then (directory_in content fs entry.inode) (if_again d entry kept)))) e
+
+  pub unname_one : (entry : Slot) (r : Result Slot FfsFault) → Ok entry ≡ named_in content fs d name → r ≡ named_in content fs d other →
+      and_then r (λ kept. and_then (directory_in content fs entry.inode) (if_again d entry kept)) ≡ unname_in content fs d name other
+  unfolding unname_in
+  unname_one entry r e f =
+      ap (λ (x : Result Slot FfsFault). and_then x (λ kept. and_then (directory_in content fs entry.inode) (if_again d entry kept))) f
+      ∙ ap (λ (x : Result Slot FfsFault). and_then x (λ entry. and_then (named_in content fs d other) (λ kept. and_then (directory_in content fs entry.inode) (if_again d entry kept)))) e
+
+  pub unname_is : (entry kept : Slot) (r : Result (List ℕ) FfsFault) → Ok entry ≡ named_in content fs d name → Ok kept ≡ named_in content fs d other →
+      r ≡ directory_in content fs entry.inode → and_then r (if_again d entry kept) ≡ unname_in content fs d name other
+  unname_is entry kept r e f h = ap (λ (x : Result (List ℕ) FfsFault). and_then x (if_again d entry kept)) h ∙ unname_one entry (Ok kept) e f

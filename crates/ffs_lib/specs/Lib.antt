@@ -14,3 +14,4 @@ pub mod NewOrder
 pub mod RepairOrder
 pub mod Stages
 pub mod Written
+pub mod Unnaming

@@ -39,6 +39,7 @@ ghost use Rattle.xn_model.specs.Calls.{was_given};
 ghost use Rattle.ffs_lib.specs.Results.{new_inode, MadeEntry, MovedInodes, OnlyChanges, OthersSame, TookLink};
 
 mod replace;
+mod unname;
 
 use crate::data::{
     BLOCK_LEN, MOST_BYTES, look_up_end, none_taken, raise_size, read_part, write_parts,

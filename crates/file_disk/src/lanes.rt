@@ -11,18 +11,21 @@ use std::alloc::Global;
 use std::fs::File;
 use std::sync::Arc;
 
-/// Settles a file, and makes a lane for each of its blocks, all at home, which share the file. Each block is read.
+/// A file that is settled, to be shared by its lanes.
+pub(crate) type Shared = Arc<SharedFile, Global>;
+
+/// Makes a lane for each block of a settled file, all at home, which share the file. Each block is read.
 pub(crate) fn found_lanes(
     alloc: Global,
-    file: File,
+    file: &Shared,
+    opened: &GoodSync,
     blocks: u32,
 ) -> Result<Lanes<FileLane>, FileFault>
     ensures { IfOk result (λ lanes. AreOpened blocks lanes) }
 {
-    let (file, opened) = share(alloc, file)?;
     let mut lanes = Lanes::new(alloc, blocks)?;
     for block in 0..blocks {
-        let lane = found_lane(alloc, &file, &opened, block)?;
+        let lane = found_lane(alloc, file, opened, block)?;
         if lanes.give(lane).is_err() {
             unreachable!();
         }
@@ -33,7 +36,8 @@ pub(crate) fn found_lanes(
 /// The same of a file that these bytes were just written to, which is not read.
 pub(crate) fn written_lanes(
     alloc: Global,
-    file: File,
+    file: &Shared,
+    opened: &GoodSync,
     image: &[u8],
 ) -> Result<Lanes<FileLane>, FileFault>
     requires whole { length image.now % 512 ≡ 0 }
@@ -41,11 +45,10 @@ pub(crate) fn written_lanes(
     ensures opened { IfOk result (λ lanes. AreOpened (length image.now / 512) lanes) }
     ensures image { IfOk result (λ lanes. HoldsBytes (λ lane. lane.bytes) lanes image.now) }
 {
-    let (file, opened) = share(alloc, file)?;
     let blocks = (image.len() / BLOCK_LEN) as u32;
     let mut lanes = Lanes::new(alloc, blocks)?;
     for block in 0..blocks {
-        let lane = written_lane(alloc, &file, &opened, block, image)?;
+        let lane = written_lane(alloc, file, opened, block, image)?;
         if lanes.give(lane).is_err() {
             unreachable!();
         }
@@ -54,7 +57,7 @@ pub(crate) fn written_lanes(
 }
 
 /// Settles a file, to be shared by its lanes.
-fn share(alloc: Global, file: File) -> Result<(Arc<SharedFile, Global>, GoodSync), FileFault> {
+pub(crate) fn share(alloc: Global, file: File) -> Result<(Shared, GoodSync), FileFault> {
     let (file, opened) = SharedFile::new(file)?;
     match Arc::new(alloc, file) {
         Ok(file) => Ok((file, opened)),
@@ -65,7 +68,7 @@ fn share(alloc: Global, file: File) -> Result<(Arc<SharedFile, Global>, GoodSync
 /// The lane of a block of a file that is settled. The block is read.
 fn found_lane(
     alloc: Global,
-    file: &Arc<SharedFile, Global>,
+    file: &Shared,
     opened: &GoodSync,
     block: u32,
 ) -> Result<FileLane, FileFault>
@@ -80,7 +83,7 @@ fn found_lane(
 /// The lane of a block of a file that is settled, and has the bytes of this image.
 fn written_lane(
     alloc: Global,
-    file: &Arc<SharedFile, Global>,
+    file: &Shared,
     opened: &GoodSync,
     block: u32,
     image: &[u8],

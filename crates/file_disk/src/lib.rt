@@ -22,7 +22,7 @@ mod shared_file;
 
 pub use fault::FileFault;
 pub use lane::FileLane;
-pub use opening::{FileDisk, MAX_BLOCKS, MIN_BLOCKS};
+pub use opening::{FileDisk, MAX_BLOCKS, MIN_BLOCKS, SystemFault};
 
 #[cfg(test)]
 mod tests;

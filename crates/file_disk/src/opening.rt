@@ -5,13 +5,14 @@ ghost use Rattle.file_disk.specs.Opened.{AreOpened};
 
 use crate::fault::FileFault;
 use crate::lane::FileLane;
-use crate::lanes::{found_lanes, written_lanes};
+use crate::lanes::{Shared, found_lanes, share, written_lanes};
 use disk::{BLOCK_LEN, Lanes};
-use std::alloc::Global;
+use std::alloc::{AllocError, Global};
 use std::fs::{File, Files, Metadata, OpenOptions, TryLockError};
 use std::marker::Model;
 use std::os::unix::fs::FileExt;
 use std::path::Path;
+use std::sync::Arc;
 use std::{fs, io};
 use system_files::{Access, is_same, open_locked};
 
@@ -26,6 +27,20 @@ pub const MAX_BLOCKS: u32 = 32_768;
 #[derive(Drop)]
 pub struct FileDisk {
     lanes: Lanes<FileLane>,
+    file: Shared,
+}
+
+/// What the system answers to the calls of a disk's lanes. It keeps the file open, as a lane does.
+#[derive(Drop)]
+pub struct SystemFault {
+    file: Shared,
+}
+
+impl SystemFault {
+    /// The first error that the system answered to a read, a write or a sync of the file, if there was one.
+    pub fn first(&self) -> Option<io::Error> {
+        self.file.first_error()
+    }
 }
 
 impl Model for FileDisk {
@@ -116,11 +131,17 @@ impl FileDisk {
         self.lanes.blocks()
     }
 
+    /// What tells the system's reason where a lane fails.
+    pub fn system_fault(&self) -> Result<SystemFault, AllocError> {
+        let file = Arc::try_clone(&self.file)?;
+        Ok(SystemFault { file })
+    }
+
     /// Its lanes, all at home. The file stays open and locked until the last of them is dropped.
     pub fn into_lanes(self) -> Lanes<FileLane>
         ensures { result ≡ self }
     {
-        let FileDisk { lanes } = self;
+        let FileDisk { lanes, file: _ } = self;
         lanes
     }
 }
@@ -152,8 +173,9 @@ fn open_as<R: Files<File = File>>(
 {
     let file = open_locked(rt, path, access)?;
     let blocks = blocks_of(&file)?;
-    let lanes = found_lanes(alloc, file, blocks)?;
-    Ok(FileDisk { lanes })
+    let (file, opened) = share(alloc, file)?;
+    let lanes = found_lanes(alloc, &file, &opened, blocks)?;
+    Ok(FileDisk { lanes, file })
 }
 
 /// Locks a file that was just made, writes these bytes and settles them and its name.
@@ -173,8 +195,9 @@ fn fill<R: Files<File = File>>(
     lock(&file)?;
     settle_name(rt, path)?;
     write_image(&file, image)?;
-    let lanes = written_lanes(alloc, file, image)?;
-    Ok(FileDisk { lanes })
+    let (file, opened) = share(alloc, file)?;
+    let lanes = written_lanes(alloc, &file, &opened, image)?;
+    Ok(FileDisk { lanes, file })
 }
 
 /// Removes a file that was made, while the path leads to it. Where that fails it stays.

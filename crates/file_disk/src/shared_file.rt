@@ -24,6 +24,8 @@ pub(crate) struct SharedFile {
     /// Set by the first sync that fails, and never taken back: the system may have dropped what it held then, and a later
     /// sync would say nothing of it.
     failed: AtomicBool,
+    /// The system's number of the first error of a read, a write or a sync; 0 where there was none.
+    error: AtomicU64,
     /// Held while a sync runs.
     turn: Mutex<()>,
 }
@@ -36,6 +38,7 @@ impl Drop for SharedFile {
             begun: _,
             good: _,
             failed: _,
+            error: _,
             turn: _,
         } = self;
     }
@@ -69,19 +72,40 @@ impl SharedFile {
             begun: AtomicU64::new(0),
             good: AtomicU64::new(0),
             failed: AtomicBool::new(false),
+            error: AtomicU64::new(0),
             turn: Mutex::new(()),
         }
     }
 
     /// Reads a block. After `Ok` all of it came.
     pub(crate) fn read_block(&self, block: u32, into: &mut [u8; BLOCK_LEN]) -> io::Result<()> {
-        self.file.read_exact_at(into, offset(block))
+        self.noted(self.file.read_exact_at(into, offset(block)))
+    }
+
+    /// Keeps the number of an error, where it is the first.
+    fn noted(&self, answer: io::Result<()>) -> io::Result<()> {
+        if let Err(error) = &answer
+            && let Some(number) = error.raw_os_error()
+            && self.error.load(Ordering::SeqCst) == 0
+        {
+            let number = u64::try_from(number).unwrap_or(0);
+            self.error.store(number, Ordering::SeqCst);
+        }
+        answer
+    }
+
+    /// The first error that the system answered to a read, a write or a sync.
+    pub(crate) fn first_error(&self) -> Option<io::Error> {
+        match i32::try_from(self.error.load(Ordering::SeqCst)) {
+            Ok(0) | Err(_) => None,
+            Ok(number) => Some(io::Error::from_raw_os_error(number)),
+        }
     }
 
     /// Writes a block, and answers the number of the first sync that settles it: one that has not begun. After `Ok` all of
     /// the block went to the system.
     pub(crate) fn write_block(&self, block: u32, from: &[u8; BLOCK_LEN]) -> (io::Result<()>, u64) {
-        let written = self.file.write_all_at(from, offset(block));
+        let written = self.noted(self.file.write_all_at(from, offset(block)));
         (written, self.begun.load(Ordering::SeqCst).saturating_add(1))
     }
 
@@ -146,7 +170,7 @@ impl SharedFile {
         }
         let number = begun + 1;
         self.begun.store(number, Ordering::SeqCst);
-        if self.file.sync_data().is_err() {
+        if self.noted(self.file.sync_data()).is_err() {
             self.failed.store(true, Ordering::SeqCst);
             return None;
         }

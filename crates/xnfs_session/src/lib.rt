@@ -11,5 +11,5 @@ mod stopping;
 
 pub use ffs_lib::{FfsFault, Fs, Repair, Repairs};
 pub use flushing::FlushStore;
-pub use session::{MOST_BYTES, MOST_INODES, Node, Owner, Session, Usage};
+pub use session::{Entry, Facts, MOST_BYTES, MOST_INODES, Node, Owner, Session, Usage, has_volume};
 pub use stopping::{Stop, TestLane};

@@ -18,6 +18,7 @@ ghost use Rattle.ffs_lib.specs.Replacing.{NamesStand, Replaced, replace_in};
 ghost use Rattle.ffs_lib.specs.Results.{MovedInodes};
 ghost use Rattle.ffs_lib.specs.Stages.{Does, KeptOrEmptied, Makes, OnlyMade, Unnames, created_stages, removed_stages, renamed_stages, replaced_stages};
 ghost use Rattle.ffs_lib.specs.Steps.{newest_block};
+ghost use Rattle.ffs_lib.specs.Unnaming.{unname_in};
 ghost use Rattle.ffs_lib.specs.Volumes.{NothingPending, edits_of};
 ghost use Rattle.ffs_lib.specs.Written.{DoesSome, Overwrites, WritesSomeTo, some_by};
 ghost use Rattle.ffs_lib.specs.WriteOrder.{ShowsWhole, WritesSomeInOrder, after_in, first_past, reached};
@@ -28,6 +29,8 @@ ghost use Rattle.xn_model.specs.declared.refusal.Refusal.{Refusal};
 ghost use Rattle.xn_state.specs.Awaits.{awaited_of};
 ghost use Rattle.xnfs_session.specs.Kept.{KeepsVolumes};
 
+mod raw;
+
 use crate::flushing::FlushStore;
 use arrayvec::ArrayVec;
 use ffs_format::is_name;
@@ -36,6 +39,7 @@ use ffs_lookup::{
     DIRECTORY, Found, Room, Slot, find_directory, find_entry, find_free, find_inode, find_room,
     is_library, read_block,
 };
+pub use raw::{Entry, Facts, has_volume};
 use std::alloc::{AllocError, Global};
 use std::marker::Model;
 use udf_run::{Pair, owns};
@@ -351,6 +355,30 @@ impl<S: FlushStore + Drop> Session<S> {
             (removed_edits old fs slot None (S.state_of self.old.store).next) (S.state_of self.old.store) (S.state_of self.new.store) result }
     {
         self.volume.rmdir(alloc, &mut self.store, directory, name)
+    }
+
+    /// Takes one of a directory's names where another entry of the same directory names it too, as a `rename` that was cut short leaves it.
+    pub fn unname(
+        &mut self,
+        alloc: Global,
+        directory: u16,
+        name: &[u8],
+        other: &[u8],
+    ) -> Result<(), FfsFault>
+        ensures types { S.types_of self.new.store ≡ S.types_of self.old.store }
+        ensures fs { self.new.fs ≡ self.old.fs }
+        ensures numbers { self.new.numbers ≡ self.old.numbers }
+        ensures refused { (fault : FfsFault) → Err fault ≡ unname_in (newest_block (S.state_of self.old.store)) self.old.fs directory name.now other.now →
+            (result ≡ Err fault) × (S.state_of self.new.store ≡ S.state_of self.old.store) }
+        ensures inodes { let old = newest_block (S.state_of self.old.store) in let new = newest_block (S.state_of self.new.store) in let fs = self.old.fs in
+            (slot : Slot) → Ok slot ≡ unname_in old fs directory name.now other.now →
+            Unnames old new fs directory slot.inode × OnErr result (KeptOrEmptied old new fs slot.inode) }
+        ensures order { let old = newest_block (S.state_of self.old.store) in let fs = self.old.fs in
+            (slot : Slot) → Ok slot ≡ unname_in old fs directory name.now other.now → Orders (S.types_of self.old.store) fs
+            (removed_edits old fs slot None (S.state_of self.old.store).next) (S.state_of self.old.store) (S.state_of self.new.store) result }
+    {
+        self.volume
+            .unname(alloc, &mut self.store, directory, name, other)
     }
 
     /// Gives a file or a directory another name.

@@ -6,6 +6,8 @@ mod forms;
 mod reader;
 mod request;
 mod splitting;
+mod unknown;
 
 pub use request::{Request, Word, read, read_shell};
 pub use splitting::split;
+pub use unknown::{commands_told, unknown_command, unknown_shell_command};
