@@ -106,13 +106,6 @@ impl<'a, R: System<File = File> + AllocGlobal> Files for SystemFiles<'a, R> {
         {
             return false;
         }
-        write_file(
-            self.rt,
-            name,
-            Links::Followed,
-            self.disk.as_ref(),
-            source,
-        )
-        .is_ok()
+        write_file(self.rt, name, Links::Followed, self.disk.as_ref(), source).is_ok()
     }
 }
