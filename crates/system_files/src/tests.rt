@@ -136,7 +136,11 @@ fn each_call_fails_in_turn(rt: HostRuntime) -> Result<(), Fail> {
         let ends_well = failing == 0 || failing > 14;
         assert_eq!(rt; written.is_ok(), ends_well, "failing {failing}");
         assert!(rt; !system.is_beside, "failing {failing}");
-        assert_eq!(rt; system.is_replaced, ends_well || failing == 14, "failing {failing}");
+        assert_eq!(rt;
+            system.is_replaced,
+            ends_well || failing == 14,
+            "failing {failing}"
+        );
     }
     Ok(())
 }
