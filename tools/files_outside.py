@@ -9,9 +9,12 @@ from dataclasses import dataclass
 from made_from import program_to_try
 
 TOP = os.path.dirname(os.path.dirname(os.path.abspath(__file__)))
-XNFS = program_to_try("xnfs")
-XNSIM = program_to_try("xnsim")
+# The programs that `./xnfs` and `./xnsim` run; the environment may name others, to show what these tools find in them.
+XNFS = os.environ.get("XNFS") or program_to_try("xnfs")
+XNSIM = os.environ.get("XNSIM") or program_to_try("xnsim")
 NAMES = ["a", "b", "c", "notes.txt", "data"]
+# What a crowded volume has: more inodes than three blocks of them hold, and more names in a folder than a block of entries does.
+CROWD = [f"f{number}" for number in range(14, 31)]
 LENGTHS = [0, 1, 100, 511, 512, 513, 3000, 6144, 6145, 20000, 30000, 45000, 71680]
 # Files of the system, by their names: one of each length, and those of a folder.
 SOURCES = {f"source{length}": random.Random(length).randbytes(length) for length in LENGTHS}
@@ -73,6 +76,7 @@ class Tree:
     def put(self, source, path, given):
         """`put`; whether it can be done."""
         if source == "folder":
+            path = f"{path.rstrip('/')}/{source}" if self.is_folder(path) else path
             if not self.make_folders(path) or not self.make_folders(f"{path}/below"):
                 return False
             if any(self.is_folder(f"{path}/{name}") for name in IN_FOLDER):
@@ -212,11 +216,28 @@ def is_mixture(found, trees):
     return True
 
 
+def crowd(folder, image, rng):
+    """Fills a fresh disk, so that often the next inode and the next name of a folder need a new block, and answers its tree."""
+    tree, lines = Tree(), []
+    for words in [["mkdir", "/z"], ["mkdir", "/y"], *(["put", "source1", f"/{name}"] for name in CROWD[: rng.randrange(13, 18)])]:
+        lines.append(words)
+    for number in range(rng.choice([8, 12, 15, 16])):
+        lines.append(["put", "source1", f"/z/g{number}"])
+    for words in lines:
+        if not tree.change(words, b""):
+            raise RuntimeError(f"{words}")
+    given = "".join(f"{' '.join(words)}\n" for words in lines).encode()
+    status, _, told = run(XNFS, [image, "shell", "--lazy"], folder, given)
+    if status != 0:
+        raise RuntimeError(told)
+    return tree
+
+
 def random_words(tree, rng, is_lazy):
     """The words of a line that mostly can be done. In a lazy shell no folder gets another name: what is below it may be found under the old one."""
     folders = [""] + [path for path in tree.paths if tree.is_folder(path)]
     files = [path for path in tree.paths if tree.is_file(path)]
-    path = rng.choice(folders) + "/" + rng.choice(NAMES)
+    path = rng.choice(folders) + "/" + rng.choice(NAMES + CROWD[-3:] if len(tree.paths) >= 20 else NAMES)
     file = rng.choice(files) if files else path
     goal = rng.choice([path, path, file])
     folder = rng.choice(folders)
@@ -236,13 +257,51 @@ def random_line(tree, rng, most, is_lazy=False):
         if max(word.count("/") for word in words) > 4:
             continue
         after = tree.after(words)
-        if after is not None and after.blocks() < most and len(after.paths) < 40:
+        if after is not None and after.blocks() < most and len(after.paths) < 80:
             return words, after
 
 
+def close_lines(tree, rng):
+    """Lines that work on what the one before them has just made or moved, as a lazy shell might keep them all until one flush."""
+    files = [path for path in tree.paths if tree.is_file(path) and path.count("/") < 3] or ["/a"]
+    folders = [path for path in tree.paths if tree.is_folder(path) and path.count("/") < 3] or ["/z"]
+    file, folder, name = rng.choice(files), rng.choice(folders), rng.choice(NAMES)
+    own, made = os.path.basename(file), f"{rng.choice(['', folder])}/{name}"
+    return rng.choice([
+        [["mkdir", made], ["mv", file, f"{made}/{own}"], ["rm", f"{made}/{own}"]],
+        [["mkdir", f"{folder}/{name}"], ["mv", file, f"{folder}/{own}"]],
+        [["mkdir", made], ["put", "source45000", f"{made}/big"], ["mv", f"{made}/big", f"{folder}/big"], ["put", "source100", f"{folder}/big"]],
+        [["mkdir", made], ["mkdir", f"{made}/b"], ["mkdir", f"{made}/b/c"]],
+        [["mkdir", "-p", f"{made}/b/c"]],
+        [["mkdir", made], ["put", "source1", f"{made}/x"], ["sync"], ["rm", f"{made}/x"], ["rmdir", made]],
+        [["rm", file], ["mkdir", file]],
+        [["mv", file, f"{folder}/{name}"], ["mkdir", file]],
+        [["put", "source30000", made], ["sync"], ["mv", made, f"{folder}/{own}x"], ["rm", f"{folder}/{own}x"]],
+    ])
+
+
+def close_run(tree, rng, most):
+    """A shell of such lines, mostly a lazy one, where a tree takes them; else None."""
+    is_lazy, lines, trees = rng.random() < 0.8, [], [tree]
+    for _ in range(rng.choice([1, 1, 2])):
+        for words in close_lines(trees[-1], rng):
+            if words == ["sync"] and not is_lazy:
+                continue
+            after = trees[-1].after(words)
+            if after is None or after.blocks() >= most or len(after.paths) >= 80:
+                return None
+            lines.append(words)
+            trees.append(after)
+    given = "".join(f"{' '.join(words)}\n{MARK}\n" for words in lines).encode()
+    return Run(["shell", "--lazy"] if is_lazy else ["shell"], given, lines, trees)
+
+
 def random_run(tree, rng, most=300):
-    """A line that a tree takes, or a shell of some."""
-    form = rng.choice(["line", "line", "input", "shell", "lazy"])
+    """A line that a tree takes, or a shell of some. In a crowded volume half of the runs are shells whose lines work on what the one before has made."""
+    is_crowded = len(tree.paths) >= 20
+    if is_crowded and rng.random() < 0.5 and (run := close_run(tree, rng, most)):
+        return run
+    form = rng.choice(["line", "shell", "lazy", "lazy"] if is_crowded else ["line", "line", "input", "shell", "lazy"])
     if form == "line":
         words, after = random_line(tree, rng, most)
         return Run(words, b"", [words], [tree, after])
@@ -296,12 +355,19 @@ def is_sound(folder, image):
     return run(XNSIM, ["check", image], folder)[0] == 0
 
 
+def names_of(folder, image):
+    """How many names a volume has, those that a stop has left with them."""
+    return run(XNFS, [image, "tree", "/"], folder)[1].count(b"\n")
+
+
 def is_repaired(folder, image, tree):
-    """Repairs a disk, and tells whether that leaves its tree and nothing to repair."""
+    """Repairs a disk, and tells whether that leaves its tree and nothing to repair, and no inode in use that has no name."""
     done, _, _ = run(XNFS, [image, "check", "--repair"], folder)
     status, out, _ = run(XNFS, [image, "check"], folder)
     left = found(folder, image)
-    return done == 0 and status == 0 and b"inode" not in out and left is not None and left.paths == tree.paths
+    used = int(run(XNFS, [image, "df"], folder)[1].split(b"used: ")[1].split()[0])
+    is_told = all(b"with two names" in line for line in out.splitlines() if b"inode" in line)
+    return done == 0 and status == 0 and is_told and left is not None and left.paths == tree.paths and used <= 1 + names_of(folder, image)
 
 
 def fresh(folder, image, blocks=1024):

@@ -1,27 +1,29 @@
 // Disks in files: made with an empty volume, and opened.
 
 use crate::fault::{Fault, Reason, reason_of};
-use crate::putting::flush;
+use crate::opened::Opened;
 use crash_check::{ImageFault, mount};
 use disk::{Lane, Lanes, MemDisk, MemLane, fresh_lanes};
 use ffs_format::templates;
 use file_disk::{FileDisk, FileLane};
-use std::alloc::Global;
+use std::alloc::{AllocError, Global};
 use std::fs::{File, Files};
 use std::thread::Threads;
 use templates::format_image;
 use xn_kernel::Kernel;
-use xnfs_session::{FfsFault, Fs, Session, Stop, TestLane};
+use xnfs_session::{FfsFault, Fs, Session, Stop, TestLane, has_volume};
 
 /// How many bytes the largest disk has.
 const GREATEST: usize = 16_777_216;
+
+/// How many file systems a disk has.
+const FILE_SYSTEMS: u8 = 32;
 
 /// What is told of a disk that can't be mounted.
 fn image_fault(fault: ImageFault) -> Fault {
     match fault {
         ImageFault::NoMemory => Fault::NoMemory,
-        ImageFault::Device => Fault::Image("it can't be read"),
-        _ => Fault::Image("`xnsim check` tells its fault"),
+        _ => Fault::Image(fault),
     }
 }
 
@@ -48,7 +50,9 @@ fn fresh_image(
     let Ok(mut session) = made else {
         return Err(Fault::NoMemory);
     };
-    flush(&mut session, alloc)?;
+    if let Err(refusal) = session.flush(alloc) {
+        return Err(Fault::Flush(refusal));
+    }
     match MemDisk::join(alloc, session.into_store().into_lanes()) {
         Ok(disk) => Ok(Vec::from_slice(alloc, disk.bytes())?),
         Err(_) => Err(Fault::NoMemory),
@@ -72,25 +76,55 @@ pub fn format<R: Files<File = File>>(
     Ok(())
 }
 
-/// The session of a file system on the disk of these lanes.
+/// Which file systems of a disk have a volume, as it is told.
+fn told_volumes<L: Lane + Drop>(alloc: Global, kernel: &Kernel<L>) -> Result<String, AllocError> {
+    let mut told = String::new(alloc);
+    let mut count = 0u32;
+    for number in 0..FILE_SYSTEMS {
+        let Some(fs) = Fs::new(number) else {
+            continue;
+        };
+        if has_volume(kernel, fs) {
+            let parted = if count == 0 { "" } else { ", " };
+            let text = format!(in alloc; "{parted}{number}")?;
+            told.push_str(&text)?;
+            count = count.saturating_add(1);
+        }
+    }
+    match count {
+        0 => String::from_str(
+            alloc,
+            "the disk has none, `xnfs format` makes a disk with one",
+        ),
+        1 => format!(in alloc; "file system {told} has one"),
+        _ => format!(in alloc; "file systems {told} have one"),
+    }
+}
+
+/// The volume of a file system on the disk of these lanes.
 fn open_lanes<L: Lane + Drop>(
     threads: &(impl Threads + Sync),
     alloc: Global,
     lanes: Lanes<L>,
     fs: Fs,
-) -> Result<Session<Kernel<L>>, Fault> {
+) -> Result<Opened<Kernel<L>>, Fault> {
     let kernel = match mount(threads, alloc, lanes, 1) {
         Ok(kernel) => kernel,
         Err((fault, _lanes)) => return Err(image_fault(fault)),
     };
+    if !has_volume(&kernel, fs) {
+        let others = told_volumes(alloc, &kernel)?;
+        let fs = fs.index() as u8;
+        return Err(Fault::NoVolume { fs, others });
+    }
     match Session::open(alloc, kernel, fs) {
-        Ok(session) => Ok(session),
-        Err(FfsFault::NoEntry) => Err(Fault::Volume(Reason::NoVolume)),
+        Ok(session) => Opened::new(alloc, session),
+        Err(FfsFault::NoEntry) => Err(Fault::Volume(Reason::NoInodes)),
         Err(fault) => Err(Fault::Volume(reason_of(fault, 0))),
     }
 }
 
-/// The session of a file system on a disk in a file for tests, which makes no further write of a block once it is stopped, and a sync only where
+/// The volume of a file system on a disk in a file for tests, which makes no further write of a block once it is stopped, and a sync only where
 /// it is to be synced.
 pub fn open_for_tests<R: Files<File = File>>(
     rt: &R,
@@ -99,20 +133,30 @@ pub fn open_for_tests<R: Files<File = File>>(
     image: &str,
     fs: Fs,
     (stop, is_synced): (&Stop, bool),
-) -> Result<Session<Kernel<TestLane<FileLane>>>, Fault> {
+) -> Result<Opened<Kernel<TestLane<FileLane>>>, Fault> {
     let disk = FileDisk::open(rt, alloc, image)?;
+    let system = disk.system_fault()?;
     let lanes = stop.lanes(alloc, disk.into_lanes(), is_synced)?;
-    open_lanes(threads, alloc, lanes, fs)
+    let mut volume = open_lanes(threads, alloc, lanes, fs)?;
+    volume.set_system(system);
+    Ok(volume)
 }
 
-/// The session of a file system on a disk in a file.
+/// The volume of a file system on a disk in a file. To look at it alone it is opened without rights to write, beside others that look.
 pub fn open<R: Files<File = File>>(
     rt: &R,
     threads: &(impl Threads + Sync),
     alloc: Global,
     image: &str,
-    fs: Fs,
-) -> Result<Session<Kernel<FileLane>>, Fault> {
-    let disk = FileDisk::open(rt, alloc, image)?;
-    open_lanes(threads, alloc, disk.into_lanes(), fs)
+    (fs, is_looking): (Fs, bool),
+) -> Result<Opened<Kernel<FileLane>>, Fault> {
+    let disk = if is_looking {
+        FileDisk::open_to_read(rt, alloc, image)?
+    } else {
+        FileDisk::open(rt, alloc, image)?
+    };
+    let system = disk.system_fault()?;
+    let mut volume = open_lanes(threads, alloc, disk.into_lanes(), fs)?;
+    volume.set_system(system);
+    Ok(volume)
 }

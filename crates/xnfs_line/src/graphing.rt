@@ -2,9 +2,10 @@
 
 use crate::fault::Fault;
 use crate::finding::fault_at;
+use crate::opened::Opened;
 use std::alloc::Global;
 use std::io::Write;
-use xnfs_session::{FlushStore, Owner, Session};
+use xnfs_session::{FlushStore, Owner};
 
 /// A volume has fewer blocks.
 const MOST_BLOCKS: u32 = 32_768;
@@ -25,12 +26,12 @@ fn kind(ty: u32) -> &'static str {
 /// Prints a block, the arrows to those that it points to, and a dotted one to the block that something pending in it waits for; it is dashed
 /// then.
 fn print_owner<S: FlushStore + Drop>(
-    session: &Session<S>,
+    volume: &Opened<S>,
     owner: &Owner,
     out: &mut impl Write,
 ) -> Result<(), Fault> {
     let (block, ty) = (owner.block, owner.ty);
-    let awaited = session.awaited(block);
+    let awaited = volume.session.awaited(block);
     let style = if awaited.is_some() {
         " style=dashed"
     } else {
@@ -48,10 +49,10 @@ fn print_owner<S: FlushStore + Drop>(
 
 /// Prints how many entries are pending, where some are.
 fn print_pending<S: FlushStore + Drop>(
-    session: &Session<S>,
+    volume: &Opened<S>,
     out: &mut impl Write,
 ) -> Result<(), Fault> {
-    let pending = session.pending();
+    let pending = volume.session.pending();
     if pending > 0 {
         writeln!(out, "  label=\"{pending} entries pending\";")?;
     }
@@ -60,32 +61,32 @@ fn print_pending<S: FlushStore + Drop>(
 
 /// `graph`: the blocks of a volume, as its newest bytes have them, each below its owner, and how many entries are pending.
 pub fn graph<S: FlushStore + Drop>(
-    session: &Session<S>,
+    volume: &Opened<S>,
     alloc: Global,
     out: &mut impl Write,
 ) -> Result<(), Fault> {
     writeln!(out, "digraph volume {{")?;
-    print_pending(session, out)?;
+    print_pending(volume, out)?;
     let mut waiting = Vec::new(alloc);
     let mut first = Owner {
         block: 0,
         ty: 0,
         owned: Vec::new(alloc),
     };
-    if let Some(root) = session.root() {
+    if let Some(root) = volume.session.root() {
         first.owned.push(root)?;
         waiting.push(root)?;
     }
-    print_owner(session, &first, out)?;
+    print_owner(volume, &first, out)?;
     for _ in 0..MOST_BLOCKS {
         let Some(block) = waiting.pop() else {
             break;
         };
-        let owner = match session.owner(alloc, block) {
+        let owner = match volume.session.owner(alloc, block) {
             Ok(owner) => owner,
-            Err(fault) => return Err(fault_at(session, alloc, "/", fault)),
+            Err(fault) => return Err(fault_at(volume, alloc, b"/", fault)),
         };
-        print_owner(session, &owner, out)?;
+        print_owner(volume, &owner, out)?;
         for owned in owner.owned.iter().rev() {
             waiting.push(*owned)?;
         }

@@ -5,6 +5,7 @@
 //! May touch: memory, threads, files, streams.
 #![tactic(auto)]
 
+mod carrying;
 mod changing;
 mod checking;
 mod disks;
@@ -14,10 +15,16 @@ mod getting;
 mod graphing;
 mod lines;
 mod looking;
+mod opened;
 mod progress;
 mod putting;
 mod shell;
+mod showing;
+mod sources;
+mod survey;
 mod walking;
 
+pub use fault::Fault;
 pub use lines::line;
+pub use opened::Opened;
 pub use shell::{Ended, Shell, shell_line};

@@ -8,10 +8,11 @@ use std::io;
 use std::thread::Threads;
 use templates::format_image;
 use xn_kernel::Kernel;
+use xnfs_line::Opened;
 use xnfs_session::{Fs, Session};
 
-/// A session over a disk in memory.
-pub type MemSession = Session<Kernel<MemLane>>;
+/// A volume that is open on a disk in memory.
+pub type MemVolume = Opened<Kernel<MemLane>>;
 
 /// How many blocks it has: enough for 127 files of 20,000 bytes.
 const BLOCKS: u32 = 6000;
@@ -59,27 +60,36 @@ fn mounted(
     }
 }
 
-/// A session of file system 0 over a fresh disk.
-pub fn fresh(threads: &(impl Threads + Sync), alloc: Global) -> io::Result<MemSession> {
-    let kernel = mounted(threads, alloc, fresh_lanes(alloc)?)?;
-    match Session::make(alloc, kernel, file_system()?) {
-        Ok(session) => Ok(session),
+/// What is known of a volume that was just opened.
+fn opened(alloc: Global, session: Session<Kernel<MemLane>>) -> io::Result<MemVolume> {
+    match Opened::new(alloc, session) {
+        Ok(volume) => Ok(volume),
         Err(_) => Err(no_disk()),
     }
 }
 
-/// The session over the same disk, once all is written and the disk is mounted anew.
+/// The volume of file system 0 on a fresh disk.
+pub fn fresh(threads: &(impl Threads + Sync), alloc: Global) -> io::Result<MemVolume> {
+    let kernel = mounted(threads, alloc, fresh_lanes(alloc)?)?;
+    match Session::make(alloc, kernel, file_system()?) {
+        Ok(session) => opened(alloc, session),
+        Err(_) => Err(no_disk()),
+    }
+}
+
+/// The volume on the same disk, once all is written and the disk is mounted anew.
 pub fn mounted_anew(
     threads: &(impl Threads + Sync),
     alloc: Global,
-    mut session: MemSession,
-) -> io::Result<MemSession> {
+    volume: MemVolume,
+) -> io::Result<MemVolume> {
+    let mut session = volume.into_session();
     if session.flush(alloc).is_err() {
         return Err(no_disk());
     }
     let kernel = mounted(threads, alloc, session.into_store().into_lanes())?;
     match Session::open(alloc, kernel, file_system()?) {
-        Ok(session) => Ok(session),
+        Ok(session) => opened(alloc, session),
         Err(_) => Err(no_disk()),
     }
 }

@@ -1,7 +1,7 @@
 // The runs.
 
 use crate::answers::{Answer, Of, answered};
-use crate::disks::{MemSession, fresh, mounted_anew};
+use crate::disks::{MemVolume, fresh, mounted_anew};
 use crate::lines::{Line, Word};
 use crate::names::{quoted, written};
 use crate::sources::Sources;
@@ -62,7 +62,7 @@ fn is_printed(word: Word, wanted: &[u8], out: &[u8]) -> bool {
 /// Plays one line on a disk in memory.
 fn play_line<R: Files<File = File> + AllocGlobal + Clone + Drop + Print>(
     rt: &R,
-    session: &mut MemSession,
+    volume: &mut MemVolume,
     alloc: Global,
     shell: Shell,
     number: u64,
@@ -74,7 +74,7 @@ fn play_line<R: Files<File = File> + AllocGlobal + Clone + Drop + Print>(
     let (mut out, mut err) = (Vec::new(alloc), Vec::new(alloc));
     let _ended = shell_line(
         rt,
-        session,
+        volume,
         alloc,
         shell,
         (number, &text),
@@ -101,7 +101,7 @@ fn look_line(alloc: Global, word: &str, path: &[u8]) -> Result<String, AllocErro
 /// Compares all that stands on a disk in memory with the tree.
 fn compare<R: Files<File = File> + AllocGlobal + Clone + Drop>(
     rt: &R,
-    session: &mut MemSession,
+    volume: &mut MemVolume,
     alloc: Global,
     tree: &Tree,
     sources: &Sources,
@@ -115,7 +115,7 @@ fn compare<R: Files<File = File> + AllocGlobal + Clone + Drop>(
         if let Kind::File(source) = kind {
             let text = look_line(alloc, "cat", path)?;
             let (mut out, mut err) = (Vec::new(alloc), Vec::new(alloc));
-            let _ended = shell_line(rt, session, alloc, shell, (0, &text), &mut out, &mut err);
+            let _ended = shell_line(rt, volume, alloc, shell, (0, &text), &mut out, &mut err);
             tally.count_file(out.as_slice() == sources.bytes(*source) && err.is_empty());
         }
     }
@@ -134,7 +134,7 @@ pub fn play_memory<R: Files<File = File> + AllocGlobal + Clone + Drop + Print>(
 ) -> io::Result<()> {
     let mut numbers = Numbers { state: 1 };
     let mut tree = Tree::new(alloc);
-    let mut session = fresh(threads, alloc)?;
+    let mut volume = fresh(threads, alloc)?;
     for number in 0..lines {
         let shell = Shell {
             image: MEMORY,
@@ -145,7 +145,7 @@ pub fn play_memory<R: Files<File = File> + AllocGlobal + Clone + Drop + Print>(
         let number_told = u64::from(number);
         play_line(
             rt,
-            &mut session,
+            &mut volume,
             alloc,
             shell,
             number_told,
@@ -155,8 +155,8 @@ pub fn play_memory<R: Files<File = File> + AllocGlobal + Clone + Drop + Print>(
         )?;
         tally.most = tally.most.max(tree.items().len());
         if number % MOUNTED == MOUNTED - 1 {
-            session = mounted_anew(threads, alloc, session)?;
-            compare(rt, &mut session, alloc, &tree, sources, tally)?;
+            volume = mounted_anew(threads, alloc, volume)?;
+            compare(rt, &mut volume, alloc, &tree, sources, tally)?;
         }
     }
     Ok(())
